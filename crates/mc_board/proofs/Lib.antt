@@ -1,0 +1,6 @@
+pub mod PrefixLemmas
+pub mod SeenLemmas
+pub mod RuleLemmas
+pub mod AppendKeeps
+pub mod CountKeeps
+pub mod ShareKeeps

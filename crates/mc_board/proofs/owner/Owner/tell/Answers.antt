@@ -1,0 +1,11 @@
+use Rattle.std.proofs.Common.{◌∙◌, sym, ap}
+use Rattle.mc_board.proofs.RuleLemmas.{words_some}
+use Rattle.mc_board.proofs.ShareKeeps.{tells_as}
+use Rattle.mc_board.proofs.owner.Owner.tell.Goals as goal
+
+pub split_seat-requires : goal.split_seat-requires
+split_seat-requires c = (
+  c.hear.ensures.place.0 ∙ (ap (λ o. o.board) c.self.view_is ∙ (c.requires.board.0 ∙ sym (ap (λ b. b.table) c.board.view_is))),
+  words_some _ _ c.board.invariant.1,
+  tells_as _ _ _ _ (ap (λ m. m.0) c.hear.ensures.told),
+)

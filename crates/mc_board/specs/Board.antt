@@ -1,0 +1,53 @@
+-- The rule of the board, which holds between any two steps of any threads (own).
+use Rattle.std.specs.Prelude.{◌≡◌, ℕ, ◌≤◌, ◌<◌, List, [], length, slice_index}
+use mathlib.Core.Option.{Option, none, some}
+use lib.ListN.{get_elem?}
+use Rattle.mc_item.specs.declared.event.Event.{Event}
+use Rattle.mc_board.specs.declared.rule.Counts.{Counts}
+use Rattle.mc_board.specs.declared.rule.Owned.{Owned}
+use Rattle.mc_board.specs.declared.rule.View.{View}
+use Rattle.mc_board.specs.declared.rule.View.TheVariants as views
+use Rattle.mc_board.specs.Histories.{IsBehind}
+use Rattle.mc_board.specs.Views.{locks_of, first_word, words_of}
+
+-- what stands at one moment: the counts, the words, and of each lock its history and the seat of its one owner,
+-- if it has been given out
+pub record Ledger : Type 0 where
+  pub counts : Counts
+  pub words : List ℕ
+  pub history : ℕ → List Event
+  pub owner : ℕ → Option ℕ
+
+-- the seat is the one owner of its lock, it knows the lock's word, and it has the whole history
+pub record IsOwner (ledger : Ledger) (seat : ℕ) (owned : Owned) : Type 0 where
+  pub owner : ledger.owner owned.lock ≡ some seat
+  pub lock : owned.lock < locks_of ledger.counts
+  pub word : owned.word ≡ first_word ledger.counts owned.lock
+  pub history : owned.history ≡ ledger.history owned.lock
+  pub told : IsBehind ledger.history owned.told
+
+-- what holds of a seat by its view. The root is seat 0; a lock that it has not given out has no owner and no event.
+-- Of a seat whose view is spent nothing is said
+abbrev pub Knows : Ledger → ℕ → View → Type 0
+Knows ledger seat (views.Root root) =
+    (seat ≡ 0) × (root.counts ≡ ledger.counts)
+    × ((lock : ℕ) → root.given ≤ lock → (ledger.owner lock ≡ none) × (ledger.history lock ≡ []))
+Knows ledger seat (views.Owner owned) = IsOwner ledger seat owned
+Knows ledger seat (views.Seen known) = IsBehind ledger.history known.sight × IsBehind ledger.history known.told
+Knows ledger seat views.Spent = Unit {0}
+
+-- the first word of each lock is the length of its history
+abbrev pub IsCounted : Ledger → Type 0
+IsCounted ledger =
+    (lock : ℕ) → lock < locks_of ledger.counts
+    → slice_index ledger.words (first_word ledger.counts lock) ≡ length (ledger.history lock)
+
+-- the rule: there is one history for each lock, its length is in the lock's first word, its one owner has it whole,
+-- and what any token has seen of it is a beginning
+pub record IsGrowing (counts : Counts) (words : List ℕ) (seats : List View) : Type 0 where
+  pub history : ℕ → List Event
+  pub owner : ℕ → Option ℕ
+  pub wide : length words ≡ words_of counts
+  pub counted : IsCounted (record { counts = counts; words = words; history = history; owner = owner })
+  pub known : (seat : ℕ) (v : View) → get_elem? seats seat ≡ some v
+      → Knows (record { counts = counts; words = words; history = history; owner = owner }) seat v

@@ -1,0 +1,4 @@
+pub mod Histories
+pub mod Views
+pub mod Board
+pub mod Steps

@@ -1,0 +1,129 @@
+-- The kinds of step on the board: what each does to the views, and what it tells (own).
+use Rattle.std.specs.Prelude.{◌≡◌, ℕ, ◌+◌, ◌≤◌, [], ◌∷◌, ◌++◌, length}
+use Rattle.atomic_table.specs.Table.{Me, Step}
+use Rattle.mc_item.specs.declared.event.Event.{Event}
+use Rattle.mc_item.specs.declared.event.Event.TheVariants as events
+use Rattle.mc_item.specs.declared.class_event.ClassEvent.TheVariants as class_events
+use Rattle.mc_board.specs.declared.rule.Counts.{Counts}
+use Rattle.mc_board.specs.declared.rule.Sight.{Sight}
+use Rattle.mc_board.specs.declared.rule.Owned.{Owned}
+use Rattle.mc_board.specs.declared.rule.Known.{Known}
+use Rattle.mc_board.specs.declared.rule.View.{View}
+use Rattle.mc_board.specs.declared.rule.View.TheVariants as views
+use Rattle.mc_board.specs.Histories.{blind, list_at, number_at, with_seen, with_noted, HasSeen, HasNoted, AreInLine}
+use Rattle.mc_board.specs.Views.{first_word}
+
+-- an event where a name has none
+abbrev pub some_event : Event
+some_event = events.Class (class_events.Refused (record { who = record { caller = 0; turn = 0 } }))
+
+-- an owner's view of its lock. Any other view is that of no lock
+abbrev pub owned_of : View → Owned
+owned_of (views.Owner owned) = owned
+owned_of _ = record { lock = 0; word = 0; history = []; told = blind }
+
+-- what a token knows. Any other view knows nothing
+abbrev pub known_of : View → Known
+known_of (views.Seen known) = known
+known_of _ = record { sight = blind; told = blind }
+
+-- the view of the first seat: no owner is given out
+abbrev pub opening_of : Counts → View
+opening_of counts = views.Root (record { counts = counts; given = 0 })
+
+-- a token that has seen nothing
+abbrev pub newcomer : View
+newcomer = views.Seen (record { sight = blind; told = blind })
+
+-- a token that has seen this, with nothing to compare
+abbrev pub seeing : Sight → View
+seeing sight = views.Seen (record { sight = sight; told = blind })
+
+-- the owner of a lock whose history is empty
+abbrev pub owning : ℕ → ℕ → View
+owning lock word = views.Owner (record { lock = lock; word = word; history = []; told = blind })
+
+-- the owner with one event more
+abbrev pub owned_with : Owned → Event → Owned
+owned_with owned event = record owned { history = owned.history ++ event ∷ [] }
+
+-- the owner after it was told what a token has seen
+abbrev pub owned_told : Owned → Sight → Owned
+owned_told owned sight = record owned { told = sight }
+
+-- the token's knowledge with this number noted of the lock
+abbrev pub known_with : Known → ℕ → ℕ → Known
+known_with known lock number = record known { sight = with_noted known.sight lock number }
+
+-- the token's knowledge after it was told what another has seen
+abbrev pub known_told : Known → Sight → Known
+known_told known sight = record known { told = sight }
+
+-- append: the owner's history gains the event at its end
+abbrev pub added_to : Event → View → View
+added_to event (views.Owner owned) = views.Owner (owned_with owned event)
+added_to event v = v
+
+-- what an append tells: the event stands at the end of the owner's history
+abbrev pub Added : Event → Step Unit → Me Unit View → ℕ → Me Unit View → Type 0
+Added event step me found after = after ≡ (added_to event me.0, me.1)
+
+-- count: the token notes the number that it found
+abbrev pub noted_in : ℕ → ℕ → View → View
+noted_in lock found (views.Seen known) = views.Seen (known_with known lock found)
+noted_in lock found v = v
+
+-- the number is no less than what the token has seen and noted of the lock
+abbrev pub IsAsLong : ℕ → ℕ → View → Type 0
+IsAsLong lock found (views.Seen known) =
+    (length (list_at known.sight.seen lock) ≤ found) × (number_at known.sight.noted lock ≤ found)
+IsAsLong lock found v = Unit {0}
+
+-- what a count tells
+abbrev pub Counted : ℕ → Step Unit → Me Unit View → ℕ → Me Unit View → Type 0
+Counted lock step me found after = (after ≡ (noted_in lock found me.0, me.1)) × IsAsLong lock found me.0
+
+-- what an owner was told of its own lock is behind its history
+abbrev pub IsOwnerAhead : View → Type 0
+IsOwnerAhead (views.Owner owned) =
+    HasSeen owned.history owned.told owned.lock × HasNoted owned.history owned.told owned.lock
+IsOwnerAhead v = Unit {0}
+
+-- what a comparison by an owner tells. It changes nothing
+abbrev pub Compared : Step Unit → Me Unit View → ℕ → Me Unit View → Type 0
+Compared step me found after = (after ≡ me) × IsOwnerAhead me.0
+
+-- what a token has seen, and what it was told that another has seen, are in line
+abbrev pub IsInLine : View → Type 0
+IsInLine (views.Seen known) = AreInLine known.sight known.told
+IsInLine v = Unit {0}
+
+-- what a meeting tells. It changes nothing
+abbrev pub Met : Step Unit → Me Unit View → ℕ → Me Unit View → Type 0
+Met step me found after = (after ≡ me) × IsInLine me.0
+
+-- the root after it has given out its next owner
+abbrev pub root_after : View → View
+root_after (views.Root root) = views.Root (record root { given = root.given + 1 })
+root_after v = v
+
+-- the owner that the root gives out next
+abbrev pub next_owner : View → View
+next_owner (views.Root root) = owning root.given (first_word root.counts root.given)
+next_owner v = views.Spent
+
+-- split: another token that has seen and noted the same
+abbrev pub copy_of : View → View
+copy_of (views.Seen known) = seeing known.sight
+copy_of v = views.Spent
+
+-- tell: a token that has seen what the owner was told, and the owner's whole history
+abbrev pub told_of : View → View
+told_of (views.Owner owned) = seeing (with_seen owned.told owned.lock owned.history)
+told_of v = views.Spent
+
+-- a token's copy is taken in, to be compared
+abbrev pub hearing : View → View → View
+hearing (views.Owner owned) (views.Seen other) = views.Owner (owned_told owned other.sight)
+hearing (views.Seen known) (views.Seen other) = views.Seen (known_told known other.sight)
+hearing v w = v

@@ -1,0 +1,94 @@
+//! The words that all threads share.
+ghost use Rattle.std.specs.Prelude.{◌≡◌, ◌<◌, IfOk, [], max};
+ghost use Rattle.mc_board.specs.Histories.{blind};
+ghost use Rattle.mc_board.specs.Views.{AreOwners, locks_of, first_word};
+ghost use Rattle.mc_board.specs.declared.rule.View.TheVariants as views;
+
+use crate::owner::Owner;
+use crate::rule::{Counts, Place, Words};
+use crate::seen::Seen;
+use crate::steps::{Deals, Opens};
+use mc_item::NoMemory;
+use std::alloc::Global;
+use std::marker::Model;
+
+/// The words that all threads share: of each lock the length of its history.
+#[derive(Drop)]
+pub struct Board {
+    pub(crate) table: Words,
+    counts: Counts,
+}
+
+impl Model for Board {
+    ghost use Rattle.std.specs.Prelude.{◌≡◌};
+    ghost use Rattle.mc_board.specs.Views.{BoardView, words_of};
+
+    ghost Value = { BoardView };
+
+    ghost view = { λ b. record { table = b.table.shared.table_id; counts = b.counts } };
+
+    ghost invariant = { λ b.
+        (b.table.shared.key ≡ b.counts)
+        × (b.table.shared.table_id.words ≡ words_of b.counts) };
+}
+
+impl Board {
+    /// A board with this many locks, and all histories empty. The owners come in the order of the locks. The token
+    /// has seen nothing. It is an error where memory is refused.
+    pub fn open(alloc: Global, locks: usize) -> Result<(Board, Vec<Owner>, Seen), NoMemory>
+        ensures locks { IfOk result (λ r. locks_of r.0.counts ≡ locks) }
+        ensures owners { IfOk result (λ r. AreOwners r.0.table locks r.1.items) }
+        ensures seen { IfOk result (λ r. r.2 ≡ record { board = r.0.table; sight = blind }) }
+    {
+        // Each lock has one word, of whatever kind it is, so all are counted as stripes.
+        let counts = Counts {
+            stripes: locks,
+            classes: 0,
+            callers: 0,
+        };
+        let zeros = vec![in alloc; 0u64; words_for(locks)]?;
+        let (table, mut root) = Words::of_words(alloc, zeros.as_slice(), &counts)?;
+        let board = Board { table, counts };
+        let seen = Seen::at(board.table.shared.split_seat::<Opens>(&mut root));
+        let owners = deal(alloc, &board, &mut root, locks)?;
+        Ok((board, owners, seen))
+    }
+
+    // The first word of a lock.
+    pub(crate) fn first_word(&self, lock: usize) -> usize
+        requires { lock < locks_of self.now.counts }
+        ensures word { result ≡ first_word self.now.counts lock }
+        ensures within { result < self.now.table.words }
+    {
+        let _ = &self.table;
+        lock
+    }
+}
+
+// How many words this many locks take.
+fn words_for(locks: usize) -> usize
+    ensures { result ≡ max 1 locks }
+{
+    locks.max(1)
+}
+
+// An owner for each lock, in their order.
+fn deal(
+    alloc: Global,
+    board: &Board,
+    root: &mut Place,
+    locks: usize,
+) -> Result<Vec<Owner>, NoMemory>
+    requires table { root.old.table_id ≡ board.now.table }
+    requires locks { locks_of board.now.counts ≡ locks }
+    requires root { root.old.me ≡ (views.Root (record { counts = board.now.counts; given = 0 }), []) }
+    ensures { IfOk result (λ owners. AreOwners board.now.table locks owners.items) }
+{
+    let mut owners = Vec::new(alloc);
+    for lock in 0..locks {
+        let word = board.first_word(lock);
+        let place = board.table.shared.split_seat::<Deals>(root);
+        owners.push(Owner::at(word, place))?;
+    }
+    Ok(owners)
+}

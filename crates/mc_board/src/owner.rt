@@ -1,0 +1,126 @@
+//! The owner of a lock's history.
+ghost use Rattle.std.specs.Prelude.{◌≡◌, ◌<◌, ◌^◌, ◌++◌, ◌∷◌, [], length};
+ghost use Rattle.mc_board.specs.Histories.{with_seen, HasSeen, HasNoted};
+ghost use Rattle.mc_board.specs.Steps.{owned_of, owned_with, owned_told};
+ghost use Rattle.mc_board.specs.declared.rule.View.TheVariants as views;
+
+use crate::board::Board;
+use crate::naming::NamesEvent;
+use crate::rule::Place;
+use crate::seen::Seen;
+use crate::steps::{Adds, Compares, Hears, Tells};
+use mc_item::Logged;
+use std::marker::{Brand, Model};
+
+/// The one token that adds to a lock's history, and has it whole.
+#[derive(Drop)]
+pub struct Owner {
+    word: usize,
+    place: Place,
+}
+
+impl Model for Owner {
+    ghost use Rattle.std.specs.Prelude.{◌≡◌, ◌<◌, []};
+    ghost use Rattle.mc_board.specs.Views.{OwnerView};
+    ghost use Rattle.mc_board.specs.Steps.{owned_of};
+    ghost use Rattle.mc_board.specs.declared.rule.View.TheVariants as views;
+
+    ghost Value = { OwnerView };
+
+    ghost view = { λ o. record {
+      board = o.place.table_id;
+      lock = (owned_of o.place.me.0).lock;
+      history = (owned_of o.place.me.0).history;
+    } };
+
+    ghost invariant = { λ o.
+        (o.place.me ≡ (views.Owner (owned_of o.place.me.0), []))
+        × ((owned_of o.place.me.0).word ≡ o.word)
+        × (o.word < o.place.table_id.words) };
+}
+
+impl Owner {
+    // The owner that the place is.
+    pub(crate) fn at(word: usize, place: Place) -> Owner
+        requires owner { place.me ≡ (views.Owner (owned_of place.me.0), []) }
+        requires word { ((owned_of place.me.0).word ≡ word) × (word < place.table_id.words) }
+        ensures { result ≡ record {
+          board = place.table_id;
+          lock = (owned_of place.me.0).lock;
+          history = (owned_of place.me.0).history;
+        } }
+    {
+        Owner { word, place }
+    }
+
+    /// Adds the event at the end of the history, in one atomic step. The history has fewer than 2^32 events before.
+    /// It takes no memory and waits for nobody.
+    pub fn append<E: Logged>(&mut self, board: &Board, event: &E)
+        requires board { self.old.board ≡ board.now.table }
+        requires room { length self.old.history < 2 ^ 32 }
+        ensures history { self.new ≡ record self.old {
+          history = self.old.history ++ E.entry event.now ∷ [];
+        } }
+    {
+        add::<Brand, E>(board, self.word, &mut self.place, event);
+    }
+
+    /// Compares the history with a token: what the token has seen of this lock begins the history, and what it has
+    /// noted is at most the history's length. Nothing changes.
+    pub fn compare(&mut self, board: &Board, seen: &mut Seen)
+        requires board { (self.old.board ≡ board.now.table) × (seen.old.board ≡ board.now.table) }
+        ensures same { (self.new ≡ self.old) × (seen.new ≡ seen.old) }
+        ensures seen { HasSeen self.old.history seen.old.sight self.old.lock }
+        ensures noted { HasNoted self.old.history seen.old.sight self.old.lock }
+    {
+        hear(board, self.word, &mut self.place, seen);
+    }
+
+    /// Tells a token the whole history: afterwards it has seen that of this lock, and of all other locks what it had
+    /// seen. What it had seen of this lock begins the history.
+    pub fn tell(&mut self, board: &Board, seen: &mut Seen)
+        requires board { (self.old.board ≡ board.now.table) × (seen.old.board ≡ board.now.table) }
+        ensures same { self.new ≡ self.old }
+        ensures whole { seen.new ≡ record seen.old {
+          sight = with_seen seen.old.sight self.old.lock self.old.history;
+        } }
+        ensures grown { HasSeen self.old.history seen.old.sight self.old.lock }
+        ensures noted { HasNoted self.old.history seen.old.sight self.old.lock }
+    {
+        let place = &mut self.place;
+        hear(board, self.word, place, seen);
+        *seen = Seen::at(board.table.shared.split_seat::<Tells>(place));
+    }
+}
+
+// The step that adds the event that N names.
+fn add<N: NamesEvent, E: Logged>(board: &Board, word: usize, place: &mut Place, event: &E)
+    requires board { place.old.table_id ≡ board.now.table }
+    requires owner { place.old.me ≡ (views.Owner (owned_of place.old.me.0), []) }
+    requires word { ((owned_of place.old.me.0).word ≡ word) × (word < board.now.table.words) }
+    requires room { length (owned_of place.old.me.0).history < 2 ^ 32 }
+    requires event { N.entry ≡ E.entry event.now }
+    ensures place { (place.new.table_id ≡ place.old.table_id) × (place.new.id ≡ place.old.id) }
+    ensures added { place.new.me
+        ≡ (views.Owner (owned_with (owned_of place.old.me.0) (E.entry event.now)), []) }
+{
+    board.table.shared.fetch_add::<Adds<N>>(place, word, 1);
+}
+
+// The owner is told what the token has seen, and compares it with its history.
+fn hear(board: &Board, word: usize, place: &mut Place, seen: &mut Seen)
+    requires board { (place.old.table_id ≡ board.now.table) × (seen.old.board ≡ board.now.table) }
+    requires owner { place.old.me ≡ (views.Owner (owned_of place.old.me.0), []) }
+    requires word { word < board.now.table.words }
+    ensures place { (place.new.table_id ≡ place.old.table_id) × (place.new.id ≡ place.old.id) }
+    ensures told { place.new.me ≡ (views.Owner (owned_told (owned_of place.old.me.0) seen.old.sight), []) }
+    ensures same { seen.new ≡ seen.old }
+    ensures seen { HasSeen (owned_of place.old.me.0).history seen.old.sight
+        (owned_of place.old.me.0).lock }
+    ensures noted { HasNoted (owned_of place.old.me.0).history seen.old.sight
+        (owned_of place.old.me.0).lock }
+{
+    let copy = seen.copy(board);
+    board.table.shared.join_seat::<Hears>(place, copy);
+    board.table.shared.load::<Compares>(place, word);
+}

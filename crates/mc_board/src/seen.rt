@@ -1,0 +1,112 @@
+//! The tokens that have seen.
+ghost use Rattle.std.specs.Prelude.{◌≡◌, ◌<◌, ◌≤◌, [], length};
+ghost use Rattle.mc_board.specs.Histories.{list_at, number_at, with_noted, AreInLine};
+ghost use Rattle.mc_board.specs.Views.{locks_of, first_word};
+ghost use Rattle.mc_board.specs.Steps.{known_of, known_with, known_told, seeing};
+ghost use Rattle.mc_board.specs.declared.rule.View.TheVariants as views;
+
+use crate::board::Board;
+use crate::naming::NamesLock;
+use crate::rule::Place;
+use crate::steps::{Copies, CountsOne, Hears, Meets};
+use std::marker::{Brand, Model};
+
+/// A token that has seen a beginning of each lock's history, and noted numbers that their lengths have reached.
+#[derive(Drop)]
+pub struct Seen {
+    place: Place,
+}
+
+impl Model for Seen {
+    ghost use Rattle.std.specs.Prelude.{◌≡◌, []};
+    ghost use Rattle.mc_board.specs.Views.{SeenView};
+    ghost use Rattle.mc_board.specs.Steps.{known_of};
+    ghost use Rattle.mc_board.specs.declared.rule.View.TheVariants as views;
+
+    ghost Value = { SeenView };
+
+    ghost view = { λ s. record { board = s.place.table_id; sight = (known_of s.place.me.0).sight } };
+
+    ghost invariant = { λ s. s.place.me ≡ (views.Seen (known_of s.place.me.0), []) };
+}
+
+impl Seen {
+    // The token that the place is.
+    pub(crate) fn at(place: Place) -> Seen
+        requires { place.me ≡ (views.Seen (known_of place.me.0), []) }
+        ensures { result ≡ record { board = place.table_id; sight = (known_of place.me.0).sight } }
+    {
+        Seen { place }
+    }
+
+    // A second place that knows what this token has seen and noted.
+    pub(crate) fn copy(&mut self, board: &Board) -> Place
+        requires { self.old.board ≡ board.now.table }
+        ensures same { self.new ≡ self.old }
+        ensures copy { (result.table_id ≡ board.now.table) × (result.me ≡ (seeing self.old.sight, [])) }
+    {
+        board.table.shared.split_seat::<Copies>(&mut self.place)
+    }
+
+    /// A second token that has seen and noted the same.
+    pub fn split(&mut self, board: &Board) -> Seen
+        requires { self.old.board ≡ board.now.table }
+        ensures same { self.new ≡ self.old }
+        ensures second { result ≡ self.old }
+    {
+        Seen::at(self.copy(board))
+    }
+
+    /// The length that the lock's history has at this one atomic step. The token notes it. It takes no memory and
+    /// waits for nobody.
+    pub fn count(&mut self, board: &Board, lock: usize) -> u64
+        requires board { self.old.board ≡ board.now.table }
+        requires lock { lock < locks_of board.now.counts }
+        ensures noted { self.new ≡ record self.old { sight = with_noted self.old.sight lock result } }
+        ensures seen { length (list_at self.old.sight.seen lock) ≤ result }
+        ensures later { number_at self.old.sight.noted lock ≤ result }
+    {
+        let word = board.first_word(lock);
+        read::<Brand>(board, lock, word, &mut self.place)
+    }
+
+    /// Compares two tokens: of each lock what one has seen is a beginning of what the other has. Nothing changes.
+    pub fn meet(&mut self, board: &Board, other: &mut Seen)
+        requires board { (self.old.board ≡ board.now.table) × (other.old.board ≡ board.now.table) }
+        ensures same { (self.new ≡ self.old) × (other.new ≡ other.old) }
+        ensures in_line { AreInLine self.old.sight other.old.sight }
+    {
+        let copy = other.copy(board);
+        line_up(board, &mut self.place, copy);
+    }
+}
+
+// The step that reads the first word of the lock that N names.
+fn read<N: NamesLock>(board: &Board, lock: usize, word: usize, place: &mut Place) -> u64
+    requires board { place.old.table_id ≡ board.now.table }
+    requires lock { lock < locks_of board.now.counts }
+    requires word { (word ≡ first_word board.now.counts lock) × (word < board.now.table.words) }
+    requires token { place.old.me ≡ (views.Seen (known_of place.old.me.0), []) }
+    requires name { N.lock ≡ lock }
+    ensures place { (place.new.table_id ≡ place.old.table_id) × (place.new.id ≡ place.old.id) }
+    ensures noted { place.new.me
+        ≡ (views.Seen (known_with (known_of place.old.me.0) lock result), []) }
+    ensures seen { length (list_at (known_of place.old.me.0).sight.seen lock) ≤ result }
+    ensures later { number_at (known_of place.old.me.0).sight.noted lock ≤ result }
+{
+    board.table.shared.load::<CountsOne<N>>(place, word)
+}
+
+// A token is told what another's copy knows, and compares it with what it has seen itself.
+fn line_up(board: &Board, place: &mut Place, copy: Place)
+    requires board { (place.old.table_id ≡ board.now.table) × (copy.table_id ≡ board.now.table) }
+    requires token { place.old.me ≡ (views.Seen (known_of place.old.me.0), []) }
+    requires copy { copy.me ≡ (views.Seen (known_of copy.me.0), []) }
+    ensures place { (place.new.table_id ≡ place.old.table_id) × (place.new.id ≡ place.old.id) }
+    ensures told { place.new.me
+        ≡ (views.Seen (known_told (known_of place.old.me.0) (known_of copy.me.0).sight), []) }
+    ensures in_line { AreInLine (known_of place.old.me.0).sight (known_of copy.me.0).sight }
+{
+    board.table.shared.join_seat::<Hears>(place, copy);
+    board.table.shared.load::<Meets>(place, 0);
+}

@@ -1,0 +1,101 @@
+//! The kinds of step: what each tells, and how views are cut and joined.
+use crate::naming::{NamesEvent, NamesLock};
+use crate::rule::View;
+use atomic_table::{Join, Play, Split};
+use std::marker::PhantomData;
+
+/// Append: an owner adds the event to its history.
+pub(crate) struct Adds<N: NamesEvent> {
+    of: PhantomData<N>,
+}
+
+impl<N: NamesEvent> Play<(), View> for Adds<N> {
+    ghost use Rattle.mc_board.specs.Steps.{Added};
+
+    ghost then = { Added N.entry };
+}
+
+/// Count: a token notes the length of the lock's history.
+pub(crate) struct CountsOne<N: NamesLock> {
+    of: PhantomData<N>,
+}
+
+impl<N: NamesLock> Play<(), View> for CountsOne<N> {
+    ghost use Rattle.mc_board.specs.Steps.{Counted};
+
+    ghost then = { Counted N.lock };
+}
+
+/// An owner compares what it was told with its history.
+pub(crate) struct Compares;
+
+impl Play<(), View> for Compares {
+    ghost use Rattle.mc_board.specs.Steps.{Compared};
+
+    ghost then = { Compared };
+}
+
+/// A token compares what it was told with what it has seen.
+pub(crate) struct Meets;
+
+impl Play<(), View> for Meets {
+    ghost use Rattle.mc_board.specs.Steps.{Met};
+
+    ghost then = { Met };
+}
+
+/// The root gives out a token that has seen nothing.
+pub(crate) struct Opens;
+
+impl Split<View> for Opens {
+    ghost use Rattle.mc_board.specs.Steps.{newcomer};
+
+    ghost left = { λ v. v };
+
+    ghost right = { λ _. newcomer };
+}
+
+/// The root gives out the next owner.
+pub(crate) struct Deals;
+
+impl Split<View> for Deals {
+    ghost use Rattle.mc_board.specs.Steps.{root_after, next_owner};
+
+    ghost left = { root_after };
+
+    ghost right = { next_owner };
+}
+
+/// A token is split: the second has seen and noted the same.
+pub(crate) struct Copies;
+
+impl Split<View> for Copies {
+    ghost use Rattle.mc_board.specs.Steps.{copy_of};
+
+    ghost left = { λ v. v };
+
+    ghost right = { copy_of };
+}
+
+/// An owner gives out a token that has seen what it was told, and its whole history.
+pub(crate) struct Tells;
+
+impl Split<View> for Tells {
+    ghost use Rattle.mc_board.specs.Steps.{told_of};
+
+    ghost left = { λ v. v };
+
+    ghost right = { told_of };
+}
+
+/// A token's copy is taken in, to be compared.
+pub(crate) struct Hears;
+
+impl Join<View> for Hears {
+    ghost use Rattle.mc_board.specs.Steps.{hearing};
+    ghost use Rattle.mc_board.specs.declared.rule.View.TheVariants.{Spent};
+
+    ghost both = { hearing };
+
+    ghost spent = { Spent };
+}

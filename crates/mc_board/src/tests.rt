@@ -1,0 +1,144 @@
+//! Histories counted by one thread, and raced for by three.
+ghost use Rattle.std.specs.Prelude.{◌≡◌, ◌+◌, ◌<◌, ◌≤◌, ◌^◌, [], length};
+ghost use Rattle.mc_board.specs.Views.{locks_of};
+
+use super::*;
+use mc_item::{ClassEvent, Cooled, Key, Logged, StripeEvent, Unlinked, Who};
+use std::test::Fail;
+use std::thread;
+use std::thread::Threads;
+
+const WHO: Who = Who { caller: 0, turn: 0 };
+
+// Appends the event this many times.
+fn append_many<E: Logged>(board: &Board, owner: &mut Owner, event: &E, times: u64)
+    requires board { owner.old.board ≡ board.now.table }
+    requires room { length owner.old.history + times ≤ 2 ^ 32 }
+    ensures same { (owner.new.board ≡ owner.old.board) × (owner.new.lock ≡ owner.old.lock) }
+{
+    for _i in 0..times {
+        owner.append(board, event);
+    }
+}
+
+// The counts of the locks 0, 1 and 2.
+fn three_counts(board: &Board, token: &mut Seen) -> [u64; 3]
+    requires board { token.old.board ≡ board.now.table }
+    requires locks { locks_of board.now.counts ≡ 3 }
+    ensures { token.new.board ≡ token.old.board }
+{
+    [
+        token.count(board, 0),
+        token.count(board, 1),
+        token.count(board, 2),
+    ]
+}
+
+#[test]
+fn three_appended_events_are_counted(rt: HostRuntime) -> Result<(), Fail> {
+    let (board, mut owners, mut root) = Board::open(rt.alloc(), 3)?;
+    let mut token = root.split(&board);
+    assert_eq!(rt; owners.len(), 3);
+    assert_eq!(rt; three_counts(&board, &mut root), [0, 0, 0]);
+    let event = StripeEvent::Cooled(Cooled {
+        who: WHO,
+        key: Key::of(rt.alloc(), b"a")?,
+    });
+    append_many(&board, &mut owners[1], &event, 3);
+    assert_eq!(rt; three_counts(&board, &mut token), [0, 3, 0]);
+    owners[1].tell(&board, &mut root);
+    owners[1].compare(&board, &mut token);
+    token.meet(&board, &mut root);
+    assert_eq!(rt; three_counts(&board, &mut root), [0, 3, 0]);
+    Ok(())
+}
+
+#[test]
+fn a_board_without_locks_opens(rt: HostRuntime) -> Result<(), Fail> {
+    let (board, owners, mut root) = Board::open(rt.alloc(), 0)?;
+    assert_eq!(rt; owners.len(), 0);
+    let mut token = root.split(&board);
+    token.meet(&board, &mut root);
+    Ok(())
+}
+
+// Counts the locks 0 and 1 in turn, and says whether no answer fell.
+fn count_many(board: &Board, token: &mut Seen, rounds: u64) -> bool
+    requires board { token.old.board ≡ board.now.table }
+    requires locks { 1 < locks_of board.now.counts }
+    ensures { token.new.board ≡ token.old.board }
+{
+    let mut last = [0, 0];
+    let mut rising = true;
+    for _i in 0..rounds {
+        let now = [token.count(board, 0), token.count(board, 1)];
+        rising = rising && last[0] <= now[0] && last[1] <= now[1];
+        last = now;
+    }
+    rising
+}
+
+// One thread appends to lock 1 and another counts 1,000 times.
+fn append_and_count<R: Threads + Sync>(
+    rt: &R,
+    board: &Board,
+    owner: &mut Owner,
+    token: &mut Seen,
+) -> bool
+    requires board { (owner.old.board ≡ board.now.table) × (token.old.board ≡ board.now.table) }
+    requires locks { 1 < locks_of board.now.counts }
+    requires empty { owner.old.history ≡ [] }
+{
+    let event = ClassEvent::Unlinked(Unlinked {
+        who: WHO,
+        number: 1,
+    });
+    let (_, rising) = thread::join(
+        rt,
+        || append_many(board, owner, &event, 10_000),
+        || count_many(board, token, 500),
+    );
+    rising
+}
+
+// Two threads append and a third counts: whether no answer fell, and the counts at the end.
+fn race<R: Threads + Sync>(
+    rt: &R,
+    board: &Board,
+    mut first: Owner,
+    mut second: Owner,
+    token: &mut Seen,
+) -> (bool, [u64; 2])
+    requires board { (first.board ≡ board.now.table) × (second.board ≡ board.now.table) }
+    requires token { token.old.board ≡ board.now.table }
+    requires locks { 1 < locks_of board.now.counts }
+    requires empty { (first.history ≡ []) × (second.history ≡ []) }
+{
+    let event = ClassEvent::Unlinked(Unlinked {
+        who: WHO,
+        number: 0,
+    });
+    let mut other = token.split(board);
+    let (_, rising) = thread::join(
+        rt,
+        || append_many(board, &mut first, &event, 10_000),
+        || -> bool
+            requires board { (second.board ≡ board.now.table) × (other.board ≡ board.now.table) }
+            requires locks { 1 < locks_of board.now.counts }
+            requires empty { second.history ≡ [] }
+        { append_and_count(rt, board, &mut second, &mut other) },
+    );
+    (rising, [token.count(board, 0), token.count(board, 1)])
+}
+
+#[test]
+fn no_count_falls_while_two_threads_append(rt: HostRuntime) -> Result<(), Fail> {
+    let (board, mut owners, mut token) = Board::open(rt.alloc(), 2)?;
+    let (Some(second), Some(first)) = (owners.pop(), owners.pop()) else {
+        return Ok(());
+    };
+    let (rising, counts) = race(&rt, &board, first, second, &mut token);
+    assert!(rt; rising);
+    assert_eq!(rt; counts, [10_000, 10_000]);
+    Ok(())
+}

@@ -1,0 +1,9 @@
+use Rattle.std.proofs.Common.{sym, ap, ◌∙◌}
+use Rattle.mc_item.specs.Config.{fault_of}
+use Rattle.mc_driver.proofs.StartLemmas.{check_passed}
+use Rattle.mc_driver.proofs.words.plan_of.Goals as goal
+
+pub returns-in-Ok-clause-config : goal.returns-in-Ok-clause-config
+returns-in-Ok-clause-config c =
+    let passed = check_passed c.args.config c.in-Ok.config c.check.result (fault_of c.args.config) c.in-Ok.is c.check.ensures.fault in
+    (passed.1, passed.0)

@@ -1,0 +1,24 @@
+//! Why no script was run.
+ghost use Rattle.std.specs.Prelude.{◌≡◌};
+ghost use Rattle.mc_driver.specs.declared.fault.RunFault.TheVariants as faults;
+
+use std::alloc::AllocError;
+
+/// Why no script was run.
+#[derive(Clone, Copy, Debug, PartialEq, Eq)]
+pub enum RunFault {
+    /// A growth was refused.
+    NoMemory,
+    /// The configuration isn't sound, or there is more than one stripe.
+    Configuration,
+    /// There isn't one script, or there is upkeep to do.
+    Scripts,
+}
+
+impl From<AllocError> for RunFault {
+    ghost from_gives = { λ _ e. e ≡ faults.NoMemory };
+
+    fn from(_e: AllocError) -> RunFault {
+        RunFault::NoMemory
+    }
+}

@@ -1,0 +1,153 @@
+//! The program, over any reader and writers.
+ghost use Rattle.std.specs.Prelude.{◌≡◌, ◌<◌};
+
+use crate::fault::RunFault;
+use crate::memory::{Bytes, Kept};
+use crate::outcome::Outcome;
+use crate::running::run_scripts;
+use crate::words::{Plan, WordsFault, read_words};
+use clap::Error;
+use clap::error::ErrorKind;
+use std::alloc::Global;
+use std::io::{self, Read, Write};
+use std::marker::Brand;
+use std::sync::Wait;
+use std::sync::ledger::{Blank, Ledger};
+
+const MEMORY: &[u8] = b"mcseg: out of memory\n";
+
+const HISTORY: &[u8] = b"mcseg: history full\n";
+
+const CONFIGURATION: &[u8] = b"mcseg: bad configuration\n";
+
+const LIST: &[u8] = b"mcseg: bad list\n";
+
+const SCRIPTS: &[u8] = b"mcseg: too many scripts\n";
+
+const INPUT: &[u8] = b"mcseg: input failed\n";
+
+const OUTPUT: &[u8] = b"mcseg: output failed\n";
+
+// A line on standard error; that it fails changes no status.
+fn told<E: Write>(errors: &mut E, line: &[u8], status: u8) -> u8
+    ensures { result ≡ status }
+{
+    let _ = errors.write_all(line);
+    status
+}
+
+// What the reader of the command line says: its help goes to the output, its refusals to the errors.
+fn say_words<W: Write, E: Write>(
+    alloc: Global,
+    error: &Error,
+    writer: &mut W,
+    errors: &mut E,
+) -> u8 {
+    if let ErrorKind::OutOfMemory = error.kind() {
+        return told(errors, MEMORY, 1);
+    }
+    let Ok(text) = error.to_string(alloc) else {
+        return told(errors, MEMORY, 1);
+    };
+    if error.use_stderr() {
+        return told(errors, text.as_bytes(), 2);
+    }
+    match writer.write_all(text.as_bytes()) {
+        Ok(()) => 0,
+        Err(_) => told(errors, OUTPUT, 3),
+    }
+}
+
+// What is wrong with a configuration, by its number.
+fn say_configuration<E: Write>(alloc: Global, number: u8, errors: &mut E) -> u8 {
+    match format!(in alloc; "mcseg: bad configuration {number}\n") {
+        Ok(text) => told(errors, text.as_bytes(), 2),
+        Err(_) => told(errors, MEMORY, 1),
+    }
+}
+
+// The status of a script that ended so, and its line on standard error. A sink in memory fails where memory does.
+fn say_outcome<E: Write>(outcome: Option<&Outcome>, errors: &mut E) -> u8 {
+    match outcome {
+        None => 0,
+        Some(Outcome::Done) => 0,
+        Some(Outcome::Memory) => told(errors, MEMORY, 1),
+        Some(Outcome::Output) => told(errors, MEMORY, 1),
+        Some(Outcome::HistoryFull) => told(errors, HISTORY, 1),
+        Some(Outcome::Input) => told(errors, INPUT, 3),
+    }
+}
+
+// Runs the script that is read, and prints what it replied.
+fn run_input<L: Ledger, W: Write, E: Write>(
+    rt: &impl Wait,
+    alloc: Global,
+    plan: Plan,
+    input: Vec<u8>,
+    blank: Blank,
+    writer: &mut W,
+    errors: &mut E,
+) -> u8
+    requires name { blank.name ≡ L.name }
+    requires parts { blank.parts ≡ L.parts }
+    requires some { 0 < blank.parts }
+{
+    let source = Bytes::new(alloc, input);
+    let sink = Kept::<L>::new(alloc, blank);
+    let mut scripts = Vec::new(alloc);
+    if scripts.push((source, sink)).is_err() {
+        return told(errors, MEMORY, 1);
+    }
+    match run_scripts(rt, alloc, plan.config, scripts, plan.upkeep.as_slice()) {
+        Err(RunFault::NoMemory) => told(errors, MEMORY, 1),
+        Err(RunFault::Configuration) => told(errors, CONFIGURATION, 2),
+        Err(RunFault::Scripts) => told(errors, SCRIPTS, 2),
+        Ok(run) => {
+            for end in run.ends.as_slice() {
+                if writer.write_all(end.1.bytes.as_slice()).is_err() {
+                    return told(errors, OUTPUT, 3);
+                }
+            }
+            if writer.flush().is_err() {
+                return told(errors, OUTPUT, 3);
+            }
+            say_outcome(run.outcomes.as_slice().first(), errors)
+        }
+    }
+}
+
+/// The whole program: reads the words and the input, runs the script that the input is, prints its replies, and
+/// answers the exit status: 0 where all went well, 1 for want of memory or a full history, 2 for words that are
+/// refused, 3 where reading or writing failed. The words begin with the program's name.
+pub fn run_words<R: Read, W: Write, E: Write>(
+    rt: &impl Wait,
+    alloc: Global,
+    words: &[&str],
+    reader: &mut R,
+    writer: &mut W,
+    errors: &mut E,
+) -> u8 {
+    let plan = match read_words(alloc, words) {
+        Ok(plan) => plan,
+        Err(WordsFault::Words(error)) => {
+            return say_words(alloc, &error, writer, errors);
+        }
+        Err(WordsFault::List) => {
+            return told(errors, LIST, 2);
+        }
+        Err(WordsFault::Configuration(number)) => {
+            return say_configuration(alloc, number, errors);
+        }
+        Err(WordsFault::NoMemory) => {
+            return told(errors, MEMORY, 1);
+        }
+    };
+    let mut input = Vec::new(alloc);
+    if let Err(error) = reader.read_to_end(&mut input) {
+        if error.kind() == io::ErrorKind::OutOfMemory {
+            return told(errors, MEMORY, 1);
+        }
+        return told(errors, INPUT, 3);
+    }
+    run_input::<Brand, W, E>(rt, alloc, plan, input, Blank::new(1), writer, errors)
+}

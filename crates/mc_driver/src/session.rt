@@ -1,0 +1,119 @@
+//! A caller's turns at one stripe.
+ghost use Rattle.std.specs.Prelude.{◌≡◌, ◌≤◌, ◌<◌, ◌+◌, ◌++◌, ◌∷◌, [], IfOk, OnErr, OnOk, IsErrOf, MatchBool, length};
+ghost use Rattle.mc_item.specs.Stripe.{IsAlive, IsDead};
+ghost use Rattle.mc_item.specs.Command.{key_of};
+ghost use Rattle.mc_item.specs.declared.fault.Fault.TheVariants as faults;
+ghost use Rattle.mc_driver.specs.Script.{told};
+ghost use Rattle.mc_driver.specs.Session.{IsReady, KeepsPlace, NamesNoMore, Tells};
+ghost use Rattle.mc_stripe.specs.StripeState.{cache_now};
+ghost use Rattle.mc_stripe.specs.StripeCalls.{KeepsSite};
+
+use mc_item::{Command, Fault, Key, Link, Need, Reply, Room, Who};
+use mc_stripe::StripeState;
+use std::alloc::Global;
+
+/// A caller's turns at the one stripe that there is. Links are numbered by a count that rises with each.
+#[derive(Drop)]
+pub struct Session {
+    pub alloc: Global,
+    pub stripe: StripeState,
+    pub caller: u32,
+    pub turn: u64,
+    pub moment: u64,
+    pub next: u64,
+}
+
+// The room for a need: where a chunk is needed, the link of this number in its class. Nothing is ever full yet.
+fn room_for(need: Need, number: u64) -> Room
+    ensures { result ≡ Rattle.mc_driver.specs.Session.room_for need number }
+{
+    match need {
+        Need::Fresh(class) => Room::At(Link { class, number }),
+        Need::Nothing => Room::Keep,
+        Need::Same => Room::Keep,
+        Need::TooLarge => Room::Keep,
+    }
+}
+
+// Whether the item of a key is dead at a moment.
+fn is_dead(stripe: &StripeState, key: &Key, moment: u64) -> bool
+    ensures { MatchBool result (IsDead ((cache_now stripe.now).items key.now) moment) (IsAlive ((cache_now stripe.now).items key.now) moment) }
+{
+    match stripe.find(key) {
+        Some(item) => item.dead(moment),
+        None => false,
+    }
+}
+
+// The item of a key goes, where it is dead.
+fn forget_dead(
+    alloc: Global,
+    stripe: &mut StripeState,
+    who: Who,
+    key: &Key,
+    moment: u64,
+) -> Result<(), Fault>
+    ensures site { KeepsSite stripe.old stripe.new }
+    ensures more { NamesNoMore stripe.old.history stripe.new.history }
+    ensures alive { OnOk result (IsAlive ((cache_now stripe.new).items key.now) moment) }
+    ensures full { IsErrOf result faults.HistoryFull → stripe.new.limit ≤ length stripe.new.history }
+{
+    if is_dead(stripe, key, moment) {
+        let name = key.copy(alloc)?;
+        stripe.forget_expired(who, name, moment)?;
+    }
+    Ok(())
+}
+
+impl Session {
+    // The caller's turn.
+    fn who(&self) -> Who
+        ensures { result ≡ record { caller = self.now.caller; turn = self.now.turn } }
+    {
+        Who {
+            caller: self.caller,
+            turn: self.turn,
+        }
+    }
+
+    /// Makes one call: its key's item is forgotten where it is dead, and then the command is answered at the
+    /// session's moment. A new version is given the next link of the class that it needs.
+    pub fn call(&mut self, command: Command) -> Result<Reply, Fault>
+        requires { IsReady self.old }
+        ensures ready { IsReady self.new }
+        ensures same { KeepsPlace self.old self.new × (self.new.moment ≡ self.old.moment) }
+        ensures turn { OnOk result (self.new.turn ≡ self.old.turn + 1) }
+        ensures told { IfOk result (λ reply. Tells self.old self.new (told self.old.caller self.old.turn command self.old.moment reply ∷ [])) }
+        ensures err { OnErr result (Tells self.old self.new []) }
+        ensures full { IsErrOf result faults.HistoryFull → self.new.stripe.limit ≤ length self.new.stripe.history }
+    {
+        let who = self.who();
+        forget_dead(
+            self.alloc,
+            &mut self.stripe,
+            who,
+            command.key(),
+            self.moment,
+        )?;
+        self.answer(command)
+    }
+
+    // Answers a command whose key's item isn't dead.
+    fn answer(&mut self, command: Command) -> Result<Reply, Fault>
+        requires ready { IsReady self.old }
+        requires alive { IsAlive ((cache_now self.old.stripe).items (key_of command)) self.old.moment }
+        ensures ready { IsReady self.new }
+        ensures same { KeepsPlace self.old self.new × (self.new.moment ≡ self.old.moment) }
+        ensures turn { OnOk result (self.new.turn ≡ self.old.turn + 1) }
+        ensures told { IfOk result (λ reply. Tells self.old self.new (told self.old.caller self.old.turn command self.old.moment reply ∷ [])) }
+        ensures err { OnErr result (Tells self.old self.new []) }
+        ensures full { IsErrOf result faults.HistoryFull → self.new.stripe.limit ≤ length self.new.stripe.history }
+    {
+        let who = self.who();
+        let room = room_for(self.stripe.need(&command, self.moment), self.next);
+        let reply = self.stripe.apply(who, command, self.moment, room)?;
+        self.next += 1;
+        self.turn += 1;
+        Ok(reply)
+    }
+}

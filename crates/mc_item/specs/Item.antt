@@ -1,0 +1,29 @@
+-- Items: when one dies, what an exptime means, and what hits leave.
+use Rattle.std.specs.Prelude.{ℕ, ◌+◌, ◌==◌, nat_le, ℤ, pos, negsuc, Bool, true, false, if◌then◌else◌}
+use Rattle.mc_item.specs.declared.item.Expiry.{Expiry}
+use Rattle.mc_item.specs.declared.item.Expiry.TheVariants.{Never, At}
+use Rattle.mc_item.specs.declared.item.Marks.{Marks}
+use Rattle.mc_item.specs.declared.item.Item.{Item}
+
+-- whether an expiry has come at a moment (own: the second of the expiry counts)
+abbrev pub has_come : Expiry → ℕ → Bool
+has_come Never moment = false
+has_come (At end) moment = nat_le end moment
+
+-- whether an item is dead at a moment
+abbrev pub is_dead : Item → ℕ → Bool
+is_dead item moment = has_come item.expiry moment
+
+-- the expiry of an exptime at a moment (protocol.txt, "Expiration times"): 0 is never, a negative one is at once,
+-- up to 30 days count from the moment, and a larger one is a moment itself
+abbrev pub expiry_of : ℤ → ℕ → Expiry
+expiry_of (negsuc n) now = At 0
+expiry_of (pos n) now = if n == 0 then Never else if nat_le n 2592000 then At (now + n) else At n
+
+-- the marks of a new version
+abbrev pub no_marks : Marks
+no_marks = record { fetched = false; active = false }
+
+-- the marks after one more hit: the first sets FETCHED, the second ACTIVE (new_lru.txt)
+abbrev pub hit_marks : Marks → Marks
+hit_marks marks = record { fetched = true; active = if marks.fetched then true else marks.active }

@@ -1,0 +1,21 @@
+-- The bytes of a key: which there may be, and what is wrong with others (protocol.txt, "Keys"; the bytes are this profile's own).
+use Rattle.std.specs.Prelude.{ℕ, ◌≡◌, ◌==◌, ◌||◌, List, Bool, not, nat_lt, if◌then◌else◌, Option, Some, None, length}
+use Rattle.std.specs.List.{list_all}
+use Rattle.mc_item.specs.declared.key.KeyFault.{KeyFault}
+use Rattle.mc_item.specs.declared.key.KeyFault.TheVariants.{Empty, TooLong, BadByte}
+
+-- any byte but NUL, LF, CR and space may stand in a key
+abbrev pub is_key_byte : ℕ → Bool
+is_key_byte b = not (b == 0 || b == 10 || b == 13 || b == 32)
+
+-- the first thing that is wrong with these bytes as a key
+abbrev pub key_fault_of : List ℕ → Option KeyFault
+key_fault_of bytes =
+    if length bytes == 0 then Some Empty
+    else if nat_lt 250 (length bytes) then Some TooLong
+    else if list_all is_key_byte bytes then None
+    else Some BadByte
+
+-- these bytes are a key: 1 to 250 bytes, each of which may stand in one
+abbrev pub IsKey : List ℕ → Type 0
+IsKey bytes = key_fault_of bytes ≡ None

@@ -1,0 +1,16 @@
+-- What the laws of the sequential cache speak of: which key an event names, and events that leave a key alone.
+use Rattle.std.specs.Prelude.{ℕ, List, [], ◌∷◌, ◌≢◌}
+use Rattle.mc_item.specs.Command.{key_of}
+use Rattle.mc_item.specs.declared.stripe_event.StripeEvent.{StripeEvent}
+use Rattle.mc_item.specs.declared.stripe_event.StripeEvent.TheVariants as events
+
+-- the key that an event names
+abbrev pub key_named : StripeEvent → List ℕ
+key_named (events.Did did) = key_of did.command
+key_named (events.Lost lost) = lost.key
+key_named (events.Cooled cooled) = cooled.key
+
+-- each of these events names another key
+abbrev pub AreOfOthers : List ℕ → List StripeEvent → Type 0
+AreOfOthers key [] = Unit {0}
+AreOfOthers key (e ∷ es) = (key_named e ≢ key) × AreOfOthers key es

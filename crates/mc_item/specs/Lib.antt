@@ -1,0 +1,13 @@
+pub mod Key
+pub mod Item
+pub mod Command
+pub mod Measure
+pub mod Config
+pub mod Answer
+pub mod Cache
+pub mod Stripe
+pub mod Laws
+pub mod Counts
+pub mod Lists
+pub mod Segment
+pub mod Lawful

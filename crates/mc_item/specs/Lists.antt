@@ -1,0 +1,152 @@
+-- The four lists of a slab class, newest first, and what each event leaves of them (own, modelled on new_lru.txt and items.c).
+use Rattle.std.specs.Prelude.{ℕ, ◌+◌, ◌≤◌, ◌==◌, List, [], ◌∷◌, if◌then◌else◌, Option, Some, None, length, reverse, slice_get}
+use Rattle.std.specs.Option.{option_map}
+use Rattle.mc_item.specs.declared.lists.Entry.{Entry}
+use Rattle.mc_item.specs.declared.lists.Seg.{Seg}
+use Rattle.mc_item.specs.declared.lists.Seg.TheVariants.{Hot, Warm, Cold, Temp}
+use Rattle.mc_item.specs.declared.class_event.ClassEvent.{ClassEvent}
+use Rattle.mc_item.specs.declared.class_event.ClassEvent.TheVariants as events
+use Rattle.mc_item.specs.declared.class_event.Why.{Why}
+use Rattle.mc_item.specs.declared.class_event.Why.TheVariants as whys
+
+-- the lists of a class, each with its newest entry first
+pub record Lists : Type 0 where
+  pub hot : List Entry
+  pub warm : List Entry
+  pub cold : List Entry
+  pub temp : List Entry
+
+-- the lists of a class without entries
+abbrev pub no_lists : Lists
+no_lists = record { hot = []; warm = []; cold = []; temp = [] }
+
+-- an entry, by its parts
+abbrev pub entry : ℕ → List ℕ → ℕ → ℕ → Entry
+entry number key cost time = record { number = number; key = key; cost = cost; time = time }
+
+-- the list of a segment
+abbrev pub list_of : Lists → Seg → List Entry
+list_of l Hot = l.hot
+list_of l Warm = l.warm
+list_of l Cold = l.cold
+list_of l Temp = l.temp
+
+-- the lists with another list for one segment
+abbrev pub with_list : Lists → Seg → List Entry → Lists
+with_list l Hot es = record l { hot = es }
+with_list l Warm es = record l { warm = es }
+with_list l Cold es = record l { cold = es }
+with_list l Temp es = record l { temp = es }
+
+-- the entry of a number in a list
+abbrev pub find : ℕ → List Entry → Option Entry
+find n [] = None
+find n (e ∷ es) = if e.number == n then Some e else find n es
+
+-- a list without the entry of a number
+abbrev pub without : ℕ → List Entry → List Entry
+without n [] = []
+without n (e ∷ es) = if e.number == n then es else e ∷ without n es
+
+-- the lists with an entry at the head of one
+abbrev pub linked : Seg → Entry → Lists → Lists
+linked s e l = with_list l s (e ∷ list_of l s)
+
+-- the lists without the entry of a number
+abbrev pub unlinked : ℕ → Lists → Lists
+unlinked n l = record { hot = without n l.hot; warm = without n l.warm; cold = without n l.cold; temp = without n l.temp }
+
+-- the time of an entry after a move: a hit and an active entry's move set it to the moment, the others keep it (own)
+abbrev pub time_after : Why → ℕ → ℕ → ℕ
+time_after whys.Hit moment time = moment
+time_after whys.Active moment time = moment
+time_after (whys.Over place) moment time = time
+time_after (whys.Old place) moment time = time
+time_after whys.Forced moment time = time
+
+-- the lists once an entry that was found has gone from one list to the head of another, or of its own
+abbrev pub moved_entry : Option Entry → ℕ → Seg → Seg → Why → ℕ → Lists → Lists
+moved_entry None n from_seg to_seg why moment l = l
+moved_entry (Some e) n from_seg to_seg why moment l =
+    linked to_seg (record e { time = time_after why moment e.time }) (with_list l from_seg (without n (list_of l from_seg)))
+
+-- the lists once the entry of a number has gone from one list to the head of another, or of its own
+abbrev pub moved : ℕ → Seg → Seg → Why → ℕ → Lists → Lists
+moved n from_seg to_seg why moment l = moved_entry (find n (list_of l from_seg)) n from_seg to_seg why moment l
+
+-- the lists after one event
+abbrev pub after : Lists → ClassEvent → Lists
+after l (events.Linked e) = linked e.seg (entry e.number e.key e.cost e.moment) l
+after l (events.Unlinked e) = unlinked e.number l
+after l (events.Shifted e) = moved e.number e.from_seg e.to_seg e.why e.moment l
+after l (events.Evicted e) = unlinked e.number l
+after l (events.Reclaimed e) = unlinked e.number l
+after l (events.Surveyed e) = l
+after l (events.Refused e) = l
+
+-- the lists after these events
+abbrev pub lists_from : Lists → List ClassEvent → Lists
+lists_from l [] = l
+lists_from l (e ∷ es) = lists_from (after l e) es
+
+-- the lists that a history leaves
+abbrev pub lists_of : List ClassEvent → Lists
+lists_of history = lists_from no_lists history
+
+-- the sum of the costs of these entries
+abbrev pub cost_sum : List Entry → ℕ
+cost_sum [] = 0
+cost_sum (e ∷ es) = e.cost + cost_sum es
+
+-- the bytes of a segment's list
+abbrev pub bytes_of : Lists → Seg → ℕ
+bytes_of l s = cost_sum (list_of l s)
+
+-- how many entries the lists have
+abbrev pub count_of : Lists → ℕ
+count_of l = length l.hot + length l.warm + length l.cold + length l.temp
+
+-- each chunk of the class is taken
+abbrev pub IsFull : ℕ → Lists → Type 0
+IsFull chunks l = chunks ≤ count_of l
+
+-- a segment with what was found in it, or what was found elsewhere
+abbrev pub found_in : Seg → Option Entry → Option (Seg × Entry) → Option (Seg × Entry)
+found_in s None other = other
+found_in s (Some e) other = Some (s, e)
+
+-- the segment and the entry of a number
+abbrev pub found : ℕ → Lists → Option (Seg × Entry)
+found n l = found_in Hot (find n l.hot) (found_in Warm (find n l.warm) (found_in Cold (find n l.cold) (found_in Temp (find n l.temp) None)))
+
+-- the segment that a number is in
+abbrev pub segment_of : ℕ → Lists → Option Seg
+segment_of n l = option_map (λ p. p.0) (found n l)
+
+-- the entry at a place of a list, counted from its tail
+abbrev pub from_tail : List Entry → ℕ → Option Entry
+from_tail es place = slice_get (reverse es) place
+
+-- how often a number stands in a list
+abbrev pub times : ℕ → List Entry → ℕ
+times n [] = 0
+times n (e ∷ es) = (if e.number == n then 1 else 0) + times n es
+
+-- how often a number stands in the lists
+abbrev pub times_in : ℕ → Lists → ℕ
+times_in n l = times n l.hot + times n l.warm + times n l.cold + times n l.temp
+
+-- how many entries an event links
+abbrev pub links_in : ClassEvent → ℕ
+links_in (events.Linked e) = 1
+links_in (events.Unlinked e) = 0
+links_in (events.Shifted e) = 0
+links_in (events.Evicted e) = 0
+links_in (events.Reclaimed e) = 0
+links_in (events.Surveyed e) = 0
+links_in (events.Refused e) = 0
+
+-- how many entries were linked: the number of the next one, as they are numbered from 0
+abbrev pub links_of : List ClassEvent → ℕ
+links_of [] = 0
+links_of (e ∷ es) = links_in e + links_of es

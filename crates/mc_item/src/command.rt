@@ -1,0 +1,96 @@
+//! What a caller can ask of the cache.
+ghost use Rattle.std.specs.Prelude.{◌≡◌, IfOk};
+ghost use Rattle.mc_item.specs.Command.{key_of};
+
+use crate::fault::NoMemory;
+use crate::key::Key;
+use crate::value::Value;
+use std::alloc::Global;
+
+/// The kinds of storage command (protocol.txt, "Storage commands").
+#[derive(Clone, Copy, Debug, PartialEq, Eq)]
+pub enum Verb {
+    /// Stores in any case.
+    Set,
+    /// Stores where there is no item.
+    Add,
+    /// Stores where there is an item.
+    Replace,
+    /// Stores where the item has this cas number.
+    Cas(u64),
+}
+
+/// A command. It names one key. `gets` is `Get`, printed with the cas number.
+#[derive(Debug, Drop)]
+pub enum Command {
+    /// Reads an item.
+    Get(Key),
+    /// Stores an item, of these flags, exptime and value.
+    Store {
+        verb: Verb,
+        key: Key,
+        flags: u32,
+        exptime: i64,
+        value: Value,
+    },
+    /// A storage command whose block was skipped, since no slab class can hold it.
+    Huge {
+        verb: Verb,
+        key: Key,
+    },
+    /// Adds to a number.
+    Incr(Key, u64),
+    /// Takes from a number.
+    Decr(Key, u64),
+    /// Sets an item's exptime.
+    Touch(Key, i64),
+    /// Removes an item.
+    Delete(Key),
+}
+
+impl Command {
+    /// The key that the command names.
+    pub fn key(&self) -> &Key
+        ensures { result.now ≡ key_of self.now }
+    {
+        match self {
+            Command::Get(key) => key,
+            Command::Store { key, .. } => key,
+            Command::Huge { key, .. } => key,
+            Command::Incr(key, _) => key,
+            Command::Decr(key, _) => key,
+            Command::Touch(key, _) => key,
+            Command::Delete(key) => key,
+        }
+    }
+
+    /// An equal command.
+    pub fn copy(&self, alloc: Global) -> Result<Command, NoMemory>
+        ensures { IfOk result (λ command. command ≡ self.now) }
+    {
+        match self {
+            Command::Get(key) => Ok(Command::Get(key.copy(alloc)?)),
+            Command::Store {
+                verb,
+                key,
+                flags,
+                exptime,
+                value,
+            } => Ok(Command::Store {
+                verb: *verb,
+                key: key.copy(alloc)?,
+                flags: *flags,
+                exptime: *exptime,
+                value: value.copy(alloc)?,
+            }),
+            Command::Huge { verb, key } => Ok(Command::Huge {
+                verb: *verb,
+                key: key.copy(alloc)?,
+            }),
+            Command::Incr(key, delta) => Ok(Command::Incr(key.copy(alloc)?, *delta)),
+            Command::Decr(key, delta) => Ok(Command::Decr(key.copy(alloc)?, *delta)),
+            Command::Touch(key, exptime) => Ok(Command::Touch(key.copy(alloc)?, *exptime)),
+            Command::Delete(key) => Ok(Command::Delete(key.copy(alloc)?)),
+        }
+    }
+}

@@ -1,0 +1,221 @@
+//! The rows of `incr` and `decr`.
+ghost use Rattle.std.specs.Prelude.{◌≡◌, ◌+◌, ◌*◌, ◌<◌, ◌≤◌, ◌^◌, ◌++◌, IfOk, OnOk, length, ℕ, Option, replicate, decimal};
+ghost use Rattle.std.specs.Option.{option_copied, option_map};
+ghost use Rattle.mc_item.specs.Answer as answers;
+ghost use Rattle.mc_item.specs.Measure as measure;
+ghost use Rattle.mc_item.specs.declared.item.Link.{Link};
+ghost use Rattle.mc_item.specs.declared.reply.Reply.TheVariants as replies;
+ghost use Rattle.mc_item.specs.declared.answer.Change.TheVariants as changes;
+
+use crate::answer::{Answer, Change, Need, Site};
+use crate::fault::NoMemory;
+use crate::item::{ClassNo, Item, Marks};
+use crate::key::Key;
+use crate::measure::{cost, least_class, numeral_of};
+use crate::reply::{Reply, Room};
+use crate::value::Value;
+use std::alloc::Global;
+
+/// Which way a number goes, and how far.
+#[derive(Clone, Copy, Debug, PartialEq, Eq)]
+pub enum Step {
+    /// Up, and past 2^64 on from 0.
+    Up(u64),
+    /// Down, to 0 at the least.
+    Down(u64),
+}
+
+impl Step {
+    /// The number after the step.
+    pub fn taken(self, number: u64) -> u64
+        ensures { result ≡ answers.stepped self number }
+    {
+        match self {
+            Step::Up(delta) => number.wrapping_add(delta),
+            Step::Down(delta) => number.saturating_sub(delta),
+        }
+    }
+}
+
+// The number after the step, where the value is one.
+fn counted(item: &Item, step: Step) -> Option<u64>
+    ensures { result ≡ option_map (answers.stepped step) (measure.numeral_of item.now.value) }
+{
+    match numeral_of(item.value.bytes()) {
+        Some(number) => Some(step.taken(number)),
+        None => None,
+    }
+}
+
+// How many digits a number has.
+fn digits_len(number: u64) -> usize
+    ensures value { result ≡ length (decimal number) }
+    ensures few { result ≤ 20 }
+{
+    let mut rest = number;
+    let mut len = 1;
+    while rest >= 10 {
+        rest /= 10;
+        len += 1;
+    }
+    len
+}
+
+// The digits of a number, and spaces up to a length.
+fn padded_text(alloc: Global, number: u64, len: usize) -> Result<Value, NoMemory>
+    ensures { IfOk result (λ v. v ≡ answers.padded (decimal number) len) }
+{
+    let text = number.to_string(alloc)?;
+    let mut bytes = text.into_bytes();
+    let digits = bytes.len();
+    if digits < len {
+        push_spaces(&mut bytes, len - digits)?;
+    }
+    Ok(Value::from_vec(bytes))
+}
+
+// Spaces at the end.
+fn push_spaces(bytes: &mut Vec<u8>, count: usize) -> Result<(), NoMemory>
+    ensures { OnOk result (bytes.new.items ≡ bytes.old.items ++ replicate count 32) }
+{
+    for _ in 0..count {
+        bytes.push(b' ')?;
+    }
+    Ok(())
+}
+
+impl Site {
+    // The class of a number's cost.
+    fn class_of_digits(&self, key: &Key, digits: usize) -> Option<ClassNo>
+        requires { digits ≤ 20 }
+        ensures { result ≡ measure.class_of self.now.sizes (64 + length key.now + digits) }
+    {
+        least_class(
+            self.sizes.as_slice(),
+            cost(key.bytes().len() as u64, digits as u64),
+        )
+    }
+
+    // What a new number needs.
+    fn number_need(&self, key: &Key, item: &Item, counted: Option<u64>) -> Need
+        ensures { (n : ℕ) → result ≡ (answers.number_row self.now n key.now item.now counted).need }
+    {
+        let Some(number) = counted else {
+            return Need::Nothing;
+        };
+        let digits = digits_len(number);
+        if digits <= item.value.bytes().len() {
+            return Need::Same;
+        }
+        match self.class_of_digits(key, digits) {
+            Some(class) => Need::Fresh(class),
+            None => Need::TooLarge,
+        }
+    }
+
+    /// What `incr` or `decr` needs.
+    pub fn count_need(&self, key: &Key, step: Step, found: Option<&Item>) -> Need
+        ensures { (n : ℕ) → result ≡ (answers.count_row self.now n key.now (answers.stepped step) (option_copied found.entry)).need }
+    {
+        match found {
+            None => Need::Nothing,
+            Some(item) => self.number_need(key, item, counted(item, step)),
+        }
+    }
+
+    // The answer for a number that is longer than the old value.
+    fn grown_answer(
+        &self,
+        alloc: Global,
+        versions: u64,
+        item: &Item,
+        number: u64,
+        class: Option<ClassNo>,
+        room: Room,
+    ) -> Result<Answer, NoMemory>
+        requires { answers.cas_of self.now versions < 2 ^ 64 }
+        ensures { IfOk result (λ a. a ≡ (answers.grown_row self.now versions item.now number class).answer room) }
+    {
+        let refused = Answer {
+            reply: Reply::NoSpace,
+            change: Change::Stays,
+        };
+        if class.is_none() {
+            return Ok(refused);
+        }
+        match room {
+            Room::Keep => Ok(refused),
+            Room::Refused { .. } => Ok(refused),
+            Room::At(link) => Ok(Answer {
+                reply: Reply::Number(number),
+                change: Change::Renewed(Item {
+                    flags: item.flags,
+                    value: padded_text(alloc, number, 0)?,
+                    expiry: item.expiry,
+                    cas: self.cas_of(versions),
+                    link,
+                    marks: Marks {
+                        fetched: false,
+                        active: false,
+                    },
+                }),
+            }),
+        }
+    }
+
+    // The answer for a new number.
+    fn number_answer(
+        &self,
+        alloc: Global,
+        versions: u64,
+        key: &Key,
+        item: &Item,
+        counted: Option<u64>,
+        room: Room,
+    ) -> Result<Answer, NoMemory>
+        requires { answers.cas_of self.now versions < 2 ^ 64 }
+        ensures { IfOk result (λ a. a ≡ (answers.number_row self.now versions key.now item.now counted).answer room) }
+    {
+        let Some(number) = counted else {
+            return Ok(Answer {
+                reply: Reply::NonNumeric,
+                change: Change::Stays,
+            });
+        };
+        let digits = digits_len(number);
+        let len = item.value.bytes().len();
+        if digits <= len {
+            return Ok(Answer {
+                reply: Reply::Number(number),
+                change: Change::Counted(padded_text(alloc, number, len)?, self.cas_of(versions)),
+            });
+        }
+        let class = self.class_of_digits(key, digits);
+        self.grown_answer(alloc, versions, item, number, class, room)
+    }
+
+    /// The answer to `incr` or `decr`. The cas number of a new version is below 2^64.
+    pub fn count_answer(
+        &self,
+        alloc: Global,
+        versions: u64,
+        key: &Key,
+        step: Step,
+        found: Option<&Item>,
+        room: Room,
+    ) -> Result<Answer, NoMemory>
+        requires { answers.cas_of self.now versions < 2 ^ 64 }
+        ensures { IfOk result (λ a. a ≡ (answers.count_row self.now versions key.now (answers.stepped step) (option_copied found.entry)).answer room) }
+    {
+        match found {
+            None => Ok(Answer {
+                reply: Reply::NotFound,
+                change: Change::Stays,
+            }),
+            Some(item) => {
+                let counted = counted(item, step);
+                self.number_answer(alloc, versions, key, item, counted, room)
+            }
+        }
+    }
+}

@@ -1,0 +1,29 @@
+//! What any history can hold.
+use crate::class_event::ClassEvent;
+use crate::stripe_event::StripeEvent;
+
+/// An event of some history.
+#[derive(Drop)]
+pub enum Event {
+    Stripe(StripeEvent),
+    Class(ClassEvent),
+}
+
+/// What can be told to a board of histories: a kind of event.
+pub trait Logged {
+    ghost use Rattle.mc_item.specs.declared.event.Event.{Event};
+
+    ghost entry: { Self → Event };
+}
+
+impl Logged for StripeEvent {
+    ghost use Rattle.mc_item.specs.declared.event.Event.TheVariants.{Stripe};
+
+    ghost entry = { Stripe };
+}
+
+impl Logged for ClassEvent {
+    ghost use Rattle.mc_item.specs.declared.event.Event.TheVariants.{Class};
+
+    ghost entry = { Class };
+}

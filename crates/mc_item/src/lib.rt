@@ -1,0 +1,47 @@
+//! Values and rules of the cache: keys, items, commands, replies, events, the configuration, and the sequential
+//! cache that all else is measured by. Nothing here locks, reads or writes.
+#![tactic(auto)]
+
+mod answer;
+mod answering;
+mod class_event;
+mod command;
+mod config;
+mod counting;
+mod counts;
+mod event;
+mod fault;
+mod item;
+mod key;
+mod laws;
+mod lists;
+mod measure;
+mod numbers;
+mod reply;
+mod spare;
+mod storing;
+mod stripe_event;
+#[cfg(test)]
+mod tests;
+mod value;
+
+pub use answer::{Answer, Change, Need, Site};
+pub use class_event::{
+    ClassEvent, Evicted, Linked, Reclaimed, Refused, Shifted, Surveyed, Unlinked, Why,
+};
+pub use command::{Command, Verb};
+pub use config::{Config, ConfigFault};
+pub use counting::Step;
+pub use counts::{Histogram, Moves};
+pub use event::{Event, Logged};
+pub use fault::{Fault, NoMemory};
+pub use item::{ClassNo, Expiry, Item, Link, Marks, StripeNo, Who, expiry_of};
+pub use key::{Key, KeyFault, MAX_KEY_LEN};
+pub use laws::{forgetting_the_dead_shows_nothing, other_keys_stay, set_is_read_back};
+pub use lists::{Entry, Passed, Seg};
+pub use measure::{class_of, cost, least_class, numeral_of, stripe_of};
+pub use numbers::{ClassSizes, Numbers};
+pub use reply::{Reply, Room};
+pub use spare::KeyBuffer;
+pub use stripe_event::{Cause, Cooled, Did, Lost, StripeEvent};
+pub use value::Value;

@@ -1,0 +1,111 @@
+//! How large an item is, which slab class holds it, which stripe has its key, and which values are numbers.
+ghost use Rattle.std.specs.Prelude.{◌≡◌, ◌+◌, ◌-◌, ◌<◌, ◌≤◌, ◌^◌, ℕ, None, IfSome, IfNone, IsTrue, All, length, take};
+ghost use Rattle.std.specs.List.{prefix_len, position, list_all};
+ghost use Rattle.std.specs.Prelude.{nat_le, ◌==◌};
+ghost use Rattle.mc_item.specs.Measure as measure;
+
+use crate::config::Config;
+use crate::item::{ClassNo, StripeNo};
+use crate::key::Key;
+
+/// What an item takes of a chunk, in bytes: 64, and those of its key and value (own).
+pub fn cost(key_len: u64, value_len: u64) -> u64
+    requires { 64 + key_len + value_len < 2 ^ 64 }
+    ensures { result ≡ 64 + key_len + value_len }
+{
+    64 + key_len + value_len
+}
+
+// The place of the first size that is at least the cost.
+fn place_of(sizes: &[u64], cost: u64) -> Option<usize>
+    ensures value { result ≡ position (λ size. nat_le cost size) sizes.now }
+    ensures bound { IfSome result (λ place. place < length sizes.now) }
+{
+    sizes.iter().position(|size| cost <= *size)
+}
+
+// Whether each byte is a space.
+fn are_spaces(bytes: &[u8]) -> bool
+    ensures { result ≡ list_all (λ byte. byte == 32) bytes.now }
+{
+    bytes.iter().all(|byte| *byte == b' ')
+}
+
+/// The least class, from 1, whose size is at least the cost. None where the last size is smaller.
+pub fn least_class(sizes: &[u64], cost: u64) -> Option<ClassNo>
+    requires { length sizes.now ≤ 63 }
+    ensures value { result ≡ measure.class_of sizes.now cost }
+{
+    match place_of(sizes, cost) {
+        Some(place) => Some(ClassNo(place as u32 + 1)),
+        None => None,
+    }
+}
+
+/// The least class of a configuration whose size is at least the cost.
+pub fn class_of(config: &Config, cost: u64) -> Option<ClassNo>
+    requires { length config.now.sizes ≤ 63 }
+    ensures value { result ≡ measure.class_of config.now.sizes cost }
+{
+    least_class(config.sizes.as_slice(), cost)
+}
+
+const FNV_START: u32 = 2_166_136_261;
+
+const FNV_PRIME: u32 = 16_777_619;
+
+// FNV-1a with 32 bits.
+fn fnv1a(bytes: &[u8]) -> u32
+    ensures { result ≡ measure.fnv1a bytes.now }
+{
+    bytes.iter().fold(FNV_START, |hash, byte| {
+        (hash ^ u32::from(*byte)).wrapping_mul(FNV_PRIME)
+    })
+}
+
+/// The stripe of a key: its FNV-1a of 32 bits modulo the number of stripes.
+pub fn stripe_of(key: &Key, stripes: u32) -> StripeNo
+    requires { 0 < stripes }
+    ensures { result ≡ measure.stripe_of key.now stripes }
+{
+    StripeNo(fnv1a(key.bytes()) % stripes)
+}
+
+// How many digits the bytes begin with.
+fn digits_end(bytes: &[u8]) -> usize
+    ensures { result ≡ prefix_len measure.is_digit bytes.now }
+{
+    bytes
+        .iter()
+        .take_while(|byte| byte.is_ascii_digit())
+        .count()
+}
+
+// The number that at most 20 digits spell.
+fn number_of(digits: &[u8]) -> u128
+    requires few { length digits.now ≤ 20 }
+    requires digits { All (λ byte. IsTrue (measure.is_digit byte)) digits.now }
+    ensures { result ≡ measure.number_of digits.now }
+{
+    let mut number: u128 = 0;
+    for digit in digits {
+        number = 10 * number + u128::from(*digit - b'0');
+    }
+    number
+}
+
+/// The number that a value is: 1 to 20 digits of a number below 2^64, then any number of spaces (own).
+pub fn numeral_of(value: &[u8]) -> Option<u64>
+    ensures { result ≡ measure.numeral_of value.now }
+{
+    let (digits, rest) = value.split_at(digits_end(value));
+    if digits.is_empty() || digits.len() > 20 || !are_spaces(rest) {
+        return None;
+    }
+    let number = number_of(digits);
+    if number < 1 << 64 {
+        Some(number as u64)
+    } else {
+        None
+    }
+}

@@ -1,0 +1,85 @@
+//! Lists of numbers: of any length in a configuration, and of at most 63 sizes in a state.
+ghost use Rattle.std.specs.Prelude.{◌≡◌, ◌≤◌, length};
+
+use std::marker::Model;
+
+/// A list of numbers. Contracts see it as one. It is made from a `Vec` and gives it back without memory.
+#[derive(Drop)]
+pub struct Numbers {
+    numbers: Vec<u64>,
+}
+
+impl Model for Numbers {
+    ghost use Rattle.std.specs.Prelude.{List, ℕ};
+
+    ghost Value = { List ℕ };
+
+    ghost view = { λ n. n.numbers.items };
+}
+
+impl Numbers {
+    /// The list of these numbers.
+    pub fn from_vec(numbers: Vec<u64>) -> Numbers
+        ensures { result ≡ numbers.items }
+    {
+        Numbers { numbers }
+    }
+
+    /// The numbers back.
+    pub fn into_vec(self) -> Vec<u64>
+        ensures { result.items ≡ self }
+    {
+        let Numbers { numbers } = self;
+        numbers
+    }
+
+    /// The numbers.
+    pub fn as_slice(&self) -> &[u64]
+        ensures { result.now ≡ self.now }
+    {
+        self.numbers.as_slice()
+    }
+}
+
+/// The most slab classes that there may be.
+pub const MAX_CLASSES: usize = 63;
+
+/// The sizes of the slab classes, at most 63, which take no memory of their own. Contracts see them as a list.
+#[derive(Drop)]
+pub struct ClassSizes {
+    sizes: [u64; 63],
+    count: usize,
+}
+
+impl Model for ClassSizes {
+    ghost use Rattle.std.specs.Prelude.{List, ℕ, ◌≤◌, take};
+
+    ghost Value = { List ℕ };
+
+    ghost view = { λ s. take s.count s.sizes };
+
+    ghost invariant = { λ s. s.count ≤ 63 };
+}
+
+impl ClassSizes {
+    /// These sizes.
+    pub fn of(sizes: &[u64]) -> ClassSizes
+        requires { length sizes.now ≤ 63 }
+        ensures { result ≡ sizes.now }
+    {
+        let mut table = [0; 63];
+        table[..sizes.len()].copy_from_slice(sizes);
+        ClassSizes {
+            sizes: table,
+            count: sizes.len(),
+        }
+    }
+
+    /// The sizes.
+    pub fn as_slice(&self) -> &[u64]
+        ensures value { result.now ≡ self.now }
+        ensures few { length self.now ≤ 63 }
+    {
+        &self.sizes[..self.count]
+    }
+}

@@ -1,0 +1,8 @@
+pub mod Cuts
+pub mod Spellings
+pub mod Tokens
+pub mod KeyLists
+pub mod Steps
+pub mod Rests
+pub mod Streams
+pub mod Texts

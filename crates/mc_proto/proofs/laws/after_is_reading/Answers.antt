@@ -1,0 +1,5 @@
+use Rattle.mc_proto.proofs.Rests.{after_reads}
+use Rattle.mc_proto.proofs.laws.after_is_reading.Goals as goal
+
+pub returns : goal.returns
+returns c = after_reads

@@ -1,0 +1,5 @@
+use Rattle.mc_proto.proofs.Streams.{stream_reads}
+use Rattle.mc_proto.proofs.laws.every_stream_reads.Goals as goal
+
+pub returns : goal.returns
+returns c = stream_reads

@@ -1,0 +1,16 @@
+use Rattle.std.proofs.Common.{◌≡◌, ◌++◌, List, ℕ, length, All}
+use Rattle.mc_proto.specs.Grammar.{IsModerate}
+use Rattle.mc_proto.specs.Reader.{After, IsSound}
+use Rattle.mc_proto.specs.declared.request.Request.{Request}
+use Rattle.mc_proto.proofs.reader.read_piece.Given as goal
+
+-- what came of the piece before `rest` has been read
+abbrev pub invariant-loop-rest : goal.invariant-loop-rest
+invariant-loop-rest l = record {
+  sound : IsSound l.state l.line.items;
+  moderate : All IsModerate l.requests.items;
+  read : (front : List ℕ) × (l.fn.piece ≡ front ++ l.rest) × ((stream : List ℕ) (requests : List Request) → After l.limits l.fn.state l.fn.line.items stream requests → After l.limits l.state l.line.items (stream ++ front) (requests ++ l.requests.items));
+}
+
+abbrev pub decreases-loop-rest : goal.decreases-loop-rest
+decreases-loop-rest l = length l.rest

@@ -1,0 +1,5 @@
+use Rattle.mc_proto.proofs.Tokens.{lacks_more}
+use Rattle.mc_proto.proofs.token.line_end.Goals as goal
+
+pub loop-i-preserved : goal.loop-i-preserved
+loop-i-preserved c = lacks_more 10 c.args.bytes.now c.loop-i.i c.loop-i-test.true c.loop-i.invariant c.if-b-eq10.false

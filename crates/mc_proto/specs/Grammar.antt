@@ -1,0 +1,118 @@
+-- The grammar: what spells a request, and what a stream reads as (protocol.txt; the rules for refused lines are this profile's own).
+use Rattle.std.specs.Prelude.{ℕ, ◌+◌, ◌^◌, ◌<◌, ◌≤◌, ◌≡◌, ◌⊎◌, List, [], ◌∷◌, ◌++◌, Bool, true, false, if◌then◌else◌, length, take, drop, nat_eq}
+use Rattle.std.specs.Cmp.Lexicographic.{pointwise}
+use Rattle.mc_item.specs.declared.command.Command.TheVariants as commands
+use Rattle.mc_proto.specs.Lines.{Lacks}
+use Rattle.mc_proto.specs.Rows.{says}
+use Rattle.mc_proto.specs.declared.request.Limits.{Limits}
+use Rattle.mc_proto.specs.declared.request.LineFault.{LineFault}
+use Rattle.mc_proto.specs.declared.request.LineFault.TheVariants.{Error, Format, Chunk, Delta, LineTooLong, Exptime}
+use Rattle.mc_proto.specs.declared.request.Request.{Request}
+use Rattle.mc_proto.specs.declared.request.Request.TheVariants.{Get, One, Bad, At, Next, Juggle, Crawl, Quit}
+use Rattle.mc_proto.specs.declared.state.Said.{Said}
+use Rattle.mc_proto.specs.declared.state.Said.TheVariants.{Whole, Block, Skip}
+use Rattle.mc_proto.specs.declared.state.Start.{Start}
+
+-- how many bytes follow the line
+abbrev pub wanted : Said → ℕ
+wanted (Whole r) = 0
+wanted (Block s) = s.count + 2
+wanted (Skip s) = s.count + 2
+
+-- the request of a block that is kept: it is refused where its last two bytes are not CR LF (own)
+abbrev pub stored : Start → List ℕ → Request
+stored s block =
+    if pointwise nat_eq (drop s.count block) (13 ∷ 10 ∷ [])
+    then One (commands.Store s.verb s.key s.flags s.exptime (take s.count block)) s.quiet
+    else Bad Chunk s.quiet
+
+-- the request of a block that is skipped, whatever its bytes are (own)
+abbrev pub skipped : Start → Request
+skipped s = One (commands.Huge s.verb s.key) s.quiet
+
+-- the request of a line and its block
+abbrev pub asked : Said → List ℕ → Request
+asked (Whole r) block = r
+asked (Block s) block = stored s block
+asked (Skip s) block = skipped s
+
+-- a line, of which the LF is no part: at most 65,536 bytes (own)
+pub record IsLine (line : List ℕ) : Type 0 where
+  pub one : Lacks 10 line
+  pub short : length line < 65537
+
+-- a request is spelt by a line, its LF, and the block that the line asks for
+pub record ByLine (limits : Limits) (bytes : List ℕ) (r : Request) : Type 0 where
+  pub line : List ℕ
+  pub block : List ℕ
+  pub whole : bytes ≡ line ++ 10 ∷ block
+  pub is_line : IsLine line
+  pub long : length block ≡ wanted (says limits line)
+  pub means : r ≡ asked (says limits line) block
+
+-- a line that is too long is spelt by 65,537 bytes without an LF; it isn't quiet (own)
+pub record ByLength (bytes : List ℕ) (r : Request) : Type 0 where
+  pub one : Lacks 10 bytes
+  pub long : length bytes ≡ 65537
+  pub means : r ≡ Bad LineTooLong false
+
+-- these bytes spell a request
+abbrev pub Spells : Limits → List ℕ → Request → Type 0
+Spells limits bytes r = ByLine limits bytes r ⊎ ByLength bytes r
+
+-- whether nothing is read after a fault
+abbrev pub closing : LineFault → Bool
+closing LineTooLong = true
+closing Error = false
+closing Format = false
+closing Chunk = false
+closing Delta = false
+closing Exptime = false
+
+-- whether nothing is read after a request
+abbrev pub closes : Request → Bool
+closes (Bad why quiet) = closing why
+closes (Get keys with_cas) = false
+closes (One command quiet) = false
+closes (At moment) = false
+closes Next = false
+closes (Juggle target) = false
+closes (Crawl target) = false
+closes Quit = false
+
+-- whether nothing is read after these requests
+abbrev pub closed : List Request → Bool
+closed [] = false
+closed (r ∷ rs) = if closes r then true else closed rs
+
+-- the stream is one spelling of each request in order, and then the rest
+abbrev pub Spelt : Limits → List ℕ → List Request → List ℕ → Type 0
+Spelt limits stream [] rest = stream ≡ rest
+Spelt limits stream (r ∷ rs) rest =
+    (bytes more : List ℕ) × (stream ≡ bytes ++ more) × Spells limits bytes r × (closes r ≡ true → rs ≡ []) × Spelt limits more rs rest
+
+-- no beginning of the rest is a spelling
+abbrev pub BeginsNone : Limits → List ℕ → Type 0
+BeginsNone limits rest = (bytes more : List ℕ) (r : Request) → rest ≡ bytes ++ more → Spells limits bytes r → ⊥
+
+-- the stream reads as the requests and the rest: no spelling begins the rest, unless the last request closed the reader
+pub record Reads (limits : Limits) (stream : List ℕ) (requests : List Request) (rest : List ℕ) : Type 0 where
+  pub spelt : Spelt limits stream requests rest
+  pub all : closed requests ≡ false → BeginsNone limits rest
+
+-- a request sets no moment above 2^62
+abbrev pub IsModerate : Request → Type 0
+IsModerate (At moment) = moment ≤ 2 ^ 62
+IsModerate (Get keys with_cas) = Unit {0}
+IsModerate (One command quiet) = Unit {0}
+IsModerate (Bad why quiet) = Unit {0}
+IsModerate Next = Unit {0}
+IsModerate (Juggle target) = Unit {0}
+IsModerate (Crawl target) = Unit {0}
+IsModerate Quit = Unit {0}
+
+-- what each line is: none closes the reader or sets too late a moment, and the bytes of a block have a bound
+abbrev pub IsFine : Said → Type 0
+IsFine (Whole r) = (closes r ≡ false) × IsModerate r
+IsFine (Block s) = s.count ≤ 2147483645
+IsFine (Skip s) = s.count ≤ 2147483645

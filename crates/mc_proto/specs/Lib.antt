@@ -1,0 +1,6 @@
+pub mod Lines
+pub mod Verbs
+pub mod Rows
+pub mod Grammar
+pub mod Reader
+pub mod Text

@@ -1,0 +1,55 @@
+-- Lines, their tokens, and what tokens say: keys, numbers and exptimes (protocol.txt; the limits are this profile's own).
+use Rattle.std.specs.Prelude.{ℕ, ◌-◌, ◌≡◌, ◌==◌, ◌&&◌, List, [], ◌∷◌, ◌++◌, Bool, if◌then◌else◌, Option, Some, None, length, get_or, take, nat_lt, nat_le, is_none, ℤ, pos, neg_ℤ}
+use Rattle.std.specs.List.{list_all}
+use Rattle.std.specs.Option.{option_map}
+use Rattle.mc_item.specs.Key.{key_fault_of}
+use Rattle.mc_item.specs.Measure.{is_digit, number_of}
+
+-- b is none of the bytes
+abbrev pub Lacks : ℕ → List ℕ → Type 0
+Lacks b [] = Unit {0}
+Lacks b (c ∷ cs) = (c ≡ b → ⊥) × Lacks b cs
+
+-- the line without one CR at its end
+abbrev pub no_cr : List ℕ → List ℕ
+no_cr line = if get_or line (length line - 1) 0 == 13 then take (length line - 1) line else line
+
+-- the token that ends here, unless it is empty
+abbrev pub ended : List ℕ → List (List ℕ)
+ended [] = []
+ended (b ∷ bs) = (b ∷ bs) ∷ []
+
+-- the tokens of a line whose first token begins with these bytes: each space ends one
+abbrev pub tokens_from : List ℕ → List ℕ → List (List ℕ)
+tokens_from token [] = ended token
+tokens_from token (b ∷ bs) = if b == 32 then ended token ++ tokens_from [] bs else tokens_from (token ++ b ∷ []) bs
+
+-- the tokens of a line: the longest runs of bytes other than the space
+abbrev pub tokens : List ℕ → List (List ℕ)
+tokens line = tokens_from [] line
+
+-- whether a token can be a key
+abbrev pub is_key : List ℕ → Bool
+is_key token = is_none (key_fault_of token)
+
+-- the key that a token is, if it can be one
+abbrev pub key_of : List ℕ → Option (List ℕ)
+key_of token = if is_key token then Some token else None
+
+-- the number of a token of 1 to so many digits
+abbrev pub number : ℕ → List ℕ → Option ℕ
+number most token = if nat_lt 0 (length token) && nat_le (length token) most && list_all is_digit token then Some (number_of token) else None
+
+-- a number, where it is at most a limit
+abbrev pub up_to : ℕ → Option ℕ → Option ℕ
+up_to limit None = None
+up_to limit (Some n) = if nat_le n limit then Some n else None
+
+-- the number of a token of 1 to 20 digits, where it is at most a limit (own)
+abbrev pub number_up_to : ℕ → List ℕ → Option ℕ
+number_up_to limit token = up_to limit (number 20 token)
+
+-- the exptime of a token: an optional '-', and 1 to 18 digits (own)
+abbrev pub exptime : List ℕ → Option ℤ
+exptime [] = None
+exptime (b ∷ bs) = if b == 45 then option_map (λ n. neg_ℤ (pos n)) (number 18 bs) else option_map pos (number 18 (b ∷ bs))

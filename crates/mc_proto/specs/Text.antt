@@ -1,0 +1,112 @@
+-- The texts of replies (protocol.txt, by the commands; the directives' and two of the faults are this profile's own). Each line ends in CR LF.
+use Rattle.std.specs.Prelude.{ℕ, ◌+◌, ◌==◌, ◌≡◌, List, [], ◌∷◌, ◌++◌, Bool, if◌then◌else◌, length, codes, decimal}
+use Rattle.mc_item.specs.declared.counts.Histogram.{Histogram}
+use Rattle.mc_item.specs.declared.counts.Moves.{Moves}
+use Rattle.mc_item.specs.declared.reply.Reply.{Reply}
+use Rattle.mc_item.specs.declared.reply.Reply.TheVariants as replies
+use Rattle.mc_proto.specs.declared.request.LineFault.{LineFault}
+use Rattle.mc_proto.specs.declared.request.LineFault.TheVariants as faults
+use Rattle.mc_proto.specs.declared.request.Request.{Request}
+use Rattle.mc_proto.specs.declared.request.Request.TheVariants as requests
+
+-- the end of a line
+abbrev pub crlf : List ℕ
+crlf = 13 ∷ 10 ∷ []
+
+-- the text of a reply that stands alone; a value is printed behind its key, and a miss not at all
+abbrev pub reply_text : Reply → List ℕ
+reply_text (replies.Value flags value cas) = []
+reply_text replies.Miss = []
+reply_text replies.Stored = codes "STORED\r\n"
+reply_text replies.NotStored = codes "NOT_STORED\r\n"
+reply_text replies.Exists = codes "EXISTS\r\n"
+reply_text replies.NotFound = codes "NOT_FOUND\r\n"
+reply_text replies.Deleted = codes "DELETED\r\n"
+reply_text replies.Touched = codes "TOUCHED\r\n"
+reply_text (replies.Number number) = decimal number ++ crlf
+reply_text replies.NonNumeric = codes "CLIENT_ERROR cannot increment or decrement non-numeric value\r\n"
+reply_text replies.TooLarge = codes "SERVER_ERROR object too large for cache\r\n"
+reply_text replies.NoRoom = codes "SERVER_ERROR out of memory storing object\r\n"
+reply_text replies.NoSpace = codes "SERVER_ERROR out of memory\r\n"
+
+-- the text of a refused line or block
+abbrev pub fault_text : LineFault → List ℕ
+fault_text faults.Error = codes "ERROR\r\n"
+fault_text faults.Format = codes "CLIENT_ERROR bad command line format\r\n"
+fault_text faults.Chunk = codes "CLIENT_ERROR bad data chunk\r\n"
+fault_text faults.Delta = codes "CLIENT_ERROR invalid numeric delta argument\r\n"
+fault_text faults.LineTooLong = codes "CLIENT_ERROR line too long\r\n"
+fault_text faults.Exptime = codes "CLIENT_ERROR invalid exptime argument\r\n"
+
+-- the end of the values of a get
+abbrev pub end_text : List ℕ
+end_text = codes "END\r\n"
+
+-- a value up to its key
+abbrev pub value_head : List ℕ → List ℕ
+value_head key = codes "VALUE " ++ key
+
+-- a cas number, where it was asked for
+abbrev pub cas_text : Bool → ℕ → List ℕ
+cas_text with_cas cas = if with_cas then codes " " ++ decimal cas else []
+
+-- a value after its key: flags, number of bytes, the cas number for gets, and the bytes
+abbrev pub value_tail : Reply → Bool → List ℕ
+value_tail (replies.Value flags value cas) with_cas =
+    codes " " ++ decimal flags ++ codes " " ++ decimal (length value) ++ cas_text with_cas cas ++ crlf ++ value ++ crlf
+value_tail _ with_cas = []
+
+-- the text of a key of get or gets: VALUE key flags bytes, the value in a line of its own; nothing for a miss
+abbrev pub value_text : List ℕ → Reply → Bool → List ℕ
+value_text key (replies.Value flags value cas) with_cas = value_head key ++ value_tail (replies.Value flags value cas) with_cas
+value_text key _ with_cas = []
+
+-- the texts of the keys of a get in order, each with its reply
+abbrev pub values_text : Bool → List (List ℕ) → List Reply → List ℕ
+values_text with_cas (key ∷ keys) (reply ∷ rs) = value_text key reply with_cas ++ values_text with_cas keys rs
+values_text with_cas [] rs = []
+values_text with_cas (key ∷ keys) [] = []
+
+-- the text of a command's one reply
+abbrev pub one_text : List Reply → List ℕ
+one_text [] = []
+one_text (reply ∷ rs) = reply_text reply
+
+-- the text of a request by its replies; nothing where it is quiet
+abbrev pub text_of : Request → List Reply → List ℕ
+text_of (requests.Get keys with_cas) rs = values_text with_cas keys rs ++ end_text
+text_of (requests.One command quiet) rs = if quiet then [] else one_text rs
+text_of (requests.Bad why quiet) rs = if quiet then [] else fault_text why
+text_of (requests.At moment) rs = []
+text_of requests.Next rs = []
+text_of requests.Quit rs = []
+-- nothing drives the maintainer or the crawler yet, so their directives are printed as an error
+text_of (requests.Juggle target) rs = fault_text faults.Error
+text_of (requests.Crawl target) rs = fault_text faults.Error
+
+-- the text of the maintainer's directive: how many entries were reclaimed and moved (own)
+abbrev pub moves_text : Moves → List ℕ
+moves_text moves = codes "JUGGLED " ++ decimal moves.reclaimed ++ codes " " ++ decimal moves.moved ++ crlf
+
+-- the line of a minute that some entries have to live; none where there are none
+abbrev pub minute_text : ℕ → ℕ → List ℕ
+minute_text minute n = if n == 0 then [] else codes "MINUTE " ++ decimal minute ++ codes " " ++ decimal n ++ crlf
+
+-- the lines of the minutes from one on
+abbrev pub minutes_text : ℕ → List ℕ → List ℕ
+minutes_text minute [] = []
+minutes_text minute (n ∷ ns) = minute_text minute n ++ minutes_text (minute + 1) ns
+
+-- the first line of the crawler's text: its counts but those of minutes
+abbrev pub counts_text : Histogram → List ℕ
+counts_text h =
+    codes "CRAWL " ++ decimal h.seen ++ codes " " ++ decimal h.reclaimed ++ codes " " ++ decimal h.passed ++ codes " " ++ decimal h.gone
+    ++ codes " " ++ decimal h.no_expiry ++ codes " " ++ decimal h.hour_plus ++ crlf
+
+-- the text of the crawler's directive (own)
+abbrev pub histogram_text : Histogram → List ℕ
+histogram_text h = counts_text h ++ minutes_text 0 h.minutes ++ end_text
+
+-- new is old and a beginning of a text
+abbrev pub IsBeginning : List ℕ → List ℕ → List ℕ → Type 0
+IsBeginning old new text = (front back : List ℕ) × (text ≡ front ++ back) × (new ≡ old ++ front)

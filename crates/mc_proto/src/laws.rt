@@ -1,0 +1,33 @@
+//! Laws of the grammar: how a stream reads depends on its bytes alone, and each stream reads in one way.
+ghost use Rattle.std.specs.Prelude.{◌≡◌, ◌++◌, ℕ, List};
+ghost use Rattle.mc_proto.specs.Grammar.{Spells, Spelt, Reads};
+ghost use Rattle.mc_proto.specs.Reader.{After, Stands};
+ghost use Rattle.mc_proto.specs.declared.request.Limits.{Limits};
+ghost use Rattle.mc_proto.specs.declared.request.Request.{Request};
+ghost use Rattle.mc_proto.specs.declared.state.State.{State};
+
+/// No spelling begins another, so it doesn't matter how a stream was cut.
+pub fn no_spelling_begins_another()
+    ensures { (limits : Limits) (a b x y : List ℕ) (q r : Request) → Spells limits a q → Spells limits b r → a ++ x ≡ b ++ y → (a ≡ b) × (x ≡ y) × (q ≡ r) }
+{}
+
+/// A stream reads in one way at most.
+pub fn one_reading()
+    ensures { (limits : Limits) (stream rest others : List ℕ) (qs rs : List Request) → Reads limits stream qs rest → Reads limits stream rs others → (qs ≡ rs) × (rest ≡ others) }
+{}
+
+/// Each stream reads in some way.
+pub fn every_stream_reads()
+    ensures { (limits : Limits) (stream : List ℕ) → (requests : List Request) × (rest : List ℕ) × Reads limits stream requests rest }
+{}
+
+/// Where a reader stands, the stream so far reads as the requests so far, and the rest is what the reader keeps.
+pub fn after_is_reading()
+    ensures { (limits : Limits) (state : State) (unread stream : List ℕ) (requests : List Request) → After limits state unread stream requests → ((rest : List ℕ) × Reads limits stream requests rest × Stands limits state unread rest) }
+{}
+
+/// The requests of a longer stream begin with those of a shorter one.
+pub fn reading_goes_on()
+    ensures { (limits : Limits) (came more rest other : List ℕ) (requests all : List Request) → Spelt limits came requests rest → Reads limits (came ++ more) all other
+        → ((others : List Request) × (all ≡ requests ++ others)) }
+{}

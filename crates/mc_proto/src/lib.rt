@@ -1,0 +1,31 @@
+//! The text protocol: requests are read from pieces of bytes that are cut anywhere, and the texts of replies are
+//! written. Nothing here runs a command.
+#![tactic(auto)]
+
+mod call;
+mod laws;
+mod reader;
+mod request;
+mod row;
+mod said;
+mod sink;
+mod state;
+mod step;
+mod storage;
+mod text;
+mod token;
+mod word;
+
+pub use laws::{
+    after_is_reading, every_stream_reads, no_spelling_begins_another, one_reading, reading_goes_on,
+};
+pub use reader::Reader;
+pub use request::{Keys, Limits, LineFault, Request, Rest, Target};
+pub use sink::{Sink, SinkFault, write_reply};
+pub use text::{
+    fault_text, histogram_text, moves_text, push_end, push_fault, push_reply, push_value_head,
+    push_value_tail, reply_text, value_text,
+};
+
+#[cfg(test)]
+mod tests;

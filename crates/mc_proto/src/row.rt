@@ -1,0 +1,167 @@
+//! What a line says: the lines of get and of the directives here, and which line a verb begins.
+ghost use Rattle.std.specs.Prelude.{◌≡◌, ◌<◌, ◌≤◌, IfOk, IfSome, map, false};
+ghost use Rattle.mc_proto.specs.Grammar.{IsFine, IsModerate, closes};
+ghost use Rattle.mc_proto.specs.Rows as rows;
+
+use crate::call::{call_line, due_of};
+use crate::request::{Keys, Limits, Request, Target};
+use crate::said::{no_format, no_line};
+use crate::state::{Said, Word};
+use crate::token::{key_of, number_up_to, tokens_of, without_cr};
+use crate::word::{is_quiet, shorn, word_of};
+use mc_item::{ClassNo, NoMemory};
+use std::alloc::Global;
+
+/// The largest moment in seconds: 2^62.
+const MAX_MOMENT: u64 = 4_611_686_018_427_387_904;
+
+// The lines get and gets: one or more keys.
+fn get_line(alloc: Global, with_cas: bool, tokens: &[&[u8]]) -> Result<Said, NoMemory>
+    ensures value { IfOk result (λ s. s ≡ rows.get_row with_cas (map (λ t. t.now) tokens.now)) }
+    ensures fine { IfOk result (λ s. IsFine s) }
+{
+    if tokens.is_empty() {
+        return Ok(no_line());
+    }
+    let mut keys = Vec::new(alloc);
+    for token in tokens {
+        match key_of(alloc, *token)? {
+            Some(key) => {
+                keys.push(key)?;
+            }
+            None => {
+                return Ok(no_format(false));
+            }
+        }
+    }
+    Ok(Said::Whole(Request::Get {
+        keys: Keys::from_vec(keys),
+        with_cas,
+    }))
+}
+
+// The line %at: a moment.
+fn at_line(args: &[&[u8]]) -> Said
+    ensures value { result ≡ rows.at_row (map (λ t. t.now) args.now) }
+    ensures fine { IsFine result }
+{
+    let [moment] = args else {
+        return no_line();
+    };
+    match number_up_to(MAX_MOMENT, *moment) {
+        Some(moment) => Said::Whole(Request::At(moment)),
+        None => no_format(false),
+    }
+}
+
+// The slab class of a number, which isn't 0.
+fn class_target(number: Option<u64>) -> Option<Target>
+    requires { IfSome number (λ n. n < 4294967296) }
+    ensures { result ≡ rows.class_target number }
+{
+    match number {
+        Some(n) => {
+            if n == 0 {
+                None
+            } else {
+                Some(Target::Class(ClassNo(n as u32)))
+            }
+        }
+        None => None,
+    }
+}
+
+// The slab classes that a token names: all, or one by its number.
+fn target_of(limits: Limits, token: &[u8]) -> Option<Target>
+    ensures { result ≡ rows.target_of limits token.now }
+{
+    if token == b"all".as_slice() {
+        Some(Target::All)
+    } else {
+        class_target(number_up_to(u64::from(limits.classes), token))
+    }
+}
+
+// The line %juggle: all, or a class.
+fn juggle_line(limits: Limits, args: &[&[u8]]) -> Said
+    ensures value { result ≡ rows.juggle_row limits (map (λ t. t.now) args.now) }
+    ensures fine { IsFine result }
+{
+    let [token] = args else {
+        return no_line();
+    };
+    match target_of(limits, *token) {
+        Some(target) => Said::Whole(Request::Juggle(target)),
+        None => no_format(false),
+    }
+}
+
+// The line %crawl: all, or a class.
+fn crawl_line(limits: Limits, args: &[&[u8]]) -> Said
+    ensures value { result ≡ rows.crawl_row limits (map (λ t. t.now) args.now) }
+    ensures fine { IsFine result }
+{
+    let [token] = args else {
+        return no_line();
+    };
+    match target_of(limits, *token) {
+        Some(target) => Said::Whole(Request::Crawl(target)),
+        None => no_format(false),
+    }
+}
+
+// The lines %next and quit: nothing further.
+fn lone_line(request: Request, args: &[&[u8]]) -> Said
+    requires stays { closes request ≡ false }
+    requires moderate { IsModerate request }
+    ensures value { result ≡ rows.lone_row request (map (λ t. t.now) args.now) }
+    ensures fine { IsFine result }
+{
+    if args.is_empty() {
+        Said::Whole(request)
+    } else {
+        no_line()
+    }
+}
+
+// What a line says, by the line that its verb begins and the tokens behind it.
+fn line_of(alloc: Global, limits: Limits, word: Word, args: &[&[u8]]) -> Result<Said, NoMemory>
+    ensures value { IfOk result (λ s. s ≡ rows.row limits word (map (λ t. t.now) args.now)) }
+    ensures fine { IfOk result (λ s. IsFine s) }
+{
+    match word {
+        Word::Get => get_line(alloc, false, args),
+        Word::Gets => get_line(alloc, true, args),
+        Word::Call(call) => {
+            let due = due_of(call);
+            call_line(alloc, limits, call, is_quiet(due, args), shorn(due, args))
+        }
+        Word::At => Ok(at_line(args)),
+        Word::Juggle => Ok(juggle_line(limits, args)),
+        Word::Crawl => Ok(crawl_line(limits, args)),
+        Word::Next => Ok(lone_line(Request::Next, args)),
+        Word::Quit => Ok(lone_line(Request::Quit, args)),
+        Word::Unknown => Ok(no_line()),
+    }
+}
+
+// What the tokens of a line say.
+fn row_of(alloc: Global, limits: Limits, tokens: &[&[u8]]) -> Result<Said, NoMemory>
+    ensures value { IfOk result (λ s. s ≡ rows.row_of limits (map (λ t. t.now) tokens.now)) }
+    ensures fine { IfOk result (λ s. IsFine s) }
+{
+    let [verb, args @ ..] = tokens else {
+        return Ok(no_line());
+    };
+    line_of(alloc, limits, word_of(*verb), args)
+}
+
+/// What a line says, of which the LF is no part.
+#[tactic(auto, unfolding(crate::specs::Rows::says))]
+pub fn said_of(alloc: Global, limits: Limits, line: &[u8]) -> Result<Said, NoMemory>
+    ensures value { IfOk result (λ s. s ≡ rows.says limits line.now) }
+    ensures fine { IfOk result (λ s. IsFine s) }
+{
+    let tokens = tokens_of(alloc, without_cr(line))?;
+    row_of(alloc, limits, tokens.as_slice())
+}

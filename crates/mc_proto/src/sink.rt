@@ -1,0 +1,38 @@
+//! Where the texts of replies go.
+ghost use Rattle.std.specs.Prelude.{◌≡◌, ◌++◌, ◌<◌, ◌≤◌, ℕ, List, IfOk, OnOk, OnErr, length, take};
+ghost use Rattle.mc_proto.specs.Text.{IsBeginning};
+
+/// A write failed.
+#[derive(Clone, Copy, Debug, PartialEq, Eq)]
+pub struct SinkFault;
+
+/// Where the texts of replies go. Contracts see what it took, and count its failures.
+pub trait Sink: Drop {
+    ghost taken: { Self → List ℕ };
+
+    ghost failures: { Self → ℕ };
+
+    /// Takes a beginning of the bytes, and says how many. None of some bytes is a failure.
+    fn put(&mut self, bytes: &[u8]) -> Result<usize, SinkFault>
+        ensures ok { IfOk result (λ n. (n ≤ length bytes.now) × (taken self.new ≡ taken self.old ++ take n bytes.now)) }
+        ensures none { IfOk result (λ n. n ≡ 0 → 0 < length bytes.now → failures self.old < failures self.new) }
+        ensures err { OnErr result ((failures self.old < failures self.new) × (taken self.new ≡ taken self.old)) }
+        ensures count { failures self.old ≤ failures self.new };
+}
+
+/// Writes a whole text. After a fault a beginning of it is written, and nothing else.
+pub fn write_reply<K: Sink>(sink: &mut K, text: &[u8]) -> Result<(), SinkFault>
+    ensures ok { OnOk result (K.taken sink.new ≡ K.taken sink.old ++ text.now) }
+    ensures err { OnErr result ((K.failures sink.old < K.failures sink.new) × IsBeginning (K.taken sink.old) (K.taken sink.new) text.now) }
+    ensures count { K.failures sink.old ≤ K.failures sink.new }
+{
+    let mut rest = text;
+    while !rest.is_empty() {
+        let count = sink.put(rest)?;
+        if count == 0 {
+            return Err(SinkFault);
+        }
+        rest = rest.split_at(count).1;
+    }
+    Ok(())
+}

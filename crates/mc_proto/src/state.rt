@@ -1,0 +1,67 @@
+//! What a line says, and where a reader stands. Only contracts see these outside the crate.
+use crate::request::Request;
+use mc_item::{Key, Value, Verb};
+
+/// A good storage line. A block of `count` bytes and CR LF follows it.
+#[derive(Drop)]
+pub struct Start {
+    pub verb: Verb,
+    pub key: Key,
+    pub flags: u32,
+    pub exptime: i64,
+    pub count: u64,
+    pub quiet: bool,
+}
+
+/// What a line says.
+#[derive(Drop)]
+pub enum Said {
+    /// It is this request.
+    Whole(Request),
+    /// Its block is kept.
+    Block(Start),
+    /// Its block is skipped, since no slab class can hold it.
+    Skip(Start),
+}
+
+/// What has come of the request that isn't whole yet.
+#[derive(Drop)]
+pub enum State {
+    /// Part of a line, which stands beside this.
+    Line,
+    /// A storage line, and these bytes of its block.
+    Block(Start, Value),
+    /// A storage line, and of its block all but so many bytes.
+    Skip(Start, u64),
+    /// A line that was too long: nothing is read any more.
+    Closed,
+    /// There was no memory.
+    Failed,
+}
+
+/// The lines that `noreply` can make quiet, by their verbs.
+#[derive(Clone, Copy, Debug, PartialEq, Eq)]
+pub enum Call {
+    Set,
+    Add,
+    Replace,
+    Cas,
+    Incr,
+    Decr,
+    Touch,
+    Delete,
+}
+
+/// Which line a verb begins.
+#[derive(Clone, Copy, Debug, PartialEq, Eq)]
+pub enum Word {
+    Get,
+    Gets,
+    Call(Call),
+    At,
+    Juggle,
+    Crawl,
+    Next,
+    Quit,
+    Unknown,
+}

@@ -1,0 +1,6 @@
+//! Tests of the whole: lines, cuts, limits, texts and sinks. Expected values are written from the rules by hand.
+mod hostile;
+mod lines;
+mod pieces;
+mod replies;
+mod show;

@@ -1,0 +1,199 @@
+//! The text of each reply, and sinks that take a little at a time.
+ghost use Rattle.std.specs.Prelude.{List, ℕ};
+
+use crate::{
+    Keys, LineFault, Sink, SinkFault, fault_text, histogram_text, moves_text, push_end, push_reply,
+    push_value_head, push_value_tail, reply_text, value_text, write_reply,
+};
+use mc_item::{Histogram, Key, Moves, Reply, Value};
+use std::alloc::Global;
+use std::process::Abort;
+
+fn value(rt: &impl Abort, alloc: Global, bytes: &[u8]) -> Reply {
+    Reply::Value {
+        flags: 4_294_967_295,
+        value: Value::from_vec(Vec::from_slice(alloc, bytes).expect(rt, "memory")),
+        cas: 18_446_744_073_709_551_615,
+    }
+}
+
+#[test]
+fn replies_that_stand_alone(rt: HostRuntime) {
+    for (reply, want) in [
+        (Reply::Miss, b"".as_slice()),
+        (Reply::Stored, b"STORED\r\n".as_slice()),
+        (Reply::NotStored, b"NOT_STORED\r\n".as_slice()),
+        (Reply::Exists, b"EXISTS\r\n".as_slice()),
+        (Reply::NotFound, b"NOT_FOUND\r\n".as_slice()),
+        (Reply::Deleted, b"DELETED\r\n".as_slice()),
+        (Reply::Touched, b"TOUCHED\r\n".as_slice()),
+        (Reply::Number(0), b"0\r\n".as_slice()),
+        (
+            Reply::Number(18_446_744_073_709_551_615),
+            b"18446744073709551615\r\n".as_slice(),
+        ),
+        (
+            Reply::NonNumeric,
+            b"CLIENT_ERROR cannot increment or decrement non-numeric value\r\n".as_slice(),
+        ),
+        (
+            Reply::TooLarge,
+            b"SERVER_ERROR object too large for cache\r\n".as_slice(),
+        ),
+        (
+            Reply::NoRoom,
+            b"SERVER_ERROR out of memory storing object\r\n".as_slice(),
+        ),
+        (Reply::NoSpace, b"SERVER_ERROR out of memory\r\n".as_slice()),
+    ] {
+        let text = reply_text(rt.alloc(), &reply).expect(&rt, "memory");
+        assert_eq!(rt; text.as_slice(), want);
+    }
+}
+
+#[test]
+fn faults(rt: HostRuntime) {
+    for (why, want) in [
+        (LineFault::Error, b"ERROR\r\n".as_slice()),
+        (
+            LineFault::Format,
+            b"CLIENT_ERROR bad command line format\r\n".as_slice(),
+        ),
+        (
+            LineFault::Chunk,
+            b"CLIENT_ERROR bad data chunk\r\n".as_slice(),
+        ),
+        (
+            LineFault::Delta,
+            b"CLIENT_ERROR invalid numeric delta argument\r\n".as_slice(),
+        ),
+        (
+            LineFault::LineTooLong,
+            b"CLIENT_ERROR line too long\r\n".as_slice(),
+        ),
+        (
+            LineFault::Exptime,
+            b"CLIENT_ERROR invalid exptime argument\r\n".as_slice(),
+        ),
+    ] {
+        let text = fault_text(rt.alloc(), why).expect(&rt, "memory");
+        assert_eq!(rt; text.as_slice(), want);
+    }
+}
+
+#[test]
+fn values(rt: HostRuntime) {
+    let Ok(key) = Key::of(rt.alloc(), b"k") else {
+        panic!(rt; "memory");
+    };
+    let reply = value(&rt, rt.alloc(), b"a\r\nb");
+    let plain = value_text(rt.alloc(), &key, &reply, false).expect(&rt, "memory");
+    assert_eq!(rt;
+        plain.as_slice(),
+        b"VALUE k 4294967295 4\r\na\r\nb\r\n".as_slice()
+    );
+    let with_cas = value_text(rt.alloc(), &key, &reply, true).expect(&rt, "memory");
+    assert_eq!(rt;
+        with_cas.as_slice(),
+        b"VALUE k 4294967295 4 18446744073709551615\r\na\r\nb\r\n".as_slice()
+    );
+    let miss = value_text(rt.alloc(), &key, &Reply::Miss, true).expect(&rt, "memory");
+    assert!(rt; miss.is_empty());
+    let alone = reply_text(rt.alloc(), &reply).expect(&rt, "memory");
+    assert!(rt; alone.is_empty());
+    let mut out = Vec::new(rt.alloc());
+    push_reply(&mut out, &Reply::Number(7)).expect(&rt, "memory");
+    push_value_head(&mut out, &key).expect(&rt, "memory");
+    push_value_tail(&mut out, &value(&rt, rt.alloc(), b""), false).expect(&rt, "memory");
+    push_value_tail(&mut out, &Reply::Stored, true).expect(&rt, "memory");
+    push_end(&mut out).expect(&rt, "memory");
+    assert_eq!(rt;
+        out.as_slice(),
+        b"7\r\nVALUE k 4294967295 0\r\n\r\nEND\r\n".as_slice()
+    );
+}
+
+#[test]
+fn keys_come_back(rt: HostRuntime) {
+    let Ok(key) = Key::of(rt.alloc(), b"k") else {
+        panic!(rt; "memory");
+    };
+    let mut keys = Vec::new(rt.alloc());
+    assert!(rt; keys.push(key).is_ok());
+    for key in Keys::from_vec(keys).into_vec().as_slice() {
+        assert_eq!(rt; key.bytes(), b"k".as_slice());
+    }
+}
+
+#[test]
+fn upkeep(rt: HostRuntime) {
+    let moves = Moves {
+        reclaimed: 3,
+        moved: 500,
+    };
+    let text = moves_text(rt.alloc(), &moves).expect(&rt, "memory");
+    assert_eq!(rt; text.as_slice(), b"JUGGLED 3 500\r\n".as_slice());
+    let mut counts = Histogram::new();
+    let none = histogram_text(rt.alloc(), &counts).expect(&rt, "memory");
+    assert_eq!(rt; none.as_slice(), b"CRAWL 0 0 0 0 0 0\r\nEND\r\n".as_slice());
+    counts.seen = 21;
+    counts.reclaimed = 1;
+    counts.passed = 2;
+    counts.gone = 3;
+    counts.no_expiry = 4;
+    counts.hour_plus = 5;
+    counts.minutes[0] = 6;
+    counts.minutes[59] = 10;
+    let some = histogram_text(rt.alloc(), &counts).expect(&rt, "memory");
+    assert_eq!(rt;
+        some.as_slice(),
+        b"CRAWL 21 1 2 3 4 5\r\nMINUTE 0 6\r\nMINUTE 59 10\r\nEND\r\n".as_slice()
+    );
+}
+
+// Takes at most so many bytes a call; where that is 0 it fails.
+#[derive(Drop)]
+struct Slow<'a, R: Abort> {
+    rt: &'a R,
+    most: usize,
+    taken: Vec<u8>,
+    failures: u64,
+}
+
+impl<R: Abort> Sink for Slow<'_, R> {
+    ghost taken = { λ s. s.taken.items };
+
+    ghost failures = { λ s. s.failures };
+
+    fn put(&mut self, bytes: &[u8]) -> Result<usize, SinkFault> {
+        if self.most == 0 {
+            assert!(self.rt; self.failures < 9);
+            self.failures += 1;
+            return Err(SinkFault);
+        }
+        let count = self.most.min(bytes.len());
+        self.taken
+            .extend_from_slice(bytes.split_at(count).0)
+            .expect(self.rt, "memory");
+        Ok(count)
+    }
+}
+
+#[test]
+fn a_sink_that_takes_a_little_gets_the_whole(rt: HostRuntime) {
+    for most in 0..9 {
+        let mut sink = Slow {
+            rt: &rt,
+            most,
+            taken: Vec::new(rt.alloc()),
+            failures: 0,
+        };
+        let written = write_reply(&mut sink, b"STORED\r\n");
+        assert_eq!(rt; written.is_ok(), 0 < most);
+        if 0 < most {
+            assert_eq!(rt; sink.taken.as_slice(), b"STORED\r\n".as_slice());
+        } else {
+            assert!(rt; sink.taken.is_empty());
+        }
+    }
+}

@@ -1,0 +1,276 @@
+//! The texts of replies.
+ghost use Rattle.std.specs.Prelude.{◌≡◌, ◌++◌, ◌∷◌, [], ℕ, List, IfOk, OnOk, OnErr, length, codes, decimal};
+ghost use Rattle.std.specs.List.{flat_map};
+ghost use Rattle.mc_proto.specs.Text as texts;
+
+use crate::request::LineFault;
+use itoa::Buffer;
+use mc_item::{Histogram, Key, Moves, NoMemory, Reply};
+use std::alloc::Global;
+
+// Adds parts of a text, all of them or none.
+fn push_parts(out: &mut Vec<u8>, parts: &[&[u8]]) -> Result<(), NoMemory>
+    ensures ok { OnOk result (out.new.items ≡ out.old.items ++ flat_map (λ part. part.now) parts.now) }
+    ensures err { OnErr result (out.new.items ≡ out.old.items) }
+{
+    let before = out.len();
+    for part in parts {
+        match out.extend_from_slice(*part) {
+            Ok(()) => {}
+            Err(_) => {
+                out.truncate(before);
+                return Err(NoMemory);
+            }
+        }
+    }
+    Ok(())
+}
+
+// Adds a text whole or not at all.
+fn push_text(out: &mut Vec<u8>, text: &[u8]) -> Result<(), NoMemory>
+    ensures ok { OnOk result (out.new.items ≡ out.old.items ++ text.now) }
+    ensures err { OnErr result (out.new.items ≡ out.old.items) }
+{
+    out.extend_from_slice(text)?;
+    Ok(())
+}
+
+// Adds a number in a line of its own.
+fn push_number(out: &mut Vec<u8>, number: u64) -> Result<(), NoMemory>
+    ensures ok { OnOk result (out.new.items ≡ out.old.items ++ (decimal number ++ texts.crlf)) }
+    ensures err { OnErr result (out.new.items ≡ out.old.items) }
+{
+    let mut buffer = Buffer::new();
+    let digits = buffer.format(number).as_bytes();
+    push_parts(out, &[digits, b"\r\n".as_slice()])
+}
+
+/// Adds the text of a reply that stands alone. A value is printed behind its key (`push_value_head`, `push_value_tail`),
+/// and a miss not at all. After an `Err` nothing is added.
+pub fn push_reply(out: &mut Vec<u8>, reply: &Reply) -> Result<(), NoMemory>
+    ensures ok { OnOk result (out.new.items ≡ out.old.items ++ texts.reply_text reply.now) }
+    ensures err { OnErr result (out.new.items ≡ out.old.items) }
+{
+    match reply {
+        Reply::Value { .. } => Ok(()),
+        Reply::Miss => Ok(()),
+        Reply::Stored => push_text(out, b"STORED\r\n".as_slice()),
+        Reply::NotStored => push_text(out, b"NOT_STORED\r\n".as_slice()),
+        Reply::Exists => push_text(out, b"EXISTS\r\n".as_slice()),
+        Reply::NotFound => push_text(out, b"NOT_FOUND\r\n".as_slice()),
+        Reply::Deleted => push_text(out, b"DELETED\r\n".as_slice()),
+        Reply::Touched => push_text(out, b"TOUCHED\r\n".as_slice()),
+        Reply::Number(number) => push_number(out, *number),
+        Reply::NonNumeric => push_text(
+            out,
+            b"CLIENT_ERROR cannot increment or decrement non-numeric value\r\n".as_slice(),
+        ),
+        Reply::TooLarge => push_text(
+            out,
+            b"SERVER_ERROR object too large for cache\r\n".as_slice(),
+        ),
+        Reply::NoRoom => push_text(
+            out,
+            b"SERVER_ERROR out of memory storing object\r\n".as_slice(),
+        ),
+        Reply::NoSpace => push_text(out, b"SERVER_ERROR out of memory\r\n".as_slice()),
+    }
+}
+
+/// Adds the text of a refused line or block. After an `Err` nothing is added.
+pub fn push_fault(out: &mut Vec<u8>, why: LineFault) -> Result<(), NoMemory>
+    ensures ok { OnOk result (out.new.items ≡ out.old.items ++ texts.fault_text why) }
+    ensures err { OnErr result (out.new.items ≡ out.old.items) }
+{
+    match why {
+        LineFault::Error => push_text(out, b"ERROR\r\n".as_slice()),
+        LineFault::Format => push_text(out, b"CLIENT_ERROR bad command line format\r\n".as_slice()),
+        LineFault::Chunk => push_text(out, b"CLIENT_ERROR bad data chunk\r\n".as_slice()),
+        LineFault::Delta => push_text(
+            out,
+            b"CLIENT_ERROR invalid numeric delta argument\r\n".as_slice(),
+        ),
+        LineFault::LineTooLong => push_text(out, b"CLIENT_ERROR line too long\r\n".as_slice()),
+        LineFault::Exptime => push_text(
+            out,
+            b"CLIENT_ERROR invalid exptime argument\r\n".as_slice(),
+        ),
+    }
+}
+
+/// Adds the end of the values of a `get`. After an `Err` nothing is added.
+pub fn push_end(out: &mut Vec<u8>) -> Result<(), NoMemory>
+    ensures ok { OnOk result (out.new.items ≡ out.old.items ++ texts.end_text) }
+    ensures err { OnErr result (out.new.items ≡ out.old.items) }
+{
+    push_text(out, b"END\r\n".as_slice())
+}
+
+/// Adds a value's text up to its key: `VALUE` and the key. After an `Err` nothing is added.
+pub fn push_value_head(out: &mut Vec<u8>, key: &Key) -> Result<(), NoMemory>
+    ensures ok { OnOk result (out.new.items ≡ out.old.items ++ texts.value_head key.now) }
+    ensures err { OnErr result (out.new.items ≡ out.old.items) }
+{
+    push_parts(out, &[b"VALUE ".as_slice(), key.bytes()])
+}
+
+// Adds a value after its key, without a cas number.
+fn push_plain_tail(out: &mut Vec<u8>, flags: u32, value: &[u8]) -> Result<(), NoMemory>
+    ensures ok { OnOk result (out.new.items ≡ out.old.items ++ (codes " " ++ decimal flags ++ codes " " ++ decimal (length value.now) ++ texts.crlf ++ value.now ++ texts.crlf)) }
+    ensures err { OnErr result (out.new.items ≡ out.old.items) }
+{
+    let mut for_flags = Buffer::new();
+    let mut for_len = Buffer::new();
+    let flags = for_flags.format(flags).as_bytes();
+    let len = for_len.format(value.len()).as_bytes();
+    let space = b" ".as_slice();
+    let crlf = b"\r\n".as_slice();
+    push_parts(out, &[space, flags, space, len, crlf, value, crlf])
+}
+
+// Adds a value after its key, with its cas number.
+fn push_cas_tail(out: &mut Vec<u8>, flags: u32, value: &[u8], cas: u64) -> Result<(), NoMemory>
+    ensures ok { OnOk result (out.new.items ≡ out.old.items ++ (codes " " ++ decimal flags ++ codes " " ++ decimal (length value.now) ++ codes " " ++ decimal cas ++ texts.crlf ++ value.now ++ texts.crlf)) }
+    ensures err { OnErr result (out.new.items ≡ out.old.items) }
+{
+    let mut for_flags = Buffer::new();
+    let mut for_len = Buffer::new();
+    let mut for_cas = Buffer::new();
+    let flags = for_flags.format(flags).as_bytes();
+    let len = for_len.format(value.len()).as_bytes();
+    let cas = for_cas.format(cas).as_bytes();
+    let space = b" ".as_slice();
+    let crlf = b"\r\n".as_slice();
+    push_parts(
+        out,
+        &[space, flags, space, len, space, cas, crlf, value, crlf],
+    )
+}
+
+/// Adds a value's text behind its key: flags, number of bytes, with `gets` the cas number, and the value in a line of
+/// its own. Nothing for any other reply. After an `Err` nothing is added.
+pub fn push_value_tail(out: &mut Vec<u8>, reply: &Reply, with_cas: bool) -> Result<(), NoMemory>
+    ensures ok { OnOk result (out.new.items ≡ out.old.items ++ texts.value_tail reply.now with_cas) }
+    ensures err { OnErr result (out.new.items ≡ out.old.items) }
+{
+    let Reply::Value { flags, value, cas } = reply else {
+        return Ok(());
+    };
+    if with_cas {
+        push_cas_tail(out, *flags, value.bytes(), *cas)
+    } else {
+        push_plain_tail(out, *flags, value.bytes())
+    }
+}
+
+/// The text of a reply that stands alone; empty for a value or a miss.
+pub fn reply_text(alloc: Global, reply: &Reply) -> Result<Vec<u8>, NoMemory>
+    ensures { IfOk result (λ text. text.items ≡ texts.reply_text reply.now) }
+{
+    let mut out = Vec::new(alloc);
+    push_reply(&mut out, reply)?;
+    Ok(out)
+}
+
+/// The text of a key of `get`, or of `gets` with the cas number; empty where the reply is no value.
+pub fn value_text(
+    alloc: Global,
+    key: &Key,
+    reply: &Reply,
+    with_cas: bool,
+) -> Result<Vec<u8>, NoMemory>
+    ensures { IfOk result (λ text. text.items ≡ texts.value_text key.now reply.now with_cas) }
+{
+    let mut out = Vec::new(alloc);
+    if let Reply::Value { .. } = reply {
+        push_value_head(&mut out, key)?;
+        push_value_tail(&mut out, reply, with_cas)?;
+    }
+    Ok(out)
+}
+
+/// The text of a refused line or block.
+pub fn fault_text(alloc: Global, why: LineFault) -> Result<Vec<u8>, NoMemory>
+    ensures { IfOk result (λ text. text.items ≡ texts.fault_text why) }
+{
+    let mut out = Vec::new(alloc);
+    push_fault(&mut out, why)?;
+    Ok(out)
+}
+
+/// The text of `%juggle`: how many entries were reclaimed, and how many moved.
+pub fn moves_text(alloc: Global, moves: &Moves) -> Result<Vec<u8>, NoMemory>
+    ensures { IfOk result (λ text. text.items ≡ texts.moves_text moves.now) }
+{
+    let mut for_reclaimed = Buffer::new();
+    let mut for_moved = Buffer::new();
+    let reclaimed = for_reclaimed.format(moves.reclaimed).as_bytes();
+    let moved = for_moved.format(moves.moved).as_bytes();
+    let mut out = Vec::new(alloc);
+    push_parts(
+        &mut out,
+        &[
+            b"JUGGLED ".as_slice(),
+            reclaimed,
+            b" ".as_slice(),
+            moved,
+            b"\r\n".as_slice(),
+        ],
+    )?;
+    Ok(out)
+}
+
+// Adds a word, a space before it, and a number behind it.
+fn push_count(out: &mut Vec<u8>, before: &[u8], number: u64) -> Result<(), NoMemory>
+    ensures ok { OnOk result (out.new.items ≡ out.old.items ++ (before.now ++ decimal number)) }
+    ensures err { OnErr result (out.new.items ≡ out.old.items) }
+{
+    let mut buffer = Buffer::new();
+    push_parts(out, &[before, buffer.format(number).as_bytes()])
+}
+
+// Adds the first line of a histogram's text.
+fn push_counts(out: &mut Vec<u8>, h: &Histogram) -> Result<(), NoMemory>
+    ensures ok { OnOk result (out.new.items ≡ out.old.items ++ texts.counts_text h.now) }
+{
+    push_count(out, b"CRAWL ".as_slice(), h.seen)?;
+    push_count(out, b" ".as_slice(), h.reclaimed)?;
+    push_count(out, b" ".as_slice(), h.passed)?;
+    push_count(out, b" ".as_slice(), h.gone)?;
+    push_count(out, b" ".as_slice(), h.no_expiry)?;
+    push_count(out, b" ".as_slice(), h.hour_plus)?;
+    push_text(out, b"\r\n".as_slice())
+}
+
+// Adds the line of a minute, unless no entry has it to live.
+fn push_minute(out: &mut Vec<u8>, minute: u64, n: u64) -> Result<(), NoMemory>
+    ensures ok { OnOk result (out.new.items ≡ out.old.items ++ texts.minute_text minute n) }
+{
+    if n == 0 {
+        return Ok(());
+    }
+    push_count(out, b"MINUTE ".as_slice(), minute)?;
+    push_count(out, b" ".as_slice(), n)?;
+    push_text(out, b"\r\n".as_slice())
+}
+
+// Adds the lines of the minutes.
+fn push_minutes(out: &mut Vec<u8>, minutes: &[u64]) -> Result<(), NoMemory>
+    ensures ok { OnOk result (out.new.items ≡ out.old.items ++ texts.minutes_text 0 minutes.now) }
+{
+    for (i, n) in minutes.iter().enumerate() {
+        push_minute(out, i as u64, *n)?;
+    }
+    Ok(())
+}
+
+/// The text of `%crawl`: a line of counts, one for each minute that entries have to live, and the end.
+pub fn histogram_text(alloc: Global, h: &Histogram) -> Result<Vec<u8>, NoMemory>
+    ensures { IfOk result (λ text. text.items ≡ texts.histogram_text h.now) }
+{
+    let mut out = Vec::new(alloc);
+    push_counts(&mut out, h)?;
+    push_minutes(&mut out, h.minutes.as_slice())?;
+    push_end(&mut out)?;
+    Ok(out)
+}

@@ -1,0 +1,174 @@
+//! The tokens of a line, and what they say.
+ghost use Rattle.std.specs.Prelude.{◌≡◌, ◌+◌, ◌-◌, ◌<◌, ◌≤◌, ◌^◌, ℕ, IfOk, IfSome, IsTrue, All, MatchOption, length, take, drop, get_or, map, ◌∷◌, [], ℤ};
+ghost use Rattle.std.specs.List.{list_all};
+ghost use Rattle.mc_item.specs.Measure.{is_digit};
+ghost use Rattle.mc_proto.specs.Lines as lines;
+ghost use Rattle.mc_proto.specs.Lines.{Lacks, tokens};
+
+use mc_item::{Key, KeyFault, NoMemory};
+use std::alloc::{AllocError, Global};
+
+/// The index of the first LF, or the length where there is none.
+pub fn line_end(bytes: &[u8]) -> usize
+    ensures within { result ≤ length bytes.now }
+    ensures before { Lacks 10 (take result bytes.now) }
+    ensures found { result < length bytes.now → get_or bytes.now result 0 ≡ 10 }
+{
+    for (i, b) in bytes.iter().enumerate() {
+        if *b == b'\n' {
+            return i;
+        }
+    }
+    bytes.len()
+}
+
+// The index of the first space, or the length where there is none.
+fn token_end(bytes: &[u8]) -> usize
+    ensures within { result ≤ length bytes.now }
+    ensures before { Lacks 32 (take result bytes.now) }
+    ensures found { result < length bytes.now → get_or bytes.now result 0 ≡ 32 }
+{
+    for (i, b) in bytes.iter().enumerate() {
+        if *b == b' ' {
+            return i;
+        }
+    }
+    bytes.len()
+}
+
+// The index of the first byte that is no space, or the length where there is none.
+fn spaces_end(bytes: &[u8]) -> usize
+    ensures within { result ≤ length bytes.now }
+    ensures before { tokens (drop result bytes.now) ≡ tokens bytes.now }
+    ensures found { result < length bytes.now → get_or bytes.now result 0 ≡ 32 → ⊥ }
+{
+    for (i, b) in bytes.iter().enumerate() {
+        if *b != b' ' {
+            return i;
+        }
+    }
+    bytes.len()
+}
+
+/// The line without one CR at its end.
+pub fn without_cr(line: &[u8]) -> &[u8]
+    ensures { result.now ≡ lines.no_cr line.now }
+{
+    let count = line.len();
+    if count > 0 && line[count - 1] == b'\r' {
+        &line[..count - 1]
+    } else {
+        line
+    }
+}
+
+// The first token, and what comes after it.
+fn next_token(line: &[u8]) -> Option<(&[u8], &[u8])>
+    ensures { MatchOption result (tokens line.now ≡ []) (λ x. (tokens line.now ≡ x.0.now ∷ tokens x.1.now) × (length x.1.now < length line.now)) }
+{
+    let begin = spaces_end(line);
+    let (_spaces, rest) = line.split_at(begin);
+    let end = token_end(rest);
+    if end == 0 {
+        None
+    } else {
+        Some(rest.split_at(end))
+    }
+}
+
+/// The tokens of a line.
+pub fn tokens_of(alloc: Global, line: &[u8]) -> Result<Vec<&[u8]>, AllocError>
+    ensures { IfOk result (λ v. map (λ t. t.now) v.items ≡ tokens line.now) }
+{
+    let mut found = Vec::with_capacity(alloc, 8)?;
+    let mut rest = line;
+    while let Some((token, more)) = next_token(rest) {
+        found.push(token)?;
+        rest = more;
+    }
+    Ok(found)
+}
+
+/// The key that a token is, if it can be one.
+pub fn key_of(alloc: Global, token: &[u8]) -> Result<Option<Key>, NoMemory>
+    ensures { IfOk result (λ key. key ≡ lines.key_of token.now) }
+{
+    match Key::of(alloc, token) {
+        Ok(key) => Ok(Some(key)),
+        Err(KeyFault::NoMemory) => Err(NoMemory),
+        Err(KeyFault::Empty) => Ok(None),
+        Err(KeyFault::TooLong) => Ok(None),
+        Err(KeyFault::BadByte) => Ok(None),
+    }
+}
+
+// Whether each byte is a digit.
+fn are_digits(bytes: &[u8]) -> bool
+    ensures { result ≡ list_all is_digit bytes.now }
+{
+    bytes.iter().all(|byte| byte.is_ascii_digit())
+}
+
+// The number that at most 20 digits spell.
+fn number_of(digits: &[u8]) -> u128
+    requires few { length digits.now ≤ 20 }
+    requires digits { All (λ byte. IsTrue (is_digit byte)) digits.now }
+    ensures value { result ≡ Rattle.mc_item.specs.Measure.number_of digits.now }
+    ensures bound { result < 10 ^ length digits.now }
+{
+    let mut number: u128 = 0;
+    for digit in digits {
+        number = 10 * number + u128::from(*digit - b'0');
+    }
+    number
+}
+
+// The number of a token of 1 to `most` digits.
+fn number(most: usize, token: &[u8]) -> Option<u128>
+    requires { most ≤ 20 }
+    ensures value { result ≡ lines.number most token.now }
+    ensures bound { IfSome result (λ n. n < 10 ^ most) }
+{
+    if !token.is_empty() && token.len() <= most && are_digits(token) {
+        Some(number_of(token))
+    } else {
+        None
+    }
+}
+
+/// The number of a token of 1 to 20 digits, where it is at most `limit`.
+pub fn number_up_to(limit: u64, token: &[u8]) -> Option<u64>
+    ensures value { result ≡ lines.number_up_to limit token.now }
+    ensures bound { IfSome result (λ n. n ≤ limit) }
+{
+    match number(20, token) {
+        Some(n) => {
+            if n <= u128::from(limit) {
+                Some(n as u64)
+            } else {
+                None
+            }
+        }
+        None => None,
+    }
+}
+
+/// The exptime of a token, in seconds: an optional '-', and 1 to 18 digits.
+pub fn exptime(token: &[u8]) -> Option<i64>
+    ensures { result ≡ lines.exptime token.now }
+{
+    if token.is_empty() {
+        return None;
+    }
+    if token[0] == b'-' {
+        match number(18, &token[1..]) {
+            Some(n) => Some(-(n as i64)),
+            None => None,
+        }
+    } else {
+        match number(18, token) {
+            Some(n) => Some(n as i64),
+            None => None,
+        }
+    }
+}

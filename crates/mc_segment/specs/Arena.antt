@@ -1,0 +1,84 @@
+-- Four lists in one vector of places: which lists the places and the ends stand for.
+use Rattle.std.specs.Prelude.{ℕ, ◌==◌, ◌+◌, ◌-◌, ◌*◌, ◌^◌, ◌≤◌, List, Option, Some, None, if◌then◌else◌, length}
+use Rattle.mc_item.specs.declared.lists.Entry.{Entry}
+use Rattle.mc_item.specs.declared.lists.Seg.{Seg}
+use Rattle.mc_item.specs.declared.lists.Seg.TheVariants.{Hot, Warm, Cold, Temp}
+use Rattle.mc_item.specs.Lists.{Lists, list_of, cost_sum, count_of}
+use Rattle.mc_segment.specs.declared.arena.Node.{Node}
+use Rattle.mc_segment.specs.declared.arena.Place.{Place}
+use Rattle.mc_segment.specs.declared.ends.Ends.{Ends}
+use Rattle.mc_segment.specs.declared.ends.Heads.{Heads}
+use Rattle.mc_segment.specs.Nodes.{walk, IsChain}
+use Rattle.mc_segment.specs.Links.{end_of}
+use Rattle.mc_segment.specs.Slots.{slot}
+
+-- an arena as contracts see it: its lists, the next number, and how many more entries it takes without memory
+pub record Held : Type 0 where
+  pub lists : Lists
+  pub next : ℕ
+  pub room : ℕ
+
+-- an arena by its parts
+abbrev pub held : Lists → ℕ → ℕ → Held
+held lists next room = record { lists = lists; next = next; room = room }
+
+-- the bytes of all four lists
+abbrev pub all_bytes : Lists → ℕ
+all_bytes l = cost_sum l.hot + cost_sum l.warm + cost_sum l.cold + cost_sum l.temp
+
+-- a number for each segment
+abbrev pub code : Seg → ℕ
+code Hot = 0
+code Warm = 1
+code Cold = 2
+code Temp = 3
+
+-- the node of a slot, where it is in the list of this code
+abbrev pub part : ℕ → Option Place → Option Node
+part k None = None
+part k (Some p) = if code p.seg == k then Some p.node else None
+
+-- the nodes of the list of this code, by their numbers
+abbrev pub nodes_of : List (Option Place) → ℕ → ℕ → Option Node
+nodes_of xs k q = part k (slot xs q)
+
+-- the ends of a segment's list
+abbrev pub ends_of : Heads → Seg → Ends
+ends_of h Hot = h.hot
+ends_of h Warm = h.warm
+ends_of h Cold = h.cold
+ends_of h Temp = h.temp
+
+-- the ends with others for one segment
+abbrev pub with_ends : Heads → Seg → Ends → Heads
+with_ends h Hot e = record h { hot = e }
+with_ends h Warm e = record h { warm = e }
+with_ends h Cold e = record h { cold = e }
+with_ends h Temp e = record h { temp = e }
+
+-- the ends of a list once a number of this cost is at its head
+abbrev pub pushed_ends : Ends → ℕ → ℕ → Ends
+pushed_ends x n cost = record { newest = Some n; oldest = end_of x.newest (Some n) x.oldest; count = x.count + 1; bytes = x.bytes + cost }
+
+-- the ends of a list once a number of this cost, which stood between these two, is gone
+abbrev pub taken_ends : Ends → Option ℕ → Option ℕ → ℕ → Ends
+taken_ends x newer older cost = record { newest = end_of newer older x.newest; oldest = end_of older newer x.oldest; count = x.count - 1; bytes = x.bytes - cost }
+
+-- the entries that are met from the newest on
+abbrev pub walk_in : List (Option Place) → ℕ → Ends → List Entry
+walk_in xs k e = walk (nodes_of xs k) e.count e.newest
+
+-- the four lists that the places and the ends stand for
+abbrev pub lists_in : List (Option Place) → Heads → Lists
+lists_in xs h = record { hot = walk_in xs 0 h.hot; warm = walk_in xs 1 h.warm; cold = walk_in xs 2 h.cold; temp = walk_in xs 3 h.temp }
+
+-- the nodes and the ends of a list stand for these entries
+abbrev pub IsPart : (ℕ → Option Node) → Ends → List Entry → Type 0
+IsPart f e es = IsChain f e.newest e.oldest e.count e.bytes es
+
+-- each list is a chain over its part of the slots
+pub record IsArena (xs : List (Option Place)) (h : Heads) (l : Lists) : Type 0 where
+  pub parts : (s : Seg) → IsPart (nodes_of xs (code s)) (ends_of h s) (list_of l s)
+  pub count : count_of l ≤ length xs
+  pub bytes : all_bytes l ≤ 2 ^ 20 * length xs
+  pub limit : length xs ≤ 2 ^ 32

@@ -1,0 +1,53 @@
+-- The event that each call of a class makes.
+use Rattle.std.specs.Prelude.{ℕ, List, length}
+use Rattle.mc_item.specs.declared.class_event.ClassEvent.{ClassEvent}
+use Rattle.mc_item.specs.declared.class_event.ClassEvent.TheVariants as events
+use Rattle.mc_item.specs.declared.class_event.Why.{Why}
+use Rattle.mc_item.specs.declared.item.Expiry.{Expiry}
+use Rattle.mc_item.specs.declared.item.Who.{Who}
+use Rattle.mc_item.specs.declared.lists.Seg.{Seg}
+use Rattle.mc_item.specs.Lists.{lists_of, links_of}
+use Rattle.mc_item.specs.Lawful.{IsLawfulByLists}
+use Rattle.mc_item.specs.Segment.{segment_for, total_of, cold_age_of}
+use Rattle.mc_segment.specs.declared.surveying.Survey.{Survey}
+use Rattle.mc_segment.specs.ClassState.{ClassView}
+
+-- a new entry, with the next number, at the head of the segment that the rule names
+abbrev pub linked_event : ClassView → Who → List ℕ → ℕ → ℕ → Expiry → ClassEvent
+linked_event c who key cost moment expiry =
+    events.Linked (record { who = who; number = links_of c.history; key = key; cost = cost; seg = segment_for c.rule moment expiry; moment = moment })
+
+-- an entry that goes with its item
+abbrev pub unlinked_event : Who → ℕ → ClassEvent
+unlinked_event who number = events.Unlinked (record { who = who; number = number })
+
+-- an entry that goes as its item is dead
+abbrev pub reclaimed_event : Who → ℕ → ℕ → ℕ → ClassEvent
+reclaimed_event who number moment at = events.Reclaimed (record { who = who; number = number; moment = moment; at = at })
+
+-- an entry that is taken near COLD's tail
+abbrev pub evicted_event : Who → ℕ → List ℕ → ℕ → ClassEvent
+evicted_event who number passed at = events.Evicted (record { who = who; number = number; passed = passed; at = at })
+
+-- a move out of a segment
+abbrev pub shifted_event : Who → ℕ → Seg → Why → ℕ → List ℕ → ℕ → Seg → ClassEvent
+shifted_event who number to_seg why moment passed at from_seg =
+    events.Shifted (record { who = who; number = number; from_seg = from_seg; to_seg = to_seg; why = why; moment = moment; passed = passed; at = at })
+
+-- the survey of a class at a moment, with the place of its event
+abbrev pub survey_of : ClassView → ℕ → Survey
+survey_of c moment =
+    record { place = length c.history; total = total_of (lists_of c.history); cold_age = cold_age_of moment (lists_of c.history) }
+
+-- a survey of the class at a moment
+abbrev pub surveyed_event : ClassView → Who → ℕ → ClassEvent
+surveyed_event c who moment =
+    events.Surveyed (record { who = who; moment = moment; total = total_of (lists_of c.history); cold_age = cold_age_of moment (lists_of c.history) })
+
+-- no chunk was found
+abbrev pub refused_event : Who → ClassEvent
+refused_event who = events.Refused (record { who = who })
+
+-- the event may come next, as far as the lists tell
+abbrev pub MayCome : ClassView → ClassEvent → Type 0
+MayCome c e = IsLawfulByLists c.chunks c.rule c.history e

@@ -1,0 +1,66 @@
+-- A slab class as its callers see it: its history and limits, and how many more events take no memory.
+use Rattle.std.specs.Prelude.{ℕ, ◌≡◌, ◌+◌, ◌-◌, ◌^◌, ◌<◌, ◌≤◌, Bool, false, List, [], ◌∷◌, ◌++◌, length, slice_index}
+use Rattle.mc_item.specs.declared.class_event.ClassEvent.{ClassEvent}
+use Rattle.mc_item.specs.declared.config.Config.{Config}
+use Rattle.mc_item.specs.declared.fault.Fault.{Fault}
+use Rattle.mc_item.specs.declared.fault.Fault.TheVariants.{NoMemory, HistoryFull}
+use Rattle.mc_item.specs.declared.item.ClassNo.{ClassNo}
+use Rattle.mc_item.specs.Lists.{lists_of, links_of}
+use Rattle.mc_item.specs.Segment.{Rule, rule_of}
+use Rattle.mc_item.specs.Lawful.{is_named, IsLawfulHistoryByLists}
+use Rattle.mc_segment.specs.Arena.{Held}
+
+-- a class: its number, its limit of chunks and of events, the numbers of its rule, all that happened, oldest first, and
+-- how many more events take no memory
+pub record ClassView : Type 0 where
+  pub number : ClassNo
+  pub chunks : ℕ
+  pub max_events : ℕ
+  pub rule : Rule
+  pub history : List ClassEvent
+  pub room : ℕ
+
+-- a class by its parts
+abbrev pub class_view : ClassNo → ℕ → ℕ → Rule → List ClassEvent → ℕ → ClassView
+class_view number chunks max_events rule history room =
+    record { number = number; chunks = chunks; max_events = max_events; rule = rule; history = history; room = room }
+
+-- a rule by its numbers
+abbrev pub rule_with : Bool → ℕ → ℕ → ℕ → ℕ → ℕ → Rule
+rule_with temp temp_ttl hot_percent warm_percent hot_factor warm_factor =
+    record { temp = temp; temp_ttl = temp_ttl; hot_percent = hot_percent; warm_percent = warm_percent; hot_factor = hot_factor; warm_factor = warm_factor }
+
+-- the limit of chunks that a configuration sets for a class; classes are numbered from 1
+abbrev pub chunks_for : Config → ClassNo → ℕ
+chunks_for config class = slice_index config.chunks (class.0 - 1)
+
+-- a class of a configuration without events
+abbrev pub opened : Config → ClassNo → ClassView
+opened config class = class_view class (chunks_for config class) config.max_events (rule_of config) [] 0
+
+-- the class with one event more, and this room
+abbrev pub appended : ClassView → ClassEvent → ℕ → ClassView
+appended c e room = record c { history = c.history ++ e ∷ []; room = room }
+
+-- the class with another room: nothing that a caller is promised has changed
+abbrev pub with_room : ClassView → ℕ → ClassView
+with_room c room = record c { room = room }
+
+-- the history has places for this many more events
+abbrev pub HasPlaces : ClassView → ℕ → Type 0
+HasPlaces c n = length c.history + n ≤ c.max_events
+
+-- the fault that may be answered where this many events were asked for: a full history is told of first, and want of
+-- memory only past the room
+abbrev pub MayRefuse : ClassView → ℕ → Fault → Type 0
+MayRefuse c n HistoryFull = c.max_events < length c.history + n
+MayRefuse c n NoMemory = HasPlaces c n × (c.room < n)
+
+-- what a class keeps: its lists are those of its history, which is lawful as far as they tell
+pub record IsReplay (h : Held) (chunks max_events : ℕ) (rule : Rule) (history : List ClassEvent) : Type 0 where
+  pub lists_is : h.lists ≡ lists_of history
+  pub next_is : h.next ≡ links_of history
+  pub places : length history ≤ max_events
+  pub limit : max_events ≤ 2 ^ 32
+  pub fresh : (q : ℕ) → h.next ≤ q → is_named q history ≡ false
+  pub lawful : IsLawfulHistoryByLists chunks rule history

@@ -1,0 +1,6 @@
+pub mod Links
+pub mod Nodes
+pub mod Slots
+pub mod Arena
+pub mod ClassState
+pub mod ClassCalls

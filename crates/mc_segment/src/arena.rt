@@ -1,0 +1,246 @@
+//! Four lists of entries in one vector of places, from which any number is taken out in one step.
+ghost use Rattle.std.specs.Prelude.{◌≡◌, ◌+◌, ◌-◌, ◌*◌, ◌<◌, ◌≤◌, ◌^◌, ℕ, length, None, Some, OnOk, IsOk, IfSome, IsSome, slice_get};
+ghost use Rattle.std.specs.Option.{option_copied};
+ghost use Rattle.mc_item.specs.Lists.{no_lists, list_of, with_list, find, without, found, segment_of, linked, unlinked, moved, cost_sum, count_of, times_in};
+ghost use Rattle.mc_segment.specs.Arena.{all_bytes};
+
+use crate::ends::{Ends, Heads};
+use crate::slots::{empty, fill, place_at, set_newer, set_older};
+use mc_item::{Entry, Seg, Why};
+use std::alloc::{AllocError, Global};
+use std::marker::Model;
+
+/// An entry, with the numbers beside it.
+#[derive(Drop)]
+pub struct Node {
+    pub entry: Entry,
+    pub newer: Option<u64>,
+    pub older: Option<u64>,
+}
+
+/// A node, and the list that it is in.
+#[derive(Drop)]
+pub struct Place {
+    pub seg: Seg,
+    pub node: Node,
+}
+
+/// Four lists, newest first. A number is a slot, and is given once.
+#[derive(Drop)]
+pub struct Arena {
+    slots: Vec<Option<Place>>,
+    heads: Heads,
+}
+
+impl Model for Arena {
+    ghost use Rattle.std.specs.Prelude.{◌-◌, vec_len, vec_capacity};
+    ghost use Rattle.mc_segment.specs.Arena.{Held, held, lists_in, IsArena};
+
+    ghost Value = { Held };
+
+    ghost view = { λ a. held (lists_in a.slots.items a.heads) (vec_len a.slots) (vec_capacity a.slots - vec_len a.slots) };
+
+    ghost invariant = { λ a. IsArena a.slots.items a.heads (lists_in a.slots.items a.heads) };
+}
+
+// The time of an entry after a move.
+fn time_after(why: Why, moment: u64, time: u64) -> u64
+    ensures { result ≡ Rattle.mc_item.specs.Lists.time_after why moment time }
+{
+    match why {
+        Why::Hit => moment,
+        Why::Active => moment,
+        Why::Over(_) => time,
+        Why::Old(_) => time,
+        Why::Forced => time,
+    }
+}
+
+impl Arena {
+    /// Four empty lists. It takes no memory.
+    pub fn new(alloc: Global) -> Arena
+        ensures { (result.lists ≡ no_lists) × (result.next ≡ 0) × (result.room ≡ 0) }
+    {
+        let ends = Ends {
+            newest: None,
+            oldest: None,
+            count: 0,
+            bytes: 0,
+        };
+        Arena {
+            slots: Vec::new(alloc),
+            heads: Heads {
+                hot: ends,
+                warm: ends,
+                cold: ends,
+                temp: ends,
+            },
+        }
+    }
+
+    /// Makes room for n more numbers.
+    pub fn reserve(&mut self, n: usize) -> Result<(), AllocError>
+        ensures same { (self.new.lists ≡ self.old.lists) × (self.new.next ≡ self.old.next) }
+        ensures room { OnOk result (n ≤ self.new.room) }
+        ensures kept { self.old.room ≤ self.new.room }
+        ensures succeeds { n ≤ self.old.room → IsOk result }
+    {
+        self.slots.reserve(n)
+    }
+
+    /// The number of the next push.
+    pub fn next(&self) -> u64
+        ensures { result ≡ self.now.next }
+    {
+        self.slots.len() as u64
+    }
+
+    /// The bytes of a list.
+    pub fn bytes(&self, seg: Seg) -> u64
+        ensures value { result ≡ cost_sum (list_of self.now.lists seg) }
+        ensures bound { result ≤ 2 ^ 52 }
+    {
+        self.heads.of(seg).bytes
+    }
+
+    /// How many entries are in the four lists.
+    pub fn count(&self) -> u64
+        ensures { result ≡ count_of self.now.lists }
+    {
+        self.heads.hot.count + self.heads.warm.count + self.heads.cold.count + self.heads.temp.count
+    }
+
+    /// The list that a number is in.
+    pub fn segment_of(&self, number: u64) -> Option<Seg>
+        ensures { result ≡ segment_of number self.now.lists }
+    {
+        Some(place_at(&self.slots, number)?.seg)
+    }
+
+    /// The law of the lists: no number stands twice, and each is below the next.
+    pub fn law(&self)
+        ensures once { (q : ℕ) → times_in q self.now.lists ≤ 1 }
+        ensures below { (q : ℕ) → self.now.next ≤ q → found q self.now.lists ≡ None }
+        ensures sums { (count_of self.now.lists ≤ self.now.next) × (all_bytes self.now.lists ≤ 2 ^ 20 * self.now.next) }
+    {
+        let _ = self.heads.of(Seg::Hot);
+    }
+
+    // Makes an empty slot.
+    fn grow(&mut self)
+        requires room { 0 < self.old.room }
+        requires limit { self.old.next < 2 ^ 32 }
+        ensures same { self.new.lists ≡ self.old.lists }
+        ensures fresh { found self.old.next self.new.lists ≡ None }
+        ensures sums { (count_of self.new.lists < self.new.next) × (all_bytes self.new.lists + 2 ^ 20 ≤ 2 ^ 20 * self.new.next) }
+        ensures room { (self.new.next ≡ self.old.next + 1) × (self.old.room ≤ self.new.room + 1) }
+    {
+        self.slots.push_reserved(None);
+    }
+
+    // Puts an entry at a head, where its number is in no list.
+    fn put(&mut self, seg: Seg, entry: Entry)
+        requires absent { found entry.number self.old.lists ≡ None }
+        requires inside { entry.number < self.old.next }
+        requires count { count_of self.old.lists < self.old.next }
+        requires cost { all_bytes self.old.lists + entry.cost ≤ 2 ^ 20 * self.old.next }
+        ensures lists { self.new.lists ≡ linked seg entry self.old.lists }
+        ensures count { count_of self.new.lists ≡ count_of self.old.lists + 1 }
+        ensures same { (self.new.next ≡ self.old.next) × (self.new.room ≡ self.old.room) }
+    {
+        let number = entry.number;
+        let cost = entry.cost;
+        let ends = self.heads.of(seg);
+        let older = ends.newest;
+        set_newer(&mut self.slots, older, Some(number));
+        let node = Node {
+            entry,
+            newer: None,
+            older,
+        };
+        fill(&mut self.slots, number, Place { seg, node });
+        self.heads.set(seg, ends.pushed(number, cost));
+    }
+
+    /// Puts an entry of the next number at a head.
+    pub fn push(&mut self, seg: Seg, entry: Entry)
+        requires room { 0 < self.old.room }
+        requires number { entry.number ≡ self.old.next }
+        requires limit { self.old.next < 2 ^ 32 }
+        requires cost { entry.cost ≤ 2 ^ 20 }
+        ensures lists { self.new.lists ≡ linked seg entry self.old.lists }
+        ensures count { count_of self.new.lists ≡ count_of self.old.lists + 1 }
+        ensures room { (self.new.next ≡ self.old.next + 1) × (self.old.room ≤ self.new.room + 1) }
+    {
+        self.grow();
+        self.put(seg, entry);
+    }
+
+    // Takes the entry of a number out of the list that it is in.
+    fn take(&mut self, number: u64) -> Option<(Seg, Entry)>
+        ensures entry { result ≡ found number self.old.lists }
+        ensures there { IfSome result (λ p. find number (list_of self.old.lists p.0) ≡ Some p.1) }
+        ensures left { IfSome result (λ p. with_list self.old.lists p.0 (without number (list_of self.old.lists p.0)) ≡ unlinked number self.old.lists) }
+        ensures lists { self.new.lists ≡ unlinked number self.old.lists }
+        ensures gone { found number self.new.lists ≡ None }
+        ensures sums { IfSome result (λ p. (p.1.number ≡ number) × (number < self.old.next) × (count_of self.new.lists + 1 ≡ count_of self.old.lists) × (all_bytes self.new.lists + p.1.cost ≡ all_bytes self.old.lists)) }
+        ensures fits { IfSome result (λ p. (count_of self.new.lists < self.new.next) × (all_bytes self.new.lists + p.1.cost ≤ 2 ^ 20 * self.new.next)) }
+        ensures same { (self.new.next ≡ self.old.next) × (self.new.room ≡ self.old.room) }
+    {
+        let place = empty(&mut self.slots, number)?;
+        let Place { seg, node } = place;
+        let Node {
+            entry,
+            newer,
+            older,
+        } = node;
+        set_older(&mut self.slots, newer, older);
+        set_newer(&mut self.slots, older, newer);
+        let ends = self.heads.of(seg);
+        self.heads.set(seg, ends.taken(newer, older, entry.cost));
+        Some((seg, entry))
+    }
+
+    /// Takes the entry of a number that is in a list.
+    pub fn remove(&mut self, number: u64) -> Entry
+        requires there { IsSome (found number self.old.lists) }
+        ensures lists { self.new.lists ≡ unlinked number self.old.lists }
+        ensures inside { number < self.old.next }
+        ensures count { count_of self.new.lists ≤ count_of self.old.lists }
+        ensures same { (self.new.next ≡ self.old.next) × (self.new.room ≡ self.old.room) }
+    {
+        let (_, entry) = self.take(number).unwrap();
+        entry
+    }
+
+    /// The entry of a number goes from the list that it is in, which is answered, to the head of another.
+    pub fn move_to(&mut self, number: u64, to_seg: Seg, why: Why, moment: u64) -> Seg
+        requires there { IsSome (found number self.old.lists) }
+        ensures from { segment_of number self.old.lists ≡ Some result }
+        ensures lists { self.new.lists ≡ moved number result to_seg why moment self.old.lists }
+        ensures inside { number < self.old.next }
+        ensures count { count_of self.new.lists ≡ count_of self.old.lists }
+        ensures same { (self.new.next ≡ self.old.next) × (self.new.room ≡ self.old.room) }
+    {
+        let (from_seg, mut entry) = self.take(number).unwrap();
+        entry.time = time_after(why, moment, entry.time);
+        self.put(to_seg, entry);
+        from_seg
+    }
+
+    /// The j-th entry from a list's tail.
+    pub fn from_tail(&self, seg: Seg, j: u64) -> Option<&Entry>
+        ensures inside { j < length (list_of self.now.lists seg) → option_copied result ≡ slice_get (list_of self.now.lists seg) (length (list_of self.now.lists seg) - 1 - j) }
+        ensures outside { length (list_of self.now.lists seg) ≤ j → result ≡ None }
+    {
+        let mut at = self.heads.of(seg).oldest;
+        for _ in 0..j {
+            let number = at?;
+            let place = place_at(&self.slots, number)?;
+            at = place.node.newer;
+        }
+        let number = at?;
+        let place = place_at(&self.slots, number)?;
+        Some(&place.node.entry)
+    }
+}

@@ -1,0 +1,51 @@
+//! New entries.
+ghost use Rattle.std.specs.Prelude.{◌≡◌, ◌<◌, ◌≤◌, ◌+◌, ◌^◌, IfOk, OnOk, OnErr, MatchResult};
+ghost use Rattle.mc_item.specs.Lists.{lists_of, links_of, count_of};
+ghost use Rattle.mc_item.specs.Segment as rules;
+ghost use Rattle.mc_segment.specs.ClassState.{appended, with_room, HasPlaces, MayRefuse};
+ghost use Rattle.mc_segment.specs.ClassCalls.{linked_event};
+
+use crate::state::ClassState;
+use mc_item::{Expiry, Fault, Key, Seg, Who};
+
+impl ClassState {
+    // The segment that a new entry goes to.
+    fn segment_for(&self, moment: u64, expiry: Expiry) -> Seg
+        ensures { result ≡ rules.segment_for self.now.rule moment expiry }
+    {
+        match expiry {
+            Expiry::Never => Seg::Hot,
+            Expiry::At(end) => {
+                if self.temp && moment < end && end - moment <= self.temp_ttl {
+                    Seg::Temp
+                } else {
+                    Seg::Hot
+                }
+            }
+        }
+    }
+
+    /// A new entry at the head of TEMP, where that is in use and the item dies soon, else of HOT. It answers the
+    /// entry's number. The class is not full, and the cost is at most 2^20 bytes. `HistoryFull` exactly where the
+    /// history has no place left, `NoMemory` only where the room is 0.
+    pub fn link(
+        &mut self,
+        who: Who,
+        key: Key,
+        cost: u64,
+        moment: u64,
+        expiry: Expiry,
+    ) -> Result<u64, Fault>
+        requires free { count_of (lists_of self.old.history) < self.old.chunks }
+        requires cost { cost ≤ 2 ^ 20 }
+        ensures number { IfOk result (λ number. number ≡ links_of self.old.history) }
+        ensures ok { OnOk result (self.new ≡ appended self.old (linked_event self.old who key cost moment expiry) self.new.room) }
+        ensures err { OnErr result ((self.new ≡ with_room self.old self.new.room) × (self.old.room ≤ self.new.room)) }
+        ensures refusal { MatchResult result (λ _. HasPlaces self.old 1) (MayRefuse self.old 1) }
+        ensures room { self.old.room ≤ self.new.room + 1 }
+    {
+        self.reserve(1)?;
+        let seg = self.segment_for(moment, expiry);
+        Ok(self.enter(who, key, cost, seg, moment))
+    }
+}

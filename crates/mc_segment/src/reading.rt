@@ -1,0 +1,88 @@
+//! What a class tells of its lists and its history. None of these calls takes memory.
+ghost use Rattle.std.specs.Prelude.{◌≡◌, ◌≤◌, ◌^◌, ℕ, false, None, Some, length, take, reverse, IfSome};
+ghost use Rattle.std.specs.Option.{option_copied};
+ghost use Rattle.mc_item.specs.Lists.{lists_of, links_of, list_of, bytes_of, count_of, times_in, find, found};
+ghost use Rattle.mc_item.specs.Segment.{numbers_of, numbers_behind};
+ghost use Rattle.mc_item.specs.declared.lists.Seg.{Seg};
+ghost use Rattle.mc_item.specs.Lawful.{is_named, IsIn, IsLawfulHistoryByLists};
+
+use crate::state::ClassState;
+use mc_item::{ClassEvent, ClassNo, Entry, Seg};
+
+impl ClassState {
+    /// The class's number.
+    pub fn number(&self) -> ClassNo
+        ensures { result ≡ self.now.number }
+    {
+        self.number
+    }
+
+    /// All that happened, oldest first.
+    pub fn history(&self) -> &[ClassEvent]
+        ensures { result.now ≡ self.now.history }
+    {
+        self.history.as_slice()
+    }
+
+    /// The number of the next new entry: entries are numbered from 0, and no number is used again.
+    pub fn next_number(&self) -> u64
+        ensures { result ≡ links_of self.now.history }
+    {
+        self.lists.next()
+    }
+
+    /// How many entries the lists have.
+    pub fn count(&self) -> u64
+        ensures { result ≡ count_of (lists_of self.now.history) }
+    {
+        self.lists.count()
+    }
+
+    /// How many entries the lists may have.
+    pub fn chunks(&self) -> u64
+        ensures { result ≡ self.now.chunks }
+    {
+        self.chunks
+    }
+
+    /// The bytes of a segment: the sum of its entries' costs.
+    pub fn bytes(&self, seg: Seg) -> u64
+        ensures value { result ≡ bytes_of (lists_of self.now.history) seg }
+        ensures bound { result ≤ 2 ^ 52 }
+    {
+        self.lists.bytes(seg)
+    }
+
+    /// The j-th entry from a segment's tail, counted from 0. Just the j entries before it from the tail are behind it,
+    /// and its number is in no other list.
+    pub fn from_tail(&self, seg: Seg, j: u64) -> Option<&Entry>
+        ensures entry { option_copied result ≡ Rattle.mc_item.specs.Lists.from_tail (list_of (lists_of self.now.history) seg) j }
+        ensures there { IfSome (option_copied result)
+            (λ e. (find e.number (list_of (lists_of self.now.history) seg) ≡ Some e) × (found e.number (lists_of self.now.history) ≡ Some (seg, e))) }
+        ensures behind { IfSome (option_copied result)
+            (λ e. numbers_behind e.number (list_of (lists_of self.now.history) seg) ≡ take j (reverse (numbers_of (list_of (lists_of self.now.history) seg)))) }
+    {
+        self.lists.law();
+        self.lists.from_tail(seg, j)
+    }
+
+    /// The segment that an entry is in, by its number.
+    pub fn segment_of(&self, number: u64) -> Option<Seg>
+        ensures { result ≡ Rattle.mc_item.specs.Lists.segment_of number (lists_of self.now.history) }
+    {
+        self.lists.segment_of(number)
+    }
+
+    /// The law of a class: each number is in one list once, which is that of its segment, no number is used again, and
+    /// each event is lawful after those before it as far as the lists tell.
+    pub fn law(&self)
+        ensures once { (q : ℕ) → times_in q (lists_of self.now.history) ≤ 1 }
+        ensures below { (q : ℕ) → links_of self.now.history ≤ q → found q (lists_of self.now.history) ≡ None }
+        ensures inside { (s : Seg) (q : ℕ) → Rattle.mc_item.specs.Lists.segment_of q (lists_of self.now.history) ≡ Some s → IsIn s q (lists_of self.now.history) }
+        ensures fresh { (q : ℕ) → links_of self.now.history ≤ q → is_named q self.now.history ≡ false }
+        ensures lawful { IsLawfulHistoryByLists self.now.chunks self.now.rule self.now.history }
+        ensures places { (length self.now.history ≤ self.now.max_events) × (self.now.max_events ≤ 2 ^ 32) }
+    {
+        self.lists.law();
+    }
+}

@@ -1,0 +1,19 @@
+use Rattle.std.proofs.Common.{◌≡◌, ◌<◌, ◌++◌, ◌∷◌, [], ap, ◌∙◌, sym, List, ℕ, subst, length, arith}
+use Rattle.std.specs.Prelude.{nat_eq}
+use Rattle.std.specs.Cmp.Lexicographic.{pointwise}
+use Rattle.std.specs.HashMap.{get}
+use Rattle.mc_item.specs.Stripe.{MayLose}
+use Rattle.mc_item.specs.declared.stripe_event.StripeEvent.{StripeEvent}
+use Rattle.mc_item.specs.declared.stripe_event.StripeEvent.TheVariants as events
+use Rattle.mc_stripe.specs.StripeState.{Stripe, cache_now}
+use Rattle.mc_stripe.proofs.StateLemmas.{lost_kept}
+use Rattle.mc_stripe.proofs.state.StripeState.lose.Goals as goal
+
+pub invariant_of-self-2 : goal.invariant_of-self-2
+invariant_of-self-2 c =
+    let may = subst (λ (s : Stripe). MayLose ((cache_now s).items c.args.key) c.args.cause) (sym c.self.view_is) c.requires in
+    lost_kept c.self.inside.site c.self.inside.limit c.self.inside.history.items c.push_reserved.new.self.items c.self.inside.versions
+    (get (pointwise nat_eq) c.self.inside.items) (get (pointwise nat_eq) c.remove.new.items)
+    (record { who = c.args.who; key = c.args.key; cause = c.args.cause })
+    c.self.invariant (omega (arith, c.if-len-self.false, c.len.ensures)) may c.remove.ensures.items
+    (c.push_reserved.ensures.items ∙ ap (λ (h : List StripeEvent). h ++ events.Lost (record { who = c.args.who; key = c.args.key; cause = c.args.cause }) ∷ []) c.reserve.ensures.items)

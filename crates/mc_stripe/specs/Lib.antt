@@ -1,0 +1,5 @@
+pub use Rattle.mc_item.specs.Answer
+pub use Rattle.mc_item.specs.Cache
+pub use Rattle.mc_item.specs.Stripe
+pub mod StripeState
+pub mod StripeCalls

@@ -1,0 +1,35 @@
+-- A stripe as contracts see it, and what its fields keep.
+use Rattle.std.specs.Prelude.{ℕ, ◌≡◌, ◌<◌, ◌≤◌, ◌^◌, List, Option, length}
+use Rattle.mc_item.specs.Cache.{Cache}
+use Rattle.mc_item.specs.Stripe.{cache_of, IsLegal}
+use Rattle.mc_item.specs.declared.answer.Site.{Site}
+use Rattle.mc_item.specs.declared.item.Item.{Item}
+use Rattle.mc_item.specs.declared.stripe_event.StripeEvent.{StripeEvent}
+
+-- a stripe: what is fixed, how many events its history may have, the history, oldest first, and how many more
+-- events need no memory
+pub record Stripe : Type 0 where
+  pub site : Site
+  pub limit : ℕ
+  pub history : List StripeEvent
+  pub room : ℕ
+
+-- a stripe of these parts
+abbrev pub stripe : Site → ℕ → List StripeEvent → ℕ → Stripe
+stripe site limit history room = record { site = site; limit = limit; history = history; room = room }
+
+-- the cache that a stripe's history leaves
+abbrev pub cache_now : Stripe → Cache
+cache_now s = cache_of s.site s.history
+
+-- what a stripe's fields keep: the history is legal and within its limit, and the items and the count of
+-- versions are those of the cache that it leaves
+pub record IsKept (site : Site) (limit : ℕ) (history : List StripeEvent) (versions : ℕ) (items : List ℕ → Option Item) : Type 0 where
+  pub legal : IsLegal site history
+  pub items_are : (key : List ℕ) → items key ≡ (cache_of site history).items key
+  pub versions_are : versions ≡ (cache_of site history).versions
+  pub few_versions : versions ≤ length history
+  pub within : length history ≤ limit
+  pub few_events : limit ≤ 2 ^ 32
+  pub one_of : site.stripe < site.stripes
+  pub few_stripes : site.stripes ≤ 64

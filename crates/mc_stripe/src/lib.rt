@@ -1,0 +1,13 @@
+//! One stripe: its items, and the history that says how they came to be. Nothing here locks.
+#![tactic(auto)]
+
+mod applying;
+mod changing;
+mod forgetting;
+mod state;
+
+pub use mc_item::{Need, Room};
+pub use state::StripeState;
+
+#[cfg(test)]
+mod tests;

@@ -1,0 +1,94 @@
+//! The state of a stripe.
+ghost use Rattle.std.specs.Prelude.{◌≡◌, ◌≤◌, ◌<◌, ◌+◌, ◌^◌, [], OnOk, OnErr, IsErrOf, ◌↔◌, length};
+ghost use Rattle.std.specs.Option.{option_copied};
+ghost use Rattle.mc_item.specs.Config.{IsBounded};
+ghost use Rattle.mc_item.specs.Stripe.{IsLegal};
+ghost use Rattle.mc_item.specs.declared.fault.Fault.TheVariants as faults;
+ghost use Rattle.mc_stripe.specs.StripeState.{cache_now};
+ghost use Rattle.mc_stripe.specs.StripeCalls.{KeepsSite};
+
+use mc_item::{ClassSizes, Config, Fault, Item, Key, Site, StripeEvent, StripeNo};
+use std::alloc::Global;
+use std::collections::HashMap;
+use std::marker::Model;
+
+/// One stripe's items, under their keys, and its history. Contracts see what is fixed, the limit of events, the
+/// history, and how many more events need no memory. The map hashes with a fixed seed, as memcached's does.
+#[derive(Drop)]
+pub struct StripeState {
+    pub(crate) alloc: Global,
+    pub(crate) site: Site,
+    pub(crate) limit: u64,
+    pub(crate) versions: u64,
+    pub(crate) items: HashMap<Key, Item>,
+    pub(crate) history: Vec<StripeEvent>,
+}
+
+impl Model for StripeState {
+    ghost use Rattle.std.specs.Prelude.{◌-◌, min, nat_eq, vec_len, vec_capacity};
+    ghost use Rattle.std.specs.Cmp.Lexicographic.{pointwise};
+    ghost use Rattle.std.specs.HashMap.{get, spare};
+    ghost use Rattle.mc_stripe.specs.StripeState.{Stripe, stripe, IsKept};
+
+    ghost Value = { Stripe };
+
+    ghost view = { λ s. stripe s.site s.limit s.history.items (min (spare s.items) (vec_capacity s.history - vec_len s.history)) };
+
+    ghost invariant = { λ s. IsKept s.site s.limit s.history.items s.versions (get (pointwise nat_eq) s.items) };
+}
+
+impl StripeState {
+    /// The stripe of this number of a checked configuration, without items or events. It takes no memory.
+    pub fn new(alloc: Global, number: StripeNo, config: &Config) -> StripeState
+        requires config { IsBounded config.now }
+        requires number { number.0 < config.now.stripes }
+        ensures site { result.site ≡ record { stripe = number.0; stripes = config.now.stripes; sizes = config.now.sizes } }
+        ensures limit { result.limit ≡ config.now.max_events }
+        ensures history { result.history ≡ [] }
+    {
+        StripeState {
+            alloc,
+            site: Site {
+                stripe: number.0,
+                stripes: config.stripes,
+                sizes: ClassSizes::of(config.sizes.as_slice()),
+            },
+            limit: config.max_events,
+            versions: 0,
+            items: HashMap::new(alloc),
+            history: Vec::new(alloc),
+        }
+    }
+
+    /// The item of a key, dead or alive.
+    pub fn find(&self, key: &Key) -> Option<&Item>
+        ensures { option_copied result ≡ (cache_now self.now).items key.now }
+    {
+        self.items.get(key)
+    }
+
+    /// All that happened, oldest first.
+    pub fn history(&self) -> &[StripeEvent]
+        ensures value { result.now ≡ self.now.history }
+        ensures legal { IsLegal self.now.site self.now.history }
+        ensures within { length self.now.history ≤ self.now.limit }
+    {
+        self.history.as_slice()
+    }
+
+    /// Makes room for n more events, of which each call that takes no memory then needs one.
+    pub fn reserve(&mut self, n: usize) -> Result<(), Fault>
+        ensures ok { OnOk result (n ≤ self.new.room) }
+        ensures full { IsErrOf result faults.HistoryFull ↔ (self.old.limit < length self.old.history + n) }
+        ensures site { KeepsSite self.old self.new }
+        ensures history { self.new.history ≡ self.old.history }
+        ensures room { self.old.room ≤ self.new.room }
+    {
+        if self.limit - (self.history.len() as u64) < n as u64 {
+            return Err(Fault::HistoryFull);
+        }
+        self.items.reserve(n)?;
+        self.history.reserve(n)?;
+        Ok(())
+    }
+}

@@ -1,0 +1,151 @@
+//! Scripts in pieces, and sources and sinks that fail.
+ghost use Rattle.std.specs.Prelude.{◌≡◌, ◌<◌};
+
+use super::lines;
+use super::supplies::{Pieces, Slow};
+use mc_driver::{Outcome, run_scripts};
+use mc_item::Config;
+use std::alloc::Global;
+use std::marker::Brand;
+use std::process::Abort;
+use std::sync::Wait;
+use std::sync::ledger::{Blank, Ledger};
+
+// How a script's bytes come and its replies go: the size of pieces, the read that fails, the bytes that one write
+// takes, and the write that fails.
+#[derive(Clone, Copy)]
+struct Supply {
+    piece: usize,
+    read: Option<u64>,
+    taken: usize,
+    write: Option<u64>,
+}
+
+// How a script ended, and what was printed.
+#[derive(Drop)]
+struct Ended {
+    outcome: Option<Outcome>,
+    output: Vec<u8>,
+}
+
+// A script over a ledger that counts failed writes.
+fn run_over<L: Ledger, R: Abort + Wait>(
+    rt: &R,
+    alloc: Global,
+    input: &[u8],
+    supply: Supply,
+    blank: Blank,
+) -> Ended
+    requires name { blank.name ≡ L.name }
+    requires parts { blank.parts ≡ L.parts }
+    requires part { 0 < blank.parts }
+    requires some { 0 < supply.taken }
+{
+    let source = Pieces::new(alloc, input, supply.piece, supply.read);
+    let sink = Slow::<L>::new(alloc, supply.taken, supply.write, blank);
+    let config = Config::usual(alloc, 3).expect(rt, "memory");
+    let mut scripts = Vec::new(alloc);
+    let _ = scripts.push((source, sink));
+    match run_scripts(rt, alloc, config, scripts, &[]) {
+        Ok(run) => {
+            let mut output = Vec::new(alloc);
+            for end in run.ends.as_slice() {
+                output
+                    .extend_from_slice(end.1.bytes.as_slice())
+                    .expect(rt, "memory");
+            }
+            Ended {
+                outcome: run.outcomes.as_slice().first().copied(),
+                output,
+            }
+        }
+        Err(_) => Ended {
+            outcome: None,
+            output: Vec::new(alloc),
+        },
+    }
+}
+
+fn run_script<R: Abort + Wait>(rt: &R, alloc: Global, input: &[u8], supply: Supply) -> Ended
+    requires { 0 < supply.taken }
+{
+    run_over::<Brand, R>(rt, alloc, input, supply, Blank::new(1))
+}
+
+static INPUT: &str =
+    "set a 7 0 5|hello|get a|set b 0 0 2|10|decr b 1|gets a b|get|set a 0 0 3|abcd|delete b noreply|get b|";
+
+static OUTPUT: &str =
+    "STORED|VALUE a 7 5|hello|END|STORED|9|VALUE a 7 5 1|hello|VALUE b 0 2 3|9 |END|ERROR|CLIENT_ERROR bad data chunk|ERROR|END|";
+
+const WHOLE: Supply = Supply {
+    piece: 1 << 20,
+    read: None,
+    taken: 1 << 20,
+    write: None,
+};
+
+#[test]
+fn the_cutting_does_not_matter(rt: HostRuntime) {
+    let input = lines(&rt, rt.alloc(), INPUT);
+    let output = lines(&rt, rt.alloc(), OUTPUT);
+    for piece in 1..input.len() {
+        let supply = Supply { piece, ..WHOLE };
+        let ended = run_script(&rt, rt.alloc(), input.as_slice(), supply);
+        assert_eq!(rt; ended.outcome, Some(Outcome::Done));
+        assert_eq!(rt;
+            ended.output.as_slice(),
+            output.as_slice(),
+            "in pieces of {piece}"
+        );
+    }
+}
+
+#[test]
+fn a_slow_sink_gets_the_whole_output(rt: HostRuntime) {
+    let input = lines(&rt, rt.alloc(), INPUT);
+    let output = lines(&rt, rt.alloc(), OUTPUT);
+    let supply = Supply { taken: 1, ..WHOLE };
+    let ended = run_script(&rt, rt.alloc(), input.as_slice(), supply);
+    assert_eq!(rt; ended.outcome, Some(Outcome::Done));
+    assert_eq!(rt; ended.output.as_slice(), output.as_slice());
+}
+
+#[test]
+fn a_read_that_fails_ends_the_script(rt: HostRuntime) {
+    let input = lines(&rt, rt.alloc(), INPUT);
+    let output = lines(&rt, rt.alloc(), OUTPUT);
+    for read in 0..20u64 {
+        let supply = Supply {
+            piece: 5,
+            read: Some(read),
+            ..WHOLE
+        };
+        let ended = run_script(&rt, rt.alloc(), input.as_slice(), supply);
+        assert_eq!(rt; ended.outcome, Some(Outcome::Input), "at read {read}");
+        assert!(rt;
+            output.as_slice().starts_with(ended.output.as_slice()),
+            "at read {read}"
+        );
+    }
+}
+
+#[test]
+fn a_write_that_fails_ends_the_script(rt: HostRuntime) {
+    let input = lines(&rt, rt.alloc(), INPUT);
+    let output = lines(&rt, rt.alloc(), OUTPUT);
+    for write in 0..20u64 {
+        let supply = Supply {
+            taken: 3,
+            write: Some(write),
+            ..WHOLE
+        };
+        let ended = run_script(&rt, rt.alloc(), input.as_slice(), supply);
+        assert_eq!(rt; ended.outcome, Some(Outcome::Output), "at write {write}");
+        assert!(rt;
+            output.as_slice().starts_with(ended.output.as_slice()),
+            "at write {write}"
+        );
+        assert_eq!(rt; ended.output.len() as u64, 3 * write);
+    }
+}
