@@ -2,5 +2,4 @@ pub mod MeasureLemmas
 pub mod NumberLemmas
 pub mod ConfigLemmas
 pub mod StripeLemmas
-pub mod LawLemmas
 pub mod CountsLemmas

@@ -6,7 +6,6 @@ pub mod Config
 pub mod Answer
 pub mod Cache
 pub mod Stripe
-pub mod Laws
 pub mod Counts
 pub mod Lists
 pub mod Segment

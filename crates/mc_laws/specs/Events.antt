@@ -1,4 +1,4 @@
--- What the laws of the sequential cache speak of: which key an event names, and events that leave a key alone.
+-- What the laws of the sequential cache say of events: which key one names, and events that leave a key alone.
 use Rattle.std.specs.Prelude.{ℕ, List, [], ◌∷◌, ◌≢◌}
 use Rattle.mc_item.specs.Command.{key_of}
 use Rattle.mc_item.specs.declared.stripe_event.StripeEvent.{StripeEvent}
@@ -14,3 +14,10 @@ key_named (events.Cooled cooled) = cooled.key
 abbrev pub AreOfOthers : List ℕ → List StripeEvent → Type 0
 AreOfOthers key [] = Unit {0}
 AreOfOthers key (e ∷ es) = (key_named e ≢ key) × AreOfOthers key es
+
+-- no command among these events names the key; its item may be lost or cooled
+abbrev pub NoneAsks : List ℕ → List StripeEvent → Type 0
+NoneAsks key [] = Unit {0}
+NoneAsks key (events.Did did ∷ es) = (key_of did.command ≢ key) × NoneAsks key es
+NoneAsks key (events.Lost lost ∷ es) = NoneAsks key es
+NoneAsks key (events.Cooled cooled ∷ es) = NoneAsks key es

@@ -1,17 +1,17 @@
 -- What the laws of the sequential cache rest on.
 use Rattle.std.proofs.Common.{◌≡◌, ◌≤◌, ℕ, ℤ, List, [], ◌∷◌, ◌++◌, refl, sym, ap, ◌∙◌, subst, append_assoc, append-nil, arith, Bool, true, false}
-use Rattle.std.specs.Prelude.{Option, Some, None, nat_eq, nat_le, if◌then◌else◌, ◌≢◌}
+use Rattle.std.specs.Prelude.{Option, Some, None, nat_eq, if◌then◌else◌, ◌≢◌}
 use Rattle.std.specs.Cmp.Lexicographic.{pointwise, bytes_decides}
 use Rattle.std.proofs.lemmas.Bool.Decides.{nat_tests}
-use Rattle.mc_item.specs.Answer.{store_row, get_row, version_of, row_of, cas_of}
+use Rattle.mc_item.specs.Answer.{store_row, get_row, version_of, cas_of}
 use Rattle.mc_item.specs.Cache.{Cache, empty_cache, changed, after_change, after_command, answer_of, if_alive, visible_items}
 use Rattle.mc_item.specs.Command.{key_of}
-use Rattle.mc_item.specs.Item.{has_come, is_dead, expiry_of}
-use Rattle.mc_item.specs.Laws.{key_named, AreOfOthers}
+use Rattle.mc_item.specs.Item.{has_come, expiry_of}
+use Rattle.mc_laws.specs.Events.{key_named, AreOfOthers}
 use Rattle.mc_item.specs.Measure.{class_of, cost_of}
-use Rattle.mc_item.specs.Stripe.{after, cache_from, cache_of, IsLegalFrom, IsLegal, MayHappen, IsDead, cooled_change}
+use Rattle.mc_item.specs.Stripe.{after, cache_from, cache_of, IsLegalFrom, IsLegal, IsDead, cooled_change}
 use Rattle.mc_item.specs.declared.answer.Change.{Change}
-use Rattle.mc_item.specs.declared.answer.Change.TheVariants.{Goes, Renewed}
+use Rattle.mc_item.specs.declared.answer.Change.TheVariants.{Goes}
 use Rattle.mc_item.specs.declared.answer.Site.{Site}
 use Rattle.mc_item.specs.declared.command.Command.{Command}
 use Rattle.mc_item.specs.declared.command.Command.TheVariants.{Get, Store}
@@ -21,7 +21,6 @@ use Rattle.mc_item.specs.declared.item.Expiry.{Expiry}
 use Rattle.mc_item.specs.declared.item.Expiry.TheVariants.{Never, At}
 use Rattle.mc_item.specs.declared.item.Item.{Item}
 use Rattle.mc_item.specs.declared.item.Link.{Link}
-use Rattle.mc_item.specs.declared.reply.Reply.{Reply}
 use Rattle.mc_item.specs.declared.reply.Reply.TheVariants as replies
 use Rattle.mc_item.specs.declared.reply.Room.{Room}
 use Rattle.mc_item.specs.declared.reply.Room.TheVariants as rooms
@@ -32,7 +31,7 @@ use Rattle.mc_item.specs.declared.stripe_event.StripeEvent.TheVariants as events
 -- ---- one key's change
 
 -- two different keys are found different
-differ : (key q : List ℕ) → (key ≢ q) → pointwise nat_eq key q ≡ false
+pub differ : (key q : List ℕ) → (key ≢ q) → pointwise nat_eq key q ≡ false
 differ key q apart = by (pointwise nat_eq key q) (λ is. apart ((bytes_decides key q).0 is))
   where
     by : (b : Bool) → (b ≢ true) → b ≡ false
@@ -52,7 +51,7 @@ change_here cache key change =
 -- ---- the dead
 
 -- what has come stays so
-come_stays : (expiry : Expiry) (m n : ℕ) → has_come expiry m ≡ true → m ≤ n → has_come expiry n ≡ true
+pub come_stays : (expiry : Expiry) (m n : ℕ) → has_come expiry m ≡ true → m ≤ n → has_come expiry n ≡ true
 come_stays Never m n come le = cc
 come_stays (At end) m n come le = grind (arith, nat_tests)
 
@@ -77,7 +76,7 @@ forgets cache key q m n dead le = by (pointwise nat_eq key q) refl
 -- ---- what was set is read
 
 -- an event leaves the items of other keys
-after_elsewhere : (site : Site) (cache : Cache) (e : StripeEvent) (q : List ℕ) → (key_named e ≢ q) → (after site cache e).items q ≡ cache.items q
+pub after_elsewhere : (site : Site) (cache : Cache) (e : StripeEvent) (q : List ℕ) → (key_named e ≢ q) → (after site cache e).items q ≡ cache.items q
 after_elsewhere site cache (events.Did did) q apart =
     change_elsewhere cache (key_of did.command) q (answer_of site cache did.command did.moment did.room).change apart
 after_elsewhere site cache (events.Lost lost) q apart = change_elsewhere cache lost.key q Goes apart
@@ -85,13 +84,13 @@ after_elsewhere site cache (events.Cooled cooled) q apart =
     change_elsewhere cache cooled.key q (cooled_change (cache.items cooled.key)) apart
 
 -- so do events of other keys
-stays_meanwhile : (site : Site) (cache : Cache) (key : List ℕ) (es : List StripeEvent) → AreOfOthers key es → (cache_from site cache es).items key ≡ cache.items key
+pub stays_meanwhile : (site : Site) (cache : Cache) (key : List ℕ) (es : List StripeEvent) → AreOfOthers key es → (cache_from site cache es).items key ≡ cache.items key
 stays_meanwhile site cache key [] others = refl
 stays_meanwhile site cache key (e ∷ es) others =
     stays_meanwhile site (after site cache e) key es others.1 ∙ after_elsewhere site cache e key others.0
 
 -- the later events are legal from where the earlier ones lead
-legal_on : (site : Site) (cache : Cache) (before es rest : List StripeEvent) → IsLegalFrom site cache before (es ++ rest)
+pub legal_on : (site : Site) (cache : Cache) (before es rest : List StripeEvent) → IsLegalFrom site cache before (es ++ rest)
     → IsLegalFrom site (cache_from site cache es) (before ++ es) rest
 legal_on site cache before [] rest legal =
     subst (λ (b : List StripeEvent). IsLegalFrom site cache b rest) (sym (append-nil before)) legal
@@ -100,7 +99,7 @@ legal_on site cache before (e ∷ es) rest legal =
     (legal_on site (after site cache e) (before ++ e ∷ []) es rest legal.1)
 
 -- a set that was answered Stored left its new version
-set_leaves : (class : Option ClassNo) (found : Option Item) (version : Link → Item) (room : Room)
+pub set_leaves : (class : Option ClassNo) (found : Option Item) (version : Link → Item) (room : Room)
     → ((store_row class Set found version).answer room).reply ≡ replies.Stored
     → (link : Link) × (changed found ((store_row class Set found version).answer room).change ≡ Some (version link))
 set_leaves None found version room stored = absurd cc

@@ -1,11 +1,9 @@
-//! Laws of the sequential cache. Each is a contract alone: its function does nothing.
-ghost use Rattle.std.specs.Prelude.{◌≡◌, ◌≢◌, ◌≤◌, ◌++◌, ◌∷◌, [], List, ℕ, ℤ};
+//! Laws of what is read: who changes an item, and whence a value comes.
+ghost use Rattle.std.specs.Prelude.{◌≡◌, ◌≢◌, ◌++◌, ◌∷◌, [], List, ℕ, ℤ};
 ghost use Rattle.mc_item.specs.Answer.{cas_of};
-ghost use Rattle.mc_item.specs.Cache.{Cache, after_change, after_command, visible_items};
+ghost use Rattle.mc_item.specs.Cache.{Cache, after_command};
 ghost use Rattle.mc_item.specs.Command.{key_of};
-ghost use Rattle.mc_item.specs.Laws.{AreOfOthers};
-ghost use Rattle.mc_item.specs.Stripe.{IsDead, IsLegal, cache_of};
-ghost use Rattle.mc_item.specs.declared.answer.Change.TheVariants.{Goes};
+ghost use Rattle.mc_item.specs.Stripe.{IsLegal, cache_of};
 ghost use Rattle.mc_item.specs.declared.answer.Site.{Site};
 ghost use Rattle.mc_item.specs.declared.command.Command.{Command};
 ghost use Rattle.mc_item.specs.declared.command.Command.TheVariants as commands;
@@ -15,17 +13,13 @@ ghost use Rattle.mc_item.specs.declared.reply.Room.{Room};
 ghost use Rattle.mc_item.specs.declared.stripe_event.Did.{Did};
 ghost use Rattle.mc_item.specs.declared.stripe_event.StripeEvent.{StripeEvent};
 ghost use Rattle.mc_item.specs.declared.stripe_event.StripeEvent.TheVariants as events;
+ghost use Rattle.mc_laws.specs.Events.{AreOfOthers};
+ghost use Rattle.mc_laws.specs.Versions.{HoldsThroughout, Wrote};
 
 /// A command on one key leaves every other key's item as it was.
 pub fn other_keys_stay()
     ensures { (site : Site) (cache : Cache) (command : Command) (moment : ℕ) (room : Room) (other : List ℕ) → (key_of command ≢ other)
         → (after_command site cache command moment room).items other ≡ cache.items other }
-{}
-
-/// Forgetting an item that is dead at a moment changes nothing of what is visible at that moment or later.
-pub fn forgetting_the_dead_shows_nothing()
-    ensures { (cache : Cache) (key any : List ℕ) (moment later : ℕ) → IsDead (cache.items key) moment → moment ≤ later
-        → visible_items (after_change cache key Goes) later any ≡ visible_items cache later any }
 {}
 
 /// After a set that was answered `Stored`, and events of other keys alone, a get of the key answers the flags and
@@ -36,4 +30,15 @@ pub fn set_is_read_back()
         → AreOfOthers key between → got.command ≡ commands.Get key
         → IsLegal site (before ++ events.Did set ∷ (between ++ events.Did got ∷ []))
         → got.reply ≡ replies.Value flags value (cas_of site (cache_of site before).versions) }
+{}
+
+/// A value that a get answers was written by a command of its key before, and from then on the key held just that
+/// flags, value and cas number.
+pub fn a_value_is_that_of_its_last_version()
+    ensures { (site : Site) (before : List StripeEvent) (got : Did) (key value : List ℕ) (flags cas : ℕ)
+        → got.command ≡ commands.Get key → got.reply ≡ replies.Value flags value cas
+        → IsLegal site (before ++ events.Did got ∷ [])
+        → (earlier later : List StripeEvent) × (wrote : Did) × (before ≡ earlier ++ events.Did wrote ∷ later) × (key_of wrote.command ≡ key)
+        × Wrote ((cache_of site earlier).items key) wrote.command wrote.reply flags value
+        × HoldsThroughout site (cache_of site (earlier ++ events.Did wrote ∷ [])) later key flags value cas }
 {}

@@ -1,0 +1,5 @@
+pub mod EventLemmas
+pub mod MarkLemmas
+pub mod NumeralLemmas
+pub mod SourceLemmas
+pub mod VersionLemmas

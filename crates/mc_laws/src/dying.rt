@@ -1,0 +1,39 @@
+//! Laws of what no reply shows: items that are dead, and marks that are cooled.
+ghost use Rattle.std.specs.Prelude.{◌≡◌, ◌≤◌, ◌++◌, ◌∷◌, [], List, ℕ, None};
+ghost use Rattle.mc_item.specs.Answer.{row_of};
+ghost use Rattle.mc_item.specs.Cache.{Cache, after_change, answer_of, visible_items};
+ghost use Rattle.mc_item.specs.Command.{key_of};
+ghost use Rattle.mc_item.specs.Stripe.{IsDead, IsLegal, after, cache_from, cache_of};
+ghost use Rattle.mc_item.specs.declared.answer.Change.TheVariants.{Goes};
+ghost use Rattle.mc_item.specs.declared.answer.Site.{Site};
+ghost use Rattle.mc_item.specs.declared.command.Command.{Command};
+ghost use Rattle.mc_item.specs.declared.reply.Room.{Room};
+ghost use Rattle.mc_item.specs.declared.stripe_event.Cooled.{Cooled};
+ghost use Rattle.mc_item.specs.declared.stripe_event.Did.{Did};
+ghost use Rattle.mc_item.specs.declared.stripe_event.StripeEvent.{StripeEvent};
+ghost use Rattle.mc_item.specs.declared.stripe_event.StripeEvent.TheVariants as events;
+ghost use Rattle.mc_laws.specs.Events.{NoneAsks};
+
+/// Forgetting an item that is dead at a moment changes nothing of what is visible at that moment or later.
+pub fn forgetting_the_dead_shows_nothing()
+    ensures { (cache : Cache) (key any : List ℕ) (moment later : ℕ) → IsDead (cache.items key) moment → moment ≤ later
+        → visible_items (after_change cache key Goes) later any ≡ visible_items cache later any }
+{}
+
+/// Once an item is dead at a moment, the next command of its key, at that moment or later, answers as for a key
+/// that has none.
+pub fn the_dead_answer_as_the_absent()
+    ensures { (site : Site) (before between : List StripeEvent) (did : Did) (key : List ℕ) (moment : ℕ)
+        → IsDead ((cache_of site before).items key) moment → moment ≤ did.moment → key_of did.command ≡ key
+        → NoneAsks key between → IsLegal site (before ++ (between ++ events.Did did ∷ []))
+        → did.reply ≡ ((row_of site (cache_of site (before ++ between)).versions None did.command did.moment).answer did.room).reply }
+{}
+
+/// Cooling an item changes no later reply, and nothing that a later command needs, whatever happens in between.
+pub fn cooling_shows_nothing()
+    ensures { (site : Site) (cache : Cache) (cooled : Cooled) (later : List StripeEvent) (command : Command) (moment : ℕ) (room : Room)
+        → let warm = cache_from site cache later in
+        let cool = cache_from site (after site cache (events.Cooled cooled)) later in
+        ((answer_of site cool command moment room).reply ≡ (answer_of site warm command moment room).reply)
+        × ((row_of site cool.versions (cool.items (key_of command)) command moment).need ≡ (row_of site warm.versions (warm.items (key_of command)) command moment).need) }
+{}
