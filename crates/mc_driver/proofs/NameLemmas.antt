@@ -1,6 +1,6 @@
 -- Links that no event named yet.
 use Rattle.std.proofs.Common.{◌≡◌, ◌≢◌, ◌+◌, ◌≤◌, ℕ, List, [], ◌∷◌, ◌++◌, arith, subst, sym, refl, length, length-append, append-nil, ◌∙◌, ap}
-use Rattle.std.specs.Prelude.{Option, Some, None}
+use Rattle.std.specs.Prelude.{Some}
 use Rattle.mc_item.specs.Stripe.{IsUnnamed, link_named, link_of, Fits}
 use Rattle.mc_item.specs.declared.answer.Need.{Need}
 use Rattle.mc_item.specs.declared.answer.Need.TheVariants as needs
@@ -11,7 +11,7 @@ use Rattle.mc_item.specs.declared.stripe_event.Did.{Did}
 use Rattle.mc_item.specs.declared.stripe_event.Lost.{Lost}
 use Rattle.mc_item.specs.declared.stripe_event.StripeEvent.{StripeEvent}
 use Rattle.mc_item.specs.declared.stripe_event.StripeEvent.TheVariants as events
-use Rattle.mc_driver.specs.Script.{Told, told_in, calls_noted}
+use Rattle.mc_driver.specs.Script.{told_in}
 use Rattle.mc_driver.specs.Session.{IsNamedBelow, NamesNoMore, IsReadyAt, room_for}
 use Rattle.mc_stripe.specs.StripeState.{Stripe}
 use Rattle.mc_stripe.specs.StripeCalls.{KeepsSite, Gains}

@@ -1,5 +1,5 @@
 -- A run on its way, one request further.
-use Rattle.std.proofs.Common.{◌≡◌, ◌+◌, ◌≤◌, ℕ, List, [], ◌∷◌, ◌++◌, refl, sym, ap, ◌∙◌, append_assoc, append-nil, length, arith, Bool, false, true, subst, length-append}
+use Rattle.std.proofs.Common.{◌≡◌, ◌+◌, ℕ, List, [], ◌∷◌, ◌++◌, refl, sym, ap, ◌∙◌, append_assoc, append-nil, length, arith, false, true, subst, length-append}
 use Rattle.std.specs.Iterator.{Yields}
 use Rattle.std.specs.Vec.Iter.{into_iter_items, into_iter_len, into_iter_steps}
 use Rattle.std.specs.declared.vec.IntoIter.{IntoIter}
@@ -8,9 +8,9 @@ use Rattle.mc_item.specs.declared.reply.Reply.{Reply}
 use Rattle.mc_proto.specs.Grammar.{IsModerate}
 use Rattle.mc_proto.specs.Text.{IsBeginning, text_of}
 use Rattle.mc_proto.specs.declared.request.Request.{Request}
-use Rattle.mc_driver.specs.Progress.{AreMoments, EndsHere, Goes, HasAnswered, HasFailed, HasTorn, NoneEnds}
+use Rattle.mc_driver.specs.Progress.{AreMoments, Goes, HasAnswered, HasFailed, HasTorn, NoneEnds}
 use Rattle.mc_driver.specs.Run.{first_moment}
-use Rattle.mc_driver.specs.Script.{Answered, AreWhole, IsWhole, Told, all_told, answered, calls_of, ends, moment_after, moment_behind, request_told, requests_of, texts_of, told_in, turn_behind}
+use Rattle.mc_driver.specs.Script.{Answered, AreWhole, IsWhole, Told, all_told, answered, calls_of, ends, moment_after, moment_behind, request_told, requests_of, texts_of, turn_behind}
 use Rattle.mc_driver.specs.Session.{AnswersRequest, KeepsPlace, TellsMore}
 use Rattle.mc_driver.specs.declared.scripting.Progress.TheVariants as progress
 use Rattle.mc_driver.specs.declared.session.Session.{Session}

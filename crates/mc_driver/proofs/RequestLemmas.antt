@@ -1,5 +1,5 @@
 -- A get, key by key.
-use Rattle.std.proofs.Common.{◌≡◌, ◌+◌, ◌≤◌, ℕ, List, [], ◌∷◌, ◌++◌, refl, sym, ap, ◌∙◌, append_assoc, append-nil, length, arith, Bool, subst, length-append, take}
+use Rattle.std.proofs.Common.{◌≡◌, ◌+◌, ℕ, List, [], ◌∷◌, ◌++◌, refl, sym, ap, ◌∙◌, append_assoc, append-nil, length, arith, Bool, length-append, take}
 use Rattle.mc_item.specs.declared.reply.Reply.{Reply}
 use Rattle.mc_proto.specs.Text.{value_text, values_text}
 use Rattle.mc_driver.specs.Script.{Told, told, keys_told}

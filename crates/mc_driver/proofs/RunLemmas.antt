@@ -1,5 +1,5 @@
 -- How a run goes on with a piece, and how it ends.
-use Rattle.std.proofs.Common.{◌≡◌, ◌+◌, ◌≤◌, ℕ, List, [], ◌∷◌, ◌++◌, refl, sym, ap, ◌∙◌, append_assoc, append-nil, length, arith, Bool, false, true, subst, suc}
+use Rattle.std.proofs.Common.{◌≡◌, ℕ, List, [], ◌∷◌, ◌++◌, refl, sym, ap, ◌∙◌, append_assoc, append-nil, arith, Bool, subst, suc}
 use Rattle.std.specs.Prelude.{if◌then◌else◌, All}
 use Rattle.mc_proto.specs.Grammar.{IsModerate, Reads}
 use Rattle.mc_proto.specs.Reader.{After}
@@ -10,8 +10,8 @@ use Rattle.mc_proto.specs.declared.state.State.{State}
 use Rattle.mc_proto.proofs.Rests.{after_reads}
 use Rattle.mc_proto.proofs.Streams.{stream_reads, reading_on}
 use Rattle.mc_driver.specs.Progress.{AreMoments, EndsHere, Goes, HasAnswered, HasFailed, HasTorn, IsOnWay, NoneEnds}
-use Rattle.mc_driver.specs.Run.{first_moment, HasRead, HasRun, HasRunOut, HasStopped, HasBroken, IsFresh, NotesAll, NotesFirst}
-use Rattle.mc_driver.specs.Script.{Answered, AreWhole, Told, all_told, ends, own_requests, requests_of, texts_of, told_in}
+use Rattle.mc_driver.specs.Run.{first_moment, HasRead, HasRun, HasRunOut, HasStopped, HasBroken, IsFresh}
+use Rattle.mc_driver.specs.Script.{Answered, AreWhole, all_told, own_requests, requests_of, texts_of}
 use Rattle.mc_driver.specs.declared.scripting.Progress.{Progress}
 use Rattle.mc_driver.specs.declared.scripting.Progress.TheVariants as progress
 use Rattle.mc_driver.specs.declared.session.Session.{Session}

@@ -1,10 +1,9 @@
 -- The calls that a history notes, and what is printed for requests.
-use Rattle.std.proofs.Common.{◌≡◌, ◌+◌, ◌≤◌, ℕ, List, [], ◌∷◌, ◌++◌, refl, sym, ap, ◌∙◌, append_assoc, append-nil, length, arith, subst, Bool}
+use Rattle.std.proofs.Common.{◌≡◌, ℕ, List, [], ◌∷◌, ◌++◌, refl, sym, ap, ◌∙◌, append_assoc, subst, Bool}
 use Rattle.std.specs.Prelude.{nat_eq, Option, None, true, if◌then◌else◌}
 use Rattle.std.specs.Cmp.Lexicographic.{pointwise, nat_list_eq_equiv}
-use Rattle.std.specs.List.{flat_map}
 use Rattle.mc_item.specs.Cache.{Cache}
-use Rattle.mc_item.specs.Stripe.{cache_of, after, IsAlive}
+use Rattle.mc_item.specs.Stripe.{cache_of, IsAlive}
 use Rattle.mc_item.specs.declared.answer.Site.{Site}
 use Rattle.mc_item.specs.declared.item.Item.{Item}
 use Rattle.mc_item.specs.declared.stripe_event.Lost.{Lost}

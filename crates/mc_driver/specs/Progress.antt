@@ -1,5 +1,5 @@
 -- A run on its way: requests that were answered so far, with texts that the sink took or that are gathered for it.
-use Rattle.std.specs.Prelude.{ℕ, ◌≡◌, List, [], ◌∷◌, ◌++◌, Bool, true, false}
+use Rattle.std.specs.Prelude.{ℕ, ◌≡◌, List, [], ◌∷◌, ◌++◌, true, false}
 use Rattle.mc_proto.specs.Grammar.{IsModerate}
 use Rattle.mc_proto.specs.Reader.{After}
 use Rattle.mc_proto.specs.Text.{IsBeginning}

@@ -1,5 +1,5 @@
 -- What a script's run leaves: what was printed, and what the history notes, by how the run ended.
-use Rattle.std.specs.Prelude.{ℕ, ◌≡◌, ◌<◌, ◌≤◌, ◌-◌, List, [], ◌∷◌, ◌++◌, Bool, true, false, None, length, slice_index}
+use Rattle.std.specs.Prelude.{ℕ, ◌≡◌, ◌<◌, ◌≤◌, ◌-◌, List, [], ◌++◌, None, length, slice_index}
 use Rattle.mc_item.specs.Config.{fault_of}
 use Rattle.mc_item.specs.declared.answer.Site.{Site}
 use Rattle.mc_item.specs.declared.config.Config.{Config}
@@ -11,7 +11,7 @@ use Rattle.mc_proto.specs.Grammar.{Reads}
 use Rattle.mc_proto.specs.Text.{IsBeginning}
 use Rattle.mc_proto.specs.declared.request.Limits.{Limits}
 use Rattle.mc_proto.specs.declared.request.Request.{Request}
-use Rattle.mc_driver.specs.Script.{Answered, AreWhole, Told, all_told, ends, moment_behind, own_requests, requests_of, texts_of, told_in, turn_behind}
+use Rattle.mc_driver.specs.Script.{Answered, AreWhole, Told, all_told, own_requests, requests_of, texts_of, told_in}
 use Rattle.mc_driver.specs.declared.outcome.Outcome.{Outcome}
 use Rattle.mc_driver.specs.declared.outcome.Outcome.TheVariants.{Done, Memory, HistoryFull, Input, Output}
 use Rattle.mc_driver.specs.declared.session.Session.{Session}

@@ -31,9 +31,10 @@ fn answer_key(
 {
     let start = text.len();
     push_value_head(text, &key)?;
-    let reply = session.call(Command::Get(key))?;
-    if let Reply::Value { .. } = &reply {
-        push_value_tail(text, &reply, with_cas)?;
+    session.call(Command::Get(key))?;
+    let reply = session.reply();
+    if let Reply::Value { .. } = reply {
+        push_value_tail(text, reply, with_cas)?;
     } else {
         text.truncate(start);
     }
@@ -90,8 +91,8 @@ fn answer_one(
     ensures front { Begins text.old.items text.new.items }
     ensures full { IsErrOf result faults.HistoryFull → session.new.stripe.limit ≤ length session.new.stripe.history }
 {
-    let reply = session.call(command)?;
-    push_unless(text, &reply, quiet)?;
+    session.call(command)?;
+    push_unless(text, session.reply(), quiet)?;
     Ok(())
 }
 

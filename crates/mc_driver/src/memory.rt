@@ -1,47 +1,45 @@
 //! A source and a sink in memory.
 ghost use Rattle.std.specs.Prelude.{◌≡◌, ◌<◌, [], length};
+ghost use Rattle.std.specs.List.{flat_map};
 
 use crate::source::{Source, SourceFault};
 use mc_proto::{Sink, SinkFault};
 use std::alloc::Global;
+use std::collections::VecDeque;
 use std::marker::Model;
-use std::mem;
 use std::sync::ledger::{Blank, Book, Ledger, Share};
 
-/// A source that gives its bytes at once. It never fails.
+/// A source that gives its pieces one by one, and keeps none that it gave. It never fails.
 #[derive(Drop)]
-pub struct Bytes {
-    alloc: Global,
-    bytes: Vec<u8>,
+pub struct Pieces {
+    pieces: VecDeque<Vec<u8>>,
 }
 
-impl Model for Bytes {
+impl Model for Pieces {
     ghost use Rattle.std.specs.Prelude.{List, ℕ};
+    ghost use Rattle.std.specs.List.{flat_map};
 
     ghost Value = { List ℕ };
 
-    ghost view = { λ b. b.bytes.items };
+    ghost view = { λ p. flat_map (λ v. v.items) p.pieces.items };
 }
 
-impl Bytes {
-    /// A source of these bytes.
-    pub fn new(alloc: Global, bytes: Vec<u8>) -> Bytes
-        ensures { result ≡ bytes.items }
+impl Pieces {
+    /// A source of these pieces.
+    pub fn new(pieces: VecDeque<Vec<u8>>) -> Pieces
+        ensures { result ≡ flat_map (λ v. v.items) pieces.items }
     {
-        Bytes { alloc, bytes }
+        Pieces { pieces }
     }
 }
 
-impl Source for Bytes {
+impl Source for Pieces {
     ghost coming = { λ s. s };
 
     ghost failures = { λ s. 0 };
 
     fn piece(&mut self) -> Result<Option<Vec<u8>>, SourceFault> {
-        if self.bytes.is_empty() {
-            return Ok(None);
-        }
-        Ok(Some(mem::replace(&mut self.bytes, Vec::new(self.alloc))))
+        Ok(self.pieces.pop_front())
     }
 }
 

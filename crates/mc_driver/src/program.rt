@@ -2,17 +2,21 @@
 ghost use Rattle.std.specs.Prelude.{◌≡◌, ◌<◌};
 
 use crate::fault::RunFault;
-use crate::memory::{Bytes, Kept};
+use crate::memory::{Kept, Pieces};
 use crate::outcome::Outcome;
 use crate::running::run_scripts;
 use crate::words::{Plan, WordsFault, read_words};
 use clap::Error;
 use clap::error::ErrorKind;
 use std::alloc::Global;
+use std::collections::VecDeque;
 use std::io::{self, Read, Write};
 use std::marker::Brand;
 use std::sync::Wait;
 use std::sync::ledger::{Blank, Ledger};
+
+// How many bytes are read at a time, so that the requests of so many alone are in memory at once.
+const PIECE: usize = 65536;
 
 const MEMORY: &[u8] = b"mcseg: out of memory\n";
 
@@ -78,12 +82,25 @@ fn say_outcome<E: Write>(outcome: Option<&Outcome>, errors: &mut E) -> u8 {
     }
 }
 
+// Reads to the end, in pieces.
+fn read_pieces<R: Read>(alloc: Global, reader: &mut R) -> io::Result<VecDeque<Vec<u8>>> {
+    let mut pieces = VecDeque::new(alloc);
+    for _ in 0..u64::MAX {
+        let mut piece = Vec::with_capacity(alloc, PIECE)?;
+        if reader.by_ref().take(PIECE as u64).read_to_end(&mut piece)? == 0 {
+            break;
+        }
+        pieces.push_back(piece)?;
+    }
+    Ok(pieces)
+}
+
 // Runs the script that is read, and prints what it replied.
 fn run_input<L: Ledger, W: Write, E: Write>(
     rt: &impl Wait,
     alloc: Global,
     plan: Plan,
-    input: Vec<u8>,
+    input: VecDeque<Vec<u8>>,
     blank: Blank,
     writer: &mut W,
     errors: &mut E,
@@ -92,7 +109,7 @@ fn run_input<L: Ledger, W: Write, E: Write>(
     requires parts { blank.parts ≡ L.parts }
     requires some { 0 < blank.parts }
 {
-    let source = Bytes::new(alloc, input);
+    let source = Pieces::new(input);
     let sink = Kept::<L>::new(alloc, blank);
     let mut scripts = Vec::new(alloc);
     if scripts.push((source, sink)).is_err() {
@@ -142,12 +159,14 @@ pub fn run_words<R: Read, W: Write, E: Write>(
             return told(errors, MEMORY, 1);
         }
     };
-    let mut input = Vec::new(alloc);
-    if let Err(error) = reader.read_to_end(&mut input) {
-        if error.kind() == io::ErrorKind::OutOfMemory {
-            return told(errors, MEMORY, 1);
+    let input = match read_pieces(alloc, reader) {
+        Ok(input) => input,
+        Err(error) => {
+            if error.kind() == io::ErrorKind::OutOfMemory {
+                return told(errors, MEMORY, 1);
+            }
+            return told(errors, INPUT, 3);
         }
-        return told(errors, INPUT, 3);
-    }
+    };
     run_input::<Brand, W, E>(rt, alloc, plan, input, Blank::new(1), writer, errors)
 }

@@ -1,11 +1,12 @@
 //! A caller's turns at one stripe.
-ghost use Rattle.std.specs.Prelude.{◌≡◌, ◌≤◌, ◌<◌, ◌+◌, ◌++◌, ◌∷◌, [], IfOk, OnErr, OnOk, IsErrOf, MatchBool, length};
+ghost use Rattle.std.specs.Prelude.{Some, IsSome, ◌≡◌, ◌≤◌, ◌<◌, ◌+◌, ◌++◌, ◌∷◌, [], IfOk, OnErr, OnOk, IsErrOf, MatchBool, length};
 ghost use Rattle.mc_item.specs.Stripe.{IsAlive, IsDead};
 ghost use Rattle.mc_item.specs.Command.{key_of};
 ghost use Rattle.mc_item.specs.declared.fault.Fault.TheVariants as faults;
+ghost use Rattle.mc_item.specs.declared.reply.Reply.{Reply};
 ghost use Rattle.mc_driver.specs.Script.{told};
 ghost use Rattle.mc_driver.specs.Session.{IsReady, KeepsPlace, NamesNoMore, Tells};
-ghost use Rattle.mc_stripe.specs.StripeState.{cache_now};
+ghost use Rattle.mc_stripe.specs.StripeState.{cache_now, last_reply};
 ghost use Rattle.mc_stripe.specs.StripeCalls.{KeepsSite};
 
 use mc_item::{Command, Fault, Key, Link, Need, Reply, Room, Who};
@@ -76,14 +77,22 @@ impl Session {
         }
     }
 
+    /// The reply to the last call.
+    pub fn reply(&self) -> &Reply
+        requires { IsSome (last_reply self.now.stripe.history) }
+        ensures { last_reply self.now.stripe.history ≡ Some result.now }
+    {
+        self.stripe.last_reply().unwrap()
+    }
+
     /// Makes one call: its key's item is forgotten where it is dead, and then the command is answered at the
     /// session's moment. A new version is given the next link of the class that it needs.
-    pub fn call(&mut self, command: Command) -> Result<Reply, Fault>
+    pub fn call(&mut self, command: Command) -> Result<(), Fault>
         requires { IsReady self.old }
         ensures ready { IsReady self.new }
         ensures same { KeepsPlace self.old self.new × (self.new.moment ≡ self.old.moment) }
         ensures turn { OnOk result (self.new.turn ≡ self.old.turn + 1) }
-        ensures told { IfOk result (λ reply. Tells self.old self.new (told self.old.caller self.old.turn command self.old.moment reply ∷ [])) }
+        ensures told { OnOk result ((reply : Reply) × (last_reply self.new.stripe.history ≡ Some reply) × Tells self.old self.new (told self.old.caller self.old.turn command self.old.moment reply ∷ [])) }
         ensures err { OnErr result (Tells self.old self.new []) }
         ensures full { IsErrOf result faults.HistoryFull → self.new.stripe.limit ≤ length self.new.stripe.history }
     {
@@ -99,21 +108,21 @@ impl Session {
     }
 
     // Answers a command whose key's item isn't dead.
-    fn answer(&mut self, command: Command) -> Result<Reply, Fault>
+    fn answer(&mut self, command: Command) -> Result<(), Fault>
         requires ready { IsReady self.old }
         requires alive { IsAlive ((cache_now self.old.stripe).items (key_of command)) self.old.moment }
         ensures ready { IsReady self.new }
         ensures same { KeepsPlace self.old self.new × (self.new.moment ≡ self.old.moment) }
         ensures turn { OnOk result (self.new.turn ≡ self.old.turn + 1) }
-        ensures told { IfOk result (λ reply. Tells self.old self.new (told self.old.caller self.old.turn command self.old.moment reply ∷ [])) }
+        ensures told { OnOk result ((reply : Reply) × (last_reply self.new.stripe.history ≡ Some reply) × Tells self.old self.new (told self.old.caller self.old.turn command self.old.moment reply ∷ [])) }
         ensures err { OnErr result (Tells self.old self.new []) }
         ensures full { IsErrOf result faults.HistoryFull → self.new.stripe.limit ≤ length self.new.stripe.history }
     {
         let who = self.who();
         let room = room_for(self.stripe.need(&command, self.moment), self.next);
-        let reply = self.stripe.apply(who, command, self.moment, room)?;
+        self.stripe.answer(who, command, self.moment, room)?;
         self.next += 1;
         self.turn += 1;
-        Ok(reply)
+        Ok(())
     }
 }

@@ -33,6 +33,11 @@ struct Run {
     requests: Vec<Request>,
 }
 
+// How many requests room is made for at once: one for each 32 bytes of a piece, and 2,048 at most.
+fn room_for(bytes: usize) -> usize {
+    (bytes / 32).min(2048)
+}
+
 // Reads a whole piece.
 fn read_piece(
     alloc: Global,
@@ -47,7 +52,7 @@ fn read_piece(
     ensures reads { IfOk result (λ s. (stream : List ℕ) (requests : List Request) → After limits state line.old.items stream requests
         → After limits s.state line.new.items (stream ++ piece.now) (requests ++ s.requests.items)) }
 {
-    let mut requests = Vec::new(alloc);
+    let mut requests = Vec::with_capacity(alloc, room_for(piece.len()))?;
     let mut state = state;
     let mut rest = piece;
     while !rest.is_empty() {

@@ -23,7 +23,7 @@ fn get_line(alloc: Global, with_cas: bool, tokens: &[&[u8]]) -> Result<Said, NoM
     if tokens.is_empty() {
         return Ok(no_line());
     }
-    let mut keys = Vec::new(alloc);
+    let mut keys = Vec::with_capacity(alloc, tokens.len())?;
     for token in tokens {
         match key_of(alloc, *token)? {
             Some(key) => {

@@ -1,45 +1,95 @@
-//! A change of the item under one key.
-ghost use Rattle.std.specs.Prelude.{◌≡◌, ◌≤◌, ◌<◌, ◌+◌, ℕ, List, OnOk, OnErr, nat_eq, if◌then◌else◌, IsSome, Some, None};
+//! What a command makes of the item under its key.
+ghost use Rattle.std.specs.Prelude.{◌≡◌, ◌≤◌, ◌<◌, ◌+◌, ◌^◌, ℕ, List, IfOk, OnOk, OnErr, nat_eq, if◌then◌else◌, Some, None};
 ghost use Rattle.std.specs.Cmp.Lexicographic.{pointwise};
 ghost use Rattle.std.specs.HashMap.{get, spare};
-ghost use Rattle.std.specs.Option.{option_map};
-ghost use Rattle.mc_item.specs.Cache.{changed, marked, touched, counted};
-ghost use Rattle.mc_item.specs.declared.answer.Change.TheVariants as changes;
+ghost use Rattle.mc_item.specs.Answer.{cas_of, row_of};
+ghost use Rattle.mc_item.specs.Cache.{changed};
+ghost use Rattle.mc_item.specs.Command.{key_of};
+ghost use Rattle.mc_item.specs.declared.answer.Answer.{Answer};
 
-use mc_item::{Change, Expiry, Item, Key, Marks, NoMemory, Value};
+use mc_item::{Answer, Change, Command, Item, Key, NoMemory, Reply, Room, Site};
 use std::alloc::Global;
 use std::collections::HashMap;
 
-// The item gets these marks, where it is there.
-fn mark(items: &mut HashMap<Key, Item>, key: &Key, marks: Marks)
-    ensures items { (q : List ℕ) → get (pointwise nat_eq) items.new q ≡ (if pointwise nat_eq key.now q then option_map (marked marks) (get (pointwise nat_eq) items.old key.now) else get (pointwise nat_eq) items.old q) }
-    ensures spare { spare items.new ≡ spare items.old }
+/// A command's reply, a copy of it where one was asked for, and how many versions the command added.
+#[derive(Drop)]
+pub(crate) struct Answered {
+    pub noted: Reply,
+    pub told: Option<Reply>,
+    pub added: u64,
+}
+
+// A copy of a reply, where one is asked for.
+fn copy_if(alloc: Global, reply: &Reply, copies: bool) -> Result<Option<Reply>, NoMemory>
+    ensures { IfOk result (λ told. told ≡ (if copies then Some reply.now else None)) }
 {
-    if let Some(item) = items.get_mut(key) {
-        item.marks = marks;
+    if copies {
+        Ok(Some(reply.copy(alloc)?))
+    } else {
+        Ok(None)
     }
 }
 
-// The item gets this expiry and these marks, where it is there.
-fn touch(items: &mut HashMap<Key, Item>, key: &Key, expiry: Expiry, marks: Marks)
-    ensures items { (q : List ℕ) → get (pointwise nat_eq) items.new q ≡ (if pointwise nat_eq key.now q then option_map (touched expiry marks) (get (pointwise nat_eq) items.old key.now) else get (pointwise nat_eq) items.old q) }
-    ensures spare { spare items.new ≡ spare items.old }
+// How many versions a change adds.
+fn versions_of(change: &Change) -> u64
+    ensures { result ≡ Rattle.mc_item.specs.Cache.versions_of change.now }
 {
-    if let Some(item) = items.get_mut(key) {
-        item.expiry = expiry;
-        item.marks = marks;
+    match change {
+        Change::Stays => 0,
+        Change::Goes => 0,
+        Change::Hit(_) => 0,
+        Change::Touched(_, _) => 0,
+        Change::Counted(_, _) => 1,
+        Change::Renewed(_) => 1,
     }
 }
 
-// The item gets this value and cas number, where it is there.
-fn count(items: &mut HashMap<Key, Item>, key: &Key, value: Value, cas: u64)
-    ensures items { (q : List ℕ) → get (pointwise nat_eq) items.new q ≡ (if pointwise nat_eq key.now q then option_map (counted value cas) (get (pointwise nat_eq) items.old key.now) else get (pointwise nat_eq) items.old q) }
-    ensures spare { spare items.new ≡ spare items.old }
+// Changes an item, and says whether it stays.
+fn change_found(item: &mut Item, change: Change) -> bool
+    ensures { changed (Some item.old) change ≡ (if result then Some item.new else None) }
 {
-    if let Some(item) = items.get_mut(key) {
-        item.value = value;
-        item.cas = cas;
+    match change {
+        Change::Stays => true,
+        Change::Goes => false,
+        Change::Hit(marks) => {
+            item.marks = marks;
+            true
+        }
+        Change::Touched(expiry, marks) => {
+            item.expiry = expiry;
+            item.marks = marks;
+            true
+        }
+        Change::Counted(value, cas) => {
+            item.value = value;
+            item.cas = cas;
+            true
+        }
+        Change::Renewed(renewed) => {
+            *item = renewed;
+            true
+        }
     }
+}
+
+// Changes a key that has no item. Only the copy of the key takes memory; without it nothing changes.
+fn change_absent(
+    alloc: Global,
+    items: &mut HashMap<Key, Item>,
+    key: &Key,
+    change: Change,
+) -> Result<(), NoMemory>
+    requires room { 0 < spare items.old }
+    requires absent { get (pointwise nat_eq) items.old key.now ≡ None }
+    ensures ok { OnOk result ((q : List ℕ) → get (pointwise nat_eq) items.new q ≡ (if pointwise nat_eq key.now q then changed None change else get (pointwise nat_eq) items.old q)) }
+    ensures err { OnErr result ((q : List ℕ) → get (pointwise nat_eq) items.new q ≡ get (pointwise nat_eq) items.old q) }
+    ensures spare { spare items.old ≤ spare items.new + 1 }
+{
+    if let Change::Renewed(item) = change {
+        let name = key.copy(alloc)?;
+        let _ = items.insert(name, item);
+    }
+    Ok(())
 }
 
 // The item goes, where it is there.
@@ -50,68 +100,49 @@ pub(crate) fn remove(items: &mut HashMap<Key, Item>, key: &Key)
     let _ = items.remove(key);
 }
 
-// This is the key's item now. Only the copy of a key that is new takes memory.
-fn renew(
+/// Answers a command for the item under its key, and changes it; the key is looked up once, and once more where its
+/// item goes. Without memory nothing changes.
+pub(crate) fn answer_item(
     alloc: Global,
+    site: &Site,
+    versions: u64,
     items: &mut HashMap<Key, Item>,
-    key: &Key,
-    item: Item,
-) -> Result<(), NoMemory>
+    command: &Command,
+    moment: u64,
+    room: Room,
+    copies: bool,
+) -> Result<Answered, NoMemory>
+    requires cas { cas_of site.now versions < 2 ^ 64 }
+    requires moment { moment ≤ 2 ^ 62 }
     requires room { 0 < spare items.old }
-    ensures ok { OnOk result ((q : List ℕ) → get (pointwise nat_eq) items.new q ≡ (if pointwise nat_eq key.now q then Some item else get (pointwise nat_eq) items.old q)) }
+    ensures ok { IfOk result (λ a. (answer : Answer) × (answer ≡ (row_of site.now versions (get (pointwise nat_eq) items.old (key_of command.now)) command.now moment).answer room)
+        × (a.noted ≡ answer.reply) × (a.told ≡ (if copies then Some answer.reply else None)) × (a.added ≡ Rattle.mc_item.specs.Cache.versions_of answer.change)
+        × ((q : List ℕ) → get (pointwise nat_eq) items.new q ≡ (if pointwise nat_eq (key_of command.now) q then changed (get (pointwise nat_eq) items.old (key_of command.now)) answer.change else get (pointwise nat_eq) items.old q))) }
     ensures err { OnErr result ((q : List ℕ) → get (pointwise nat_eq) items.new q ≡ get (pointwise nat_eq) items.old q) }
     ensures spare { spare items.old ≤ spare items.new + 1 }
 {
-    if items.contains_key(key) {
-        replace(items, key, item);
-        return Ok(());
+    let key = command.key();
+    let Some(item) = items.get_mut(key) else {
+        let answer = site.answer(alloc, versions, None, command, moment, room)?;
+        let told = copy_if(alloc, &answer.reply, copies)?;
+        let added = versions_of(&answer.change);
+        change_absent(alloc, items, key, answer.change)?;
+        return Ok(Answered {
+            noted: answer.reply,
+            told,
+            added,
+        });
+    };
+    let answer = site.answer(alloc, versions, Some(&*item), command, moment, room)?;
+    let told = copy_if(alloc, &answer.reply, copies)?;
+    let added = versions_of(&answer.change);
+    let stays = change_found(item, answer.change);
+    if !stays {
+        remove(items, key);
     }
-    let name = key.copy(alloc)?;
-    let _ = items.insert(name, item);
-    Ok(())
-}
-
-// The item under a key that has one is this now.
-fn replace(items: &mut HashMap<Key, Item>, key: &Key, item: Item)
-    requires { IsSome (get (pointwise nat_eq) items.old key.now) }
-    ensures items { (q : List ℕ) → get (pointwise nat_eq) items.new q ≡ (if pointwise nat_eq key.now q then Some item else get (pointwise nat_eq) items.old q) }
-    ensures spare { spare items.new ≡ spare items.old }
-{
-    if let Some(slot) = items.get_mut(key) {
-        *slot = item;
-    }
-}
-
-/// Changes the item under a key. Only the copy of a key that is new takes memory; without it nothing changes.
-pub(crate) fn change_item(
-    alloc: Global,
-    items: &mut HashMap<Key, Item>,
-    key: &Key,
-    change: Change,
-) -> Result<(), NoMemory>
-    requires room { 0 < spare items.old }
-    ensures ok { OnOk result ((q : List ℕ) → get (pointwise nat_eq) items.new q ≡ (if pointwise nat_eq key.now q then changed (get (pointwise nat_eq) items.old key.now) change else get (pointwise nat_eq) items.old q)) }
-    ensures err { OnErr result ((q : List ℕ) → get (pointwise nat_eq) items.new q ≡ get (pointwise nat_eq) items.old q) }
-    ensures spare { spare items.old ≤ spare items.new + 1 }
-{
-    match change {
-        Change::Stays => Ok(()),
-        Change::Goes => {
-            remove(items, key);
-            Ok(())
-        }
-        Change::Hit(marks) => {
-            mark(items, key, marks);
-            Ok(())
-        }
-        Change::Touched(expiry, marks) => {
-            touch(items, key, expiry, marks);
-            Ok(())
-        }
-        Change::Counted(value, cas) => {
-            count(items, key, value, cas);
-            Ok(())
-        }
-        Change::Renewed(item) => renew(alloc, items, key, item),
-    }
+    Ok(Answered {
+        noted: answer.reply,
+        told,
+        added,
+    })
 }

@@ -4,10 +4,10 @@ ghost use Rattle.std.specs.Option.{option_copied};
 ghost use Rattle.mc_item.specs.Config.{IsBounded};
 ghost use Rattle.mc_item.specs.Stripe.{IsLegal};
 ghost use Rattle.mc_item.specs.declared.fault.Fault.TheVariants as faults;
-ghost use Rattle.mc_stripe.specs.StripeState.{cache_now};
+ghost use Rattle.mc_stripe.specs.StripeState.{cache_now, last_reply};
 ghost use Rattle.mc_stripe.specs.StripeCalls.{KeepsSite};
 
-use mc_item::{ClassSizes, Config, Fault, Item, Key, Site, StripeEvent, StripeNo};
+use mc_item::{ClassSizes, Config, Fault, Item, Key, Reply, Site, StripeEvent, StripeNo};
 use std::alloc::Global;
 use std::collections::HashMap;
 use std::marker::Model;
@@ -74,6 +74,18 @@ impl StripeState {
         ensures within { length self.now.history ≤ self.now.limit }
     {
         self.history.as_slice()
+    }
+
+    /// The reply to the last command, where the last event is one.
+    pub fn last_reply(&self) -> Option<&Reply>
+        ensures { option_copied result ≡ last_reply self.now.history }
+    {
+        match self.history.as_slice().last() {
+            Some(StripeEvent::Did(did)) => Some(&did.reply),
+            Some(StripeEvent::Lost(_)) => None,
+            Some(StripeEvent::Cooled(_)) => None,
+            None => None,
+        }
     }
 
     /// Makes room for n more events, of which each call that takes no memory then needs one.

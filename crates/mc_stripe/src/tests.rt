@@ -7,8 +7,8 @@ ghost use Rattle.mc_stripe.specs.StripeState.{cache_now};
 
 use super::*;
 use mc_item::{
-    ClassNo, Command, Config, Fault, Key, Link, Numbers, Reply, StripeEvent, StripeNo, Value, Verb,
-    Who, stripe_of,
+    Change, ClassNo, Command, Config, Expiry, Fault, Item, Key, Link, Marks, NoMemory, Numbers,
+    Reply, StripeEvent, StripeNo, Value, Verb, Who, stripe_of,
 };
 use std::alloc::Global;
 use std::process::Abort;
@@ -139,13 +139,86 @@ fn is_of_first(stripe: &StripeState, key: &Key) -> bool
     }
 }
 
-// The reply to a command at a moment, where it may be answered. A new version's link has the number of its event.
+// An item's text, where there is one.
+fn item_text(alloc: Global, found: Option<&Item>) -> Result<String, Fault> {
+    match found {
+        Some(item) => Ok(format!(in alloc; "{item:?}")?),
+        None => Ok(format!(in alloc; "none")?),
+    }
+}
+
+// An item with other marks, another expiry, or another value and cas number.
+fn with(
+    alloc: Global,
+    item: &Item,
+    expiry: Expiry,
+    marks: Marks,
+    counted: Option<(Value, u64)>,
+) -> Result<Item, NoMemory> {
+    let (value, cas) = match counted {
+        Some((value, cas)) => (value, cas),
+        None => (item.value.copy(alloc)?, item.cas),
+    };
+    Ok(Item {
+        flags: item.flags,
+        value,
+        expiry,
+        cas,
+        link: item.link,
+        marks,
+    })
+}
+
+// What a change makes of an item, by the plain program.
+fn changed(alloc: Global, found: Option<&Item>, change: Change) -> Result<Option<Item>, NoMemory> {
+    match (found, change) {
+        (_, Change::Goes) => Ok(None),
+        (_, Change::Renewed(item)) => Ok(Some(item)),
+        (None, _) => Ok(None),
+        (Some(item), Change::Stays) => {
+            Ok(Some(with(alloc, item, item.expiry, item.marks, None)?))
+        }
+        (Some(item), Change::Hit(marks)) => Ok(Some(with(alloc, item, item.expiry, marks, None)?)),
+        (Some(item), Change::Touched(expiry, marks)) => {
+            Ok(Some(with(alloc, item, expiry, marks, None)?))
+        }
+        (Some(item), Change::Counted(value, cas)) => Ok(Some(with(
+            alloc,
+            item,
+            item.expiry,
+            item.marks,
+            Some((value, cas)),
+        )?)),
+    }
+}
+
+impl StripeState {
+    // The reply to a command and the item that it leaves, by the plain program of the table.
+    fn plain(
+        &self,
+        command: &Command,
+        moment: u64,
+        room: Room,
+    ) -> Result<(Reply, Option<Item>), NoMemory>
+        requires { moment ≤ 2 ^ 62 }
+    {
+        let found = self.items.get(command.key());
+        let answer = self
+            .site
+            .answer(self.alloc, self.versions, found, command, moment, room)?;
+        Ok((answer.reply, changed(self.alloc, found, answer.change)?))
+    }
+}
+
+// The texts of the reply to a command at a moment and of the item that it leaves, by the plain program of the table
+// and then by the stripe, where the command may be answered. A new version's link has the number of its event.
 fn answer(
+    alloc: Global,
     stripe: &mut StripeState,
     command: Command,
     moment: u64,
     full: bool,
-) -> Result<Option<Reply>, Fault> {
+) -> Result<Option<[String; 4]>, Fault> {
     if moment > 1 << 62 || !stripe.has(command.key()) || is_dead(stripe, command.key(), moment) {
         return Ok(None);
     }
@@ -154,10 +227,21 @@ fn answer(
     let Some(room) = room_for(need, events, events.len() as u64, full) else {
         return Ok(None);
     };
-    Ok(Some(stripe.apply(WHO, command, moment, room)?))
+    let key = command.key().copy(alloc)?;
+    let (plain, left) = stripe.plain(&command, moment, room)?;
+    let plain_left = item_text(alloc, left.as_ref())?;
+    let reply = stripe.apply(WHO, command, moment, room)?;
+    let stripe_left = item_text(alloc, stripe.find(&key))?;
+    Ok(Some([
+        format!(in alloc; "{plain:?}")?,
+        plain_left,
+        format!(in alloc; "{reply:?}")?,
+        stripe_left,
+    ]))
 }
 
-// Asserts what a command is answered at the moment 1000, with room or without.
+// Asserts what a command is answered at the moment 1000, with room or without, and that the stripe and the plain
+// program of the table agree on the reply and on the item that is left.
 fn asserts<R: Abort>(
     rt: &R,
     alloc: Global,
@@ -166,12 +250,12 @@ fn asserts<R: Abort>(
     full: bool,
     want: &str,
 ) -> Result<(), Fail> {
-    let text = match answer(stripe, command, 1000, full) {
-        Ok(Some(reply)) => format!(in alloc; "{reply:?}")?,
-        Ok(None) => format!(in alloc; "no call")?,
-        Err(fault) => format!(in alloc; "{fault:?}")?,
+    let Some([plain, plain_left, reply, left]) = answer(alloc, stripe, command, 1000, full)? else {
+        return Err(Fail::from("no call"));
     };
-    assert_eq!(rt; text.as_str(), want);
+    assert_eq!(rt; reply.as_str(), want);
+    assert_eq!(rt; plain.as_str(), want);
+    assert_eq!(rt; left.as_str(), plain_left.as_str());
     Ok(())
 }
 
@@ -288,10 +372,7 @@ fn asserts_item<R: Abort>(
     want: &str,
 ) -> Result<(), Fail> {
     let key = b(alloc)?;
-    let text = match stripe.find(&key) {
-        Some(item) => format!(in alloc; "{item:?}")?,
-        None => format!(in alloc; "none")?,
-    };
+    let text = item_text(alloc, stripe.find(&key))?;
     assert_eq!(rt; text.as_str(), want);
     Ok(())
 }
@@ -357,6 +438,55 @@ fn dead_and_taken_items_go(rt: HostRuntime) -> Result<(), Fail> {
     Ok(())
 }
 
+// Answers a command at the moment 1000, where it may be answered, and copies no reply.
+fn note(stripe: &mut StripeState, command: Command) -> Result<(), Fail> {
+    if !stripe.has(command.key()) || is_dead(stripe, command.key(), 1000) {
+        return Err(Fail::from("no call"));
+    }
+    let events = stripe.history();
+    let need = stripe.need(&command, 1000);
+    let Some(room) = room_for(need, events, events.len() as u64, false) else {
+        return Err(Fail::from("no room"));
+    };
+    stripe.answer(WHO, command, 1000, room)?;
+    Ok(())
+}
+
+// Asserts the text of the reply that the last event notes.
+fn asserts_last<R: Abort>(
+    rt: &R,
+    alloc: Global,
+    stripe: &StripeState,
+    want: &str,
+) -> Result<(), Fail> {
+    let text = match stripe.last_reply() {
+        Some(reply) => format!(in alloc; "{reply:?}")?,
+        None => format!(in alloc; "none")?,
+    };
+    assert_eq!(rt; text.as_str(), want);
+    Ok(())
+}
+
+#[test]
+fn a_reply_stands_in_the_history(rt: HostRuntime) -> Result<(), Fail> {
+    let alloc = rt.alloc();
+    let mut stripe = stripe_one(alloc)?;
+    asserts_last(&rt, alloc, &stripe, "none")?;
+    note(&mut stripe, store(alloc, Verb::Set, b"5")?)?;
+    asserts_last(&rt, alloc, &stripe, "Stored")?;
+    let touch = Command::Touch(b(alloc)?, 100);
+    asserts(&rt, alloc, &mut stripe, touch, false, "Touched")?;
+    asserts_last(&rt, alloc, &stripe, "Touched")?;
+    note(&mut stripe, Command::Get(b(alloc)?))?;
+    let five = "Value { flags: 7, value: Value { bytes: [53] }, cas: 2 }";
+    asserts_last(&rt, alloc, &stripe, five)?;
+    let key = b(alloc)?;
+    assert!(rt; is_active(&stripe, &key));
+    stripe.cool(WHO, key)?;
+    asserts_last(&rt, alloc, &stripe, "none")?;
+    Ok(())
+}
+
 #[test]
 fn the_seventeenth_event_is_refused(rt: HostRuntime) -> Result<(), Fail> {
     let alloc = rt.alloc();
@@ -368,7 +498,11 @@ fn the_seventeenth_event_is_refused(rt: HostRuntime) -> Result<(), Fail> {
         asserts(&rt, alloc, &mut stripe, get, false, "Miss")?;
     }
     let get = Command::Get(b(alloc)?);
-    asserts(&rt, alloc, &mut stripe, get, false, "HistoryFull")?;
+    let refused = match answer(alloc, &mut stripe, get, 1000, false) {
+        Ok(_) => false,
+        Err(fault) => fault == Fault::HistoryFull,
+    };
+    assert!(rt; refused);
     assert_eq!(rt; stripe.reserve(0), Ok(()));
     assert_eq!(rt; stripe.reserve(1), Err(Fault::HistoryFull));
     assert_eq!(rt; stripe.history().len(), 16);

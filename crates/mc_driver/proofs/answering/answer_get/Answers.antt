@@ -1,4 +1,4 @@
-use Rattle.std.proofs.Common.{◌≡◌, ◌+◌, ◌++◌, ◌∷◌, [], List, length, length-append, arith, ap, ◌∙◌}
+use Rattle.std.proofs.Common.{◌∷◌, [], length-append, arith, ◌∙◌}
 use Rattle.mc_driver.specs.Script.{told_in}
 use Rattle.mc_driver.proofs.RequestLemmas.{place_kept, get_more, begins_further}
 use Rattle.mc_driver.proofs.answering.answer_get.Goals as goal

@@ -1,4 +1,4 @@
-use Rattle.std.proofs.Common.{◌≡◌, None, sym, ap, ◌∙◌, subst}
+use Rattle.std.proofs.Common.{◌≡◌, None, sym, subst}
 use Rattle.mc_item.specs.Config.{fault_of}
 use Rattle.mc_item.specs.declared.config.Config.{Config}
 use Rattle.mc_driver.specs.Run.{with_callers}

@@ -1,6 +1,4 @@
-use Rattle.std.proofs.Common.{◌≡◌, ◌∷◌, [], ◌++◌, ◌-◌, sym, ap, ◌∙◌, refl, subst, arith, ℕ, List, vec_len}
-use Rattle.mc_item.specs.declared.config.Config.{Config}
-use Rattle.mc_item.specs.declared.stripe_event.StripeEvent.{StripeEvent}
+use Rattle.std.proofs.Common.{◌≡◌, ◌∷◌, [], ◌++◌, ◌-◌, sym, ap, ◌∙◌, subst, arith, ℕ, List, vec_len}
 use Rattle.mc_proto.specs.declared.request.Limits.{Limits}
 use Rattle.mc_stripe.specs.StripeState.{Stripe}
 use Rattle.mc_driver.specs.Run.{Leaves, IsCaused, limits_of}

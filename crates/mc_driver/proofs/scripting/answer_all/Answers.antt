@@ -1,6 +1,5 @@
-use Rattle.std.proofs.Common.{◌≡◌, ◌++◌, ◌∷◌, [], List, ℕ, sym, ap, ◌∙◌, refl, append_assoc, subst, append-nil, arith, rules}
+use Rattle.std.proofs.Common.{◌++◌, ◌∷◌, [], sym, ◌∙◌, subst, arith}
 use Rattle.std.specs.Vec.Iter.{into_iter_items}
-use Rattle.mc_proto.specs.declared.request.Request.{Request}
 use Rattle.mc_driver.specs.Progress.{AreMoments}
 use Rattle.mc_driver.proofs.ProgressLemmas.{goes_ended, goes_more, goes_memory, goes_full, goes_further, goes_printed, goes_torn, moment_among, NoneEnds-push, split_at_request, all_taken}
 use Rattle.mc_driver.proofs.RequestLemmas.{place_kept}

@@ -1,7 +1,6 @@
-use Rattle.std.proofs.Common.{◌≡◌, ◌++◌, ◌∷◌, [], ◌≤◌, ◌<◌, List, ℕ, sym, ap, ◌∙◌, refl, arith, subst, Bool}
+use Rattle.std.proofs.Common.{◌++◌, List, ℕ, sym, ap, ◌∙◌, refl, arith, subst}
 use Rattle.mc_driver.specs.Progress.{Goes}
 use Rattle.mc_driver.specs.declared.scripting.Progress.{Progress}
-use Rattle.mc_driver.specs.declared.scripting.Progress.TheVariants as progress
 use Rattle.mc_driver.proofs.RequestLemmas.{place_kept}
 use Rattle.mc_driver.proofs.RunLemmas.{way_starts, way_ends, way_runs_out, way_stops, way_goes_on, way_ended, goes_breaks, goes_torn_breaks, goes_memory_stops, goes_full_stops, read_more, moments_are}
 use Rattle.mc_driver.proofs.scripting.run_script.Goals as goal

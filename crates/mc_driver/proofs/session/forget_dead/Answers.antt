@@ -1,6 +1,5 @@
 use Rattle.mc_driver.proofs.NameLemmas.{lost_names_no_more}
 use Rattle.mc_driver.proofs.TellLemmas.{lost_is_not_dead}
-use Rattle.mc_item.specs.declared.stripe_event.Lost.{Lost}
 use Rattle.mc_item.specs.declared.stripe_event.Cause.TheVariants.{Expired}
 use Rattle.std.proofs.Common.{List, ℕ, subst}
 use Rattle.mc_item.specs.Stripe.{IsAlive}

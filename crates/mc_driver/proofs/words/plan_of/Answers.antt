@@ -1,4 +1,3 @@
-use Rattle.std.proofs.Common.{sym, ap, ◌∙◌}
 use Rattle.mc_item.specs.Config.{fault_of}
 use Rattle.mc_driver.proofs.StartLemmas.{check_passed}
 use Rattle.mc_driver.proofs.words.plan_of.Goals as goal
