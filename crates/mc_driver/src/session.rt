@@ -1,5 +1,6 @@
 //! A caller's turns at one stripe.
-ghost use Rattle.std.specs.Prelude.{Some, IsSome, ◌≡◌, ◌≤◌, ◌<◌, ◌+◌, ◌++◌, ◌∷◌, [], IfOk, OnErr, OnOk, IsErrOf, MatchBool, length};
+ghost use Rattle.std.specs.Prelude.{Some, IsSome, ◌≡◌, ◌≤◌, ◌<◌, ◌+◌, ◌++◌, ◌∷◌, [], IfOk, OnErr, OnOk, IsErrOf, MatchOption, length};
+ghost use Rattle.mc_item.specs.Answer.{row_of};
 ghost use Rattle.mc_item.specs.Stripe.{IsAlive, IsDead};
 ghost use Rattle.mc_item.specs.Command.{key_of};
 ghost use Rattle.mc_item.specs.declared.fault.Fault.TheVariants as faults;
@@ -36,34 +37,61 @@ fn room_for(need: Need, number: u64) -> Room
     }
 }
 
-// Whether the item of a key is dead at a moment.
-fn is_dead(stripe: &StripeState, key: &Key, moment: u64) -> bool
-    ensures { MatchBool result (IsDead ((cache_now stripe.now).items key.now) moment) (IsAlive ((cache_now stripe.now).items key.now) moment) }
+// What a command needs, where its key's item isn't dead at a moment; the key is looked up once for both.
+fn need_if_alive(stripe: &StripeState, command: &Command, moment: u64) -> Option<Need>
+    ensures { MatchOption result (IsDead ((cache_now stripe.now).items (key_of command.now)) moment) (λ need. IsAlive ((cache_now stripe.now).items (key_of command.now)) moment
+        × (need ≡ (row_of stripe.now.site (cache_now stripe.now).versions ((cache_now stripe.now).items (key_of command.now)) command.now moment).need)) }
 {
-    match stripe.find(key) {
-        Some(item) => item.dead(moment),
-        None => false,
+    let found = stripe.find(command.key());
+    match found {
+        Some(item) => {
+            if item.dead(moment) {
+                return None;
+            }
+        }
+        None => {}
     }
+    Some(stripe.need_of(found, command, moment))
 }
 
-// The item of a key goes, where it is dead.
-fn forget_dead(
+// The dead item of a key goes.
+fn forget(
     alloc: Global,
     stripe: &mut StripeState,
     who: Who,
     key: &Key,
     moment: u64,
 ) -> Result<(), Fault>
+    requires { IsDead ((cache_now stripe.old).items key.now) moment }
     ensures site { KeepsSite stripe.old stripe.new }
     ensures more { NamesNoMore stripe.old.history stripe.new.history }
     ensures alive { OnOk result (IsAlive ((cache_now stripe.new).items key.now) moment) }
     ensures full { IsErrOf result faults.HistoryFull → stripe.new.limit ≤ length stripe.new.history }
 {
-    if is_dead(stripe, key, moment) {
-        let name = key.copy(alloc)?;
-        stripe.forget_expired(who, name, moment)?;
-    }
+    let name = key.copy(alloc)?;
+    stripe.forget_expired(who, name, moment)?;
     Ok(())
+}
+
+// What a command needs; its key's item goes first, where it is dead.
+fn need_after(
+    alloc: Global,
+    stripe: &mut StripeState,
+    who: Who,
+    command: &Command,
+    moment: u64,
+) -> Result<Need, Fault>
+    ensures site { KeepsSite stripe.old stripe.new }
+    ensures more { NamesNoMore stripe.old.history stripe.new.history }
+    ensures alive { OnOk result (IsAlive ((cache_now stripe.new).items (key_of command.now)) moment) }
+    ensures need { IfOk result (λ need. need ≡ (row_of stripe.new.site (cache_now stripe.new).versions ((cache_now stripe.new).items (key_of command.now)) command.now moment).need) }
+    ensures full { IsErrOf result faults.HistoryFull → stripe.new.limit ≤ length stripe.new.history }
+{
+    if let Some(need) = need_if_alive(stripe, command, moment) {
+        return Ok(need);
+    }
+    forget(alloc, stripe, who, command.key(), moment)?;
+    Ok(stripe.need(command, moment))
 }
 
 impl Session {
@@ -97,20 +125,15 @@ impl Session {
         ensures full { IsErrOf result faults.HistoryFull → self.new.stripe.limit ≤ length self.new.stripe.history }
     {
         let who = self.who();
-        forget_dead(
-            self.alloc,
-            &mut self.stripe,
-            who,
-            command.key(),
-            self.moment,
-        )?;
-        self.answer(command)
+        let need = need_after(self.alloc, &mut self.stripe, who, &command, self.moment)?;
+        self.answer(command, need)
     }
 
     // Answers a command whose key's item isn't dead.
-    fn answer(&mut self, command: Command) -> Result<(), Fault>
+    fn answer(&mut self, command: Command, need: Need) -> Result<(), Fault>
         requires ready { IsReady self.old }
         requires alive { IsAlive ((cache_now self.old.stripe).items (key_of command)) self.old.moment }
+        requires need { need ≡ (row_of self.old.stripe.site (cache_now self.old.stripe).versions ((cache_now self.old.stripe).items (key_of command)) command self.old.moment).need }
         ensures ready { IsReady self.new }
         ensures same { KeepsPlace self.old self.new × (self.new.moment ≡ self.old.moment) }
         ensures turn { OnOk result (self.new.turn ≡ self.old.turn + 1) }
@@ -119,7 +142,7 @@ impl Session {
         ensures full { IsErrOf result faults.HistoryFull → self.new.stripe.limit ≤ length self.new.stripe.history }
     {
         let who = self.who();
-        let room = room_for(self.stripe.need(&command, self.moment), self.next);
+        let room = room_for(need, self.next);
         self.stripe.answer(who, command, self.moment, room)?;
         self.next += 1;
         self.turn += 1;

@@ -1,5 +1,6 @@
 //! Commands on a stripe.
 ghost use Rattle.std.specs.Prelude.{◌≡◌, ◌≤◌, ◌<◌, ◌+◌, ◌^◌, ℕ, Option, None, false, IfOk, OnOk, OnErr, Some, if◌then◌else◌, IsErrOf, ◌↔◌, length};
+ghost use Rattle.std.specs.Option.{option_copied};
 ghost use Rattle.mc_item.specs.Answer.{row_of};
 ghost use Rattle.mc_item.specs.Cache.{answer_of};
 ghost use Rattle.mc_item.specs.Command.{key_of};
@@ -14,7 +15,7 @@ ghost use Rattle.mc_stripe.specs.StripeCalls.{KeepsSite, Gains};
 
 use crate::changing::answer_item;
 use crate::state::StripeState;
-use mc_item::{Command, Did, Fault, Need, Reply, Room, StripeEvent, Verb, Who};
+use mc_item::{Command, Did, Fault, Item, Need, Reply, Room, StripeEvent, Verb, Who};
 
 // Whether a command's need depends on the item under its key.
 fn asks_for_item(command: &Command) -> bool
@@ -47,6 +48,15 @@ impl StripeState {
         } else {
             self.site.need(None, command)
         }
+    }
+
+    /// What a command needs, as `need` says it, where its key's item was found already: the key isn't looked up again.
+    pub fn need_of(&self, found: Option<&Item>, command: &Command, moment: u64) -> Need
+        requires { option_copied found ≡ (cache_now self.now).items (key_of command.now) }
+        ensures { result ≡ (row_of self.now.site (cache_now self.now).versions ((cache_now self.now).items (key_of command.now)) command.now moment).need }
+    {
+        let _moment = moment;
+        self.site.need(found, command)
     }
 
     // Answers a command at a moment, and notes that as one event; a copy of the reply is made where one is asked for.

@@ -283,11 +283,12 @@ fn storage_commands_follow_the_table(rt: HostRuntime) -> Result<(), Fail> {
         ),
         (Command::Delete(b(alloc)?), "Deleted"),
         (Command::Delete(b(alloc)?), "NotFound"),
+        (Command::Touch(b(alloc)?, 5), "NotFound"),
         (Command::Get(b(alloc)?), "Miss"),
     ] {
         asserts(&rt, alloc, &mut stripe, command, false, want)?;
     }
-    assert_eq!(rt; stripe.history().len(), 12);
+    assert_eq!(rt; stripe.history().len(), 13);
     Ok(())
 }
 
@@ -444,7 +445,7 @@ fn note(stripe: &mut StripeState, command: Command) -> Result<(), Fail> {
         return Err(Fail::from("no call"));
     }
     let events = stripe.history();
-    let need = stripe.need(&command, 1000);
+    let need = stripe.need_of(stripe.find(command.key()), &command, 1000);
     let Some(room) = room_for(need, events, events.len() as u64, false) else {
         return Err(Fail::from("no room"));
     };
