@@ -4,3 +4,4 @@ pub mod RequestLemmas
 pub mod ProgressLemmas
 pub mod RunLemmas
 pub mod StartLemmas
+pub mod WordLemmas

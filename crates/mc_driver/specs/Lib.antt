@@ -2,3 +2,4 @@ pub mod Script
 pub mod Session
 pub mod Run
 pub mod Progress
+pub mod Words

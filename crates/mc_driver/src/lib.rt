@@ -17,4 +17,4 @@ pub use outcome::Outcome;
 pub use program::run_words;
 pub use running::{Final, Run, run_scripts};
 pub use source::{Source, SourceFault};
-pub use words::{Plan, WordsFault, read_words};
+pub use words::{Plan, PlanFault, WordsFault, plan_for, read_words};

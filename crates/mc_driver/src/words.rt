@@ -1,6 +1,9 @@
 //! The words of the command line.
-ghost use Rattle.std.specs.Prelude.{◌≡◌, ◌≤◌, [], IfOk, None, length};
+ghost use Rattle.std.specs.Prelude.{◌≡◌, ℕ, List, [], IfOk, Err, Option, None, MatchOption};
+ghost use Rattle.std.specs.Option.{option_copied, option_map};
 ghost use Rattle.mc_item.specs.Config.{fault_of};
+ghost use Rattle.mc_driver.specs.Words.{AreNamed, IsFault, IsListOf, IsNoList, NamesNone, asked, fault_number};
+ghost use Rattle.mc_driver.specs.declared.words.PlanFault.TheVariants as faults;
 
 use clap::{Arg, ArgAction, Command, Error};
 use mc_item::{Config, ConfigFault, NoMemory, Numbers};
@@ -11,6 +14,26 @@ use std::alloc::{AllocError, Global};
 pub struct Plan {
     pub config: Config,
     pub upkeep: Numbers,
+}
+
+/// Why there is no plan.
+#[derive(Clone, Copy, Debug, PartialEq, Eq)]
+pub enum PlanFault {
+    /// A list isn't one of numbers below 2^64 with one comma between two.
+    List,
+    /// The configuration has the fault of this number: 1 for its stripes, 2 sizes, 3 chunks, 4 percents, 5 factors,
+    /// 6 callers, 7 events.
+    Configuration(u8),
+    /// A growth was refused.
+    NoMemory,
+}
+
+impl From<NoMemory> for PlanFault {
+    ghost from_gives = { λ _ e. e ≡ faults.NoMemory };
+
+    fn from(_e: NoMemory) -> PlanFault {
+        PlanFault::NoMemory
+    }
 }
 
 /// What is wrong with the words.
@@ -38,9 +61,13 @@ impl From<Error> for WordsFault {
     }
 }
 
-impl From<NoMemory> for WordsFault {
-    fn from(_e: NoMemory) -> WordsFault {
-        WordsFault::NoMemory
+impl From<PlanFault> for WordsFault {
+    fn from(fault: PlanFault) -> WordsFault {
+        match fault {
+            PlanFault::List => WordsFault::List,
+            PlanFault::Configuration(number) => WordsFault::Configuration(number),
+            PlanFault::NoMemory => WordsFault::NoMemory,
+        }
     }
 }
 
@@ -65,7 +92,9 @@ Example:
   printf 'set a 7 0 5\\r\\nhello\\r\\nget a\\r\\n' | mcseg";
 
 // The number that these digits spell, where it is below 2^64; leading zeros are fine.
-fn number_in(digits: &[u8]) -> Option<u64> {
+fn number_in(digits: &[u8]) -> Option<u64>
+    ensures { result ≡ Rattle.mc_driver.specs.Words.number_in digits.now }
+{
     if digits.is_empty() {
         return None;
     }
@@ -82,49 +111,25 @@ fn number_in(digits: &[u8]) -> Option<u64> {
 }
 
 // The numbers of a list with one comma between two.
-fn list_in(alloc: Global, text: &[u8]) -> Result<Option<Vec<u64>>, NoMemory> {
+fn list_in(alloc: Global, text: &[u8]) -> Result<Option<Vec<u64>>, NoMemory>
+    ensures { IfOk result (λ list. MatchOption list (IsNoList text.now) (λ numbers. IsListOf text.now numbers.items)) }
+{
     let mut numbers = Vec::new(alloc);
-    let mut rest = text;
-    for _ in 0..text.len() {
-        let end = comma_in(rest);
-        let (digits, behind) = rest.split_at(end);
+    for digits in text.split(|byte| *byte == b',') {
         match number_in(digits) {
             Some(number) => numbers.push(number)?,
             None => {
                 return Ok(None);
             }
         }
-        if behind.is_empty() {
-            return Ok(Some(numbers));
-        }
-        rest = behind.split_at(1).1;
     }
-    Ok(None)
-}
-
-// The place of the first comma, or the length where there is none.
-fn comma_in(bytes: &[u8]) -> usize
-    ensures { result ≤ length bytes.now }
-{
-    for (place, byte) in bytes.iter().enumerate() {
-        if *byte == b',' {
-            return place;
-        }
-    }
-    bytes.len()
-}
-
-// As many limits of 1,024 chunks as there are sizes.
-fn limits_of(alloc: Global, classes: usize) -> Result<Vec<u64>, NoMemory> {
-    let mut limits = Vec::new(alloc);
-    for _ in 0..classes {
-        limits.push(1024)?;
-    }
-    Ok(limits)
+    Ok(Some(numbers))
 }
 
 // The fault's number, in the order in which faults are looked at.
-fn number_of(fault: ConfigFault) -> u8 {
+fn number_of(fault: ConfigFault) -> u8
+    ensures { result ≡ fault_number fault }
+{
     match fault {
         ConfigFault::Stripes => 1,
         ConfigFault::Sizes => 2,
@@ -158,37 +163,101 @@ fn command_of<'a>(alloc: Global) -> Result<Command<'a>, AllocError> {
         .arg(events)
 }
 
+// The numbers that an option names, where it is given.
+fn named(alloc: Global, text: Option<&[u8]>) -> Result<Option<Vec<u64>>, PlanFault>
+    ensures ok { IfOk result (λ numbers. AreNamed (option_copied text.entry) (option_map (λ v. v.items) numbers)) }
+    ensures list { result ≡ Err faults.List → NamesNone (option_copied text.entry) }
+    ensures sound { (n : ℕ) → result ≡ Err (faults.Configuration n) → ⊥ }
+{
+    let Some(text) = text else {
+        return Ok(None);
+    };
+    match list_in(alloc, text)? {
+        Some(numbers) => Ok(Some(numbers)),
+        None => Err(PlanFault::List),
+    }
+}
+
+// The configuration with these sizes and 1,024 chunks for each, where sizes are given.
+fn with_sizes(alloc: Global, given: Config, sizes: Option<Vec<u64>>) -> Result<Config, NoMemory>
+    ensures { IfOk result (λ config. config ≡ Rattle.mc_driver.specs.Words.with_sizes (option_map (λ v. v.items) sizes) given) }
+{
+    let Some(sizes) = sizes else {
+        return Ok(given);
+    };
+    let mut config = given;
+    config.chunks = Numbers::from_vec(vec![in alloc; 1024; sizes.len()]?);
+    config.sizes = Numbers::from_vec(sizes);
+    Ok(config)
+}
+
+// The configuration with this limit of events, where one is given.
+fn with_events(given: Config, events: Option<u64>) -> Config
+    ensures { result ≡ Rattle.mc_driver.specs.Words.with_events events given }
+{
+    let Some(events) = events else {
+        return given;
+    };
+    let mut config = given;
+    config.max_events = events;
+    config
+}
+
+// The configuration that is asked for.
+fn config_of(
+    alloc: Global,
+    sizes: Option<Vec<u64>>,
+    events: Option<u64>,
+) -> Result<Config, NoMemory>
+    ensures { IfOk result (λ config. config ≡ asked (option_map (λ v. v.items) sizes) events) }
+{
+    let config = with_sizes(alloc, Config::usual(alloc, 3)?, sizes)?;
+    Ok(with_events(config, events))
+}
+
 // The plan of a configuration, where it is sound.
-fn plan_of(alloc: Global, config: Config) -> Result<Plan, WordsFault>
+fn plan_of(alloc: Global, config: Config) -> Result<Plan, PlanFault>
     ensures config { IfOk result (λ plan. (plan.config ≡ config) × (fault_of config ≡ None)) }
     ensures upkeep { IfOk result (λ plan. plan.upkeep ≡ []) }
+    ensures list { result ≡ Err faults.List → ⊥ }
+    ensures fault { (n : ℕ) → result ≡ Err (faults.Configuration n) → IsFault n config }
 {
     match config.check() {
         Ok(config) => Ok(Plan {
             config,
             upkeep: Numbers::from_vec(Vec::new(alloc)),
         }),
-        Err(fault) => Err(WordsFault::Configuration(number_of(fault))),
+        Err(fault) => Err(PlanFault::Configuration(number_of(fault))),
     }
+}
+
+/// The plan of two options, each of which may be absent: the usual configuration of one stripe and 3 callers, and no
+/// upkeep. `sizes` is the text of the slab classes' sizes in bytes, as "96,1024": decimal numbers with one comma
+/// between two and nothing else, instead of the usual 43; each class has 1,024 chunks. `events` is how many events a
+/// history may hold, instead of 1,048,576.
+///
+/// The error is `List` where the text is no such list, whatever `events` is; else `Configuration` where the sizes or
+/// the limit of events are out of their range; and `NoMemory` where a growth was refused.
+pub fn plan_for(alloc: Global, sizes: Option<&[u8]>, events: Option<u64>) -> Result<Plan, PlanFault>
+    ensures ok { IfOk result (λ plan. (numbers : Option (List ℕ)) × AreNamed (option_copied sizes.entry) numbers × (plan.config ≡ asked numbers events) × (fault_of plan.config ≡ None) × (plan.upkeep ≡ [])) }
+    ensures list { result ≡ Err faults.List → NamesNone (option_copied sizes.entry) }
+    ensures configuration { (n : ℕ) → result ≡ Err (faults.Configuration n)
+        → (numbers : Option (List ℕ)) × AreNamed (option_copied sizes.entry) numbers × IsFault n (asked numbers events) }
+{
+    let numbers = named(alloc, sizes)?;
+    let config = config_of(alloc, numbers, events)?;
+    plan_of(alloc, config)
 }
 
 /// The plan that the words ask for, of which the first is the program's name: the usual configuration with the sizes
 /// and the limit of events that they name. A bad list comes before a bad configuration.
 pub fn read_words(alloc: Global, words: &[&str]) -> Result<Plan, WordsFault>
     ensures config { IfOk result (λ plan. fault_of plan.config ≡ None) }
+    ensures asked { IfOk result (λ plan. (sizes : Option (List ℕ)) × (events : Option ℕ) × (plan.config ≡ asked sizes events)) }
     ensures upkeep { IfOk result (λ plan. plan.upkeep ≡ []) }
 {
     let matches = command_of(alloc)?.try_get_matches_from(words)?;
-    let mut config = Config::usual(alloc, 3)?;
-    if let Some(text) = matches.get_str("sizes") {
-        let Some(sizes) = list_in(alloc, text.as_bytes())? else {
-            return Err(WordsFault::List);
-        };
-        config.chunks = Numbers::from_vec(limits_of(alloc, sizes.len())?);
-        config.sizes = Numbers::from_vec(sizes);
-    }
-    if let Some(events) = matches.get_one::<u64>("events") {
-        config.max_events = events;
-    }
-    plan_of(alloc, config)
+    let sizes = matches.get_str("sizes").map(|text| text.as_bytes());
+    let events = matches.get_one::<u64>("events");
+    Ok(plan_for(alloc, sizes, events)?)
 }
