@@ -1,13 +1,9 @@
 -- A session: a caller's turns at one stripe, which is the only one.
 use Rattle.std.specs.Prelude.{ℕ, ◌≡◌, ◌≤◌, ◌^◌, List, ◌++◌, ◌+◌, length, take}
 use Rattle.mc_item.specs.Stripe.{IsUnnamed}
-use Rattle.mc_item.specs.declared.answer.Need.{Need}
-use Rattle.mc_item.specs.declared.answer.Need.TheVariants as needs
 use Rattle.mc_item.specs.declared.item.Link.{Link}
 use Rattle.mc_item.specs.declared.reply.Reply.{Reply}
 use Rattle.mc_proto.specs.Text.{text_of}
-use Rattle.mc_item.specs.declared.reply.Room.{Room}
-use Rattle.mc_item.specs.declared.reply.Room.TheVariants as rooms
 use Rattle.mc_item.specs.declared.stripe_event.StripeEvent.{StripeEvent}
 use Rattle.mc_driver.specs.Script.{Told, told_in, calls_of, request_told, moment_after}
 use Rattle.mc_proto.specs.declared.request.Request.{Request}
@@ -17,13 +13,6 @@ use Rattle.mc_stripe.specs.StripeState.{Stripe}
 -- each link that the history gave has a number below this
 abbrev pub IsNamedBelow : ℕ → List StripeEvent → Type 0
 IsNamedBelow next history = (link : Link) → next ≤ link.number → IsUnnamed link history
-
--- the room for a need: where a chunk is needed, the link of this number in its class (nothing is ever full yet)
-abbrev pub room_for : Need → ℕ → Room
-room_for (needs.Fresh class) number = rooms.At (record { class = class; number = number })
-room_for needs.Nothing number = rooms.Keep
-room_for needs.Same number = rooms.Keep
-room_for needs.TooLarge number = rooms.Keep
 
 -- a call may be made: there is one stripe, links of this number and later ones are new, and no count is too large
 pub record IsReadyAt (stripe : Stripe) (turn moment next : ℕ) : Type 0 where

@@ -10,7 +10,7 @@ ghost use Rattle.mc_proto.specs.Text.{end_text, fault_text, one_text, reply_text
 use crate::session::Session;
 use mc_item::{Command, Fault, Key, NoMemory, Reply};
 use mc_proto::{
-    LineFault, Request, push_end, push_fault, push_reply, push_value_head, push_value_tail,
+    Keys, LineFault, Request, push_end, push_fault, push_reply, push_value_head, push_value_tail,
 };
 
 // One key of a get, with its value's text, where there is one.
@@ -41,8 +41,8 @@ fn answer_key(
     Ok(())
 }
 
-// A get: each key in order, and the end of its text.
-fn answer_get(
+// A get of a list of keys: each in order, and the end of its text.
+fn answer_keys(
     session: &mut Session,
     text: &mut Vec<u8>,
     keys: Vec<Key>,
@@ -62,6 +62,49 @@ fn answer_get(
     }
     push_end(text)?;
     Ok(())
+}
+
+// A get of one key, and the end of its text.
+fn answer_lone_key(
+    session: &mut Session,
+    text: &mut Vec<u8>,
+    key: Key,
+    with_cas: bool,
+) -> Result<(), Fault>
+    requires { IsReady session.old }
+    ensures ready { IsReady session.new }
+    ensures same { KeepsPlace session.old session.new × (session.new.moment ≡ session.old.moment) }
+    ensures ok { OnOk result ((replies : List Reply) × (length replies ≡ 1) × (text.new.items ≡ text.old.items ++ (values_text with_cas (key ∷ []) replies ++ end_text))
+        × Tells session.old session.new (keys_told session.old.caller session.old.turn session.old.moment (key ∷ []) replies) × (session.new.turn ≡ session.old.turn + 1)) }
+    ensures err { OnErr result (TellsMore session.old session.new) }
+    ensures front { Begins text.old.items text.new.items }
+    ensures full { IsErrOf result faults.HistoryFull → session.new.stripe.limit ≤ length session.new.stripe.history }
+{
+    answer_key(session, text, key, with_cas)?;
+    push_end(text)?;
+    Ok(())
+}
+
+// A get, of one key or of a list.
+fn answer_get(
+    session: &mut Session,
+    text: &mut Vec<u8>,
+    keys: Keys,
+    with_cas: bool,
+) -> Result<(), Fault>
+    requires { IsReady session.old }
+    ensures ready { IsReady session.new }
+    ensures same { KeepsPlace session.old session.new × (session.new.moment ≡ session.old.moment) }
+    ensures ok { OnOk result ((replies : List Reply) × (length replies ≡ length keys) × (text.new.items ≡ text.old.items ++ (values_text with_cas keys replies ++ end_text))
+        × Tells session.old session.new (keys_told session.old.caller session.old.turn session.old.moment keys replies) × (session.new.turn ≡ session.old.turn + length keys)) }
+    ensures err { OnErr result (TellsMore session.old session.new) }
+    ensures front { Begins text.old.items text.new.items }
+    ensures full { IsErrOf result faults.HistoryFull → session.new.stripe.limit ≤ length session.new.stripe.history }
+{
+    match keys.into_one() {
+        Ok(key) => answer_lone_key(session, text, key, with_cas),
+        Err(keys) => answer_keys(session, text, keys, with_cas),
+    }
 }
 
 // A reply's text, unless it is quiet.
@@ -108,7 +151,7 @@ fn answer_whole(session: &mut Session, text: &mut Vec<u8>, request: Request) -> 
     ensures full { IsErrOf result faults.HistoryFull → session.new.stripe.limit ≤ length session.new.stripe.history }
 {
     match request {
-        Request::Get { keys, with_cas } => answer_get(session, text, keys.into_vec(), with_cas),
+        Request::Get { keys, with_cas } => answer_get(session, text, keys, with_cas),
         Request::One { command, quiet } => answer_one(session, text, command, quiet),
         Request::Bad { why, quiet } => refuse(text, why, quiet),
         Request::At(moment) => {

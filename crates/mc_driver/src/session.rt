@@ -1,6 +1,5 @@
 //! A caller's turns at one stripe.
-ghost use Rattle.std.specs.Prelude.{Some, IsSome, ◌≡◌, ◌≤◌, ◌<◌, ◌+◌, ◌++◌, ◌∷◌, [], IfOk, OnErr, OnOk, IsErrOf, MatchOption, length};
-ghost use Rattle.mc_item.specs.Answer.{row_of};
+ghost use Rattle.std.specs.Prelude.{Some, IsSome, ◌≡◌, ◌≤◌, ◌<◌, ◌+◌, ◌++◌, ◌∷◌, [], OnErr, OnOk, IsErrOf, length};
 ghost use Rattle.mc_item.specs.Stripe.{IsAlive, IsDead};
 ghost use Rattle.mc_item.specs.Command.{key_of};
 ghost use Rattle.mc_item.specs.declared.fault.Fault.TheVariants as faults;
@@ -10,7 +9,7 @@ ghost use Rattle.mc_driver.specs.Session.{IsReady, KeepsPlace, NamesNoMore, Tell
 ghost use Rattle.mc_stripe.specs.StripeState.{cache_now, last_reply};
 ghost use Rattle.mc_stripe.specs.StripeCalls.{KeepsSite};
 
-use mc_item::{Command, Fault, Key, Link, Need, Reply, Room, Who};
+use mc_item::{Command, Fault, Key, Reply, Who};
 use mc_stripe::StripeState;
 use std::alloc::Global;
 
@@ -23,35 +22,6 @@ pub struct Session {
     pub turn: u64,
     pub moment: u64,
     pub next: u64,
-}
-
-// The room for a need: where a chunk is needed, the link of this number in its class. Nothing is ever full yet.
-fn room_for(need: Need, number: u64) -> Room
-    ensures { result ≡ Rattle.mc_driver.specs.Session.room_for need number }
-{
-    match need {
-        Need::Fresh(class) => Room::At(Link { class, number }),
-        Need::Nothing => Room::Keep,
-        Need::Same => Room::Keep,
-        Need::TooLarge => Room::Keep,
-    }
-}
-
-// What a command needs, where its key's item isn't dead at a moment; the key is looked up once for both.
-fn need_if_alive(stripe: &StripeState, command: &Command, moment: u64) -> Option<Need>
-    ensures { MatchOption result (IsDead ((cache_now stripe.now).items (key_of command.now)) moment) (λ need. IsAlive ((cache_now stripe.now).items (key_of command.now)) moment
-        × (need ≡ (row_of stripe.now.site (cache_now stripe.now).versions ((cache_now stripe.now).items (key_of command.now)) command.now moment).need)) }
-{
-    let found = stripe.find(command.key());
-    match found {
-        Some(item) => {
-            if item.dead(moment) {
-                return None;
-            }
-        }
-        None => {}
-    }
-    Some(stripe.need_of(found, command, moment))
 }
 
 // The dead item of a key goes.
@@ -71,27 +41,6 @@ fn forget(
     let name = key.copy(alloc)?;
     stripe.forget_expired(who, name, moment)?;
     Ok(())
-}
-
-// What a command needs; its key's item goes first, where it is dead.
-fn need_after(
-    alloc: Global,
-    stripe: &mut StripeState,
-    who: Who,
-    command: &Command,
-    moment: u64,
-) -> Result<Need, Fault>
-    ensures site { KeepsSite stripe.old stripe.new }
-    ensures more { NamesNoMore stripe.old.history stripe.new.history }
-    ensures alive { OnOk result (IsAlive ((cache_now stripe.new).items (key_of command.now)) moment) }
-    ensures need { IfOk result (λ need. need ≡ (row_of stripe.new.site (cache_now stripe.new).versions ((cache_now stripe.new).items (key_of command.now)) command.now moment).need) }
-    ensures full { IsErrOf result faults.HistoryFull → stripe.new.limit ≤ length stripe.new.history }
-{
-    if let Some(need) = need_if_alive(stripe, command, moment) {
-        return Ok(need);
-    }
-    forget(alloc, stripe, who, command.key(), moment)?;
-    Ok(stripe.need(command, moment))
 }
 
 impl Session {
@@ -125,15 +74,20 @@ impl Session {
         ensures full { IsErrOf result faults.HistoryFull → self.new.stripe.limit ≤ length self.new.stripe.history }
     {
         let who = self.who();
-        let need = need_after(self.alloc, &mut self.stripe, who, &command, self.moment)?;
-        self.answer(command, need)
+        match self.stripe.answer(who, command, self.moment, self.next)? {
+            None => {
+                self.next += 1;
+                self.turn += 1;
+                Ok(())
+            }
+            Some(command) => self.answer_anew(command),
+        }
     }
 
-    // Answers a command whose key's item isn't dead.
-    fn answer(&mut self, command: Command, need: Need) -> Result<(), Fault>
+    // Makes a call whose key's item is dead: that goes first.
+    fn answer_anew(&mut self, command: Command) -> Result<(), Fault>
         requires ready { IsReady self.old }
-        requires alive { IsAlive ((cache_now self.old.stripe).items (key_of command)) self.old.moment }
-        requires need { need ≡ (row_of self.old.stripe.site (cache_now self.old.stripe).versions ((cache_now self.old.stripe).items (key_of command)) command self.old.moment).need }
+        requires dead { IsDead ((cache_now self.old.stripe).items (key_of command)) self.old.moment }
         ensures ready { IsReady self.new }
         ensures same { KeepsPlace self.old self.new × (self.new.moment ≡ self.old.moment) }
         ensures turn { OnOk result (self.new.turn ≡ self.old.turn + 1) }
@@ -142,8 +96,12 @@ impl Session {
         ensures full { IsErrOf result faults.HistoryFull → self.new.stripe.limit ≤ length self.new.stripe.history }
     {
         let who = self.who();
-        let room = room_for(need, self.next);
-        self.stripe.answer(who, command, self.moment, room)?;
+        let moment = self.moment;
+        forget(self.alloc, &mut self.stripe, who, command.key(), moment)?;
+        match self.stripe.answer(who, command, moment, self.next)? {
+            None => {}
+            Some(_) => unreachable!(),
+        }
         self.next += 1;
         self.turn += 1;
         Ok(())

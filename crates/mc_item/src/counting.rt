@@ -54,11 +54,11 @@ fn digits_len(number: u64) -> usize
 {
     let mut rest = number;
     let mut len = 1;
-    while rest >= 10 {
-        rest /= 10;
-        len += 1;
+    while rest >= 100 {
+        rest = rest / 10 / 10;
+        len += 2;
     }
-    len
+    if rest >= 10 { len + 1 } else { len }
 }
 
 // The digits of a number, and spaces up to a length.

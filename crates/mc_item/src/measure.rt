@@ -81,8 +81,21 @@ fn digits_end(bytes: &[u8]) -> usize
         .count()
 }
 
+// The number that at most 19 digits spell.
+fn short_number_of(digits: &[u8]) -> u64
+    requires few { length digits.now ≤ 19 }
+    requires digits { All (λ byte. IsTrue (measure.is_digit byte)) digits.now }
+    ensures { result ≡ measure.number_of digits.now }
+{
+    let mut number: u64 = 0;
+    for digit in digits {
+        number = 10 * number + u64::from(*digit - b'0');
+    }
+    number
+}
+
 // The number that at most 20 digits spell.
-fn number_of(digits: &[u8]) -> u128
+fn long_number_of(digits: &[u8]) -> u128
     requires few { length digits.now ≤ 20 }
     requires digits { All (λ byte. IsTrue (measure.is_digit byte)) digits.now }
     ensures { result ≡ measure.number_of digits.now }
@@ -92,6 +105,19 @@ fn number_of(digits: &[u8]) -> u128
         number = 10 * number + u128::from(*digit - b'0');
     }
     number
+}
+
+// The number that at most 20 digits spell; only the longest need 128 bits on the way.
+fn number_of(digits: &[u8]) -> u128
+    requires few { length digits.now ≤ 20 }
+    requires digits { All (λ byte. IsTrue (measure.is_digit byte)) digits.now }
+    ensures { result ≡ measure.number_of digits.now }
+{
+    if digits.len() < 20 {
+        u128::from(short_number_of(digits))
+    } else {
+        long_number_of(digits)
+    }
 }
 
 /// The number that a value is: 1 to 20 digits of a number below 2^64, then any number of spaces (own).

@@ -3,51 +3,88 @@ ghost use Rattle.std.specs.Prelude.{◌≡◌, IfOk};
 
 use crate::fault::NoMemory;
 use std::alloc::Global;
+use std::fmt::{self, Debug, Formatter, Write};
 use std::marker::Model;
+use std::sync::Arc;
 
-/// The bytes of an item's value. Contracts see it as a list. It is made from a `Vec` and gives it back without memory.
+/// So many bytes are copied with a value; more are shared by its copies.
+const COPIED: usize = 64;
+
+/// Where a value's bytes are.
+#[derive(Drop)]
+pub(crate) enum Held {
+    /// Here alone: a copy of the value has bytes of its own.
+    Alone(Vec<u8>),
+    /// Where all copies of the value have them.
+    Shared(Arc<Vec<u8>>),
+}
+
+// Shown as its bytes, wherever they are.
+impl Debug for Held {
+    fn fmt<W: Write>(&self, f: &mut Formatter<W>) -> Result<(), fmt::Error> {
+        match self {
+            Held::Alone(bytes) => bytes.fmt(f),
+            Held::Shared(bytes) => bytes.as_slice().fmt(f),
+        }
+    }
+}
+
+/// The bytes of an item's value. Contracts see it as a list. It is made from a `Vec` without a copy.
 #[derive(Debug, Drop)]
 pub struct Value {
-    bytes: Vec<u8>,
+    bytes: Held,
 }
 
 impl Model for Value {
     ghost use Rattle.std.specs.Prelude.{List, ℕ};
+    ghost use Rattle.mc_item.specs.Value.{held_bytes};
 
     ghost Value = { List ℕ };
 
-    ghost view = { λ v. v.bytes.items };
+    ghost view = { λ v. held_bytes v.bytes };
 }
 
 impl Value {
-    /// The value of these bytes.
+    /// The value of these bytes. It takes no memory, and each copy copies the bytes.
     pub fn from_vec(bytes: Vec<u8>) -> Value
         ensures { result ≡ bytes.items }
     {
-        Value { bytes }
+        Value {
+            bytes: Held::Alone(bytes),
+        }
     }
 
-    /// The bytes back.
-    pub fn into_vec(self) -> Vec<u8>
-        ensures { result.items ≡ self }
+    /// The value of these bytes, which its copies share where they are more than 64.
+    pub fn sharing(alloc: Global, bytes: Vec<u8>) -> Result<Value, NoMemory>
+        ensures { IfOk result (λ value. value ≡ bytes.items) }
     {
-        let Value { bytes } = self;
-        bytes
+        if bytes.len() <= COPIED {
+            return Ok(Value::from_vec(bytes));
+        }
+        Ok(Value {
+            bytes: Held::Shared(Arc::new(alloc, bytes)?),
+        })
     }
 
     /// The bytes.
     pub fn bytes(&self) -> &[u8]
         ensures { result.now ≡ self.now }
     {
-        self.bytes.as_slice()
+        match &self.bytes {
+            Held::Alone(bytes) => bytes.as_slice(),
+            Held::Shared(bytes) => bytes.as_slice(),
+        }
     }
 
     /// An equal value.
     pub fn copy(&self, alloc: Global) -> Result<Value, NoMemory>
         ensures { IfOk result (λ value. value ≡ self.now) }
     {
-        Ok(Value {
-            bytes: Vec::from_slice(alloc, self.bytes.as_slice())?,
-        })
+        match &self.bytes {
+            Held::Alone(bytes) => Ok(Value::from_vec(Vec::from_slice(alloc, bytes.as_slice())?)),
+            Held::Shared(bytes) => Ok(Value {
+                bytes: Held::Shared(Arc::try_clone(bytes)?),
+            }),
+        }
     }
 }

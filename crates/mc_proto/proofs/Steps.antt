@@ -16,7 +16,7 @@ use Rattle.mc_item.specs.declared.command.Command.TheVariants as commands
 use Rattle.mc_proto.specs.declared.state.Said.{Said}
 use Rattle.mc_proto.specs.declared.state.Said.TheVariants as said
 use Rattle.mc_proto.specs.declared.state.State.{State}
-use Rattle.mc_proto.specs.declared.state.State.TheVariants.{Line, Block, Skip, Closed, Failed}
+use Rattle.mc_proto.specs.declared.state.State.TheVariants.{Line, Block, Skip, Closed}
 use Rattle.mc_proto.proofs.Cuts.{lacks_both, lacks_front}
 
 spelt_on : (limits : Limits) (stream : List ℕ) (rs : List Request) (rest p : List ℕ) → Spelt limits stream rs rest → Spelt limits (stream ++ p) rs (rest ++ p)
@@ -44,10 +44,9 @@ closed_push (q ∷ rs) r b c is =
 
 -- no request more
 pub goes : (limits : Limits) (state next : State) (u v stream p : List ℕ) (rs : List Request) → (a : After limits state u stream rs) → Stands limits next v (a.rest ++ p) → is_closed state ≡ is_closed next
-    → After limits next v (stream ++ p) (rs ++ [])
+    → After limits next v (stream ++ p) rs
 goes limits state next u v stream p rs a st cl =
-    subst (λ (ts : List Request). After limits next v (stream ++ p) ts) (sym (append-nil rs))
-    (record { rest = a.rest ++ p; spelt = spelt_on limits stream rs a.rest p a.spelt; stands = st; closed_is = a.closed_is ∙ cl })
+    record { rest = a.rest ++ p; spelt = spelt_on limits stream rs a.rest p a.spelt; stands = st; closed_is = a.closed_is ∙ cl }
 
 -- one request more
 pub answers : (limits : Limits) (state next : State) (u v stream p : List ℕ) (rs : List Request) (r : Request) (bytes more : List ℕ) → (a : After limits state u stream rs) → is_closed state ≡ false
@@ -59,6 +58,11 @@ answers limits state next u v stream p rs r bytes more a op is sp st cl =
       stands = st;
       closed_is = closed_push rs r (is_closed next) (a.closed_is ∙ op) cl;
     }
+
+-- requests more, behind those of a `Vec`
+pub behind : (limits : Limits) (next : State) (v stream : List ℕ) (before old add new : List Request) → new ≡ old ++ add → After limits next v stream ((before ++ old) ++ add) → After limits next v stream (before ++ new)
+behind limits next v stream before old add new is a =
+    subst (λ (ts : List Request). After limits next v stream ts) (append_assoc before old add ∙ ap (λ (ts : List Request). before ++ ts) (sym is)) a
 
 lacks_take : (b n : ℕ) (xs : List ℕ) → Lacks b xs → Lacks b (take n xs)
 lacks_take b n xs l = lacks_front b (take n xs) (drop n xs) (subst (Lacks b) (sym (take-append-drop n xs)) l)
@@ -79,7 +83,7 @@ too_long limits u v stream piece rs end a le lack long =
     tt refl)
 
 pub line_more : (limits : Limits) (u stream piece : List ℕ) (rs : List Request) (end : ℕ) → After limits Line u stream rs → end ≤ length piece → Lacks 10 (take end piece) → length u + end ≤ 65536
-    → After limits Line (u ++ take end piece) (stream ++ take end piece) (rs ++ [])
+    → After limits Line (u ++ take end piece) (stream ++ take end piece) rs
 line_more limits u stream piece rs end a le lack short =
     goes limits Line Line u (u ++ take end piece) stream (take end piece) rs a
     (ap (λ (t : List ℕ). t ++ take end piece) a.stands.0, lacks_both 10 u (take end piece) a.stands.1 lack, omega (arith, length-append u (take end piece), length-take-le end piece le)) refl
@@ -104,13 +108,13 @@ line_asks limits next u stream piece rs end r a l lf lack short is st fine =
     st fine
 
 pub line_blocks : (limits : Limits) (u stream piece : List ℕ) (rs : List Request) (end : ℕ) (s : Start) → After limits Line u stream rs → end < length piece → get_or piece end 0 ≡ 10 → Lacks 10 (take end piece) → length u + end ≤ 65536
-    → said.Block s ≡ says limits (u ++ take end piece) → After limits (Block s []) [] (stream ++ take (end + 1) piece) (rs ++ [])
+    → said.Block s ≡ says limits (u ++ take end piece) → After limits (Block s []) [] (stream ++ take (end + 1) piece) rs
 line_blocks limits u stream piece rs end s a l lf lack short is =
     goes limits Line (Block s []) u [] stream (take (end + 1) piece) rs a
     (u ++ take end piece, line_whole a.rest u piece end a.stands.0 l lf, is_line u piece end a.stands.1 l lack short, sym is, omega arith) refl
 
 pub line_skips : (limits : Limits) (u stream piece : List ℕ) (rs : List Request) (end : ℕ) (s : Start) → After limits Line u stream rs → end < length piece → get_or piece end 0 ≡ 10 → Lacks 10 (take end piece) → length u + end ≤ 65536
-    → said.Skip s ≡ says limits (u ++ take end piece) → After limits (Skip s (s.count + 2)) [] (stream ++ take (end + 1) piece) (rs ++ [])
+    → said.Skip s ≡ says limits (u ++ take end piece) → After limits (Skip s (s.count + 2)) [] (stream ++ take (end + 1) piece) rs
 line_skips limits u stream piece rs end s a l lf lack short is =
     goes limits Line (Skip s (s.count + 2)) u [] stream (take (end + 1) piece) rs a
     (u ++ take end piece, [], line_whole a.rest u piece end a.stands.0 l lf, is_line u piece end a.stands.1 l lack short, sym is, omega arith, omega arith) refl
@@ -119,14 +123,14 @@ line_skips limits u stream piece rs end s a l lf lack short is =
 pub line_done : (limits : Limits) (u v stream piece : List ℕ) (rs : List Request) (end : ℕ) (x : Said) → After limits Line u stream rs → end < length piece → get_or piece end 0 ≡ 10 → Lacks 10 (take end piece) → length u + end ≤ 65536
     → x ≡ says limits (u ++ take end piece) → IsFine x → v ≡ [] → After limits (state_after x) v (stream ++ take (end + 1) piece) (rs ++ option_to_list (request_after x))
 line_done limits u v stream piece rs end (said.Whole r) a l lf lack short is fine none = rw none (line_asks limits Line u stream piece rs end r a l lf lack short is (refl, tt, omega arith) fine.0)
-line_done limits u v stream piece rs end (said.Block s) a l lf lack short is fine none = rw none (line_blocks limits u stream piece rs end s a l lf lack short is)
-line_done limits u v stream piece rs end (said.Skip s) a l lf lack short is fine none = rw none (line_skips limits u stream piece rs end s a l lf lack short is)
+line_done limits u v stream piece rs end (said.Block s) a l lf lack short is fine none = rw (none, append-nil rs) (line_blocks limits u stream piece rs end s a l lf lack short is)
+line_done limits u v stream piece rs end (said.Skip s) a l lf lack short is fine none = rw (none, append-nil rs) (line_skips limits u stream piece rs end s a l lf lack short is)
 
 with_more : (rest line tail p : List ℕ) → rest ≡ line ++ 10 ∷ tail → rest ++ p ≡ line ++ 10 ∷ (tail ++ p)
 with_more rest line tail p is = ap (λ (t : List ℕ). t ++ p) is ∙ append_assoc line (10 ∷ tail) p
 
 pub block_more : (limits : Limits) (u v block stream piece : List ℕ) (rs : List Request) (s : Start) → After limits (Block s block) u stream rs → length block + length piece < s.count + 2
-    → After limits (Block s (block ++ piece)) v (stream ++ take (length piece) piece) (rs ++ [])
+    → After limits (Block s (block ++ piece)) v (stream ++ take (length piece) piece) rs
 block_more limits u v block stream piece rs s a l =
     let st = a.stands in
     rw (take_all (length piece) piece (omega arith))
@@ -153,7 +157,7 @@ block_done limits u v block stream piece rs s n a le long none =
     (refl, tt, omega arith) (stored_open s (block ++ take n piece) (pointwise nat_eq (drop s.count (block ++ take n piece)) (13 ∷ 10 ∷ []))))
 
 pub skip_more : (limits : Limits) (u v stream piece : List ℕ) (rs : List Request) (s : Start) (left now : ℕ) → After limits (Skip s left) u stream rs → length piece + now ≡ left → 0 < now
-    → After limits (Skip s now) v (stream ++ take (length piece) piece) (rs ++ [])
+    → After limits (Skip s now) v (stream ++ take (length piece) piece) rs
 skip_more limits u v stream piece rs s left now a l z =
     let st = a.stands in
     rw (take_all (length piece) piece (omega arith))
@@ -175,36 +179,27 @@ skip_done limits u v stream piece rs s left a le none =
     }))
     (refl, tt, omega arith) refl)
 
-pub stays_closed : (limits : Limits) (u v stream piece : List ℕ) (rs : List Request) → After limits Closed u stream rs → After limits Closed v (stream ++ take (length piece) piece) (rs ++ [])
-stays_closed limits u v stream piece rs a = goes limits Closed Closed u v stream (take (length piece) piece) rs a tt refl
+pub stays_closed : (limits : Limits) (state : State) (u v stream p : List ℕ) (rs : List Request) → state ≡ Closed → After limits state u stream rs → After limits state v (stream ++ p) rs
+stays_closed limits state u v stream p rs is a =
+    goes limits state state u v stream p rs a (subst (λ (k : State). Stands limits k v (a.rest ++ p)) (sym is) tt) refl
 
--- a closed reader, as its contract sees it, reads a piece
-pub closed_reads : (now : Kept) (limits : Limits) (state next : State) (u stream piece : List ℕ) (rs items : List Request) → kept limits state u ≡ now → Closed ≡ state → next ≡ Closed → items ≡ []
-    → After now.limits now.state now.unread stream rs → After limits next u (stream ++ piece) (rs ++ items)
-closed_reads now limits state next u stream piece rs items view is is_next none a =
-    let inside : After limits state u stream rs = subst (λ (k : Kept). After k.limits k.state k.unread stream rs) (sym view) a in
-    let shut : After limits Closed u stream rs = subst (λ (k : State). After limits k u stream rs) (sym is) inside in
-    rw (is_next, none) (goes limits Closed Closed u u stream piece rs shut tt refl)
+-- a closed reader, as its contract sees it
+pub seen_closed : (now : Kept) (limits : Limits) (state : State) (u : List ℕ) → kept limits state u ≡ now → state ≡ Closed → now.state ≡ Closed
+seen_closed now limits state u view is = ap (λ (k : Kept). k.state) (sym view) ∙ is
 
-pub closed_stays : (now : Kept) (limits : Limits) (state next : State) (u : List ℕ) → kept limits state u ≡ now → Closed ≡ state → next ≡ Closed → kept limits next u ≡ now
-closed_stays now limits state next u view is is_next = ap (λ (k : State). kept limits k u) (is_next ∙ is) ∙ view
-
-pub closed_or_failed : (now : Kept) (limits : Limits) (state : State) (u : List ℕ) → kept limits state u ≡ now → Closed ≡ state → now.state ≡ Failed → ⊥
-closed_or_failed now limits state u view is failed =
-    let shut : now.state ≡ Closed = ap (λ (k : Kept). k.state) (sym view) ∙ sym is in
-    cc
+-- it reads a piece
+pub closed_reads : (now : Kept) (stream piece : List ℕ) (rs items : List Request) → now.state ≡ Closed → items ≡ [] → After now.limits now.state now.unread stream rs
+    → After now.limits now.state now.unread (stream ++ piece) (rs ++ items)
+closed_reads now stream piece rs items is none a = rw (none, append-nil rs) (stays_closed now.limits now.state now.unread now.unread stream piece rs is a)
 
 -- a piece read so far, and one part more
-pub part_more : (limits : Limits) (first now next : State) (u v w piece front rest cut left : List ℕ) (old add new : List Request)
-    → piece ≡ front ++ rest → rest ≡ cut ++ left → new ≡ old ++ add
+pub part_more : (limits : Limits) (first now next : State) (u v w piece front rest cut left : List ℕ) (old new : List Request)
+    → piece ≡ front ++ rest → rest ≡ cut ++ left
     → ((s : List ℕ) (rs : List Request) → After limits first u s rs → After limits now v (s ++ front) (rs ++ old))
-    → ((s : List ℕ) (rs : List Request) → After limits now v s rs → After limits next w (s ++ cut) (rs ++ add))
+    → ((s : List ℕ) (rs : List Request) → After limits now v s (rs ++ old) → After limits next w (s ++ cut) (rs ++ new))
     → (x : List ℕ) × (piece ≡ x ++ left) × ((s : List ℕ) (rs : List Request) → After limits first u s rs → After limits next w (s ++ x) (rs ++ new))
-part_more limits first now next u v w piece front rest cut left old add new whole more grown before step = (
+part_more limits first now next u v w piece front rest cut left old new whole more before step = (
   front ++ cut,
   whole ∙ ap (λ (t : List ℕ). front ++ t) more ∙ sym (append_assoc front cut left),
-  λ s rs a.
-      subst (λ (t : List ℕ). After limits next w t (rs ++ new)) (append_assoc s front cut)
-      (subst (λ (ts : List Request). After limits next w ((s ++ front) ++ cut) ts) (append_assoc rs old add ∙ ap (λ (ts : List Request). rs ++ ts) (sym grown))
-      (step (s ++ front) (rs ++ old) (before s rs a))),
+  λ s rs a. subst (λ (t : List ℕ). After limits next w t (rs ++ new)) (append_assoc s front cut) (step (s ++ front) rs (before s rs a)),
 )

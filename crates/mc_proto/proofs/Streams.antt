@@ -32,14 +32,14 @@ lf_request limits u stream rs r false a is stays =
 lf_step : (limits : Limits) (u stream : List ℕ) (rs : List Request) (x : Said) → After limits Line u stream rs → x ≡ says limits u → Somewhere limits (stream ++ 10 ∷ [])
 lf_step limits u stream rs (said.Whole r) a is = lf_request limits u stream rs r (closes r) a is refl
 lf_step limits u stream rs (said.Block s) a is =
-    (Block s [], [], rs ++ [], line_blocks limits u stream (10 ∷ []) rs 0 s a (omega arith) refl tt (omega (arith, a.stands.2)) (is ∙ ap (says limits) (sym (append-nil u))))
+    (Block s [], [], rs, line_blocks limits u stream (10 ∷ []) rs 0 s a (omega arith) refl tt (omega (arith, a.stands.2)) (is ∙ ap (says limits) (sym (append-nil u))))
 lf_step limits u stream rs (said.Skip s) a is =
-    (Skip s (s.count + 2), [], rs ++ [], line_skips limits u stream (10 ∷ []) rs 0 s a (omega arith) refl tt (omega (arith, a.stands.2)) (is ∙ ap (says limits) (sym (append-nil u))))
+    (Skip s (s.count + 2), [], rs, line_skips limits u stream (10 ∷ []) rs 0 s a (omega arith) refl tt (omega (arith, a.stands.2)) (is ∙ ap (says limits) (sym (append-nil u))))
 
 -- another byte of a line
 line_byte : (limits : Limits) (u stream : List ℕ) (rs : List Request) (b : ℕ) → After limits Line u stream rs → (b ≡ 10 → ⊥) → (length u < 65536) ⊎ (65536 ≤ length u) → Somewhere limits (stream ++ b ∷ [])
 line_byte limits u stream rs b a no_lf (inl l) =
-    (Line, u ++ b ∷ [], rs ++ [], line_more limits u stream (b ∷ []) rs 1 a (omega arith) (no_lf, tt) (omega arith))
+    (Line, u ++ b ∷ [], rs, line_more limits u stream (b ∷ []) rs 1 a (omega arith) (no_lf, tt) (omega arith))
 line_byte limits u stream rs b a no_lf (inr l) =
     (Closed, [], rs ++ Bad LineTooLong false ∷ [], too_long limits u [] stream (b ∷ []) rs 1 a (omega arith) (no_lf, tt) (omega arith))
 
@@ -50,13 +50,13 @@ line_step limits u stream rs b false is a = line_byte limits u stream rs b a (eq
 
 block_step : (limits : Limits) (u block stream : List ℕ) (rs : List Request) (s : Start) (b : ℕ) → After limits (Block s block) u stream rs → (length block + 1 < s.count + 2) ⊎ (s.count + 2 ≤ length block + 1) → Somewhere limits (stream ++ b ∷ [])
 block_step limits u block stream rs s b a (inl l) =
-    (Block s (block ++ b ∷ []), [], rs ++ [], block_more limits u [] block stream (b ∷ []) rs s a (omega arith))
+    (Block s (block ++ b ∷ []), [], rs, block_more limits u [] block stream (b ∷ []) rs s a (omega arith))
 block_step limits u block stream rs s b a (inr l) =
     (Line, [], rs ++ stored s (block ++ b ∷ []) ∷ [], block_done limits u [] block stream (b ∷ []) rs s 1 a (omega arith) (omega (arith, a.stands.4)) refl)
 
 skip_step : (limits : Limits) (u stream : List ℕ) (rs : List Request) (s : Start) (left : ℕ) (b : ℕ) → After limits (Skip s left) u stream rs → (1 < left) ⊎ (left ≤ 1) → Somewhere limits (stream ++ b ∷ [])
 skip_step limits u stream rs s left b a (inl l) =
-    (Skip s (left - 1), [], rs ++ [], skip_more limits u [] stream (b ∷ []) rs s left (left - 1) a (omega arith) (omega arith))
+    (Skip s (left - 1), [], rs, skip_more limits u [] stream (b ∷ []) rs s left (left - 1) a (omega arith) (omega arith))
 skip_step limits u stream rs s left b a (inr l) =
     let one : left ≡ 1 = omega (arith, a.stands.6) in
     let last : After limits (Skip s 1) u stream rs = subst (λ (n : ℕ). After limits (Skip s n) u stream rs) one a in
@@ -66,7 +66,7 @@ byte_step : (limits : Limits) (state : State) (u stream : List ℕ) (rs : List R
 byte_step limits Line u stream rs b a = line_step limits u stream rs b (b == 10) refl a
 byte_step limits (Block s block) u stream rs b a = block_step limits u block stream rs s b a (cases_lt (length block + 1) (s.count + 2))
 byte_step limits (Skip s left) u stream rs b a = skip_step limits u stream rs s left b a (cases_lt 1 left)
-byte_step limits Closed u stream rs b a = (Closed, [], rs ++ [], stays_closed limits u [] stream (b ∷ []) rs a)
+byte_step limits Closed u stream rs b a = (Closed, [], rs, stays_closed limits Closed u [] stream (b ∷ []) rs refl a)
 byte_step limits Failed u stream rs b a = absurd a.stands
 
 bytes_step : (limits : Limits) (state : State) (u stream : List ℕ) (rs : List Request) (bytes : List ℕ) → After limits state u stream rs → Somewhere limits (stream ++ bytes)

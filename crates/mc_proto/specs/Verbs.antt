@@ -48,3 +48,15 @@ is_quiet due args = length args == due + 1 && is_word (get_or args due []) (code
 -- the tokens behind a verb without that noreply
 abbrev pub shorn : ℕ → List (List ℕ) → List (List ℕ)
 shorn due args = if is_quiet due args then take due args else args
+
+-- a word begins neither a get nor a line that noreply can make quiet
+abbrev pub IsDirective : Word → Type 0
+IsDirective words.Get = ⊥
+IsDirective words.Gets = ⊥
+IsDirective (words.Call call) = ⊥
+IsDirective words.At = Unit {0}
+IsDirective words.Juggle = Unit {0}
+IsDirective words.Crawl = Unit {0}
+IsDirective words.Next = Unit {0}
+IsDirective words.Quit = Unit {0}
+IsDirective words.Unknown = Unit {0}

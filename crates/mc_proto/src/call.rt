@@ -1,5 +1,7 @@
 //! The lines that `noreply` can make quiet: storage lines, incr, decr, touch and delete.
-ghost use Rattle.std.specs.Prelude.{◌≡◌, ◌<◌, IfOk, map};
+ghost use Rattle.std.specs.Prelude.{◌≡◌, ◌<◌, Some, true, false, IfOk, map};
+ghost use Rattle.mc_item.specs.declared.command.Verb.TheVariants as stores;
+ghost use Rattle.mc_proto.specs.declared.state.Call.TheVariants as calls;
 ghost use Rattle.mc_proto.specs.Grammar.{IsFine};
 ghost use Rattle.mc_proto.specs.Rows as rows;
 ghost use Rattle.mc_proto.specs.Verbs as verbs;
@@ -108,6 +110,31 @@ pub fn due_of(call: Call) -> usize
     }
 }
 
+// The verb of set, add and replace.
+fn verb_of(call: Call) -> Option<Verb>
+    ensures set { call ≡ calls.Set → result ≡ Some stores.Set }
+    ensures add { call ≡ calls.Add → result ≡ Some stores.Add }
+    ensures replace { call ≡ calls.Replace → result ≡ Some stores.Replace }
+{
+    match call {
+        Call::Set => Some(Verb::Set),
+        Call::Add => Some(Verb::Add),
+        Call::Replace => Some(Verb::Replace),
+        _ => None,
+    }
+}
+
+// Whether a line counts up: incr, and not decr.
+fn counts_up(call: Call) -> bool
+    ensures incr { call ≡ calls.Incr → result ≡ true }
+    ensures decr { call ≡ calls.Decr → result ≡ false }
+{
+    match call {
+        Call::Incr => true,
+        _ => false,
+    }
+}
+
 /// What such a line says, when its `noreply` is taken off.
 pub fn call_line(
     alloc: Global,
@@ -120,12 +147,11 @@ pub fn call_line(
     ensures fine { IfOk result (λ s. IsFine s) }
 {
     match call {
-        Call::Set => store_line(alloc, limits, quiet, Some(Verb::Set), args),
-        Call::Add => store_line(alloc, limits, quiet, Some(Verb::Add), args),
-        Call::Replace => store_line(alloc, limits, quiet, Some(Verb::Replace), args),
+        Call::Set | Call::Add | Call::Replace => {
+            store_line(alloc, limits, quiet, verb_of(call), args)
+        }
         Call::Cas => cas_line(alloc, limits, quiet, args),
-        Call::Incr => count_line(alloc, true, quiet, args),
-        Call::Decr => count_line(alloc, false, quiet, args),
+        Call::Incr | Call::Decr => count_line(alloc, counts_up(call), quiet, args),
         Call::Touch => touch_line(alloc, quiet, args),
         Call::Delete => delete_line(alloc, quiet, args),
     }

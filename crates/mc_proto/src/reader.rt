@@ -1,5 +1,5 @@
 //! Reads requests from pieces of bytes that are cut anywhere.
-ghost use Rattle.std.specs.Prelude.{◌≡◌, ◌++◌, ◌∷◌, [], ◌<◌, ℕ, List, Option, All, IfOk, IfSome, OnOk, OnErr, IsErr, IsOk, length, option_to_list};
+ghost use Rattle.std.specs.Prelude.{◌≡◌, ◌++◌, [], ◌<◌, ℕ, List, All, IfOk, OnOk, OnErr, IsErr, IsOk};
 ghost use Rattle.mc_proto.specs.Grammar.{IsModerate, Reads, closed};
 ghost use Rattle.mc_proto.specs.Reader.{After, IsSound, rest_name};
 ghost use Rattle.mc_proto.specs.declared.request.Request.{Request};
@@ -8,64 +8,38 @@ ghost use Rattle.mc_proto.specs.declared.state.State.TheVariants.{Line, Failed, 
 
 use crate::request::{Limits, Request, Rest};
 use crate::state::State;
-use crate::step::{Step, any_step};
+use crate::step::any_step;
 use bytes::BytesMut;
 use mc_item::NoMemory;
 use std::alloc::Global;
 use std::marker::Model;
-use std::mem;
-
-// Adds a request, if there is one.
-fn push_if_some(requests: &mut Vec<Request>, request: Option<Request>) -> Result<(), NoMemory>
-    ensures ok { OnOk result (requests.new.items ≡ requests.old.items ++ option_to_list request) }
-    ensures moderate { All IsModerate requests.old.items → IfSome request IsModerate → All IsModerate requests.new.items }
-{
-    if let Some(r) = request {
-        requests.push(r)?;
-    }
-    Ok(())
-}
-
-// What a piece led to: where the reader stands, and the requests that became whole.
-#[derive(Drop)]
-struct Run {
-    state: State,
-    requests: Vec<Request>,
-}
 
 // How many requests room is made for at once: one for each 32 bytes of a piece, and 2,048 at most.
 fn room_for(bytes: usize) -> usize {
     (bytes / 32).min(2048)
 }
 
-// Reads a whole piece.
+// Reads a whole piece: the requests that became whole with it.
 fn read_piece(
     alloc: Global,
     limits: Limits,
-    state: State,
+    state: &mut State,
     line: &mut BytesMut,
     piece: &[u8],
-) -> Result<Run, NoMemory>
-    requires sound { IsSound state line.old.items }
-    ensures sound { IfOk result (λ s. IsSound s.state line.new.items) }
-    ensures moderate { IfOk result (λ s. All IsModerate s.requests.items) }
-    ensures reads { IfOk result (λ s. (stream : List ℕ) (requests : List Request) → After limits state line.old.items stream requests
-        → After limits s.state line.new.items (stream ++ piece.now) (requests ++ s.requests.items)) }
+) -> Result<Vec<Request>, NoMemory>
+    requires sound { IsSound state.old line.old.items }
+    ensures sound { OnOk result (IsSound state.new line.new.items) }
+    ensures moderate { IfOk result (λ v. All IsModerate v.items) }
+    ensures reads { IfOk result (λ v. (stream : List ℕ) (requests : List Request) → After limits state.old line.old.items stream requests
+        → After limits state.new line.new.items (stream ++ piece.now) (requests ++ v.items)) }
 {
     let mut requests = Vec::with_capacity(alloc, room_for(piece.len()))?;
-    let mut state = state;
     let mut rest = piece;
     while !rest.is_empty() {
-        let Step {
-            state: next,
-            request,
-            taken,
-        } = any_step(alloc, limits, state, line, rest)?;
-        state = next;
-        push_if_some(&mut requests, request)?;
+        let taken = any_step(alloc, limits, state, line, &mut requests, rest)?;
         rest = rest.split_at(taken).1;
     }
-    Ok(Run { state, requests })
+    Ok(requests)
 }
 
 /// Reads requests from pieces of bytes, cut anywhere. It keeps the bytes of one unfinished line or block; of a block
@@ -113,17 +87,28 @@ impl Reader {
         ensures err { OnErr result (self.new.state ≡ Failed) }
         ensures failed { self.old.state ≡ Failed → IsErr result }
     {
-        let state = mem::replace(&mut self.state, State::Failed);
-        if let State::Failed = state {
-            return Err(NoMemory);
+        match &self.state {
+            State::Failed => {
+                return Err(NoMemory);
+            }
+            State::Closed => {
+                return Ok(Vec::new(self.alloc));
+            }
+            State::Line | State::Block(_, _) | State::Skip(_, _) => {}
         }
-        if let State::Closed = state {
-            self.state = state;
-            return Ok(Vec::new(self.alloc));
+        match read_piece(
+            self.alloc,
+            self.limits,
+            &mut self.state,
+            &mut self.line,
+            piece,
+        ) {
+            Ok(requests) => Ok(requests),
+            Err(fault) => {
+                self.state = State::Failed;
+                Err(fault)
+            }
         }
-        let run = read_piece(self.alloc, self.limits, state, &mut self.line, piece)?;
-        self.state = run.state;
-        Ok(run.requests)
     }
 
     // What is left unfinished.

@@ -1,5 +1,5 @@
 //! Requests, as the lines and blocks of an input spell them.
-ghost use Rattle.std.specs.Prelude.{◌≡◌};
+ghost use Rattle.std.specs.Prelude.{◌≡◌, ◌∷◌, [], IfOk, IfErr};
 
 use mc_item::{ClassNo, Command, Key};
 use std::marker::Model;
@@ -13,41 +13,57 @@ pub struct Limits {
     pub classes: u32,
 }
 
-/// The keys of one line. Contracts see them as a list. It is made from a `Vec` and gives it back without memory.
+/// Where the keys of a line are. One alone needs no memory but its own.
+#[derive(Drop)]
+pub(crate) enum Listed {
+    One(Key),
+    Many(Vec<Key>),
+}
+
+/// The keys of one line. Contracts see them as a list.
 #[derive(Drop)]
 pub struct Keys {
-    keys: Vec<Key>,
+    listed: Listed,
 }
 
 impl Model for Keys {
     ghost use Rattle.std.specs.Prelude.{List, ℕ};
+    ghost use Rattle.mc_proto.specs.Keys.{listed_keys};
 
     ghost Value = { List (List ℕ) };
 
-    ghost view = { λ k. k.keys.items };
+    ghost view = { λ k. listed_keys k.listed };
 }
 
 impl Keys {
-    /// The list of these keys.
+    /// The list of this key alone. It takes no memory.
+    pub fn one(key: Key) -> Keys
+        ensures { result ≡ key ∷ [] }
+    {
+        Keys {
+            listed: Listed::One(key),
+        }
+    }
+
+    /// The list of these keys. It takes no memory.
     pub fn from_vec(keys: Vec<Key>) -> Keys
         ensures { result ≡ keys.items }
     {
-        Keys { keys }
+        Keys {
+            listed: Listed::Many(keys),
+        }
     }
 
-    /// The keys back.
-    pub fn into_vec(self) -> Vec<Key>
-        ensures { result.items ≡ self }
+    /// The key that stands alone, or the list that the keys were made from. It takes no memory.
+    pub fn into_one(self) -> Result<Key, Vec<Key>>
+        ensures ok { IfOk result (λ key. self ≡ key ∷ []) }
+        ensures err { IfErr result (λ keys. self ≡ keys.items) }
     {
-        let Keys { keys } = self;
-        keys
-    }
-
-    /// The keys.
-    pub fn as_slice(&self) -> &[Key]
-        ensures { result.now ≡ self.now }
-    {
-        self.keys.as_slice()
+        let Keys { listed } = self;
+        match listed {
+            Listed::One(key) => Ok(key),
+            Listed::Many(keys) => Err(keys),
+        }
     }
 }
 

@@ -1,19 +1,36 @@
 //! What a line says: the lines of get and of the directives here, and which line a verb begins.
-ghost use Rattle.std.specs.Prelude.{◌≡◌, ◌<◌, ◌≤◌, IfOk, IfSome, map, false};
+ghost use Rattle.std.specs.Prelude.{◌≡◌, ◌∷◌, [], ◌<◌, ℕ, List, IfOk, IfSome, map, true, false};
+ghost use Rattle.mc_proto.specs.declared.state.Word.TheVariants as words;
+ghost use Rattle.mc_proto.specs.Lines as lines;
 ghost use Rattle.mc_proto.specs.Grammar.{IsFine, IsModerate, closes};
 ghost use Rattle.mc_proto.specs.Rows as rows;
+ghost use Rattle.mc_proto.specs.Verbs.{IsDirective};
 
 use crate::call::{call_line, due_of};
 use crate::request::{Keys, Limits, Request, Target};
 use crate::said::{no_format, no_line};
 use crate::state::{Said, Word};
-use crate::token::{key_of, number_up_to, tokens_of, without_cr};
+use crate::token::{first_tokens, key_of, more_tokens, number_up_to, without_cr};
 use crate::word::{is_quiet, shorn, word_of};
-use mc_item::{ClassNo, NoMemory};
+use mc_item::{ClassNo, Key, NoMemory};
 use std::alloc::Global;
 
 /// The largest moment in seconds: 2^62.
 const MAX_MOMENT: u64 = 4_611_686_018_427_387_904;
+
+// The lines get and gets of one key, where the token can be one.
+fn get_said(key: Option<Key>, with_cas: bool) -> Said
+    ensures value { (token : List ℕ) → key ≡ lines.key_of token → result ≡ rows.get_row with_cas (token ∷ []) }
+    ensures fine { IsFine result }
+{
+    match key {
+        Some(key) => Said::Whole(Request::Get {
+            keys: Keys::one(key),
+            with_cas,
+        }),
+        None => no_format(false),
+    }
+}
 
 // The lines get and gets: one or more keys.
 fn get_line(alloc: Global, with_cas: bool, tokens: &[&[u8]]) -> Result<Said, NoMemory>
@@ -22,6 +39,9 @@ fn get_line(alloc: Global, with_cas: bool, tokens: &[&[u8]]) -> Result<Said, NoM
 {
     if tokens.is_empty() {
         return Ok(no_line());
+    }
+    if let [token] = tokens {
+        return Ok(get_said(key_of(alloc, *token)?, with_cas));
     }
     let mut keys = Vec::with_capacity(alloc, tokens.len())?;
     for token in tokens {
@@ -38,6 +58,17 @@ fn get_line(alloc: Global, with_cas: bool, tokens: &[&[u8]]) -> Result<Said, NoM
         keys: Keys::from_vec(keys),
         with_cas,
     }))
+}
+
+// Whether a line's values are shown with their cas numbers.
+fn shows_cas(word: Word) -> bool
+    ensures get { word ≡ words.Get → result ≡ false }
+    ensures gets { word ≡ words.Gets → result ≡ true }
+{
+    match word {
+        Word::Gets => true,
+        _ => false,
+    }
 }
 
 // The line %at: a moment.
@@ -124,24 +155,35 @@ fn lone_line(request: Request, args: &[&[u8]]) -> Said
     }
 }
 
+// What a directive says, quit, or a line that begins with no verb.
+fn directive_line(limits: Limits, word: Word, args: &[&[u8]]) -> Said
+    ensures value { IsDirective word → result ≡ rows.row limits word (map (λ t. t.now) args.now) }
+    ensures fine { IsFine result }
+{
+    match word {
+        Word::Get | Word::Gets | Word::Call(_) | Word::Unknown => no_line(),
+        Word::At => at_line(args),
+        Word::Juggle => juggle_line(limits, args),
+        Word::Crawl => crawl_line(limits, args),
+        Word::Next => lone_line(Request::Next, args),
+        Word::Quit => lone_line(Request::Quit, args),
+    }
+}
+
 // What a line says, by the line that its verb begins and the tokens behind it.
 fn line_of(alloc: Global, limits: Limits, word: Word, args: &[&[u8]]) -> Result<Said, NoMemory>
     ensures value { IfOk result (λ s. s ≡ rows.row limits word (map (λ t. t.now) args.now)) }
     ensures fine { IfOk result (λ s. IsFine s) }
 {
     match word {
-        Word::Get => get_line(alloc, false, args),
-        Word::Gets => get_line(alloc, true, args),
+        Word::Get | Word::Gets => get_line(alloc, shows_cas(word), args),
         Word::Call(call) => {
             let due = due_of(call);
             call_line(alloc, limits, call, is_quiet(due, args), shorn(due, args))
         }
-        Word::At => Ok(at_line(args)),
-        Word::Juggle => Ok(juggle_line(limits, args)),
-        Word::Crawl => Ok(crawl_line(limits, args)),
-        Word::Next => Ok(lone_line(Request::Next, args)),
-        Word::Quit => Ok(lone_line(Request::Quit, args)),
-        Word::Unknown => Ok(no_line()),
+        Word::At | Word::Juggle | Word::Crawl | Word::Next | Word::Quit | Word::Unknown => Ok(
+            directive_line(limits, word, args),
+        ),
     }
 }
 
@@ -162,6 +204,12 @@ pub fn said_of(alloc: Global, limits: Limits, line: &[u8]) -> Result<Said, NoMem
     ensures value { IfOk result (λ s. s ≡ rows.says limits line.now) }
     ensures fine { IfOk result (λ s. IsFine s) }
 {
-    let tokens = tokens_of(alloc, without_cr(line))?;
+    let line = without_cr(line);
+    let mut few = [line; 8];
+    let (count, rest) = first_tokens(line, &mut few);
+    if count < 8 {
+        return row_of(alloc, limits, few.as_slice().split_at(count).0);
+    }
+    let tokens = more_tokens(alloc, few.as_slice(), rest)?;
     row_of(alloc, limits, tokens.as_slice())
 }

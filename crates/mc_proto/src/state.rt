@@ -1,6 +1,7 @@
 //! What a line says, and where a reader stands. Only contracts see these outside the crate.
 use crate::request::Request;
-use mc_item::{Key, Value, Verb};
+use mc_item::{Key, Verb};
+use std::marker::Model;
 
 /// A good storage line. A block of `count` bytes and CR LF follows it.
 #[derive(Drop)]
@@ -24,13 +25,27 @@ pub enum Said {
     Skip(Start),
 }
 
+/// The bytes of a block that came so far. Contracts see them as a list.
+#[derive(Drop)]
+pub struct Part {
+    pub(crate) bytes: Vec<u8>,
+}
+
+impl Model for Part {
+    ghost use Rattle.std.specs.Prelude.{List, ℕ};
+
+    ghost Value = { List ℕ };
+
+    ghost view = { λ p. p.bytes.items };
+}
+
 /// What has come of the request that isn't whole yet.
 #[derive(Drop)]
 pub enum State {
     /// Part of a line, which stands beside this.
     Line,
     /// A storage line, and these bytes of its block.
-    Block(Start, Value),
+    Block(Start, Part),
     /// A storage line, and of its block all but so many bytes.
     Skip(Start, u64),
     /// A line that was too long: nothing is read any more.

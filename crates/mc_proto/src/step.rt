@@ -1,5 +1,5 @@
 //! What a part of a piece makes of where a reader stands.
-ghost use Rattle.std.specs.Prelude.{◌≡◌, ◌++◌, ◌∷◌, [], ◌+◌, ◌-◌, ◌<◌, ◌≤◌, ℕ, List, IfOk, IfSome, length, take, drop, option_to_list};
+ghost use Rattle.std.specs.Prelude.{◌≡◌, ◌++◌, [], ◌+◌, ◌-◌, ◌<◌, ◌≤◌, ℕ, List, IfOk, OnOk, All, length, take, option_to_list};
 ghost use Rattle.mc_proto.specs.Grammar.{stored, skipped, IsFine, IsModerate};
 ghost use Rattle.mc_proto.specs.Rows.{says};
 ghost use Rattle.mc_proto.specs.Reader.{After, IsSound, state_after, request_after};
@@ -10,22 +10,15 @@ ghost use Rattle.mc_proto.specs.declared.state.State.TheVariants.{Line};
 
 use crate::request::{Limits, LineFault, Request};
 use crate::row::said_of;
-use crate::state::{Said, Start, State};
+use crate::state::{Part, Said, Start, State};
 use crate::token::line_end;
 use bytes::BytesMut;
 use mc_item::{Command, NoMemory, Value};
 use std::alloc::Global;
+use std::mem;
 
 /// The longest line in bytes, without its LF.
 const MAX_LINE: usize = 65_536;
-
-/// What a part of a piece led to: where the reader stands, the request that became whole, and the bytes taken.
-#[derive(Drop)]
-pub struct Step {
-    pub state: State,
-    pub request: Option<Request>,
-    pub taken: usize,
-}
 
 // What a line says whose last bytes are `front`; a line that lies whole in one piece isn't copied.
 fn said_at(
@@ -47,195 +40,197 @@ fn said_at(
     Ok(said)
 }
 
-// The step that a whole line makes. Room for its whole block is taken at once.
-fn said_step(alloc: Global, said: Said, taken: usize) -> Result<Step, NoMemory>
-    requires { IsFine said }
-    ensures taken { IfOk result (λ s. s.taken ≡ taken) }
-    ensures state { IfOk result (λ s. s.state ≡ state_after said) }
-    ensures request { IfOk result (λ s. s.request ≡ request_after said) }
-    ensures moderate { IfOk result (λ s. IfSome s.request IsModerate) }
+// What a whole line makes of where the reader stands, and of the requests. Room for its whole block is taken at once.
+fn take_said(
+    alloc: Global,
+    state: &mut State,
+    requests: &mut Vec<Request>,
+    said: Said,
+) -> Result<(), NoMemory>
+    requires line { state.old ≡ Line }
+    requires fine { IsFine said }
+    ensures state { OnOk result (state.new ≡ state_after said) }
+    ensures requests { OnOk result (requests.new.items ≡ requests.old.items ++ option_to_list (request_after said)) }
+    ensures moderate { OnOk result (All IsModerate requests.old.items → All IsModerate requests.new.items) }
 {
     match said {
-        Said::Whole(request) => Ok(Step {
-            state: State::Line,
-            request: Some(request),
-            taken,
-        }),
+        Said::Whole(request) => {
+            requests.push(request)?;
+        }
         Said::Block(start) => {
-            let block = Vec::with_capacity(alloc, start.count as usize + 2)?;
-            Ok(Step {
-                state: State::Block(start, Value::from_vec(block)),
-                request: None,
-                taken,
-            })
+            let bytes = Vec::with_capacity(alloc, start.count as usize + 2)?;
+            *state = State::Block(start, Part { bytes });
         }
         Said::Skip(start) => {
             let left = start.count + 2;
-            Ok(Step {
-                state: State::Skip(start, left),
-                request: None,
-                taken,
-            })
+            *state = State::Skip(start, left);
         }
     }
+    Ok(())
 }
 
-// Takes bytes of a line, up to its LF.
+// Takes bytes of a line, up to its LF, and says how many.
 fn line_step(
     alloc: Global,
     limits: Limits,
+    state: &mut State,
     line: &mut BytesMut,
+    requests: &mut Vec<Request>,
     piece: &[u8],
-) -> Result<Step, NoMemory>
+) -> Result<usize, NoMemory>
     requires some { 0 < length piece.now }
+    requires line { state.old ≡ Line }
     requires sound { IsSound Line line.old.items }
-    ensures taken { IfOk result (λ s. (0 < s.taken) × (s.taken ≤ length piece.now)) }
-    ensures sound { IfOk result (λ s. IsSound s.state line.new.items) }
-    ensures moderate { IfOk result (λ s. IfSome s.request IsModerate) }
-    ensures reads { IfOk result (λ s. (stream : List ℕ) (requests : List Request) → After limits Line line.old.items stream requests
-        → After limits s.state line.new.items (stream ++ take s.taken piece.now) (requests ++ option_to_list s.request)) }
+    ensures taken { IfOk result (λ n. (0 < n) × (n ≤ length piece.now)) }
+    ensures sound { OnOk result (IsSound state.new line.new.items) }
+    ensures moderate { OnOk result (All IsModerate requests.old.items → All IsModerate requests.new.items) }
+    ensures reads { IfOk result (λ n. (stream : List ℕ) (before : List Request) → After limits Line line.old.items stream (before ++ requests.old.items)
+        → After limits state.new line.new.items (stream ++ take n piece.now) (before ++ requests.new.items)) }
 {
     let end = line_end(piece);
     if line.len() + end > MAX_LINE {
         line.clear();
-        return Ok(Step {
-            state: State::Closed,
-            request: Some(Request::Bad {
-                why: LineFault::LineTooLong,
-                quiet: false,
-            }),
-            taken: piece.len(),
-        });
+        requests.push(Request::Bad {
+            why: LineFault::LineTooLong,
+            quiet: false,
+        })?;
+        *state = State::Closed;
+        return Ok(piece.len());
     }
     if end == piece.len() {
         line.extend_from_slice(piece)?;
-        return Ok(Step {
-            state: State::Line,
-            request: None,
-            taken: end,
-        });
+        return Ok(end);
     }
     let said = said_at(alloc, limits, line, piece.split_at(end).0)?;
-    let step = said_step(alloc, said, end + 1)?;
-    Ok(step)
+    take_said(alloc, state, requests, said)?;
+    Ok(end + 1)
 }
 
 // The request of a block that is whole. Its bytes become the value, without a copy.
-fn stored_of(start: Start, mut block: Vec<u8>) -> Request
+fn stored_of(alloc: Global, start: Start, mut block: Vec<u8>) -> Result<Request, NoMemory>
     requires { length block.items ≡ start.count + 2 }
-    ensures value { result ≡ stored start block.items }
-    ensures moderate { IsModerate result }
+    ensures value { IfOk result (λ r. r ≡ stored start block.items) }
+    ensures moderate { IfOk result (λ r. IsModerate r) }
 {
     let count = start.count as usize;
     if block[count] == b'\r' && block[count + 1] == b'\n' {
         block.truncate(count);
-        Request::One {
+        Ok(Request::One {
             command: Command::Store {
                 verb: start.verb,
                 key: start.key,
                 flags: start.flags,
                 exptime: start.exptime,
-                value: Value::from_vec(block),
+                value: Value::sharing(alloc, block)?,
             },
             quiet: start.quiet,
-        }
+        })
     } else {
-        Request::Bad {
+        Ok(Request::Bad {
             why: LineFault::Chunk,
             quiet: start.quiet,
-        }
+        })
     }
 }
 
-// Takes bytes of a block that is kept.
-fn block_step(start: Start, block: Value, piece: &[u8]) -> Result<Step, NoMemory>
+// Takes bytes of a block that is kept, and says how many. Where it isn't whole, the state has it again.
+fn block_step(
+    alloc: Global,
+    state: &mut State,
+    requests: &mut Vec<Request>,
+    start: Start,
+    part: Part,
+    piece: &[u8],
+) -> Result<usize, NoMemory>
     requires some { 0 < length piece.now }
-    requires sound { IsSound (State.Block start block) [] }
-    ensures taken { IfOk result (λ s. (0 < s.taken) × (s.taken ≤ length piece.now)) }
-    ensures sound { IfOk result (λ s. IsSound s.state []) }
-    ensures moderate { IfOk result (λ s. IfSome s.request IsModerate) }
-    ensures reads { IfOk result (λ s. (limits : Limits) (stream : List ℕ) (requests : List Request) → After limits (State.Block start block) [] stream requests
-        → After limits s.state [] (stream ++ take s.taken piece.now) (requests ++ option_to_list s.request)) }
+    requires line { state.old ≡ Line }
+    requires sound { IsSound (State.Block start part) [] }
+    ensures taken { IfOk result (λ n. (0 < n) × (n ≤ length piece.now)) }
+    ensures sound { OnOk result (IsSound state.new []) }
+    ensures moderate { OnOk result (All IsModerate requests.old.items → All IsModerate requests.new.items) }
+    ensures reads { IfOk result (λ n. (limits : Limits) (stream : List ℕ) (before : List Request) → After limits (State.Block start part) [] stream (before ++ requests.old.items)
+        → After limits state.new [] (stream ++ take n piece.now) (before ++ requests.new.items)) }
 {
-    let mut block = block.into_vec();
-    let wanted = start.count as usize + 2 - block.len();
+    let Part { mut bytes } = part;
+    let wanted = start.count as usize + 2 - bytes.len();
     if piece.len() < wanted {
-        block.extend_from_slice(piece)?;
-        return Ok(Step {
-            state: State::Block(start, Value::from_vec(block)),
-            request: None,
-            taken: piece.len(),
-        });
+        bytes.extend_from_slice(piece)?;
+        *state = State::Block(start, Part { bytes });
+        return Ok(piece.len());
     }
-    block.extend_from_slice(piece.split_at(wanted).0)?;
-    let request = stored_of(start, block);
-    Ok(Step {
-        state: State::Line,
-        request: Some(request),
-        taken: wanted,
-    })
+    bytes.extend_from_slice(piece.split_at(wanted).0)?;
+    requests.push(stored_of(alloc, start, bytes)?)?;
+    Ok(wanted)
 }
 
-// Takes bytes of a block that is skipped: only how many are to come is kept.
-fn skip_step(start: Start, left: u64, piece: &[u8]) -> Step
+// Takes bytes of a block that is skipped, and says how many: only how many are to come is kept.
+fn skip_step(
+    state: &mut State,
+    requests: &mut Vec<Request>,
+    start: Start,
+    left: u64,
+    piece: &[u8],
+) -> Result<usize, NoMemory>
     requires some { 0 < length piece.now }
+    requires line { state.old ≡ Line }
     requires sound { IsSound (State.Skip start left) [] }
-    ensures taken { (0 < result.taken) × (result.taken ≤ length piece.now) }
-    ensures sound { IsSound result.state [] }
-    ensures moderate { IfSome result.request IsModerate }
-    ensures reads { (limits : Limits) (stream : List ℕ) (requests : List Request) → After limits (State.Skip start left) [] stream requests
-        → After limits result.state [] (stream ++ take result.taken piece.now) (requests ++ option_to_list result.request) }
+    ensures taken { IfOk result (λ n. (0 < n) × (n ≤ length piece.now)) }
+    ensures sound { OnOk result (IsSound state.new []) }
+    ensures moderate { OnOk result (All IsModerate requests.old.items → All IsModerate requests.new.items) }
+    ensures reads { IfOk result (λ n. (limits : Limits) (stream : List ℕ) (before : List Request) → After limits (State.Skip start left) [] stream (before ++ requests.old.items)
+        → After limits state.new [] (stream ++ take n piece.now) (before ++ requests.new.items)) }
 {
     let count = piece.len() as u64;
     if count < left {
-        return Step {
-            state: State::Skip(start, left - count),
-            request: None,
-            taken: piece.len(),
-        };
+        *state = State::Skip(start, left - count);
+        return Ok(piece.len());
     }
-    Step {
-        state: State::Line,
-        request: Some(Request::One {
-            command: Command::Huge {
-                verb: start.verb,
-                key: start.key,
-            },
-            quiet: start.quiet,
-        }),
-        taken: left as usize,
-    }
+    requests.push(Request::One {
+        command: Command::Huge {
+            verb: start.verb,
+            key: start.key,
+        },
+        quiet: start.quiet,
+    })?;
+    Ok(left as usize)
 }
 
-/// Takes a part of a piece: up to the end of a line or a block.
+/// Takes a part of a piece, up to the end of a line or a block, and says how many bytes that were. A request that
+/// became whole comes behind the others.
 pub fn any_step(
     alloc: Global,
     limits: Limits,
-    state: State,
+    state: &mut State,
     line: &mut BytesMut,
+    requests: &mut Vec<Request>,
     piece: &[u8],
-) -> Result<Step, NoMemory>
+) -> Result<usize, NoMemory>
     requires some { 0 < length piece.now }
-    requires sound { IsSound state line.old.items }
-    ensures taken { IfOk result (λ s. (0 < s.taken) × (s.taken ≤ length piece.now)) }
-    ensures sound { IfOk result (λ s. IsSound s.state line.new.items) }
-    ensures moderate { IfOk result (λ s. IfSome s.request IsModerate) }
-    ensures reads { IfOk result (λ s. (stream : List ℕ) (requests : List Request) → After limits state line.old.items stream requests
-        → After limits s.state line.new.items (stream ++ take s.taken piece.now) (requests ++ option_to_list s.request)) }
+    requires sound { IsSound state.old line.old.items }
+    ensures taken { IfOk result (λ n. (0 < n) × (n ≤ length piece.now)) }
+    ensures sound { OnOk result (IsSound state.new line.new.items) }
+    ensures moderate { OnOk result (All IsModerate requests.old.items → All IsModerate requests.new.items) }
+    ensures reads { IfOk result (λ n. (stream : List ℕ) (before : List Request) → After limits state.old line.old.items stream (before ++ requests.old.items)
+        → After limits state.new line.new.items (stream ++ take n piece.now) (before ++ requests.new.items)) }
 {
     match state {
-        State::Line => line_step(alloc, limits, line, piece),
-        State::Block(start, block) => block_step(start, block, piece),
-        State::Skip(start, left) => Ok(skip_step(start, left, piece)),
-        State::Closed => Ok(Step {
-            state: State::Closed,
-            request: None,
-            taken: piece.len(),
-        }),
-        State::Failed => Ok(Step {
-            state: State::Failed,
-            request: None,
-            taken: piece.len(),
-        }),
+        State::Line => {
+            return line_step(alloc, limits, state, line, requests, piece);
+        }
+        State::Closed => {
+            return Ok(piece.len());
+        }
+        State::Failed => {
+            return Ok(piece.len());
+        }
+        State::Block(_, _) => {}
+        State::Skip(_, _) => {}
+    }
+    match mem::replace(state, State::Line) {
+        State::Block(start, part) => block_step(alloc, state, requests, start, part, piece),
+        State::Skip(start, left) => skip_step(state, requests, start, left, piece),
+        State::Line => unreachable!(),
+        State::Closed => unreachable!(),
+        State::Failed => unreachable!(),
     }
 }

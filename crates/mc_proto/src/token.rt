@@ -1,5 +1,5 @@
 //! The tokens of a line, and what they say.
-ghost use Rattle.std.specs.Prelude.{◌≡◌, ◌+◌, ◌-◌, ◌<◌, ◌≤◌, ◌^◌, ℕ, IfOk, IfSome, IsTrue, All, MatchOption, length, take, drop, get_or, map, ◌∷◌, [], ℤ};
+ghost use Rattle.std.specs.Prelude.{◌≡◌, ◌+◌, ◌-◌, ◌<◌, ◌≤◌, ◌^◌, ◌++◌, ℕ, IfOk, IfSome, IsTrue, All, MatchOption, length, take, drop, get_or, map, ◌∷◌, [], ℤ};
 ghost use Rattle.std.specs.List.{list_all};
 ghost use Rattle.mc_item.specs.Measure.{is_digit};
 ghost use Rattle.mc_proto.specs.Lines as lines;
@@ -76,11 +76,34 @@ fn next_token(line: &[u8]) -> Option<(&[u8], &[u8])>
     }
 }
 
-/// The tokens of a line.
-pub fn tokens_of(alloc: Global, line: &[u8]) -> Result<Vec<&[u8]>, AllocError>
-    ensures { IfOk result (λ v. map (λ t. t.now) v.items ≡ tokens line.now) }
+/// The first tokens of a line, eight at most: how many, and what comes after them. They take no memory.
+pub fn first_tokens<'a>(line: &'a [u8], few: &mut [&'a [u8]; 8]) -> (usize, &'a [u8])
+    ensures within { result.0 ≤ 8 }
+    ensures tokens { map (λ t. t.now) (take result.0 few.new) ++ tokens result.1.now ≡ tokens line.now }
+    ensures whole { result.0 < 8 → tokens result.1.now ≡ [] }
+    ensures places { length few.new ≡ 8 }
 {
-    let mut found = Vec::with_capacity(alloc, 8)?;
+    let mut rest = line;
+    for i in 0..8 {
+        let Some((token, more)) = next_token(rest) else {
+            return (i, rest);
+        };
+        few[i] = token;
+        rest = more;
+    }
+    (8, rest)
+}
+
+/// These tokens, and those of the rest of a line.
+pub fn more_tokens<'a>(
+    alloc: Global,
+    first: &[&'a [u8]],
+    line: &'a [u8],
+) -> Result<Vec<&'a [u8]>, AllocError>
+    ensures { IfOk result (λ v. map (λ t. t.now) v.items ≡ map (λ t. t.now) first.now ++ tokens line.now) }
+{
+    let mut found = Vec::with_capacity(alloc, 32)?;
+    found.extend_from_slice(first)?;
     let mut rest = line;
     while let Some((token, more)) = next_token(rest) {
         found.push(token)?;

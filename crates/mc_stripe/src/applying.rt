@@ -1,21 +1,20 @@
 //! Commands on a stripe.
-ghost use Rattle.std.specs.Prelude.{◌≡◌, ◌≤◌, ◌<◌, ◌+◌, ◌^◌, ℕ, Option, None, false, IfOk, OnOk, OnErr, Some, if◌then◌else◌, IsErrOf, ◌↔◌, length};
-ghost use Rattle.std.specs.Option.{option_copied};
+ghost use Rattle.std.specs.Prelude.{◌≡◌, ◌≤◌, ◌<◌, ◌+◌, ◌^◌, ℕ, Option, None, false, IfOk, IfErr, IfSome, IfNone, OnOk, OnErr, OnSome, Some, if◌then◌else◌, IsErrOf, ◌↔◌, length};
 ghost use Rattle.mc_item.specs.Answer.{row_of};
 ghost use Rattle.mc_item.specs.Cache.{answer_of};
 ghost use Rattle.mc_item.specs.Command.{key_of};
 ghost use Rattle.mc_item.specs.Measure.{stripe_of};
-ghost use Rattle.mc_item.specs.Stripe.{Fits, IsAlive};
+ghost use Rattle.mc_item.specs.Stripe.{Fits, IsAlive, IsDead};
 ghost use Rattle.mc_item.specs.declared.answer.Site.{Site};
 ghost use Rattle.mc_item.specs.declared.fault.Fault.TheVariants as faults;
 ghost use Rattle.mc_item.specs.declared.item.Item.{Item};
 ghost use Rattle.mc_item.specs.declared.stripe_event.StripeEvent.TheVariants as events;
 ghost use Rattle.mc_stripe.specs.StripeState.{cache_now, last_reply};
-ghost use Rattle.mc_stripe.specs.StripeCalls.{KeepsSite, Gains};
+ghost use Rattle.mc_stripe.specs.StripeCalls.{KeepsSite, Gains, Notes, room_for, room_of};
 
-use crate::changing::answer_item;
+use crate::changing::{Given, answer_item};
 use crate::state::StripeState;
-use mc_item::{Command, Did, Fault, Item, Need, Reply, Room, StripeEvent, Verb, Who};
+use mc_item::{Command, Did, Fault, Need, Reply, Room, StripeEvent, Verb, Who};
 
 // Whether a command's need depends on the item under its key.
 fn asks_for_item(command: &Command) -> bool
@@ -50,30 +49,27 @@ impl StripeState {
         }
     }
 
-    /// What a command needs, as `need` says it, where its key's item was found already: the key isn't looked up again.
-    pub fn need_of(&self, found: Option<&Item>, command: &Command, moment: u64) -> Need
-        requires { option_copied found ≡ (cache_now self.now).items (key_of command.now) }
-        ensures { result ≡ (row_of self.now.site (cache_now self.now).versions ((cache_now self.now).items (key_of command.now)) command.now moment).need }
-    {
-        let _moment = moment;
-        self.site.need(found, command)
-    }
-
     // Answers a command at a moment, and notes that as one event; a copy of the reply is made where one is asked for.
+    // Where the key's item is dead, nothing happens, and the command is given back.
     fn note(
         &mut self,
         who: Who,
         command: Command,
         moment: u64,
-        room: Room,
+        given: Given,
         copies: bool,
-    ) -> Result<Option<Reply>, Fault>
+    ) -> Result<Result<Option<Reply>, Command>, Fault>
         requires stripe { stripe_of (key_of command) self.old.site.stripes ≡ record { 0 = self.old.site.stripe } }
         requires moment { moment ≤ 2 ^ 62 }
-        requires alive { IsAlive ((cache_now self.old).items (key_of command)) moment }
-        requires fits { Fits (row_of self.old.site (cache_now self.old).versions ((cache_now self.old).items (key_of command)) command moment).need room self.old.history }
-        ensures reply { IfOk result (λ told. told ≡ (if copies then Some (answer_of self.old.site (cache_now self.old) command moment room).reply else None)) }
-        ensures event { OnOk result (Gains self.old self.new (events.Did (record { who = who; command = command; moment = moment; reply = (answer_of self.old.site (cache_now self.old) command moment room).reply; room = room }))) }
+        requires fits { Fits (row_of self.old.site (cache_now self.old).versions ((cache_now self.old).items (key_of command)) command moment).need
+            (room_of given (row_of self.old.site (cache_now self.old).versions ((cache_now self.old).items (key_of command)) command moment).need) self.old.history }
+        ensures reply { IfOk result (λ noted. IfOk noted (λ told. told ≡ (if copies then Some (answer_of self.old.site (cache_now self.old) command moment
+            (room_of given (row_of self.old.site (cache_now self.old).versions ((cache_now self.old).items (key_of command)) command moment).need)).reply else None))) }
+        ensures event { IfOk result (λ noted. OnOk noted (Notes self.old self.new who command moment
+            (room_of given (row_of self.old.site (cache_now self.old).versions ((cache_now self.old).items (key_of command)) command moment).need))) }
+        ensures alive { IfOk result (λ noted. OnOk noted (IsAlive ((cache_now self.old).items (key_of command)) moment)) }
+        ensures dead { IfOk result (λ noted. OnErr noted (IsDead ((cache_now self.old).items (key_of command)) moment)) }
+        ensures back { IfOk result (λ noted. IfErr noted (λ c. (c ≡ command) × (self.new.history ≡ self.old.history))) }
         ensures full { IsErrOf result faults.HistoryFull ↔ (self.old.limit ≤ length self.old.history) }
         ensures err { OnErr result (self.new.history ≡ self.old.history) }
         ensures site { KeepsSite self.old self.new }
@@ -83,25 +79,28 @@ impl StripeState {
         }
         self.items.reserve(1)?;
         self.history.reserve(1)?;
-        let answered = answer_item(
+        let Some(answered) = answer_item(
             self.alloc,
             &self.site,
             self.versions,
             &mut self.items,
             &command,
             moment,
-            room,
+            given,
             copies,
-        )?;
+        )?
+        else {
+            return Ok(Err(command));
+        };
         self.versions += answered.added;
         self.history.push_reserved(StripeEvent::Did(Did {
             who,
             command,
             moment,
             reply: answered.noted,
-            room,
+            room: answered.room,
         }));
-        Ok(answered.told)
+        Ok(Ok(answered.told))
     }
 
     /// Answers a command at a moment, and notes that as one event. The room is one that fits the command's need.
@@ -122,29 +121,40 @@ impl StripeState {
         ensures err { OnErr result (self.new.history ≡ self.old.history) }
         ensures site { KeepsSite self.old self.new }
     {
-        let told = self.note(who, command, moment, room, true)?;
-        Ok(told.unwrap())
+        match self.note(who, command, moment, Given::Room(room), true)? {
+            Ok(told) => Ok(told.unwrap()),
+            Err(_) => unreachable!(),
+        }
     }
 
     /// Answers a command as `apply` does, and copies no reply: it stands in the history, where `last_reply` finds it.
+    /// Where the command needs a chunk, its room is the link of this number. Where its key's item is dead at the
+    /// moment, nothing happens, and the command is given back.
     pub fn answer(
         &mut self,
         who: Who,
         command: Command,
         moment: u64,
-        room: Room,
-    ) -> Result<(), Fault>
+        number: u64,
+    ) -> Result<Option<Command>, Fault>
         requires stripe { stripe_of (key_of command) self.old.site.stripes ≡ record { 0 = self.old.site.stripe } }
         requires moment { moment ≤ 2 ^ 62 }
-        requires alive { IsAlive ((cache_now self.old).items (key_of command)) moment }
-        requires fits { Fits (row_of self.old.site (cache_now self.old).versions ((cache_now self.old).items (key_of command)) command moment).need room self.old.history }
-        ensures event { OnOk result (Gains self.old self.new (events.Did (record { who = who; command = command; moment = moment; reply = (answer_of self.old.site (cache_now self.old) command moment room).reply; room = room }))) }
-        ensures last { OnOk result (last_reply self.new.history ≡ Some (answer_of self.old.site (cache_now self.old) command moment room).reply) }
+        requires fits { Fits (row_of self.old.site (cache_now self.old).versions ((cache_now self.old).items (key_of command)) command moment).need
+            (room_for (row_of self.old.site (cache_now self.old).versions ((cache_now self.old).items (key_of command)) command moment).need number) self.old.history }
+        ensures event { IfOk result (λ back. IfNone back (Notes self.old self.new who command moment
+            (room_for (row_of self.old.site (cache_now self.old).versions ((cache_now self.old).items (key_of command)) command moment).need number))) }
+        ensures last { IfOk result (λ back. IfNone back (last_reply self.new.history ≡ Some (answer_of self.old.site (cache_now self.old) command moment
+            (room_for (row_of self.old.site (cache_now self.old).versions ((cache_now self.old).items (key_of command)) command moment).need number)).reply)) }
+        ensures alive { IfOk result (λ back. IfNone back (IsAlive ((cache_now self.old).items (key_of command)) moment)) }
+        ensures dead { IfOk result (λ back. OnSome back (IsDead ((cache_now self.old).items (key_of command)) moment)) }
+        ensures back { IfOk result (λ back. IfSome back (λ c. (c ≡ command) × (self.new.history ≡ self.old.history))) }
         ensures full { IsErrOf result faults.HistoryFull ↔ (self.old.limit ≤ length self.old.history) }
         ensures err { OnErr result (self.new.history ≡ self.old.history) }
         ensures site { KeepsSite self.old self.new }
     {
-        let _ = self.note(who, command, moment, room, false)?;
-        Ok(())
+        match self.note(who, command, moment, Given::Number(number), false)? {
+            Ok(_) => Ok(None),
+            Err(command) => Ok(Some(command)),
+        }
     }
 }

@@ -1,22 +1,56 @@
 //! What a command makes of the item under its key.
-ghost use Rattle.std.specs.Prelude.{◌≡◌, ◌≤◌, ◌<◌, ◌+◌, ◌^◌, ℕ, List, IfOk, OnOk, OnErr, nat_eq, if◌then◌else◌, Some, None};
+ghost use Rattle.std.specs.Prelude.{◌≡◌, ◌≤◌, ◌<◌, ◌+◌, ◌^◌, ℕ, List, IfOk, IfSome, IfNone, OnOk, OnErr, nat_eq, if◌then◌else◌, Some, None};
+ghost use Rattle.std.specs.Option.{option_copied};
 ghost use Rattle.std.specs.Cmp.Lexicographic.{pointwise};
 ghost use Rattle.std.specs.HashMap.{get, spare};
 ghost use Rattle.mc_item.specs.Answer.{cas_of, row_of};
 ghost use Rattle.mc_item.specs.Cache.{changed};
 ghost use Rattle.mc_item.specs.Command.{key_of};
+ghost use Rattle.mc_item.specs.Stripe.{IsAlive, IsDead};
 ghost use Rattle.mc_item.specs.declared.answer.Answer.{Answer};
+ghost use Rattle.mc_stripe.specs.StripeCalls as calls;
 
-use mc_item::{Answer, Change, Command, Item, Key, NoMemory, Reply, Room, Site};
+use mc_item::{Answer, Change, Command, Item, Key, Link, Need, NoMemory, Reply, Room, Site};
 use std::alloc::Global;
 use std::collections::HashMap;
 
-/// A command's reply, a copy of it where one was asked for, and how many versions the command added.
+/// The room that a command is given: this one, or, where it needs a chunk, the link of this number in its class.
+#[derive(Clone, Copy)]
+pub(crate) enum Given {
+    Room(Room),
+    Number(u64),
+}
+
+/// A command's reply, a copy of it where one was asked for, the room that it had, and how many versions it added.
 #[derive(Drop)]
 pub(crate) struct Answered {
     pub noted: Reply,
     pub told: Option<Reply>,
+    pub room: Room,
     pub added: u64,
+}
+
+// The room for a need: where a chunk is needed, the link of this number in its class.
+fn room_for(need: Need, number: u64) -> Room
+    ensures { result ≡ calls.room_for need number }
+{
+    match need {
+        Need::Fresh(class) => Room::At(Link { class, number }),
+        Need::Nothing => Room::Keep,
+        Need::Same => Room::Keep,
+        Need::TooLarge => Room::Keep,
+    }
+}
+
+// The room that a command is given.
+#[inline(always)]
+fn room_of(site: &Site, found: Option<&Item>, command: &Command, given: Given) -> Room
+    ensures { (n moment : ℕ) → result ≡ calls.room_of given (row_of site.now n (option_copied found.entry) command.now moment).need }
+{
+    match given {
+        Given::Room(room) => room,
+        Given::Number(number) => room_for(site.need(found, command), number),
+    }
 }
 
 // A copy of a reply, where one is asked for.
@@ -42,6 +76,47 @@ fn versions_of(change: &Change) -> u64
         Change::Counted(_, _) => 1,
         Change::Renewed(_) => 1,
     }
+}
+
+// What a command is answered, and what becomes of its key's item.
+#[derive(Drop)]
+struct Told {
+    answered: Answered,
+    change: Change,
+}
+
+// What a command is told where its key's item is `found`.
+#[inline(always)]
+fn told_of(
+    alloc: Global,
+    site: &Site,
+    versions: u64,
+    found: Option<&Item>,
+    command: &Command,
+    moment: u64,
+    given: Given,
+    copies: bool,
+) -> Result<Told, NoMemory>
+    requires cas { cas_of site.now versions < 2 ^ 64 }
+    requires moment { moment ≤ 2 ^ 62 }
+    ensures room { IfOk result (λ t. t.answered.room ≡ calls.room_of given (row_of site.now versions (option_copied found.entry) command.now moment).need) }
+    ensures ok { IfOk result (λ t. (answer : Answer) × (answer ≡ (row_of site.now versions (option_copied found.entry) command.now moment).answer t.answered.room)
+        × (t.answered.noted ≡ answer.reply) × (t.answered.told ≡ (if copies then Some answer.reply else None)) × (t.answered.added ≡ Rattle.mc_item.specs.Cache.versions_of answer.change)
+        × (t.change ≡ answer.change)) }
+{
+    let room = room_of(site, found, command, given);
+    let Answer { reply, change } = site.answer(alloc, versions, found, command, moment, room)?;
+    let told = copy_if(alloc, &reply, copies)?;
+    let added = versions_of(&change);
+    Ok(Told {
+        answered: Answered {
+            noted: reply,
+            told,
+            room,
+            added,
+        },
+        change,
+    })
 }
 
 // Changes an item, and says whether it stays.
@@ -101,7 +176,7 @@ pub(crate) fn remove(items: &mut HashMap<Key, Item>, key: &Key)
 }
 
 /// Answers a command for the item under its key, and changes it; the key is looked up once, and once more where its
-/// item goes. Without memory nothing changes.
+/// item goes. Nothing changes without memory, or where the item is dead, and then there is no answer.
 pub(crate) fn answer_item(
     alloc: Global,
     site: &Site,
@@ -109,40 +184,44 @@ pub(crate) fn answer_item(
     items: &mut HashMap<Key, Item>,
     command: &Command,
     moment: u64,
-    room: Room,
+    given: Given,
     copies: bool,
-) -> Result<Answered, NoMemory>
+) -> Result<Option<Answered>, NoMemory>
     requires cas { cas_of site.now versions < 2 ^ 64 }
     requires moment { moment ≤ 2 ^ 62 }
     requires room { 0 < spare items.old }
-    ensures ok { IfOk result (λ a. (answer : Answer) × (answer ≡ (row_of site.now versions (get (pointwise nat_eq) items.old (key_of command.now)) command.now moment).answer room)
+    ensures alive { IfOk result (λ told. IfSome told (λ a. IsAlive (get (pointwise nat_eq) items.old (key_of command.now)) moment)) }
+    ensures room { IfOk result (λ told. IfSome told (λ a. a.room ≡ calls.room_of given (row_of site.now versions (get (pointwise nat_eq) items.old (key_of command.now)) command.now moment).need)) }
+    ensures ok { IfOk result (λ told. IfSome told (λ a. (answer : Answer) × (answer ≡ (row_of site.now versions (get (pointwise nat_eq) items.old (key_of command.now)) command.now moment).answer a.room)
         × (a.noted ≡ answer.reply) × (a.told ≡ (if copies then Some answer.reply else None)) × (a.added ≡ Rattle.mc_item.specs.Cache.versions_of answer.change)
-        × ((q : List ℕ) → get (pointwise nat_eq) items.new q ≡ (if pointwise nat_eq (key_of command.now) q then changed (get (pointwise nat_eq) items.old (key_of command.now)) answer.change else get (pointwise nat_eq) items.old q))) }
+        × ((q : List ℕ) → get (pointwise nat_eq) items.new q ≡ (if pointwise nat_eq (key_of command.now) q then changed (get (pointwise nat_eq) items.old (key_of command.now)) answer.change else get (pointwise nat_eq) items.old q)))) }
+    ensures dead { IfOk result (λ told. IfNone told (IsDead (get (pointwise nat_eq) items.old (key_of command.now)) moment)) }
+    ensures same { IfOk result (λ told. IfNone told ((q : List ℕ) → get (pointwise nat_eq) items.new q ≡ get (pointwise nat_eq) items.old q)) }
     ensures err { OnErr result ((q : List ℕ) → get (pointwise nat_eq) items.new q ≡ get (pointwise nat_eq) items.old q) }
     ensures spare { spare items.old ≤ spare items.new + 1 }
 {
     let key = command.key();
     let Some(item) = items.get_mut(key) else {
-        let answer = site.answer(alloc, versions, None, command, moment, room)?;
-        let told = copy_if(alloc, &answer.reply, copies)?;
-        let added = versions_of(&answer.change);
-        change_absent(alloc, items, key, answer.change)?;
-        return Ok(Answered {
-            noted: answer.reply,
-            told,
-            added,
-        });
+        let told = told_of(alloc, site, versions, None, command, moment, given, copies)?;
+        change_absent(alloc, items, key, told.change)?;
+        return Ok(Some(told.answered));
     };
-    let answer = site.answer(alloc, versions, Some(&*item), command, moment, room)?;
-    let told = copy_if(alloc, &answer.reply, copies)?;
-    let added = versions_of(&answer.change);
-    let stays = change_found(item, answer.change);
+    if item.dead(moment) {
+        return Ok(None);
+    }
+    let told = told_of(
+        alloc,
+        site,
+        versions,
+        Some(&*item),
+        command,
+        moment,
+        given,
+        copies,
+    )?;
+    let stays = change_found(item, told.change);
     if !stays {
         remove(items, key);
     }
-    Ok(Answered {
-        noted: answer.reply,
-        told,
-        added,
-    })
+    Ok(Some(told.answered))
 }

@@ -4,6 +4,7 @@ ghost use Rattle.mc_item.specs.Config.{IsBounded};
 ghost use Rattle.mc_item.specs.Measure.{stripe_of};
 ghost use Rattle.mc_item.specs.Stripe.{Fits, IsAlive, IsDead, IsUnnamed, link_named};
 ghost use Rattle.mc_stripe.specs.StripeState.{cache_now};
+ghost use Rattle.mc_stripe.specs.StripeCalls as calls;
 
 use super::*;
 use mc_item::{
@@ -81,7 +82,8 @@ fn is_unnamed(events: &[StripeEvent], link: Link) -> bool
 
 // The room for a need: a link of this number, or a refusal.
 fn room_for(need: Need, events: &[StripeEvent], number: u64, full: bool) -> Option<Room>
-    ensures { IfSome result (λ room. Fits need room events.now) }
+    ensures fits { IfSome result (λ room. Fits need room events.now) }
+    ensures given { full ≡ false → IfSome result (λ room. room ≡ calls.room_for need number) }
 {
     match need {
         Need::Fresh(class) => {
@@ -439,18 +441,19 @@ fn dead_and_taken_items_go(rt: HostRuntime) -> Result<(), Fail> {
     Ok(())
 }
 
-// Answers a command at the moment 1000, where it may be answered, and copies no reply.
-fn note(stripe: &mut StripeState, command: Command) -> Result<(), Fail> {
-    if !stripe.has(command.key()) || is_dead(stripe, command.key(), 1000) {
+// Answers a command, and copies no reply. Says whether it was answered, or given back since its key's item is dead.
+fn note(stripe: &mut StripeState, command: Command, moment: u64) -> Result<bool, Fail> {
+    if moment > 1_000_000 || !stripe.has(command.key()) {
         return Err(Fail::from("no call"));
     }
     let events = stripe.history();
-    let need = stripe.need_of(stripe.find(command.key()), &command, 1000);
-    let Some(room) = room_for(need, events, events.len() as u64, false) else {
+    let number = events.len() as u64;
+    let need = stripe.need(&command, moment);
+    if room_for(need, events, number, false).is_none() {
         return Err(Fail::from("no room"));
-    };
-    stripe.answer(WHO, command, 1000, room)?;
-    Ok(())
+    }
+    let back = stripe.answer(WHO, command, moment, number)?;
+    Ok(back.is_none())
 }
 
 // Asserts the text of the reply that the last event notes.
@@ -473,13 +476,16 @@ fn a_reply_stands_in_the_history(rt: HostRuntime) -> Result<(), Fail> {
     let alloc = rt.alloc();
     let mut stripe = stripe_one(alloc)?;
     asserts_last(&rt, alloc, &stripe, "none")?;
-    note(&mut stripe, store(alloc, Verb::Set, b"5")?)?;
+    assert!(rt; note(&mut stripe, store(alloc, Verb::Set, b"5")?, 1000)?);
     asserts_last(&rt, alloc, &stripe, "Stored")?;
     let touch = Command::Touch(b(alloc)?, 100);
     asserts(&rt, alloc, &mut stripe, touch, false, "Touched")?;
     asserts_last(&rt, alloc, &stripe, "Touched")?;
-    note(&mut stripe, Command::Get(b(alloc)?))?;
+    assert!(rt; note(&mut stripe, Command::Get(b(alloc)?), 1000)?);
     let five = "Value { flags: 7, value: Value { bytes: [53] }, cas: 2 }";
+    asserts_last(&rt, alloc, &stripe, five)?;
+    assert!(rt; !note(&mut stripe, Command::Get(b(alloc)?), 1100)?);
+    assert_eq!(rt; stripe.history().len(), 3);
     asserts_last(&rt, alloc, &stripe, five)?;
     let key = b(alloc)?;
     assert!(rt; is_active(&stripe, &key));

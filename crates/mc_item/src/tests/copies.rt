@@ -1,6 +1,6 @@
 //! Copies are equal in each part.
 use crate::tests::{key, store, value};
-use crate::{Command, Reply, Verb};
+use crate::{Command, Reply, Value, Verb};
 use std::alloc::Global;
 use std::test::Fail;
 
@@ -61,6 +61,24 @@ fn copies_of_replies(rt: HostRuntime) -> Result<(), Fail> {
         let text = format!(in alloc; "{reply:?}")?;
         let copied = format!(in alloc; "{copy:?}")?;
         assert_eq!(rt; copied.as_str(), text.as_str());
+    }
+    Ok(())
+}
+
+// A value of so many bytes, and its copy after the value is gone, have just these bytes.
+#[test]
+fn copies_of_values_on_both_sides_of_64_bytes(rt: HostRuntime) -> Result<(), Fail> {
+    let alloc = rt.alloc();
+    for count in [0, 1, 63, 64, 65, 1000] {
+        let mut bytes = vec![in alloc; b'x'; count]?;
+        bytes.push(b'y')?;
+        let value = Value::sharing(alloc, Vec::from_slice(alloc, bytes.as_slice())?)?;
+        assert_eq!(rt; value.bytes(), bytes.as_slice());
+        let copy = value.copy(alloc)?;
+        drop(value);
+        assert_eq!(rt; copy.bytes(), bytes.as_slice());
+        let again = copy.copy(alloc)?;
+        assert_eq!(rt; again.bytes(), bytes.as_slice());
     }
     Ok(())
 }

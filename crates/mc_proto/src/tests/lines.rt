@@ -28,6 +28,14 @@ fn lines_and_gets(rt: HostRuntime) {
             ),
             (b"gets a b a\r\n".as_slice(), b"gets a b a;".as_slice()),
             (
+                b"get a b c d e f\r\nget a b c d e f g\r\n".as_slice(),
+                b"get a b c d e f;get a b c d e f g;".as_slice(),
+            ),
+            (
+                b"gets a b c d e f g h i j k\r\n".as_slice(),
+                b"gets a b c d e f g h i j k;".as_slice(),
+            ),
+            (
                 b"get a\x80\xff\r\n".as_slice(),
                 b"get a\x80\xff;".as_slice(),
             ),

@@ -111,7 +111,7 @@ fn a_closed_reader_answers_nothing(rt: HostRuntime) {
         b"%next\r\nget a\r\n".as_slice(),
     ] {
         let requests = reader.feed(piece).expect(&rt, "memory");
-        for request in requests.as_slice() {
+        for request in requests {
             show(&rt, &mut seen, request);
         }
     }

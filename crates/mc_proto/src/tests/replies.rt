@@ -115,13 +115,21 @@ fn values(rt: HostRuntime) {
 
 #[test]
 fn keys_come_back(rt: HostRuntime) {
-    let Ok(key) = Key::of(rt.alloc(), b"k") else {
+    let (Ok(key), Ok(other)) = (Key::of(rt.alloc(), b"k"), Key::of(rt.alloc(), b"l")) else {
         panic!(rt; "memory");
     };
+    let Ok(alone) = Keys::one(key).into_one() else {
+        panic!(rt; "a list");
+    };
+    assert_eq!(rt; alone.bytes(), b"k".as_slice());
     let mut keys = Vec::new(rt.alloc());
-    assert!(rt; keys.push(key).is_ok());
-    for key in Keys::from_vec(keys).into_vec().as_slice() {
-        assert_eq!(rt; key.bytes(), b"k".as_slice());
+    assert!(rt; keys.push(other).is_ok());
+    let Err(keys) = Keys::from_vec(keys).into_one() else {
+        panic!(rt; "a key alone");
+    };
+    assert_eq!(rt; keys.len(), 1);
+    for key in keys.as_slice() {
+        assert_eq!(rt; key.bytes(), b"l".as_slice());
     }
 }
 

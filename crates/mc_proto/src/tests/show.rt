@@ -114,38 +114,43 @@ fn mark(rt: &impl Abort, out: &mut Vec<u8>, quiet: bool) {
 }
 
 /// Adds a request in short.
-pub fn show(rt: &impl Abort, out: &mut Vec<u8>, request: &Request) {
+pub fn show(rt: &impl Abort, out: &mut Vec<u8>, request: Request) {
     match request {
         Request::Get { keys, with_cas } => {
-            if *with_cas {
+            if with_cas {
                 text(rt, out, b"gets".as_slice());
             } else {
                 text(rt, out, b"get".as_slice());
             }
-            for k in keys.as_slice() {
-                key(rt, out, k);
+            match keys.into_one() {
+                Ok(alone) => key(rt, out, &alone),
+                Err(keys) => {
+                    for k in keys.as_slice() {
+                        key(rt, out, k);
+                    }
+                }
             }
         }
         Request::One { command: c, quiet } => {
-            mark(rt, out, *quiet);
-            command(rt, out, c);
+            mark(rt, out, quiet);
+            command(rt, out, &c);
         }
         Request::Bad { why, quiet } => {
-            mark(rt, out, *quiet);
-            text(rt, out, fault(*why));
+            mark(rt, out, quiet);
+            text(rt, out, fault(why));
         }
         Request::At(moment) => {
             text(rt, out, b"at".as_slice());
-            number(rt, out, *moment);
+            number(rt, out, moment);
         }
         Request::Next => text(rt, out, b"next".as_slice()),
         Request::Juggle(t) => {
             text(rt, out, b"juggle".as_slice());
-            target(rt, out, *t);
+            target(rt, out, t);
         }
         Request::Crawl(t) => {
             text(rt, out, b"crawl".as_slice());
-            target(rt, out, *t);
+            target(rt, out, t);
         }
         Request::Quit => text(rt, out, b"quit".as_slice()),
     }
@@ -160,7 +165,7 @@ pub fn read(rt: &impl Abort, alloc: Global, input: &[u8], size: usize) -> (Vec<u
     let mut out = Vec::new(alloc);
     for piece in input.chunks(size) {
         let requests = reader.feed(piece).expect(rt, "memory");
-        for request in requests.as_slice() {
+        for request in requests {
             show(rt, &mut out, request);
         }
     }

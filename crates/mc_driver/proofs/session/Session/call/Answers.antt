@@ -1,10 +1,17 @@
-use Rattle.mc_driver.proofs.NameLemmas.{ready_still}
+use Rattle.std.proofs.Common.{refl}
+use Rattle.mc_item.specs.Answer.{row_of}
+use Rattle.mc_item.specs.Command.{key_of}
+use Rattle.mc_stripe.specs.StripeState.{cache_now}
+use Rattle.mc_driver.proofs.NameLemmas.{ready_did, room_fits}
 use Rattle.mc_driver.proofs.session.Session.call.Goals as goal
 
-pub returns-in_err-need-clause-ready : goal.returns-in_err-need-clause-ready
-returns-in_err-need-clause-ready c =
-    ready_still c.args.self.now.stripe c.need_after.new.stripe c.args.self.now.turn c.args.self.now.moment c.args.self.now.next c.requires c.in_err-need.ensures.site c.in_err-need.ensures.more
+pub answer-requires-clause-fits : goal.answer-requires-clause-fits
+answer-requires-clause-fits c =
+    room_fits (row_of c.args.self.now.stripe.site (cache_now c.args.self.now.stripe).versions ((cache_now c.args.self.now.stripe).items (key_of c.args.command)) c.args.command c.args.self.now.moment).need
+    c.args.self.now.next c.args.self.now.stripe.history c.requires.names
 
-pub answer-requires-clause-ready : goal.answer-requires-clause-ready
-answer-requires-clause-ready c =
-    ready_still c.args.self.now.stripe c.need_after.new.stripe c.args.self.now.turn c.args.self.now.moment c.args.self.now.next c.requires c.in_ok-need.ensures.site c.in_ok-need.ensures.more
+pub returns-in-None-clause-ready : goal.returns-in-None-clause-ready
+returns-in-None-clause-ready c =
+    ready_did c.args.self.now.stripe c.answer.new.self c.args.self.now.turn c.args.self.now.moment c.args.self.now.next
+    (row_of c.args.self.now.stripe.site (cache_now c.args.self.now.stripe).versions ((cache_now c.args.self.now.stripe).items (key_of c.args.command)) c.args.command c.args.self.now.moment).need
+    _ c.requires c.in_ok-answer.ensures.site (rw c.in-None.is at c.in_ok-answer.ensures.event) refl

@@ -1,18 +1,10 @@
-use Rattle.std.proofs.Common.{refl}
-use Rattle.std.proofs.lemmas.List.Elements.{All-nil}
-use Rattle.mc_proto.specs.Grammar.{IsModerate}
-use Rattle.mc_proto.proofs.Steps.{closed_reads, closed_stays, closed_or_failed}
+use Rattle.std.proofs.Common.{◌≡◌}
+use Rattle.mc_proto.specs.declared.state.State.TheVariants.{Closed}
+use Rattle.mc_proto.proofs.Steps.{seen_closed, closed_reads}
 use Rattle.mc_proto.proofs.reader.Reader.feed.Goals as goal
 
-pub returns-in-Closed : goal.returns-in-Closed
-returns-in-Closed c =
-    let v = c.self.view_is in
+pub returns-in-Closed-clause-reads : goal.returns-in-Closed-clause-reads
+returns-in-Closed-clause-reads c = λ stream requests a.
     let r = c.self.inside in
-    record {
-      limits = cc;
-      reads = λ stream requests a. closed_reads c.args.self.now r.limits r.state c.replace-state.result r.line.items stream c.args.piece.now requests c.new.result.items v c.in-Closed.ensures.value c.in-Closed.is c.new.ensures.items a;
-      closed = λ _. (c.new.ensures.items, closed_stays c.args.self.now r.limits r.state c.replace-state.result r.line.items v c.in-Closed.ensures.value c.in-Closed.is, refl);
-      moderate = rw c.new.ensures.items (All-nil IsModerate);
-      err = tt;
-      failed = λ f. absurd (closed_or_failed c.args.self.now r.limits r.state r.line.items v c.in-Closed.ensures.value f);
-    }
+    let shut : c.args.self.now.state ≡ Closed = seen_closed c.args.self.now r.limits r.state r.line.items c.self.view_is c.in-Closed.is in
+    closed_reads c.args.self.now stream c.args.piece.now requests c.new.result.items shut c.new.ensures.items a

@@ -1,14 +1,17 @@
-use Rattle.std.proofs.Common.{◌≡◌, ap, ◌∙◌, sym, refl, List, subst, arith, ◌++◌, ◌∷◌, []}
-use Rattle.std.specs.Prelude.{nat_eq}
+use Rattle.std.proofs.Common.{ℕ, ◌≡◌, ap, ◌∙◌, sym, refl, List, subst, arith, ◌++◌, ◌∷◌, []}
+use Rattle.std.specs.Prelude.{nat_eq, Option}
 use Rattle.std.specs.Cmp.Lexicographic.{pointwise}
 use Rattle.std.specs.HashMap.{get}
 use Rattle.mc_item.specs.Answer.{row_of}
 use Rattle.mc_item.specs.Command.{key_of}
 use Rattle.mc_item.specs.Measure.{stripe_of}
-use Rattle.mc_item.specs.Stripe.{IsAlive, Fits}
+use Rattle.mc_item.specs.Stripe.{cache_of, IsAlive, Fits}
+use Rattle.mc_item.specs.declared.item.Item.{Item}
 use Rattle.mc_item.specs.declared.reply.Reply.{Reply}
+use Rattle.mc_item.specs.declared.reply.Room.{Room}
 use Rattle.mc_item.specs.declared.stripe_event.StripeEvent.{StripeEvent}
 use Rattle.mc_item.specs.declared.stripe_event.StripeEvent.TheVariants as events
+use Rattle.mc_stripe.specs.StripeCalls.{room_of}
 use Rattle.mc_stripe.specs.StripeState.{Stripe, cache_now}
 use Rattle.mc_stripe.proofs.StateLemmas.{command_kept}
 use Rattle.mc_stripe.proofs.state.StripeState.note.Goals as goal
@@ -17,14 +20,29 @@ pub invariant_of-self-2 : goal.invariant_of-self-2
 invariant_of-self-2 c =
     let back = sym c.self.view_is in
     let stripe = subst (λ (s : Stripe). stripe_of (key_of c.args.command) s.site.stripes ≡ record { 0 = s.site.stripe }) back c.requires.stripe in
-    let alive = subst (λ (s : Stripe). IsAlive ((cache_now s).items (key_of c.args.command)) c.args.moment) back c.requires.alive in
-    let fits = subst (λ (s : Stripe). Fits (row_of s.site (cache_now s).versions ((cache_now s).items (key_of c.args.command)) c.args.command c.args.moment).need c.args.room s.history) back c.requires.fits in
-    let ok = c.in_ok-answered.ensures.ok in
-    let noted : (r : Reply) → List StripeEvent = λ r. c.self.inside.history.items ++ events.Did (record { who = c.args.who; command = c.args.command; moment = c.args.moment; reply = r; room = c.args.room }) ∷ [] in
-    command_kept c.self.inside.site c.self.inside.limit c.self.inside.history.items c.push_reserved.new.self.items
-    c.self.inside.versions c.in_ok-answered.answered.added
-    (get (pointwise nat_eq) c.self.inside.items) (get (pointwise nat_eq) c.reserve.new.self) (get (pointwise nat_eq) c.answer_item.new.items)
-    c.args.who c.args.command c.args.moment c.args.room ok.0 (key_of c.args.command) (get (pointwise nat_eq) c.reserve.new.self (key_of c.args.command))
-    c.self.invariant (omega (arith, c.if-len-self.false, c.len.ensures)) stripe alive fits c.in_ok-reserve.ensures.entries.2
+    let site = c.self.inside.site in
+    let key = key_of c.args.command in
+    let command = c.args.command in
+    let moment = c.args.moment in
+    let reserved = get (pointwise nat_eq) c.reserve.new.self in
+    let cache = cache_of site c.self.inside.history.items in
+    let fits = subst (λ (s : Stripe). Fits (row_of s.site (cache_now s).versions ((cache_now s).items key) command moment).need
+    (room_of c.args.given (row_of s.site (cache_now s).versions ((cache_now s).items key) command moment).need) s.history) back c.requires.fits in
+    let item_is : reserved key ≡ cache.items key = c.in_ok-reserve.ensures.entries.2 key ∙ c.self.invariant.items_are key in
+    let need_is : (row_of site c.self.inside.versions (reserved key) command moment).need ≡ (row_of site cache.versions (cache.items key) command moment).need =
+    ap (λ (n : ℕ). (row_of site n (reserved key) command moment).need) c.self.invariant.versions_are
+    ∙ ap (λ (o : Option Item). (row_of site cache.versions o command moment).need) item_is in
+    let room_is : c.in-Some.answered.room ≡ room_of c.args.given (row_of site cache.versions (cache.items key) command moment).need =
+    (rw c.in-Some.is at c.in_ok-answered.ensures.room) ∙ ap (room_of c.args.given) need_is in
+    let ok = rw c.in-Some.is at c.in_ok-answered.ensures.ok in
+    let noted : (r : Reply) → List StripeEvent = λ r. c.self.inside.history.items ++ events.Did (record { who = c.args.who; command = command; moment = moment; reply = r; room = c.in-Some.answered.room }) ∷ [] in
+    command_kept site c.self.inside.limit c.self.inside.history.items c.push_reserved.new.self.items
+    c.self.inside.versions c.in-Some.answered.added
+    (get (pointwise nat_eq) c.self.inside.items) reserved (get (pointwise nat_eq) c.answer_item.new.items)
+    c.args.who command moment c.in-Some.answered.room ok.0 key (reserved key)
+    c.self.invariant (omega (arith, c.if-len-self.false, c.len.ensures)) stripe
+    (subst (λ (o : Option Item). IsAlive o moment) item_is (rw c.in-Some.is at c.in_ok-answered.ensures.alive))
+    (subst (λ (r : Room). Fits (row_of site cache.versions (cache.items key) command moment).need r c.self.inside.history.items) (sym room_is) fits)
+    c.in_ok-reserve.ensures.entries.2
     refl refl ok.1 ok.5 ok.4
-    (c.push_reserved.ensures.items ∙ ap (λ (h : List StripeEvent). h ++ events.Did (record { who = c.args.who; command = c.args.command; moment = c.args.moment; reply = c.in_ok-answered.answered.noted; room = c.args.room }) ∷ []) c.reserve-2.ensures.items ∙ ap noted ok.2)
+    (c.push_reserved.ensures.items ∙ ap (λ (h : List StripeEvent). h ++ events.Did (record { who = c.args.who; command = command; moment = moment; reply = c.in-Some.answered.noted; room = c.in-Some.answered.room }) ∷ []) c.reserve-2.ensures.items ∙ ap noted ok.2)

@@ -1,7 +1,7 @@
 use Rattle.std.proofs.Common.{◌∷◌, [], length-append, arith, ◌∙◌}
 use Rattle.mc_driver.specs.Script.{told_in}
 use Rattle.mc_driver.proofs.RequestLemmas.{place_kept, get_more, begins_further}
-use Rattle.mc_driver.proofs.answering.answer_get.Goals as goal
+use Rattle.mc_driver.proofs.answering.answer_keys.Goals as goal
 
 pub loop-key-preserved : goal.loop-key-preserved
 loop-key-preserved c =

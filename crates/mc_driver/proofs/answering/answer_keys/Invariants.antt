@@ -3,7 +3,7 @@ use Rattle.mc_item.specs.declared.reply.Reply.{Reply}
 use Rattle.mc_proto.specs.Text.{values_text}
 use Rattle.mc_driver.specs.Script.{keys_told}
 use Rattle.mc_driver.specs.Session.{Begins, IsReady, KeepsPlace, Tells}
-use Rattle.mc_driver.proofs.answering.answer_get.Given as goal
+use Rattle.mc_driver.proofs.answering.answer_keys.Given as goal
 
 -- the keys so far were answered
 abbrev pub invariant-loop-key : goal.invariant-loop-key

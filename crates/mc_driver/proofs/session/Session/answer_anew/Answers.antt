@@ -1,0 +1,28 @@
+use Rattle.std.proofs.Common.{refl}
+use Rattle.mc_item.specs.Answer.{row_of}
+use Rattle.mc_item.specs.Command.{key_of}
+use Rattle.mc_stripe.specs.StripeState.{cache_now}
+use Rattle.mc_driver.proofs.NameLemmas.{ready_still, ready_did, room_fits, same_names_no_more}
+use Rattle.mc_driver.proofs.session.Session.answer_anew.Goals as goal
+
+pub returns-in_err-forget-clause-ready : goal.returns-in_err-forget-clause-ready
+returns-in_err-forget-clause-ready c =
+    ready_still c.args.self.now.stripe c.forget.new.stripe c.args.self.now.turn c.args.self.now.moment c.args.self.now.next c.requires.ready c.in_err-forget.ensures.site c.in_err-forget.ensures.more
+
+pub answer-requires-clause-fits : goal.answer-requires-clause-fits
+answer-requires-clause-fits c =
+    room_fits (row_of c.forget.new.stripe.site (cache_now c.forget.new.stripe).versions ((cache_now c.forget.new.stripe).items (key_of c.args.command)) c.args.command c.args.self.now.moment).need
+    c.args.self.now.next c.forget.new.stripe.history (c.in_ok-forget.ensures.more.names c.args.self.now.next c.requires.ready.names)
+
+pub returns-in_err-answer-clause-ready : goal.returns-in_err-answer-clause-ready
+returns-in_err-answer-clause-ready c =
+    let after = ready_still c.args.self.now.stripe c.forget.new.stripe c.args.self.now.turn c.args.self.now.moment c.args.self.now.next c.requires.ready c.in_ok-forget.ensures.site c.in_ok-forget.ensures.more in
+    ready_still c.forget.new.stripe c.answer.new.self c.args.self.now.turn c.args.self.now.moment c.args.self.now.next after c.in_err-answer.ensures.site
+    (same_names_no_more c.forget.new.stripe.history c.answer.new.self.history c.in_err-answer.ensures.err)
+
+pub returns-clause-ready : goal.returns-clause-ready
+returns-clause-ready c =
+    let after = ready_still c.args.self.now.stripe c.forget.new.stripe c.args.self.now.turn c.args.self.now.moment c.args.self.now.next c.requires.ready c.in_ok-forget.ensures.site c.in_ok-forget.ensures.more in
+    ready_did c.forget.new.stripe c.answer.new.self c.args.self.now.turn c.args.self.now.moment c.args.self.now.next
+    (row_of c.forget.new.stripe.site (cache_now c.forget.new.stripe).versions ((cache_now c.forget.new.stripe).items (key_of c.args.command)) c.args.command c.args.self.now.moment).need
+    _ after c.in_ok-answer.ensures.site (rw c.in-None.is at c.in_ok-answer.ensures.event) refl
