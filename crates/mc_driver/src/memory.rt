@@ -1,12 +1,14 @@
 //! A source and a sink in memory.
-ghost use Rattle.std.specs.Prelude.{◌≡◌, ◌<◌, [], length};
+ghost use Rattle.std.specs.Prelude.{◌≡◌, ◌<◌, ◌++◌, [], OnOk, OnErr, length};
 ghost use Rattle.std.specs.List.{flat_map};
 
 use crate::source::{Source, SourceFault};
+use mc_item::NoMemory;
 use mc_proto::{Sink, SinkFault};
 use std::alloc::Global;
 use std::collections::VecDeque;
 use std::marker::Model;
+use std::mem;
 use std::sync::ledger::{Blank, Book, Ledger, Share};
 
 /// A source that gives its pieces one by one, and keeps none that it gave. It never fails.
@@ -43,11 +45,41 @@ impl Source for Pieces {
     }
 }
 
+// So much room a text has that takes the place of one that is kept.
+const ROOM: usize = 81920;
+
+// Keeps a copy of some bytes behind the pieces.
+fn keep_copy(alloc: Global, pieces: &mut Vec<Vec<u8>>, bytes: &[u8]) -> Result<(), NoMemory>
+    ensures ok { OnOk result (flat_map (λ v. v.items) pieces.new.items ≡ flat_map (λ v. v.items) pieces.old.items ++ bytes.now) }
+    ensures err { OnErr result (pieces.new.items ≡ pieces.old.items) }
+{
+    let piece = Vec::from_slice(alloc, bytes)?;
+    pieces.reserve(1)?;
+    pieces.push_reserved(piece);
+    Ok(())
+}
+
+// Keeps a text behind the pieces, without a copy, and leaves an empty one.
+fn keep_whole(
+    alloc: Global,
+    pieces: &mut Vec<Vec<u8>>,
+    text: &mut Vec<u8>,
+) -> Result<(), NoMemory>
+    ensures ok { OnOk result ((flat_map (λ v. v.items) pieces.new.items ≡ flat_map (λ v. v.items) pieces.old.items ++ text.old.items) × (text.new.items ≡ [])) }
+    ensures err { OnErr result (pieces.new.items ≡ pieces.old.items) }
+{
+    let empty = Vec::with_capacity(alloc, ROOM)?;
+    pieces.reserve(1)?;
+    pieces.push_reserved(mem::replace(text, empty));
+    Ok(())
+}
+
 /// A sink that keeps what it takes. It fails where it finds no memory; how often, a ledger counts.
 #[derive(Drop)]
 pub struct Kept<L: Ledger> {
-    /// What it has taken.
-    pub bytes: Vec<u8>,
+    /// What it has taken, in pieces.
+    pub pieces: Vec<Vec<u8>>,
+    alloc: Global,
     book: Book<L>,
     share: Share<L>,
     ghost has_part: { 0 < share.parts },
@@ -62,7 +94,8 @@ impl<L: Ledger> Kept<L> {
     {
         let (book, share) = blank.open::<L>();
         Kept {
-            bytes: Vec::new(alloc),
+            pieces: Vec::new(alloc),
+            alloc,
             book,
             share,
         }
@@ -70,13 +103,23 @@ impl<L: Ledger> Kept<L> {
 }
 
 impl<L: Ledger> Sink for Kept<L> {
-    ghost taken = { λ s. s.bytes.items };
+    ghost taken = { λ s. flat_map (λ v. v.items) s.pieces.items };
 
     ghost failures = { λ s. s.book.total };
 
     fn put(&mut self, bytes: &[u8]) -> Result<usize, SinkFault> {
-        match self.bytes.extend_from_slice(bytes) {
+        match keep_copy(self.alloc, &mut self.pieces, bytes) {
             Ok(()) => Ok(bytes.len()),
+            Err(_) => {
+                self.book.add(&mut self.share, 1);
+                Err(SinkFault)
+            }
+        }
+    }
+
+    fn put_whole(&mut self, text: &mut Vec<u8>) -> Result<(), SinkFault> {
+        match keep_whole(self.alloc, &mut self.pieces, text) {
+            Ok(()) => Ok(()),
             Err(_) => {
                 self.book.add(&mut self.share, 1);
                 Err(SinkFault)

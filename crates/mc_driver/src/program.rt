@@ -122,8 +122,10 @@ fn run_input<L: Ledger, W: Write, E: Write>(
         Err(RunFault::Scripts) => told(errors, SCRIPTS, 2),
         Ok(run) => {
             for end in run.ends.as_slice() {
-                if writer.write_all(end.1.bytes.as_slice()).is_err() {
-                    return told(errors, OUTPUT, 3);
+                for piece in end.1.pieces.as_slice() {
+                    if writer.write_all(piece.as_slice()).is_err() {
+                        return told(errors, OUTPUT, 3);
+                    }
                 }
             }
             if writer.flush().is_err() {

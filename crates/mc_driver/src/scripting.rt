@@ -11,7 +11,7 @@ use crate::outcome::Outcome;
 use crate::session::Session;
 use crate::source::Source;
 use mc_item::Fault;
-use mc_proto::{Limits, Reader, Request, Sink, SinkFault, write_reply};
+use mc_proto::{Limits, Reader, Request, Sink, SinkFault};
 use std::alloc::Global;
 use std::sync::Wait;
 
@@ -50,9 +50,7 @@ pub(crate) fn print_text<K: Sink>(sink: &mut K, text: &mut Vec<u8>) -> Result<()
     ensures err { OnErr result ((K.failures sink.old < K.failures sink.new) × IsBeginning (K.taken sink.old) (K.taken sink.new) text.old.items) }
     ensures count { K.failures sink.old ≤ K.failures sink.new }
 {
-    write_reply(sink, text.as_slice())?;
-    text.clear();
-    Ok(())
+    sink.put_whole(text)
 }
 
 // Prints what is gathered, where it is much.

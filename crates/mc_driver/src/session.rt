@@ -64,6 +64,7 @@ impl Session {
 
     /// Makes one call: its key's item is forgotten where it is dead, and then the command is answered at the
     /// session's moment. A new version is given the next link of the class that it needs.
+    #[inline(always)]
     pub fn call(&mut self, command: Command) -> Result<(), Fault>
         requires { IsReady self.old }
         ensures ready { IsReady self.new }
@@ -85,6 +86,8 @@ impl Session {
     }
 
     // Makes a call whose key's item is dead: that goes first.
+    #[cold]
+    #[inline(never)]
     fn answer_anew(&mut self, command: Command) -> Result<(), Fault>
         requires ready { IsReady self.old }
         requires dead { IsDead ((cache_now self.old.stripe).items (key_of command)) self.old.moment }

@@ -19,6 +19,7 @@ use crate::value::Value;
 use std::alloc::Global;
 
 // The answer to `get`.
+#[inline(always)]
 fn get_answer(alloc: Global, found: Option<&Item>) -> Result<Answer, NoMemory>
     ensures { IfOk result (λ a. (room : Room) → a ≡ (answers.get_row (option_copied found.entry)).answer room) }
 {
@@ -81,8 +82,9 @@ fn huge_answer(change: Change) -> Answer
 }
 
 impl Site {
-    // The class of an item's cost.
-    fn class_of_item(&self, key: &Key, value: &Value) -> Option<ClassNo>
+    /// The class of an item's cost.
+    #[inline(always)]
+    pub fn class_of_item(&self, key: &Key, value: &Value) -> Option<ClassNo>
         ensures { result ≡ measure.class_of self.now.sizes (measure.cost_of key.now value.now) }
     {
         least_class(
@@ -93,6 +95,7 @@ impl Site {
 
     /// What a command needs, where its key's item is `found`. It is the same at each moment, and after any number
     /// of versions. It takes no memory.
+    #[inline(always)]
     pub fn need(&self, found: Option<&Item>, command: &Command) -> Need
         ensures { (n moment : ℕ) → result ≡ (answers.row_of self.now n (option_copied found.entry) command.now moment).need }
     {
@@ -115,6 +118,7 @@ impl Site {
     /// The answer to a command at a moment of at most 2^62, after a number of versions, where its key's item is
     /// `found`, absent or alive, and the room fits what the command needs. The cas number of a new version is
     /// below 2^64.
+    #[inline(always)]
     pub fn answer(
         &self,
         alloc: Global,

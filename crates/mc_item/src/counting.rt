@@ -1,7 +1,8 @@
 //! The rows of `incr` and `decr`.
-ghost use Rattle.std.specs.Prelude.{◌≡◌, ◌+◌, ◌*◌, ◌<◌, ◌≤◌, ◌^◌, ◌++◌, IfOk, OnOk, length, ℕ, Option, replicate, decimal};
+ghost use Rattle.std.specs.Prelude.{◌≡◌, ◌+◌, ◌*◌, ◌<◌, ◌≤◌, ◌^◌, ◌++◌, IfOk, IfSome, IfNone, Some, OnOk, None, length, ℕ, Option, replicate, decimal};
 ghost use Rattle.std.specs.Option.{option_copied, option_map};
 ghost use Rattle.mc_item.specs.Answer as answers;
+ghost use Rattle.mc_item.specs.Cache as caches;
 ghost use Rattle.mc_item.specs.Measure as measure;
 ghost use Rattle.mc_item.specs.declared.item.Link.{Link};
 ghost use Rattle.mc_item.specs.declared.reply.Reply.TheVariants as replies;
@@ -10,6 +11,7 @@ ghost use Rattle.mc_item.specs.declared.answer.Change.TheVariants as changes;
 use crate::answer::{Answer, Change, Need, Site};
 use crate::fault::NoMemory;
 use crate::item::{ClassNo, Item, Marks};
+use itoa::Buffer;
 use crate::key::Key;
 use crate::measure::{cost, least_class, numeral_of};
 use crate::reply::{Reply, Room};
@@ -82,6 +84,28 @@ fn push_spaces(bytes: &mut Vec<u8>, count: usize) -> Result<(), NoMemory>
         bytes.push(b' ')?;
     }
     Ok(())
+}
+
+impl Item {
+    /// Counts in place, where the value is a number, the new one isn't longer, and its bytes stand here alone: the
+    /// number then, with this cas number. Else nothing changes. It takes no memory.
+    #[inline(always)]
+    pub fn count(&mut self, step: Step, cas: u64) -> Option<u64>
+        ensures number { IfSome result (λ number. option_map (answers.stepped step) (measure.numeral_of self.old.value) ≡ Some number) }
+        ensures fits { IfSome result (λ number. length (decimal number) ≤ length self.old.value) }
+        ensures done { IfSome result (λ number. self.new ≡ caches.counted (answers.padded (decimal number) (length self.old.value)) cas self.old) }
+        ensures same { result ≡ None → self.new ≡ self.old }
+    {
+        let Some(number) = counted(self, step) else {
+            return None;
+        };
+        let mut buffer = Buffer::new();
+        if !self.value.put_padded(buffer.format(number).as_bytes()) {
+            return None;
+        }
+        self.cas = cas;
+        Some(number)
+    }
 }
 
 impl Site {

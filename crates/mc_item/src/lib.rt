@@ -42,4 +42,5 @@ pub use numbers::{ClassSizes, Numbers};
 pub use reply::{Reply, Room};
 pub use spare::KeyBuffer;
 pub use stripe_event::{Cause, Cooled, Did, Lost, StripeEvent};
+pub use storing::{Content, stores_over};
 pub use value::Value;

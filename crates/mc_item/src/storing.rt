@@ -1,11 +1,14 @@
 //! The rows of the storage commands.
-ghost use Rattle.std.specs.Prelude.{◌≡◌, ◌+◌, ◌*◌, ◌<◌, ◌≤◌, ◌^◌, IfOk, length, ℕ, Option};
+ghost use Rattle.std.specs.Prelude.{◌≡◌, ◌+◌, ◌*◌, ◌<◌, ◌≤◌, ◌^◌, IfOk, OnOk, OnErr, Some, true, length, ℕ, Option};
 ghost use Rattle.std.specs.Option.{option_copied};
 ghost use Rattle.mc_item.specs.Answer as answers;
 ghost use Rattle.mc_item.specs.declared.item.Item.{Item};
 ghost use Rattle.mc_item.specs.declared.item.Link.{Link};
 ghost use Rattle.mc_item.specs.declared.reply.Reply.TheVariants as replies;
 ghost use Rattle.mc_item.specs.declared.answer.Change.TheVariants as changes;
+ghost use Rattle.mc_item.specs.declared.answer.Need.TheVariants as needs;
+ghost use Rattle.mc_item.specs.declared.item.ClassNo.{ClassNo};
+ghost use Rattle.mc_item.specs.declared.reply.Room.TheVariants as rooms;
 
 use crate::answer::{Answer, Change, Need, Site};
 use crate::command::Verb;
@@ -65,6 +68,20 @@ pub fn store_need(class: Option<ClassNo>, verb: Verb, found: Option<&Item>) -> N
     }
 }
 
+/// Whether a storage command stores over any item that it finds.
+#[inline(always)]
+pub fn stores_over(verb: Verb) -> bool
+    ensures need { result ≡ true → (class : ClassNo) (item : Item) (version : Link → Item) → (answers.store_row (Some class) verb (Some item) version).need ≡ needs.Fresh class }
+    ensures answer { result ≡ true → (class : ClassNo) (item : Item) (version : Link → Item) (link : Link) → (answers.store_row (Some class) verb (Some item) version).answer (rooms.At link) ≡ answers.answer replies.Stored (changes.Renewed (version link)) }
+{
+    match verb {
+        Verb::Set => true,
+        Verb::Replace => true,
+        Verb::Add => false,
+        Verb::Cas(_) => false,
+    }
+}
+
 // A reply to a storage command that stores nothing.
 fn declined(reply: Reply) -> Answer
     ensures { result ≡ answers.answer reply changes.Stays }
@@ -82,6 +99,33 @@ impl Site {
         ensures { result ≡ answers.cas_of self.now versions }
     {
         versions * u64::from(self.stripes) + u64::from(self.stripe) + 1
+    }
+
+    /// A new version in place of an item's. Without memory nothing changes.
+    #[inline(always)]
+    pub fn renew(
+        &self,
+        alloc: Global,
+        versions: u64,
+        item: &mut Item,
+        content: &Content<'_>,
+        link: Link,
+    ) -> Result<(), NoMemory>
+        requires { answers.cas_of self.now versions < 2 ^ 64 }
+        ensures ok { OnOk result (item.new ≡ answers.version_of self.now versions content.now.flags content.now.value.now content.now.expiry link) }
+        ensures err { OnErr result (item.new ≡ item.old) }
+    {
+        let value = content.value.copy(alloc)?;
+        item.flags = content.flags;
+        item.value = value;
+        item.expiry = content.expiry;
+        item.cas = self.cas_of(versions);
+        item.link = link;
+        item.marks = Marks {
+            fetched: false,
+            active: false,
+        };
+        Ok(())
     }
 
     // A new version, or the answer of a refusal.

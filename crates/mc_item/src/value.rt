@@ -1,5 +1,5 @@
 //! The bytes that an item holds.
-ghost use Rattle.std.specs.Prelude.{◌≡◌, IfOk};
+ghost use Rattle.std.specs.Prelude.{◌≡◌, ◌≤◌, ◌++◌, ◌-◌, IfOk, length, replicate, true, false};
 
 use crate::fault::NoMemory;
 use std::alloc::Global;
@@ -44,6 +44,29 @@ impl Model for Value {
     ghost view = { λ v. held_bytes v.bytes };
 }
 
+// Puts a text in place of bytes, and spaces behind it, where it isn't longer than they are.
+#[inline(always)]
+fn put_padded(bytes: &mut [u8], text: &[u8]) -> bool
+    ensures done { result ≡ true → (length text.now ≤ length bytes.old) × (bytes.new ≡ text.now ++ replicate (length bytes.old - length text.now) 32) }
+    ensures same { result ≡ false → bytes.new ≡ bytes.old }
+{
+    if text.len() > bytes.len() {
+        return false;
+    }
+    let (front, back) = bytes.split_at_mut(text.len());
+    front.copy_from_slice(text);
+    put_spaces(back);
+    true
+}
+
+// Puts a space in place of each byte.
+#[inline(always)]
+fn put_spaces(bytes: &mut [u8])
+    ensures { bytes.new ≡ replicate (length bytes.old) 32 }
+{
+    bytes.fill(b' ');
+}
+
 impl Value {
     /// The value of these bytes. It takes no memory, and each copy copies the bytes.
     pub fn from_vec(bytes: Vec<u8>) -> Value
@@ -76,7 +99,21 @@ impl Value {
         }
     }
 
+    /// Puts a text in place of the bytes, and spaces up to their number, where it isn't longer than they are and no
+    /// copy shares them; else nothing changes. It takes no memory.
+    #[inline(always)]
+    pub(crate) fn put_padded(&mut self, text: &[u8]) -> bool
+        ensures done { result ≡ true → (length text.now ≤ length self.old) × (self.new ≡ text.now ++ replicate (length self.old - length text.now) 32) }
+        ensures same { result ≡ false → self.new ≡ self.old }
+    {
+        match &mut self.bytes {
+            Held::Alone(bytes) => put_padded(bytes.as_mut_slice(), text),
+            Held::Shared(_) => false,
+        }
+    }
+
     /// An equal value.
+    #[inline(always)]
     pub fn copy(&self, alloc: Global) -> Result<Value, NoMemory>
         ensures { IfOk result (λ value. value ≡ self.now) }
     {

@@ -2,8 +2,13 @@
 use Rattle.std.proofs.Common.{◌≡◌, ◌++◌, ◌∷◌, [], ◌+◌, ◌<◌, ◌≤◌, ◌-◌, ◌^◌, ℕ, List, length, refl, ap, sym, ◌∙◌, arith, append_assoc, suc, zero, take, drop, get_or, take-append-drop, true, false, ◌==◌}
 use Rattle.std.proofs.lemmas.List.{take_more, at_drop_more, append-nil, length-take-le, length-drop, get_or-drop}
 use Rattle.std.proofs.Math.Nat.{pow-suc}
-use Rattle.std.proofs.lemmas.Bool.{ne_eqb, eq-eqb}
-use Rattle.mc_proto.specs.Lines.{Lacks, tokens, tokens_from}
+use Rattle.std.proofs.lemmas.Bool.{ne_eqb, eq-eqb, lt-ltb, le-leb, leb-true}
+use Rattle.std.specs.Prelude.{Bool, ◌&&◌, is_none, nat_lt, nat_le, ◌*◌, pos, if◌then◌else◌, Some, None, codes}
+use Rattle.std.specs.List.{list_all}
+use Rattle.mc_item.specs.Key.{is_key_byte}
+use Rattle.mc_item.specs.declared.key.KeyFault.TheVariants.{Empty, TooLong, BadByte}
+use Rattle.mc_item.specs.Measure.{is_digit, number_from, number_of}
+use Rattle.mc_proto.specs.Lines.{Lacks, tokens, tokens_from, is_key, number, exptime}
 use Rattle.mc_proto.proofs.Cuts.{lacks_both}
 
 pub lacks_more : (b : ℕ) (xs : List ℕ) (i : ℕ) → i < length xs → Lacks b (take i xs) → (get_or xs i 0 ≡ b → ⊥) → Lacks b (take (i + 1) xs)
@@ -52,3 +57,87 @@ pow_within n i most l h =
     let e : (most - i) + i ≡ most = omega arith in
     let u : 10 ^ i ≤ 10 ^ most = rw e at (pow_up (most - i) i) in
     omega arith
+
+byte_is_no_space : (b : ℕ) → is_key_byte b ≡ true → b ≡ 32 → ⊥
+byte_is_no_space b h is = let no : is_key_byte 32 ≡ true = rw is at h in absurd (cc)
+
+split_and : (x y : Bool) → (x && y) ≡ true → (x ≡ true) × (y ≡ true)
+split_and true y h = (refl, h)
+split_and false y h = absurd (cc)
+
+bytes_lack : (xs : List ℕ) → list_all is_key_byte xs ≡ true → Lacks 32 xs
+bytes_lack [] h = tt
+bytes_lack (b ∷ bs) h =
+    let both = split_and (is_key_byte b) (list_all is_key_byte bs) h in
+    (byte_is_no_space b both.0, bytes_lack bs both.1)
+
+fault_parts : (e w b : Bool) → is_none (if e then Some Empty else if w then Some TooLong else if b then None else Some BadByte) ≡ true → (e ≡ false) × (b ≡ true)
+fault_parts true w b h = absurd (cc)
+fault_parts false true b h = absurd (cc)
+fault_parts false false false h = absurd (cc)
+fault_parts false false true h = (refl, refl)
+
+some_length : (t : List ℕ) → (length t == 0) ≡ false → 0 < length t
+some_length [] h = absurd (cc)
+some_length (b ∷ bs) h = omega arith
+
+-- a key is one token
+pub key_is_token : (t : List ℕ) → is_key t ≡ true → tokens t ≡ t ∷ []
+key_is_token t h =
+    let parts = fault_parts (length t == 0) (nat_lt 250 (length t)) (list_all is_key_byte t) h in
+    ap tokens (sym (append-nil t)) ∙ run_on [] t [] (bytes_lack t parts.1) ∙ end_run t [] (some_length t parts.0) (λ g. absurd (omega arith))
+
+-- the tokens of a get of one key that is spelled with one space
+pub lone_tokens : (line verb token : List ℕ) → verb ≡ take 4 line → token ≡ drop 4 line → verb ≡ codes "get " → is_key token ≡ true → tokens line ≡ codes "get" ∷ token ∷ []
+lone_tokens line verb token front back word k =
+    let is : line ≡ codes "get " ++ token =
+    sym (take-append-drop 4 line) ∙ ap (λ (t : List ℕ). t ++ drop 4 line) (sym front ∙ word) ∙ ap (λ (t : List ℕ). codes "get " ++ t) (sym back) in
+    ap tokens is ∙ ap (λ (ts : List (List ℕ)). codes "get" ∷ ts) (key_is_token token k)
+
+digit_is_no_space : (b : ℕ) → is_digit b ≡ true → b ≡ 32 → ⊥
+digit_is_no_space b h is = let no : is_digit 32 ≡ true = rw is at h in absurd (cc)
+
+pub digits_lack : (xs : List ℕ) → list_all is_digit xs ≡ true → Lacks 32 xs
+digits_lack [] h = tt
+digits_lack (b ∷ bs) h =
+    let both = split_and (is_digit b) (list_all is_digit bs) h in
+    (digit_is_no_space b both.0, digits_lack bs both.1)
+
+-- one digit more
+pub number_more : (m : ℕ) (xs : List ℕ) (d : ℕ) → number_from m (xs ++ d ∷ []) ≡ 10 * number_from m xs + (d - 48)
+number_more m [] d = refl
+number_more m (x ∷ xs) d = number_more (10 * m + (x - 48)) xs d
+
+pub digits_more : (xs : List ℕ) (d : ℕ) → list_all is_digit xs ≡ true → is_digit d ≡ true → list_all is_digit (xs ++ d ∷ []) ≡ true
+digits_more [] d h g = rw g refl
+digits_more (x ∷ xs) d h g =
+    let both = split_and (is_digit x) (list_all is_digit xs) h in
+    rw both.0 (digits_more xs d both.1 g)
+
+-- up to 18 digits are a number
+pub digits_number : (t : List ℕ) → 0 < length t → length t ≤ 18 → list_all is_digit t ≡ true → number 20 t ≡ Some (number_of t)
+digits_number t z few h =
+    let some : nat_lt 0 (length t) ≡ true = lt-ltb 0 (length t) z in
+    let least : nat_le (length t) 20 ≡ true = le-leb (length t) 20 (omega arith) in
+    rw (some, least, h) refl
+
+digit_is_no_dash : (b : ℕ) → is_digit b ≡ true → b ≡ 45 → ⊥
+digit_is_no_dash b h is = let no : is_digit 45 ≡ true = rw is at h in absurd (cc)
+
+-- and an exptime
+pub digits_exptime : (t : List ℕ) → 0 < length t → length t ≤ 18 → list_all is_digit t ≡ true → exptime t ≡ Some (pos (number_of t))
+digits_exptime [] z few h = absurd (omega arith)
+digits_exptime (b ∷ bs) z few h =
+    let both = split_and (is_digit b) (list_all is_digit bs) h in
+    let off : b == 45 ≡ false = ne_eqb b 45 (digit_is_no_dash b both.0) in
+    let some : nat_lt 0 (length (b ∷ bs)) ≡ true = lt-ltb 0 (length (b ∷ bs)) z in
+    let least : nat_le (length (b ∷ bs)) 18 ≡ true = le-leb (length (b ∷ bs)) 18 few in
+    rw (off, some, least, h) refl
+
+pub digit_small : (d : ℕ) → is_digit d ≡ true → d - 48 < 10
+digit_small d h =
+    let both = split_and (nat_le 48 d) (nat_le d 57) h in
+    omega (arith, leb-true d 57 both.1)
+
+pub next_power : (i : ℕ) → 10 ^ (i + 1) ≡ 10 ^ i * 10
+next_power i = let e : i + 1 ≡ suc i = omega arith in rw e (pow-suc 10 i)

@@ -136,6 +136,7 @@ fn counts_up(call: Call) -> bool
 }
 
 /// What such a line says, when its `noreply` is taken off.
+#[inline(never)]
 pub fn call_line(
     alloc: Global,
     limits: Limits,

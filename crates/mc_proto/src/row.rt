@@ -1,24 +1,33 @@
 //! What a line says: the lines of get and of the directives here, and which line a verb begins.
-ghost use Rattle.std.specs.Prelude.{◌≡◌, ◌∷◌, [], ◌<◌, ℕ, List, IfOk, IfSome, map, true, false};
+ghost use Rattle.std.specs.Prelude.{◌≡◌, ◌∷◌, [], ◌<◌, ◌≤◌, ◌^◌, ℕ, List, IfOk, IfSome, codes, map, pos, true, false};
 ghost use Rattle.mc_proto.specs.declared.state.Word.TheVariants as words;
+ghost use Rattle.mc_item.specs.declared.command.Verb.TheVariants as stores;
 ghost use Rattle.mc_proto.specs.Lines as lines;
+ghost use Rattle.mc_proto.specs.Lines.{tokens};
 ghost use Rattle.mc_proto.specs.Grammar.{IsFine, IsModerate, closes};
 ghost use Rattle.mc_proto.specs.Rows as rows;
 ghost use Rattle.mc_proto.specs.Verbs.{IsDirective};
+ghost use Rattle.mc_proto.specs.declared.request.Limits.{Limits};
+ghost use Rattle.mc_proto.specs.declared.request.Request.TheVariants as requests;
+ghost use Rattle.mc_proto.specs.declared.state.Said.TheVariants as said;
 
 use crate::call::{call_line, due_of};
 use crate::request::{Keys, Limits, Request, Target};
-use crate::said::{no_format, no_line};
-use crate::state::{Said, Word};
-use crate::token::{first_tokens, key_of, more_tokens, number_up_to, without_cr};
+use crate::said::{no_format, no_line, one};
+use crate::state::{Said, Start, Word};
+use crate::storage::{MAX_BYTES, MAX_FLAGS, begun};
+use crate::token::{
+    first_tokens, key_of, more_tokens, next_number, next_token, number_up_to, without_cr,
+};
 use crate::word::{is_quiet, shorn, word_of};
-use mc_item::{ClassNo, Key, NoMemory};
+use mc_item::{ClassNo, Command, Key, NoMemory, Verb};
 use std::alloc::Global;
 
 /// The largest moment in seconds: 2^62.
 const MAX_MOMENT: u64 = 4_611_686_018_427_387_904;
 
 // The lines get and gets of one key, where the token can be one.
+#[inline(always)]
 fn get_said(key: Option<Key>, with_cas: bool) -> Said
     ensures value { (token : List ℕ) → key ≡ lines.key_of token → result ≡ rows.get_row with_cas (token ∷ []) }
     ensures fine { IsFine result }
@@ -33,6 +42,7 @@ fn get_said(key: Option<Key>, with_cas: bool) -> Said
 }
 
 // The lines get and gets: one or more keys.
+#[inline(always)]
 fn get_line(alloc: Global, with_cas: bool, tokens: &[&[u8]]) -> Result<Said, NoMemory>
     ensures value { IfOk result (λ s. s ≡ rows.get_row with_cas (map (λ t. t.now) tokens.now)) }
     ensures fine { IfOk result (λ s. IsFine s) }
@@ -156,6 +166,8 @@ fn lone_line(request: Request, args: &[&[u8]]) -> Said
 }
 
 // What a directive says, quit, or a line that begins with no verb.
+#[cold]
+#[inline(never)]
 fn directive_line(limits: Limits, word: Word, args: &[&[u8]]) -> Said
     ensures value { IsDirective word → result ≡ rows.row limits word (map (λ t. t.now) args.now) }
     ensures fine { IsFine result }
@@ -171,6 +183,7 @@ fn directive_line(limits: Limits, word: Word, args: &[&[u8]]) -> Said
 }
 
 // What a line says, by the line that its verb begins and the tokens behind it.
+#[inline(always)]
 fn line_of(alloc: Global, limits: Limits, word: Word, args: &[&[u8]]) -> Result<Said, NoMemory>
     ensures value { IfOk result (λ s. s ≡ rows.row limits word (map (λ t. t.now) args.now)) }
     ensures fine { IfOk result (λ s. IsFine s) }
@@ -188,6 +201,7 @@ fn line_of(alloc: Global, limits: Limits, word: Word, args: &[&[u8]]) -> Result<
 }
 
 // What the tokens of a line say.
+#[inline(always)]
 fn row_of(alloc: Global, limits: Limits, tokens: &[&[u8]]) -> Result<Said, NoMemory>
     ensures value { IfOk result (λ s. s ≡ rows.row_of limits (map (λ t. t.now) tokens.now)) }
     ensures fine { IfOk result (λ s. IsFine s) }
@@ -198,13 +212,137 @@ fn row_of(alloc: Global, limits: Limits, tokens: &[&[u8]]) -> Result<Said, NoMem
     line_of(alloc, limits, word_of(*verb), args)
 }
 
+/// The key of a line that is `get`, one space and a key, and not more; of other lines nothing is said.
+#[inline(always)]
+pub fn lone_get(alloc: Global, line: &[u8]) -> Result<Option<Key>, NoMemory>
+    ensures value { IfOk result (λ found. IfSome found (λ key. (limits : Limits) → rows.says limits line.now ≡ said.Whole (requests.Get (key ∷ []) false))) }
+    ensures fine { IfOk result (λ found. IfSome found (λ key. IsFine (said.Whole (requests.Get (key ∷ []) false)))) }
+{
+    let line = without_cr(line);
+    if line.len() < 5 {
+        return Ok(None);
+    }
+    let (verb, token) = line.split_at(4);
+    if verb != b"get ".as_slice() {
+        return Ok(None);
+    }
+    match key_of(alloc, token)? {
+        Some(key) => Ok(Some(key)),
+        None => Ok(None),
+    }
+}
+
+// What comes after `set` and one space, where a line begins so.
+#[inline(always)]
+fn after_set(line: &[u8]) -> Option<&[u8]>
+    ensures { IfSome result (λ rest. tokens line.now ≡ codes "set" ∷ tokens rest.now) }
+{
+    if line.len() < 4 {
+        return None;
+    }
+    let (verb, rest) = line.split_at(4);
+    if verb != b"set ".as_slice() {
+        return None;
+    }
+    Some(rest)
+}
+
+// A good line `set` with these numbers.
+#[inline(always)]
+fn begun_set(limits: Limits, key: Key, flags: u64, exptime: u64, count: u64) -> Said
+    requires flags { flags ≤ 4294967295 }
+    requires exptime { exptime < 10 ^ 18 }
+    requires count { count ≤ 2147483645 }
+    ensures value { result ≡ rows.begun limits (record { verb = stores.Set; key = key; flags = flags; exptime = pos exptime; count = count; quiet = false }) }
+    ensures fine { IsFine result }
+{
+    let exptime = exptime as i64;
+    begun(
+        limits,
+        Start {
+            verb: Verb::Set,
+            key,
+            flags: flags as u32,
+            exptime,
+            count,
+            quiet: false,
+        },
+    )
+}
+
+// A line `set` of a key and three numbers, one space behind the verb; of other lines nothing is said.
+#[inline(always)]
+fn quick_set(alloc: Global, limits: Limits, line: &[u8]) -> Result<Option<Said>, NoMemory>
+    ensures value { IfOk result (λ found. IfSome found (λ s. s ≡ rows.row_of limits (tokens line.now))) }
+    ensures fine { IfOk result (λ found. IfSome found (λ s. IsFine s)) }
+{
+    let Some(rest) = after_set(line) else {
+        return Ok(None);
+    };
+    let Some((token, rest)) = next_token(rest) else {
+        return Ok(None);
+    };
+    let Some((flags, rest)) = next_number(rest) else {
+        return Ok(None);
+    };
+    let Some((exptime, rest)) = next_number(rest) else {
+        return Ok(None);
+    };
+    let Some((count, rest)) = next_number(rest) else {
+        return Ok(None);
+    };
+    if !rest.is_empty() || flags > MAX_FLAGS || count > MAX_BYTES {
+        return Ok(None);
+    }
+    let Some(key) = key_of(alloc, token)? else {
+        return Ok(None);
+    };
+    Ok(Some(begun_set(limits, key, flags, exptime, count)))
+}
+
+// A line `incr` of a key and a number, one space behind the verb; of other lines nothing is said.
+#[inline(always)]
+fn quick_incr(alloc: Global, limits: Limits, line: &[u8]) -> Result<Option<Said>, NoMemory>
+    ensures value { IfOk result (λ found. IfSome found (λ s. s ≡ rows.row_of limits (tokens line.now))) }
+    ensures fine { IfOk result (λ found. IfSome found (λ s. IsFine s)) }
+{
+    let _limits = limits;
+    if line.len() < 5 {
+        return Ok(None);
+    }
+    let (verb, rest) = line.split_at(5);
+    if verb != b"incr ".as_slice() {
+        return Ok(None);
+    }
+    let Some((token, rest)) = next_token(rest) else {
+        return Ok(None);
+    };
+    let Some((delta, rest)) = next_number(rest) else {
+        return Ok(None);
+    };
+    if !rest.is_empty() {
+        return Ok(None);
+    }
+    let Some(key) = key_of(alloc, token)? else {
+        return Ok(None);
+    };
+    Ok(Some(one(false, Command::Incr(key, delta))))
+}
+
 /// What a line says, of which the LF is no part.
+#[inline(always)]
 #[tactic(auto, unfolding(crate::specs::Rows::says))]
 pub fn said_of(alloc: Global, limits: Limits, line: &[u8]) -> Result<Said, NoMemory>
     ensures value { IfOk result (λ s. s ≡ rows.says limits line.now) }
     ensures fine { IfOk result (λ s. IsFine s) }
 {
     let line = without_cr(line);
+    if let Some(said) = quick_set(alloc, limits, line)? {
+        return Ok(said);
+    }
+    if let Some(said) = quick_incr(alloc, limits, line)? {
+        return Ok(said);
+    }
     let mut few = [line; 8];
     let (count, rest) = first_tokens(line, &mut few);
     if count < 8 {

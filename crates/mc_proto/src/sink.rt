@@ -1,5 +1,5 @@
 //! Where the texts of replies go.
-ghost use Rattle.std.specs.Prelude.{◌≡◌, ◌++◌, ◌<◌, ◌≤◌, ℕ, List, IfOk, OnOk, OnErr, length, take};
+ghost use Rattle.std.specs.Prelude.{[], ◌≡◌, ◌++◌, ◌<◌, ◌≤◌, ℕ, List, IfOk, OnOk, OnErr, length, take};
 ghost use Rattle.mc_proto.specs.Text.{IsBeginning};
 
 /// A write failed.
@@ -18,6 +18,23 @@ pub trait Sink: Drop {
         ensures none { IfOk result (λ n. n ≡ 0 → 0 < length bytes.now → failures self.old < failures self.new) }
         ensures err { OnErr result ((failures self.old < failures self.new) × (taken self.new ≡ taken self.old)) }
         ensures count { failures self.old ≤ failures self.new };
+
+    /// Takes a whole text, and leaves an empty one. After a fault a beginning of it was taken, and nothing else.
+    fn put_whole(&mut self, text: &mut Vec<u8>) -> Result<(), SinkFault>
+        ensures ok { OnOk result ((taken self.new ≡ taken self.old ++ text.old.items) × (text.new.items ≡ [])) }
+        ensures err { OnErr result ((failures self.old < failures self.new) × IsBeginning (taken self.old) (taken self.new) text.old.items) }
+        ensures count { failures self.old ≤ failures self.new };
+}
+
+/// Writes a whole text piece by piece, and clears it: a `put_whole` for sinks that keep no text themselves.
+pub fn write_whole<K: Sink>(sink: &mut K, text: &mut Vec<u8>) -> Result<(), SinkFault>
+    ensures ok { OnOk result ((K.taken sink.new ≡ K.taken sink.old ++ text.old.items) × (text.new.items ≡ [])) }
+    ensures err { OnErr result ((K.failures sink.old < K.failures sink.new) × IsBeginning (K.taken sink.old) (K.taken sink.new) text.old.items) }
+    ensures count { K.failures sink.old ≤ K.failures sink.new }
+{
+    write_reply(sink, text.as_slice())?;
+    text.clear();
+    Ok(())
 }
 
 /// Writes a whole text. After a fault a beginning of it is written, and nothing else.

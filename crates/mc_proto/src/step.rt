@@ -8,8 +8,8 @@ ghost use Rattle.mc_proto.specs.declared.request.Request.{Request};
 ghost use Rattle.mc_proto.specs.declared.state.State.{State};
 ghost use Rattle.mc_proto.specs.declared.state.State.TheVariants.{Line};
 
-use crate::request::{Limits, LineFault, Request};
-use crate::row::said_of;
+use crate::request::{Keys, Limits, LineFault, Request};
+use crate::row::{lone_get, said_of};
 use crate::state::{Part, Said, Start, State};
 use crate::token::line_end;
 use bytes::BytesMut;
@@ -101,7 +101,17 @@ fn line_step(
         line.extend_from_slice(piece)?;
         return Ok(end);
     }
-    let said = said_at(alloc, limits, line, piece.split_at(end).0)?;
+    let front = piece.split_at(end).0;
+    if line.is_empty() {
+        if let Some(key) = lone_get(alloc, front)? {
+            requests.push(Request::Get {
+                keys: Keys::one(key),
+                with_cas: false,
+            })?;
+            return Ok(end + 1);
+        }
+    }
+    let said = said_at(alloc, limits, line, front)?;
     take_said(alloc, state, requests, said)?;
     Ok(end + 1)
 }

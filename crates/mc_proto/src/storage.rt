@@ -11,13 +11,14 @@ use mc_item::{Key, NoMemory, Verb};
 use std::alloc::Global;
 
 /// The largest number of bytes that a storage line may say, so that its block has at most 2^31 - 1.
-const MAX_BYTES: u64 = 2_147_483_645;
+pub const MAX_BYTES: u64 = 2_147_483_645;
 
 /// The largest flags.
-const MAX_FLAGS: u64 = 4_294_967_295;
+pub const MAX_FLAGS: u64 = 4_294_967_295;
 
-// A good storage line: a block that no slab class can hold is skipped.
-fn begun(limits: Limits, start: Start) -> Said
+/// A good storage line: a block that no slab class can hold is skipped.
+#[inline(always)]
+pub fn begun(limits: Limits, start: Start) -> Said
     requires { start.count ≤ 2147483645 }
     ensures value { result ≡ rows.begun limits start }
     ensures fine { IsFine result }

@@ -114,18 +114,47 @@ pub fn push_value_head(out: &mut Vec<u8>, key: &Key) -> Result<(), NoMemory>
     push_parts(out, &[b"VALUE ".as_slice(), key.bytes()])
 }
 
+// Adds a value's flags between two spaces; 0, which is usual, needs no digits.
+#[inline(always)]
+fn push_flags(out: &mut Vec<u8>, flags: u32) -> Result<(), NoMemory>
+    ensures ok { OnOk result (out.new.items ≡ out.old.items ++ (codes " " ++ decimal flags ++ codes " ")) }
+    ensures err { OnErr result (out.new.items ≡ out.old.items) }
+{
+    if flags == 0 {
+        return push_text(out, b" 0 ".as_slice());
+    }
+    let mut buffer = Buffer::new();
+    let digits = buffer.format(flags).as_bytes();
+    let space = b" ".as_slice();
+    push_parts(out, &[space, digits, space])
+}
+
+// Adds a value's length and the value, each in the rest of a line.
+#[inline(always)]
+fn push_block(out: &mut Vec<u8>, value: &[u8]) -> Result<(), NoMemory>
+    ensures ok { OnOk result (out.new.items ≡ out.old.items ++ (decimal (length value.now) ++ texts.crlf ++ value.now ++ texts.crlf)) }
+    ensures err { OnErr result (out.new.items ≡ out.old.items) }
+{
+    let mut buffer = Buffer::new();
+    let len = buffer.format(value.len()).as_bytes();
+    let crlf = b"\r\n".as_slice();
+    push_parts(out, &[len, crlf, value, crlf])
+}
+
 // Adds a value after its key, without a cas number.
 fn push_plain_tail(out: &mut Vec<u8>, flags: u32, value: &[u8]) -> Result<(), NoMemory>
     ensures ok { OnOk result (out.new.items ≡ out.old.items ++ (codes " " ++ decimal flags ++ codes " " ++ decimal (length value.now) ++ texts.crlf ++ value.now ++ texts.crlf)) }
     ensures err { OnErr result (out.new.items ≡ out.old.items) }
 {
-    let mut for_flags = Buffer::new();
-    let mut for_len = Buffer::new();
-    let flags = for_flags.format(flags).as_bytes();
-    let len = for_len.format(value.len()).as_bytes();
-    let space = b" ".as_slice();
-    let crlf = b"\r\n".as_slice();
-    push_parts(out, &[space, flags, space, len, crlf, value, crlf])
+    let before = out.len();
+    push_flags(out, flags)?;
+    match push_block(out, value) {
+        Ok(()) => Ok(()),
+        Err(fault) => {
+            out.truncate(before);
+            Err(fault)
+        }
+    }
 }
 
 // Adds a value after its key, with its cas number.

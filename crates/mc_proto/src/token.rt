@@ -1,11 +1,12 @@
 //! The tokens of a line, and what they say.
-ghost use Rattle.std.specs.Prelude.{◌≡◌, ◌+◌, ◌-◌, ◌<◌, ◌≤◌, ◌^◌, ◌++◌, ℕ, IfOk, IfSome, IsTrue, All, MatchOption, length, take, drop, get_or, map, ◌∷◌, [], ℤ};
+ghost use Rattle.std.specs.Prelude.{◌≡◌, ◌+◌, ◌-◌, ◌<◌, ◌≤◌, ◌^◌, ◌++◌, ℕ, IfOk, IfSome, IsTrue, All, MatchOption, length, take, drop, get_or, map, ◌∷◌, [], ℤ, List, Some, true, pos};
 ghost use Rattle.std.specs.List.{list_all};
 ghost use Rattle.mc_item.specs.Measure.{is_digit};
 ghost use Rattle.mc_proto.specs.Lines as lines;
 ghost use Rattle.mc_proto.specs.Lines.{Lacks, tokens};
 
 use mc_item::{Key, KeyFault, NoMemory};
+use memchr::memchr;
 use std::alloc::{AllocError, Global};
 
 /// The index of the first LF, or the length where there is none.
@@ -14,12 +15,10 @@ pub fn line_end(bytes: &[u8]) -> usize
     ensures before { Lacks 10 (take result bytes.now) }
     ensures found { result < length bytes.now → get_or bytes.now result 0 ≡ 10 }
 {
-    for (i, b) in bytes.iter().enumerate() {
-        if *b == b'\n' {
-            return i;
-        }
+    match memchr(b'\n', bytes) {
+        Some(i) => i,
+        None => bytes.len(),
     }
-    bytes.len()
 }
 
 // The index of the first space, or the length where there is none.
@@ -62,8 +61,9 @@ pub fn without_cr(line: &[u8]) -> &[u8]
     }
 }
 
-// The first token, and what comes after it.
-fn next_token(line: &[u8]) -> Option<(&[u8], &[u8])>
+/// The first token, and what comes after it.
+#[inline(always)]
+pub fn next_token(line: &[u8]) -> Option<(&[u8], &[u8])>
     ensures { MatchOption result (tokens line.now ≡ []) (λ x. (tokens line.now ≡ x.0.now ∷ tokens x.1.now) × (length x.1.now < length line.now)) }
 {
     let begin = spaces_end(line);
@@ -174,6 +174,55 @@ pub fn number_up_to(limit: u64, token: &[u8]) -> Option<u64>
         }
         None => None,
     }
+}
+
+// The number that the digits spell with which the bytes begin, 18 at most, and how many they are.
+#[inline(always)]
+fn digits_front(bytes: &[u8]) -> (u64, usize)
+    ensures within { result.1 ≤ length bytes.now }
+    ensures few { result.1 ≤ 18 }
+    ensures digits { list_all is_digit (take result.1 bytes.now) ≡ true }
+    ensures value { result.0 ≡ Rattle.mc_item.specs.Measure.number_of (take result.1 bytes.now) }
+    ensures bound { result.0 < 10 ^ result.1 }
+{
+    let mut number: u64 = 0;
+    for (i, b) in bytes.iter().enumerate() {
+        if i == 18 || !b.is_ascii_digit() {
+            return (number, i);
+        }
+        number = 10 * number + u64::from(*b - b'0');
+    }
+    (number, bytes.len())
+}
+
+// Whether a space or nothing follows so many bytes.
+#[inline(always)]
+fn ends_token(bytes: &[u8], count: usize) -> bool
+    ensures { result ≡ true → count < length bytes.now → get_or bytes.now count 0 ≡ 32 }
+{
+    if count < bytes.len() {
+        bytes[count] == b' '
+    } else {
+        true
+    }
+}
+
+/// The number that the first token of a line is, where it has 1 to 18 digits, and what comes after it. Of other
+/// lines nothing is said.
+#[inline(always)]
+pub fn next_number(line: &[u8]) -> Option<(u64, &[u8])>
+    ensures { IfSome result (λ x. (t : List ℕ) × (tokens line.now ≡ t ∷ tokens x.1.now) × (lines.number 20 t ≡ Some x.0) × (lines.exptime t ≡ Some (pos x.0)) × (x.0 < 10 ^ 18)) }
+{
+    let begin = spaces_end(line);
+    let (_spaces, rest) = line.split_at(begin);
+    let (number, end) = digits_front(rest);
+    if end == 0 {
+        return None;
+    }
+    if !ends_token(rest, end) {
+        return None;
+    }
+    Some((number, rest.split_at(end).1))
 }
 
 /// The exptime of a token, in seconds: an optional '-', and 1 to 18 digits.

@@ -51,6 +51,7 @@ impl StripeState {
 
     // Answers a command at a moment, and notes that as one event; a copy of the reply is made where one is asked for.
     // Where the key's item is dead, nothing happens, and the command is given back.
+    #[inline(always)]
     fn note(
         &mut self,
         who: Who,
@@ -130,6 +131,7 @@ impl StripeState {
     /// Answers a command as `apply` does, and copies no reply: it stands in the history, where `last_reply` finds it.
     /// Where the command needs a chunk, its room is the link of this number. Where its key's item is dead at the
     /// moment, nothing happens, and the command is given back.
+    #[inline(always)]
     pub fn answer(
         &mut self,
         who: Who,

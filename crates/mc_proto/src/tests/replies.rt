@@ -3,7 +3,7 @@ ghost use Rattle.std.specs.Prelude.{List, ℕ};
 
 use crate::{
     Keys, LineFault, Sink, SinkFault, fault_text, histogram_text, moves_text, push_end, push_reply,
-    push_value_head, push_value_tail, reply_text, value_text, write_reply,
+    push_value_head, push_value_tail, reply_text, value_text, write_reply, write_whole,
 };
 use mc_item::{Histogram, Key, Moves, Reply, Value};
 use std::alloc::Global;
@@ -184,6 +184,10 @@ impl<R: Abort> Sink for Slow<'_, R> {
             .extend_from_slice(bytes.split_at(count).0)
             .expect(self.rt, "memory");
         Ok(count)
+    }
+
+    fn put_whole(&mut self, text: &mut Vec<u8>) -> Result<(), SinkFault> {
+        write_whole(self, text)
     }
 }
 

@@ -2,7 +2,7 @@
 ghost use Rattle.std.specs.Prelude.{◌≡◌, ◌+◌, ◌<◌, ◌≤◌};
 
 use mc_driver::{Source, SourceFault};
-use mc_proto::{Sink, SinkFault};
+use mc_proto::{Sink, SinkFault, write_whole};
 use std::alloc::Global;
 use std::sync::ledger::{Blank, Book, Ledger, Share};
 
@@ -126,5 +126,9 @@ impl<L: Ledger> Sink for Slow<L> {
             Ok(()) => Ok(end),
             Err(_) => Err(self.fail()),
         }
+    }
+
+    fn put_whole(&mut self, text: &mut Vec<u8>) -> Result<(), SinkFault> {
+        write_whole(self, text)
     }
 }

@@ -1,0 +1,50 @@
+-- Lines of a verb, one space, and tokens.
+use Rattle.std.proofs.Common.{◌≡◌, ◌++◌, ◌∷◌, [], ◌≤◌, ◌∙◌, ℕ, ℤ, List, length, take, drop, true, false, arith, ap, sym, refl, codes, take-append-drop}
+use Rattle.std.specs.Prelude.{Option, Some, None, nat_le, if◌then◌else◌, pos}
+use Rattle.std.proofs.lemmas.Bool.{le-leb}
+use Rattle.mc_item.specs.declared.command.Verb.TheVariants as verbs
+use Rattle.mc_item.specs.declared.command.Command.TheVariants as commands
+use Rattle.mc_proto.specs.Lines.{tokens, number, number_up_to, up_to, exptime, key_of}
+use Rattle.mc_proto.specs.Rows.{row_of, stored_said, counted_said, begun, one}
+use Rattle.mc_proto.specs.declared.request.Limits.{Limits}
+use Rattle.mc_proto.specs.declared.state.Said.{Said}
+
+pub nothing_left : (xs : List ℕ) → length xs ≡ 0 → xs ≡ []
+nothing_left [] h = refl
+nothing_left (x ∷ xs) h = absurd (omega arith)
+
+front_whole : (n : ℕ) (line verb rest word : List ℕ) → verb ≡ take n line → rest ≡ drop n line → verb ≡ word → line ≡ word ++ rest
+front_whole n line verb rest word front back is =
+    sym (take-append-drop n line) ∙ ap (λ (t : List ℕ). t ++ drop n line) (sym front ∙ is) ∙ ap (λ (t : List ℕ). word ++ t) (sym back)
+
+pub set_tokens : (line verb rest : List ℕ) (ts : List (List ℕ)) → verb ≡ take 4 line → rest ≡ drop 4 line → verb ≡ codes "set " → tokens rest ≡ ts → tokens line ≡ codes "set" ∷ ts
+set_tokens line verb rest ts front back word is =
+    ap tokens (front_whole 4 line verb rest (codes "set ") front back word) ∙ ap (λ (x : List (List ℕ)). codes "set" ∷ x) is
+
+pub incr_tokens : (line verb rest : List ℕ) (ts : List (List ℕ)) → verb ≡ take 5 line → rest ≡ drop 5 line → verb ≡ codes "incr " → tokens rest ≡ ts → tokens line ≡ codes "incr" ∷ ts
+incr_tokens line verb rest ts front back word is =
+    ap tokens (front_whole 5 line verb rest (codes "incr ") front back word) ∙ ap (λ (x : List (List ℕ)). codes "incr" ∷ x) is
+
+-- the last token
+pub last_token : (rest more t : List ℕ) → tokens rest ≡ t ∷ tokens more → length more ≡ 0 → tokens rest ≡ t ∷ []
+last_token rest more t is none = is ∙ ap (λ (x : List ℕ). t ∷ tokens x) (nothing_left more none)
+
+within : (limit n : ℕ) → n ≤ limit → up_to limit (Some n) ≡ Some n
+within limit n le = let least : nat_le n limit ≡ true = le-leb n limit le in rw least refl
+
+pub number_within : (limit n : ℕ) (t : List ℕ) → number 20 t ≡ Some n → n ≤ limit → number_up_to limit t ≡ Some n
+number_within limit n t is le = ap (up_to limit) is ∙ within limit n le
+
+pub set_row : (limits : Limits) (key k f e n : List ℕ) (flags count : ℕ) (x : ℤ) → key_of k ≡ Some key → number_up_to 4294967295 f ≡ Some flags → exptime e ≡ Some x → number_up_to 2147483645 n ≡ Some count
+    → row_of limits (codes "set" ∷ k ∷ f ∷ e ∷ n ∷ []) ≡ begun limits (record { verb = verbs.Set; key = key; flags = flags; exptime = x; count = count; quiet = false })
+set_row limits key k f e n flags count x a b c d =
+    ap (λ (o : Option (List ℕ)). stored_said limits false (Some verbs.Set) o (number_up_to 4294967295 f) (exptime e) (number_up_to 2147483645 n)) a
+    ∙ ap (λ (o : Option ℕ). stored_said limits false (Some verbs.Set) (Some key) o (exptime e) (number_up_to 2147483645 n)) b
+    ∙ ap (λ (o : Option ℤ). stored_said limits false (Some verbs.Set) (Some key) (Some flags) o (number_up_to 2147483645 n)) c
+    ∙ ap (λ (o : Option ℕ). stored_said limits false (Some verbs.Set) (Some key) (Some flags) (Some x) o) d
+
+pub incr_row : (limits : Limits) (key k d : List ℕ) (delta : ℕ) → key_of k ≡ Some key → number_up_to 18446744073709551615 d ≡ Some delta
+    → row_of limits (codes "incr" ∷ k ∷ d ∷ []) ≡ one false (commands.Incr key delta)
+incr_row limits key k d delta a b =
+    ap (λ (o : Option (List ℕ)). counted_said true false o (number_up_to 18446744073709551615 d)) a
+    ∙ ap (λ (o : Option ℕ). counted_said true false (Some key) o) b
