@@ -20,8 +20,6 @@ mod reply;
 mod spare;
 mod storing;
 mod stripe_event;
-#[cfg(test)]
-mod tests;
 mod value;
 
 pub use answer::{Answer, Change, Need, Site};

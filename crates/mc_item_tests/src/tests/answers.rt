@@ -1,7 +1,8 @@
 //! The table of commands, row by row, after five versions of stripe 1 of 4, at moment 1000, with classes of 96 and 120 bytes.
 use crate::tests::{NO_MARKS, item, key, store};
-use crate::{ClassNo, ClassSizes, Command, Item, Link, Marks, Room, Site, Verb};
+use mc_item::{ClassNo, ClassSizes, Command, Item, Link, Marks, Room, Site, Verb};
 use std::alloc::Global;
+use std::process::Abort;
 use std::string::String;
 use std::test::Fail;
 
@@ -189,19 +190,26 @@ fn a_number_too_long_for_each_class(rt: HostRuntime) -> Result<(), Fail> {
     Ok(())
 }
 
+// A command of a key that has no item.
+fn asserts_absent(
+    rt: &impl Abort,
+    alloc: Global,
+    command: &Command,
+    want: &str,
+) -> Result<(), Fail> {
+    let text = told(alloc, None, command, Room::Keep)?;
+    assert_eq!(rt; text.as_str(), want);
+    Ok(())
+}
+
 #[test]
 fn absent_items(rt: HostRuntime) -> Result<(), Fail> {
     let alloc = rt.alloc();
-    for (command, want) in [
-        (Command::Get(key(alloc, b"k")?), "Nothing; Miss; Stays"),
-        (Command::Incr(key(alloc, b"k")?, 1), ABSENT),
-        (Command::Decr(key(alloc, b"k")?, 1), ABSENT),
-        (Command::Touch(key(alloc, b"k")?, 1), ABSENT),
-        (Command::Delete(key(alloc, b"k")?), ABSENT),
-    ] {
-        let text = told(alloc, None, &command, Room::Keep)?;
-        assert_eq!(rt; text.as_str(), want);
-    }
+    asserts_absent(&rt, alloc, &Command::Get(key(alloc, b"k")?), "Nothing; Miss; Stays")?;
+    asserts_absent(&rt, alloc, &Command::Incr(key(alloc, b"k")?, 1), ABSENT)?;
+    asserts_absent(&rt, alloc, &Command::Decr(key(alloc, b"k")?, 1), ABSENT)?;
+    asserts_absent(&rt, alloc, &Command::Touch(key(alloc, b"k")?, 1), ABSENT)?;
+    asserts_absent(&rt, alloc, &Command::Delete(key(alloc, b"k")?), ABSENT)?;
     Ok(())
 }
 

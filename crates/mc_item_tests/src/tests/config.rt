@@ -1,5 +1,5 @@
 //! The usual configuration, and what is wrong with others.
-use crate::{Config, ConfigFault, NoMemory, Numbers};
+use mc_item::{Config, ConfigFault, NoMemory, Numbers};
 use std::alloc::Global;
 use std::test::Fail;
 

@@ -1,6 +1,6 @@
 //! Keys and their stripes.
 use crate::tests::key;
-use crate::{KeyFault, stripe_of};
+use mc_item::{KeyFault, stripe_of};
 use std::test::Fail;
 
 #[test]

@@ -1,7 +1,8 @@
 //! Copies are equal in each part.
 use crate::tests::{key, store, value};
-use crate::{Command, Reply, Value, Verb};
+use mc_item::{Command, Reply, Value, Verb};
 use std::alloc::Global;
+use std::process::Abort;
 use std::test::Fail;
 
 // A command of the key `k`, by the number of its kind.
@@ -35,33 +36,36 @@ fn copies_of_commands(rt: HostRuntime) -> Result<(), Fail> {
     Ok(())
 }
 
+// The copy of a reply is shown as the reply.
+fn asserts_copied(rt: &impl Abort, alloc: Global, reply: &Reply) -> Result<(), Fail> {
+    let copy = reply.copy(alloc)?;
+    let text = format!(in alloc; "{reply:?}")?;
+    let copied = format!(in alloc; "{copy:?}")?;
+    assert_eq!(rt; copied.as_str(), text.as_str());
+    Ok(())
+}
+
 #[test]
 fn copies_of_replies(rt: HostRuntime) -> Result<(), Fail> {
     let alloc = rt.alloc();
-    for reply in [
-        Reply::Value {
-            flags: 1,
-            value: value(alloc, b"value")?,
-            cas: 2,
-        },
-        Reply::Miss,
-        Reply::Stored,
-        Reply::NotStored,
-        Reply::Exists,
-        Reply::NotFound,
-        Reply::Deleted,
-        Reply::Touched,
-        Reply::Number(3),
-        Reply::NonNumeric,
-        Reply::TooLarge,
-        Reply::NoRoom,
-        Reply::NoSpace,
-    ] {
-        let copy = reply.copy(alloc)?;
-        let text = format!(in alloc; "{reply:?}")?;
-        let copied = format!(in alloc; "{copy:?}")?;
-        assert_eq!(rt; copied.as_str(), text.as_str());
-    }
+    let held = Reply::Value {
+        flags: 1,
+        value: value(alloc, b"value")?,
+        cas: 2,
+    };
+    asserts_copied(&rt, alloc, &held)?;
+    asserts_copied(&rt, alloc, &Reply::Miss)?;
+    asserts_copied(&rt, alloc, &Reply::Stored)?;
+    asserts_copied(&rt, alloc, &Reply::NotStored)?;
+    asserts_copied(&rt, alloc, &Reply::Exists)?;
+    asserts_copied(&rt, alloc, &Reply::NotFound)?;
+    asserts_copied(&rt, alloc, &Reply::Deleted)?;
+    asserts_copied(&rt, alloc, &Reply::Touched)?;
+    asserts_copied(&rt, alloc, &Reply::Number(3))?;
+    asserts_copied(&rt, alloc, &Reply::NonNumeric)?;
+    asserts_copied(&rt, alloc, &Reply::TooLarge)?;
+    asserts_copied(&rt, alloc, &Reply::NoRoom)?;
+    asserts_copied(&rt, alloc, &Reply::NoSpace)?;
     Ok(())
 }
 

@@ -5,7 +5,7 @@ mod copies;
 mod keys;
 mod numbers;
 
-use crate::{ClassNo, Command, Expiry, Item, Key, KeyFault, Link, Marks, Value, Verb};
+use mc_item::{ClassNo, Command, Expiry, Item, Key, KeyFault, Link, Marks, Value, Verb};
 use std::alloc::Global;
 use std::test::Fail;
 

@@ -1,6 +1,6 @@
 //! Sizes, moments, numerals, marks and counts.
 use crate::tests::{NO_MARKS, item};
-use crate::{
+use mc_item::{
     ClassNo, ClassSizes, Config, Expiry, Histogram, Marks, Passed, class_of, cost, expiry_of,
     numeral_of,
 };
