@@ -176,6 +176,10 @@ fn push_cas_tail(out: &mut Vec<u8>, flags: u32, value: &[u8], cas: u64) -> Resul
     )
 }
 
+// More bytes than a value's text has round the value, with the end of a get. Room for all is made before the first
+// part, so that a long text grows at most once and isn't copied with the value in it.
+const AROUND: usize = 64;
+
 /// Adds a value's text behind its key: flags, number of bytes, with `gets` the cas number, and the value in a line of
 /// its own. Nothing for any other reply. After an `Err` nothing is added.
 pub fn push_value_tail(out: &mut Vec<u8>, reply: &Reply, with_cas: bool) -> Result<(), NoMemory>
@@ -185,10 +189,12 @@ pub fn push_value_tail(out: &mut Vec<u8>, reply: &Reply, with_cas: bool) -> Resu
     let Reply::Value { flags, value, cas } = reply else {
         return Ok(());
     };
+    let bytes = value.bytes();
+    out.reserve(bytes.len() + AROUND)?;
     if with_cas {
-        push_cas_tail(out, *flags, value.bytes(), *cas)
+        push_cas_tail(out, *flags, bytes, *cas)
     } else {
-        push_plain_tail(out, *flags, value.bytes())
+        push_plain_tail(out, *flags, bytes)
     }
 }
 

@@ -15,7 +15,7 @@ returns-clause-value c =
     let key : key_of c.in-Some-next_token.token.now ≡ Some c.in-Some-2.key = sym c.in_ok-key.ensures ∙ c.in-Some-2.is in
     let last = last_token e.rest.now n.rest.now n.ensures.0 n.ensures.1 none in
     let rest : tokens c.in-Some-next_token.rest.now ≡ f.ensures.0 ∷ e.ensures.0 ∷ n.ensures.0 ∷ [] =
-        f.ensures.1 ∙ ap (λ (ts : List (List ℕ)). f.ensures.0 ∷ ts) (e.ensures.1 ∙ ap (λ (ts : List (List ℕ)). e.ensures.0 ∷ ts) last) in
+    f.ensures.1 ∙ ap (λ (ts : List (List ℕ)). f.ensures.0 ∷ ts) (e.ensures.1 ∙ ap (λ (ts : List (List ℕ)). e.ensures.0 ∷ ts) last) in
     let all : tokens c.args.line.now ≡ codes "set" ∷ k.token.now ∷ f.ensures.0 ∷ e.ensures.0 ∷ n.ensures.0 ∷ [] = c.in-Some.ensures ∙ ap (λ (ts : List (List ℕ)). codes "set" ∷ ts) (k.ensures.0 ∙ ap (λ (ts : List (List ℕ)). k.token.now ∷ ts) rest) in
     c.begun_set.ensures.value
     ∙ sym (ap (row_of c.args.limits) all

@@ -17,7 +17,7 @@ returns c =
     let some : 0 < length (take c.digits_front-number.result.1 c.split_at.result.1.now) = omega (arith, z, long) in
     let few : length (take c.digits_front-number.result.1 c.split_at.result.1.now) ≤ 18 = omega (arith, long, d.ensures.few) in
     let first = first_token c.args.line.now s.result.1.now (take d.result.1 s.result.1.now) l.result.1.now b.result d.result.1
-        b.ensures.within b.ensures.before s.ensures.back d.ensures.within (digits_lack (take d.result.1 s.result.1.now) d.ensures.digits) ends z refl l.ensures.back in (
+    b.ensures.within b.ensures.before s.ensures.back d.ensures.within (digits_lack (take d.result.1 s.result.1.now) d.ensures.digits) ends z refl l.ensures.back in (
       take d.result.1 s.result.1.now,
       first.0,
       digits_number (take d.result.1 s.result.1.now) some few d.ensures.digits ∙ ap Some (sym d.ensures.value),
