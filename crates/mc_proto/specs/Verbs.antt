@@ -10,6 +10,26 @@ use Rattle.mc_proto.specs.declared.state.Word.TheVariants as words
 abbrev pub is_word : List ℕ → List ℕ → Bool
 is_word token word = pointwise nat_eq token word
 
+-- the line that a directive or quit begins
+abbrev pub directive_of : List ℕ → Word
+directive_of verb =
+    if is_word verb (codes "%at") then words.At
+    else if is_word verb (codes "%juggle") then words.Juggle
+    else if is_word verb (codes "%crawl") then words.Crawl
+    else if is_word verb (codes "%next") then words.Next
+    else if is_word verb (codes "quit") then words.Quit
+    else words.Unknown
+
+-- the line that a verb begins which isn't one of storage or reading
+abbrev pub other_of : List ℕ → Word
+other_of verb =
+    if is_word verb (codes "cas") then words.Call calls.Cas
+    else if is_word verb (codes "incr") then words.Call calls.Incr
+    else if is_word verb (codes "decr") then words.Call calls.Decr
+    else if is_word verb (codes "touch") then words.Call calls.Touch
+    else if is_word verb (codes "delete") then words.Call calls.Delete
+    else directive_of verb
+
 -- the line that a verb begins: verbs are lower case
 abbrev pub word_of : List ℕ → Word
 word_of verb =
@@ -18,17 +38,7 @@ word_of verb =
     else if is_word verb (codes "gets") then words.Gets
     else if is_word verb (codes "add") then words.Call calls.Add
     else if is_word verb (codes "replace") then words.Call calls.Replace
-    else if is_word verb (codes "cas") then words.Call calls.Cas
-    else if is_word verb (codes "incr") then words.Call calls.Incr
-    else if is_word verb (codes "decr") then words.Call calls.Decr
-    else if is_word verb (codes "touch") then words.Call calls.Touch
-    else if is_word verb (codes "delete") then words.Call calls.Delete
-    else if is_word verb (codes "%at") then words.At
-    else if is_word verb (codes "%juggle") then words.Juggle
-    else if is_word verb (codes "%crawl") then words.Crawl
-    else if is_word verb (codes "%next") then words.Next
-    else if is_word verb (codes "quit") then words.Quit
-    else words.Unknown
+    else other_of verb
 
 -- how many tokens are due behind the verb of a line that noreply can make quiet
 abbrev pub due_of : Call → ℕ

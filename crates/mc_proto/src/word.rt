@@ -4,6 +4,44 @@ ghost use Rattle.mc_proto.specs.Verbs as verbs;
 
 use crate::state::{Call, Word};
 
+// The line that a directive or quit begins.
+fn directive_of(verb: &[u8]) -> Word
+    ensures { result ≡ verbs.directive_of verb.now }
+{
+    if verb == b"%at".as_slice() {
+        Word::At
+    } else if verb == b"%juggle".as_slice() {
+        Word::Juggle
+    } else if verb == b"%crawl".as_slice() {
+        Word::Crawl
+    } else if verb == b"%next".as_slice() {
+        Word::Next
+    } else if verb == b"quit".as_slice() {
+        Word::Quit
+    } else {
+        Word::Unknown
+    }
+}
+
+// The line that a verb begins which isn't one of storage or reading.
+fn other_of(verb: &[u8]) -> Word
+    ensures { result ≡ verbs.other_of verb.now }
+{
+    if verb == b"cas".as_slice() {
+        Word::Call(Call::Cas)
+    } else if verb == b"incr".as_slice() {
+        Word::Call(Call::Incr)
+    } else if verb == b"decr".as_slice() {
+        Word::Call(Call::Decr)
+    } else if verb == b"touch".as_slice() {
+        Word::Call(Call::Touch)
+    } else if verb == b"delete".as_slice() {
+        Word::Call(Call::Delete)
+    } else {
+        directive_of(verb)
+    }
+}
+
 /// The line that a verb begins.
 pub fn word_of(verb: &[u8]) -> Word
     ensures { result ≡ verbs.word_of verb.now }
@@ -18,28 +56,8 @@ pub fn word_of(verb: &[u8]) -> Word
         Word::Call(Call::Add)
     } else if verb == b"replace".as_slice() {
         Word::Call(Call::Replace)
-    } else if verb == b"cas".as_slice() {
-        Word::Call(Call::Cas)
-    } else if verb == b"incr".as_slice() {
-        Word::Call(Call::Incr)
-    } else if verb == b"decr".as_slice() {
-        Word::Call(Call::Decr)
-    } else if verb == b"touch".as_slice() {
-        Word::Call(Call::Touch)
-    } else if verb == b"delete".as_slice() {
-        Word::Call(Call::Delete)
-    } else if verb == b"%at".as_slice() {
-        Word::At
-    } else if verb == b"%juggle".as_slice() {
-        Word::Juggle
-    } else if verb == b"%crawl".as_slice() {
-        Word::Crawl
-    } else if verb == b"%next".as_slice() {
-        Word::Next
-    } else if verb == b"quit".as_slice() {
-        Word::Quit
     } else {
-        Word::Unknown
+        other_of(verb)
     }
 }
 
