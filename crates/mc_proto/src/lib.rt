@@ -26,6 +26,3 @@ pub use text::{
     fault_text, histogram_text, moves_text, push_end, push_fault, push_reply, push_value_head,
     push_value_tail, reply_text, value_text,
 };
-
-#[cfg(test)]
-mod tests;

@@ -1,11 +1,11 @@
 //! The text of each reply, and sinks that take a little at a time.
-ghost use Rattle.std.specs.Prelude.{List, ℕ};
+ghost use Rattle.std.specs.Prelude.{List, ℕ, ◌≡◌, ◌<◌};
 
-use crate::{
-    Keys, LineFault, Sink, SinkFault, fault_text, histogram_text, moves_text, push_end, push_reply,
-    push_value_head, push_value_tail, reply_text, value_text, write_reply, write_whole,
-};
 use mc_item::{Histogram, Key, Moves, Reply, Value};
+use mc_proto::{
+    Keys, LineFault, Sink, SinkFault, fault_text, histogram_text, moves_text, push_end, push_fault,
+    push_reply, push_value_head, push_value_tail, reply_text, value_text, write_reply, write_whole,
+};
 use std::alloc::Global;
 use std::process::Abort;
 
@@ -78,6 +78,37 @@ fn faults(rt: HostRuntime) {
     ] {
         let text = fault_text(rt.alloc(), why).expect(&rt, "memory");
         assert_eq!(rt; text.as_slice(), want);
+    }
+}
+
+#[test]
+fn a_fault_is_added_behind_other_text(rt: HostRuntime) {
+    for (why, want) in [
+        (LineFault::Error, b"7\r\nERROR\r\n".as_slice()),
+        (
+            LineFault::Format,
+            b"7\r\nCLIENT_ERROR bad command line format\r\n".as_slice(),
+        ),
+        (
+            LineFault::Chunk,
+            b"7\r\nCLIENT_ERROR bad data chunk\r\n".as_slice(),
+        ),
+        (
+            LineFault::Delta,
+            b"7\r\nCLIENT_ERROR invalid numeric delta argument\r\n".as_slice(),
+        ),
+        (
+            LineFault::LineTooLong,
+            b"7\r\nCLIENT_ERROR line too long\r\n".as_slice(),
+        ),
+        (
+            LineFault::Exptime,
+            b"7\r\nCLIENT_ERROR invalid exptime argument\r\n".as_slice(),
+        ),
+    ] {
+        let mut out = Vec::from_slice(rt.alloc(), b"7\r\n").expect(&rt, "memory");
+        push_fault(&mut out, why).expect(&rt, "memory");
+        assert_eq!(rt; out.as_slice(), want);
     }
 }
 
@@ -168,6 +199,18 @@ struct Slow<'a, R: Abort> {
     failures: u64,
 }
 
+impl<R: Abort> Slow<'_, R> {
+    // A write that fails.
+    fn fail(&mut self) -> SinkFault
+        ensures taken { self.new.taken.items ≡ self.old.taken.items }
+        ensures count { self.old.failures < self.new.failures }
+    {
+        assert!(self.rt; self.failures < 9);
+        self.failures += 1;
+        SinkFault
+    }
+}
+
 impl<R: Abort> Sink for Slow<'_, R> {
     ghost taken = { λ s. s.taken.items };
 
@@ -175,9 +218,7 @@ impl<R: Abort> Sink for Slow<'_, R> {
 
     fn put(&mut self, bytes: &[u8]) -> Result<usize, SinkFault> {
         if self.most == 0 {
-            assert!(self.rt; self.failures < 9);
-            self.failures += 1;
-            return Err(SinkFault);
+            return Err(self.fail());
         }
         let count = self.most.min(bytes.len());
         self.taken
@@ -186,24 +227,53 @@ impl<R: Abort> Sink for Slow<'_, R> {
         Ok(count)
     }
 
+    // It takes a text at once that isn't handed to it by `put`.
     fn put_whole(&mut self, text: &mut Vec<u8>) -> Result<(), SinkFault> {
-        write_whole(self, text)
+        if self.most == 0 {
+            return Err(self.fail());
+        }
+        self.taken
+            .extend_from_slice(text.as_slice())
+            .expect(self.rt, "memory");
+        text.clear();
+        Ok(())
+    }
+}
+
+// A sink that has taken nothing.
+fn new_sink<'a, R: Abort>(rt: &'a R, alloc: Global, most: usize) -> Slow<'a, R> {
+    Slow {
+        rt,
+        most,
+        taken: Vec::new(alloc),
+        failures: 0,
     }
 }
 
 #[test]
 fn a_sink_that_takes_a_little_gets_the_whole(rt: HostRuntime) {
     for most in 0..9 {
-        let mut sink = Slow {
-            rt: &rt,
-            most,
-            taken: Vec::new(rt.alloc()),
-            failures: 0,
-        };
+        let mut sink = new_sink(&rt, rt.alloc(), most);
         let written = write_reply(&mut sink, b"STORED\r\n");
         assert_eq!(rt; written.is_ok(), 0 < most);
         if 0 < most {
             assert_eq!(rt; sink.taken.as_slice(), b"STORED\r\n".as_slice());
+        } else {
+            assert!(rt; sink.taken.is_empty());
+        }
+    }
+}
+
+#[test]
+fn a_text_that_is_written_whole_is_cleared(rt: HostRuntime) {
+    for most in 0..9 {
+        let mut sink = new_sink(&rt, rt.alloc(), most);
+        let mut text = Vec::from_slice(rt.alloc(), b"STORED\r\n").expect(&rt, "memory");
+        let written = write_whole(&mut sink, &mut text);
+        assert_eq!(rt; written.is_ok(), 0 < most);
+        if 0 < most {
+            assert_eq!(rt; sink.taken.as_slice(), b"STORED\r\n".as_slice());
+            assert!(rt; text.is_empty());
         } else {
             assert!(rt; sink.taken.is_empty());
         }

@@ -1,9 +1,9 @@
 //! Requests in short: `~` before a quiet one, then the verb, its tokens and `;`.
 ghost use Rattle.std.specs.Prelude.{◌<◌};
 
-use crate::{Limits, LineFault, Reader, Request, Rest, Target};
 use itoa::{Buffer, Integer};
 use mc_item::{ClassNo, Command, Key, Verb};
+use mc_proto::{Limits, LineFault, Reader, Request, Rest, Target};
 use std::alloc::Global;
 use std::process::Abort;
 

@@ -1,6 +1,6 @@
 //! One stream at every cut, and the limits of lines and keys.
 use crate::tests::show::{limits, read, show};
-use crate::{Reader, Rest};
+use mc_proto::{Reader, Rest};
 use std::alloc::Global;
 use std::process::Abort;
 
