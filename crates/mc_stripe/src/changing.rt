@@ -20,6 +20,7 @@ use mc_item::{
 };
 use std::alloc::Global;
 use std::collections::HashMap;
+use std::hash::RandomState;
 
 /// The room that a command is given: this one, or, where it needs a chunk, the link of this number in its class.
 #[derive(Clone, Copy)]
@@ -160,7 +161,7 @@ fn change_found(item: &mut Item, change: Change) -> bool
 #[inline(always)]
 fn change_absent(
     alloc: Global,
-    items: &mut HashMap<Key, Item>,
+    items: &mut HashMap<Key, Item, RandomState>,
     key: &Key,
     change: Change,
 ) -> Result<(), NoMemory>
@@ -178,7 +179,7 @@ fn change_absent(
 }
 
 // The item goes, where it is there.
-pub(crate) fn remove(items: &mut HashMap<Key, Item>, key: &Key)
+pub(crate) fn remove(items: &mut HashMap<Key, Item, RandomState>, key: &Key)
     ensures items { (q : List ℕ) → get (pointwise nat_eq) items.new q ≡ (if pointwise nat_eq key.now q then None else get (pointwise nat_eq) items.old q) }
     ensures spare { spare items.old ≤ spare items.new }
 {
@@ -363,15 +364,11 @@ fn answer_at_once(
         }
         Command::Incr(key, delta) => {
             let step = Step::Up(*delta);
-            Ok(answer_count(
-                site, versions, key, item, step, given, copies,
-            ))
+            Ok(answer_count(site, versions, key, item, step, given, copies))
         }
         Command::Decr(key, delta) => {
             let step = Step::Down(*delta);
-            Ok(answer_count(
-                site, versions, key, item, step, given, copies,
-            ))
+            Ok(answer_count(site, versions, key, item, step, given, copies))
         }
         Command::Huge { .. } | Command::Touch(_, _) | Command::Delete(_) => Ok(None),
     }
@@ -384,7 +381,7 @@ pub(crate) fn answer_item(
     alloc: Global,
     site: &Site,
     versions: u64,
-    items: &mut HashMap<Key, Item>,
+    items: &mut HashMap<Key, Item, RandomState>,
     command: &Command,
     moment: u64,
     given: Given,
@@ -416,9 +413,9 @@ pub(crate) fn answer_item(
     if item.dead(moment) {
         return Ok(None);
     }
-    if let Some(answered) =
-        answer_at_once(alloc, site, versions, item, command, moment, given, copies)?
-    {
+    if let Some(answered) = answer_at_once(
+        alloc, site, versions, item, command, moment, given, copies,
+    )? {
         return Ok(Some(answered));
     }
     let told = told_of(

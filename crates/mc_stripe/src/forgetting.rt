@@ -14,9 +14,10 @@ use crate::changing::remove;
 use crate::state::StripeState;
 use mc_item::{Cause, ClassNo, Cooled, Fault, Item, Key, Lost, StripeEvent, Who};
 use std::collections::HashMap;
+use std::hash::RandomState;
 
 // The item's ACTIVE mark goes, where the item is there.
-fn cool_item(items: &mut HashMap<Key, Item>, key: &Key)
+fn cool_item(items: &mut HashMap<Key, Item, RandomState>, key: &Key)
     ensures items { (q : List ℕ) → get (pointwise nat_eq) items.new q ≡ (if pointwise nat_eq key.now q then changed (get (pointwise nat_eq) items.old key.now) (cooled_change (get (pointwise nat_eq) items.old key.now)) else get (pointwise nat_eq) items.old q) }
     ensures spare { spare items.new ≡ spare items.old }
 {

@@ -10,17 +10,19 @@ ghost use Rattle.mc_stripe.specs.StripeCalls.{KeepsSite};
 use mc_item::{ClassSizes, Config, Fault, Item, Key, Reply, Site, StripeEvent, StripeNo};
 use std::alloc::Global;
 use std::collections::HashMap;
+use std::hash::RandomState;
 use std::marker::Model;
 
 /// One stripe's items, under their keys, and its history. Contracts see what is fixed, the limit of events, the
-/// history, and how many more events need no memory. The map hashes with a fixed seed, as memcached's does.
+/// history, and how many more events need no memory. The map hashes with the seed that it was made with: no reply
+/// depends on it, and where it is drawn anew for each run, no list of colliding keys can be made beforehand.
 #[derive(Drop)]
 pub struct StripeState {
     pub(crate) alloc: Global,
     pub(crate) site: Site,
     pub(crate) limit: u64,
     pub(crate) versions: u64,
-    pub(crate) items: HashMap<Key, Item>,
+    pub(crate) items: HashMap<Key, Item, RandomState>,
     pub(crate) history: Vec<StripeEvent>,
 }
 
@@ -38,8 +40,9 @@ impl Model for StripeState {
 }
 
 impl StripeState {
-    /// The stripe of this number of a checked configuration, without items or events. It takes no memory.
-    pub fn new(alloc: Global, number: StripeNo, config: &Config) -> StripeState
+    /// The stripe of this number of a checked configuration, without items or events. It takes no memory. Keys are
+    /// hashed with the seed, on which no reply depends.
+    pub fn new(alloc: Global, number: StripeNo, config: &Config, seed: RandomState) -> StripeState
         requires config { IsBounded config.now }
         requires number { number.0 < config.now.stripes }
         ensures site { result.site ≡ record { stripe = number.0; stripes = config.now.stripes; sizes = config.now.sizes } }
@@ -55,7 +58,7 @@ impl StripeState {
             },
             limit: config.max_events,
             versions: 0,
-            items: HashMap::new(alloc),
+            items: HashMap::with_hasher(alloc, seed),
             history: Vec::new(alloc),
         }
     }

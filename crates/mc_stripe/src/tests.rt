@@ -12,6 +12,7 @@ use mc_item::{
     Reply, StripeEvent, StripeNo, Value, Verb, Who, stripe_of,
 };
 use std::alloc::Global;
+use std::hash::RandomState;
 use std::process::Abort;
 use std::test::Fail;
 
@@ -24,7 +25,7 @@ fn checked(config: Config) -> Result<Config, Fail>
 }
 
 // Stripe 1 of 4, with the sizes 66 and 70; its history holds 16 events.
-fn stripe_one(alloc: Global) -> Result<StripeState, Fail> {
+fn stripe_one(alloc: Global, seed: RandomState) -> Result<StripeState, Fail> {
     let config = Config {
         stripes: 4,
         sizes: Numbers::from_vec(Vec::from_slice(alloc, &[66, 70])?),
@@ -36,7 +37,7 @@ fn stripe_one(alloc: Global) -> Result<StripeState, Fail> {
     if config.stripes < 2 {
         return Err(Fail::from("there are four stripes"));
     }
-    Ok(StripeState::new(alloc, StripeNo(1), &config))
+    Ok(StripeState::new(alloc, StripeNo(1), &config, seed))
 }
 
 // The key `b`, which is of stripe 1 of 4.
@@ -264,7 +265,7 @@ fn asserts<R: Abort>(
 #[test]
 fn storage_commands_follow_the_table(rt: HostRuntime) -> Result<(), Fail> {
     let alloc = rt.alloc();
-    let mut stripe = stripe_one(alloc)?;
+    let mut stripe = stripe_one(alloc, RandomState::new(&rt)?)?;
     for (verb, value, want) in [
         (Verb::Replace, b"1", "NotStored"),
         (Verb::Cas(2), b"1", "NotFound"),
@@ -297,7 +298,7 @@ fn storage_commands_follow_the_table(rt: HostRuntime) -> Result<(), Fail> {
 #[test]
 fn numbers_are_padded_and_grow(rt: HostRuntime) -> Result<(), Fail> {
     let alloc = rt.alloc();
-    let mut stripe = stripe_one(alloc)?;
+    let mut stripe = stripe_one(alloc, RandomState::new(&rt)?)?;
     for (command, want) in [
         (Command::Incr(b(alloc)?, 1), "NotFound"),
         (Command::Decr(b(alloc)?, 1), "NotFound"),
@@ -331,7 +332,7 @@ fn numbers_are_padded_and_grow(rt: HostRuntime) -> Result<(), Fail> {
 #[test]
 fn a_set_that_finds_no_room_removes_the_item(rt: HostRuntime) -> Result<(), Fail> {
     let alloc = rt.alloc();
-    let mut stripe = stripe_one(alloc)?;
+    let mut stripe = stripe_one(alloc, RandomState::new(&rt)?)?;
     let nine = "Value { flags: 7, value: Value { bytes: [57] }, cas: 2 }";
     for (command, full, want) in [
         (store(alloc, Verb::Add, b"9")?, true, "NoRoom"),
@@ -383,7 +384,7 @@ fn asserts_item<R: Abort>(
 #[test]
 fn hits_leave_marks_and_a_touch_keeps_the_cas_number(rt: HostRuntime) -> Result<(), Fail> {
     let alloc = rt.alloc();
-    let mut stripe = stripe_one(alloc)?;
+    let mut stripe = stripe_one(alloc, RandomState::new(&rt)?)?;
     let key = b(alloc)?;
     let five = store(alloc, Verb::Set, b"5")?;
     asserts(&rt, alloc, &mut stripe, five, false, "Stored")?;
@@ -421,7 +422,7 @@ fn hits_leave_marks_and_a_touch_keeps_the_cas_number(rt: HostRuntime) -> Result<
 #[test]
 fn dead_and_taken_items_go(rt: HostRuntime) -> Result<(), Fail> {
     let alloc = rt.alloc();
-    let mut stripe = stripe_one(alloc)?;
+    let mut stripe = stripe_one(alloc, RandomState::new(&rt)?)?;
     let set = store(alloc, Verb::Set, b"5")?;
     asserts(&rt, alloc, &mut stripe, set, false, "Stored")?;
     let key = b(alloc)?;
@@ -474,7 +475,7 @@ fn asserts_last<R: Abort>(
 #[test]
 fn a_reply_stands_in_the_history(rt: HostRuntime) -> Result<(), Fail> {
     let alloc = rt.alloc();
-    let mut stripe = stripe_one(alloc)?;
+    let mut stripe = stripe_one(alloc, RandomState::new(&rt)?)?;
     asserts_last(&rt, alloc, &stripe, "none")?;
     assert!(rt; note(&mut stripe, store(alloc, Verb::Set, b"5")?, 1000)?);
     asserts_last(&rt, alloc, &stripe, "Stored")?;
@@ -497,7 +498,7 @@ fn a_reply_stands_in_the_history(rt: HostRuntime) -> Result<(), Fail> {
 #[test]
 fn the_seventeenth_event_is_refused(rt: HostRuntime) -> Result<(), Fail> {
     let alloc = rt.alloc();
-    let mut stripe = stripe_one(alloc)?;
+    let mut stripe = stripe_one(alloc, RandomState::new(&rt)?)?;
     assert_eq!(rt; stripe.reserve(17), Err(Fault::HistoryFull));
     assert_eq!(rt; stripe.reserve(16), Ok(()));
     for _i in 0..16 {
