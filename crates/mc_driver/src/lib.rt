@@ -3,6 +3,7 @@
 
 mod answering;
 mod fault;
+mod help;
 mod memory;
 mod outcome;
 mod program;

@@ -10,6 +10,7 @@ use clap::Error;
 use clap::error::ErrorKind;
 use std::alloc::Global;
 use std::collections::VecDeque;
+use std::hash::RandomState;
 use std::io::{self, Read, Write};
 use std::marker::Brand;
 use std::mem;
@@ -18,6 +19,9 @@ use std::sync::ledger::{Blank, Ledger};
 
 // How many bytes are read at a time, so that the requests of so many alone are in memory at once.
 const PIECE: usize = 65536;
+
+// How many reads may be full before the input has to have ended; one more is a failed read.
+const MOST_READS: u64 = 1 << 32;
 
 const MEMORY: &[u8] = b"mcseg: out of memory\n";
 
@@ -41,7 +45,14 @@ fn told<E: Write>(errors: &mut E, line: &[u8], status: u8) -> u8
     status
 }
 
-// What the reader of the command line says: its help goes to the output, its refusals to the errors.
+// Writes a text, and hands on what a writer may hold back.
+fn print_all<W: Write>(writer: &mut W, text: &[u8]) -> io::Result<()> {
+    writer.write_all(text)?;
+    writer.flush()
+}
+
+// What the reader of the command line says: its help and its version go to the output, its refusals to the
+// errors.
 fn say_words<W: Write, E: Write>(
     alloc: Global,
     error: &Error,
@@ -57,7 +68,7 @@ fn say_words<W: Write, E: Write>(
     if error.use_stderr() {
         return told(errors, text.as_bytes(), 2);
     }
-    match writer.write_all(text.as_bytes()) {
+    match print_all(writer, text.as_bytes()) {
         Ok(()) => 0,
         Err(_) => told(errors, OUTPUT, 3),
     }
@@ -83,23 +94,28 @@ fn say_outcome<E: Write>(outcome: Option<&Outcome>, errors: &mut E) -> u8 {
     }
 }
 
-// Reads to the end, in pieces.
+// Reads to the end, in pieces. A piece that isn't full was cut by the end: a terminal, which would give more behind it,
+// isn't asked again.
 fn read_pieces<R: Read>(alloc: Global, reader: &mut R) -> io::Result<VecDeque<Vec<u8>>> {
     let mut pieces = VecDeque::new(alloc);
-    for _ in 0..u64::MAX {
+    for _ in 0..MOST_READS {
         let mut piece = Vec::with_capacity(alloc, PIECE)?;
-        if reader.by_ref().take(PIECE as u64).read_to_end(&mut piece)? == 0 {
-            break;
+        let came = reader.by_ref().take(PIECE as u64).read_to_end(&mut piece)?;
+        if came != 0 {
+            pieces.push_back(piece)?;
         }
-        pieces.push_back(piece)?;
+        if came < PIECE {
+            return Ok(pieces);
+        }
     }
-    Ok(pieces)
+    Err(io::Error::from(io::ErrorKind::TimedOut))
 }
 
 // Runs the script that is read, and prints what it replied.
 fn run_input<L: Ledger, W: Write, E: Write>(
     rt: &impl Wait,
     alloc: Global,
+    seed: RandomState,
     plan: Plan,
     input: VecDeque<Vec<u8>>,
     blank: Blank,
@@ -116,7 +132,7 @@ fn run_input<L: Ledger, W: Write, E: Write>(
     if scripts.push((source, sink)).is_err() {
         return told(errors, MEMORY, 1);
     }
-    match run_scripts(rt, alloc, plan.config, scripts, plan.upkeep.as_slice()) {
+    match run_scripts(rt, alloc, plan.config, seed, scripts, plan.upkeep.as_slice()) {
         Err(RunFault::NoMemory) => told(errors, MEMORY, 1),
         Err(RunFault::Configuration) => told(errors, CONFIGURATION, 2),
         Err(RunFault::Scripts) => told(errors, SCRIPTS, 2),
@@ -141,11 +157,12 @@ fn run_input<L: Ledger, W: Write, E: Write>(
 
 /// The whole program: reads the words and the input, runs the script that the input is, prints its replies, and
 /// answers the exit status: 0 where all went well, 1 for want of memory or a full history, 2 for words that are
-/// refused, 3 where reading or writing failed. The words begin with the program's name. The memory of the store isn't
-/// freed: it goes with the process.
+/// refused, 3 where reading or writing failed. The words begin with the program's name. `seed` is that of the store's
+/// hash; no reply depends on it. The memory of the store isn't freed: it goes with the process.
 pub fn run_words<R: Read, W: Write, E: Write>(
     rt: &impl Wait,
     alloc: Global,
+    seed: RandomState,
     words: &[&str],
     reader: &mut R,
     writer: &mut W,
@@ -175,5 +192,5 @@ pub fn run_words<R: Read, W: Write, E: Write>(
             return told(errors, INPUT, 3);
         }
     };
-    run_input::<Brand, W, E>(rt, alloc, plan, input, Blank::new(1), writer, errors)
+    run_input::<Brand, W, E>(rt, alloc, seed, plan, input, Blank::new(1), writer, errors)
 }

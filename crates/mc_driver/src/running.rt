@@ -17,6 +17,7 @@ use mc_item::{Config, StripeNo};
 use mc_proto::{Limits, Sink};
 use mc_stripe::StripeState;
 use std::alloc::Global;
+use std::hash::RandomState;
 use std::marker::Model;
 use std::sync::Wait;
 
@@ -55,7 +56,7 @@ pub struct Run<S: Drop, K: Drop> {
 }
 
 // The session of the only script: caller 0 at stripe 0, before its first turn.
-fn first_session(alloc: Global, config: &Config) -> Session
+fn first_session(alloc: Global, config: &Config, seed: RandomState) -> Session
     requires config { IsBounded config.now }
     requires stripes { config.now.stripes ≡ 1 }
     ensures ready { IsReady result }
@@ -63,6 +64,7 @@ fn first_session(alloc: Global, config: &Config) -> Session
     ensures caller { result.caller ≡ 0 }
     ensures place { (result.stripe.site ≡ site_of config.now) × (result.stripe.limit ≡ config.now.max_events) }
 {
+    let _seed = seed;
     Session {
         alloc,
         stripe: StripeState::new(alloc, StripeNo(0), config),
@@ -116,11 +118,13 @@ fn left(session: Session) -> Final
 }
 
 /// Runs scripts against a store of this configuration, whose number of callers is set here: one script for now, one
-/// stripe, and no upkeep. Each script's bytes come from its source, and its replies go to its sink.
+/// stripe, and no upkeep. Each script's bytes come from its source, and its replies go to its sink. `seed` is that of the
+/// store's hash; no reply depends on it.
 pub fn run_scripts<S: Source, K: Sink>(
     rt: &impl Wait,
     alloc: Global,
     config: Config,
+    seed: RandomState,
     scripts: Vec<(S, K)>,
     upkeep: &[u64],
 ) -> Result<Run<S, K>, RunFault>
@@ -143,7 +147,7 @@ pub fn run_scripts<S: Source, K: Sink>(
     let mut outcomes = Vec::with_capacity(alloc, 3)?;
     let (mut source, mut sink) = scripts.pop().unwrap();
     let limits = limits_for(&config);
-    let mut session = first_session(alloc, &config);
+    let mut session = first_session(alloc, &config, seed);
     let outcome = run_script(rt, alloc, limits, &mut session, &mut source, &mut sink);
     scripts.push_reserved((source, sink));
     outcomes.push_reserved(outcome);

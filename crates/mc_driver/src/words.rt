@@ -5,6 +5,7 @@ ghost use Rattle.mc_item.specs.Config.{fault_of};
 ghost use Rattle.mc_driver.specs.Words.{AreNamed, IsFault, IsListOf, IsNoList, NamesNone, asked, fault_number};
 ghost use Rattle.mc_driver.specs.declared.words.PlanFault.TheVariants as faults;
 
+use crate::help::{ABOUT, AFTER, VERSION};
 use clap::{Arg, ArgAction, Command, Error};
 use mc_item::{Config, ConfigFault, NoMemory, Numbers};
 use std::alloc::{AllocError, Global};
@@ -39,7 +40,7 @@ impl From<NoMemory> for PlanFault {
 /// What is wrong with the words.
 #[derive(Drop)]
 pub enum WordsFault {
-    /// The reader of the command line refused them, or has a help to show.
+    /// The reader of the command line refused them, or has its help or version to show.
     Words(Error),
     /// A list isn't one of numbers below 2^64 with one comma between two.
     List,
@@ -70,26 +71,6 @@ impl From<PlanFault> for WordsFault {
         }
     }
 }
-
-const ABOUT: &str =
-    "Answers a script of memcached's storage commands on standard input, as a cache that is empty at first.";
-
-const AFTER: &str = "\
-Lines are those of memcached's classic text protocol, and end in CR LF or LF:
-  get gets set add replace cas incr decr touch delete quit
-
-Directives stand in the place of a command:
-  %at <second>  sets the moment, at first 1000, for the commands that follow; it has no reply
-  %next         ends the script, as quit does
-
-Exit statuses:
-  0  all went well
-  1  out of memory, or a history is full; what was answered before is printed
-  2  the words of the command line were refused
-  3  reading standard input or writing standard output failed
-
-Example:
-  printf 'set a 7 0 5\\r\\nhello\\r\\nget a\\r\\n' | mcseg";
 
 // The number that these digits spell, where it is below 2^64; leading zeros are fine.
 fn number_in(digits: &[u8]) -> Option<u64>
@@ -148,15 +129,16 @@ fn command_of<'a>(alloc: Global) -> Result<Command<'a>, AllocError> {
         .action(ArgAction::Set)
         .value_name("n,n,..")
         .help(
-            "the sizes of the slab classes in bytes, rising, each from 65 to 1048576 [default: 43 sizes from 96 to 1048576]",
+            "the sizes of the slab classes in bytes, rising, each from 65{n}to 1,048,576 [default: 43 sizes from 96 to 1,048,576]",
         );
     let events = Arg::new(alloc, "events")
         .long("events")
         .action(ArgAction::Set)
         .value_parser(clap::value_parser!(u64))
         .value_name("n")
-        .help("how many events a history may hold, from 16 to 4294967296 [default: 1048576]");
+        .help("how many events a history may hold, from 16 to{n}4,294,967,296 [default: 1,048,576]");
     Command::new(alloc, "mcseg")
+        .version(VERSION)
         .about(ABOUT)
         .after_help(AFTER)
         .arg(sizes)?

@@ -2,9 +2,10 @@
 #![tactic(auto)]
 
 use mc_driver::run_words;
-use std::io::Write;
+use std::hash::RandomState;
+use std::io::ErrorKind;
 use std::process::ExitCode;
-use std::{env, io};
+use std::{env, fmt, io};
 
 // The words of the command line.
 fn words_of(rt: &HostRuntime) -> io::Result<Vec<String>> {
@@ -15,36 +16,47 @@ fn words_of(rt: &HostRuntime) -> io::Result<Vec<String>> {
     Ok(words)
 }
 
-// The exit where the words can't be had: want of memory is told as elsewhere, another error as it is.
-fn refused(rt: &HostRuntime, error: io::Error) -> io::Result<ExitCode> {
-    if error.kind() != io::ErrorKind::OutOfMemory {
-        return Err(error);
-    }
-    let _ = rt.stderr().write_all(b"mcseg: out of memory\n");
-    Ok(ExitCode::from(1))
+// The exit with this status, and a line on standard error; that it fails changes no status.
+fn told(rt: &HostRuntime, line: fmt::Arguments<'_>, status: u8) -> ExitCode {
+    let _ = eprintln!(rt; "mcseg: {line}");
+    ExitCode::from(status)
 }
 
-fn main(rt: HostRuntime) -> io::Result<ExitCode> {
+// The exit where the words can't be had.
+fn refused(rt: &HostRuntime, error: &io::Error) -> ExitCode {
+    match error.kind() {
+        ErrorKind::OutOfMemory => told(rt, format_args!("out of memory"), 1),
+        ErrorKind::InvalidData => {
+            told(rt, format_args!("a word of the command line is not UTF-8"), 2)
+        }
+        _ => told(rt, format_args!("no words of the command line: {error}"), 3),
+    }
+}
+
+fn main(rt: HostRuntime) -> ExitCode {
     let alloc = rt.alloc();
     let words = match words_of(&rt) {
         Ok(words) => words,
-        Err(error) => {
-            return refused(&rt, error);
-        }
+        Err(error) => return refused(&rt, &error),
     };
     let mut texts = Vec::new(alloc);
     for word in words.as_slice() {
         if let Err(error) = texts.push(word.as_str()) {
-            return refused(&rt, error.into());
+            return refused(&rt, &error.into());
         }
     }
+    let seed = match RandomState::new(&rt) {
+        Ok(seed) => seed,
+        Err(error) => return told(&rt, format_args!("no random numbers: {error}"), 3),
+    };
     let status = run_words(
         &rt,
         alloc,
+        seed,
         texts.as_slice(),
         &mut rt.stdin(),
         &mut rt.stdout(),
         &mut rt.stderr(),
     );
-    Ok(ExitCode::from(status))
+    ExitCode::from(status)
 }

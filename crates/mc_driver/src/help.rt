@@ -1,0 +1,65 @@
+//! What the program says of itself.
+
+/// The version of the program.
+pub const VERSION: &str = "0.1.0";
+
+/// What the program does.
+pub const ABOUT: &str =
+    "Answers memcached's storage commands from standard input, as a cache that is empty at first.";
+
+/// All else that a person has to know before the first script.
+pub const AFTER: &str = "\
+Requests are those of memcached's classic text protocol. Their replies are printed when the input
+has ended.
+  get <key>..    gets <key>..    touch <key> <exptime>    delete <key>    quit
+  set, add, replace <key> <flags> <exptime> <bytes>       incr, decr <key> <delta>
+  cas <key> <flags> <exptime> <bytes> <cas number>
+A line ends in CR LF or in LF. Behind a line of set, add, replace or cas comes its block, which has
+as many bytes as the line says and always ends in CR LF. A line that ends in the word noreply is
+answered by nothing, not even by an error; get, gets, quit and directives don't take that word.
+
+Directives stand in the place of a command:
+  %at <second>  sets the moment, at first 1000, for the commands that follow; it has no reply
+  %next         ends the script, as quit does
+
+Limits:
+  key           1 to 250 bytes, none of them NUL, LF, CR or space
+  line          65,536 bytes before its LF
+  flags         below 2^32
+  exptime       1 to 18 digits, with or without a minus sign
+  value         the size of the largest slab class, less 64 bytes and those of the key
+  delta         below 2^64, as a cas number
+  moment        0 to 2^62
+
+The history keeps an event for each command that is answered, one for each key of a get, and an
+event for each item that is found dead. It is full when it has as many as --events allows.
+
+Exit statuses, and the lines on standard error:
+  0  all went well, or help or the version was printed
+  1  a growth was refused, or the history is full; what was answered before is printed
+       mcseg: out of memory
+       mcseg: history full                a larger --events makes room
+  2  the words of the command line were refused
+       error: <what is wrong>             no options as above, or no number behind --events
+       mcseg: a word of the command line is not UTF-8
+       mcseg: bad list                    no decimal numbers with one comma between two
+       mcseg: bad configuration <number>  the first of these that is out of its bounds:
+         1 stripes   1, 2, 4, 8, 16, 32 or 64
+         2 sizes     1 to 63 of them, each larger than the one before, from 65 to 1,048,576
+         3 chunks    as many limits as sizes, each from 1 to 1,048,576
+         4 percents  each from 1 to 99, together at most 99
+         5 factors   up to 10,000, and 1 to 2,592,000 seconds in TEMP
+         6 callers   1 to 64
+         7 events    16 to 4,294,967,296
+  3  reading or writing failed, or the system gave no random numbers
+       mcseg: input failed
+       mcseg: output failed
+       mcseg: no random numbers: <why>
+
+Example:
+  printf 'set a 7 0 5\\r\\nhello\\r\\nget a\\r\\n' | mcseg
+prints
+  STORED
+  VALUE a 7 5
+  hello
+  END";
