@@ -64,10 +64,9 @@ fn first_session(alloc: Global, config: &Config, seed: RandomState) -> Session
     ensures caller { result.caller ≡ 0 }
     ensures place { (result.stripe.site ≡ site_of config.now) × (result.stripe.limit ≡ config.now.max_events) }
 {
-    let _seed = seed;
     Session {
         alloc,
-        stripe: StripeState::new(alloc, StripeNo(0), config),
+        stripe: StripeState::new(alloc, StripeNo(0), config, seed),
         caller: 0,
         turn: 0,
         moment: 1000,

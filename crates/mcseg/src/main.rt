@@ -2,10 +2,11 @@
 #![tactic(auto)]
 
 use mc_driver::run_words;
+use std::fmt::Display;
 use std::hash::RandomState;
 use std::io::ErrorKind;
 use std::process::ExitCode;
-use std::{env, fmt, io};
+use std::{env, io};
 
 // The words of the command line.
 fn words_of(rt: &HostRuntime) -> io::Result<Vec<String>> {
@@ -17,7 +18,7 @@ fn words_of(rt: &HostRuntime) -> io::Result<Vec<String>> {
 }
 
 // The exit with this status, and a line on standard error; that it fails changes no status.
-fn told(rt: &HostRuntime, line: fmt::Arguments<'_>, status: u8) -> ExitCode {
+fn told(rt: &HostRuntime, line: impl Display + Drop, status: u8) -> ExitCode {
     let _ = eprintln!(rt; "mcseg: {line}");
     ExitCode::from(status)
 }
@@ -25,10 +26,8 @@ fn told(rt: &HostRuntime, line: fmt::Arguments<'_>, status: u8) -> ExitCode {
 // The exit where the words can't be had.
 fn refused(rt: &HostRuntime, error: &io::Error) -> ExitCode {
     match error.kind() {
-        ErrorKind::OutOfMemory => told(rt, format_args!("out of memory"), 1),
-        ErrorKind::InvalidData => {
-            told(rt, format_args!("a word of the command line is not UTF-8"), 2)
-        }
+        ErrorKind::OutOfMemory => told(rt, "out of memory", 1),
+        ErrorKind::InvalidData => told(rt, "a word of the command line is not UTF-8", 2),
         _ => told(rt, format_args!("no words of the command line: {error}"), 3),
     }
 }
