@@ -8,6 +8,3 @@ mod state;
 
 pub use mc_item::{Need, Room};
 pub use state::StripeState;
-
-#[cfg(test)]
-mod tests;

@@ -1,13 +1,16 @@
 //! The state of a stripe.
-ghost use Rattle.std.specs.Prelude.{◌≡◌, ◌≤◌, ◌<◌, ◌+◌, ◌^◌, [], OnOk, OnErr, IsErrOf, ◌↔◌, length};
+ghost use Rattle.std.specs.Prelude.{◌≡◌, ◌≤◌, ◌<◌, ◌+◌, ◌^◌, [], OnOk, OnErr, IsErrOf, IsTrue, ◌↔◌, length};
 ghost use Rattle.std.specs.Option.{option_copied};
 ghost use Rattle.mc_item.specs.Config.{IsBounded};
+ghost use Rattle.mc_item.specs.Measure as measure;
 ghost use Rattle.mc_item.specs.Stripe.{IsLegal};
 ghost use Rattle.mc_item.specs.declared.fault.Fault.TheVariants as faults;
 ghost use Rattle.mc_stripe.specs.StripeState.{cache_now, last_reply};
 ghost use Rattle.mc_stripe.specs.StripeCalls.{KeepsSite};
 
-use mc_item::{ClassSizes, Config, Fault, Item, Key, Reply, Site, StripeEvent, StripeNo};
+use mc_item::{
+    ClassSizes, Config, Fault, Item, Key, Reply, Site, StripeEvent, StripeNo, stripe_of,
+};
 use std::alloc::Global;
 use std::collections::HashMap;
 use std::hash::RandomState;
@@ -61,6 +64,13 @@ impl StripeState {
             items: HashMap::with_hasher(alloc, seed),
             history: Vec::new(alloc),
         }
+    }
+
+    /// Whether a key is of this stripe, as that of each command on it must be. It takes no memory.
+    pub fn owns(&self, key: &Key) -> bool
+        ensures { IsTrue result ↔ (measure.stripe_of key.now self.now.site.stripes ≡ record { 0 = self.now.site.stripe }) }
+    {
+        stripe_of(key, self.site.stripes).0 == self.site.stripe
     }
 
     /// The item of a key, dead or alive.

@@ -1,5 +1,5 @@
 use Rattle.std.proofs.Common.{length}
-use Rattle.mc_stripe.proofs.tests.+is_unnamed.Given as goal
+use Rattle.mc_stripe_tests.proofs.tests.calls.+is_unnamed.Given as goal
 
 abbrev pub decreases-is_unnamed : goal.decreases-is_unnamed
 decreases-is_unnamed l = length l.events.now

@@ -1,0 +1,203 @@
+//! Calls of a stripe where what they require holds, and what is asserted of them.
+ghost use Rattle.std.specs.Prelude.{◌≡◌, ◌≢◌, IfSome, IsSomeAnd, MatchBool, Some, true, false};
+ghost use Rattle.mc_item.specs.Stripe.{Fits, IsAlive, IsDead, IsUnnamed, link_named};
+ghost use Rattle.mc_stripe.specs.StripeState.{cache_now};
+ghost use Rattle.mc_stripe.specs.StripeCalls as calls;
+
+use super::plain::{item_text, plain, reply_text, version_count};
+use super::{Asked, WHO, b, command_of};
+use mc_item::{Command, Fault, Key, Link, StripeEvent};
+use mc_stripe::{Need, Room, StripeState};
+use std::alloc::Global;
+use std::process::Abort;
+use std::test::Fail;
+
+// Whether an event gives the link to a new version.
+fn gives(event: &StripeEvent, link: Link) -> bool
+    ensures { result ≡ false → link_named event.now ≢ Some link }
+{
+    match event {
+        StripeEvent::Did(did) => match did.room {
+            Room::At(given) => given == link,
+            Room::Keep => false,
+            Room::Refused { .. } => false,
+        },
+        StripeEvent::Lost(_) => false,
+        StripeEvent::Cooled(_) => false,
+    }
+}
+
+// Whether no event gives the link.
+fn is_unnamed(events: &[StripeEvent], link: Link) -> bool
+    ensures { result ≡ true → IsUnnamed link events.now }
+{
+    match events {
+        [] => true,
+        [first, ..] => !gives(first, link) && is_unnamed(&events[1..], link),
+    }
+}
+
+// The room for a need: a link of this number, or a refusal.
+fn room_for(need: Need, events: &[StripeEvent], number: u64, full: bool) -> Option<Room>
+    ensures fits { IfSome result (λ room. Fits need room events.now) }
+    ensures given { full ≡ false → IfSome result (λ room. room ≡ calls.room_for need number) }
+{
+    match need {
+        Need::Fresh(class) => {
+            let link = Link { class, number };
+            if full {
+                Some(Room::Refused { class, place: 0 })
+            } else if is_unnamed(events, link) {
+                Some(Room::At(link))
+            } else {
+                None
+            }
+        }
+        Need::Nothing => Some(Room::Keep),
+        Need::Same => Some(Room::Keep),
+        Need::TooLarge => Some(Room::Keep),
+    }
+}
+
+/// Whether the key's item is dead at a moment.
+pub fn is_dead(stripe: &StripeState, key: &Key, moment: u64) -> bool
+    ensures { MatchBool result (IsDead ((cache_now stripe.now).items key.now) moment) (IsAlive ((cache_now stripe.now).items key.now) moment) }
+{
+    match stripe.find(key) {
+        Some(item) => item.dead(moment),
+        None => false,
+    }
+}
+
+/// Whether the key's item has the mark ACTIVE.
+pub fn is_active(stripe: &StripeState, key: &Key) -> bool
+    ensures { result ≡ true → IsSomeAnd ((cache_now stripe.now).items key.now) (λ item. item.marks.active ≡ true) }
+{
+    match stripe.find(key) {
+        Some(item) => item.marks.active,
+        None => false,
+    }
+}
+
+/// Whether the key's item has a chunk of class 1.
+pub fn is_of_first(stripe: &StripeState, key: &Key) -> bool
+    ensures { result ≡ true → IsSomeAnd ((cache_now stripe.now).items key.now) (λ item. item.link.class ≡ record { 0 = 1 }) }
+{
+    match stripe.find(key) {
+        Some(item) => item.link.class.0 == 1,
+        None => false,
+    }
+}
+
+/// The texts of a reply and of the item that is left, by the plain program and by the stripe.
+#[derive(Drop)]
+pub struct Texts {
+    plain: (String, String),
+    reply: String,
+    left: String,
+}
+
+// The texts of the reply to a command and of the item that it leaves, where it may be answered at this moment. A new
+// version's link has the number of its event; where the class is full, there is none.
+fn answered(
+    alloc: Global,
+    stripe: &mut StripeState,
+    command: Command,
+    moment: u64,
+    full: bool,
+) -> Result<Option<Texts>, Fault> {
+    if moment > 1 << 62 || !stripe.owns(command.key()) || is_dead(stripe, command.key(), moment) {
+        return Ok(None);
+    }
+    let events = stripe.history();
+    let versions = version_count(events) as u64;
+    let need = stripe.need(&command, moment);
+    let Some(room) = room_for(need, events, events.len() as u64, full) else {
+        return Ok(None);
+    };
+    if versions > 16 {
+        return Ok(None);
+    }
+    let key = command.key().copy(alloc)?;
+    let plain = plain(alloc, versions, stripe.find(&key), &command, moment, room)?;
+    let reply = stripe.apply(WHO, command, moment, room)?;
+    let left = item_text(alloc, stripe.find(&key))?;
+    let reply = reply_text(alloc, &reply)?;
+    Ok(Some(Texts { plain, reply, left }))
+}
+
+/// Whether a get of the key `b` is refused since the history is full.
+pub fn is_refused(alloc: Global, stripe: &mut StripeState) -> Result<bool, Fail> {
+    let command = command_of(alloc, Asked::Get)?;
+    match answered(alloc, stripe, command, 1000, false) {
+        Ok(_) => Ok(false),
+        Err(fault) => Ok(fault == Fault::HistoryFull),
+    }
+}
+
+/// Answers a command, and copies no reply. Says whether it was answered, or given back since its key's item is dead.
+pub fn notes(
+    alloc: Global,
+    stripe: &mut StripeState,
+    asked: Asked,
+    moment: u64,
+) -> Result<bool, Fail> {
+    let command = command_of(alloc, asked)?;
+    if moment > 1_000_000 || !stripe.owns(command.key()) {
+        return Err(Fail::from("no call"));
+    }
+    let events = stripe.history();
+    let number = events.len() as u64;
+    let need = stripe.need(&command, moment);
+    if room_for(need, events, number, false).is_none() {
+        return Err(Fail::from("no room"));
+    }
+    let back = stripe.answer(WHO, command, moment, number)?;
+    Ok(back.is_none())
+}
+
+/// Asserts what is answered at the moment 1000, and that the stripe and the plain program of the table agree on the
+/// reply and on the item that is left.
+pub fn asserts<R: Abort>(
+    rt: &R,
+    alloc: Global,
+    stripe: &mut StripeState,
+    asked: Asked,
+    full: bool,
+    want: &str,
+) -> Result<(), Fail> {
+    let command = command_of(alloc, asked)?;
+    let Some(texts) = answered(alloc, stripe, command, 1000, full)? else {
+        return Err(Fail::from("no call"));
+    };
+    assert_eq!(rt; texts.reply.as_str(), want);
+    assert_eq!(rt; texts.plain.0.as_str(), want);
+    assert_eq!(rt; texts.left.as_str(), texts.plain.1.as_str());
+    Ok(())
+}
+
+/// Asserts each row in turn: what is asked, whether the class is full, and the reply.
+pub fn asserts_rows<R: Abort>(
+    rt: &R,
+    alloc: Global,
+    stripe: &mut StripeState,
+    rows: &[(Asked, bool, &str)],
+) -> Result<(), Fail> {
+    for row in rows {
+        asserts(rt, alloc, stripe, row.0, row.1, row.2)?;
+    }
+    Ok(())
+}
+
+/// Asserts the text of the item under the key `b`.
+pub fn asserts_item<R: Abort>(
+    rt: &R,
+    alloc: Global,
+    stripe: &StripeState,
+    want: &str,
+) -> Result<(), Fail> {
+    let key = b(alloc)?;
+    let text = item_text(alloc, stripe.find(&key))?;
+    assert_eq!(rt; text.as_str(), want);
+    Ok(())
+}
