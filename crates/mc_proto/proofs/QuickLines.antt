@@ -1,6 +1,6 @@
 -- Lines of a verb, one space, and tokens.
 use Rattle.std.proofs.Common.{◌≡◌, ◌++◌, ◌∷◌, [], ◌≤◌, ◌∙◌, ℕ, ℤ, List, length, take, drop, true, false, arith, ap, sym, refl, codes, take-append-drop}
-use Rattle.std.specs.Prelude.{Option, Some, None, nat_le, if◌then◌else◌, pos}
+use Rattle.std.specs.Prelude.{Bool, Option, Some, None, nat_le, if◌then◌else◌, pos}
 use Rattle.std.proofs.lemmas.Bool.{le-leb}
 use Rattle.mc_item.specs.declared.command.Verb.TheVariants as verbs
 use Rattle.mc_item.specs.declared.command.Command.TheVariants as commands
@@ -35,13 +35,22 @@ within limit n le = let least : nat_le n limit ≡ true = le-leb n limit le in r
 pub number_within : (limit n : ℕ) (t : List ℕ) → number 20 t ≡ Some n → n ≤ limit → number_up_to limit t ≡ Some n
 number_within limit n t is le = ap (up_to limit) is ∙ within limit n le
 
-pub set_row : (limits : Limits) (key k f e n : List ℕ) (flags count : ℕ) (x : ℤ) → key_of k ≡ Some key → number_up_to 4294967295 f ≡ Some flags → exptime e ≡ Some x → number_up_to 2147483645 n ≡ Some count
-    → row_of limits (codes "set" ∷ k ∷ f ∷ e ∷ n ∷ []) ≡ begun limits (record { verb = verbs.Set; key = key; flags = flags; exptime = x; count = count; quiet = false })
-set_row limits key k f e n flags count x a b c d =
+-- what ends a line that may be quiet
+abbrev pub quiet_tokens : Bool → List (List ℕ)
+quiet_tokens quiet = if quiet then codes "noreply" ∷ [] else []
+
+pub set_row : (limits : Limits) (key k f e n : List ℕ) (flags count : ℕ) (x : ℤ) (quiet : Bool) → key_of k ≡ Some key → number_up_to 4294967295 f ≡ Some flags → exptime e ≡ Some x → number_up_to 2147483645 n ≡ Some count
+    → row_of limits (codes "set" ∷ k ∷ f ∷ e ∷ n ∷ quiet_tokens quiet) ≡ begun limits (record { verb = verbs.Set; key = key; flags = flags; exptime = x; count = count; quiet = quiet })
+set_row limits key k f e n flags count x false a b c d =
     ap (λ (o : Option (List ℕ)). stored_said limits false (Some verbs.Set) o (number_up_to 4294967295 f) (exptime e) (number_up_to 2147483645 n)) a
     ∙ ap (λ (o : Option ℕ). stored_said limits false (Some verbs.Set) (Some key) o (exptime e) (number_up_to 2147483645 n)) b
     ∙ ap (λ (o : Option ℤ). stored_said limits false (Some verbs.Set) (Some key) (Some flags) o (number_up_to 2147483645 n)) c
     ∙ ap (λ (o : Option ℕ). stored_said limits false (Some verbs.Set) (Some key) (Some flags) (Some x) o) d
+set_row limits key k f e n flags count x true a b c d =
+    ap (λ (o : Option (List ℕ)). stored_said limits true (Some verbs.Set) o (number_up_to 4294967295 f) (exptime e) (number_up_to 2147483645 n)) a
+    ∙ ap (λ (o : Option ℕ). stored_said limits true (Some verbs.Set) (Some key) o (exptime e) (number_up_to 2147483645 n)) b
+    ∙ ap (λ (o : Option ℤ). stored_said limits true (Some verbs.Set) (Some key) (Some flags) o (number_up_to 2147483645 n)) c
+    ∙ ap (λ (o : Option ℕ). stored_said limits true (Some verbs.Set) (Some key) (Some flags) (Some x) o) d
 
 pub incr_row : (limits : Limits) (key k d : List ℕ) (delta : ℕ) → key_of k ≡ Some key → number_up_to 18446744073709551615 d ≡ Some delta
     → row_of limits (codes "incr" ∷ k ∷ d ∷ []) ≡ one false (commands.Incr key delta)

@@ -1,5 +1,5 @@
 //! What a line says: the lines of get and of the directives here, and which line a verb begins.
-ghost use Rattle.std.specs.Prelude.{◌≡◌, ◌∷◌, [], ◌<◌, ◌≤◌, ◌^◌, ℕ, List, IfOk, IfSome, codes, map, pos, true, false};
+ghost use Rattle.std.specs.Prelude.{◌≡◌, ◌∷◌, [], ◌<◌, ◌≤◌, ◌^◌, ℕ, List, IfOk, IfSome, codes, if◌then◌else◌, map, pos, true, false};
 ghost use Rattle.mc_proto.specs.declared.state.Word.TheVariants as words;
 ghost use Rattle.mc_item.specs.declared.command.Verb.TheVariants as stores;
 ghost use Rattle.mc_proto.specs.Lines as lines;
@@ -247,13 +247,27 @@ fn after_set(line: &[u8]) -> Option<&[u8]>
     Some(rest)
 }
 
+// What is left of a line that has no further token, or only the word that makes it quiet; of others nothing is said.
+#[inline(always)]
+fn quiet_end(rest: &[u8]) -> Option<bool>
+    ensures { IfSome result (λ quiet. tokens rest.now ≡ (if quiet then codes "noreply" ∷ [] else [])) }
+{
+    if rest.is_empty() {
+        return Some(false);
+    }
+    if rest != b"noreply".as_slice() {
+        return None;
+    }
+    Some(true)
+}
+
 // A good line `set` with these numbers.
 #[inline(always)]
-fn begun_set(limits: Limits, key: Key, flags: u64, exptime: u64, count: u64) -> Said
+fn begun_set(limits: Limits, key: Key, flags: u64, exptime: u64, count: u64, quiet: bool) -> Said
     requires flags { flags ≤ 4294967295 }
     requires exptime { exptime < 10 ^ 18 }
     requires count { count ≤ 2147483645 }
-    ensures value { result ≡ rows.begun limits (record { verb = stores.Set; key = key; flags = flags; exptime = pos exptime; count = count; quiet = false }) }
+    ensures value { result ≡ rows.begun limits (record { verb = stores.Set; key = key; flags = flags; exptime = pos exptime; count = count; quiet = quiet }) }
     ensures fine { IsFine result }
 {
     let exptime = exptime as i64;
@@ -265,12 +279,12 @@ fn begun_set(limits: Limits, key: Key, flags: u64, exptime: u64, count: u64) -> 
             flags: flags as u32,
             exptime,
             count,
-            quiet: false,
+            quiet,
         },
     )
 }
 
-// A line `set` of a key and three numbers, one space behind the verb; of other lines nothing is said.
+// A line `set` of a key, three numbers and perhaps noreply, one space behind the verb; of other lines nothing is said.
 #[inline(always)]
 fn quick_set(alloc: Global, limits: Limits, line: &[u8]) -> Result<Option<Said>, NoMemory>
     ensures value { IfOk result (λ found. IfSome found (λ s. s ≡ rows.row_of limits (tokens line.now))) }
@@ -291,13 +305,16 @@ fn quick_set(alloc: Global, limits: Limits, line: &[u8]) -> Result<Option<Said>,
     let Some((count, rest)) = next_number(rest) else {
         return Ok(None);
     };
-    if !rest.is_empty() || flags > MAX_FLAGS || count > MAX_BYTES {
+    let Some(quiet) = quiet_end(rest) else {
+        return Ok(None);
+    };
+    if flags > MAX_FLAGS || count > MAX_BYTES {
         return Ok(None);
     }
     let Some(key) = key_of(alloc, token)? else {
         return Ok(None);
     };
-    Ok(Some(begun_set(limits, key, flags, exptime, count)))
+    Ok(Some(begun_set(limits, key, flags, exptime, count, quiet)))
 }
 
 // A line `incr` of a key and a number, one space behind the verb; of other lines nothing is said.
@@ -329,13 +346,6 @@ fn quick_incr(alloc: Global, limits: Limits, line: &[u8]) -> Result<Option<Said>
     Ok(Some(one(false, Command::Incr(key, delta))))
 }
 
-// Whether a line ends in a digit, as each does that the quick ways take: a line that ends in noreply isn't read twice.
-#[inline(always)]
-fn ends_in_digit(line: &[u8]) -> bool {
-    let count = line.len();
-    count > 0 && line[count - 1].is_ascii_digit()
-}
-
 /// What a line says, of which the LF is no part.
 #[inline(always)]
 #[tactic(auto, unfolding(crate::specs::Rows::says))]
@@ -344,13 +354,11 @@ pub fn said_of(alloc: Global, limits: Limits, line: &[u8]) -> Result<Said, NoMem
     ensures fine { IfOk result (λ s. IsFine s) }
 {
     let line = without_cr(line);
-    if ends_in_digit(line) {
-        if let Some(said) = quick_set(alloc, limits, line)? {
-            return Ok(said);
-        }
-        if let Some(said) = quick_incr(alloc, limits, line)? {
-            return Ok(said);
-        }
+    if let Some(said) = quick_set(alloc, limits, line)? {
+        return Ok(said);
+    }
+    if let Some(said) = quick_incr(alloc, limits, line)? {
+        return Ok(said);
     }
     let mut few = [line; 8];
     let (count, rest) = first_tokens(line, &mut few);

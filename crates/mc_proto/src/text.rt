@@ -180,6 +180,21 @@ fn push_cas_tail(out: &mut Vec<u8>, flags: u32, value: &[u8], cas: u64) -> Resul
 // part, so that a long text grows at most once and isn't copied with the value in it.
 const AROUND: usize = 64;
 
+// Makes room for n more bytes. A text that has to move takes what it holds along, and not its whole old room.
+#[inline(always)]
+fn make_room(out: &mut Vec<u8>, n: usize) -> Result<(), NoMemory>
+    ensures { out.new.items ≡ out.old.items }
+{
+    let len = out.len();
+    if out.capacity() - len >= n {
+        return Ok(());
+    }
+    let mut larger = Vec::with_capacity(*out.allocator(), len.saturating_add(n.max(len)))?;
+    larger.extend_from_slice(out.as_slice())?;
+    *out = larger;
+    Ok(())
+}
+
 /// Adds a value's text behind its key: flags, number of bytes, with `gets` the cas number, and the value in a line of
 /// its own. Nothing for any other reply. After an `Err` nothing is added.
 pub fn push_value_tail(out: &mut Vec<u8>, reply: &Reply, with_cas: bool) -> Result<(), NoMemory>
@@ -190,7 +205,7 @@ pub fn push_value_tail(out: &mut Vec<u8>, reply: &Reply, with_cas: bool) -> Resu
         return Ok(());
     };
     let bytes = value.bytes();
-    out.reserve(bytes.len() + AROUND)?;
+    make_room(out, bytes.len() + AROUND)?;
     if with_cas {
         push_cas_tail(out, *flags, bytes, *cas)
     } else {
