@@ -1,5 +1,5 @@
 //! Commands on a stripe.
-ghost use Rattle.std.specs.Prelude.{◌≡◌, ◌≤◌, ◌<◌, ◌+◌, ◌^◌, ℕ, Option, None, false, IfOk, IfErr, IfSome, IfNone, OnOk, OnErr, OnSome, Some, if◌then◌else◌, IsErrOf, ◌↔◌, length};
+ghost use Rattle.std.specs.Prelude.{◌≡◌, ◌≤◌, ◌<◌, ◌+◌, ◌^◌, ℕ, Option, None, false, IfOk, IfErr, IfSome, IfNone, OnOk, OnErr, OnSome, Some, if◌then◌else◌, IsErrOf, ◌↔◌, ◌++◌, ◌∷◌, [], length, vec_len, vec_capacity};
 ghost use Rattle.mc_item.specs.Answer.{row_of};
 ghost use Rattle.mc_item.specs.Cache.{answer_of};
 ghost use Rattle.mc_item.specs.Command.{key_of};
@@ -13,7 +13,7 @@ ghost use Rattle.mc_stripe.specs.StripeState.{cache_now, last_reply};
 ghost use Rattle.mc_stripe.specs.StripeCalls.{KeepsSite, Gains, Notes, room_for, room_of};
 
 use crate::changing::{Given, answer_item};
-use crate::state::StripeState;
+use crate::state::{StripeState, is_full};
 use mc_item::{Command, Did, Fault, Need, Reply, Room, StripeEvent, Verb, Who};
 
 // Whether a command's need depends on the item under its key.
@@ -34,6 +34,28 @@ fn asks_for_item(command: &Command) -> bool
         Command::Touch(_, _) => false,
         Command::Delete(_) => false,
     }
+}
+
+// A command that was answered is one event more, at the end. There is room for it.
+#[inline(always)]
+fn push_answer(
+    history: &mut Vec<StripeEvent>,
+    who: Who,
+    command: Command,
+    moment: u64,
+    reply: Reply,
+    room: Room,
+)
+    requires { vec_len history.old < vec_capacity history.old }
+    ensures { history.new.items ≡ history.old.items ++ events.Did (record { who = who; command = command; moment = moment; reply = reply; room = room }) ∷ [] }
+{
+    history.push_reserved(StripeEvent::Did(Did {
+        who,
+        command,
+        moment,
+        reply,
+        room,
+    }));
 }
 
 impl StripeState {
@@ -75,7 +97,7 @@ impl StripeState {
         ensures err { OnErr result (self.new.history ≡ self.old.history) }
         ensures site { KeepsSite self.old self.new }
     {
-        if self.history.len() as u64 >= self.limit {
+        if is_full(self.history.as_slice(), self.limit) {
             return Err(Fault::HistoryFull);
         }
         self.items.reserve(1)?;
@@ -94,13 +116,14 @@ impl StripeState {
             return Ok(Err(command));
         };
         self.versions += answered.added;
-        self.history.push_reserved(StripeEvent::Did(Did {
+        push_answer(
+            &mut self.history,
             who,
             command,
             moment,
-            reply: answered.noted,
-            room: answered.room,
-        }));
+            answered.noted,
+            answered.room,
+        );
         Ok(Ok(answered.told))
     }
 

@@ -11,7 +11,7 @@ ghost use Rattle.mc_stripe.specs.StripeState.{cache_now};
 ghost use Rattle.mc_stripe.specs.StripeCalls.{KeepsSite, Gains};
 
 use crate::changing::remove;
-use crate::state::StripeState;
+use crate::state::{StripeState, is_full};
 use mc_item::{Cause, ClassNo, Cooled, Fault, Item, Key, Lost, StripeEvent, Who};
 use std::collections::HashMap;
 use std::hash::RandomState;
@@ -37,7 +37,7 @@ impl StripeState {
         ensures site { KeepsSite self.old self.new }
         ensures room { self.old.room ≤ self.new.room + 1 }
     {
-        if self.history.len() as u64 >= self.limit {
+        if is_full(self.history.as_slice(), self.limit) {
             return Err(Fault::HistoryFull);
         }
         self.history.reserve(1)?;
@@ -91,7 +91,7 @@ impl StripeState {
         ensures site { KeepsSite self.old self.new }
         ensures room { self.old.room ≤ self.new.room + 1 }
     {
-        if self.history.len() as u64 >= self.limit {
+        if is_full(self.history.as_slice(), self.limit) {
             return Err(Fault::HistoryFull);
         }
         self.history.reserve(1)?;

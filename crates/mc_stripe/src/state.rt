@@ -1,5 +1,5 @@
 //! The state of a stripe.
-ghost use Rattle.std.specs.Prelude.{◌≡◌, ◌≤◌, ◌<◌, ◌+◌, ◌^◌, [], OnOk, OnErr, IsErrOf, IsTrue, ◌↔◌, length};
+ghost use Rattle.std.specs.Prelude.{◌≡◌, ◌≤◌, ◌<◌, ◌+◌, ◌^◌, [], OnOk, OnErr, IsErrOf, IsTrue, MatchBool, ◌↔◌, length};
 ghost use Rattle.std.specs.Option.{option_copied};
 ghost use Rattle.mc_item.specs.Config.{IsBounded};
 ghost use Rattle.mc_item.specs.Measure as measure;
@@ -40,6 +40,14 @@ impl Model for StripeState {
     ghost view = { λ s. stripe s.site s.limit s.history.items (min (spare s.items) (vec_capacity s.history - vec_len s.history)) };
 
     ghost invariant = { λ s. IsKept s.site s.limit s.history.items s.versions (get (pointwise nat_eq) s.items) };
+}
+
+// Whether a history of this limit has no place left.
+#[inline(always)]
+pub(crate) fn is_full(history: &[StripeEvent], limit: u64) -> bool
+    ensures { MatchBool result (limit ≤ length history.now) (length history.now < limit) }
+{
+    history.len() as u64 >= limit
 }
 
 impl StripeState {

@@ -1,4 +1,4 @@
-use Rattle.std.proofs.Common.{◌++◌, ◌∷◌, [], ap, ◌∙◌, sym, List, subst, arith}
+use Rattle.std.proofs.Common.{◌<◌, ◌++◌, ◌∷◌, [], length, ap, ◌∙◌, sym, List, subst, arith}
 use Rattle.std.specs.Prelude.{nat_eq}
 use Rattle.std.specs.Cmp.Lexicographic.{pointwise}
 use Rattle.std.specs.HashMap.{get}
@@ -11,9 +11,10 @@ use Rattle.mc_stripe.proofs.state.StripeState.lose.Goals as goal
 
 pub invariant_of-self-2 : goal.invariant_of-self-2
 invariant_of-self-2 c =
+    let few : length c.self.inside.history.items < c.self.inside.limit = omega (arith, rw c.if-is_full.false at c.is_full.ensures, ap length c.as_slice.ensures.value) in
     let may = subst (λ (s : Stripe). MayLose ((cache_now s).items c.args.key) c.args.cause) (sym c.self.view_is) c.requires in
     lost_kept c.self.inside.site c.self.inside.limit c.self.inside.history.items c.push_reserved.new.self.items c.self.inside.versions
     (get (pointwise nat_eq) c.self.inside.items) (get (pointwise nat_eq) c.remove.new.items)
     (record { who = c.args.who; key = c.args.key; cause = c.args.cause })
-    c.self.invariant (omega (arith, c.if-len-self.false, c.len.ensures)) may c.remove.ensures.items
+    c.self.invariant few may c.remove.ensures.items
     (c.push_reserved.ensures.items ∙ ap (λ (h : List StripeEvent). h ++ events.Lost (record { who = c.args.who; key = c.args.key; cause = c.args.cause }) ∷ []) c.reserve.ensures.items)

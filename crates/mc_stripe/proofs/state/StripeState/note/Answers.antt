@@ -1,4 +1,4 @@
-use Rattle.std.proofs.Common.{ℕ, ◌≡◌, ap, ◌∙◌, sym, refl, List, subst, arith, ◌++◌, ◌∷◌, []}
+use Rattle.std.proofs.Common.{ℕ, ◌≡◌, ◌<◌, length, ap, ◌∙◌, sym, refl, List, subst, arith, ◌++◌, ◌∷◌, []}
 use Rattle.std.specs.Prelude.{nat_eq, Option}
 use Rattle.std.specs.Cmp.Lexicographic.{pointwise}
 use Rattle.std.specs.HashMap.{get}
@@ -25,6 +25,7 @@ invariant_of-self-2 c =
     let command = c.args.command in
     let moment = c.args.moment in
     let reserved = get (pointwise nat_eq) c.reserve.new.self in
+    let few : length c.self.inside.history.items < c.self.inside.limit = omega (arith, rw c.if-is_full.false at c.is_full.ensures, ap length c.as_slice.ensures.value) in
     let cache = cache_of site c.self.inside.history.items in
     let fits = subst (λ (s : Stripe). Fits (row_of s.site (cache_now s).versions ((cache_now s).items key) command moment).need
     (room_of c.args.given (row_of s.site (cache_now s).versions ((cache_now s).items key) command moment).need) s.history) back c.requires.fits in
@@ -36,13 +37,13 @@ invariant_of-self-2 c =
     (rw c.in-Some.is at c.in_ok-answered.ensures.room) ∙ ap (room_of c.args.given) need_is in
     let ok = rw c.in-Some.is at c.in_ok-answered.ensures.ok in
     let noted : (r : Reply) → List StripeEvent = λ r. c.self.inside.history.items ++ events.Did (record { who = c.args.who; command = command; moment = moment; reply = r; room = c.in-Some.answered.room }) ∷ [] in
-    command_kept site c.self.inside.limit c.self.inside.history.items c.push_reserved.new.self.items
+    command_kept site c.self.inside.limit c.self.inside.history.items c.push_answer.new.history.items
     c.self.inside.versions c.in-Some.answered.added
     (get (pointwise nat_eq) c.self.inside.items) reserved (get (pointwise nat_eq) c.answer_item.new.items)
     c.args.who command moment c.in-Some.answered.room ok.0 key (reserved key)
-    c.self.invariant (omega (arith, c.if-len-self.false, c.len.ensures)) stripe
+    c.self.invariant few stripe
     (subst (λ (o : Option Item). IsAlive o moment) item_is (rw c.in-Some.is at c.in_ok-answered.ensures.alive))
     (subst (λ (r : Room). Fits (row_of site cache.versions (cache.items key) command moment).need r c.self.inside.history.items) (sym room_is) fits)
     c.in_ok-reserve.ensures.entries.2
     refl refl ok.1 ok.5 ok.4
-    (c.push_reserved.ensures.items ∙ ap (λ (h : List StripeEvent). h ++ events.Did (record { who = c.args.who; command = command; moment = moment; reply = c.in-Some.answered.noted; room = c.in-Some.answered.room }) ∷ []) c.reserve-2.ensures.items ∙ ap noted ok.2)
+    (c.push_answer.ensures ∙ ap (λ (h : List StripeEvent). h ++ events.Did (record { who = c.args.who; command = command; moment = moment; reply = c.in-Some.answered.noted; room = c.in-Some.answered.room }) ∷ []) c.reserve-2.ensures.items ∙ ap noted ok.2)
