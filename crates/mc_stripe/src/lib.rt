@@ -4,6 +4,7 @@
 mod applying;
 mod changing;
 mod forgetting;
+mod in_place;
 mod state;
 
 pub use mc_item::{Need, Room};
