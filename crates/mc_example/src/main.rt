@@ -8,9 +8,7 @@ ghost use Rattle.mc_item.specs.Config.{IsBounded};
 use mc_driver::run_words;
 use mc_item::{Config, ConfigFault, Key, NoMemory};
 use mc_proto::{Keys, Limits, Reader, Request};
-use std::alloc::Global;
 use std::io::{self, Write};
-use std::sync::Wait;
 
 // Want of memory, as main tells it.
 fn no_memory(_fault: NoMemory) -> io::Error {
@@ -95,26 +93,23 @@ fn show_config(rt: &HostRuntime, events: u64) -> io::Result<()> {
     }
 }
 
-// The whole program over bytes in memory: its exit status, with what it printed at the end of `output`.
-fn run(rt: &impl Wait, alloc: Global, input: &[u8], output: &mut Vec<u8>) -> u8 {
-    let mut reader = input;
-    let mut errors = Vec::new(alloc);
-    let words = ["mc_example", "--events", "64"];
-    run_words(rt, alloc, &words, &mut reader, output, &mut errors)
-}
-
 fn main(rt: HostRuntime) -> io::Result<()> {
     show_key(&rt, b"user:7")?;
     show_key(&rt, b"user 7")?;
     show_config(&rt, 8)?;
     show_config(&rt, 64)?;
+    let mut input: &[u8] = b"set a 7 0 2\r\n99\r\nincr a 1\r\ngets a\r\nquit\r\n";
     let mut output = Vec::new(rt.alloc());
-    let status = run(
+    let mut errors = Vec::new(rt.alloc());
+    let words = ["mc_example", "--events", "64"];
+    let status = run_words(
         &rt,
         rt.alloc(),
-        b"set a 7 0 2\r\n99\r\nincr a 1\r\ngets a\r\nquit\r\n",
+        &words,
+        &mut input,
         &mut output,
+        &mut errors,
     );
     rt.stdout().write_all(output.as_slice())?;
-    println!(rt; "status {status}")
+    println!(rt; "status {status}, {} bytes of errors", errors.len())
 }
