@@ -13,6 +13,3 @@ pub use board::Board;
 pub use owner::Owner;
 pub use rule::{Counts, Known, Law, Owned, Root, Sight, View};
 pub use seen::Seen;
-
-#[cfg(test)]
-mod tests;

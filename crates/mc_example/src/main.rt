@@ -8,6 +8,7 @@ ghost use Rattle.mc_item.specs.Config.{IsBounded};
 use mc_driver::run_words;
 use mc_item::{Config, ConfigFault, Key, NoMemory};
 use mc_proto::{Keys, Limits, Reader, Request};
+use std::hash::RandomState;
 use std::io::{self, Write};
 
 // Want of memory, as main tells it.
@@ -105,6 +106,7 @@ fn main(rt: HostRuntime) -> io::Result<()> {
     let status = run_words(
         &rt,
         rt.alloc(),
+        RandomState::new(&rt)?,
         &words,
         &mut input,
         &mut output,

@@ -13,6 +13,3 @@ mod surveying;
 
 pub use state::ClassState;
 pub use surveying::Survey;
-
-#[cfg(test)]
-mod tests;

@@ -1,6 +1,4 @@
 //! Times a class: links, forced moves from a tail, hits in a random order, and removals in a random order.
-#![tactic(auto)]
-
 ghost use Rattle.std.specs.Prelude.{◌≡◌, ◌<◌, IfSome};
 ghost use Rattle.mc_item.specs.Config.{IsSound};
 
@@ -149,17 +147,12 @@ fn run(rt: &HostRuntime, entries: u64) -> io::Result<()>
     Ok(())
 }
 
-// With a word on its command line it times three sizes; with none it does nothing, so that a gate's run is short.
-fn main(rt: HostRuntime) -> io::Result<()> {
-    let mut words = std::env::args(&rt)?;
-    words.next();
-    if words.next().is_none() {
-        return Ok(());
-    }
-    run(&rt, 10_000)?;
-    run(&rt, 100_000)?;
-    run(&rt, 1_000_000)?;
-    let status = std::fs::read_to_string(&rt, "/proc/self/status")?;
+/// Times classes of three sizes, and prints the most memory that the process had.
+pub(crate) fn time_all(rt: &HostRuntime) -> io::Result<()> {
+    run(rt, 10_000)?;
+    run(rt, 100_000)?;
+    run(rt, 1_000_000)?;
+    let status = std::fs::read_to_string(rt, "/proc/self/status")?;
     for line in status.as_str().lines() {
         if line.starts_with("VmHWM") {
             println!(rt; "{line}")?;

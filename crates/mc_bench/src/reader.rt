@@ -1,6 +1,4 @@
 //! Times the reader over one stream in pieces of several sizes: short commands, long lines, large blocks.
-#![tactic(auto)]
-
 ghost use Rattle.std.specs.Prelude.{◌<◌};
 
 use mc_proto::{Limits, Reader};
@@ -97,18 +95,13 @@ fn times(rt: &HostRuntime, name: &str, stream: Result<Vec<u8>, AllocError>) -> i
     Ok(())
 }
 
-// With a word on its command line it times; with none it does nothing, so that a gate's run is short.
-fn main(rt: HostRuntime) -> io::Result<()> {
-    let mut words = std::env::args(&rt)?;
-    words.next();
-    if words.next().is_none() {
-        return Ok(());
-    }
+/// Times streams of three kinds, each in two lengths.
+pub(crate) fn time_all(rt: &HostRuntime) -> io::Result<()> {
     let alloc = rt.alloc();
-    times(&rt, "10,000 pairs of commands", commands(alloc, 10_000))?;
-    times(&rt, "100,000 pairs of commands", commands(alloc, 100_000))?;
-    times(&rt, "10 lines of 65,000 bytes", lines(alloc, 10))?;
-    times(&rt, "100 lines of 65,000 bytes", lines(alloc, 100))?;
-    times(&rt, "2 blocks of 1,000,000 bytes", blocks(alloc, 2))?;
-    times(&rt, "20 blocks of 1,000,000 bytes", blocks(alloc, 20))
+    times(rt, "10,000 pairs of commands", commands(alloc, 10_000))?;
+    times(rt, "100,000 pairs of commands", commands(alloc, 100_000))?;
+    times(rt, "10 lines of 65,000 bytes", lines(alloc, 10))?;
+    times(rt, "100 lines of 65,000 bytes", lines(alloc, 100))?;
+    times(rt, "2 blocks of 1,000,000 bytes", blocks(alloc, 2))?;
+    times(rt, "20 blocks of 1,000,000 bytes", blocks(alloc, 20))
 }

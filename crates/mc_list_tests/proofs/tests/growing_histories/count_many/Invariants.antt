@@ -1,5 +1,5 @@
 use Rattle.std.proofs.Common.{◌≡◌}
-use Rattle.mc_board.proofs.tests.count_many.Given as goal
+use Rattle.mc_list_tests.proofs.tests.growing_histories.count_many.Given as goal
 
 abbrev pub invariant-loop-i : goal.invariant-loop-i
 invariant-loop-i l = l.token.board ≡ l.fn.token.board

@@ -2,13 +2,12 @@
 ghost use Rattle.std.specs.Prelude.{◌≡◌, ◌+◌, ◌<◌, ◌≤◌, ◌^◌, [], length};
 ghost use Rattle.mc_board.specs.Views.{locks_of};
 
-use super::*;
-use mc_item::{ClassEvent, Cooled, Key, Logged, StripeEvent, Unlinked, Who};
+use super::WHO;
+use mc_board::{Board, Owner, Seen};
+use mc_item::{ClassEvent, Cooled, Key, Logged, StripeEvent, Unlinked};
 use std::test::Fail;
 use std::thread;
 use std::thread::Threads;
-
-const WHO: Who = Who { caller: 0, turn: 0 };
 
 // Appends the event this many times.
 fn append_many<E: Logged>(board: &Board, owner: &mut Owner, event: &E, times: u64)
@@ -36,14 +35,12 @@ fn three_counts(board: &Board, token: &mut Seen) -> [u64; 3]
 
 #[test]
 fn three_appended_events_are_counted(rt: HostRuntime) -> Result<(), Fail> {
+    let key = Key::of(rt.alloc(), b"a")?;
+    let event = StripeEvent::Cooled(Cooled { who: WHO, key });
     let (board, mut owners, mut root) = Board::open(rt.alloc(), 3)?;
     let mut token = root.split(&board);
     assert_eq!(rt; owners.len(), 3);
     assert_eq!(rt; three_counts(&board, &mut root), [0, 0, 0]);
-    let event = StripeEvent::Cooled(Cooled {
-        who: WHO,
-        key: Key::of(rt.alloc(), b"a")?,
-    });
     append_many(&board, &mut owners[1], &event, 3);
     assert_eq!(rt; three_counts(&board, &mut token), [0, 3, 0]);
     owners[1].tell(&board, &mut root);
