@@ -52,7 +52,7 @@ fresh class reply version refused =
       answer = λ room. placed room (λ link. answer reply (changes.Renewed (version link))) refused;
     }
 
--- the cas number of a stripe's n-th new version, with n from 0: no two of a store are equal
+-- the cas number of a stripe's n-th new version, with n from 0: no two of a stripe are equal
 abbrev pub cas_of : Site → ℕ → ℕ
 cas_of site n = n * site.stripes + site.stripe + 1
 
