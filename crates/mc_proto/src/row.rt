@@ -247,7 +247,8 @@ fn after_set(line: &[u8]) -> Option<&[u8]>
     Some(rest)
 }
 
-// What is left of a line that has no further token, or only the word that makes it quiet; of others nothing is said.
+// What is left of a line that has no further token, or one space and the word that makes it quiet; of others nothing
+// is said.
 #[inline(always)]
 fn quiet_end(rest: &[u8]) -> Option<bool>
     ensures { IfSome result (λ quiet. tokens rest.now ≡ (if quiet then codes "noreply" ∷ [] else [])) }
@@ -255,7 +256,7 @@ fn quiet_end(rest: &[u8]) -> Option<bool>
     if rest.is_empty() {
         return Some(false);
     }
-    if rest != b"noreply".as_slice() {
+    if rest != b" noreply".as_slice() {
         return None;
     }
     Some(true)

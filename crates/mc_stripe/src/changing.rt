@@ -3,7 +3,7 @@ ghost use Rattle.std.specs.Prelude.{◌≡◌, ◌≤◌, ◌<◌, ◌+◌, ◌^
 ghost use Rattle.std.specs.Option.{option_copied};
 ghost use Rattle.std.specs.Cmp.Lexicographic.{pointwise};
 ghost use Rattle.std.specs.HashMap.{get, spare};
-ghost use Rattle.mc_item.specs.Answer.{cas_of, row_of};
+ghost use Rattle.mc_item.specs.Answer.{cas_of, get_row, row_of};
 ghost use Rattle.mc_item.specs.Cache.{changed};
 ghost use Rattle.mc_item.specs.Command.{key_of};
 ghost use Rattle.mc_item.specs.Stripe.{IsAlive, IsDead};
@@ -12,7 +12,7 @@ ghost use Rattle.mc_item.specs.declared.answer.Need.TheVariants as needs;
 ghost use Rattle.mc_item.specs.declared.reply.Reply.TheVariants as replies;
 ghost use Rattle.mc_stripe.specs.StripeCalls as calls;
 
-use crate::in_place::answer_at_once;
+use crate::in_place::{answer_at_once, answer_hit};
 use mc_item::{Answer, Change, Command, Item, Key, Link, Need, NoMemory, Reply, Room, Site};
 use std::alloc::Global;
 use std::collections::HashMap;
@@ -202,10 +202,38 @@ fn answer_miss(given: Given, copies: bool) -> Answered
     }
 }
 
-/// Answers a command for the item under its key, and changes it; the key is looked up once, and once more where its
-/// item goes. Nothing changes without memory, or where the item is dead, and then there is no answer.
+// The answer to a get, which hits the item that it finds. Other commands' room for answers isn't made on its way.
 #[inline(always)]
-pub(crate) fn answer_item(
+fn answer_get(
+    alloc: Global,
+    items: &mut HashMap<Key, Item, RandomState>,
+    key: &Key,
+    moment: u64,
+    given: Given,
+    copies: bool,
+) -> Result<Option<Answered>, NoMemory>
+    ensures alive { IfOk result (λ told. IfSome told (λ a. IsAlive (get (pointwise nat_eq) items.old key.now) moment)) }
+    ensures room { IfOk result (λ told. IfSome told (λ a. a.room ≡ calls.room_of given needs.Nothing)) }
+    ensures ok { IfOk result (λ told. IfSome told (λ a. (answer : Answer) × (answer ≡ (get_row (get (pointwise nat_eq) items.old key.now)).answer a.room)
+        × (a.noted ≡ answer.reply) × (a.told ≡ (if copies then Some answer.reply else None)) × (a.added ≡ Rattle.mc_item.specs.Cache.versions_of answer.change)
+        × ((q : List ℕ) → get (pointwise nat_eq) items.new q ≡ (if pointwise nat_eq key.now q then changed (get (pointwise nat_eq) items.old key.now) answer.change else get (pointwise nat_eq) items.old q)))) }
+    ensures dead { IfOk result (λ told. IfNone told (IsDead (get (pointwise nat_eq) items.old key.now) moment)) }
+    ensures same { IfOk result (λ told. IfNone told ((q : List ℕ) → get (pointwise nat_eq) items.new q ≡ get (pointwise nat_eq) items.old q)) }
+    ensures err { OnErr result ((q : List ℕ) → get (pointwise nat_eq) items.new q ≡ get (pointwise nat_eq) items.old q) }
+    ensures spare { spare items.old ≤ spare items.new + 1 }
+{
+    let Some(item) = items.get_mut(key) else {
+        return Ok(Some(answer_miss(given, copies)));
+    };
+    if item.dead(moment) {
+        return Ok(None);
+    }
+    Ok(Some(answer_hit(alloc, item, given, copies)?))
+}
+
+// Answers a command of any kind.
+#[inline(always)]
+fn answer_any(
     alloc: Global,
     site: &Site,
     versions: u64,
@@ -230,10 +258,6 @@ pub(crate) fn answer_item(
 {
     let key = command.key();
     let Some(item) = items.get_mut(key) else {
-        if let Command::Get(_) = command {
-            change_absent(alloc, items, key, Change::Stays)?;
-            return Ok(Some(answer_miss(given, copies)));
-        }
         let told = told_of(alloc, site, versions, None, command, moment, given, copies)?;
         change_absent(alloc, items, key, told.change)?;
         return Ok(Some(told.answered));
@@ -261,4 +285,36 @@ pub(crate) fn answer_item(
         remove(items, key);
     }
     Ok(Some(told.answered))
+}
+
+/// Answers a command for the item under its key, and changes it; the key is looked up once, and once more where its
+/// item goes. Nothing changes without memory, or where the item is dead, and then there is no answer.
+#[inline(always)]
+pub(crate) fn answer_item(
+    alloc: Global,
+    site: &Site,
+    versions: u64,
+    items: &mut HashMap<Key, Item, RandomState>,
+    command: &Command,
+    moment: u64,
+    given: Given,
+    copies: bool,
+) -> Result<Option<Answered>, NoMemory>
+    requires cas { cas_of site.now versions < 2 ^ 64 }
+    requires moment { moment ≤ 2 ^ 62 }
+    requires room { 0 < spare items.old }
+    ensures alive { IfOk result (λ told. IfSome told (λ a. IsAlive (get (pointwise nat_eq) items.old (key_of command.now)) moment)) }
+    ensures room { IfOk result (λ told. IfSome told (λ a. a.room ≡ calls.room_of given (row_of site.now versions (get (pointwise nat_eq) items.old (key_of command.now)) command.now moment).need)) }
+    ensures ok { IfOk result (λ told. IfSome told (λ a. (answer : Answer) × (answer ≡ (row_of site.now versions (get (pointwise nat_eq) items.old (key_of command.now)) command.now moment).answer a.room)
+        × (a.noted ≡ answer.reply) × (a.told ≡ (if copies then Some answer.reply else None)) × (a.added ≡ Rattle.mc_item.specs.Cache.versions_of answer.change)
+        × ((q : List ℕ) → get (pointwise nat_eq) items.new q ≡ (if pointwise nat_eq (key_of command.now) q then changed (get (pointwise nat_eq) items.old (key_of command.now)) answer.change else get (pointwise nat_eq) items.old q)))) }
+    ensures dead { IfOk result (λ told. IfNone told (IsDead (get (pointwise nat_eq) items.old (key_of command.now)) moment)) }
+    ensures same { IfOk result (λ told. IfNone told ((q : List ℕ) → get (pointwise nat_eq) items.new q ≡ get (pointwise nat_eq) items.old q)) }
+    ensures err { OnErr result ((q : List ℕ) → get (pointwise nat_eq) items.new q ≡ get (pointwise nat_eq) items.old q) }
+    ensures spare { spare items.old ≤ spare items.new + 1 }
+{
+    if let Command::Get(key) = command {
+        return answer_get(alloc, items, key, moment, given, copies);
+    }
+    answer_any(alloc, site, versions, items, command, moment, given, copies)
 }

@@ -17,7 +17,7 @@ use std::alloc::Global;
 
 // The answer to a get that finds its key's item, which is hit.
 #[inline(always)]
-fn answer_hit(
+pub(crate) fn answer_hit(
     alloc: Global,
     item: &mut Item,
     given: Given,
@@ -167,7 +167,6 @@ pub(crate) fn answer_at_once(
     ensures err { OnErr result (item.new ≡ item.old) }
 {
     match command {
-        Command::Get(_) => Ok(Some(answer_hit(alloc, item, given, copies)?)),
         Command::Store { .. } => {
             answer_over(alloc, site, versions, item, command, moment, given, copies)
         }
@@ -179,6 +178,8 @@ pub(crate) fn answer_at_once(
             let step = Step::Down(*delta);
             Ok(answer_count(site, versions, key, item, step, given, copies))
         }
-        Command::Huge { .. } | Command::Touch(_, _) | Command::Delete(_) => Ok(None),
+        Command::Get(_) | Command::Huge { .. } | Command::Touch(_, _) | Command::Delete(_) => Ok(
+            None,
+        ),
     }
 }
