@@ -1,255 +1,306 @@
 //! The table of commands, row by row, after five versions of stripe 1 of 4, at moment 1000, with classes of 96 and 120 bytes.
-use crate::tests::{NO_MARKS, item, key, store};
-use mc_item::{ClassNo, ClassSizes, Command, Item, Link, Marks, Room, Site, Verb};
+use crate::tests::{AT, GROWN, NO_MARKS, REFUSED, STORED, item, key, shows, site, store};
+use mc_item::{ClassNo, Command, Item, Marks, Need, Room, Verb};
 use std::alloc::Global;
 use std::process::Abort;
-use std::string::String;
-use std::test::Fail;
 
-const AT: Room = Room::At(Link {
-    class: ClassNo(1),
-    number: 9,
-});
+const CHUNK: Need = Need::Fresh(ClassNo(1));
 
-const REFUSED: Room = Room::Refused {
-    class: ClassNo(1),
-    place: 4,
-};
+const LARGER: Need = Need::Fresh(ClassNo(2));
 
-const STORED: &str =
-    "Fresh(ClassNo(1)); Stored; Renewed(Item { flags: 7, value: Value { bytes: [49] }, expiry: At(1010), cas: 22, link: Link { class: ClassNo(1), number: 9 }, marks: Marks { fetched: false, active: false } })";
-
-const GROWN: &str =
-    "Fresh(ClassNo(1)); Number(10); Renewed(Item { flags: 5, value: Value { bytes: [49, 48] }, expiry: Never, cas: 22, link: Link { class: ClassNo(1), number: 9 }, marks: Marks { fetched: false, active: false } })";
-
-const NO_ROOM: &str = "Fresh(ClassNo(1)); NoRoom; Stays";
-
-const ABSENT: &str = "Nothing; NotFound; Stays";
-
-const DECLINED: &str = "Nothing; NotStored; Stays";
-
-// The need, the reply and the change.
+// What a command needs, and its reply and change.
 fn told(
+    rt: &impl Abort,
     alloc: Global,
     found: Option<&Item>,
     command: &Command,
     room: Room,
-) -> Result<String, Fail> {
-    let site = Site {
-        stripe: 1,
-        stripes: 4,
-        sizes: ClassSizes::of(&[96, 120]),
-    };
-    let need = site.need(found, command);
-    let answer = site.answer(alloc, 5, found, command, 1_000, room)?;
-    let reply = &answer.reply;
-    let change = &answer.change;
-    Ok(format!(in alloc; "{need:?}; {reply:?}; {change:?}")?)
+    need: Need,
+    want: &str,
+) {
+    let site = site();
+    assert_eq!(rt; site.need(found, command), need);
+    let answer = site
+        .answer(alloc, 5, found, command, 1_000, room)
+        .expect(rt, "memory");
+    shows(rt, alloc, &answer, want);
+}
+
+// What a storage command needs, and its reply and change.
+fn stores(
+    rt: &impl Abort,
+    alloc: Global,
+    found: Option<&Item>,
+    verb: Verb,
+    bytes: &[u8],
+    room: Room,
+    need: Need,
+    want: &str,
+) {
+    let command = store(rt, alloc, verb, bytes);
+    told(rt, alloc, found, &command, room, need, want);
 }
 
 #[test]
-fn storage(rt: HostRuntime) -> Result<(), Fail> {
+fn storage(rt: HostRuntime) {
     let alloc = rt.alloc();
-    let old = item(alloc, b"old", NO_MARKS)?;
-    for (verb, there, room, want) in [
-        (Verb::Set, false, AT, STORED),
-        (Verb::Set, true, AT, STORED),
-        (Verb::Set, true, REFUSED, "Fresh(ClassNo(1)); NoRoom; Goes"),
-        (Verb::Add, true, Room::Keep, DECLINED),
-        (Verb::Add, false, AT, STORED),
-        (Verb::Add, false, REFUSED, NO_ROOM),
-        (Verb::Replace, false, Room::Keep, DECLINED),
-        (Verb::Replace, true, AT, STORED),
-        (Verb::Replace, true, REFUSED, NO_ROOM),
-        (Verb::Cas(6), false, Room::Keep, "Nothing; NotFound; Stays"),
-        (Verb::Cas(7), true, Room::Keep, "Nothing; Exists; Stays"),
-        (Verb::Cas(6), true, AT, STORED),
-        (Verb::Cas(6), true, REFUSED, NO_ROOM),
+    let old = item(&rt, alloc, b"old", NO_MARKS);
+    for (verb, there, room, need, want) in [
+        (Verb::Set, false, AT, CHUNK, STORED),
+        (Verb::Set, true, AT, CHUNK, STORED),
+        (Verb::Set, true, REFUSED, CHUNK, "NoRoom; Goes"),
+        (
+            Verb::Add,
+            true,
+            Room::Keep,
+            Need::Nothing,
+            "NotStored; Stays",
+        ),
+        (Verb::Add, false, AT, CHUNK, STORED),
+        (Verb::Add, false, REFUSED, CHUNK, "NoRoom; Stays"),
+        (
+            Verb::Replace,
+            false,
+            Room::Keep,
+            Need::Nothing,
+            "NotStored; Stays",
+        ),
+        (Verb::Replace, true, AT, CHUNK, STORED),
+        (Verb::Replace, true, REFUSED, CHUNK, "NoRoom; Stays"),
+        (
+            Verb::Cas(6),
+            false,
+            Room::Keep,
+            Need::Nothing,
+            "NotFound; Stays",
+        ),
+        (
+            Verb::Cas(7),
+            true,
+            Room::Keep,
+            Need::Nothing,
+            "Exists; Stays",
+        ),
+        (Verb::Cas(6), true, AT, CHUNK, STORED),
+        (Verb::Cas(6), true, REFUSED, CHUNK, "NoRoom; Stays"),
     ] {
         let found = if there { Some(&old) } else { None };
-        let text = told(alloc, found, &store(alloc, verb, b"1")?, room)?;
-        assert_eq!(rt; text.as_str(), want, "{verb:?} {there}");
+        stores(&rt, alloc, found, verb, b"1", room, need, want);
     }
-    Ok(())
+}
+
+// A set that finds no chunk.
+fn refused_set(rt: &impl Abort, alloc: Global, bytes: &[u8], need: Need, want: &str) {
+    stores(rt, alloc, None, Verb::Set, bytes, REFUSED, need, want);
+}
+
+// A storage command of a block too large for each class, read or skipped.
+fn too_large(rt: &impl Abort, alloc: Global, verb: Verb, want: &str) {
+    let old = item(rt, alloc, b"old", NO_MARKS);
+    stores(
+        rt,
+        alloc,
+        Some(&old),
+        verb,
+        &[b'x'; 56],
+        Room::Keep,
+        Need::TooLarge,
+        want,
+    );
+    let huge = Command::Huge {
+        verb,
+        key: key(rt, alloc, b"k"),
+    };
+    told(
+        rt,
+        alloc,
+        Some(&old),
+        &huge,
+        Room::Keep,
+        Need::TooLarge,
+        want,
+    );
 }
 
 // A cost of 96 is 31 bytes of value here, and one of 120 is 55.
 #[test]
-fn large_values(rt: HostRuntime) -> Result<(), Fail> {
+fn large_values(rt: HostRuntime) {
     let alloc = rt.alloc();
-    let old = item(alloc, b"old", NO_MARKS)?;
-    let bytes = [b'x'; 56];
-    for (len, want) in [
-        (31, "Fresh(ClassNo(1)); NoRoom; Goes"),
-        (32, "Fresh(ClassNo(2)); NoRoom; Goes"),
-        (55, "Fresh(ClassNo(2)); NoRoom; Goes"),
-        (56, "TooLarge; TooLarge; Goes"),
-    ] {
-        let text = told(
-            alloc,
-            None,
-            &store(alloc, Verb::Set, &bytes[..len])?,
-            REFUSED,
-        )?;
-        assert_eq!(rt; text.as_str(), want, "{len}");
-    }
-    for (verb, want) in [
-        (Verb::Set, "TooLarge; TooLarge; Goes"),
-        (Verb::Add, "TooLarge; TooLarge; Stays"),
-        (Verb::Replace, "TooLarge; TooLarge; Stays"),
-        (Verb::Cas(7), "TooLarge; TooLarge; Stays"),
-    ] {
-        let text = told(alloc, Some(&old), &store(alloc, verb, &bytes)?, Room::Keep)?;
-        assert_eq!(rt; text.as_str(), want, "{verb:?}");
-        let huge = Command::Huge {
-            verb,
-            key: key(alloc, b"k")?,
-        };
-        let text = told(alloc, Some(&old), &huge, Room::Keep)?;
-        assert_eq!(rt; text.as_str(), want, "{verb:?}");
-    }
-    Ok(())
+    refused_set(&rt, alloc, &[b'x'; 31], CHUNK, "NoRoom; Goes");
+    refused_set(&rt, alloc, &[b'x'; 32], LARGER, "NoRoom; Goes");
+    refused_set(&rt, alloc, &[b'x'; 55], LARGER, "NoRoom; Goes");
+    refused_set(&rt, alloc, &[b'x'; 56], Need::TooLarge, "TooLarge; Goes");
+    too_large(&rt, alloc, Verb::Set, "TooLarge; Goes");
+    too_large(&rt, alloc, Verb::Add, "TooLarge; Stays");
+    too_large(&rt, alloc, Verb::Replace, "TooLarge; Stays");
+    too_large(&rt, alloc, Verb::Cas(7), "TooLarge; Stays");
+}
+
+// What an incr needs of an item of this value, and its reply and change.
+fn goes_up(
+    rt: &impl Abort,
+    alloc: Global,
+    text: &[u8],
+    delta: u64,
+    room: Room,
+    need: Need,
+    want: &str,
+) {
+    let old = item(rt, alloc, text, NO_MARKS);
+    let command = Command::Incr(key(rt, alloc, b"k"), delta);
+    told(rt, alloc, Some(&old), &command, room, need, want);
+}
+
+// What a decr needs of an item of this value, and its reply and change.
+fn goes_down(rt: &impl Abort, alloc: Global, text: &[u8], delta: u64, need: Need, want: &str) {
+    let old = item(rt, alloc, text, NO_MARKS);
+    let command = Command::Decr(key(rt, alloc, b"k"), delta);
+    told(rt, alloc, Some(&old), &command, Room::Keep, need, want);
 }
 
 #[test]
-fn counts(rt: HostRuntime) -> Result<(), Fail> {
+fn counts(rt: HostRuntime) {
     let alloc = rt.alloc();
-    for (text, up, delta, room, want) in [
-        (
-            b"x".as_slice(),
-            true,
-            1,
-            Room::Keep,
-            "Nothing; NonNumeric; Stays",
-        ),
-        (
-            b"x".as_slice(),
-            false,
-            1,
-            Room::Keep,
-            "Nothing; NonNumeric; Stays",
-        ),
-        (b"9".as_slice(), true, 1, AT, GROWN),
-        (
-            b"9".as_slice(),
-            true,
-            1,
-            REFUSED,
-            "Fresh(ClassNo(1)); NoSpace; Stays",
-        ),
-        (
-            b"9 ".as_slice(),
-            true,
-            1,
-            Room::Keep,
-            "Same; Number(10); Counted(Value { bytes: [49, 48] }, 22)",
-        ),
-        (
-            b"10".as_slice(),
-            false,
-            1,
-            Room::Keep,
-            "Same; Number(9); Counted(Value { bytes: [57, 32] }, 22)",
-        ),
-        (
-            b"3".as_slice(),
-            false,
-            5,
-            Room::Keep,
-            "Same; Number(0); Counted(Value { bytes: [48] }, 22)",
-        ),
-        (
-            b"2".as_slice(),
-            true,
-            18_446_744_073_709_551_615,
-            Room::Keep,
-            "Same; Number(1); Counted(Value { bytes: [49] }, 22)",
-        ),
-    ] {
-        let old = item(alloc, text, NO_MARKS)?;
-        let name = key(alloc, b"k")?;
-        let command = if up {
-            Command::Incr(name, delta)
-        } else {
-            Command::Decr(name, delta)
-        };
-        let told = told(alloc, Some(&old), &command, room)?;
-        assert_eq!(rt; told.as_str(), want, "{text:?} {up} {delta}");
-    }
-    Ok(())
+    let ten = "Number(10); Counted(Value { bytes: [49, 48] }, 22)";
+    let nine = "Number(9); Counted(Value { bytes: [57, 32] }, 22)";
+    let none = "Number(0); Counted(Value { bytes: [48] }, 22)";
+    let one = "Number(1); Counted(Value { bytes: [49] }, 22)";
+    let most = 18_446_744_073_709_551_615;
+    goes_up(
+        &rt,
+        alloc,
+        b"x",
+        1,
+        Room::Keep,
+        Need::Nothing,
+        "NonNumeric; Stays",
+    );
+    goes_down(&rt, alloc, b"x", 1, Need::Nothing, "NonNumeric; Stays");
+    goes_up(&rt, alloc, b"9", 1, AT, CHUNK, GROWN);
+    goes_up(&rt, alloc, b"9", 1, REFUSED, CHUNK, "NoSpace; Stays");
+    goes_up(&rt, alloc, b"9 ", 1, Room::Keep, Need::Same, ten);
+    goes_down(&rt, alloc, b"10", 1, Need::Same, nine);
+    goes_down(&rt, alloc, b"3", 5, Need::Same, none);
+    goes_up(&rt, alloc, b"2", most, Room::Keep, Need::Same, one);
 }
 
 // With a key of 55 bytes a value of one byte costs 120, and one of two costs 121.
 #[test]
-fn a_number_too_long_for_each_class(rt: HostRuntime) -> Result<(), Fail> {
+fn a_number_too_long_for_each_class(rt: HostRuntime) {
     let alloc = rt.alloc();
-    let nine = item(alloc, b"9", NO_MARKS)?;
-    let command = Command::Incr(key(alloc, &[b'x'; 55])?, 1);
-    let text = told(alloc, Some(&nine), &command, Room::Keep)?;
-    assert_eq!(rt; text.as_str(), "TooLarge; NoSpace; Stays");
-    Ok(())
+    let nine = item(&rt, alloc, b"9", NO_MARKS);
+    let command = Command::Incr(key(&rt, alloc, &[b'x'; 55]), 1);
+    told(
+        &rt,
+        alloc,
+        Some(&nine),
+        &command,
+        Room::Keep,
+        Need::TooLarge,
+        "NoSpace; Stays",
+    );
 }
 
-// A command of a key that has no item.
-fn asserts_absent(
-    rt: &impl Abort,
-    alloc: Global,
-    command: &Command,
-    want: &str,
-) -> Result<(), Fail> {
-    let text = told(alloc, None, command, Room::Keep)?;
-    assert_eq!(rt; text.as_str(), want);
-    Ok(())
+// The reply and change of a command whose key has no item; it needs nothing.
+fn told_of_none(rt: &impl Abort, alloc: Global, command: Command, want: &str) {
+    told(rt, alloc, None, &command, Room::Keep, Need::Nothing, want);
 }
 
 #[test]
-fn absent_items(rt: HostRuntime) -> Result<(), Fail> {
+fn absent_items(rt: HostRuntime) {
     let alloc = rt.alloc();
-    asserts_absent(&rt, alloc, &Command::Get(key(alloc, b"k")?), "Nothing; Miss; Stays")?;
-    asserts_absent(&rt, alloc, &Command::Incr(key(alloc, b"k")?, 1), ABSENT)?;
-    asserts_absent(&rt, alloc, &Command::Decr(key(alloc, b"k")?, 1), ABSENT)?;
-    asserts_absent(&rt, alloc, &Command::Touch(key(alloc, b"k")?, 1), ABSENT)?;
-    asserts_absent(&rt, alloc, &Command::Delete(key(alloc, b"k")?), ABSENT)?;
-    Ok(())
+    told_of_none(
+        &rt,
+        alloc,
+        Command::Get(key(&rt, alloc, b"k")),
+        "Miss; Stays",
+    );
+    told_of_none(
+        &rt,
+        alloc,
+        Command::Incr(key(&rt, alloc, b"k"), 1),
+        "NotFound; Stays",
+    );
+    told_of_none(
+        &rt,
+        alloc,
+        Command::Decr(key(&rt, alloc, b"k"), 1),
+        "NotFound; Stays",
+    );
+    told_of_none(
+        &rt,
+        alloc,
+        Command::Touch(key(&rt, alloc, b"k"), 1),
+        "NotFound; Stays",
+    );
+    told_of_none(
+        &rt,
+        alloc,
+        Command::Delete(key(&rt, alloc, b"k")),
+        "NotFound; Stays",
+    );
+}
+
+// The reply and change of a command whose key has an item of these marks; it needs nothing.
+fn told_of(rt: &impl Abort, alloc: Global, marks: Marks, command: Command, want: &str) {
+    let found = item(rt, alloc, b"x", marks);
+    told(
+        rt,
+        alloc,
+        Some(&found),
+        &command,
+        Room::Keep,
+        Need::Nothing,
+        want,
+    );
 }
 
 #[test]
-fn items_that_are_there(rt: HostRuntime) -> Result<(), Fail> {
+fn items_that_are_there(rt: HostRuntime) {
     let alloc = rt.alloc();
     let fetched = Marks {
         fetched: true,
         active: false,
     };
-    let new = item(alloc, b"x", NO_MARKS)?;
-    let old = item(alloc, b"x", fetched)?;
-    let get = Command::Get(key(alloc, b"k")?);
-    let touch = Command::Touch(key(alloc, b"k")?, 10);
-    let delete = Command::Delete(key(alloc, b"k")?);
-    for (found, command, want) in [
-        (
-            &new,
-            &get,
-            "Nothing; Value { flags: 5, value: Value { bytes: [120] }, cas: 6 }; Hit(Marks { fetched: true, active: false })",
-        ),
-        (
-            &old,
-            &get,
-            "Nothing; Value { flags: 5, value: Value { bytes: [120] }, cas: 6 }; Hit(Marks { fetched: true, active: true })",
-        ),
-        (
-            &new,
-            &touch,
-            "Nothing; Touched; Touched(At(1010), Marks { fetched: true, active: false })",
-        ),
-        (
-            &old,
-            &touch,
-            "Nothing; Touched; Touched(At(1010), Marks { fetched: true, active: true })",
-        ),
-        (&new, &delete, "Nothing; Deleted; Goes"),
-    ] {
-        let text = told(alloc, Some(found), command, Room::Keep)?;
-        assert_eq!(rt; text.as_str(), want);
-    }
-    Ok(())
+    let first_hit =
+        "Value { flags: 5, value: Value { bytes: [120] }, cas: 6 }; Hit(Marks { fetched: true, active: false })";
+    let second_hit =
+        "Value { flags: 5, value: Value { bytes: [120] }, cas: 6 }; Hit(Marks { fetched: true, active: true })";
+    let first_touch = "Touched; Touched(At(1010), Marks { fetched: true, active: false })";
+    let second_touch = "Touched; Touched(At(1010), Marks { fetched: true, active: true })";
+    told_of(
+        &rt,
+        alloc,
+        NO_MARKS,
+        Command::Get(key(&rt, alloc, b"k")),
+        first_hit,
+    );
+    told_of(
+        &rt,
+        alloc,
+        fetched,
+        Command::Get(key(&rt, alloc, b"k")),
+        second_hit,
+    );
+    told_of(
+        &rt,
+        alloc,
+        NO_MARKS,
+        Command::Touch(key(&rt, alloc, b"k"), 10),
+        first_touch,
+    );
+    told_of(
+        &rt,
+        alloc,
+        fetched,
+        Command::Touch(key(&rt, alloc, b"k"), 10),
+        second_touch,
+    );
+    told_of(
+        &rt,
+        alloc,
+        NO_MARKS,
+        Command::Delete(key(&rt, alloc, b"k")),
+        "Deleted; Goes",
+    );
 }

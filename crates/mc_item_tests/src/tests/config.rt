@@ -1,11 +1,16 @@
 //! The usual configuration, and what is wrong with others.
-use mc_item::{Config, ConfigFault, NoMemory, Numbers};
+use mc_item::{Config, ConfigFault, Numbers};
 use std::alloc::Global;
-use std::test::Fail;
+use std::process::Abort;
+
+// The usual configuration.
+fn usual(rt: &impl Abort, alloc: Global, callers: u32) -> Config {
+    Config::usual(alloc, callers).expect(rt, "memory")
+}
 
 #[test]
-fn usual_numbers(rt: HostRuntime) -> Result<(), Fail> {
-    let config = Config::usual(rt.alloc(), 3)?.check()?;
+fn usual_numbers(rt: HostRuntime) {
+    let config = usual(&rt, rt.alloc(), 3).check().expect(&rt, "no fault");
     let sizes = [
         96, 120, 152, 192, 240, 304, 384, 480, 600, 752, 944, 1184, 1480, 1856, 2320, 2904, 3632,
         4544, 5680, 7104, 8880, 11104, 13880, 17352, 21696, 27120, 33904, 42384, 52984, 66232,
@@ -21,16 +26,16 @@ fn usual_numbers(rt: HostRuntime) -> Result<(), Fail> {
     assert_eq!(rt; (config.hot_percent, config.warm_percent), (20, 40));
     assert_eq!(rt; (config.hot_factor, config.warm_factor), (20, 200));
     assert_eq!(rt; (config.temp, config.temp_ttl), (false, 61));
-    Ok(())
 }
 
-fn numbers(alloc: Global, list: &[u64]) -> Result<Numbers, NoMemory> {
-    Ok(Numbers::from_vec(Vec::from_slice(alloc, list)?))
+// These numbers.
+fn numbers(rt: &impl Abort, alloc: Global, list: &[u64]) -> Numbers {
+    Numbers::from_vec(Vec::from_slice(alloc, list).expect(rt, "memory"))
 }
 
 // Each row holds percents, a factor and the life in TEMP, callers and events. Three stripes are a fault before all others.
 #[test]
-fn faults_alone_and_with_an_earlier_one(rt: HostRuntime) -> Result<(), Fail> {
+fn faults_alone_and_with_an_earlier_one(rt: HostRuntime) {
     for (percents, factor, callers, events, want) in [
         ((0, 40), (20, 61), 1, 16, ConfigFault::Percent),
         ((20, 80), (20, 61), 1, 16, ConfigFault::Percent),
@@ -46,7 +51,7 @@ fn faults_alone_and_with_an_earlier_one(rt: HostRuntime) -> Result<(), Fail> {
         ((20, 40), (20, 61), 0, 15, ConfigFault::Callers),
     ] {
         for (stripes, first) in [(64, want), (3, ConfigFault::Stripes)] {
-            let mut config = Config::usual(rt.alloc(), callers)?;
+            let mut config = usual(&rt, rt.alloc(), callers);
             config.stripes = stripes;
             config.hot_percent = percents.0;
             config.warm_percent = percents.1;
@@ -56,47 +61,35 @@ fn faults_alone_and_with_an_earlier_one(rt: HostRuntime) -> Result<(), Fail> {
             assert_eq!(rt; config.check().err(), Some(first));
         }
     }
-    Ok(())
+}
+
+// The fault of the usual configuration with these sizes and limits.
+fn checks_lists(
+    rt: &impl Abort,
+    alloc: Global,
+    sizes: &[u64],
+    chunks: &[u64],
+    want: Option<ConfigFault>,
+) {
+    let mut config = usual(rt, alloc, 64);
+    config.sizes = numbers(rt, alloc, sizes);
+    config.chunks = numbers(rt, alloc, chunks);
+    assert_eq!(rt; config.check().err(), want, "{sizes:?}");
 }
 
 #[test]
-fn faults_of_sizes_and_limits(rt: HostRuntime) -> Result<(), Fail> {
+fn faults_of_sizes_and_limits(rt: HostRuntime) {
     let many = [70; 64];
-    for (sizes, chunks, want) in [
-        ([].as_slice(), [].as_slice(), Some(ConfigFault::Sizes)),
-        (&many, &many, Some(ConfigFault::Sizes)),
-        ([64].as_slice(), [1].as_slice(), Some(ConfigFault::Sizes)),
-        (
-            [96, 96].as_slice(),
-            [1, 1].as_slice(),
-            Some(ConfigFault::Sizes),
-        ),
-        (
-            [1_048_577].as_slice(),
-            [0].as_slice(),
-            Some(ConfigFault::Sizes),
-        ),
-        (
-            [65, 96].as_slice(),
-            [1].as_slice(),
-            Some(ConfigFault::Chunks),
-        ),
-        (
-            [65, 96].as_slice(),
-            [1, 0].as_slice(),
-            Some(ConfigFault::Chunks),
-        ),
-        (
-            [65].as_slice(),
-            [1_048_577].as_slice(),
-            Some(ConfigFault::Chunks),
-        ),
-        ([65, 1_048_576].as_slice(), [1, 1_048_576].as_slice(), None),
-    ] {
-        let mut config = Config::usual(rt.alloc(), 64)?;
-        config.sizes = numbers(rt.alloc(), sizes)?;
-        config.chunks = numbers(rt.alloc(), chunks)?;
-        assert_eq!(rt; config.check().err(), want, "{sizes:?}");
-    }
-    Ok(())
+    let none: [u64; 0] = [];
+    let sizes = Some(ConfigFault::Sizes);
+    let chunks = Some(ConfigFault::Chunks);
+    checks_lists(&rt, rt.alloc(), &none, &none, sizes);
+    checks_lists(&rt, rt.alloc(), &many, &many, sizes);
+    checks_lists(&rt, rt.alloc(), &[64], &[1], sizes);
+    checks_lists(&rt, rt.alloc(), &[96, 96], &[1, 1], sizes);
+    checks_lists(&rt, rt.alloc(), &[1_048_577], &[0], sizes);
+    checks_lists(&rt, rt.alloc(), &[65, 96], &[1], chunks);
+    checks_lists(&rt, rt.alloc(), &[65, 96], &[1, 0], chunks);
+    checks_lists(&rt, rt.alloc(), &[65], &[1_048_577], chunks);
+    checks_lists(&rt, rt.alloc(), &[65, 1_048_576], &[1, 1_048_576], None);
 }

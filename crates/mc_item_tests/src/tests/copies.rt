@@ -3,86 +3,113 @@ use crate::tests::{key, store, value};
 use mc_item::{Command, Reply, Value, Verb};
 use std::alloc::Global;
 use std::process::Abort;
-use std::test::Fail;
 
-// A command of the key `k`, by the number of its kind.
-fn command_of(alloc: Global, kind: u32) -> Result<Command, Fail> {
-    let key = key(alloc, b"k")?;
-    Ok(match kind {
-        0 => Command::Get(key),
-        1 => Command::Huge {
-            verb: Verb::Add,
-            key,
-        },
-        2 => Command::Incr(key, 1),
-        3 => Command::Decr(key, 2),
-        4 => Command::Touch(key, -3),
-        5 => Command::Delete(key),
-        _ => return store(alloc, Verb::Cas(8), b"value"),
-    })
+// The copy of a command of the key `k` is shown so.
+fn copies_a_command(rt: &impl Abort, alloc: Global, command: Command, want: &str) {
+    let copy = command.copy(alloc).expect(rt, "memory");
+    assert_eq!(rt; copy.key().bytes(), b"k".as_slice());
+    let text = format!(in alloc; "{copy:?}").expect(rt, "memory");
+    assert_eq!(rt; text.as_str(), want);
 }
 
 #[test]
-fn copies_of_commands(rt: HostRuntime) -> Result<(), Fail> {
+fn copies_of_commands(rt: HostRuntime) {
     let alloc = rt.alloc();
-    for kind in 0..7 {
-        let command = command_of(alloc, kind)?;
-        let copy = command.copy(alloc)?;
-        let text = format!(in alloc; "{command:?}")?;
-        let copied = format!(in alloc; "{copy:?}")?;
-        assert_eq!(rt; copied.as_str(), text.as_str());
-        assert_eq!(rt; copy.key().bytes(), b"k".as_slice());
-    }
-    Ok(())
+    let huge = Command::Huge {
+        verb: Verb::Add,
+        key: key(&rt, alloc, b"k"),
+    };
+    let cas = store(&rt, alloc, Verb::Cas(8), b"v");
+    let shown =
+        "Store { verb: Cas(8), key: Key { bytes: [107] }, flags: 7, exptime: 10, value: Value { bytes: [118] } }";
+    copies_a_command(
+        &rt,
+        alloc,
+        Command::Get(key(&rt, alloc, b"k")),
+        "Get(Key { bytes: [107] })",
+    );
+    copies_a_command(
+        &rt,
+        alloc,
+        huge,
+        "Huge { verb: Add, key: Key { bytes: [107] } }",
+    );
+    copies_a_command(
+        &rt,
+        alloc,
+        Command::Incr(key(&rt, alloc, b"k"), 1),
+        "Incr(Key { bytes: [107] }, 1)",
+    );
+    copies_a_command(
+        &rt,
+        alloc,
+        Command::Decr(key(&rt, alloc, b"k"), 2),
+        "Decr(Key { bytes: [107] }, 2)",
+    );
+    copies_a_command(
+        &rt,
+        alloc,
+        Command::Touch(key(&rt, alloc, b"k"), -3),
+        "Touch(Key { bytes: [107] }, -3)",
+    );
+    copies_a_command(
+        &rt,
+        alloc,
+        Command::Delete(key(&rt, alloc, b"k")),
+        "Delete(Key { bytes: [107] })",
+    );
+    copies_a_command(&rt, alloc, cas, shown);
 }
 
-// The copy of a reply is shown as the reply.
-fn asserts_copied(rt: &impl Abort, alloc: Global, reply: &Reply) -> Result<(), Fail> {
-    let copy = reply.copy(alloc)?;
-    let text = format!(in alloc; "{reply:?}")?;
-    let copied = format!(in alloc; "{copy:?}")?;
-    assert_eq!(rt; copied.as_str(), text.as_str());
-    Ok(())
+// The copy of a reply is shown so.
+fn copies_a_reply(rt: &impl Abort, alloc: Global, reply: Reply, want: &str) {
+    let copy = reply.copy(alloc).expect(rt, "memory");
+    let text = format!(in alloc; "{copy:?}").expect(rt, "memory");
+    assert_eq!(rt; text.as_str(), want);
 }
 
 #[test]
-fn copies_of_replies(rt: HostRuntime) -> Result<(), Fail> {
+fn copies_of_replies(rt: HostRuntime) {
     let alloc = rt.alloc();
-    let held = Reply::Value {
+    let found = Reply::Value {
         flags: 1,
-        value: value(alloc, b"value")?,
+        value: value(&rt, alloc, b"v"),
         cas: 2,
     };
-    asserts_copied(&rt, alloc, &held)?;
-    asserts_copied(&rt, alloc, &Reply::Miss)?;
-    asserts_copied(&rt, alloc, &Reply::Stored)?;
-    asserts_copied(&rt, alloc, &Reply::NotStored)?;
-    asserts_copied(&rt, alloc, &Reply::Exists)?;
-    asserts_copied(&rt, alloc, &Reply::NotFound)?;
-    asserts_copied(&rt, alloc, &Reply::Deleted)?;
-    asserts_copied(&rt, alloc, &Reply::Touched)?;
-    asserts_copied(&rt, alloc, &Reply::Number(3))?;
-    asserts_copied(&rt, alloc, &Reply::NonNumeric)?;
-    asserts_copied(&rt, alloc, &Reply::TooLarge)?;
-    asserts_copied(&rt, alloc, &Reply::NoRoom)?;
-    asserts_copied(&rt, alloc, &Reply::NoSpace)?;
-    Ok(())
+    let shown = "Value { flags: 1, value: Value { bytes: [118] }, cas: 2 }";
+    copies_a_reply(&rt, alloc, found, shown);
+    copies_a_reply(&rt, alloc, Reply::Miss, "Miss");
+    copies_a_reply(&rt, alloc, Reply::Stored, "Stored");
+    copies_a_reply(&rt, alloc, Reply::NotStored, "NotStored");
+    copies_a_reply(&rt, alloc, Reply::Exists, "Exists");
+    copies_a_reply(&rt, alloc, Reply::NotFound, "NotFound");
+    copies_a_reply(&rt, alloc, Reply::Deleted, "Deleted");
+    copies_a_reply(&rt, alloc, Reply::Touched, "Touched");
+    copies_a_reply(&rt, alloc, Reply::Number(3), "Number(3)");
+    copies_a_reply(&rt, alloc, Reply::NonNumeric, "NonNumeric");
+    copies_a_reply(&rt, alloc, Reply::TooLarge, "TooLarge");
+    copies_a_reply(&rt, alloc, Reply::NoRoom, "NoRoom");
+    copies_a_reply(&rt, alloc, Reply::NoSpace, "NoSpace");
 }
 
-// A value of so many bytes, and its copy after the value is gone, have just these bytes.
+// A value of these bytes, its copy after the value is gone, and the copy's copy have just these bytes.
+fn copies_a_value(rt: &impl Abort, alloc: Global, bytes: &[u8]) {
+    let owned = Vec::from_slice(alloc, bytes).expect(rt, "memory");
+    let value = Value::sharing(alloc, owned).expect(rt, "memory");
+    assert_eq!(rt; value.bytes(), bytes);
+    let copy = value.copy(alloc).expect(rt, "memory");
+    drop(value);
+    assert_eq!(rt; copy.bytes(), bytes);
+    let again = copy.copy(alloc).expect(rt, "memory");
+    assert_eq!(rt; again.bytes(), bytes);
+}
+
 #[test]
-fn copies_of_values_on_both_sides_of_64_bytes(rt: HostRuntime) -> Result<(), Fail> {
+fn copies_of_values_on_both_sides_of_64_bytes(rt: HostRuntime) {
     let alloc = rt.alloc();
-    for count in [0, 1, 63, 64, 65, 1000] {
-        let mut bytes = vec![in alloc; b'x'; count]?;
-        bytes.push(b'y')?;
-        let value = Value::sharing(alloc, Vec::from_slice(alloc, bytes.as_slice())?)?;
-        assert_eq!(rt; value.bytes(), bytes.as_slice());
-        let copy = value.copy(alloc)?;
-        drop(value);
-        assert_eq!(rt; copy.bytes(), bytes.as_slice());
-        let again = copy.copy(alloc)?;
-        assert_eq!(rt; again.bytes(), bytes.as_slice());
+    let mut bytes = [b'x'; 1001];
+    bytes[1000] = b'y';
+    for count in [1, 2, 64, 65, 66, 1001] {
+        copies_a_value(&rt, alloc, &bytes[1001 - count..]);
     }
-    Ok(())
 }

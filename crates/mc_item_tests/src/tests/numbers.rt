@@ -4,11 +4,10 @@ use mc_item::{
     ClassNo, ClassSizes, Config, Expiry, Histogram, Marks, Passed, class_of, cost, expiry_of,
     numeral_of,
 };
-use std::test::Fail;
 
 #[test]
-fn classes_of_costs(rt: HostRuntime) -> Result<(), Fail> {
-    let config = Config::usual(rt.alloc(), 1)?;
+fn classes_of_costs(rt: HostRuntime) {
+    let config = Config::usual(rt.alloc(), 1).expect(&rt, "memory");
     for (cost, want) in [
         (0, Some(ClassNo(1))),
         (96, Some(ClassNo(1))),
@@ -19,7 +18,6 @@ fn classes_of_costs(rt: HostRuntime) -> Result<(), Fail> {
         assert_eq!(rt; class_of(&config, cost), want, "{cost}");
     }
     assert_eq!(rt; cost(250, 1), 315);
-    Ok(())
 }
 
 #[test]
@@ -36,12 +34,11 @@ fn expiries(rt: HostRuntime) {
 }
 
 #[test]
-fn deaths(rt: HostRuntime) -> Result<(), Fail> {
-    let mut one = item(rt.alloc(), b"x", NO_MARKS)?;
+fn deaths(rt: HostRuntime) {
+    let mut one = item(&rt, rt.alloc(), b"x", NO_MARKS);
     assert!(rt; !one.dead(18_446_744_073_709_551_615));
     one.expiry = Expiry::At(10);
     assert!(rt; !one.dead(9) && one.dead(10) && one.dead(11));
-    Ok(())
 }
 
 #[test]
