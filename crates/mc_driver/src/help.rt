@@ -14,9 +14,10 @@ has ended.
   get <key>..    gets <key>..    touch <key> <exptime>    delete <key>    quit
   set, add, replace <key> <flags> <exptime> <bytes>       incr, decr <key> <delta>
   cas <key> <flags> <exptime> <bytes> <cas number>
-A line ends in CR LF or in LF. Behind a line of set, add, replace or cas comes its block, which has
-as many bytes as the line says and always ends in CR LF. A line that ends in the word noreply is
-answered by nothing, not even by an error; get, gets, quit and directives don't take that word.
+A line ends in CR LF or in LF. Behind a line of set, add, replace or cas comes its block: as many
+bytes as the line says, and then always CR LF. Behind a line that is refused no block is skipped.
+Each line but those of get, gets, quit and directives may have the word noreply behind its last:
+then nothing is printed for it, not even what is wrong with it.
 
 Directives stand in the place of a command:
   %at <second>  sets the moment, at first 1000, for the commands that follow; it has no reply
@@ -26,7 +27,8 @@ Limits:
   key           1 to 250 bytes, none of them NUL, LF, CR or space
   line          65,536 bytes before its LF
   flags         below 2^32
-  exptime       1 to 18 digits, with or without a minus sign
+  exptime       1 to 18 digits with or without a minus sign: 0 is never, up to 2,592,000 are seconds
+                from the moment on, above that it is a moment, and below 0 it is over at once
   value         the size of the largest slab class, less 64 bytes and those of the key
   delta         below 2^64, as a cas number
   moment        0 to 2^62
@@ -36,9 +38,9 @@ event for each item that is found dead. It is full when it has as many as --even
 
 Exit statuses, and the lines on standard error:
   0  all went well, or help or the version was printed
-  1  a growth was refused, or the history is full; what was answered before is printed
+  1  memory or a history ran out; what was answered before is printed
        mcseg: out of memory
-       mcseg: history full                a larger --events makes room
+       mcseg: history full                raise --events
   2  the words of the command line were refused
        error: <what is wrong>             no options as above, or no number behind --events
        mcseg: a word of the command line is not UTF-8

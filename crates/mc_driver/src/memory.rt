@@ -60,11 +60,7 @@ fn keep_copy(alloc: Global, pieces: &mut Vec<Vec<u8>>, bytes: &[u8]) -> Result<(
 }
 
 // Keeps a text behind the pieces, without a copy, and leaves an empty one.
-fn keep_whole(
-    alloc: Global,
-    pieces: &mut Vec<Vec<u8>>,
-    text: &mut Vec<u8>,
-) -> Result<(), NoMemory>
+fn keep_whole(alloc: Global, pieces: &mut Vec<Vec<u8>>, text: &mut Vec<u8>) -> Result<(), NoMemory>
     ensures ok { OnOk result ((flat_map (λ v. v.items) pieces.new.items ≡ flat_map (λ v. v.items) pieces.old.items ++ text.old.items) × (text.new.items ≡ [])) }
     ensures err { OnErr result (pieces.new.items ≡ pieces.old.items) }
 {

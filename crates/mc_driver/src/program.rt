@@ -132,7 +132,14 @@ fn run_input<L: Ledger, W: Write, E: Write>(
     if scripts.push((source, sink)).is_err() {
         return told(errors, MEMORY, 1);
     }
-    match run_scripts(rt, alloc, plan.config, seed, scripts, plan.upkeep.as_slice()) {
+    match run_scripts(
+        rt,
+        alloc,
+        plan.config,
+        seed,
+        scripts,
+        plan.upkeep.as_slice(),
+    ) {
         Err(RunFault::NoMemory) => told(errors, MEMORY, 1),
         Err(RunFault::Configuration) => told(errors, CONFIGURATION, 2),
         Err(RunFault::Scripts) => told(errors, SCRIPTS, 2),

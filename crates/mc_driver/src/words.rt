@@ -136,7 +136,9 @@ fn command_of<'a>(alloc: Global) -> Result<Command<'a>, AllocError> {
         .action(ArgAction::Set)
         .value_parser(clap::value_parser!(u64))
         .value_name("n")
-        .help("how many events a history may hold, from 16 to{n}4,294,967,296 [default: 1,048,576]");
+        .help(
+            "how many events a history may hold, from 16 to{n}4,294,967,296 [default: 1,048,576]",
+        );
     Command::new(alloc, "mcseg")
         .version(VERSION)
         .about(ABOUT)

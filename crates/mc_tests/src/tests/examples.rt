@@ -1,17 +1,8 @@
 //! The worked examples, through the program.
-use super::{lines, run_program};
+use super::{Example, holds, run_program};
 
-// A worked example: its name, the words, the input, and what is wanted of the output, the status and the errors.
-struct Example {
-    name: &'static str,
-    words: &'static [&'static str],
-    input: &'static str,
-    output: &'static str,
-    status: u8,
-    errors: &'static str,
-}
-
-static EXAMPLES: [Example; 35] = [
+/// The worked examples of one script, those with options too.
+pub static EXAMPLES: [Example; 37] = [
     Example {
         name: "a set is read back",
         words: &["mcseg"],
@@ -285,6 +276,22 @@ static EXAMPLES: [Example; 35] = [
         errors: "",
     },
     Example {
+        name: "what a later moment has reclaimed stays gone",
+        words: &["mcseg"],
+        input: "set a 0 10 1|x|%at 1011|get a|%at 1000|get a|",
+        output: "STORED|END|END|",
+        status: 0,
+        errors: "",
+    },
+    Example {
+        name: "a later moment alone reclaims nothing",
+        words: &["mcseg"],
+        input: "set a 0 10 1|x|%at 1011|%at 1000|get a|",
+        output: "STORED|VALUE a 0 1|x|END|",
+        status: 0,
+        errors: "",
+    },
+    Example {
         name: "unknown verbs",
         words: &["mcseg"],
         input: "delete a 0|GET a|",
@@ -297,22 +304,7 @@ static EXAMPLES: [Example; 35] = [
 #[test]
 fn the_worked_examples_hold(rt: HostRuntime) {
     for example in EXAMPLES.as_slice() {
-        let input = lines(&rt, rt.alloc(), example.input);
-        let output = lines(&rt, rt.alloc(), example.output);
-        let ran = run_program(&rt, rt.alloc(), example.words, input.as_slice());
-        assert_eq!(rt;
-            ran.output.as_slice(),
-            output.as_slice(),
-            "{}",
-            example.name
-        );
-        assert_eq!(rt; ran.status, example.status, "{}", example.name);
-        assert_eq!(rt;
-            ran.errors.as_slice(),
-            example.errors.as_bytes(),
-            "{}",
-            example.name
-        );
+        holds(&rt, rt.alloc(), example);
     }
 }
 
@@ -331,31 +323,4 @@ fn a_line_that_is_too_long_closes_the_reader(rt: HostRuntime) {
         b"CLIENT_ERROR line too long\r\n".as_slice()
     );
     assert_eq!(rt; ran.status, 0);
-}
-
-#[test]
-fn words_that_are_refused_say_why(rt: HostRuntime) {
-    let bad_list = run_program(&rt, rt.alloc(), &["mcseg", "--sizes", "96,"], b"");
-    assert_eq!(rt; bad_list.status, 2);
-    assert_eq!(rt; bad_list.errors.as_slice(), b"mcseg: bad list\n".as_slice());
-    let falling = run_program(&rt, rt.alloc(), &["mcseg", "--sizes", "96,80"], b"");
-    assert_eq!(rt; falling.status, 2);
-    assert_eq!(rt;
-        falling.errors.as_slice(),
-        b"mcseg: bad configuration 2\n".as_slice()
-    );
-    let few = run_program(&rt, rt.alloc(), &["mcseg", "--events", "15"], b"");
-    assert_eq!(rt; few.status, 2);
-    assert_eq!(rt;
-        few.errors.as_slice(),
-        b"mcseg: bad configuration 7\n".as_slice()
-    );
-    let unknown = run_program(&rt, rt.alloc(), &["mcseg", "--color"], b"");
-    assert_eq!(rt; unknown.status, 2);
-    assert!(rt; !unknown.errors.is_empty());
-    assert!(rt; unknown.output.is_empty());
-    let help = run_program(&rt, rt.alloc(), &["mcseg", "--help"], b"");
-    assert_eq!(rt; help.status, 0);
-    assert!(rt; !help.output.is_empty());
-    assert!(rt; help.errors.is_empty());
 }

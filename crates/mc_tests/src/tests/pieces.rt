@@ -1,13 +1,15 @@
 //! Scripts in pieces, and sources and sinks that fail.
 ghost use Rattle.std.specs.Prelude.{◌≡◌, ◌<◌};
 
-use super::lines;
+use super::examples::EXAMPLES;
 use super::supplies::{Pieces, Slow};
-use mc_driver::{Outcome, run_scripts};
+use super::{Example, lines, seed_of};
+use mc_driver::{Outcome, read_words, run_scripts};
 use mc_item::Config;
 use std::alloc::Global;
 use std::marker::Brand;
 use std::process::Abort;
+use std::random::RandomSource;
 use std::sync::Wait;
 use std::sync::ledger::{Blank, Ledger};
 
@@ -29,9 +31,10 @@ struct Ended {
 }
 
 // A script over a ledger that counts failed writes.
-fn run_over<L: Ledger, R: Abort + Wait>(
+fn run_over<L: Ledger, R: Abort + Wait + RandomSource>(
     rt: &R,
     alloc: Global,
+    config: Config,
     input: &[u8],
     supply: Supply,
     blank: Blank,
@@ -43,15 +46,14 @@ fn run_over<L: Ledger, R: Abort + Wait>(
 {
     let source = Pieces::new(alloc, input, supply.piece, supply.read);
     let sink = Slow::<L>::new(alloc, supply.taken, supply.write, blank);
-    let config = Config::usual(alloc, 3).expect(rt, "memory");
     let mut scripts = Vec::new(alloc);
     let _ = scripts.push((source, sink));
-    match run_scripts(rt, alloc, config, scripts, &[]) {
+    match run_scripts(rt, alloc, config, seed_of(rt), scripts, &[]) {
         Ok(run) => {
             let mut output = Vec::new(alloc);
             for end in run.ends.as_slice() {
                 output
-                    .extend_from_slice(end.1.bytes.as_slice())
+                    .extend_from_slice(end.1.little.bytes.as_slice())
                     .expect(rt, "memory");
             }
             Ended {
@@ -66,10 +68,32 @@ fn run_over<L: Ledger, R: Abort + Wait>(
     }
 }
 
-fn run_script<R: Abort + Wait>(rt: &R, alloc: Global, input: &[u8], supply: Supply) -> Ended
+// A script on a store of the usual configuration.
+fn run_script<R: Abort + Wait + RandomSource>(
+    rt: &R,
+    alloc: Global,
+    input: &[u8],
+    supply: Supply,
+) -> Ended
     requires { 0 < supply.taken }
 {
-    run_over::<Brand, R>(rt, alloc, input, supply, Blank::new(1))
+    let config = Config::usual(alloc, 3).expect(rt, "memory");
+    run_over::<Brand, R>(rt, alloc, config, input, supply, Blank::new(1))
+}
+
+// A worked example in pieces of one size.
+fn run_example<R: Abort + Wait + RandomSource>(
+    rt: &R,
+    alloc: Global,
+    example: &Example,
+    input: &[u8],
+    piece: usize,
+) -> Ended {
+    let Ok(plan) = read_words(alloc, example.words) else {
+        panic!(rt; "words of {}", example.name);
+    };
+    let supply = Supply { piece, ..WHOLE };
+    run_over::<Brand, R>(rt, alloc, plan.config, input, supply, Blank::new(1))
 }
 
 static INPUT: &str =
@@ -98,6 +122,23 @@ fn the_cutting_does_not_matter(rt: HostRuntime) {
             output.as_slice(),
             "in pieces of {piece}"
         );
+    }
+}
+
+#[test]
+fn no_cut_changes_a_worked_example(rt: HostRuntime) {
+    for example in EXAMPLES.as_slice() {
+        let input = lines(&rt, rt.alloc(), example.input);
+        let output = lines(&rt, rt.alloc(), example.output);
+        for cut in 0..input.len() {
+            let ended = run_example(&rt, rt.alloc(), example, input.as_slice(), cut + 1);
+            assert_eq!(rt;
+                ended.output.as_slice(),
+                output.as_slice(),
+                "{}, cut {cut}",
+                example.name
+            );
+        }
     }
 }
 

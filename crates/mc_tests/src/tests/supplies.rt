@@ -65,9 +65,10 @@ impl Source for Pieces<'_> {
     }
 }
 
-/// A sink that takes so many bytes at a time, and keeps them. The write of one number fails, once, where there is one.
+/// A sink that takes so many bytes at a time, and keeps them; a whole text it takes at once. The write of one number
+/// fails, once, where there is one.
 #[derive(Drop)]
-pub struct Slow<L: Ledger> {
+pub struct Little<L: Ledger> {
     pub bytes: Vec<u8>,
     size: usize,
     writes: Option<u64>,
@@ -77,24 +78,7 @@ pub struct Slow<L: Ledger> {
     ghost some: { 0 < size },
 }
 
-impl<L: Ledger> Slow<L> {
-    /// A sink that has taken nothing.
-    pub fn new(alloc: Global, size: usize, writes: Option<u64>, blank: Blank) -> Slow<L>
-        requires name { blank.name ≡ L.name }
-        requires parts { blank.parts ≡ L.parts }
-        requires part { 0 < blank.parts }
-        requires some { 0 < size }
-    {
-        let (book, share) = blank.open::<L>();
-        Slow {
-            bytes: Vec::new(alloc),
-            size,
-            writes,
-            book,
-            share,
-        }
-    }
-
+impl<L: Ledger> Little<L> {
     // A write that fails.
     fn fail(&mut self) -> SinkFault
         ensures bytes { self.new.bytes.items ≡ self.old.bytes.items }
@@ -105,7 +89,7 @@ impl<L: Ledger> Slow<L> {
     }
 }
 
-impl<L: Ledger> Sink for Slow<L> {
+impl<L: Ledger> Sink for Little<L> {
     ghost taken = { λ s. s.bytes.items };
 
     ghost failures = { λ s. s.book.total };
@@ -129,6 +113,53 @@ impl<L: Ledger> Sink for Slow<L> {
     }
 
     fn put_whole(&mut self, text: &mut Vec<u8>) -> Result<(), SinkFault> {
-        write_whole(self, text)
+        match self.bytes.extend_from_slice(text.as_slice()) {
+            Ok(()) => {
+                text.clear();
+                Ok(())
+            }
+            Err(_) => Err(self.fail()),
+        }
+    }
+}
+
+/// A sink that takes whole texts a little at a time too.
+#[derive(Drop)]
+pub struct Slow<L: Ledger> {
+    pub little: Little<L>,
+}
+
+impl<L: Ledger> Slow<L> {
+    /// A sink that has taken nothing.
+    pub fn new(alloc: Global, size: usize, writes: Option<u64>, blank: Blank) -> Slow<L>
+        requires name { blank.name ≡ L.name }
+        requires parts { blank.parts ≡ L.parts }
+        requires part { 0 < blank.parts }
+        requires some { 0 < size }
+    {
+        let (book, share) = blank.open::<L>();
+        Slow {
+            little: Little {
+                bytes: Vec::new(alloc),
+                size,
+                writes,
+                book,
+                share,
+            },
+        }
+    }
+}
+
+impl<L: Ledger> Sink for Slow<L> {
+    ghost taken = { λ s. s.little.bytes.items };
+
+    ghost failures = { λ s. s.little.book.total };
+
+    fn put(&mut self, bytes: &[u8]) -> Result<usize, SinkFault> {
+        self.little.put(bytes)
+    }
+
+    fn put_whole(&mut self, text: &mut Vec<u8>) -> Result<(), SinkFault> {
+        write_whole(&mut self.little, text)
     }
 }

@@ -1,0 +1,159 @@
+//! The words of the command line: help and version, and what is refused.
+use super::{Example, holds, run_program};
+use std::str;
+
+static EXAMPLES: [Example; 10] = [
+    Example {
+        name: "the version",
+        words: &["mcseg", "--version"],
+        input: "get a|",
+        output: "mcseg 0.1.0\n",
+        status: 0,
+        errors: "",
+    },
+    Example {
+        name: "a comma too many",
+        words: &["mcseg", "--sizes", "96,"],
+        input: "get a|",
+        output: "",
+        status: 2,
+        errors: "mcseg: bad list\n",
+    },
+    Example {
+        name: "an empty list",
+        words: &["mcseg", "--sizes", ""],
+        input: "get a|",
+        output: "",
+        status: 2,
+        errors: "mcseg: bad list\n",
+    },
+    Example {
+        name: "a sign in a list",
+        words: &["mcseg", "--sizes", "+96"],
+        input: "get a|",
+        output: "",
+        status: 2,
+        errors: "mcseg: bad list\n",
+    },
+    Example {
+        name: "a number of 2^64 in a list, before a bad limit of events",
+        words: &["mcseg", "--sizes", "18446744073709551616", "--events", "15"],
+        input: "get a|",
+        output: "",
+        status: 2,
+        errors: "mcseg: bad list\n",
+    },
+    Example {
+        name: "sizes that fall",
+        words: &["mcseg", "--sizes", "96,80"],
+        input: "get a|",
+        output: "",
+        status: 2,
+        errors: "mcseg: bad configuration 2\n",
+    },
+    Example {
+        name: "a size of 64, before a bad limit of events",
+        words: &["mcseg", "--sizes", "64", "--events", "15"],
+        input: "get a|",
+        output: "",
+        status: 2,
+        errors: "mcseg: bad configuration 2\n",
+    },
+    Example {
+        name: "too few events",
+        words: &["mcseg", "--events", "15"],
+        input: "get a|",
+        output: "",
+        status: 2,
+        errors: "mcseg: bad configuration 7\n",
+    },
+    Example {
+        name: "too many events",
+        words: &["mcseg", "--events", "4294967297"],
+        input: "get a|",
+        output: "",
+        status: 2,
+        errors: "mcseg: bad configuration 7\n",
+    },
+    Example {
+        name: "leading zeros, and the most events",
+        words: &[
+            "mcseg",
+            "--sizes",
+            "00096,1048576",
+            "--events",
+            "4294967296",
+        ],
+        input: "get a|",
+        output: "END|",
+        status: 0,
+        errors: "",
+    },
+];
+
+#[test]
+fn words_that_are_refused_say_why(rt: HostRuntime) {
+    for example in EXAMPLES.as_slice() {
+        holds(&rt, rt.alloc(), example);
+    }
+}
+
+static REFUSED: [&[&str]; 5] = [
+    &["mcseg", "--color"],
+    &["mcseg", "96"],
+    &["mcseg", "--sizes"],
+    &["mcseg", "--events", "x"],
+    &["mcseg", "--sizes", "96", "--sizes", "96"],
+];
+
+#[test]
+fn words_that_are_no_options_are_refused(rt: HostRuntime) {
+    for words in REFUSED.as_slice() {
+        let ran = run_program(&rt, rt.alloc(), words, b"get a\r\n");
+        assert_eq!(rt; ran.status, 2);
+        assert!(rt; ran.output.is_empty());
+        assert!(rt; ran.errors.as_slice().starts_with(b"error: "));
+    }
+}
+
+// What a person has to find in the help: each line on standard error, each number, each limit.
+static HELP: [&str; 20] = [
+    "--sizes",
+    "--events",
+    "--version",
+    "mcseg: out of memory\n",
+    "mcseg: history full",
+    "mcseg: bad list",
+    "mcseg: bad configuration <number>",
+    "1 stripes ",
+    "2 sizes ",
+    "3 chunks ",
+    "4 percents ",
+    "5 factors ",
+    "6 callers ",
+    "7 events ",
+    "mcseg: input failed\n",
+    "mcseg: output failed\n",
+    "1 to 250 bytes",
+    "65,536 bytes before its LF",
+    "noreply",
+    "| mcseg\n",
+];
+
+#[test]
+fn help_names_each_line_and_limit(rt: HostRuntime) {
+    let short = run_program(&rt, rt.alloc(), &["mcseg", "-h"], b"get a\r\n");
+    assert_eq!(rt; short.status, 0);
+    assert!(rt; short.errors.is_empty());
+    let long = run_program(&rt, rt.alloc(), &["mcseg", "--help"], b"");
+    assert_eq!(rt; long.status, 0);
+    assert!(rt; long.errors.is_empty());
+    assert_eq!(rt; short.output.as_slice(), long.output.as_slice());
+    let text = str::from_utf8(long.output.as_slice()).expect(&rt, "text");
+    for part in HELP.as_slice() {
+        assert!(rt; text.contains(*part), "{part}");
+    }
+    for line in text.lines() {
+        assert!(rt; line.len() <= 100, "{line}");
+    }
+}
