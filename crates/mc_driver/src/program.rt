@@ -51,8 +51,7 @@ fn print_all<W: Write>(writer: &mut W, text: &[u8]) -> io::Result<()> {
     writer.flush()
 }
 
-// What the reader of the command line says: its help and its version go to the output, its refusals to the
-// errors.
+// What the reader of the command line says: help and version go to the output, refusals to the errors.
 fn say_words<W: Write, E: Write>(
     alloc: Global,
     error: &Error,
@@ -94,8 +93,7 @@ fn say_outcome<E: Write>(outcome: Option<&Outcome>, errors: &mut E) -> u8 {
     }
 }
 
-// Reads to the end, in pieces. A piece that isn't full was cut by the end: a terminal, which would give more behind it,
-// isn't asked again.
+// Reads to the end, in pieces. A piece that isn't full was cut by the end; a terminal that is asked again would go on.
 fn read_pieces<R: Read>(alloc: Global, reader: &mut R) -> io::Result<VecDeque<Vec<u8>>> {
     let mut pieces = VecDeque::new(alloc);
     for _ in 0..MOST_READS {
