@@ -1,5 +1,5 @@
 //! The state of a class: what it keeps, how it is made, and the steps that every event is made by.
-ghost use Rattle.std.specs.Prelude.{◌≡◌, ◌+◌, ◌<◌, ◌≤◌, ◌==◌, ◌^◌, ℕ, false, length, OnOk, IsOk, MatchResult, vec_len};
+ghost use Rattle.std.specs.Prelude.{◌≡◌, ◌+◌, ◌<◌, ◌≤◌, ◌==◌, ◌^◌, ℕ, ◌↔◌, false, length, IsTrue, OnOk, IsOk, MatchResult, vec_len};
 ghost use Rattle.std.specs.Option.{IsSomeAnd};
 ghost use Rattle.mc_item.specs.Config.{IsSound};
 ghost use Rattle.mc_item.specs.Lists.{lists_of, links_of, links_in, count_of, after, unlinked, segment_of};
@@ -96,6 +96,13 @@ impl ClassState {
         }
     }
 
+    // Whether the history has places for n more events.
+    fn has_places(&self, n: usize) -> bool
+        ensures { IsTrue result ↔ HasPlaces self.now n }
+    {
+        n as u64 <= self.max_events - (self.history.len() as u64)
+    }
+
     /// Makes room for n events: the next n calls that make one take no memory. `HistoryFull` where the history has
     /// fewer places left than n, which is looked at first; `NoMemory` only where the room was less than n.
     pub fn reserve(&mut self, n: usize) -> Result<(), Fault>
@@ -104,7 +111,7 @@ impl ClassState {
         ensures kept { self.old.room ≤ self.new.room }
         ensures refusal { MatchResult result (λ _. HasPlaces self.old n) (MayRefuse self.old n) }
     {
-        if self.max_events - (self.history.len() as u64) < n as u64 {
+        if !self.has_places(n) {
             return Err(Fault::HistoryFull);
         }
         self.history.reserve(n)?;
