@@ -3,9 +3,8 @@ use Rattle.std.proofs.Common.{◌≡◌, ◌++◌, ◌∷◌, [], ◌≤◌, ◌
 use Rattle.std.specs.Prelude.{Bool, Option, Some, None, nat_le, if◌then◌else◌, pos}
 use Rattle.std.proofs.lemmas.Bool.{le-leb}
 use Rattle.mc_item.specs.declared.command.Verb.TheVariants as verbs
-use Rattle.mc_item.specs.declared.command.Command.TheVariants as commands
 use Rattle.mc_proto.specs.Lines.{tokens, number, number_up_to, up_to, exptime, key_of}
-use Rattle.mc_proto.specs.Rows.{row_of, stored_said, counted_said, begun, one}
+use Rattle.mc_proto.specs.Rows.{row_of, stored_said, counted_said, counting, begun, one}
 use Rattle.mc_proto.specs.declared.request.Limits.{Limits}
 use Rattle.mc_proto.specs.declared.state.Said.{Said}
 
@@ -21,9 +20,11 @@ pub set_tokens : (line verb rest : List ℕ) (ts : List (List ℕ)) → verb ≡
 set_tokens line verb rest ts front back word is =
     ap tokens (front_whole 4 line verb rest (codes "set ") front back word) ∙ ap (λ (x : List (List ℕ)). codes "set" ∷ x) is
 
-pub incr_tokens : (line verb rest : List ℕ) (ts : List (List ℕ)) → verb ≡ take 5 line → rest ≡ drop 5 line → verb ≡ codes "incr " → tokens rest ≡ ts → tokens line ≡ codes "incr" ∷ ts
-incr_tokens line verb rest ts front back word is =
-    ap tokens (front_whole 5 line verb rest (codes "incr ") front back word) ∙ ap (λ (x : List (List ℕ)). codes "incr" ∷ x) is
+pub incr_tokens : (line verb rest : List ℕ) → verb ≡ take 5 line → rest ≡ drop 5 line → verb ≡ codes "incr " → tokens line ≡ codes "incr" ∷ tokens rest
+incr_tokens line verb rest front back word = ap tokens (front_whole 5 line verb rest (codes "incr ") front back word)
+
+pub decr_tokens : (line verb rest : List ℕ) → verb ≡ take 5 line → rest ≡ drop 5 line → verb ≡ codes "decr " → tokens line ≡ codes "decr" ∷ tokens rest
+decr_tokens line verb rest front back word = ap tokens (front_whole 5 line verb rest (codes "decr ") front back word)
 
 -- the last token
 pub last_token : (rest more t : List ℕ) → tokens rest ≡ t ∷ tokens more → length more ≡ 0 → tokens rest ≡ t ∷ []
@@ -52,8 +53,15 @@ set_row limits key k f e n flags count x true a b c d =
     ∙ ap (λ (o : Option ℤ). stored_said limits true (Some verbs.Set) (Some key) (Some flags) o (number_up_to 2147483645 n)) c
     ∙ ap (λ (o : Option ℕ). stored_said limits true (Some verbs.Set) (Some key) (Some flags) (Some x) o) d
 
-pub incr_row : (limits : Limits) (key k d : List ℕ) (delta : ℕ) → key_of k ≡ Some key → number_up_to 18446744073709551615 d ≡ Some delta
-    → row_of limits (codes "incr" ∷ k ∷ d ∷ []) ≡ one false (commands.Incr key delta)
-incr_row limits key k d delta a b =
+-- the verb of a line that counts
+abbrev pub count_verb : Bool → List ℕ
+count_verb up = if up then codes "incr" else codes "decr"
+
+pub counted_row : (up : Bool) (limits : Limits) (key k d : List ℕ) (delta : ℕ) → key_of k ≡ Some key → number_up_to 18446744073709551615 d ≡ Some delta
+    → row_of limits (count_verb up ∷ k ∷ d ∷ []) ≡ one false (counting up key delta)
+counted_row true limits key k d delta a b =
     ap (λ (o : Option (List ℕ)). counted_said true false o (number_up_to 18446744073709551615 d)) a
     ∙ ap (λ (o : Option ℕ). counted_said true false (Some key) o) b
+counted_row false limits key k d delta a b =
+    ap (λ (o : Option (List ℕ)). counted_said false false o (number_up_to 18446744073709551615 d)) a
+    ∙ ap (λ (o : Option ℕ). counted_said false false (Some key) o) b

@@ -14,8 +14,9 @@ use crate::token::{exptime, key_of, number_up_to};
 use mc_item::{Command, Key, NoMemory, Verb};
 use std::alloc::Global;
 
-// The command incr, else decr.
-fn counting(up: bool, key: Key, delta: u64) -> Command
+/// The command incr, else decr.
+#[inline(always)]
+pub fn counting(up: bool, key: Key, delta: u64) -> Command
     ensures { result ≡ rows.counting up key delta }
 {
     if up {

@@ -11,7 +11,7 @@ ghost use Rattle.mc_proto.specs.declared.request.Limits.{Limits};
 ghost use Rattle.mc_proto.specs.declared.request.Request.TheVariants as requests;
 ghost use Rattle.mc_proto.specs.declared.state.Said.TheVariants as said;
 
-use crate::call::{call_line, due_of};
+use crate::call::{call_line, counting, due_of};
 use crate::request::{Keys, Limits, Request, Target};
 use crate::said::{no_format, no_line, one};
 use crate::state::{Said, Start, Word};
@@ -20,7 +20,7 @@ use crate::token::{
     first_tokens, key_of, more_tokens, next_number, next_token, number_up_to, without_cr,
 };
 use crate::word::{is_quiet, shorn, word_of};
-use mc_item::{ClassNo, Command, Key, NoMemory, Verb};
+use mc_item::{ClassNo, Key, NoMemory, Verb};
 use std::alloc::Global;
 
 /// The largest moment in seconds: 2^62.
@@ -318,20 +318,35 @@ fn quick_set(alloc: Global, limits: Limits, line: &[u8]) -> Result<Option<Said>,
     Ok(Some(begun_set(limits, key, flags, exptime, count, quiet)))
 }
 
-// A line `incr` of a key and a number, one space behind the verb; of other lines nothing is said.
+// Whether a line begins with `incr` and one space, or with `decr` and one, and what comes after it; of other lines
+// nothing is said.
 #[inline(always)]
-fn quick_incr(alloc: Global, limits: Limits, line: &[u8]) -> Result<Option<Said>, NoMemory>
+fn after_count(line: &[u8]) -> Option<(bool, &[u8])>
+    ensures { IfSome result (λ x. tokens line.now ≡ (if x.0 then codes "incr" else codes "decr") ∷ tokens x.1.now) }
+{
+    if line.len() < 5 {
+        return None;
+    }
+    let (verb, rest) = line.split_at(5);
+    if verb == b"incr ".as_slice() {
+        return Some((true, rest));
+    }
+    if verb == b"decr ".as_slice() {
+        return Some((false, rest));
+    }
+    None
+}
+
+// A line `incr` or `decr` of a key and a number, one space behind the verb; of other lines nothing is said.
+#[inline(always)]
+fn quick_count(alloc: Global, limits: Limits, line: &[u8]) -> Result<Option<Said>, NoMemory>
     ensures value { IfOk result (λ found. IfSome found (λ s. s ≡ rows.row_of limits (tokens line.now))) }
     ensures fine { IfOk result (λ found. IfSome found (λ s. IsFine s)) }
 {
     let _limits = limits;
-    if line.len() < 5 {
+    let Some((up, rest)) = after_count(line) else {
         return Ok(None);
-    }
-    let (verb, rest) = line.split_at(5);
-    if verb != b"incr ".as_slice() {
-        return Ok(None);
-    }
+    };
     let Some((token, rest)) = next_token(rest) else {
         return Ok(None);
     };
@@ -344,7 +359,7 @@ fn quick_incr(alloc: Global, limits: Limits, line: &[u8]) -> Result<Option<Said>
     let Some(key) = key_of(alloc, token)? else {
         return Ok(None);
     };
-    Ok(Some(one(false, Command::Incr(key, delta))))
+    Ok(Some(one(false, counting(up, key, delta))))
 }
 
 /// What a line says, of which the LF is no part.
@@ -358,7 +373,7 @@ pub fn said_of(alloc: Global, limits: Limits, line: &[u8]) -> Result<Said, NoMem
     if let Some(said) = quick_set(alloc, limits, line)? {
         return Ok(said);
     }
-    if let Some(said) = quick_incr(alloc, limits, line)? {
+    if let Some(said) = quick_count(alloc, limits, line)? {
         return Ok(said);
     }
     let mut few = [line; 8];

@@ -91,7 +91,7 @@ struct Told {
 }
 
 // What a command is told where its key's item is `found`.
-#[inline(never)]
+#[inline(always)]
 fn told_of(
     alloc: Global,
     site: &Site,
@@ -222,13 +222,73 @@ fn answer_get(
     ensures err { OnErr result ((q : List ℕ) → get (pointwise nat_eq) items.new q ≡ get (pointwise nat_eq) items.old q) }
     ensures spare { spare items.old ≤ spare items.new + 1 }
 {
-    let Some(item) = items.get_mut(key) else {
-        return Ok(Some(answer_miss(given, copies)));
-    };
-    if item.dead(moment) {
-        return Ok(None);
+    match items.get_mut(key) {
+        None => Ok(Some(answer_miss(given, copies))),
+        Some(item) if item.dead(moment) => Ok(None),
+        Some(item) => Ok(Some(answer_hit(alloc, item, given, copies)?)),
     }
-    Ok(Some(answer_hit(alloc, item, given, copies)?))
+}
+
+// The answer to a command that finds an item, by the general way, and whether the item stays.
+#[inline(never)]
+fn answer_found(
+    alloc: Global,
+    site: &Site,
+    versions: u64,
+    item: &mut Item,
+    command: &Command,
+    moment: u64,
+    given: Given,
+    copies: bool,
+) -> Result<(Answered, bool), NoMemory>
+    requires cas { cas_of site.now versions < 2 ^ 64 }
+    requires moment { moment ≤ 2 ^ 62 }
+    ensures room { IfOk result (λ x. x.0.room ≡ calls.room_of given (row_of site.now versions (Some item.old) command.now moment).need) }
+    ensures ok { IfOk result (λ x. (answer : Answer) × (answer ≡ (row_of site.now versions (Some item.old) command.now moment).answer x.0.room)
+        × (x.0.noted ≡ answer.reply) × (x.0.told ≡ (if copies then Some answer.reply else None)) × (x.0.added ≡ Rattle.mc_item.specs.Cache.versions_of answer.change)
+        × (changed (Some item.old) answer.change ≡ (if x.1 then Some item.new else None))) }
+    ensures err { OnErr result (item.new ≡ item.old) }
+{
+    let told = told_of(
+        alloc,
+        site,
+        versions,
+        Some(&*item),
+        command,
+        moment,
+        given,
+        copies,
+    )?;
+    let stays = change_found(item, told.change);
+    Ok((told.answered, stays))
+}
+
+// The answer to a command whose key has no item.
+#[inline(never)]
+fn answer_absent(
+    alloc: Global,
+    site: &Site,
+    versions: u64,
+    items: &mut HashMap<Key, Item, RandomState>,
+    command: &Command,
+    moment: u64,
+    given: Given,
+    copies: bool,
+) -> Result<Answered, NoMemory>
+    requires cas { cas_of site.now versions < 2 ^ 64 }
+    requires moment { moment ≤ 2 ^ 62 }
+    requires room { 0 < spare items.old }
+    requires absent { get (pointwise nat_eq) items.old (key_of command.now) ≡ None }
+    ensures room { IfOk result (λ a. a.room ≡ calls.room_of given (row_of site.now versions None command.now moment).need) }
+    ensures ok { IfOk result (λ a. (answer : Answer) × (answer ≡ (row_of site.now versions None command.now moment).answer a.room)
+        × (a.noted ≡ answer.reply) × (a.told ≡ (if copies then Some answer.reply else None)) × (a.added ≡ Rattle.mc_item.specs.Cache.versions_of answer.change)
+        × ((q : List ℕ) → get (pointwise nat_eq) items.new q ≡ (if pointwise nat_eq (key_of command.now) q then changed None answer.change else get (pointwise nat_eq) items.old q))) }
+    ensures err { OnErr result ((q : List ℕ) → get (pointwise nat_eq) items.new q ≡ get (pointwise nat_eq) items.old q) }
+    ensures spare { spare items.old ≤ spare items.new + 1 }
+{
+    let told = told_of(alloc, site, versions, None, command, moment, given, copies)?;
+    change_absent(alloc, items, command.key(), told.change)?;
+    Ok(told.answered)
 }
 
 // Answers a command of any kind.
@@ -258,9 +318,9 @@ fn answer_any(
 {
     let key = command.key();
     let Some(item) = items.get_mut(key) else {
-        let told = told_of(alloc, site, versions, None, command, moment, given, copies)?;
-        change_absent(alloc, items, key, told.change)?;
-        return Ok(Some(told.answered));
+        return Ok(Some(answer_absent(
+            alloc, site, versions, items, command, moment, given, copies,
+        )?));
     };
     if item.dead(moment) {
         return Ok(None);
@@ -270,21 +330,13 @@ fn answer_any(
     )? {
         return Ok(Some(answered));
     }
-    let told = told_of(
-        alloc,
-        site,
-        versions,
-        Some(&*item),
-        command,
-        moment,
-        given,
-        copies,
+    let (answered, stays) = answer_found(
+        alloc, site, versions, item, command, moment, given, copies,
     )?;
-    let stays = change_found(item, told.change);
     if !stays {
         remove(items, key);
     }
-    Ok(Some(told.answered))
+    Ok(Some(answered))
 }
 
 /// Answers a command for the item under its key, and changes it; the key is looked up once, and once more where its
