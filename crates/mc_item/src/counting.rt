@@ -11,11 +11,11 @@ ghost use Rattle.mc_item.specs.declared.answer.Change.TheVariants as changes;
 use crate::answer::{Answer, Change, Need, Site};
 use crate::fault::NoMemory;
 use crate::item::{ClassNo, Item, Marks};
-use itoa::Buffer;
 use crate::key::Key;
 use crate::measure::{cost, least_class, numeral_of};
 use crate::reply::{Reply, Room};
 use crate::value::Value;
+use itoa::Buffer;
 use std::alloc::Global;
 
 /// Which way a number goes, and how far.

@@ -39,6 +39,6 @@ pub use measure::{class_of, cost, least_class, numeral_of, stripe_of};
 pub use numbers::{ClassSizes, Numbers};
 pub use reply::{Reply, Room};
 pub use spare::KeyBuffer;
-pub use stripe_event::{Cause, Cooled, Did, Lost, StripeEvent};
 pub use storing::{Content, stores_over};
+pub use stripe_event::{Cause, Cooled, Did, Lost, StripeEvent};
 pub use value::Value;
