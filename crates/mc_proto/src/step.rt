@@ -20,7 +20,27 @@ use std::mem;
 /// The longest line in bytes, without its LF.
 const MAX_LINE: usize = 65_536;
 
+// What a line says that lies in two pieces, of which the second has `front`.
+#[cold]
+#[inline(never)]
+fn said_behind(
+    alloc: Global,
+    limits: Limits,
+    line: &mut BytesMut,
+    front: &[u8],
+) -> Result<Said, NoMemory>
+    ensures value { IfOk result (λ s. s ≡ says limits (line.old.items ++ front.now)) }
+    ensures fine { IfOk result (λ s. IsFine s) }
+    ensures none { IfOk result (λ s. line.new.items ≡ []) }
+{
+    line.extend_from_slice(front)?;
+    let said = said_of(alloc, limits, line.as_slice())?;
+    line.clear();
+    Ok(said)
+}
+
 // What a line says whose last bytes are `front`; a line that lies whole in one piece isn't copied.
+#[inline(always)]
 fn said_at(
     alloc: Global,
     limits: Limits,
@@ -34,10 +54,7 @@ fn said_at(
     if line.is_empty() {
         return said_of(alloc, limits, front);
     }
-    line.extend_from_slice(front)?;
-    let said = said_of(alloc, limits, line.as_slice())?;
-    line.clear();
-    Ok(said)
+    said_behind(alloc, limits, line, front)
 }
 
 // What a whole line makes of where the reader stands, and of the requests. Room for its whole block is taken at once.

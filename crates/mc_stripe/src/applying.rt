@@ -12,7 +12,8 @@ ghost use Rattle.mc_item.specs.declared.stripe_event.StripeEvent.TheVariants as 
 ghost use Rattle.mc_stripe.specs.StripeState.{cache_now, last_reply};
 ghost use Rattle.mc_stripe.specs.StripeCalls.{KeepsSite, Gains, Notes, room_for, room_of};
 
-use crate::changing::{Given, answer_item};
+use crate::answering::answer_item;
+use crate::changing::Given;
 use crate::state::{StripeState, is_full};
 use mc_item::{Command, Did, Fault, Need, Reply, Room, StripeEvent, Verb, Who};
 

@@ -12,7 +12,6 @@ ghost use Rattle.mc_item.specs.declared.answer.Need.TheVariants as needs;
 ghost use Rattle.mc_item.specs.declared.reply.Reply.TheVariants as replies;
 ghost use Rattle.mc_stripe.specs.StripeCalls as calls;
 
-use crate::in_place::{answer_at_once, answer_hit};
 use mc_item::{Answer, Change, Command, Item, Key, Link, Need, NoMemory, Reply, Room, Site};
 use std::alloc::Global;
 use std::collections::HashMap;
@@ -182,56 +181,9 @@ pub(crate) fn remove(items: &mut HashMap<Key, Item, RandomState>, key: &Key)
     let _ = items.remove(key);
 }
 
-// The answer to a get that finds no item.
-#[inline(always)]
-fn answer_miss(given: Given, copies: bool) -> Answered
-    ensures room { result.room ≡ calls.room_of given needs.Nothing }
-    ensures noted { result.noted ≡ replies.Miss }
-    ensures told { result.told ≡ (if copies then Some replies.Miss else None) }
-    ensures added { result.added ≡ 0 }
-{
-    let room = match given {
-        Given::Room(room) => room,
-        Given::Number(_) => Room::Keep,
-    };
-    Answered {
-        noted: Reply::Miss,
-        told: if copies { Some(Reply::Miss) } else { None },
-        room,
-        added: 0,
-    }
-}
-
-// The answer to a get, which hits the item that it finds. Other commands' room for answers isn't made on its way.
-#[inline(always)]
-fn answer_get(
-    alloc: Global,
-    items: &mut HashMap<Key, Item, RandomState>,
-    key: &Key,
-    moment: u64,
-    given: Given,
-    copies: bool,
-) -> Result<Option<Answered>, NoMemory>
-    ensures alive { IfOk result (λ told. IfSome told (λ a. IsAlive (get (pointwise nat_eq) items.old key.now) moment)) }
-    ensures room { IfOk result (λ told. IfSome told (λ a. a.room ≡ calls.room_of given needs.Nothing)) }
-    ensures ok { IfOk result (λ told. IfSome told (λ a. (answer : Answer) × (answer ≡ (get_row (get (pointwise nat_eq) items.old key.now)).answer a.room)
-        × (a.noted ≡ answer.reply) × (a.told ≡ (if copies then Some answer.reply else None)) × (a.added ≡ Rattle.mc_item.specs.Cache.versions_of answer.change)
-        × ((q : List ℕ) → get (pointwise nat_eq) items.new q ≡ (if pointwise nat_eq key.now q then changed (get (pointwise nat_eq) items.old key.now) answer.change else get (pointwise nat_eq) items.old q)))) }
-    ensures dead { IfOk result (λ told. IfNone told (IsDead (get (pointwise nat_eq) items.old key.now) moment)) }
-    ensures same { IfOk result (λ told. IfNone told ((q : List ℕ) → get (pointwise nat_eq) items.new q ≡ get (pointwise nat_eq) items.old q)) }
-    ensures err { OnErr result ((q : List ℕ) → get (pointwise nat_eq) items.new q ≡ get (pointwise nat_eq) items.old q) }
-    ensures spare { spare items.old ≤ spare items.new + 1 }
-{
-    match items.get_mut(key) {
-        None => Ok(Some(answer_miss(given, copies))),
-        Some(item) if item.dead(moment) => Ok(None),
-        Some(item) => Ok(Some(answer_hit(alloc, item, given, copies)?)),
-    }
-}
-
 // The answer to a command that finds an item, by the general way, and whether the item stays.
 #[inline(never)]
-fn answer_found(
+pub(crate) fn answer_found(
     alloc: Global,
     site: &Site,
     versions: u64,
@@ -265,7 +217,7 @@ fn answer_found(
 
 // The answer to a command whose key has no item.
 #[inline(never)]
-fn answer_absent(
+pub(crate) fn answer_absent(
     alloc: Global,
     site: &Site,
     versions: u64,
@@ -289,84 +241,4 @@ fn answer_absent(
     let told = told_of(alloc, site, versions, None, command, moment, given, copies)?;
     change_absent(alloc, items, command.key(), told.change)?;
     Ok(told.answered)
-}
-
-// Answers a command of any kind.
-#[inline(always)]
-fn answer_any(
-    alloc: Global,
-    site: &Site,
-    versions: u64,
-    items: &mut HashMap<Key, Item, RandomState>,
-    command: &Command,
-    moment: u64,
-    given: Given,
-    copies: bool,
-) -> Result<Option<Answered>, NoMemory>
-    requires cas { cas_of site.now versions < 2 ^ 64 }
-    requires moment { moment ≤ 2 ^ 62 }
-    requires room { 0 < spare items.old }
-    ensures alive { IfOk result (λ told. IfSome told (λ a. IsAlive (get (pointwise nat_eq) items.old (key_of command.now)) moment)) }
-    ensures room { IfOk result (λ told. IfSome told (λ a. a.room ≡ calls.room_of given (row_of site.now versions (get (pointwise nat_eq) items.old (key_of command.now)) command.now moment).need)) }
-    ensures ok { IfOk result (λ told. IfSome told (λ a. (answer : Answer) × (answer ≡ (row_of site.now versions (get (pointwise nat_eq) items.old (key_of command.now)) command.now moment).answer a.room)
-        × (a.noted ≡ answer.reply) × (a.told ≡ (if copies then Some answer.reply else None)) × (a.added ≡ Rattle.mc_item.specs.Cache.versions_of answer.change)
-        × ((q : List ℕ) → get (pointwise nat_eq) items.new q ≡ (if pointwise nat_eq (key_of command.now) q then changed (get (pointwise nat_eq) items.old (key_of command.now)) answer.change else get (pointwise nat_eq) items.old q)))) }
-    ensures dead { IfOk result (λ told. IfNone told (IsDead (get (pointwise nat_eq) items.old (key_of command.now)) moment)) }
-    ensures same { IfOk result (λ told. IfNone told ((q : List ℕ) → get (pointwise nat_eq) items.new q ≡ get (pointwise nat_eq) items.old q)) }
-    ensures err { OnErr result ((q : List ℕ) → get (pointwise nat_eq) items.new q ≡ get (pointwise nat_eq) items.old q) }
-    ensures spare { spare items.old ≤ spare items.new + 1 }
-{
-    let key = command.key();
-    let Some(item) = items.get_mut(key) else {
-        return Ok(Some(answer_absent(
-            alloc, site, versions, items, command, moment, given, copies,
-        )?));
-    };
-    if item.dead(moment) {
-        return Ok(None);
-    }
-    if let Some(answered) = answer_at_once(
-        alloc, site, versions, item, command, moment, given, copies,
-    )? {
-        return Ok(Some(answered));
-    }
-    let (answered, stays) = answer_found(
-        alloc, site, versions, item, command, moment, given, copies,
-    )?;
-    if !stays {
-        remove(items, key);
-    }
-    Ok(Some(answered))
-}
-
-/// Answers a command for the item under its key, and changes it; the key is looked up once, and once more where its
-/// item goes. Nothing changes without memory, or where the item is dead, and then there is no answer.
-#[inline(always)]
-pub(crate) fn answer_item(
-    alloc: Global,
-    site: &Site,
-    versions: u64,
-    items: &mut HashMap<Key, Item, RandomState>,
-    command: &Command,
-    moment: u64,
-    given: Given,
-    copies: bool,
-) -> Result<Option<Answered>, NoMemory>
-    requires cas { cas_of site.now versions < 2 ^ 64 }
-    requires moment { moment ≤ 2 ^ 62 }
-    requires room { 0 < spare items.old }
-    ensures alive { IfOk result (λ told. IfSome told (λ a. IsAlive (get (pointwise nat_eq) items.old (key_of command.now)) moment)) }
-    ensures room { IfOk result (λ told. IfSome told (λ a. a.room ≡ calls.room_of given (row_of site.now versions (get (pointwise nat_eq) items.old (key_of command.now)) command.now moment).need)) }
-    ensures ok { IfOk result (λ told. IfSome told (λ a. (answer : Answer) × (answer ≡ (row_of site.now versions (get (pointwise nat_eq) items.old (key_of command.now)) command.now moment).answer a.room)
-        × (a.noted ≡ answer.reply) × (a.told ≡ (if copies then Some answer.reply else None)) × (a.added ≡ Rattle.mc_item.specs.Cache.versions_of answer.change)
-        × ((q : List ℕ) → get (pointwise nat_eq) items.new q ≡ (if pointwise nat_eq (key_of command.now) q then changed (get (pointwise nat_eq) items.old (key_of command.now)) answer.change else get (pointwise nat_eq) items.old q)))) }
-    ensures dead { IfOk result (λ told. IfNone told (IsDead (get (pointwise nat_eq) items.old (key_of command.now)) moment)) }
-    ensures same { IfOk result (λ told. IfNone told ((q : List ℕ) → get (pointwise nat_eq) items.new q ≡ get (pointwise nat_eq) items.old q)) }
-    ensures err { OnErr result ((q : List ℕ) → get (pointwise nat_eq) items.new q ≡ get (pointwise nat_eq) items.old q) }
-    ensures spare { spare items.old ≤ spare items.new + 1 }
-{
-    if let Command::Get(key) = command {
-        return answer_get(alloc, items, key, moment, given, copies);
-    }
-    answer_any(alloc, site, versions, items, command, moment, given, copies)
 }

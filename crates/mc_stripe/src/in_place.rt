@@ -51,8 +51,8 @@ pub(crate) fn answer_hit(
 
 // The answer to a storage command that stores over the item that it finds, at the link of a number: the new version
 // stands in the old one's place. Nothing is answered for other commands, and nothing changes.
-#[inline(never)]
-fn answer_over(
+#[inline(always)]
+pub(crate) fn answer_over(
     alloc: Global,
     site: &Site,
     versions: u64,
@@ -144,11 +144,10 @@ fn answer_count(
     })
 }
 
-/// The answer to a command that changes the item that it finds in its place. Nothing is answered for other commands,
-/// and nothing changes.
+//// The answer to an `incr` or `decr` that finds a number whose place is large enough for the new one. Nothing is
+/// answered for other values and commands, and nothing changes.
 #[inline(always)]
-pub(crate) fn answer_at_once(
-    alloc: Global,
+pub(crate) fn answer_counted(
     site: &Site,
     versions: u64,
     item: &mut Item,
@@ -156,30 +155,28 @@ pub(crate) fn answer_at_once(
     moment: u64,
     given: Given,
     copies: bool,
-) -> Result<Option<Answered>, NoMemory>
+) -> Option<Answered>
     requires cas { cas_of site.now versions < 2 ^ 64 }
-    requires moment { moment ≤ 2 ^ 62 }
-    ensures room { IfOk result (λ told. IfSome told (λ a. a.room ≡ calls.room_of given (row_of site.now versions (Some item.old) command.now moment).need)) }
-    ensures ok { IfOk result (λ told. IfSome told (λ a. (answer : Answer) × (answer ≡ (row_of site.now versions (Some item.old) command.now moment).answer a.room)
+    ensures room { IfSome result (λ a. a.room ≡ calls.room_of given (row_of site.now versions (Some item.old) command.now moment).need) }
+    ensures ok { IfSome result (λ a. (answer : Answer) × (answer ≡ (row_of site.now versions (Some item.old) command.now moment).answer a.room)
         × (a.noted ≡ answer.reply) × (a.told ≡ (if copies then Some answer.reply else None)) × (a.added ≡ Rattle.mc_item.specs.Cache.versions_of answer.change)
-        × (changed (Some item.old) answer.change ≡ Some item.new))) }
-    ensures same { IfOk result (λ told. IfNone told (item.new ≡ item.old)) }
-    ensures err { OnErr result (item.new ≡ item.old) }
+        × (changed (Some item.old) answer.change ≡ Some item.new)) }
+    ensures same { result ≡ None → item.new ≡ item.old }
 {
+    let _moment = moment;
     match command {
-        Command::Store { .. } => {
-            answer_over(alloc, site, versions, item, command, moment, given, copies)
-        }
         Command::Incr(key, delta) => {
             let step = Step::Up(*delta);
-            Ok(answer_count(site, versions, key, item, step, given, copies))
+            answer_count(site, versions, key, item, step, given, copies)
         }
         Command::Decr(key, delta) => {
             let step = Step::Down(*delta);
-            Ok(answer_count(site, versions, key, item, step, given, copies))
+            answer_count(site, versions, key, item, step, given, copies)
         }
-        Command::Get(_) | Command::Huge { .. } | Command::Touch(_, _) | Command::Delete(_) => Ok(
-            None,
-        ),
+        Command::Get(_)
+        | Command::Store { .. }
+        | Command::Huge { .. }
+        | Command::Touch(_, _)
+        | Command::Delete(_) => None,
     }
 }
