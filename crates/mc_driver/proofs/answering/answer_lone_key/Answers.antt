@@ -1,4 +1,4 @@
-use Rattle.std.proofs.Common.{◌≡◌, ◌++◌, ◌∷◌, [], List, ℕ, ap, ◌∙◌, sym, refl, append_assoc, append-nil}
+use Rattle.std.proofs.Common.{◌++◌, ◌∷◌, [], List, ℕ, ap, ◌∙◌, sym, refl, append_assoc, append-nil}
 use Rattle.mc_proto.specs.Text.{end_text, value_text}
 use Rattle.mc_driver.proofs.answering.answer_lone_key.Goals as goal
 

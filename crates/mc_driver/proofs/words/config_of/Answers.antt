@@ -7,4 +7,4 @@ pub returns : goal.returns
 unfolding asked
 returns c =
     c.with_events.ensures
-        ∙ ap (with_events c.args.events) (c.in_ok-config.ensures ∙ ap (with_sizes (option_map (λ v. v.items) c.args.sizes)) c.in_ok-usual.ensures)
+    ∙ ap (with_events c.args.events) (c.in_ok-config.ensures ∙ ap (with_sizes (option_map (λ v. v.items) c.args.sizes)) c.in_ok-usual.ensures)
