@@ -129,7 +129,7 @@ pub(crate) fn run_script<S: Source, K: Sink>(
         let piece = match source.piece() {
             Ok(Some(piece)) => piece,
             Ok(None) => return Outcome::Done,
-            Err(_) => return Outcome::Input,
+            Err(fault) => return Outcome::from(fault),
         };
         let requests = match reader.feed(piece.as_slice()) {
             Ok(requests) => requests,

@@ -1,5 +1,7 @@
 use Rattle.std.proofs.Common.{◌++◌, List, ℕ, sym, ap, ◌∙◌, refl, arith, subst}
 use Rattle.mc_driver.specs.Progress.{Goes}
+use Rattle.mc_driver.specs.Run.{Leaves}
+use Rattle.mc_driver.specs.declared.outcome.Outcome.{Outcome}
 use Rattle.mc_driver.specs.declared.scripting.Progress.{Progress}
 use Rattle.mc_driver.proofs.RequestLemmas.{place_kept}
 use Rattle.mc_driver.proofs.RunLemmas.{way_starts, way_ends, way_runs_out, way_stops, way_goes_on, way_ended, goes_breaks, goes_torn_breaks, goes_memory_stops, goes_full_stops, read_more, moments_are}
@@ -22,7 +24,9 @@ returns-in-Ok-None-clause-leaves g c =
     way_ends c.args.limits c.loop.reader.state c.loop.reader.unread (g.S.Source.coming c.args.source.now) (g.S.Source.coming c.loop.source) (g.K.Sink.taken c.args.sink.now) (g.K.Sink.taken c.loop.sink) c.loop.text.items c.loop.session c.loop.invariant.way c.loop.invariant.none over.0
 
 pub returns-in-Err-clause-leaves : goal.returns-in-Err-clause-leaves
-returns-in-Err-clause-leaves g c = way_runs_out c.args.limits c.loop.reader.state c.loop.reader.unread (g.S.Source.coming c.args.source.now) (g.S.Source.coming c.loop.source) (g.K.Sink.taken c.args.sink.now) (g.K.Sink.taken c.loop.sink) c.loop.text.items c.loop.session c.loop.invariant.way c.loop.invariant.none
+returns-in-Err-clause-leaves g c =
+    let over = way_runs_out c.args.limits c.loop.reader.state c.loop.reader.unread (g.S.Source.coming c.args.source.now) (g.S.Source.coming c.loop.source) (g.K.Sink.taken c.args.sink.now) (g.K.Sink.taken c.loop.sink) c.loop.text.items c.loop.session c.loop.invariant.way c.loop.invariant.none in
+    subst (λ (o : Outcome). Leaves o c.args.limits (g.S.Source.coming c.args.source.now) (g.K.Sink.taken c.args.sink.now) (g.K.Sink.taken c.loop.sink) c.loop.session.caller c.loop.session.stripe.history) (sym c.from.ensures) over
 
 pub returns-in-Err-clause-input : goal.returns-in-Err-clause-input
 returns-in-Err-clause-input g c = λ _. omega (arith, c.loop.invariant.source, c.in-Err.ensures.err.0)
