@@ -1,12 +1,11 @@
 -- Lines of a verb, one space, and tokens.
 use Rattle.std.proofs.Common.{◌≡◌, ◌++◌, ◌∷◌, [], ◌≤◌, ◌∙◌, ℕ, ℤ, List, length, take, drop, true, false, arith, ap, sym, refl, codes, take-append-drop}
-use Rattle.std.specs.Prelude.{Bool, Option, Some, None, nat_le, if◌then◌else◌, pos}
+use Rattle.std.specs.Prelude.{Bool, Option, Some, nat_le, if◌then◌else◌}
 use Rattle.std.proofs.lemmas.Bool.{le-leb}
 use Rattle.mc_item.specs.declared.command.Verb.TheVariants as verbs
 use Rattle.mc_proto.specs.Lines.{tokens, number, number_up_to, up_to, exptime, key_of}
 use Rattle.mc_proto.specs.Rows.{row_of, stored_said, counted_said, counting, begun, one}
 use Rattle.mc_proto.specs.declared.request.Limits.{Limits}
-use Rattle.mc_proto.specs.declared.state.Said.{Said}
 
 pub nothing_left : (xs : List ℕ) → length xs ≡ 0 → xs ≡ []
 nothing_left [] h = refl

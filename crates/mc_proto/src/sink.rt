@@ -26,7 +26,8 @@ pub trait Sink: Drop {
         ensures count { failures self.old ≤ failures self.new };
 }
 
-/// Writes a whole text piece by piece, and clears it: a `put_whole` for sinks that keep no text themselves.
+/// Writes a whole text piece by piece, and clears it: the body of a `put_whole` for a sink over another one, which keeps
+/// no text itself.
 pub fn write_whole<K: Sink>(sink: &mut K, text: &mut Vec<u8>) -> Result<(), SinkFault>
     ensures ok { OnOk result ((K.taken sink.new ≡ K.taken sink.old ++ text.old.items) × (text.new.items ≡ [])) }
     ensures err { OnErr result ((K.failures sink.old < K.failures sink.new) × IsBeginning (K.taken sink.old) (K.taken sink.new) text.old.items) }

@@ -92,21 +92,21 @@ fn answer_stored(
     ensures spare { spare items.old ≤ spare items.new + 1 }
 {
     let key = command.key();
-    let Some(item) = items.get_mut(key) else {
+    let Some(old) = items.get_mut(key) else {
         return Ok(Some(answer_absent(
             alloc, site, versions, items, command, moment, given, copies,
         )?));
     };
-    if item.dead(moment) {
+    if old.dead(moment) {
         return Ok(None);
     }
     if let Some(answered) = answer_over(
-        alloc, site, versions, item, command, moment, given, copies,
+        alloc, site, versions, old, command, moment, given, copies,
     )? {
         return Ok(Some(answered));
     }
     let (answered, stays) = answer_found(
-        alloc, site, versions, item, command, moment, given, copies,
+        alloc, site, versions, old, command, moment, given, copies,
     )?;
     if !stays {
         remove(items, key);

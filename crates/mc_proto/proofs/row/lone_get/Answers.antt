@@ -1,4 +1,4 @@
-use Rattle.std.proofs.Common.{◌≡◌, ◌∷◌, [], ◌∙◌, ℕ, List, Bool, true, false, rules, sym, take, drop, ap, codes}
+use Rattle.std.proofs.Common.{◌≡◌, ◌∷◌, [], ◌∙◌, ℕ, List, Bool, true, false, rules, sym, ap, codes}
 use Rattle.std.specs.Prelude.{◌&&◌, if◌then◌else◌}
 use Rattle.mc_proto.specs.Lines.{tokens, no_cr, is_key}
 use Rattle.mc_proto.specs.Rows.{says, row_of, bad}

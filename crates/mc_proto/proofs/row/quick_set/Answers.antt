@@ -1,4 +1,4 @@
-use Rattle.std.proofs.Common.{◌≡◌, ◌∷◌, [], ◌≤◌, ◌∙◌, ℕ, List, length, arith, ap, sym, refl, codes, rules}
+use Rattle.std.proofs.Common.{◌≡◌, ◌∷◌, ◌∙◌, ℕ, List, arith, ap, sym, codes}
 use Rattle.std.specs.Prelude.{Some, pos}
 use Rattle.mc_proto.specs.Lines.{tokens, key_of}
 use Rattle.mc_proto.specs.Rows.{row_of}

@@ -1,4 +1,4 @@
-use Rattle.std.proofs.Common.{rules, ◌≡◌, ◌+◌, ◌-◌, ◌*◌, ◌<◌, ◌≤◌, ◌^◌, ◌++◌, ◌∷◌, [], ◌∙◌, ℕ, List, length, take, get_or, true, arith, ap, sym, refl}
+use Rattle.std.proofs.Common.{rules, ◌≡◌, ◌+◌, ◌-◌, ◌*◌, ◌<◌, ◌≤◌, ◌^◌, ◌++◌, ◌∷◌, [], ℕ, List, take, get_or, true, arith, refl}
 use Rattle.std.proofs.lemmas.List.{take_more}
 use Rattle.mc_item.specs.Measure.{is_digit, number_from}
 use Rattle.mc_proto.proofs.Tokens.{pow_within, number_more, digits_more, digit_small, next_power}

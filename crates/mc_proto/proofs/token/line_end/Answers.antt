@@ -1,6 +1,5 @@
-use Rattle.std.proofs.Common.{◌≡◌, ◌+◌, ◌<◌, ◌≤◌, ◌==◌, ℕ, List, length, take, get_or, arith, true, suc, zero, rules}
+use Rattle.std.proofs.Common.{◌≡◌, ◌+◌, ◌<◌, ◌≤◌, ◌==◌, ℕ, List, length, take, get_or, arith, true, suc, zero}
 use Rattle.std.proofs.lemmas.Bool.{eq-eqb}
-use Rattle.memchr.specs.Find.{NoneBefore}
 use Rattle.mc_proto.specs.Lines.{Lacks}
 use Rattle.mc_proto.proofs.Tokens.{lacks_more}
 use Rattle.mc_proto.proofs.token.line_end.Goals as goal
