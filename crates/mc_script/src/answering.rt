@@ -26,6 +26,7 @@ fn answer_key<C: Calls>(
     requires may { C.may_call calls.old }
     requires early { moment ≤ 2 ^ 62 }
     ensures may { OnOk result (C.may_call calls.new) }
+    ensures place { C.place calls.new ≡ C.place calls.old }
     ensures caller { C.caller calls.new ≡ C.caller calls.old }
     ensures ok { OnOk result (AnswersKey key with_cas (C.caller calls.old) (C.turn calls.old) (C.turn calls.new) moment (C.notes calls.old) (C.notes calls.new) text.old.items text.new.items) }
     ensures err { IfErr result (λ e. FailsKey e key (C.caller calls.old) (C.turn calls.old) moment (C.notes calls.old) (C.notes calls.new)) }
@@ -56,6 +57,7 @@ fn answer_keys<C: Calls>(
     requires may { C.may_call calls.old }
     requires early { moment ≤ 2 ^ 62 }
     ensures may { OnOk result (C.may_call calls.new) }
+    ensures place { C.place calls.new ≡ C.place calls.old }
     ensures caller { C.caller calls.new ≡ C.caller calls.old }
     ensures ok { OnOk result (Answers (requests.Get keys.items with_cas) (C.caller calls.old) (C.turn calls.old) (C.turn calls.new) moment (C.notes calls.old) (C.notes calls.new) text.old.items text.new.items) }
     ensures err { IfErr result (λ e. Fails e (requests.Get keys.items with_cas) (C.caller calls.old) (C.turn calls.old) moment (C.notes calls.old) (C.notes calls.new)) }
@@ -81,6 +83,7 @@ fn answer_lone_key<C: Calls>(
     requires may { C.may_call calls.old }
     requires early { moment ≤ 2 ^ 62 }
     ensures may { OnOk result (C.may_call calls.new) }
+    ensures place { C.place calls.new ≡ C.place calls.old }
     ensures caller { C.caller calls.new ≡ C.caller calls.old }
     ensures ok { OnOk result (Answers (requests.Get (key ∷ []) with_cas) (C.caller calls.old) (C.turn calls.old) (C.turn calls.new) moment (C.notes calls.old) (C.notes calls.new) text.old.items text.new.items) }
     ensures err { IfErr result (λ e. Fails e (requests.Get (key ∷ []) with_cas) (C.caller calls.old) (C.turn calls.old) moment (C.notes calls.old) (C.notes calls.new)) }
@@ -104,6 +107,7 @@ fn answer_get<C: Calls>(
     requires may { C.may_call calls.old }
     requires early { moment ≤ 2 ^ 62 }
     ensures may { OnOk result (C.may_call calls.new) }
+    ensures place { C.place calls.new ≡ C.place calls.old }
     ensures caller { C.caller calls.new ≡ C.caller calls.old }
     ensures ok { OnOk result (Answers (requests.Get keys with_cas) (C.caller calls.old) (C.turn calls.old) (C.turn calls.new) moment (C.notes calls.old) (C.notes calls.new) text.old.items text.new.items) }
     ensures err { IfErr result (λ e. Fails e (requests.Get keys with_cas) (C.caller calls.old) (C.turn calls.old) moment (C.notes calls.old) (C.notes calls.new)) }
@@ -139,6 +143,7 @@ fn answer_one<C: Calls>(
     requires may { C.may_call calls.old }
     requires early { moment ≤ 2 ^ 62 }
     ensures may { OnOk result (C.may_call calls.new) }
+    ensures place { C.place calls.new ≡ C.place calls.old }
     ensures caller { C.caller calls.new ≡ C.caller calls.old }
     ensures ok { OnOk result (Answers (requests.One command quiet) (C.caller calls.old) (C.turn calls.old) (C.turn calls.new) moment (C.notes calls.old) (C.notes calls.new) text.old.items text.new.items) }
     ensures err { IfErr result (λ e. Fails e (requests.One command quiet) (C.caller calls.old) (C.turn calls.old) moment (C.notes calls.old) (C.notes calls.new)) }
@@ -175,6 +180,7 @@ fn answer_whole<C: Calls>(
     ensures may { OnOk result (C.may_call calls.new) }
     ensures early { moment.new ≤ 2 ^ 62 }
     ensures moment { OnOk result (moment.new ≡ moment_after moment.old request) }
+    ensures place { C.place calls.new ≡ C.place calls.old }
     ensures caller { C.caller calls.new ≡ C.caller calls.old }
     ensures ok { OnOk result (Answers request (C.caller calls.old) (C.turn calls.old) (C.turn calls.new) moment.old (C.notes calls.old) (C.notes calls.new) text.old.items text.new.items) }
     ensures err { IfErr result (λ e. Fails e request (C.caller calls.old) (C.turn calls.old) moment.old (C.notes calls.old) (C.notes calls.new)) }
@@ -210,6 +216,7 @@ pub fn answer_request<C: Calls>(
     ensures may { OnOk result (C.may_call calls.new) }
     ensures early { moment.new ≤ 2 ^ 62 }
     ensures moment { OnOk result (moment.new ≡ moment_after moment.old request) }
+    ensures place { C.place calls.new ≡ C.place calls.old }
     ensures caller { C.caller calls.new ≡ C.caller calls.old }
     ensures ok { OnOk result (Answers request (C.caller calls.old) (C.turn calls.old) (C.turn calls.new) moment.old (C.notes calls.old) (C.notes calls.new) text.old.items text.new.items) }
     ensures err { IfErr result (λ e. Fails e request (C.caller calls.old) (C.turn calls.old) moment.old (C.notes calls.old) (C.notes calls.new)) }

@@ -9,8 +9,12 @@ use mc_item::{Command, Fault, Reply};
 use std::sync::Wait;
 
 /// A caller that makes calls, each in a turn of its own. What is known of its calls so far is a fact about their list:
-/// each call adds itself to it. When the next call may be made, each type says; after one that went well it may.
+/// each call adds itself to it. Where it makes them stays as it is. When the next call may be made, each type says; after one that went well it may.
 pub trait Calls: Drop {
+    ghost Place: { Type 0 };
+
+    ghost place: { Self → Place };
+
     ghost caller: { Self → ℕ };
 
     ghost turn: { Self → ℕ };
@@ -28,6 +32,7 @@ pub trait Calls: Drop {
         requires may { may_call self.old }
         requires early { moment ≤ 2 ^ 62 }
         ensures may { OnOk result (may_call self.new) }
+        ensures place { place self.new ≡ place self.old }
         ensures caller { caller self.new ≡ caller self.old }
         ensures turn { OnOk result (turn self.new ≡ turn self.old + 1) }
         ensures told { OnOk result ((reply : Reply) × (last self.new ≡ Some reply)

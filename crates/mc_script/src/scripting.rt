@@ -85,6 +85,7 @@ fn answer_all<E: Ends, C: Calls>(
     requires moments { AreMoments requests.items }
     ensures may { result ≡ Progress.More → C.may_call calls.new }
     ensures early { moment.new ≤ 2 ^ 62 }
+    ensures place { C.place calls.new ≡ C.place calls.old }
     ensures caller { C.caller calls.new ≡ C.caller calls.old }
     ensures goes { (before : List Answered) (start : List ℕ)
         → HasAnswered before start (E.taken ends.old) text.old.items (C.notes calls.old) (C.caller calls.old) (C.turn calls.old) moment.old
@@ -133,6 +134,7 @@ fn answer_piece<E: Ends, C: Calls>(
     requires none { text.old.items ≡ [] }
     ensures may { result ≡ None → C.may_call calls.new }
     ensures early { moment.new ≤ 2 ^ 62 }
+    ensures place { C.place calls.new ≡ C.place calls.old }
     ensures caller { C.caller calls.new ≡ C.caller calls.old }
     ensures leaves { (limits : Limits) (bytes start : List ℕ) (done : List Answered) → HasCome limits bytes (E.coming ends.old) done requests.items
         → HasAnswered done start (E.taken ends.old) text.old.items (C.notes calls.old) (C.caller calls.old) (C.turn calls.old) moment.old
@@ -176,6 +178,7 @@ pub fn run_script<E: Ends, C: Calls>(
         → E.reads e ≡ E.reads ends.old → E.writes e ≡ E.writes ends.old → E.over e ≡ E.over ends.old → E.may_ask e }
     ensures leaves { Leaves result limits (E.coming ends.old) (E.coming ends.new) (E.taken ends.old) (E.taken ends.new) (C.notes calls.new) (C.caller calls.old) }
     ensures counted { AreCounted result (E.reads ends.old) (E.reads ends.new) (E.writes ends.old) (E.writes ends.new) }
+    ensures place { C.place calls.new ≡ C.place calls.old }
     ensures caller { C.caller calls.new ≡ C.caller calls.old }
     ensures full { result ≡ outcomes.HistoryFull → C.is_full calls.new }
 {

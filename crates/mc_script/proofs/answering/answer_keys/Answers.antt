@@ -10,6 +10,7 @@ use Rattle.mc_script.proofs.answering.answer_keys.Goals as goal
 pub loop-key-init : goal.loop-key-init
 loop-key-init g c = record {
   may = c.requires.may;
+  place = refl;
   caller = refl;
   front = begins_itself c.args.text.now.items;
   keys = keys_none c.args.with_cas (g.C.Calls.caller c.args.calls.now) (g.C.Calls.turn c.args.calls.now) c.args.moment (g.C.Calls.notes c.args.calls.now) c.args.text.now.items;
@@ -19,10 +20,14 @@ pub loop-key-preserved : goal.loop-key-preserved
 loop-key-preserved g c =
     let before = c.loop-key.invariant in record {
       may = c.in_ok-answer_key.ensures.may;
+      place = c.in_ok-answer_key.ensures.place ∙ before.place;
       caller = c.in_ok-answer_key.ensures.caller ∙ before.caller;
       front = begins_further c.args.text.now.items c.loop-key.text.items c.answer_key.new.text.items before.front c.in_ok-answer_key.ensures.front;
       keys = keys_more c.loop-key.yielded c.in-Some.key c.args.with_cas _ _ _ _ _ _ _ _ _ c.args.text.now.items c.loop-key.text.items c.answer_key.new.text.items before.keys before.caller c.in_ok-answer_key.ensures.ok;
     }
+
+pub returns-in_err-answer_key-clause-place : goal.returns-in_err-answer_key-clause-place
+returns-in_err-answer_key-clause-place g c = c.in_err-answer_key.ensures.place ∙ c.loop-key.invariant.place
 
 pub returns-in_err-answer_key-clause-caller : goal.returns-in_err-answer_key-clause-caller
 returns-in_err-answer_key-clause-caller g c = c.in_err-answer_key.ensures.caller ∙ c.loop-key.invariant.caller

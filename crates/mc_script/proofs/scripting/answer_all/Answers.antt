@@ -9,6 +9,7 @@ pub loop-request-init : goal.loop-request-init
 loop-request-init g c = record {
   may = c.requires.may;
   early = c.requires.early;
+  place = refl;
   caller = refl;
   writes = refl;
   coming = refl;
@@ -48,6 +49,7 @@ loop-request-preserved g c =
     let before' = c.loop-request.invariant in record {
       may = c.in-Ok.ensures.may;
       early = c.in-Ok.ensures.early;
+      place = c.in-Ok.ensures.place ∙ before'.place;
       caller = c.in-Ok.ensures.caller ∙ before'.caller;
       writes = c.in-Ok-print_much.ensures.fine ∙ before'.writes;
       coming = c.in-Ok-print_much.ensures.coming ∙ before'.coming;

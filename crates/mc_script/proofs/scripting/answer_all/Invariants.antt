@@ -9,6 +9,7 @@ abbrev pub invariant-loop-request : goal.invariant-loop-request
 invariant-loop-request g l = record {
   may : g.C.Calls.may_call l.calls;
   early : l.moment ≤ 2 ^ 62;
+  place : g.C.Calls.place l.calls ≡ g.C.Calls.place l.fn.calls;
   caller : g.C.Calls.caller l.calls ≡ g.C.Calls.caller l.fn.calls;
   writes : g.E.Ends.writes l.ends ≡ g.E.Ends.writes l.fn.ends;
   coming : g.E.Ends.coming l.ends ≡ g.E.Ends.coming l.fn.ends;

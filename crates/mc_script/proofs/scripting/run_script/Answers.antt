@@ -10,6 +10,7 @@ pub loop-init : goal.loop-init
 loop-init g c = record {
   may = c.requires.may;
   early = omega arith;
+  place = refl;
   caller = refl;
   reads = refl;
   writes = refl;
@@ -76,6 +77,7 @@ loop-preserved g c =
     record {
       may = c.answer_piece.ensures.may c.in-None-answer_piece.is;
       early = c.answer_piece.ensures.early;
+      place = c.answer_piece.ensures.place ∙ c.loop.invariant.place;
       caller = c.answer_piece.ensures.caller ∙ c.loop.invariant.caller;
       reads = counted.0 ∙ c.in-Ok-Some.ensures.fine ∙ c.loop.invariant.reads;
       writes = counted.1 ∙ c.in-Ok-Some.ensures.writes ∙ c.loop.invariant.writes;

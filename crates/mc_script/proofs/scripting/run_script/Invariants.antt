@@ -7,6 +7,7 @@ abbrev pub invariant-loop : goal.invariant-loop
 invariant-loop g l = record {
   may : g.C.Calls.may_call l.calls;
   early : l.moment ≤ 2 ^ 62;
+  place : g.C.Calls.place l.calls ≡ g.C.Calls.place l.fn.calls;
   caller : g.C.Calls.caller l.calls ≡ g.C.Calls.caller l.fn.calls;
   reads : g.E.Ends.reads l.ends ≡ g.E.Ends.reads l.fn.ends;
   writes : g.E.Ends.writes l.ends ≡ g.E.Ends.writes l.fn.ends;
