@@ -26,7 +26,7 @@ none_other i n below one = omega (arith, below, one)
 
 -- what stands first in a list
 pub stands_first : {X : Type 0} (all more : List X) (x d : X) (i : ℕ) → all ≡ x ∷ more → i ≡ 0 → slice_index_or all i d ≡ x
-stands_first all more x d i is first = ap (λ (xs : List X). slice_index_or xs i d) is ∙ ap (λ (k : ℕ). slice_index_or (x ∷ more) k d) first
+stands_first {X = X} all more x d i is first = ap (λ (xs : List X). slice_index_or xs i d) is ∙ ap (λ (k : ℕ). slice_index_or (x ∷ more) k d) first
 
 -- what a run leaves, by other names
 pub leaves_at : (o o' : Outcome) (l l' : Limits) (b b' r r' s s' t t' : List ℕ) (h h' : List StripeEvent) (c c' : ℕ)

@@ -1,6 +1,6 @@
 -- Turns of a caller that is alone.
 use Rattle.std.proofs.Common.{◌≡◌, ℕ, List, [], ◌∷◌, ◌++◌, refl, sym, ap, ◌∙◌, append_assoc, append-nil, subst}
-use Rattle.mc_item.specs.Command.{key_of}
+use Rattle.std.specs.Prelude.{OnOk, Result, Ok, Err}
 use Rattle.mc_item.specs.declared.answer.Need.{Need}
 use Rattle.mc_item.specs.declared.answer.Need.TheVariants as needs
 use Rattle.mc_item.specs.declared.reply.Room.{Room}
@@ -77,3 +77,8 @@ adds_torn old new before gains told = record {
     plain = record { turns = old; torn = gains.more; split = gains.is; are_turns = before; is_torn = gains.is_torn };
   };
 }
+
+-- what follows from two things that hold of a success
+pub on_ok_both : {X Y A B C : Type 0} (r : Result X Y) → (A → B → C) → OnOk r A → OnOk r B → OnOk r C
+on_ok_both (Ok x) f a b = f a b
+on_ok_both (Err e) f a b = tt

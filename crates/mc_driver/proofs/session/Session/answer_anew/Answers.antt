@@ -1,4 +1,4 @@
-use Rattle.std.proofs.Common.{refl}
+use Rattle.std.proofs.Common.{refl, rules}
 use Rattle.mc_item.specs.Answer.{row_of}
 use Rattle.mc_item.specs.Command.{key_of}
 use Rattle.mc_stripe.specs.StripeState.{cache_now}
@@ -29,11 +29,14 @@ returns-clause-ready c =
     _ after c.in_ok-answer.ensures.site (rw c.in-None.is at c.in_ok-answer.ensures.event) refl
 
 pub returns-in_err-forget-clause-torn : goal.returns-in_err-forget-clause-torn
-returns-in_err-forget-clause-torn c = gains_nothing c.args.self.now.stripe.history c.forget.new.stripe.history c.in_err-forget.ensures.err
+returns-in_err-forget-clause-torn c =
+    let made = gains_nothing c.args.self.now.stripe.history c.forget.new.stripe.history c.in_err-forget.ensures.err in
+    search rules
 
 pub returns-in_err-answer-clause-torn : goal.returns-in_err-answer-clause-torn
 returns-in_err-answer-clause-torn c =
-    gains_lost c.args.self.now.stripe.history c.forget.new.stripe.history c.answer.new.self.history _ c.args.self.now.moment refl c.in_ok-forget.ensures.lost c.in_err-answer.ensures.err
+    let made = gains_lost c.args.self.now.stripe.history c.forget.new.stripe.history c.answer.new.self.history _ c.args.self.now.moment refl c.in_ok-forget.ensures.lost c.in_err-answer.ensures.err in
+    search rules
 
 pub returns-clause-turns : goal.returns-clause-turns
 returns-clause-turns c =
