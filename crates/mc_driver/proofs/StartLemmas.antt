@@ -1,5 +1,5 @@
 -- How a run starts, and what it leaves.
-use Rattle.std.proofs.Common.{◌≡◌, ◌<◌, ℕ, zero, suc, List, [], ◌∷◌, ◌++◌, refl, ap, ◌∙◌, arith, subst, sym}
+use Rattle.std.proofs.Common.{◌≡◌, ◌<◌, ℕ, List, [], ◌∷◌, ◌++◌, refl, ap, ◌∙◌, arith, subst, sym}
 use Rattle.std.specs.Prelude.{Option, Some, None, Result, Ok, Err, MatchOption, option_to_list, slice_index_or, take}
 use Rattle.mc_item.specs.declared.config.Config.{Config}
 use Rattle.mc_item.specs.declared.config.ConfigFault.{ConfigFault}

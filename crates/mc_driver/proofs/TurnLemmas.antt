@@ -1,9 +1,8 @@
 -- Turns of a caller that is alone.
-use Rattle.std.proofs.Common.{◌≡◌, ℕ, List, [], ◌∷◌, ◌++◌, refl, sym, ap, ◌∙◌, append_assoc, append-nil, subst}
+use Rattle.std.proofs.Common.{◌≡◌, ℕ, List, [], ◌∷◌, ◌++◌, sym, ap, ◌∙◌, append_assoc, append-nil, subst}
 use Rattle.std.specs.Prelude.{OnOk, Result, Ok, Err}
 use Rattle.mc_item.specs.declared.answer.Need.{Need}
 use Rattle.mc_item.specs.declared.answer.Need.TheVariants as needs
-use Rattle.mc_item.specs.declared.reply.Room.{Room}
 use Rattle.mc_item.specs.declared.stripe_event.Cause.TheVariants.{Expired}
 use Rattle.mc_item.specs.declared.stripe_event.Did.{Did}
 use Rattle.mc_item.specs.declared.stripe_event.Lost.{Lost}
@@ -11,7 +10,7 @@ use Rattle.mc_item.specs.declared.stripe_event.StripeEvent.{StripeEvent}
 use Rattle.mc_item.specs.declared.stripe_event.StripeEvent.TheVariants as events
 use Rattle.mc_script.specs.Script.{Told}
 use Rattle.mc_script.specs.Calls.{Adds}
-use Rattle.mc_driver.specs.Noted.{AreTurns, GainsTorn, GainsTurns, IsFoundBy, IsGranted, IsOf, IsPlain, told_in}
+use Rattle.mc_driver.specs.Noted.{AreTurns, GainsTorn, GainsTurns, IsFoundBy, IsGranted, IsOf, told_in}
 use Rattle.mc_stripe.specs.StripeCalls.{room_for}
 
 -- the room for a need isn't refused

@@ -11,7 +11,7 @@ mod session;
 mod words;
 
 pub use fault::RunFault;
+pub use mc_script::{Outcome, Source, SourceFault};
 pub use program::run_words;
 pub use running::{Final, Run, run_scripts};
-pub use mc_script::{Outcome, Source, SourceFault};
 pub use words::{Plan, PlanFault, WordsFault, plan_for, read_words};

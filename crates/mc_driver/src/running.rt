@@ -2,7 +2,7 @@
 ghost use Rattle.std.specs.Prelude.{◌≡◌, ◌≢◌, ◌≤◌, ◌<◌, ◌+◌, ◌⊎◌, List, [], ◌∷◌, ◌++◌, ℕ, IfOk, IfErr, None, length, slice_index_or};
 ghost use Rattle.mc_item.specs.Config.{fault_of, IsBounded};
 ghost use Rattle.mc_item.specs.Stripe.{IsLegal};
-ghost use Rattle.mc_driver.specs.Noted.{IsOf};
+ghost use Rattle.mc_driver.specs.Noted.{AreTurns, IsOf};
 ghost use Rattle.mc_driver.specs.Run.{IsAccepted, IsRefused, limits_of, site_of, with_callers};
 ghost use Rattle.mc_script.specs.Run.{AreCounted, Leaves};
 ghost use Rattle.mc_script.specs.declared.outcome.Outcome.{Outcome};
@@ -126,14 +126,17 @@ pub fn run_scripts<S: Source, K: Sink>(
     // which side failed.
     ensures leaves { IfOk result (λ run. (i : ℕ) (ends : S × K) (outcome : Outcome) → i < length scripts.items
         → Leaves (slice_index_or run.outcomes.items i outcome) (limits_of config)
-            (S.coming (slice_index_or scripts.items i ends).0) (S.coming (slice_index_or run.ends.items i ends).0)
-            (K.taken (slice_index_or scripts.items i ends).1) (K.taken (slice_index_or run.ends.items i ends).1) (IsOf run.ledger.history) i) }
+        (S.coming (slice_index_or scripts.items i ends).0) (S.coming (slice_index_or run.ends.items i ends).0)
+        (K.taken (slice_index_or scripts.items i ends).1) (K.taken (slice_index_or run.ends.items i ends).1) (IsOf run.ledger.history) i) }
     ensures counted { IfOk result (λ run. (i : ℕ) (ends : S × K) (outcome : Outcome) → i < length scripts.items
         → AreCounted (slice_index_or run.outcomes.items i outcome)
-            (S.failures (slice_index_or scripts.items i ends).0) (S.failures (slice_index_or run.ends.items i ends).0)
-            (K.failures (slice_index_or scripts.items i ends).1) (K.failures (slice_index_or run.ends.items i ends).1)) }
+        (S.failures (slice_index_or scripts.items i ends).0) (S.failures (slice_index_or run.ends.items i ends).0)
+        (K.failures (slice_index_or scripts.items i ends).1) (K.failures (slice_index_or run.ends.items i ends).1)) }
     ensures full { IfOk result (λ run. (i : ℕ) (outcome : Outcome) → i < length scripts.items
         → slice_index_or run.outcomes.items i outcome ≡ outcomes.HistoryFull → run.ledger.limit ≤ length run.ledger.history) }
+
+    ensures whole { IfOk result (λ run. (i : ℕ) (outcome : Outcome) → i < length scripts.items
+        → slice_index_or run.outcomes.items i outcome ≡ outcomes.Done → AreTurns run.ledger.history) }
 
     // What else the run leaves: the outcomes of upkeep behind those of the scripts, and the store.
     ensures outcomes { IfOk result (λ run. (own : List Outcome) × (length own ≡ length scripts.items) × (run.outcomes.items ≡ own ++ outcomes.Done ∷ outcomes.Done ∷ [])) }

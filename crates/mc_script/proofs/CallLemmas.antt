@@ -1,5 +1,5 @@
 -- Calls that were added, and a get, key by key.
-use Rattle.std.proofs.Common.{◌≡◌, ◌+◌, ◌≤◌, ◌<◌, ℕ, List, [], ◌∷◌, ◌++◌, refl, sym, ap, ◌∙◌, append_assoc, append-nil, length, arith, Bool, length-append, take, subst}
+use Rattle.std.proofs.Common.{◌≡◌, ◌+◌, ◌≤◌, ℕ, List, [], ◌∷◌, ◌++◌, refl, sym, ap, ◌∙◌, append_assoc, append-nil, length, arith, Bool, length-append, take, subst}
 use Rattle.mc_item.specs.declared.command.Command.TheVariants as commands
 use Rattle.mc_item.specs.declared.fault.Fault.{Fault}
 use Rattle.mc_item.specs.declared.fault.Fault.TheVariants as faults
@@ -8,7 +8,7 @@ use Rattle.mc_proto.specs.Text.{end_text, value_text, values_text}
 use Rattle.mc_proto.specs.declared.request.Request.{Request}
 use Rattle.mc_proto.specs.declared.request.Request.TheVariants as requests
 use Rattle.mc_script.specs.Calls.{Adds, Answers, AnswersKey, Begins, Fails, FailsKey, IsPart}
-use Rattle.mc_script.specs.Script.{Told, told, keys_told, calls_of, request_told}
+use Rattle.mc_script.specs.Script.{Told, told, keys_told, request_told}
 
 -- nothing was added
 pub adds_none : (notes : List Told → Type 0) → Adds notes notes []

@@ -1,12 +1,12 @@
 -- A run on its way, one request further.
-use Rattle.std.proofs.Common.{◌≡◌, ◌+◌, ℕ, List, [], ◌∷◌, ◌++◌, refl, sym, ap, ◌∙◌, append_assoc, append-nil, length, arith, false, true, subst, length-append}
+use Rattle.std.proofs.Common.{◌≡◌, ◌+◌, ℕ, List, [], ◌∷◌, ◌++◌, refl, sym, ap, ◌∙◌, append_assoc, append-nil, false, true, subst}
 use Rattle.mc_item.specs.declared.fault.Fault.{Fault}
 use Rattle.mc_item.specs.declared.fault.Fault.TheVariants as faults
 use Rattle.mc_item.specs.declared.reply.Reply.{Reply}
 use Rattle.mc_proto.specs.Grammar.{IsModerate}
 use Rattle.mc_proto.specs.Text.{IsBeginning, text_of}
 use Rattle.mc_proto.specs.declared.request.Request.{Request}
-use Rattle.mc_script.specs.Calls.{Adds, Answers, Fails}
+use Rattle.mc_script.specs.Calls.{Answers, Fails}
 use Rattle.mc_script.specs.Progress.{AreMoments, Goes, HasAnswered, HasFailed, HasTorn, Went}
 use Rattle.mc_script.specs.Run.{NoneEnds, first_moment}
 use Rattle.mc_script.specs.Script.{Answered, AreWhole, IsWhole, Told, all_told, answered, calls_of, ends, moment_after, moment_behind, request_told, requests_of, texts_of, turn_behind}

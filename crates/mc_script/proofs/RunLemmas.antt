@@ -1,5 +1,5 @@
 -- What a piece leaves, and how a run starts, goes on and ends.
-use Rattle.std.proofs.Common.{◌≡◌, ◌≤◌, ℕ, List, [], ◌∷◌, ◌++◌, refl, sym, ap, ◌∙◌, append_assoc, append-nil, arith, Bool, subst, suc, inl, inr, false, true, length}
+use Rattle.std.proofs.Common.{◌≡◌, ℕ, List, [], ◌∷◌, ◌++◌, refl, sym, ap, ◌∙◌, append_assoc, append-nil, arith, Bool, subst, suc, false, length}
 use Rattle.std.specs.Prelude.{if◌then◌else◌, All}
 use Rattle.mc_item.specs.declared.fault.Fault.{Fault}
 use Rattle.mc_item.specs.declared.fault.Fault.TheVariants as faults
@@ -12,9 +12,9 @@ use Rattle.mc_proto.specs.declared.state.State.{State}
 use Rattle.mc_proto.proofs.Rests.{after_reads}
 use Rattle.mc_proto.proofs.Streams.{stream_reads, reading_on}
 use Rattle.mc_script.specs.Calls.{IsPart}
-use Rattle.mc_script.specs.Progress.{AreMoments, EndsHere, FailsHere, Goes, GoesOn, HasAnswered, HasCome, HasFailed, HasTorn, IsOnWay}
+use Rattle.mc_script.specs.Progress.{AreMoments, EndsHere, FailsHere, Goes, GoesOn, HasAnswered, HasCome, IsOnWay}
 use Rattle.mc_script.specs.Run.{ArePartOf, first_moment, HasBroken, HasRead, HasRun, HasRunTo, HasStarved, HasStopped, IsOut, NoneEnds}
-use Rattle.mc_script.specs.Script.{Answered, AreWhole, Told, all_told, calls_of, ends, moment_behind, own_requests, request_told, requests_of, texts_of, turn_behind}
+use Rattle.mc_script.specs.Script.{Answered, Told, all_told, calls_of, ends, moment_behind, own_requests, request_told, requests_of, texts_of, turn_behind}
 use Rattle.mc_script.specs.declared.scripting.Progress.{Progress}
 use Rattle.mc_script.specs.declared.scripting.Progress.TheVariants as progress
 use Rattle.mc_script.proofs.CallLemmas.{none_told}

@@ -84,6 +84,7 @@ fn answer_all<E: Ends, C: Calls>(
     requires early { moment.old ≤ 2 ^ 62 }
     requires moments { AreMoments requests.items }
     ensures may { result ≡ Progress.More → C.may_call calls.new }
+    ensures ended { result ≡ Progress.Ended → C.may_call calls.new }
     ensures early { moment.new ≤ 2 ^ 62 }
     ensures place { C.place calls.new ≡ C.place calls.old }
     ensures caller { C.caller calls.new ≡ C.caller calls.old }
@@ -133,6 +134,7 @@ fn answer_piece<E: Ends, C: Calls>(
     requires moments { AreMoments requests.items }
     requires none { text.old.items ≡ [] }
     ensures may { result ≡ None → C.may_call calls.new }
+    ensures done { result ≡ Some outcomes.Done → C.may_call calls.new }
     ensures early { moment.new ≤ 2 ^ 62 }
     ensures place { C.place calls.new ≡ C.place calls.old }
     ensures caller { C.caller calls.new ≡ C.caller calls.old }
@@ -181,6 +183,7 @@ pub fn run_script<E: Ends, C: Calls>(
     ensures place { C.place calls.new ≡ C.place calls.old }
     ensures caller { C.caller calls.new ≡ C.caller calls.old }
     ensures full { result ≡ outcomes.HistoryFull → C.is_full calls.new }
+    ensures done { result ≡ outcomes.Done → C.may_call calls.new }
 {
     let mut reader = Reader::new(alloc, limits);
     let mut text = Vec::new(alloc);

@@ -1,6 +1,7 @@
-use Rattle.std.proofs.Common.{◌≡◌, ◌≤◌, ◌∷◌, [], ◌++◌, ◌-◌, sym, ap, subst, ◌∙◌, refl, arith, ℕ, List, length, vec_len}
+use Rattle.std.proofs.Common.{◌≡◌, ◌≤◌, ◌∷◌, [], ◌++◌, ◌-◌, sym, ap, subst, ◌∙◌, arith, List, length, vec_len}
 use Rattle.std.specs.Prelude.{slice_index_or}
 use Rattle.mc_stripe.specs.StripeState.{Stripe}
+use Rattle.mc_driver.specs.Noted.{AreTurns}
 use Rattle.mc_driver.specs.Run.{limits_of}
 use Rattle.mc_script.specs.declared.outcome.Outcome.{Outcome}
 use Rattle.mc_script.specs.declared.outcome.Outcome.TheVariants as outcomes
@@ -13,7 +14,7 @@ returns-clause-leaves g c = λ i ends outcome below.
     let one = only_item c.args.scripts.items c.pop.new.self.items (vec_len c.args.scripts - 1) c.pop.result c.unwrap-source.result c.pop.ensures.items c.pop.ensures.rest few c.unwrap-source.ensures in
     let first : i ≡ 0 = none_other i (length c.args.scripts.items) below (ap length one.0) in
     let outs = c.push_reserved-4.ensures.items
-        ∙ ap (λ (xs : List Outcome). xs ++ outcomes.Done ∷ []) (c.push_reserved-3.ensures.items ∙ ap (λ (xs : List Outcome). xs ++ outcomes.Done ∷ []) (c.push_reserved-2.ensures.items ∙ ap (λ (xs : List Outcome). xs ++ c.run_script-outcome.result ∷ []) c.in_ok-outcomes.ensures.items)) in
+    ∙ ap (λ (xs : List Outcome). xs ++ outcomes.Done ∷ []) (c.push_reserved-3.ensures.items ∙ ap (λ (xs : List Outcome). xs ++ outcomes.Done ∷ []) (c.push_reserved-2.ensures.items ∙ ap (λ (xs : List Outcome). xs ++ c.run_script-outcome.result ∷ []) c.in_ok-outcomes.ensures.items)) in
     let outcome_is = stands_first c.push_reserved-4.new.self.items (outcomes.Done ∷ outcomes.Done ∷ []) c.run_script-outcome.result outcome i outs first in
     let now = c.run_script-outcome.new.ends in
     let kept = c.push_reserved.ensures.items ∙ ap (λ xs. xs ++ (now.source, now.sink) ∷ []) one.1 in
@@ -34,7 +35,7 @@ returns-clause-counted g c = λ i ends outcome below.
     let one = only_item c.args.scripts.items c.pop.new.self.items (vec_len c.args.scripts - 1) c.pop.result c.unwrap-source.result c.pop.ensures.items c.pop.ensures.rest few c.unwrap-source.ensures in
     let first : i ≡ 0 = none_other i (length c.args.scripts.items) below (ap length one.0) in
     let outs = c.push_reserved-4.ensures.items
-        ∙ ap (λ (xs : List Outcome). xs ++ outcomes.Done ∷ []) (c.push_reserved-3.ensures.items ∙ ap (λ (xs : List Outcome). xs ++ outcomes.Done ∷ []) (c.push_reserved-2.ensures.items ∙ ap (λ (xs : List Outcome). xs ++ c.run_script-outcome.result ∷ []) c.in_ok-outcomes.ensures.items)) in
+    ∙ ap (λ (xs : List Outcome). xs ++ outcomes.Done ∷ []) (c.push_reserved-3.ensures.items ∙ ap (λ (xs : List Outcome). xs ++ outcomes.Done ∷ []) (c.push_reserved-2.ensures.items ∙ ap (λ (xs : List Outcome). xs ++ c.run_script-outcome.result ∷ []) c.in_ok-outcomes.ensures.items)) in
     let outcome_is = stands_first c.push_reserved-4.new.self.items (outcomes.Done ∷ outcomes.Done ∷ []) c.run_script-outcome.result outcome i outs first in
     let now = c.run_script-outcome.new.ends in
     let kept = c.push_reserved.ensures.items ∙ ap (λ xs. xs ++ (now.source, now.sink) ∷ []) one.1 in
@@ -52,16 +53,26 @@ returns-clause-full g c = λ i outcome below is.
     let one = only_item c.args.scripts.items c.pop.new.self.items (vec_len c.args.scripts - 1) c.pop.result c.unwrap-source.result c.pop.ensures.items c.pop.ensures.rest few c.unwrap-source.ensures in
     let first : i ≡ 0 = none_other i (length c.args.scripts.items) below (ap length one.0) in
     let outs = c.push_reserved-4.ensures.items
-        ∙ ap (λ (xs : List Outcome). xs ++ outcomes.Done ∷ []) (c.push_reserved-3.ensures.items ∙ ap (λ (xs : List Outcome). xs ++ outcomes.Done ∷ []) (c.push_reserved-2.ensures.items ∙ ap (λ (xs : List Outcome). xs ++ c.run_script-outcome.result ∷ []) c.in_ok-outcomes.ensures.items)) in
+    ∙ ap (λ (xs : List Outcome). xs ++ outcomes.Done ∷ []) (c.push_reserved-3.ensures.items ∙ ap (λ (xs : List Outcome). xs ++ outcomes.Done ∷ []) (c.push_reserved-2.ensures.items ∙ ap (λ (xs : List Outcome). xs ++ c.run_script-outcome.result ∷ []) c.in_ok-outcomes.ensures.items)) in
     let outcome_is = stands_first c.push_reserved-4.new.self.items (outcomes.Done ∷ outcomes.Done ∷ []) c.run_script-outcome.result outcome i outs first in
     subst (λ (s : Stripe). s.limit ≤ length s.history) (sym c.left.ensures.same) (c.run_script-outcome.ensures.full (sym outcome_is ∙ is))
+
+pub returns-clause-whole : goal.returns-clause-whole
+returns-clause-whole g c = λ i outcome below is.
+    let few : vec_len c.args.scripts - 1 ≡ 0 = omega (arith, c.len.ensures, c.if-len-ne1.false) in
+    let one = only_item c.args.scripts.items c.pop.new.self.items (vec_len c.args.scripts - 1) c.pop.result c.unwrap-source.result c.pop.ensures.items c.pop.ensures.rest few c.unwrap-source.ensures in
+    let first : i ≡ 0 = none_other i (length c.args.scripts.items) below (ap length one.0) in
+    let outs = c.push_reserved-4.ensures.items
+    ∙ ap (λ (xs : List Outcome). xs ++ outcomes.Done ∷ []) (c.push_reserved-3.ensures.items ∙ ap (λ (xs : List Outcome). xs ++ outcomes.Done ∷ []) (c.push_reserved-2.ensures.items ∙ ap (λ (xs : List Outcome). xs ++ c.run_script-outcome.result ∷ []) c.in_ok-outcomes.ensures.items)) in
+    let outcome_is = stands_first c.push_reserved-4.new.self.items (outcomes.Done ∷ outcomes.Done ∷ []) c.run_script-outcome.result outcome i outs first in
+    subst (λ (s : Stripe). AreTurns s.history) (sym c.left.ensures.same) (c.run_script-outcome.ensures.done (sym outcome_is ∙ is))
 
 pub returns-clause-outcomes : goal.returns-clause-outcomes
 returns-clause-outcomes g c =
     let few : vec_len c.args.scripts - 1 ≡ 0 = omega (arith, c.len.ensures, c.if-len-ne1.false) in
     let one = only_item c.args.scripts.items c.pop.new.self.items (vec_len c.args.scripts - 1) c.pop.result c.unwrap-source.result c.pop.ensures.items c.pop.ensures.rest few c.unwrap-source.ensures in
     let outs = c.push_reserved-4.ensures.items
-        ∙ ap (λ (xs : List Outcome). xs ++ outcomes.Done ∷ []) (c.push_reserved-3.ensures.items ∙ ap (λ (xs : List Outcome). xs ++ outcomes.Done ∷ []) (c.push_reserved-2.ensures.items ∙ ap (λ (xs : List Outcome). xs ++ c.run_script-outcome.result ∷ []) c.in_ok-outcomes.ensures.items)) in
+    ∙ ap (λ (xs : List Outcome). xs ++ outcomes.Done ∷ []) (c.push_reserved-3.ensures.items ∙ ap (λ (xs : List Outcome). xs ++ outcomes.Done ∷ []) (c.push_reserved-2.ensures.items ∙ ap (λ (xs : List Outcome). xs ++ c.run_script-outcome.result ∷ []) c.in_ok-outcomes.ensures.items)) in
     (c.run_script-outcome.result ∷ [], sym (ap length one.0), outs)
 
 pub returns-clause-ends : goal.returns-clause-ends

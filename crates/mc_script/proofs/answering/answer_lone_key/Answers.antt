@@ -1,8 +1,8 @@
-use Rattle.std.proofs.Common.{rules, ◌≡◌, ◌++◌, ◌∷◌, [], List, ℕ, ap, ◌∙◌, sym, refl, append_assoc, append-nil, arith}
+use Rattle.std.proofs.Common.{rules, ◌++◌, ◌∷◌, [], List, ℕ, ap, ◌∙◌, sym, refl, append_assoc, append-nil, arith}
 use Rattle.mc_item.specs.declared.fault.Fault.TheVariants as faults
 use Rattle.mc_proto.specs.Text.{end_text, value_text}
 use Rattle.mc_proto.specs.declared.request.Request.TheVariants as requests
-use Rattle.mc_script.specs.Calls.{Answers, Fails}
+use Rattle.mc_script.specs.Calls.{Fails}
 use Rattle.mc_script.proofs.answering.answer_lone_key.Goals as goal
 
 pub returns-in_err-push_end-clause-err : goal.returns-in_err-push_end-clause-err

@@ -4,7 +4,7 @@ use Rattle.mc_item.specs.declared.fault.Fault.TheVariants as faults
 use Rattle.mc_item.specs.declared.reply.Reply.{Reply}
 use Rattle.mc_proto.specs.Text.{reply_text}
 use Rattle.mc_proto.specs.declared.request.Request.TheVariants as requests
-use Rattle.mc_script.specs.Calls.{Answers, Fails}
+use Rattle.mc_script.specs.Calls.{Fails}
 use Rattle.mc_script.proofs.answering.answer_one.Goals as goal
 
 -- what is there is one thing

@@ -1,4 +1,4 @@
-use Rattle.std.proofs.Common.{rules, ◌++◌, ◌∷◌, [], sym, ◌∙◌, subst, arith, refl}
+use Rattle.std.proofs.Common.{◌++◌, ◌∷◌, [], sym, ◌∙◌, subst, refl}
 use Rattle.std.specs.Vec.Iter.{into_iter_items}
 use Rattle.mc_script.specs.Progress.{AreMoments}
 use Rattle.mc_script.proofs.IterLemmas.{split_at, all_taken}

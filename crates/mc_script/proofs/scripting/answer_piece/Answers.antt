@@ -1,4 +1,4 @@
-use Rattle.std.proofs.Common.{ap, ◌∙◌, subst, sym, inl}
+use Rattle.std.proofs.Common.{subst, inl}
 use Rattle.mc_script.specs.Progress.{Goes}
 use Rattle.mc_script.specs.declared.scripting.Progress.{Progress}
 use Rattle.mc_script.proofs.RunLemmas.{piece_torn, piece_breaks, piece_goes_on, piece_ended, piece_memory, piece_full}

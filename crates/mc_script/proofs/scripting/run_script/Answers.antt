@@ -1,4 +1,4 @@
-use Rattle.std.proofs.Common.{◌++◌, ◌≡◌, ◌<◌, List, ℕ, sym, ap, ◌∙◌, refl, arith, subst, inl, inr}
+use Rattle.std.proofs.Common.{◌++◌, ◌<◌, List, ℕ, sym, ap, ◌∙◌, refl, arith, subst, inr}
 use Rattle.mc_script.specs.Progress.{GoesOn, IsOnWay}
 use Rattle.mc_script.specs.Run.{AreCounted, Leaves}
 use Rattle.mc_script.specs.declared.outcome.Outcome.{Outcome}

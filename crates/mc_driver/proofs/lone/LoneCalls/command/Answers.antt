@@ -22,6 +22,6 @@ returns-clause-told g c =
       noted.0,
       noted.1,
       subst (λ (z : Session). Adds (IsOf z.stripe.history) (IsOf next) (told z.caller z.turn c.args.command c.args.moment noted.0 ∷ [])) c.self.view_is
-      (adds_turn s.stripe.history next (told s.caller s.turn c.args.command c.args.moment noted.0 ∷ []) before turns noted.2),
+          (adds_turn s.stripe.history next (told s.caller s.turn c.args.command c.args.moment noted.0 ∷ []) before turns noted.2),
     ))
     c.call.ensures.told c.call.ensures.turns
