@@ -1,7 +1,5 @@
 pub mod TellLemmas
+pub mod TurnLemmas
 pub mod NameLemmas
-pub mod RequestLemmas
-pub mod ProgressLemmas
-pub mod RunLemmas
 pub mod StartLemmas
 pub mod WordLemmas

@@ -11,7 +11,7 @@ use Rattle.mc_item.specs.declared.stripe_event.Did.{Did}
 use Rattle.mc_item.specs.declared.stripe_event.Lost.{Lost}
 use Rattle.mc_item.specs.declared.stripe_event.StripeEvent.{StripeEvent}
 use Rattle.mc_item.specs.declared.stripe_event.StripeEvent.TheVariants as events
-use Rattle.mc_driver.specs.Script.{told_in}
+use Rattle.mc_driver.specs.Noted.{told_in}
 use Rattle.mc_driver.specs.Session.{IsNamedBelow, NamesNoMore, IsReadyAt}
 use Rattle.mc_stripe.specs.StripeState.{Stripe}
 use Rattle.mc_stripe.specs.StripeCalls.{KeepsSite, Gains, room_for}

@@ -11,7 +11,8 @@ use Rattle.mc_item.specs.declared.stripe_event.StripeEvent.{StripeEvent}
 use Rattle.mc_item.specs.declared.stripe_event.StripeEvent.TheVariants as events
 use Rattle.mc_item.proofs.StripeLemmas.{cache_of-push}
 use Rattle.mc_stripe.specs.StripeState.{Stripe, cache_now}
-use Rattle.mc_driver.specs.Script.{Told, told_in, calls_noted}
+use Rattle.mc_script.specs.Script.{Told}
+use Rattle.mc_driver.specs.Noted.{told_in, calls_noted}
 
 -- a longer history notes the calls of both parts
 pub told_in-append : (xs ys : List StripeEvent) → told_in (xs ++ ys) ≡ told_in xs ++ told_in ys

@@ -1,5 +1,4 @@
-pub mod Script
+pub mod Noted
 pub mod Session
 pub mod Run
-pub mod Progress
 pub mod Words

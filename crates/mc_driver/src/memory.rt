@@ -2,9 +2,9 @@
 ghost use Rattle.std.specs.Prelude.{◌≡◌, ◌<◌, ◌++◌, [], OnOk, OnErr, length};
 ghost use Rattle.std.specs.List.{flat_map};
 
-use crate::source::{Source, SourceFault};
 use mc_item::NoMemory;
 use mc_proto::{Sink, SinkFault};
+use mc_script::{Source, SourceFault};
 use std::alloc::Global;
 use std::collections::VecDeque;
 use std::marker::Model;

@@ -3,11 +3,11 @@ ghost use Rattle.std.specs.Prelude.{◌≡◌, ◌<◌};
 
 use crate::fault::RunFault;
 use crate::memory::{Kept, Pieces};
-use crate::outcome::Outcome;
 use crate::running::run_scripts;
 use crate::words::{Plan, WordsFault, read_words};
 use clap::Error;
 use clap::error::ErrorKind;
+use mc_script::Outcome;
 use std::alloc::Global;
 use std::collections::VecDeque;
 use std::hash::RandomState;

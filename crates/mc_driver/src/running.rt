@@ -2,19 +2,18 @@
 ghost use Rattle.std.specs.Prelude.{◌≡◌, ◌≢◌, ◌≤◌, ◌<◌, ◌+◌, ◌⊎◌, List, [], ◌∷◌, ◌++◌, ℕ, IfOk, IfErr, None, length, slice_index_or};
 ghost use Rattle.mc_item.specs.Config.{fault_of, IsBounded};
 ghost use Rattle.mc_item.specs.Stripe.{IsLegal};
-ghost use Rattle.mc_driver.specs.Run.{IsAccepted, IsCaused, IsFresh, IsRefused, Leaves, limits_of, site_of, with_callers};
-ghost use Rattle.mc_driver.specs.Session.{IsReady};
-ghost use Rattle.mc_driver.specs.declared.outcome.Outcome.{Outcome};
-ghost use Rattle.mc_driver.specs.declared.outcome.Outcome.TheVariants as outcomes;
+ghost use Rattle.mc_driver.specs.Noted.{AreTurns, IsOf};
+ghost use Rattle.mc_driver.specs.Run.{IsAccepted, IsRefused, limits_of, site_of, with_callers};
+ghost use Rattle.mc_script.specs.Run.{AreCounted, Leaves};
+ghost use Rattle.mc_script.specs.declared.outcome.Outcome.{Outcome};
+ghost use Rattle.mc_script.specs.declared.outcome.Outcome.TheVariants as outcomes;
 ghost use Rattle.mc_driver.specs.declared.fault.RunFault.TheVariants as faults;
 
 use crate::fault::RunFault;
-use crate::outcome::Outcome;
-use crate::scripting::run_script;
-use crate::session::Session;
-use crate::source::Source;
+use crate::lone::Lone;
 use mc_item::{Config, StripeNo};
 use mc_proto::{Limits, Sink};
+use mc_script::{Both, Outcome, Source, run_script};
 use mc_stripe::StripeState;
 use std::alloc::Global;
 use std::hash::RandomState;
@@ -55,23 +54,16 @@ pub struct Run<S: Drop, K: Drop> {
     pub ends: Vec<(S, K)>,
 }
 
-// The session of the only script: caller 0 at stripe 0, before its first turn.
-fn first_session(alloc: Global, config: &Config, seed: RandomState) -> Session
+// The only script's calls: caller 0 at stripe 0, before its first turn.
+fn first_calls(alloc: Global, config: &Config, seed: RandomState) -> Lone
     requires config { IsBounded config.now }
     requires stripes { config.now.stripes ≡ 1 }
-    ensures ready { IsReady result }
-    ensures fresh { IsFresh result }
-    ensures caller { result.caller ≡ 0 }
+    ensures caller { (result.caller ≡ 0) × (result.turn ≡ 0) }
+    ensures none { result.stripe.history ≡ [] }
     ensures place { (result.stripe.site ≡ site_of config.now) × (result.stripe.limit ≡ config.now.max_events) }
 {
-    Session {
-        alloc,
-        stripe: StripeState::new(alloc, StripeNo(0), config, seed),
-        caller: 0,
-        turn: 0,
-        moment: 1000,
-        next: 0,
-    }
+    let stripe = StripeState::new(alloc, StripeNo(0), config, seed);
+    Lone::new(alloc, stripe, 0)
 }
 
 // The limits of a configuration's requests.
@@ -105,15 +97,14 @@ fn checked(config: Config) -> Result<Config, RunFault>
     }
 }
 
-// A session's stripe is what its run leaves.
-fn left(session: Session) -> Final
-    ensures same { result ≡ session.stripe }
+// A caller's stripe is what its run leaves.
+fn left(calls: Lone) -> Final
+    ensures same { result ≡ calls.stripe }
     ensures legal { IsLegal result.site result.history }
 {
-    let _events = session.stripe.history();
-    Final {
-        only: session.stripe,
-    }
+    let stripe = calls.into_stripe();
+    let _events = stripe.history();
+    Final { only: stripe }
 }
 
 /// Runs scripts against a store of this configuration, whose number of callers is set here: one script for now, one
@@ -131,11 +122,25 @@ pub fn run_scripts<S: Source, K: Sink>(
     ensures refused { IfErr result (λ e. IsRefused e (length scripts.items) (length upkeep.now) config) }
     ensures accepted { IfOk result (λ _. IsAccepted (length scripts.items) (length upkeep.now) config) }
 
-    // What the run leaves: the sink's bytes, the source's failures, and the stripe's history.
-    ensures run { IfOk result (λ run. (before after : S × K) × (outcome : Outcome) × (scripts.items ≡ before ∷ []) × (run.ends.items ≡ after ∷ [])
-        × (run.outcomes.items ≡ outcome ∷ outcomes.Done ∷ outcomes.Done ∷ [])
-        × Leaves outcome (limits_of config) (S.coming before.0) (K.taken before.1) (K.taken after.1) 0 run.ledger.history
-        × IsCaused outcome (S.failures before.0) (S.failures after.0) (K.failures before.1) (K.failures after.1) run.ledger) }
+    // What each script leaves: which bytes are still to come, what its sink took, which calls the history notes, and
+    // which side failed.
+    ensures leaves { IfOk result (λ run. (i : ℕ) (ends : S × K) (outcome : Outcome) → i < length scripts.items
+        → Leaves (slice_index_or run.outcomes.items i outcome) (limits_of config)
+        (S.coming (slice_index_or scripts.items i ends).0) (S.coming (slice_index_or run.ends.items i ends).0)
+        (K.taken (slice_index_or scripts.items i ends).1) (K.taken (slice_index_or run.ends.items i ends).1) (IsOf run.ledger.history) i) }
+    ensures counted { IfOk result (λ run. (i : ℕ) (ends : S × K) (outcome : Outcome) → i < length scripts.items
+        → AreCounted (slice_index_or run.outcomes.items i outcome)
+        (S.failures (slice_index_or scripts.items i ends).0) (S.failures (slice_index_or run.ends.items i ends).0)
+        (K.failures (slice_index_or scripts.items i ends).1) (K.failures (slice_index_or run.ends.items i ends).1)) }
+    ensures full { IfOk result (λ run. (i : ℕ) (outcome : Outcome) → i < length scripts.items
+        → slice_index_or run.outcomes.items i outcome ≡ outcomes.HistoryFull → run.ledger.limit ≤ length run.ledger.history) }
+
+    ensures whole { IfOk result (λ run. (i : ℕ) (outcome : Outcome) → i < length scripts.items
+        → slice_index_or run.outcomes.items i outcome ≡ outcomes.Done → AreTurns run.ledger.history) }
+
+    // What else the run leaves: the outcomes of upkeep behind those of the scripts, and the store.
+    ensures outcomes { IfOk result (λ run. (own : List Outcome) × (length own ≡ length scripts.items) × (run.outcomes.items ≡ own ++ outcomes.Done ∷ outcomes.Done ∷ [])) }
+    ensures ends { IfOk result (λ run. length run.ends.items ≡ length scripts.items) }
     ensures legal { IfOk result (λ run. (run.ledger.site ≡ site_of config) × (run.ledger.limit ≡ config.max_events) × IsLegal run.ledger.site run.ledger.history) }
 {
     let mut scripts = scripts;
@@ -144,16 +149,17 @@ pub fn run_scripts<S: Source, K: Sink>(
     }
     let config = checked(config)?;
     let mut outcomes = Vec::with_capacity(alloc, 3)?;
-    let (mut source, mut sink) = scripts.pop().unwrap();
+    let (source, sink) = scripts.pop().unwrap();
     let limits = limits_for(&config);
-    let mut session = first_session(alloc, &config, seed);
-    let outcome = run_script(rt, alloc, limits, &mut session, &mut source, &mut sink);
-    scripts.push_reserved((source, sink));
+    let mut calls = first_calls(alloc, &config, seed);
+    let mut ends = Both { source, sink };
+    let outcome = run_script(rt, alloc, limits, &mut calls, &mut ends);
+    scripts.push_reserved((ends.source, ends.sink));
     outcomes.push_reserved(outcome);
     outcomes.push_reserved(Outcome::Done);
     outcomes.push_reserved(Outcome::Done);
     Ok(Run {
-        ledger: left(session),
+        ledger: left(calls),
         outcomes,
         ends: scripts,
     })

@@ -4,10 +4,13 @@ ghost use Rattle.mc_item.specs.Stripe.{IsAlive, IsDead};
 ghost use Rattle.mc_item.specs.Command.{key_of};
 ghost use Rattle.mc_item.specs.declared.fault.Fault.TheVariants as faults;
 ghost use Rattle.mc_item.specs.declared.reply.Reply.{Reply};
-ghost use Rattle.mc_driver.specs.Script.{told};
+ghost use Rattle.mc_item.specs.declared.stripe_event.Cause.TheVariants.{Expired};
+ghost use Rattle.mc_item.specs.declared.stripe_event.StripeEvent.TheVariants as events;
+ghost use Rattle.mc_script.specs.Script.{told};
+ghost use Rattle.mc_driver.specs.Noted.{GainsTorn, GainsTurns};
 ghost use Rattle.mc_driver.specs.Session.{IsReady, KeepsPlace, NamesNoMore, Tells};
 ghost use Rattle.mc_stripe.specs.StripeState.{cache_now, last_reply};
-ghost use Rattle.mc_stripe.specs.StripeCalls.{KeepsSite};
+ghost use Rattle.mc_stripe.specs.StripeCalls.{Gains, KeepsSite};
 
 use mc_item::{Command, Fault, Key, Reply, Who};
 use mc_stripe::StripeState;
@@ -35,6 +38,8 @@ fn forget(
     requires { IsDead ((cache_now stripe.old).items key.now) moment }
     ensures site { KeepsSite stripe.old stripe.new }
     ensures more { NamesNoMore stripe.old.history stripe.new.history }
+    ensures lost { OnOk result (Gains stripe.old stripe.new (events.Lost (record { who = who; key = key.now; cause = Expired moment }))) }
+    ensures err { OnErr result (stripe.new.history ≡ stripe.old.history) }
     ensures alive { OnOk result (IsAlive ((cache_now stripe.new).items key.now) moment) }
     ensures full { IsErrOf result faults.HistoryFull → stripe.new.limit ≤ length stripe.new.history }
 {
@@ -72,6 +77,8 @@ impl Session {
         ensures turn { OnOk result (self.new.turn ≡ self.old.turn + 1) }
         ensures told { OnOk result ((reply : Reply) × (last_reply self.new.stripe.history ≡ Some reply) × Tells self.old self.new (told self.old.caller self.old.turn command self.old.moment reply ∷ [])) }
         ensures err { OnErr result (Tells self.old self.new []) }
+        ensures turns { OnOk result (GainsTurns self.old.stripe.history self.new.stripe.history) }
+        ensures torn { OnErr result (GainsTorn self.old.stripe.history self.new.stripe.history) }
         ensures full { IsErrOf result faults.HistoryFull → self.new.stripe.limit ≤ length self.new.stripe.history }
     {
         let who = self.who();
@@ -96,6 +103,8 @@ impl Session {
         ensures turn { OnOk result (self.new.turn ≡ self.old.turn + 1) }
         ensures told { OnOk result ((reply : Reply) × (last_reply self.new.stripe.history ≡ Some reply) × Tells self.old self.new (told self.old.caller self.old.turn command self.old.moment reply ∷ [])) }
         ensures err { OnErr result (Tells self.old self.new []) }
+        ensures turns { OnOk result (GainsTurns self.old.stripe.history self.new.stripe.history) }
+        ensures torn { OnErr result (GainsTorn self.old.stripe.history self.new.stripe.history) }
         ensures full { IsErrOf result faults.HistoryFull → self.new.stripe.limit ≤ length self.new.stripe.history }
     {
         let who = self.who();

@@ -16,12 +16,14 @@ pub trait Sink: Drop {
     fn put(&mut self, bytes: &[u8]) -> Result<usize, SinkFault>
         ensures ok { IfOk result (λ n. (n ≤ length bytes.now) × (taken self.new ≡ taken self.old ++ take n bytes.now)) }
         ensures none { IfOk result (λ n. n ≡ 0 → 0 < length bytes.now → failures self.old < failures self.new) }
+        ensures fine { IfOk result (λ n. 0 < n → failures self.new ≡ failures self.old) }
         ensures err { OnErr result ((failures self.old < failures self.new) × (taken self.new ≡ taken self.old)) }
         ensures count { failures self.old ≤ failures self.new };
 
     /// Takes a whole text, and leaves an empty one. After a fault a beginning of it was taken, and nothing else.
     fn put_whole(&mut self, text: &mut Vec<u8>) -> Result<(), SinkFault>
         ensures ok { OnOk result ((taken self.new ≡ taken self.old ++ text.old.items) × (text.new.items ≡ [])) }
+        ensures fine { OnOk result (failures self.new ≡ failures self.old) }
         ensures err { OnErr result ((failures self.old < failures self.new) × IsBeginning (taken self.old) (taken self.new) text.old.items) }
         ensures count { failures self.old ≤ failures self.new };
 }
@@ -30,6 +32,7 @@ pub trait Sink: Drop {
 /// no text itself.
 pub fn write_whole<K: Sink>(sink: &mut K, text: &mut Vec<u8>) -> Result<(), SinkFault>
     ensures ok { OnOk result ((K.taken sink.new ≡ K.taken sink.old ++ text.old.items) × (text.new.items ≡ [])) }
+    ensures fine { OnOk result (K.failures sink.new ≡ K.failures sink.old) }
     ensures err { OnErr result ((K.failures sink.old < K.failures sink.new) × IsBeginning (K.taken sink.old) (K.taken sink.new) text.old.items) }
     ensures count { K.failures sink.old ≤ K.failures sink.new }
 {
@@ -41,6 +44,7 @@ pub fn write_whole<K: Sink>(sink: &mut K, text: &mut Vec<u8>) -> Result<(), Sink
 /// Writes a whole text. After a fault a beginning of it is written, and nothing else.
 pub fn write_reply<K: Sink>(sink: &mut K, text: &[u8]) -> Result<(), SinkFault>
     ensures ok { OnOk result (K.taken sink.new ≡ K.taken sink.old ++ text.now) }
+    ensures fine { OnOk result (K.failures sink.new ≡ K.failures sink.old) }
     ensures err { OnErr result ((K.failures sink.old < K.failures sink.new) × IsBeginning (K.taken sink.old) (K.taken sink.new) text.now) }
     ensures count { K.failures sink.old ≤ K.failures sink.new }
 {

@@ -1,8 +1,9 @@
-use Rattle.std.proofs.Common.{refl}
+use Rattle.std.proofs.Common.{refl, rules}
 use Rattle.mc_item.specs.Answer.{row_of}
 use Rattle.mc_item.specs.Command.{key_of}
 use Rattle.mc_stripe.specs.StripeState.{cache_now}
 use Rattle.mc_driver.proofs.NameLemmas.{ready_still, ready_did, room_fits, same_names_no_more}
+use Rattle.mc_driver.proofs.TurnLemmas.{gains_both, gains_lost, gains_nothing}
 use Rattle.mc_driver.proofs.session.Session.answer_anew.Goals as goal
 
 pub returns-in_err-forget-clause-ready : goal.returns-in_err-forget-clause-ready
@@ -26,3 +27,19 @@ returns-clause-ready c =
     ready_did c.forget.new.stripe c.answer.new.self c.args.self.now.turn c.args.self.now.moment c.args.self.now.next
     (row_of c.forget.new.stripe.site (cache_now c.forget.new.stripe).versions ((cache_now c.forget.new.stripe).items (key_of c.args.command)) c.args.command c.args.self.now.moment).need
     _ after c.in_ok-answer.ensures.site (rw c.in-None.is at c.in_ok-answer.ensures.event) refl
+
+pub returns-in_err-forget-clause-torn : goal.returns-in_err-forget-clause-torn
+returns-in_err-forget-clause-torn c =
+    let made = gains_nothing c.args.self.now.stripe.history c.forget.new.stripe.history c.in_err-forget.ensures.err in
+    search rules
+
+pub returns-in_err-answer-clause-torn : goal.returns-in_err-answer-clause-torn
+returns-in_err-answer-clause-torn c =
+    let made = gains_lost c.args.self.now.stripe.history c.forget.new.stripe.history c.answer.new.self.history _ c.args.self.now.moment refl c.in_ok-forget.ensures.lost c.in_err-answer.ensures.err in
+    search rules
+
+pub returns-clause-turns : goal.returns-clause-turns
+returns-clause-turns c =
+    gains_both c.args.self.now.stripe.history c.forget.new.stripe.history c.answer.new.self.history _ _
+    (row_of c.forget.new.stripe.site (cache_now c.forget.new.stripe).versions ((cache_now c.forget.new.stripe).items (key_of c.args.command)) c.args.command c.args.self.now.moment).need
+    c.args.self.now.next (record { who = refl; key = c.key.ensures; cause = refl }) refl c.in_ok-forget.ensures.lost (rw c.in-None.is at c.in_ok-answer.ensures.event)

@@ -1,0 +1,4 @@
+pub mod IterLemmas
+pub mod CallLemmas
+pub mod ProgressLemmas
+pub mod RunLemmas

@@ -1,0 +1,4 @@
+pub mod Script
+pub mod Calls
+pub mod Run
+pub mod Progress

@@ -1,0 +1,234 @@
+//! One request: its calls are made, and its text is gathered.
+ghost use Rattle.std.specs.Prelude.{◌≡◌, ◌≤◌, ◌++◌, ◌^◌, [], ◌∷◌, OnErr, OnOk, IfErr, IsErrOf, if◌then◌else◌};
+ghost use Rattle.mc_item.specs.declared.fault.Fault.TheVariants as faults;
+ghost use Rattle.mc_proto.specs.Grammar.{IsModerate};
+ghost use Rattle.mc_proto.specs.Text.{fault_text, reply_text};
+ghost use Rattle.mc_proto.specs.declared.request.Request.TheVariants as requests;
+ghost use Rattle.mc_script.specs.Calls.{Answers, AnswersKey, Begins, Fails, FailsKey};
+ghost use Rattle.mc_script.specs.Script.{moment_after};
+
+use crate::calls::Calls;
+use mc_item::{Command, Fault, Key, NoMemory, Reply};
+use mc_proto::{
+    Keys, LineFault, Request, push_end, push_fault, push_reply, push_value_head, push_value_tail,
+};
+use std::sync::Wait;
+
+// One key of a get, with its value's text, where there is one.
+fn answer_key<C: Calls>(
+    rt: &impl Wait,
+    calls: &mut C,
+    text: &mut Vec<u8>,
+    key: Key,
+    with_cas: bool,
+    moment: u64,
+) -> Result<(), Fault>
+    requires may { C.may_call calls.old }
+    requires early { moment ≤ 2 ^ 62 }
+    ensures may { OnOk result (C.may_call calls.new) }
+    ensures place { C.place calls.new ≡ C.place calls.old }
+    ensures caller { C.caller calls.new ≡ C.caller calls.old }
+    ensures ok { OnOk result (AnswersKey key with_cas (C.caller calls.old) (C.turn calls.old) (C.turn calls.new) moment (C.notes calls.old) (C.notes calls.new) text.old.items text.new.items) }
+    ensures err { IfErr result (λ e. FailsKey e key (C.caller calls.old) (C.turn calls.old) moment (C.notes calls.old) (C.notes calls.new)) }
+    ensures front { Begins text.old.items text.new.items }
+    ensures full { IsErrOf result faults.HistoryFull → C.is_full calls.new }
+{
+    let start = text.len();
+    push_value_head(text, &key)?;
+    calls.command(rt, Command::Get(key), moment)?;
+    let reply = calls.reply();
+    if let Reply::Value { .. } = reply {
+        push_value_tail(text, reply, with_cas)?;
+    } else {
+        text.truncate(start);
+    }
+    Ok(())
+}
+
+// A get of a list of keys: each in order, and the end of its text.
+fn answer_keys<C: Calls>(
+    rt: &impl Wait,
+    calls: &mut C,
+    text: &mut Vec<u8>,
+    keys: Vec<Key>,
+    with_cas: bool,
+    moment: u64,
+) -> Result<(), Fault>
+    requires may { C.may_call calls.old }
+    requires early { moment ≤ 2 ^ 62 }
+    ensures may { OnOk result (C.may_call calls.new) }
+    ensures place { C.place calls.new ≡ C.place calls.old }
+    ensures caller { C.caller calls.new ≡ C.caller calls.old }
+    ensures ok { OnOk result (Answers (requests.Get keys.items with_cas) (C.caller calls.old) (C.turn calls.old) (C.turn calls.new) moment (C.notes calls.old) (C.notes calls.new) text.old.items text.new.items) }
+    ensures err { IfErr result (λ e. Fails e (requests.Get keys.items with_cas) (C.caller calls.old) (C.turn calls.old) moment (C.notes calls.old) (C.notes calls.new)) }
+    ensures front { Begins text.old.items text.new.items }
+    ensures full { IsErrOf result faults.HistoryFull → C.is_full calls.new }
+{
+    for key in keys {
+        answer_key(rt, calls, text, key, with_cas, moment)?;
+    }
+    push_end(text)?;
+    Ok(())
+}
+
+// A get of one key, and the end of its text.
+fn answer_lone_key<C: Calls>(
+    rt: &impl Wait,
+    calls: &mut C,
+    text: &mut Vec<u8>,
+    key: Key,
+    with_cas: bool,
+    moment: u64,
+) -> Result<(), Fault>
+    requires may { C.may_call calls.old }
+    requires early { moment ≤ 2 ^ 62 }
+    ensures may { OnOk result (C.may_call calls.new) }
+    ensures place { C.place calls.new ≡ C.place calls.old }
+    ensures caller { C.caller calls.new ≡ C.caller calls.old }
+    ensures ok { OnOk result (Answers (requests.Get (key ∷ []) with_cas) (C.caller calls.old) (C.turn calls.old) (C.turn calls.new) moment (C.notes calls.old) (C.notes calls.new) text.old.items text.new.items) }
+    ensures err { IfErr result (λ e. Fails e (requests.Get (key ∷ []) with_cas) (C.caller calls.old) (C.turn calls.old) moment (C.notes calls.old) (C.notes calls.new)) }
+    ensures front { Begins text.old.items text.new.items }
+    ensures full { IsErrOf result faults.HistoryFull → C.is_full calls.new }
+{
+    answer_key(rt, calls, text, key, with_cas, moment)?;
+    push_end(text)?;
+    Ok(())
+}
+
+// A get, of one key or of a list.
+fn answer_get<C: Calls>(
+    rt: &impl Wait,
+    calls: &mut C,
+    text: &mut Vec<u8>,
+    keys: Keys,
+    with_cas: bool,
+    moment: u64,
+) -> Result<(), Fault>
+    requires may { C.may_call calls.old }
+    requires early { moment ≤ 2 ^ 62 }
+    ensures may { OnOk result (C.may_call calls.new) }
+    ensures place { C.place calls.new ≡ C.place calls.old }
+    ensures caller { C.caller calls.new ≡ C.caller calls.old }
+    ensures ok { OnOk result (Answers (requests.Get keys with_cas) (C.caller calls.old) (C.turn calls.old) (C.turn calls.new) moment (C.notes calls.old) (C.notes calls.new) text.old.items text.new.items) }
+    ensures err { IfErr result (λ e. Fails e (requests.Get keys with_cas) (C.caller calls.old) (C.turn calls.old) moment (C.notes calls.old) (C.notes calls.new)) }
+    ensures front { Begins text.old.items text.new.items }
+    ensures full { IsErrOf result faults.HistoryFull → C.is_full calls.new }
+{
+    match keys.into_one() {
+        Ok(key) => answer_lone_key(rt, calls, text, key, with_cas, moment),
+        Err(keys) => answer_keys(rt, calls, text, keys, with_cas, moment),
+    }
+}
+
+// A reply's text, unless it is quiet.
+fn push_unless(text: &mut Vec<u8>, reply: &Reply, quiet: bool) -> Result<(), NoMemory>
+    ensures ok { OnOk result (text.new.items ≡ text.old.items ++ (if quiet then [] else reply_text reply.now)) }
+    ensures err { OnErr result (text.new.items ≡ text.old.items) }
+{
+    if quiet {
+        return Ok(());
+    }
+    push_reply(text, reply)
+}
+
+// Any other command.
+fn answer_one<C: Calls>(
+    rt: &impl Wait,
+    calls: &mut C,
+    text: &mut Vec<u8>,
+    command: Command,
+    quiet: bool,
+    moment: u64,
+) -> Result<(), Fault>
+    requires may { C.may_call calls.old }
+    requires early { moment ≤ 2 ^ 62 }
+    ensures may { OnOk result (C.may_call calls.new) }
+    ensures place { C.place calls.new ≡ C.place calls.old }
+    ensures caller { C.caller calls.new ≡ C.caller calls.old }
+    ensures ok { OnOk result (Answers (requests.One command quiet) (C.caller calls.old) (C.turn calls.old) (C.turn calls.new) moment (C.notes calls.old) (C.notes calls.new) text.old.items text.new.items) }
+    ensures err { IfErr result (λ e. Fails e (requests.One command quiet) (C.caller calls.old) (C.turn calls.old) moment (C.notes calls.old) (C.notes calls.new)) }
+    ensures front { Begins text.old.items text.new.items }
+    ensures full { IsErrOf result faults.HistoryFull → C.is_full calls.new }
+{
+    calls.command(rt, command, moment)?;
+    push_unless(text, calls.reply(), quiet)?;
+    Ok(())
+}
+
+// The text of a refused line or block, unless it is quiet.
+fn refuse(text: &mut Vec<u8>, why: LineFault, quiet: bool) -> Result<(), Fault>
+    ensures ok { OnOk result (text.new.items ≡ text.old.items ++ (if quiet then [] else fault_text why)) }
+    ensures err { IfErr result (λ e. (e ≡ faults.NoMemory) × (text.new.items ≡ text.old.items)) }
+{
+    if !quiet {
+        push_fault(text, why)?;
+    }
+    Ok(())
+}
+
+// A request that doesn't end its script. After an `Err` its text isn't there.
+fn answer_whole<C: Calls>(
+    rt: &impl Wait,
+    calls: &mut C,
+    text: &mut Vec<u8>,
+    request: Request,
+    moment: &mut u64,
+) -> Result<(), Fault>
+    requires may { C.may_call calls.old }
+    requires now { moment.old ≤ 2 ^ 62 }
+    requires later { IsModerate request }
+    ensures may { OnOk result (C.may_call calls.new) }
+    ensures early { moment.new ≤ 2 ^ 62 }
+    ensures moment { OnOk result (moment.new ≡ moment_after moment.old request) }
+    ensures place { C.place calls.new ≡ C.place calls.old }
+    ensures caller { C.caller calls.new ≡ C.caller calls.old }
+    ensures ok { OnOk result (Answers request (C.caller calls.old) (C.turn calls.old) (C.turn calls.new) moment.old (C.notes calls.old) (C.notes calls.new) text.old.items text.new.items) }
+    ensures err { IfErr result (λ e. Fails e request (C.caller calls.old) (C.turn calls.old) moment.old (C.notes calls.old) (C.notes calls.new)) }
+    ensures front { Begins text.old.items text.new.items }
+    ensures full { IsErrOf result faults.HistoryFull → C.is_full calls.new }
+{
+    match request {
+        Request::Get { keys, with_cas } => answer_get(rt, calls, text, keys, with_cas, *moment),
+        Request::One { command, quiet } => answer_one(rt, calls, text, command, quiet, *moment),
+        Request::Bad { why, quiet } => refuse(text, why, quiet),
+        Request::At(next) => {
+            *moment = next;
+            Ok(())
+        }
+        Request::Juggle(_) => refuse(text, LineFault::Error, false),
+        Request::Crawl(_) => refuse(text, LineFault::Error, false),
+        Request::Next => Ok(()),
+        Request::Quit => Ok(()),
+    }
+}
+
+/// Answers a request that doesn't end its script. After an `Err` the text is as it was.
+pub fn answer_request<C: Calls>(
+    rt: &impl Wait,
+    calls: &mut C,
+    text: &mut Vec<u8>,
+    request: Request,
+    moment: &mut u64,
+) -> Result<(), Fault>
+    requires may { C.may_call calls.old }
+    requires now { moment.old ≤ 2 ^ 62 }
+    requires later { IsModerate request }
+    ensures may { OnOk result (C.may_call calls.new) }
+    ensures early { moment.new ≤ 2 ^ 62 }
+    ensures moment { OnOk result (moment.new ≡ moment_after moment.old request) }
+    ensures place { C.place calls.new ≡ C.place calls.old }
+    ensures caller { C.caller calls.new ≡ C.caller calls.old }
+    ensures ok { OnOk result (Answers request (C.caller calls.old) (C.turn calls.old) (C.turn calls.new) moment.old (C.notes calls.old) (C.notes calls.new) text.old.items text.new.items) }
+    ensures err { IfErr result (λ e. Fails e request (C.caller calls.old) (C.turn calls.old) moment.old (C.notes calls.old) (C.notes calls.new)) }
+    ensures text { OnErr result (text.new.items ≡ text.old.items) }
+    ensures full { IsErrOf result faults.HistoryFull → C.is_full calls.new }
+{
+    let start = text.len();
+    match answer_whole(rt, calls, text, request, moment) {
+        Ok(()) => Ok(()),
+        Err(fault) => {
+            text.truncate(start);
+            Err(fault)
+        }
+    }
+}

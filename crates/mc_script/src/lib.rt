@@ -1,0 +1,15 @@
+//! A script's run, from bytes to bytes, over whatever answers its calls.
+#![tactic(auto)]
+
+mod answering;
+mod calls;
+mod ends;
+mod outcome;
+mod scripting;
+mod source;
+
+pub use calls::Calls;
+pub use ends::{Both, Ends};
+pub use outcome::Outcome;
+pub use scripting::run_script;
+pub use source::{Source, SourceFault};

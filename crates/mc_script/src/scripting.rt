@@ -1,0 +1,207 @@
+//! A script's run: requests are answered as they come, and their texts are printed.
+ghost use Rattle.std.specs.Prelude.{◌≡◌, ◌≤◌, ◌<◌, ◌++◌, ◌^◌, List, ℕ, [], None, Some, OnErr, OnOk, true, false, length};
+ghost use Rattle.mc_proto.specs.Text.{IsBeginning};
+ghost use Rattle.mc_script.specs.Progress.{AreMoments, AreWritten, Goes, HasAnswered, HasCome, LeavesPiece};
+ghost use Rattle.mc_script.specs.Run.{AreCounted, AreCountedSoFar, IsOut, Leaves};
+ghost use Rattle.mc_script.specs.Script.{Answered, ends};
+ghost use Rattle.mc_proto.specs.declared.request.Limits.{Limits};
+ghost use Rattle.mc_script.specs.declared.outcome.Outcome.TheVariants as outcomes;
+
+use crate::answering::answer_request;
+use crate::calls::Calls;
+use crate::ends::Ends;
+use crate::outcome::Outcome;
+use mc_item::Fault;
+use mc_proto::{Limits, Reader, Request, SinkFault};
+use std::alloc::Global;
+use std::sync::Wait;
+
+// How far the requests of a piece were answered.
+#[derive(Clone, Copy, Debug, PartialEq, Eq)]
+pub(crate) enum Progress {
+    More,
+    Ended,
+    Memory,
+    Full,
+    Output,
+}
+
+// So many bytes are gathered before they are printed.
+const GATHERED: usize = 65536;
+
+// Whether a request ends its script.
+fn ends_script(request: &Request) -> bool
+    ensures { result ≡ ends request.now }
+{
+    match request {
+        Request::Next => true,
+        Request::Quit => true,
+        Request::Get { .. } => false,
+        Request::One { .. } => false,
+        Request::Bad { .. } => false,
+        Request::At(_) => false,
+        Request::Juggle(_) => false,
+        Request::Crawl(_) => false,
+    }
+}
+
+// Prints what is gathered.
+fn print_text<E: Ends>(ends: &mut E, text: &mut Vec<u8>) -> Result<(), SinkFault>
+    ensures ok { OnOk result ((E.taken ends.new ≡ E.taken ends.old ++ text.old.items) × (text.new.items ≡ []) × (E.writes ends.new ≡ E.writes ends.old)) }
+    ensures err { OnErr result ((E.writes ends.old < E.writes ends.new) × IsBeginning (E.taken ends.old) (E.taken ends.new) text.old.items) }
+    ensures coming { E.coming ends.new ≡ E.coming ends.old }
+    ensures reads { E.reads ends.new ≡ E.reads ends.old }
+    ensures over { E.over ends.new ≡ E.over ends.old }
+{
+    ends.put_whole(text)
+}
+
+// Prints what is gathered, where it is much.
+fn print_much<E: Ends>(ends: &mut E, text: &mut Vec<u8>) -> Result<(), SinkFault>
+    ensures ok { OnOk result ((more : List ℕ) × (E.taken ends.new ≡ E.taken ends.old ++ more) × (text.old.items ≡ more ++ text.new.items)) }
+    ensures fine { OnOk result (E.writes ends.new ≡ E.writes ends.old) }
+    ensures err { OnErr result ((E.writes ends.old < E.writes ends.new) × IsBeginning (E.taken ends.old) (E.taken ends.new) text.old.items) }
+    ensures coming { E.coming ends.new ≡ E.coming ends.old }
+    ensures reads { E.reads ends.new ≡ E.reads ends.old }
+    ensures over { E.over ends.new ≡ E.over ends.old }
+{
+    if text.len() < GATHERED {
+        return Ok(());
+    }
+    print_text(ends, text)
+}
+
+// Answers the requests of a piece, up to one that ends the script.
+fn answer_all<E: Ends, C: Calls>(
+    rt: &impl Wait,
+    calls: &mut C,
+    ends: &mut E,
+    text: &mut Vec<u8>,
+    requests: Vec<Request>,
+    moment: &mut u64,
+) -> Progress
+    requires may { C.may_call calls.old }
+    requires early { moment.old ≤ 2 ^ 62 }
+    requires moments { AreMoments requests.items }
+    ensures may { result ≡ Progress.More → C.may_call calls.new }
+    ensures ended { result ≡ Progress.Ended → C.may_call calls.new }
+    ensures early { moment.new ≤ 2 ^ 62 }
+    ensures place { C.place calls.new ≡ C.place calls.old }
+    ensures caller { C.caller calls.new ≡ C.caller calls.old }
+    ensures goes { (before : List Answered) (start : List ℕ)
+        → HasAnswered before start (E.taken ends.old) text.old.items (C.notes calls.old) (C.caller calls.old) (C.turn calls.old) moment.old
+        → Goes result requests.items before start (E.taken ends.new) text.new.items (C.notes calls.new) (C.caller calls.old) (C.turn calls.new) moment.new }
+    ensures full { result ≡ Progress.Full → C.is_full calls.new }
+    ensures written { AreWritten result (E.writes ends.old) (E.writes ends.new) }
+    ensures coming { E.coming ends.new ≡ E.coming ends.old }
+    ensures reads { E.reads ends.new ≡ E.reads ends.old }
+    ensures over { E.over ends.new ≡ E.over ends.old }
+{
+    for request in requests {
+        if ends_script(&request) {
+            return Progress::Ended;
+        }
+        match answer_request(rt, calls, text, request, moment) {
+            Ok(()) => {}
+            Err(Fault::NoMemory) => {
+                return Progress::Memory;
+            }
+            Err(Fault::HistoryFull) => {
+                return Progress::Full;
+            }
+        }
+        match print_much(ends, text) {
+            Ok(()) => {}
+            Err(_) => {
+                return Progress::Output;
+            }
+        }
+    }
+    Progress::More
+}
+
+// Answers the requests of a piece and prints all their texts. Where the script ends here, the answer says how.
+fn answer_piece<E: Ends, C: Calls>(
+    rt: &impl Wait,
+    calls: &mut C,
+    ends: &mut E,
+    text: &mut Vec<u8>,
+    requests: Vec<Request>,
+    moment: &mut u64,
+) -> Option<Outcome>
+    requires may { C.may_call calls.old }
+    requires early { moment.old ≤ 2 ^ 62 }
+    requires moments { AreMoments requests.items }
+    requires none { text.old.items ≡ [] }
+    ensures may { result ≡ None → C.may_call calls.new }
+    ensures done { result ≡ Some outcomes.Done → C.may_call calls.new }
+    ensures early { moment.new ≤ 2 ^ 62 }
+    ensures place { C.place calls.new ≡ C.place calls.old }
+    ensures caller { C.caller calls.new ≡ C.caller calls.old }
+    ensures leaves { (limits : Limits) (bytes start : List ℕ) (done : List Answered) → HasCome limits bytes (E.coming ends.old) done requests.items
+        → HasAnswered done start (E.taken ends.old) text.old.items (C.notes calls.old) (C.caller calls.old) (C.turn calls.old) moment.old
+        → LeavesPiece result limits bytes (E.coming ends.old) start (E.taken ends.new) text.new.items (C.notes calls.new) (C.caller calls.old) (C.turn calls.new) moment.new done requests.items }
+    ensures full { result ≡ Some outcomes.HistoryFull → C.is_full calls.new }
+    ensures counted { AreCountedSoFar result (E.reads ends.old) (E.reads ends.new) (E.writes ends.old) (E.writes ends.new) }
+    ensures coming { E.coming ends.new ≡ E.coming ends.old }
+    ensures over { E.over ends.new ≡ E.over ends.old }
+{
+    let progress = answer_all(rt, calls, ends, text, requests, moment);
+    if let Progress::Output = progress {
+        return Some(Outcome::Output);
+    }
+    match print_text(ends, text) {
+        Ok(()) => {}
+        Err(_) => return Some(Outcome::Output),
+    }
+    match progress {
+        Progress::More => None,
+        Progress::Ended => Some(Outcome::Done),
+        Progress::Memory => Some(Outcome::Memory),
+        Progress::Full => Some(Outcome::HistoryFull),
+        Progress::Output => Some(Outcome::Output),
+    }
+}
+
+/// Runs a script: reads requests until the end of its bytes or one that ends the script, answers them, and prints
+/// their texts. The next piece is asked for only when the replies to all that came are out, nothing failed, the end was
+/// not told, and no request that came ends the script. After a call that failed none is made.
+pub fn run_script<E: Ends, C: Calls>(
+    rt: &impl Wait,
+    alloc: Global,
+    limits: Limits,
+    calls: &mut C,
+    ends: &mut E,
+) -> Outcome
+    requires may { C.may_call calls.old }
+    requires first { C.turn calls.old ≡ 0 }
+    requires none { C.notes calls.old [] }
+    requires asks { (e : E) → IsOut limits (E.coming ends.old) (E.coming e) (E.taken ends.old) (E.taken e)
+        → E.reads e ≡ E.reads ends.old → E.writes e ≡ E.writes ends.old → E.over e ≡ E.over ends.old → E.may_ask e }
+    ensures leaves { Leaves result limits (E.coming ends.old) (E.coming ends.new) (E.taken ends.old) (E.taken ends.new) (C.notes calls.new) (C.caller calls.old) }
+    ensures counted { AreCounted result (E.reads ends.old) (E.reads ends.new) (E.writes ends.old) (E.writes ends.new) }
+    ensures place { C.place calls.new ≡ C.place calls.old }
+    ensures caller { C.caller calls.new ≡ C.caller calls.old }
+    ensures full { result ≡ outcomes.HistoryFull → C.is_full calls.new }
+    ensures done { result ≡ outcomes.Done → C.may_call calls.new }
+{
+    let mut reader = Reader::new(alloc, limits);
+    let mut text = Vec::new(alloc);
+    let mut moment = 1000;
+    for _ in rt.forever() {
+        let piece = match ends.piece() {
+            Ok(Some(piece)) => piece,
+            Ok(None) => return Outcome::Done,
+            Err(fault) => return Outcome::from(fault),
+        };
+        let requests = match reader.feed(piece.as_slice()) {
+            Ok(requests) => requests,
+            Err(_) => return Outcome::Memory,
+        };
+        match answer_piece(rt, calls, ends, &mut text, requests, &mut moment) {
+            None => {}
+            Some(outcome) => return outcome,
+        }
+    }
+    Outcome::Done
+}
