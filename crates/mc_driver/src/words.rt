@@ -2,7 +2,8 @@
 ghost use Rattle.std.specs.Prelude.{◌≡◌, ℕ, List, [], IfOk, Err, Option, None, MatchOption};
 ghost use Rattle.std.specs.Option.{option_copied, option_map};
 ghost use Rattle.mc_item.specs.Config.{fault_of};
-ghost use Rattle.mc_driver.specs.Words.{AreNamed, IsFault, IsListOf, IsNoList, NamesNone, asked, fault_number};
+ghost use Rattle.clap.specs.Words.{app_of};
+ghost use Rattle.mc_driver.specs.Words.{AreNamed, IsFault, IsListOf, IsNoList, NamesNone, asked, fault_number, mcseg};
 ghost use Rattle.mc_driver.specs.declared.words.PlanFault.TheVariants as faults;
 
 use crate::help::{ABOUT, AFTER, VERSION};
@@ -123,7 +124,9 @@ fn number_of(fault: ConfigFault) -> u8
 }
 
 // What the command line may have.
-fn command_of<'a>(alloc: Global) -> Result<Command<'a>, AllocError> {
+fn command_of<'a>(alloc: Global) -> Result<Command<'a>, AllocError>
+    ensures { IfOk result (λ command. app_of command ≡ mcseg) }
+{
     let sizes = Arg::new(alloc, "sizes")
         .long("sizes")
         .action(ArgAction::Set)
