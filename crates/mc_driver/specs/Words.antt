@@ -11,6 +11,10 @@ use Rattle.mc_item.specs.Measure.{is_digit, number_of}
 use Rattle.mc_item.specs.declared.config.Config.{Config}
 use Rattle.mc_item.specs.declared.config.ConfigFault.{ConfigFault}
 use Rattle.mc_item.specs.declared.config.ConfigFault.TheVariants.{Stripes, Sizes, Chunks, Percent, Factor, Callers, Events}
+use Rattle.mc_driver.specs.declared.words.PlanFault.{PlanFault}
+use Rattle.mc_driver.specs.declared.words.PlanFault.TheVariants as plan_faults
+use Rattle.mc_driver.specs.declared.words.WordsFault.{WordsFault}
+use Rattle.mc_driver.specs.declared.words.WordsFault.TheVariants as words_faults
 
 -- the option `--sizes`, which takes one text
 abbrev pub sizes_rule : Rule
@@ -91,6 +95,12 @@ fault_number Percent = 4
 fault_number Factor = 5
 fault_number Callers = 6
 fault_number Events = 7
+
+-- what is wrong with the words where there is no plan of their options
+abbrev pub told_of : PlanFault → WordsFault
+told_of plan_faults.List = words_faults.List
+told_of (plan_faults.Configuration n) = words_faults.Configuration n
+told_of plan_faults.NoMemory = words_faults.NoMemory
 
 -- the configuration has the fault of this number
 abbrev pub IsFault : ℕ → Config → Type 0
