@@ -1,6 +1,7 @@
 use Rattle.std.proofs.Common.{◌≡◌, ◌∙◌, ◌<◌, ◌^◌, ◌-◌, ℕ, Bool, true, false, List, [], Option, Some, None, ap, arith, codes, refl, rules, subst, sym}
 use Rattle.std.specs.Option.{option_copied, option_map}
-use Rattle.std.specs.Prelude.{option_and_then, IsErrAnd, Result, Ok, Err, map}
+use Rattle.std.specs.Borrow.{Bor}
+use Rattle.std.specs.Prelude.{option_and_then, IsErrAnd, IsSomeAnd, MatchOption, Result, Ok, Err, map}
 use Rattle.std.specs.Str.Parse.{ExplainsUnsignedError, HasUnsignedDigitsIfOk, ParsesUnsigned, digits_value, without_leading_plus}
 use Rattle.std.specs.declared.num.ParseIntError.{ParseIntError}
 use Rattle.clap.proofs.OnLiterals.{clap_on_literals}
@@ -53,6 +54,13 @@ limit_read {E} G parses (Some t) r none value = go r (value t refl)
         rw is (ap Some parsed.1)
     go None reads = missed (is_unsigned_in 0 (2 ^ 64 - 1) t) refl reads.0 (parses t (Err reads.0) reads.1)
 
+-- the bytes of a text that may be absent are its bytes
+copied : (text : Option (Bor Text)) (bytes : Option (Bor Text)) (P : Bor Text → Bor Text → Type 0) → MatchOption text (bytes ≡ None) (λ t. IsSomeAnd bytes (P t))
+    → ((t b : Bor Text) → P t b → b.now ≡ t.now) → option_copied bytes ≡ option_map (λ t. t.now) text
+copied None bytes P is each = rw is refl
+copied (Some t) (Some b) P is each = ap Some (each t b is)
+copied (Some t) None P is each = absurd is
+
 taken_by : (app : App) (words : List Text) → app ≡ mcseg → (is_simple_and_free app ≡ true → fault_of app words ≡ []) → refusals words ≡ []
 taken_by app words is taken = ap (λ (a : App). fault_of a words) (sym is) ∙ taken (ap is_simple_and_free is ∙ is_free)
 
@@ -91,14 +99,14 @@ returns-in_err-matches-clause-words c = λ error is.
 
 pub returns-in_err-plan_for-clause-list : goal.returns-in_err-plan_for-clause-list
 returns-in_err-plan_for-clause-list c = λ is.
-    let given : option_copied c.map-sizes.result ≡ option_map (λ s. s.now) c.get_str.result = search rules in
+    let given = copied c.get_str.result c.map-sizes.result _ c.map-sizes.ensures.cases (λ t b is. search rules) in
     let sizes = given ∙ c.get_str.ensures ∙ sizes_are _ _ c.in_ok-matches.matches c.in_ok-command_of.ensures c.in_ok-matches.ensures.matches in
     let fault = told_list c.in_err-plan_for.field-0.0 (err_is _ _ _ c.from_residual-in_err-plan_for.ensures.1 is) in
     (taken_by _ _ c.in_ok-command_of.ensures c.in_ok-matches.ensures.kinds, subst NamesNone sizes (c.in_err-plan_for.ensures.list (ap Err fault)))
 
 pub returns-in_err-plan_for-clause-configuration : goal.returns-in_err-plan_for-clause-configuration
 returns-in_err-plan_for-clause-configuration c = λ n is.
-    let given : option_copied c.map-sizes.result ≡ option_map (λ s. s.now) c.get_str.result = search rules in
+    let given = copied c.get_str.result c.map-sizes.result _ c.map-sizes.ensures.cases (λ t b is. search rules) in
     let sizes = given ∙ c.get_str.ensures ∙ sizes_are _ _ c.in_ok-matches.matches c.in_ok-command_of.ensures c.in_ok-matches.ensures.matches in
     let limit = limit_is ReadsLimit (λ t r g. g.0) _ _ c.in_ok-matches.matches c.get_one-events.result c.in_ok-command_of.ensures c.in_ok-matches.ensures.matches c.get_one-events.ensures.none c.get_one-events.ensures.value in
     let fault = told_configuration c.in_err-plan_for.field-0.0 n (err_is _ _ _ c.from_residual-in_err-plan_for.ensures.1 is) in
@@ -110,7 +118,7 @@ returns-clause-taken c = taken_by _ _ c.in_ok-command_of.ensures c.in_ok-matches
 
 pub returns-clause-asked : goal.returns-clause-asked
 returns-clause-asked c =
-    let given : option_copied c.map-sizes.result ≡ option_map (λ s. s.now) c.get_str.result = let h = c.map-sizes.ensures.cases in let v = c.map-sizes.ensures.variant in ? in
+    let given = copied c.get_str.result c.map-sizes.result _ c.map-sizes.ensures.cases (λ t b is. search rules) in
     let sizes = given ∙ c.get_str.ensures ∙ sizes_are _ _ c.in_ok-matches.matches c.in_ok-command_of.ensures c.in_ok-matches.ensures.matches in
     let limit = limit_is ReadsLimit (λ t r g. g.0) _ _ c.in_ok-matches.matches c.get_one-events.result c.in_ok-command_of.ensures c.in_ok-matches.ensures.matches c.get_one-events.ensures.none c.get_one-events.ensures.value in
     let got = c.in_ok-plan_for.ensures.ok in
