@@ -1,8 +1,7 @@
 -- The words of the command line: what it takes, which numbers a list is, and which configuration is asked for (own).
-use Rattle.std.specs.Prelude.{ℕ, ◌≡◌, ◌&&◌, ◌^◌, ◌-◌, List, [], ◌∷◌, ◌++◌, Option, Some, None, if◌then◌else◌, codes, length, nat_lt, option_and_then, replicate, true}
+use Rattle.std.specs.Prelude.{ℕ, ◌≡◌, ◌&&◌, ◌^◌, ◌-◌, List, [], ◌∷◌, ◌++◌, Option, Some, None, if◌then◌else◌, codes, length, nat_lt, replicate, true}
 use Rattle.std.specs.List.{list_all}
-use Rattle.std.specs.Str.Parse.{digits_value, without_leading_plus}
-use Rattle.clap.specs.ValueTests.{is_unsigned_in}
+use Rattle.std.specs.Str.Parse.{without_leading_plus}
 use Rattle.clap.specs.Words.{App, Kinds, Rule, Text, first_of, matches_of, new_app, new_rule, one_of, with_rule, fault_of as refusals_of}
 use Rattle.clap.specs.declared.builder.action.ArgAction.TheVariants.{Set}
 use Rattle.clap.specs.declared.builder.value_parser.ValueParser.TheVariants.{Unsigned}
@@ -36,18 +35,21 @@ refusals words = refusals_of mcseg words
 abbrev pub sizes_in : List Text → Option Text
 sizes_in words = first_of (codes "sizes") (matches_of mcseg words)
 
--- the number that a text is, where it is one below 2^64; a plus may stand first
-abbrev pub limit_in : Text → Option ℕ
-limit_in text = if is_unsigned_in 0 (2 ^ 64 - 1) text then Some (digits_value 10 (without_leading_plus text)) else None
-
--- the limit of events that the words give
-abbrev pub events_in : List Text → Option ℕ
-events_in words = option_and_then limit_in (one_of (codes "events") (matches_of mcseg words))
+-- the text that the words give for the limit of events
+abbrev pub events_in : List Text → Option Text
+events_in words = one_of (codes "events") (matches_of mcseg words)
 
 -- the number that these digits spell: one digit at least, digits alone, and a number below 2^64
 abbrev pub number_in : List ℕ → Option ℕ
 number_in digits =
     if nat_lt 0 (length digits) && list_all is_digit digits && nat_lt (number_of digits) (2 ^ 64) then Some (number_of digits) else None
+
+-- there is a limit where there is a text, and then the text is that number; a plus may stand before its digits
+abbrev pub IsLimit : Option Text → Option ℕ → Type 0
+IsLimit None None = Unit {0}
+IsLimit None (Some n) = ⊥
+IsLimit (Some text) None = ⊥
+IsLimit (Some text) (Some n) = number_in (without_leading_plus text) ≡ Some n
 
 -- the text is these numbers, at least one, with one comma between two
 abbrev pub IsListOf : List ℕ → List ℕ → Type 0
