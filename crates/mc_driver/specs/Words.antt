@@ -65,6 +65,10 @@ AreNamed None (Some numbers) = ⊥
 AreNamed (Some text) None = ⊥
 AreNamed (Some text) (Some numbers) = IsListOf text numbers
 
+-- the words ask for these sizes and this limit of events, each where there is one
+abbrev pub AreAsked : List Text → Option (List ℕ) → Option ℕ → Type 0
+AreAsked words sizes events = AreNamed (sizes_in words) sizes × IsLimit (events_in words) events
+
 -- the text is no list of numbers
 abbrev pub IsNoList : List ℕ → Type 0
 IsNoList text = (numbers : List ℕ) → IsListOf text numbers → ⊥

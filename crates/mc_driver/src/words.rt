@@ -1,10 +1,11 @@
 //! The words of the command line.
-ghost use Rattle.std.specs.Prelude.{◌≡◌, ℕ, List, [], IfOk, Err, Option, None, MatchOption, map};
+ghost use Rattle.std.specs.Prelude.{◌≡◌, ℕ, List, [], IfOk, Err, Option, None, MatchOption};
 ghost use Rattle.std.specs.Option.{option_copied, option_map};
 ghost use Rattle.mc_item.specs.Config.{fault_of};
+ghost use Rattle.clap.specs.Walk.{texts};
 ghost use Rattle.clap.specs.Words.{HasKind, app_of};
 ghost use Rattle.clap.specs.declared.error.Error.{Error as Refusal};
-ghost use Rattle.mc_driver.specs.Words.{AreNamed, IsFault, IsLimit, IsListOf, IsNoList, NamesNone, asked, events_in, fault_number, mcseg, refusals, sizes_in, told_of};
+ghost use Rattle.mc_driver.specs.Words.{AreAsked, AreNamed, IsFault, IsListOf, IsNoList, NamesNone, asked, fault_number, mcseg, refusals, sizes_in, told_of};
 ghost use Rattle.mc_driver.specs.declared.words.PlanFault.TheVariants as faults;
 ghost use Rattle.mc_driver.specs.declared.words.WordsFault.TheVariants as words_faults;
 
@@ -252,18 +253,15 @@ pub fn plan_for(alloc: Global, sizes: Option<&[u8]>, events: Option<u64>) -> Res
 /// limit of events are out of their range; and `NoMemory` where a growth was refused.
 pub fn read_words(alloc: Global, words: &[&str]) -> Result<Plan, WordsFault>
     ensures config { IfOk result (λ plan. fault_of plan.config ≡ None) }
-    ensures taken { IfOk result (λ plan. refusals (map (λ word. word.now) words.now) ≡ []) }
+    ensures taken { IfOk result (λ plan. refusals (texts words.now) ≡ []) }
     ensures asked { IfOk result (λ plan. (sizes : Option (List ℕ)) × (events : Option ℕ)
-        × AreNamed (sizes_in (map (λ word. word.now) words.now)) sizes × IsLimit (events_in (map (λ word. word.now) words.now)) events
-        × (plan.config ≡ asked sizes events)) }
+        × AreAsked (texts words.now) sizes events × (plan.config ≡ asked sizes events)) }
     ensures upkeep { IfOk result (λ plan. plan.upkeep ≡ []) }
-    ensures words { (error : Refusal) → result ≡ Err (words_faults.Words error) → HasKind (refusals (map (λ word. word.now) words.now)) error }
+    ensures words { (error : Refusal) → result ≡ Err (words_faults.Words error) → HasKind (refusals (texts words.now)) error }
     ensures list { result ≡ Err words_faults.List
-        → (refusals (map (λ word. word.now) words.now) ≡ []) × NamesNone (sizes_in (map (λ word. word.now) words.now)) }
-    ensures configuration { (n : ℕ) → result ≡ Err (words_faults.Configuration n) → (refusals (map (λ word. word.now) words.now) ≡ [])
-        × ((sizes : Option (List ℕ)) × (events : Option ℕ)
-        × AreNamed (sizes_in (map (λ word. word.now) words.now)) sizes × IsLimit (events_in (map (λ word. word.now) words.now)) events
-        × IsFault n (asked sizes events)) }
+        → (refusals (texts words.now) ≡ []) × NamesNone (sizes_in (texts words.now)) }
+    ensures configuration { (n : ℕ) → result ≡ Err (words_faults.Configuration n) → (refusals (texts words.now) ≡ [])
+        × ((sizes : Option (List ℕ)) × (events : Option ℕ) × AreAsked (texts words.now) sizes events × IsFault n (asked sizes events)) }
 {
     let matches = command_of(alloc)?.try_get_matches_from(words)?;
     let sizes = matches.get_str("sizes").map(|text| text.as_bytes());

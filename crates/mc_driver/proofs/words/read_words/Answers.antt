@@ -27,7 +27,7 @@ use Rattle.clap.specs.declared.parser.matches.ArgMatches.{ArgMatches}
 use Rattle.clap.specs.declared.parser.matches.Found.{Found}
 use Rattle.clap.specs.declared.parser.matches.MatchedArg.{MatchedArg}
 use Rattle.mc_item.specs.Measure.{is_digit, number_from, number_of}
-use Rattle.mc_driver.specs.Words.{AreNamed, IsFault, IsLimit, NamesNone, asked, events_in, events_rule, mcseg, number_in, refusals, sizes_in, sizes_rule, told_of}
+use Rattle.mc_driver.specs.Words.{AreNamed, IsLimit, NamesNone, events_in, events_rule, mcseg, number_in, refusals, sizes_in, sizes_rule, told_of}
 use Rattle.mc_driver.specs.declared.words.PlanFault.{PlanFault}
 use Rattle.mc_driver.specs.declared.words.PlanFault.TheVariants as plan_faults
 use Rattle.mc_driver.specs.declared.words.WordsFault.TheVariants as words_faults
@@ -251,7 +251,7 @@ returns-in_err-plan_for-clause-configuration c = λ n is.
     let limit = limit_is ReadsLimit (λ t r g. g.0) _ _ c.in_ok-matches.matches c.get_one-events.result c.in_ok-command_of.ensures c.in_ok-matches.ensures.parsed c.in_ok-matches.ensures.matches c.get_one-events.ensures.none c.get_one-events.ensures.value in
     let fault = told_configuration c.in_err-plan_for.field-0.0 n (err_is _ _ _ c.from_residual-in_err-plan_for.ensures.1 is) in
     let got = c.in_err-plan_for.ensures.configuration n (ap Err fault) in
-    (taken_by _ _ c.in_ok-command_of.ensures c.in_ok-matches.ensures.kinds, (got.0, c.get_one-events.result, subst (λ t. AreNamed t got.0) sizes got.1, limit, got.2))
+    (taken_by _ _ c.in_ok-command_of.ensures c.in_ok-matches.ensures.kinds, (got.0, c.get_one-events.result, (subst (λ t. AreNamed t got.0) sizes got.1, limit), got.2))
 
 pub returns-clause-taken : goal.returns-clause-taken
 returns-clause-taken c = taken_by _ _ c.in_ok-command_of.ensures c.in_ok-matches.ensures.kinds
@@ -262,4 +262,4 @@ returns-clause-asked c =
     let sizes = given ∙ c.get_str.ensures ∙ sizes_are _ _ c.in_ok-matches.matches c.in_ok-command_of.ensures c.in_ok-matches.ensures.matches in
     let limit = limit_is ReadsLimit (λ t r g. g.0) _ _ c.in_ok-matches.matches c.get_one-events.result c.in_ok-command_of.ensures c.in_ok-matches.ensures.parsed c.in_ok-matches.ensures.matches c.get_one-events.ensures.none c.get_one-events.ensures.value in
     let got = c.in_ok-plan_for.ensures.ok in
-    (got.0, c.get_one-events.result, subst (λ t. AreNamed t got.0) sizes got.1, limit, got.2)
+    (got.0, c.get_one-events.result, (subst (λ t. AreNamed t got.0) sizes got.1, limit), got.2)
