@@ -1,16 +1,55 @@
--- The words of the command line: which numbers a list is, and which configuration is asked for (own).
-use Rattle.std.specs.Prelude.{ℕ, ◌≡◌, ◌&&◌, ◌^◌, List, [], ◌∷◌, ◌++◌, Option, Some, None, if◌then◌else◌, length, nat_lt, replicate}
+-- The words of the command line: what it takes, which numbers a list is, and which configuration is asked for (own).
+use Rattle.std.specs.Prelude.{ℕ, ◌≡◌, ◌&&◌, ◌^◌, ◌-◌, List, [], ◌∷◌, ◌++◌, Option, Some, None, if◌then◌else◌, codes, length, nat_lt, replicate, true}
 use Rattle.std.specs.List.{list_all}
+use Rattle.std.specs.Str.Parse.{without_leading_plus}
+use Rattle.clap.specs.Words.{App, Kinds, Rule, Text, first_of, matches_of, new_app, new_rule, one_of, with_rule, fault_of as refusals_of}
+use Rattle.clap.specs.declared.builder.action.ArgAction.TheVariants.{Set}
+use Rattle.clap.specs.declared.builder.value_parser.ValueParser.TheVariants.{Unsigned}
 use Rattle.mc_item.specs.Config.{fault_of, usual_config}
 use Rattle.mc_item.specs.Measure.{is_digit, number_of}
 use Rattle.mc_item.specs.declared.config.Config.{Config}
 use Rattle.mc_item.specs.declared.config.ConfigFault.{ConfigFault}
 use Rattle.mc_item.specs.declared.config.ConfigFault.TheVariants.{Stripes, Sizes, Chunks, Percent, Factor, Callers, Events}
+use Rattle.mc_driver.specs.declared.words.PlanFault.{PlanFault}
+use Rattle.mc_driver.specs.declared.words.PlanFault.TheVariants as plan_faults
+use Rattle.mc_driver.specs.declared.words.WordsFault.{WordsFault}
+use Rattle.mc_driver.specs.declared.words.WordsFault.TheVariants as words_faults
+
+-- the option `--sizes`, which takes one text
+abbrev pub sizes_rule : Rule
+sizes_rule = record (new_rule (codes "sizes")) { long = Some (codes "sizes"); action = Some Set; value_names = 1 }
+
+-- the option `--events`, which takes one number below 2^64
+abbrev pub events_rule : Rule
+events_rule = record (new_rule (codes "events")) { long = Some (codes "events"); action = Some Set; value_names = 1; parser = Some (Unsigned 0 (2 ^ 64 - 1)) }
+
+-- the command `mcseg`: these options and a version
+unfoldable pub mcseg : App
+mcseg = with_rule (with_rule (record { top = record (new_app (codes "mcseg")).top { has_version = true }; subs = [] }) sizes_rule) events_rule
+
+-- the kinds of refusal that the words earn; none where the command takes them
+abbrev pub refusals : List Text → Kinds
+refusals words = refusals_of mcseg words
+
+-- the text that the words give for the sizes
+abbrev pub sizes_in : List Text → Option Text
+sizes_in words = first_of (codes "sizes") (matches_of mcseg words)
+
+-- the text that the words give for the limit of events
+abbrev pub events_in : List Text → Option Text
+events_in words = one_of (codes "events") (matches_of mcseg words)
 
 -- the number that these digits spell: one digit at least, digits alone, and a number below 2^64
 abbrev pub number_in : List ℕ → Option ℕ
 number_in digits =
     if nat_lt 0 (length digits) && list_all is_digit digits && nat_lt (number_of digits) (2 ^ 64) then Some (number_of digits) else None
+
+-- there is a limit where there is a text, and then the text is that number; a plus may stand before its digits
+abbrev pub IsLimit : Option Text → Option ℕ → Type 0
+IsLimit None None = Unit {0}
+IsLimit None (Some n) = ⊥
+IsLimit (Some text) None = ⊥
+IsLimit (Some text) (Some n) = number_in (without_leading_plus text) ≡ Some n
 
 -- the text is these numbers, at least one, with one comma between two
 abbrev pub IsListOf : List ℕ → List ℕ → Type 0
@@ -26,6 +65,10 @@ AreNamed None (Some numbers) = ⊥
 AreNamed (Some text) None = ⊥
 AreNamed (Some text) (Some numbers) = IsListOf text numbers
 
+-- the words ask for these sizes and this limit of events, each where there is one
+abbrev pub AreAsked : List Text → Option (List ℕ) → Option ℕ → Type 0
+AreAsked words sizes events = AreNamed (sizes_in words) sizes × IsLimit (events_in words) events
+
 -- the text is no list of numbers
 abbrev pub IsNoList : List ℕ → Type 0
 IsNoList text = (numbers : List ℕ) → IsListOf text numbers → ⊥
@@ -38,38 +81,12 @@ NamesNone (Some text) = IsNoList text
 -- the configuration with these sizes and 1,024 chunks for each, where sizes are given
 abbrev pub with_sizes : Option (List ℕ) → Config → Config
 with_sizes None config = config
-with_sizes (Some sizes) config =
-    record {
-      stripes = config.stripes;
-      sizes = sizes;
-      chunks = replicate (length sizes) 1024;
-      hot_percent = config.hot_percent;
-      warm_percent = config.warm_percent;
-      hot_factor = config.hot_factor;
-      warm_factor = config.warm_factor;
-      temp = config.temp;
-      temp_ttl = config.temp_ttl;
-      callers = config.callers;
-      max_events = config.max_events;
-    }
+with_sizes (Some sizes) config = record config { sizes = sizes; chunks = replicate (length sizes) 1024 }
 
 -- the configuration with this limit of events, where one is given
 abbrev pub with_events : Option ℕ → Config → Config
 with_events None config = config
-with_events (Some events) config =
-    record {
-      stripes = config.stripes;
-      sizes = config.sizes;
-      chunks = config.chunks;
-      hot_percent = config.hot_percent;
-      warm_percent = config.warm_percent;
-      hot_factor = config.hot_factor;
-      warm_factor = config.warm_factor;
-      temp = config.temp;
-      temp_ttl = config.temp_ttl;
-      callers = config.callers;
-      max_events = events;
-    }
+with_events (Some events) config = record config { max_events = events }
 
 -- the configuration that is asked for: the usual one with 3 callers, with these sizes and this limit of events
 unfoldable pub asked : Option (List ℕ) → Option ℕ → Config
@@ -84,6 +101,12 @@ fault_number Percent = 4
 fault_number Factor = 5
 fault_number Callers = 6
 fault_number Events = 7
+
+-- what is wrong with the words where there is no plan of their options
+abbrev pub told_of : PlanFault → WordsFault
+told_of plan_faults.List = words_faults.List
+told_of (plan_faults.Configuration n) = words_faults.Configuration n
+told_of plan_faults.NoMemory = words_faults.NoMemory
 
 -- the configuration has the fault of this number
 abbrev pub IsFault : ℕ → Config → Type 0

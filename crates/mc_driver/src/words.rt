@@ -2,8 +2,12 @@
 ghost use Rattle.std.specs.Prelude.{◌≡◌, ℕ, List, [], IfOk, Err, Option, None, MatchOption};
 ghost use Rattle.std.specs.Option.{option_copied, option_map};
 ghost use Rattle.mc_item.specs.Config.{fault_of};
-ghost use Rattle.mc_driver.specs.Words.{AreNamed, IsFault, IsListOf, IsNoList, NamesNone, asked, fault_number};
+ghost use Rattle.clap.specs.Walk.{texts};
+ghost use Rattle.clap.specs.Words.{HasKind, app_of};
+ghost use Rattle.clap.specs.declared.error.Error.{Error as Refusal};
+ghost use Rattle.mc_driver.specs.Words.{AreAsked, AreNamed, IsFault, IsListOf, IsNoList, NamesNone, asked, fault_number, mcseg, refusals, sizes_in, told_of};
 ghost use Rattle.mc_driver.specs.declared.words.PlanFault.TheVariants as faults;
+ghost use Rattle.mc_driver.specs.declared.words.WordsFault.TheVariants as words_faults;
 
 use crate::help::{ABOUT, AFTER, VERSION};
 use clap::{Arg, ArgAction, Command, Error};
@@ -51,18 +55,24 @@ pub enum WordsFault {
 }
 
 impl From<AllocError> for WordsFault {
+    ghost from_gives = { λ _ e. e ≡ words_faults.NoMemory };
+
     fn from(_e: AllocError) -> WordsFault {
         WordsFault::NoMemory
     }
 }
 
 impl From<Error> for WordsFault {
+    ghost from_gives = { λ error e. e ≡ words_faults.Words error };
+
     fn from(error: Error) -> WordsFault {
         WordsFault::Words(error)
     }
 }
 
 impl From<PlanFault> for WordsFault {
+    ghost from_gives = { λ fault e. e ≡ told_of fault };
+
     fn from(fault: PlanFault) -> WordsFault {
         match fault {
             PlanFault::List => WordsFault::List,
@@ -123,7 +133,9 @@ fn number_of(fault: ConfigFault) -> u8
 }
 
 // What the command line may have.
-fn command_of<'a>(alloc: Global) -> Result<Command<'a>, AllocError> {
+fn command_of<'a>(alloc: Global) -> Result<Command<'a>, AllocError>
+    ensures { IfOk result (λ command. app_of command ≡ mcseg) }
+{
     let sizes = Arg::new(alloc, "sizes")
         .long("sizes")
         .action(ArgAction::Set)
@@ -235,10 +247,21 @@ pub fn plan_for(alloc: Global, sizes: Option<&[u8]>, events: Option<u64>) -> Res
 
 /// The plan that the words ask for, of which the first is the program's name: the usual configuration with the sizes
 /// and the limit of events that they name. A bad list comes before a bad configuration.
+///
+/// The error is `Words` where the command line's reader refuses the words or has its help or version to show, or where
+/// it lacks memory; else `List` where the text of the sizes is no list; else `Configuration` where the sizes or the
+/// limit of events are out of their range; and `NoMemory` where a growth was refused.
 pub fn read_words(alloc: Global, words: &[&str]) -> Result<Plan, WordsFault>
     ensures config { IfOk result (λ plan. fault_of plan.config ≡ None) }
-    ensures asked { IfOk result (λ plan. (sizes : Option (List ℕ)) × (events : Option ℕ) × (plan.config ≡ asked sizes events)) }
+    ensures taken { IfOk result (λ plan. refusals (texts words.now) ≡ []) }
+    ensures asked { IfOk result (λ plan. (sizes : Option (List ℕ)) × (events : Option ℕ)
+        × AreAsked (texts words.now) sizes events × (plan.config ≡ asked sizes events)) }
     ensures upkeep { IfOk result (λ plan. plan.upkeep ≡ []) }
+    ensures words { (error : Refusal) → result ≡ Err (words_faults.Words error) → HasKind (refusals (texts words.now)) error }
+    ensures list { result ≡ Err words_faults.List
+        → (refusals (texts words.now) ≡ []) × NamesNone (sizes_in (texts words.now)) }
+    ensures configuration { (n : ℕ) → result ≡ Err (words_faults.Configuration n) → (refusals (texts words.now) ≡ [])
+        × ((sizes : Option (List ℕ)) × (events : Option ℕ) × AreAsked (texts words.now) sizes events × IsFault n (asked sizes events)) }
 {
     let matches = command_of(alloc)?.try_get_matches_from(words)?;
     let sizes = matches.get_str("sizes").map(|text| text.as_bytes());
