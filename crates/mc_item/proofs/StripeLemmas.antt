@@ -3,19 +3,19 @@ use Rattle.std.proofs.Common.{◌≡◌, ◌+◌, ◌≤◌, ℕ, List, [], ◌�
 use Rattle.std.specs.Prelude.{Option}
 use Rattle.mc_item.specs.Answer.{Row}
 use Rattle.mc_item.specs.Cache.{Cache, empty_cache, after_change, versions_of}
-use Rattle.mc_item.specs.Stripe.{after, cache_from, cache_of, IsLegalFrom, IsLegal, MayHappen}
+use Rattle.mc_item.specs.Stripe.{cache_after, cache_from, cache_of, IsLegalFrom, IsLegal, MayHappen}
 use Rattle.mc_item.specs.declared.answer.Change.{Change}
 use Rattle.mc_item.specs.declared.answer.Change.TheVariants.{Stays, Goes, Hit, Touched, Counted, Renewed}
 use Rattle.mc_item.specs.declared.answer.Site.{Site}
 use Rattle.mc_item.specs.declared.stripe_event.StripeEvent.{StripeEvent}
 
 -- one event more is applied last
-pub cache_from-push : (site : Site) (cache : Cache) (es : List StripeEvent) (e : StripeEvent) → cache_from site cache (es ++ e ∷ []) ≡ after site (cache_from site cache es) e
+pub cache_from-push : (site : Site) (cache : Cache) (es : List StripeEvent) (e : StripeEvent) → cache_from site cache (es ++ e ∷ []) ≡ cache_after site (cache_from site cache es) e
 cache_from-push site cache [] e = refl
-cache_from-push site cache (x ∷ es) e = cache_from-push site (after site cache x) es e
+cache_from-push site cache (x ∷ es) e = cache_from-push site (cache_after site cache x) es e
 
 -- the cache of a history with one event more
-pub cache_of-push : (site : Site) (es : List StripeEvent) (e : StripeEvent) → cache_of site (es ++ e ∷ []) ≡ after site (cache_of site es) e
+pub cache_of-push : (site : Site) (es : List StripeEvent) (e : StripeEvent) → cache_of site (es ++ e ∷ []) ≡ cache_after site (cache_of site es) e
 cache_of-push site es e = cache_from-push site empty_cache es e
 
 -- an event that may happen keeps events legal
@@ -24,8 +24,8 @@ pub IsLegalFrom-push : (site : Site) (cache : Cache) (before es : List StripeEve
 IsLegalFrom-push site cache before [] e legal may =
     (subst (λ (b : List StripeEvent). MayHappen site cache b e) (append-nil before) may, tt)
 IsLegalFrom-push site cache before (x ∷ es) e legal may =
-    let here = subst (λ (b : List StripeEvent). MayHappen site (cache_from site (after site cache x) es) b e) (sym (append_assoc before (x ∷ []) es)) may in
-    (legal.0, IsLegalFrom-push site (after site cache x) (before ++ x ∷ []) es e legal.1 here)
+    let here = subst (λ (b : List StripeEvent). MayHappen site (cache_from site (cache_after site cache x) es) b e) (sym (append_assoc before (x ∷ []) es)) may in
+    (legal.0, IsLegalFrom-push site (cache_after site cache x) (before ++ x ∷ []) es e legal.1 here)
 
 -- an event that may happen keeps a history legal
 pub IsLegal-push : (site : Site) (es : List StripeEvent) (e : StripeEvent) → IsLegal site es → MayHappen site (cache_of site es) es e → IsLegal site (es ++ e ∷ [])

@@ -8,6 +8,3 @@ pub mod Answer
 pub mod Cache
 pub mod Stripe
 pub mod Counts
-pub mod Lists
-pub mod Segment
-pub mod Lawful

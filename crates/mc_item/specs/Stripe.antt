@@ -87,20 +87,20 @@ cooled_change None = Stays
 cooled_change (Some item) = Hit (record { fetched = item.marks.fetched; active = false })
 
 -- the cache after an event
-abbrev pub after : Site → Cache → StripeEvent → Cache
-after site cache (events.Did did) = after_command site cache did.command did.moment did.room
-after site cache (events.Lost lost) = after_change cache lost.key Goes
-after site cache (events.Cooled cooled) = after_change cache cooled.key (cooled_change (cache.items cooled.key))
+abbrev pub cache_after : Site → Cache → StripeEvent → Cache
+cache_after site cache (events.Did did) = after_command site cache did.command did.moment did.room
+cache_after site cache (events.Lost lost) = after_change cache lost.key Goes
+cache_after site cache (events.Cooled cooled) = after_change cache cooled.key (cooled_change (cache.items cooled.key))
 
 -- one step of the sequential cache, from an old cache to a new one, after the events `before`
 pub record Steps (site : Site) (before : List StripeEvent) (old : Cache) (event : StripeEvent) (new : Cache) : Type 0 where
   pub may : MayHappen site old before event
-  pub leaves : new ≡ after site old event
+  pub leaves : new ≡ cache_after site old event
 
 -- the cache that events leave of one
 abbrev pub cache_from : Site → Cache → List StripeEvent → Cache
 cache_from site cache [] = cache
-cache_from site cache (e ∷ es) = cache_from site (after site cache e) es
+cache_from site cache (e ∷ es) = cache_from site (cache_after site cache e) es
 
 -- the cache that a history leaves of the empty one
 abbrev pub cache_of : Site → List StripeEvent → Cache
@@ -109,7 +109,7 @@ cache_of site history = cache_from site empty_cache history
 -- each of these events may happen to the cache that those before it left
 abbrev pub IsLegalFrom : Site → Cache → List StripeEvent → List StripeEvent → Type 0
 IsLegalFrom site cache before [] = Unit {0}
-IsLegalFrom site cache before (e ∷ es) = MayHappen site cache before e × IsLegalFrom site (after site cache e) (before ++ e ∷ []) es
+IsLegalFrom site cache before (e ∷ es) = MayHappen site cache before e × IsLegalFrom site (cache_after site cache e) (before ++ e ∷ []) es
 
 -- a legal history: a chain of steps from the empty cache
 abbrev pub IsLegal : Site → List StripeEvent → Type 0

@@ -9,7 +9,7 @@ use Rattle.mc_item.specs.Command.{key_of}
 use Rattle.mc_item.specs.Item.{has_come, expiry_of}
 use Rattle.mc_laws.specs.Events.{key_named, AreOfOthers}
 use Rattle.mc_item.specs.Measure.{class_of, cost_of}
-use Rattle.mc_item.specs.Stripe.{after, cache_from, cache_of, IsLegalFrom, IsLegal, IsDead, cooled_change}
+use Rattle.mc_item.specs.Stripe.{cache_after, cache_from, cache_of, IsLegalFrom, IsLegal, IsDead, cooled_change}
 use Rattle.mc_item.specs.declared.answer.Change.{Change}
 use Rattle.mc_item.specs.declared.answer.Change.TheVariants.{Goes}
 use Rattle.mc_item.specs.declared.answer.Site.{Site}
@@ -76,7 +76,7 @@ forgets cache key q m n dead le = by (pointwise nat_eq key q) refl
 -- ---- what was set is read
 
 -- an event leaves the items of other keys
-pub after_elsewhere : (site : Site) (cache : Cache) (e : StripeEvent) (q : List ℕ) → (key_named e ≢ q) → (after site cache e).items q ≡ cache.items q
+pub after_elsewhere : (site : Site) (cache : Cache) (e : StripeEvent) (q : List ℕ) → (key_named e ≢ q) → (cache_after site cache e).items q ≡ cache.items q
 after_elsewhere site cache (events.Did did) q apart =
     change_elsewhere cache (key_of did.command) q (answer_of site cache did.command did.moment did.room).change apart
 after_elsewhere site cache (events.Lost lost) q apart = change_elsewhere cache lost.key q Goes apart
@@ -87,7 +87,7 @@ after_elsewhere site cache (events.Cooled cooled) q apart =
 pub stays_meanwhile : (site : Site) (cache : Cache) (key : List ℕ) (es : List StripeEvent) → AreOfOthers key es → (cache_from site cache es).items key ≡ cache.items key
 stays_meanwhile site cache key [] others = refl
 stays_meanwhile site cache key (e ∷ es) others =
-    stays_meanwhile site (after site cache e) key es others.1 ∙ after_elsewhere site cache e key others.0
+    stays_meanwhile site (cache_after site cache e) key es others.1 ∙ after_elsewhere site cache e key others.0
 
 -- the later events are legal from where the earlier ones lead
 pub legal_on : (site : Site) (cache : Cache) (before es rest : List StripeEvent) → IsLegalFrom site cache before (es ++ rest)
@@ -95,8 +95,8 @@ pub legal_on : (site : Site) (cache : Cache) (before es rest : List StripeEvent)
 legal_on site cache before [] rest legal =
     subst (λ (b : List StripeEvent). IsLegalFrom site cache b rest) (sym (append-nil before)) legal
 legal_on site cache before (e ∷ es) rest legal =
-    subst (λ (b : List StripeEvent). IsLegalFrom site (cache_from site (after site cache e) es) b rest) (append_assoc before (e ∷ []) es)
-    (legal_on site (after site cache e) (before ++ e ∷ []) es rest legal.1)
+    subst (λ (b : List StripeEvent). IsLegalFrom site (cache_from site (cache_after site cache e) es) b rest) (append_assoc before (e ∷ []) es)
+    (legal_on site (cache_after site cache e) (before ++ e ∷ []) es rest legal.1)
 
 -- a set that was answered Stored left its new version
 pub set_leaves : (class : Option ClassNo) (found : Option Item) (version : Link → Item) (room : Room)
@@ -117,11 +117,11 @@ read_back site before between set got key flags exptime value is_set stored othe
     let stored_row : ((store_row (class_of site.sizes (cost_of key value)) Set ((cache_of site before).items key) (version_of site (cache_of site before).versions flags value (expiry_of exptime set.moment))).answer set.room).reply ≡ replies.Stored =
     ap (λ (c : Command). (answer_of site (cache_of site before) c set.moment set.room).reply) (sym is_set) ∙ sym first.0.reply ∙ stored in
     let left = set_leaves (class_of site.sizes (cost_of key value)) ((cache_of site before).items key) (version_of site (cache_of site before).versions flags value (expiry_of exptime set.moment)) set.room stored_row in
-    let there : (after site (cache_of site before) (events.Did set)).items key ≡ Some (version_of site (cache_of site before).versions flags value (expiry_of exptime set.moment) left.0) =
+    let there : (cache_after site (cache_of site before) (events.Did set)).items key ≡ Some (version_of site (cache_of site before).versions flags value (expiry_of exptime set.moment) left.0) =
     ap (λ (c : Command). (after_command site (cache_of site before) c set.moment set.room).items key) is_set
     ∙ change_here (cache_of site before) key (answer_of site (cache_of site before) (Store Set key flags exptime value) set.moment set.room).change
     ∙ left.1 in
-    let last = legal_on site (after site (cache_of site before) (events.Did set)) (before ++ events.Did set ∷ []) between (events.Did got ∷ []) first.1 in
+    let last = legal_on site (cache_after site (cache_of site before) (events.Did set)) (before ++ events.Did set ∷ []) between (events.Did got ∷ []) first.1 in
     last.0.reply
-    ∙ ap (λ (c : Command). (answer_of site (cache_from site (after site (cache_of site before) (events.Did set)) between) c got.moment got.room).reply) is_get
-    ∙ ap (λ (found : Option Item). ((get_row found).answer got.room).reply) (stays_meanwhile site (after site (cache_of site before) (events.Did set)) key between others ∙ there)
+    ∙ ap (λ (c : Command). (answer_of site (cache_from site (cache_after site (cache_of site before) (events.Did set)) between) c got.moment got.room).reply) is_get
+    ∙ ap (λ (found : Option Item). ((get_row found).answer got.room).reply) (stays_meanwhile site (cache_after site (cache_of site before) (events.Did set)) key between others ∙ there)

@@ -11,7 +11,7 @@ use Rattle.mc_item.specs.Cache.{Cache, empty_cache, changed, after_change, answe
 use Rattle.mc_item.specs.Command.{key_of}
 use Rattle.mc_item.specs.Item.{is_dead, no_marks, expiry_of}
 use Rattle.mc_item.specs.Measure.{class_of, cost_of, numeral_of}
-use Rattle.mc_item.specs.Stripe.{after, cache_from, cache_of, IsLegal, IsAlive, IsDead, cooled_change}
+use Rattle.mc_item.specs.Stripe.{cache_after, cache_from, cache_of, IsLegal, IsAlive, IsDead, cooled_change}
 use Rattle.mc_item.specs.declared.answer.Change.{Change}
 use Rattle.mc_item.specs.declared.answer.Change.TheVariants.{Stays, Goes, Hit, Touched, Counted, Renewed}
 use Rattle.mc_item.specs.declared.answer.Need.{Need}
@@ -48,7 +48,7 @@ by_key P cache key q change here elsewhere = by (pointwise nat_eq key q) refl
 pub cache_from-append : (site : Site) (cache : Cache) (es rest : List StripeEvent)
     → cache_from site cache (es ++ rest) ≡ cache_from site (cache_from site cache es) rest
 cache_from-append site cache [] rest = refl
-cache_from-append site cache (e ∷ es) rest = cache_from-append site (after site cache e) es rest
+cache_from-append site cache (e ∷ es) rest = cache_from-append site (cache_after site cache e) es rest
 
 -- ---- the dead
 
@@ -71,13 +71,13 @@ stays_dead : (site : Site) (cache : Cache) (key : List ℕ) (moment : ℕ) (es :
     → IsDeadOrGone (cache.items key) moment → IsDeadOrGone ((cache_from site cache es).items key) moment
 stays_dead site cache key moment [] none dead = dead
 stays_dead site cache key moment (events.Did did ∷ es) none dead =
-    stays_dead site (after site cache (events.Did did)) key moment es none.1
+    stays_dead site (cache_after site cache (events.Did did)) key moment es none.1
     (subst (λ (found : Option Item). IsDeadOrGone found moment) (sym (after_elsewhere site cache (events.Did did) key none.0)) dead)
 stays_dead site cache key moment (events.Lost lost ∷ es) none dead =
-    stays_dead site (after site cache (events.Lost lost)) key moment es none
+    stays_dead site (cache_after site cache (events.Lost lost)) key moment es none
     (by_key (λ (found : Option Item). IsDeadOrGone found moment) cache lost.key key Goes (λ same. tt) (λ apart. dead))
 stays_dead site cache key moment (events.Cooled cooled ∷ es) none dead =
-    stays_dead site (after site cache (events.Cooled cooled)) key moment es none
+    stays_dead site (cache_after site cache (events.Cooled cooled)) key moment es none
     (by_key (λ (found : Option Item). IsDeadOrGone found moment) cache cooled.key key (cooled_change (cache.items cooled.key))
     (λ same. cooled_stays_dead (cache.items cooled.key) moment (subst (λ (k : List ℕ). IsDeadOrGone (cache.items k) moment) (sym same) dead))
     (λ apart. dead))
@@ -237,7 +237,7 @@ cooled_adds_none None = refl
 cooled_adds_none (Some item) = refl
 
 -- an event keeps caches alike
-alike_after : (site : Site) (cache other : Cache) (e : StripeEvent) → Alike cache other → Alike (after site cache e) (after site other e)
+alike_after : (site : Site) (cache other : Cache) (e : StripeEvent) → Alike cache other → Alike (cache_after site cache e) (cache_after site other e)
 alike_after site cache other (events.Did did) alike =
     let same = alike_shows site cache other did.command did.moment did.room alike in
     let left = answer_of site cache did.command did.moment did.room in
@@ -252,10 +252,10 @@ alike_after site cache other (events.Cooled cooled) alike =
 -- so do events
 alike_from : (site : Site) (cache other : Cache) (es : List StripeEvent) → Alike cache other → Alike (cache_from site cache es) (cache_from site other es)
 alike_from site cache other [] alike = alike
-alike_from site cache other (e ∷ es) alike = alike_from site (after site cache e) (after site other e) es (alike_after site cache other e alike)
+alike_from site cache other (e ∷ es) alike = alike_from site (cache_after site cache e) (cache_after site other e) es (alike_after site cache other e alike)
 
 -- a cooled cache is alike the one that it was
-cooled_alike : (site : Site) (cache : Cache) (cooled : Cooled) → Alike (after site cache (events.Cooled cooled)) cache
+cooled_alike : (site : Site) (cache : Cache) (cooled : Cooled) → Alike (cache_after site cache (events.Cooled cooled)) cache
 cooled_alike site cache cooled = record {
   versions = ap (λ (n : ℕ). cache.versions + n) (cooled_adds_none (cache.items cooled.key)) ∙ add-zero cache.versions;
   items = λ q.
@@ -267,12 +267,12 @@ cooled_alike site cache cooled = record {
 -- cooling changes no later reply, and nothing that a later command needs
 pub cooling_unseen : (site : Site) (cache : Cache) (cooled : Cooled) (later : List StripeEvent) (command : Command) (moment : ℕ) (room : Room)
     → let warm = cache_from site cache later in
-    let cool = cache_from site (after site cache (events.Cooled cooled)) later in
+    let cool = cache_from site (cache_after site cache (events.Cooled cooled)) later in
     ((answer_of site cool command moment room).reply ≡ (answer_of site warm command moment room).reply)
     × ((row_of site cool.versions (cool.items (key_of command)) command moment).need
     ≡ (row_of site warm.versions (warm.items (key_of command)) command moment).need)
 cooling_unseen site cache cooled later command moment room =
-    let cold = after site cache (events.Cooled cooled) in
+    let cold = cache_after site cache (events.Cooled cooled) in
     let alike = alike_from site cold cache later (cooled_alike site cache cooled) in
     let same = alike_shows site (cache_from site cold later) (cache_from site cache later) command moment room alike in
     (ap (λ (s : Shown). s.reply) same, ap (λ (s : Shown). s.need) same)

@@ -11,7 +11,7 @@ use Rattle.mc_item.proofs.NumberLemmas.{length-decimal_few}
 use Rattle.mc_item.specs.Answer.{Row, plain, grown_row, number_row, count_row, version_of, cas_of, padded, stepped}
 use Rattle.mc_item.specs.Cache.{empty_cache, changed, counted, after_command, answer_of}
 use Rattle.mc_item.specs.Measure.{is_digit, number_from, number_of, digits_of, numeral_of, cost_of, class_of}
-use Rattle.mc_item.specs.Stripe.{after, cache_from, cache_of, IsLegal}
+use Rattle.mc_item.specs.Stripe.{cache_after, cache_from, cache_of, IsLegal}
 use Rattle.mc_item.specs.declared.answer.Change.TheVariants as changes
 use Rattle.mc_item.specs.declared.answer.Need.TheVariants as needs
 use Rattle.mc_item.specs.declared.answer.Site.{Site}
@@ -214,7 +214,7 @@ pub down_again : (site : Site) (before between : List StripeEvent) (up down : Di
     → (told ≡ number + delta) × (down.reply ≡ replies.Number number)
 down_again site before between up down key number delta told was small is_incr answered others is_decr legal =
     let cache = cache_of site before in
-    let raised = after site cache (events.Did up) in
+    let raised = cache_after site cache (events.Did up) in
     let later = cache_from site raised between in
     let first = legal_on site empty_cache [] before (events.Did up ∷ (between ++ events.Did down ∷ [])) legal in
     let row = count_row site cache.versions key (stepped (Up delta)) (cache.items key) in

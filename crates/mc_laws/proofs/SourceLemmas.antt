@@ -11,7 +11,7 @@ use Rattle.mc_item.specs.Cache.{Cache, empty_cache, changed, answer_of}
 use Rattle.mc_item.specs.Command.{key_of}
 use Rattle.mc_item.specs.Item.{expiry_of}
 use Rattle.mc_item.specs.Measure.{class_of, cost_of, numeral_of}
-use Rattle.mc_item.specs.Stripe.{after, cache_from, cache_of, IsLegalFrom, IsLegal, cooled_change}
+use Rattle.mc_item.specs.Stripe.{cache_after, cache_from, cache_of, IsLegalFrom, IsLegal, cooled_change}
 use Rattle.mc_item.specs.declared.answer.Answer.{Answer}
 use Rattle.mc_item.specs.declared.answer.Change.TheVariants.{Stays, Goes, Counted}
 use Rattle.mc_item.specs.declared.answer.Need.TheVariants as needs
@@ -39,7 +39,7 @@ use Rattle.mc_item.specs.declared.stripe_event.StripeEvent.TheVariants as events
 -- the earlier ones of legal events are legal
 legal_before : (site : Site) (cache : Cache) (past es rest : List StripeEvent) → IsLegalFrom site cache past (es ++ rest) → IsLegalFrom site cache past es
 legal_before site cache past [] rest legal = tt
-legal_before site cache past (e ∷ es) rest legal = (legal.0, legal_before site (after site cache e) (past ++ e ∷ []) es rest legal.1)
+legal_before site cache past (e ∷ es) rest legal = (legal.0, legal_before site (cache_after site cache e) (past ++ e ∷ []) es rest legal.1)
 
 -- one version's flags, value and cas number
 module _ (site : Site) (flags : ℕ) (value : List ℕ) (cas : ℕ) where
@@ -176,19 +176,19 @@ module _ (site : Site) (flags : ℕ) (value : List ℕ) (cas : ℕ) where
 
     -- so it is with what any command leaves under the key
     did_was : (cache : Cache) (did : Did) → did.reply ≡ (answer_of site cache did.command did.moment did.room).reply
-        → IsThere ((after site cache (events.Did did)).items key) → WasOrWrote cache did
+        → IsThere ((cache_after site cache (events.Did did)).items key) → WasOrWrote cache did
     did_was cache did is =
         by_key (λ (found : Option Item). IsThere found → WasOrWrote cache did) cache (key_of did.command) key
         (answer_of site cache did.command did.moment did.room).change (did_here cache did is) (λ apart there. inl there)
 
     -- what a lost item leaves under the key was there before
-    lost_was : (cache : Cache) (lost : Lost) → IsThere ((after site cache (events.Lost lost)).items key) → IsThere (cache.items key)
+    lost_was : (cache : Cache) (lost : Lost) → IsThere ((cache_after site cache (events.Lost lost)).items key) → IsThere (cache.items key)
     lost_was cache lost =
         by_key (λ (found : Option Item). IsThere found → IsThere (cache.items key)) cache lost.key key Goes
         (λ same there. absurd there) (λ apart there. there)
 
     -- so was what cooling leaves
-    cooling_was : (cache : Cache) (cooled : Cooled) → IsThere ((after site cache (events.Cooled cooled)).items key) → IsThere (cache.items key)
+    cooling_was : (cache : Cache) (cooled : Cooled) → IsThere ((cache_after site cache (events.Cooled cooled)).items key) → IsThere (cache.items key)
     cooling_was cache cooled =
         by_key (λ (found : Option Item). IsThere found → IsThere (cache.items key)) cache cooled.key key (cooled_change (cache.items cooled.key))
         (λ same there. subst (λ (k : List ℕ). IsThere (cache.items k)) same (cooled_was (cache.items cooled.key) there))
@@ -202,7 +202,7 @@ module _ (site : Site) (flags : ℕ) (value : List ℕ) (cas : ℕ) where
         × HoldsThroughout site (cache_from site cache (earlier ++ events.Did wrote ∷ [])) later key flags value cas
 
     -- so it is with an event before them
-    sooner : (cache : Cache) (e : StripeEvent) (es : List StripeEvent) → WrittenAmong (after site cache e) es → WrittenAmong cache (e ∷ es)
+    sooner : (cache : Cache) (e : StripeEvent) (es : List StripeEvent) → WrittenAmong (cache_after site cache e) es → WrittenAmong cache (e ∷ es)
     sooner cache e es among = (e ∷ among.0, among.1, among.2, ap (λ (l : List StripeEvent). e ∷ l) among.3, among.4, among.5, among.6)
 
     -- the key held the version throughout events after a cache, or it was written among them
@@ -211,29 +211,29 @@ module _ (site : Site) (flags : ℕ) (value : List ℕ) (cas : ℕ) where
 
     -- so it is with an event before them, where what it leaves was there or is written
     traced_did : (cache : Cache) (did : Did) (es : List StripeEvent) → did.reply ≡ (answer_of site cache did.command did.moment did.room).reply
-        → Traced (after site cache (events.Did did)) es → Traced cache (events.Did did ∷ es)
+        → Traced (cache_after site cache (events.Did did)) es → Traced cache (events.Did did ∷ es)
     traced_did cache did es is (inl throughout) =
         ⊎_elim (λ old. inl (old, throughout)) (λ new. inr ([], es, did, refl, new.0, new.1, throughout))
-        (did_was cache did is (there_at_first (after site cache (events.Did did)) es key throughout))
+        (did_was cache did is (there_at_first (cache_after site cache (events.Did did)) es key throughout))
     traced_did cache did es is (inr among) = inr (sooner cache (events.Did did) es among)
 
     -- so it is with an event before them that leaves only what was there
-    traced_back : (cache : Cache) (e : StripeEvent) (es : List StripeEvent) → (IsThere ((after site cache e).items key) → IsThere (cache.items key))
-        → Traced (after site cache e) es → Traced cache (e ∷ es)
-    traced_back cache e es was (inl throughout) = inl (was (there_at_first (after site cache e) es key throughout), throughout)
+    traced_back : (cache : Cache) (e : StripeEvent) (es : List StripeEvent) → (IsThere ((cache_after site cache e).items key) → IsThere (cache.items key))
+        → Traced (cache_after site cache e) es → Traced cache (e ∷ es)
+    traced_back cache e es was (inl throughout) = inl (was (there_at_first (cache_after site cache e) es key throughout), throughout)
     traced_back cache e es was (inr among) = inr (sooner cache e es among)
 
     -- a version that the key holds after legal events it held throughout them, or it was written among them
     traced : (cache : Cache) (past es : List StripeEvent) → IsLegalFrom site cache past es → IsThere ((cache_from site cache es).items key) → Traced cache es
     traced cache past [] legal there = inl there
     traced cache past (events.Did did ∷ es) legal there =
-        traced_did cache did es legal.0.reply (traced (after site cache (events.Did did)) (past ++ events.Did did ∷ []) es legal.1 there)
+        traced_did cache did es legal.0.reply (traced (cache_after site cache (events.Did did)) (past ++ events.Did did ∷ []) es legal.1 there)
     traced cache past (events.Lost lost ∷ es) legal there =
         traced_back cache (events.Lost lost) es (lost_was cache lost)
-        (traced (after site cache (events.Lost lost)) (past ++ events.Lost lost ∷ []) es legal.1 there)
+        (traced (cache_after site cache (events.Lost lost)) (past ++ events.Lost lost ∷ []) es legal.1 there)
     traced cache past (events.Cooled cooled ∷ es) legal there =
         traced_back cache (events.Cooled cooled) es (cooling_was cache cooled)
-        (traced (after site cache (events.Cooled cooled)) (past ++ events.Cooled cooled ∷ []) es legal.1 there)
+        (traced (cache_after site cache (events.Cooled cooled)) (past ++ events.Cooled cooled ∷ []) es legal.1 there)
 
     -- a value that a get answers was written before by a command of its key, and from then on the key held that version
     pub written_before : (before : List StripeEvent) (got : Did) → got.command ≡ Get key → got.reply ≡ replies.Value flags value cas

@@ -8,7 +8,7 @@ use Rattle.mc_item.specs.Cache.{Cache, empty_cache, changed, versions_of, after_
 use Rattle.mc_item.specs.Command.{key_of}
 use Rattle.mc_item.specs.Item.{expiry_of}
 use Rattle.mc_item.specs.Measure.{class_of, cost_of, numeral_of}
-use Rattle.mc_item.specs.Stripe.{after, cache_from, cache_of, cooled_change, IsLegal, MayDo}
+use Rattle.mc_item.specs.Stripe.{cache_after, cache_from, cache_of, cooled_change, IsLegal, MayDo}
 use Rattle.mc_item.specs.declared.answer.Answer.{Answer}
 use Rattle.mc_item.specs.declared.answer.Change.{Change}
 use Rattle.mc_item.specs.declared.answer.Change.TheVariants.{Stays, Goes, Hit, Touched, Counted, Renewed}
@@ -164,7 +164,7 @@ given_adds_one (Renewed item) cas is = refl
 
 -- an event that gives a number gives the next one, and makes one version
 made_is_next : (site : Site) (cache : Cache) (e : StripeEvent) (cas : ℕ) → number_made site cache e ≡ Some cas
-    → (cas ≡ cas_of site cache.versions) × ((after site cache e).versions ≡ cache.versions + 1)
+    → (cas ≡ cas_of site cache.versions) × ((cache_after site cache e).versions ≡ cache.versions + 1)
 made_is_next site cache (events.Did did) cas is =
     let change = (answer_of site cache did.command did.moment did.room).change in
     let next = row_gives site cache.versions (cache.items (key_of did.command)) did.command did.moment did.room in
@@ -173,7 +173,7 @@ made_is_next site cache (events.Lost lost) cas is = absurd cc
 made_is_next site cache (events.Cooled cooled) cas is = absurd cc
 
 -- an event takes no version back
-versions_grow : (site : Site) (cache : Cache) (e : StripeEvent) → cache.versions ≤ (after site cache e).versions
+versions_grow : (site : Site) (cache : Cache) (e : StripeEvent) → cache.versions ≤ (cache_after site cache e).versions
 versions_grow site cache (events.Did did) = omega arith
 versions_grow site cache (events.Lost lost) = omega arith
 versions_grow site cache (events.Cooled cooled) = omega arith
@@ -181,12 +181,12 @@ versions_grow site cache (events.Cooled cooled) = omega arith
 -- nor do events
 versions_go_on : (site : Site) (cache : Cache) (es : List StripeEvent) → cache.versions ≤ (cache_from site cache es).versions
 versions_go_on site cache [] = omega arith
-versions_go_on site cache (e ∷ es) = omega (arith, versions_grow site cache e, versions_go_on site (after site cache e) es)
+versions_go_on site cache (e ∷ es) = omega (arith, versions_grow site cache e, versions_go_on site (cache_after site cache e) es)
 
 -- events lead on from where the ones before them led
 run_on : (site : Site) (cache : Cache) (es rest : List StripeEvent) → cache_from site cache (es ++ rest) ≡ cache_from site (cache_from site cache es) rest
 run_on site cache [] rest = refl
-run_on site cache (e ∷ es) rest = run_on site (after site cache e) es rest
+run_on site cache (e ∷ es) rest = run_on site (cache_after site cache e) es rest
 
 -- of two new versions the later one has the larger number
 pub numbers_rise : (site : Site) (before between : List StripeEvent) (first second : StripeEvent) (low high : ℕ) → 0 < site.stripes
@@ -195,7 +195,7 @@ pub numbers_rise : (site : Site) (before between : List StripeEvent) (first seco
     → low < high
 numbers_rise site before between first second low high some is_low is_high =
     let early = cache_of site before in
-    let next = after site early first in
+    let next = cache_after site early first in
     let late = cache_from site next between in
     let lower = made_is_next site early first low is_low in
     let higher = made_is_next site late second high
@@ -238,9 +238,9 @@ key_keeps site cache key change q flags value cas next = by (pointwise nat_eq ke
 
 -- the same of an event
 event_keeps : (site : Site) (cache : Cache) (e : StripeEvent) (q : List ℕ) (flags : ℕ) (value : List ℕ) (cas : ℕ)
-    → Holds ((after site cache e).items q) flags value cas
+    → Holds ((cache_after site cache e).items q) flags value cas
     → Holds (cache.items q) flags value cas
-    ⊎ ((cas ≡ cas_of site cache.versions) × ((after site cache e).versions ≡ cache.versions + 1) × (key_named e ≡ q))
+    ⊎ ((cas ≡ cas_of site cache.versions) × ((cache_after site cache e).versions ≡ cache.versions + 1) × (key_named e ≡ q))
 event_keeps site cache (events.Did did) q flags value cas =
     key_keeps site cache (key_of did.command) (answer_of site cache did.command did.moment did.room).change q flags value cas
     (row_gives site cache.versions (cache.items (key_of did.command)) did.command did.moment did.room)
@@ -250,7 +250,7 @@ event_keeps site cache (events.Cooled cooled) q flags value cas =
 
 -- an item whose number isn't new was there before the event
 held_before : (site : Site) (cache : Cache) (e : StripeEvent) (key : List ℕ) (flags : ℕ) (value : List ℕ) (cas : ℕ)
-    → cas < cas_of site cache.versions → Holds ((after site cache e).items key) flags value cas → Holds (cache.items key) flags value cas
+    → cas < cas_of site cache.versions → Holds ((cache_after site cache e).items key) flags value cas → Holds (cache.items key) flags value cas
 held_before site cache e key flags value cas below held = elim (event_keeps site cache e key flags value cas held) [
   | inl old ↦ old
   | inr new ↦ absurd (omega (arith, new.0))
@@ -267,7 +267,7 @@ held_throughout : (site : Site) (cache : Cache) (es : List StripeEvent) (key : L
     → cas < cas_of site cache.versions → Holds ((cache_from site cache es).items key) flags value cas → HoldsThroughout site cache es key flags value cas
 held_throughout site cache [] key flags value cas below held = held
 held_throughout site cache (e ∷ es) key flags value cas below held =
-    let next = after site cache e in
+    let next = cache_after site cache e in
     let later = held_throughout site next es key flags value cas
     (omega (arith, cas_grows site cache.versions next.versions (versions_grow site cache e))) held in
     (held_before site cache e key flags value cas below (held_first site next es key flags value cas later), later)
@@ -281,18 +281,18 @@ record IsNumbered (site : Site) (cache : Cache) : Type 0 where
       → Holds (cache.items key) flags value cas → Holds (cache.items other) other_flags other_value cas → key ≡ other
 
 -- an event keeps it so
-numbered_after : (site : Site) (cache : Cache) (e : StripeEvent) → 0 < site.stripes → IsNumbered site cache → IsNumbered site (after site cache e)
+numbered_after : (site : Site) (cache : Cache) (e : StripeEvent) → 0 < site.stripes → IsNumbered site cache → IsNumbered site (cache_after site cache e)
 numbered_after site cache e some numbered = record { below = low; apart = unlike }
   where
-    low : (key : List ℕ) (flags : ℕ) (value : List ℕ) (cas : ℕ) → Holds ((after site cache e).items key) flags value cas
-        → cas < cas_of site (after site cache e).versions
+    low : (key : List ℕ) (flags : ℕ) (value : List ℕ) (cas : ℕ) → Holds ((cache_after site cache e).items key) flags value cas
+        → cas < cas_of site (cache_after site cache e).versions
     low key flags value cas held = elim (event_keeps site cache e key flags value cas held) [
-      | inl old ↦ omega (arith, numbered.below key flags value cas old, cas_grows site cache.versions (after site cache e).versions (versions_grow site cache e))
-      | inr new ↦ omega (arith, new.0, cas_rises site cache.versions (after site cache e).versions some (omega (arith, new.1)))
+      | inl old ↦ omega (arith, numbered.below key flags value cas old, cas_grows site cache.versions (cache_after site cache e).versions (versions_grow site cache e))
+      | inr new ↦ omega (arith, new.0, cas_rises site cache.versions (cache_after site cache e).versions some (omega (arith, new.1)))
     ]
 
     unlike : (key other : List ℕ) (flags other_flags : ℕ) (value other_value : List ℕ) (cas : ℕ)
-        → Holds ((after site cache e).items key) flags value cas → Holds ((after site cache e).items other) other_flags other_value cas → key ≡ other
+        → Holds ((cache_after site cache e).items key) flags value cas → Holds ((cache_after site cache e).items other) other_flags other_value cas → key ≡ other
     unlike key other flags other_flags value other_value cas held other_held = elim (event_keeps site cache e key flags value cas held) [
       | inl old ↦ elim (event_keeps site cache e other other_flags other_value cas other_held) [
         | inl other_old ↦ numbered.apart key other flags other_flags value other_value cas old other_old
@@ -307,7 +307,7 @@ numbered_after site cache e some numbered = record { below = low; apart = unlike
 -- so do events
 numbered_from : (site : Site) (cache : Cache) (es : List StripeEvent) → 0 < site.stripes → IsNumbered site cache → IsNumbered site (cache_from site cache es)
 numbered_from site cache [] some numbered = numbered
-numbered_from site cache (e ∷ es) some numbered = numbered_from site (after site cache e) es some (numbered_after site cache e some numbered)
+numbered_from site cache (e ∷ es) some numbered = numbered_from site (cache_after site cache e) es some (numbered_after site cache e some numbered)
 
 -- the cache that a history leaves is so
 numbered_of : (site : Site) (es : List StripeEvent) → 0 < site.stripes → IsNumbered site (cache_of site es)
@@ -369,7 +369,7 @@ held_once (Some item) flags other_flags value other_value cas held other_held = 
 
 -- what holds throughout, after the event that follows a history
 after_history : (site : Site) (before between : List StripeEvent) (e : StripeEvent) (key : List ℕ) (flags : ℕ) (value : List ℕ) (cas : ℕ)
-    → HoldsThroughout site (after site (cache_of site before) e) between key flags value cas
+    → HoldsThroughout site (cache_after site (cache_of site before) e) between key flags value cas
     → HoldsThroughout site (cache_of site (before ++ e ∷ [])) between key flags value cas
 after_history site before between e key flags value cas held =
     subst (λ (cache : Cache). HoldsThroughout site cache between key flags value cas) (sym (run_on site empty_cache before (e ∷ []))) held
@@ -377,7 +377,7 @@ after_history site before between e key flags value cas held =
 -- of two items with one number, held before an event and at the end, the later one is the earlier one, which was held throughout
 held_again : (site : Site) (before between : List StripeEvent) (e : StripeEvent) (key other value other_value : List ℕ) (flags other_flags cas : ℕ)
     → 0 < site.stripes → Holds ((cache_of site before).items key) flags value cas
-    → Holds ((cache_from site (after site (cache_of site before) e) between).items other) other_flags other_value cas
+    → Holds ((cache_from site (cache_after site (cache_of site before) e) between).items other) other_flags other_value cas
     → (other ≡ key) × (other_flags ≡ flags) × (other_value ≡ value) × HoldsThroughout site (cache_of site (before ++ e ∷ [])) between key flags value cas
 held_again site before between e key other value other_value flags other_flags cas some held late_held =
     let early = cache_of site before in
@@ -399,7 +399,7 @@ pub one_version : (site : Site) (before between : List StripeEvent) (first secon
     × HoldsThroughout site (cache_of site (before ++ events.Did first ∷ [])) between key flags value cas
 one_version site before between first second key other value other_value flags other_flags cas some is_get is_value is_other_get is_other_value legal =
     let early = cache_of site before in
-    let next = after site early (events.Did first) in
+    let next = cache_after site early (events.Did first) in
     let late = cache_from site next between in
     let start = legal_on site empty_cache [] before (events.Did first ∷ (between ++ events.Did second ∷ [])) legal in
     let last = legal_on site next (before ++ events.Did first ∷ []) between (events.Did second ∷ []) start.1 in
@@ -416,7 +416,7 @@ pub stored_over : (site : Site) (before between : List StripeEvent) (read swap :
     → HoldsThroughout site (cache_of site (before ++ events.Did read ∷ [])) between key flags value cas
 stored_over site before between read swap key value new_value flags new_flags cas exptime some is_get is_value is_cas is_stored legal =
     let early = cache_of site before in
-    let next = after site early (events.Did read) in
+    let next = cache_after site early (events.Did read) in
     let late = cache_from site next between in
     let start = legal_on site empty_cache [] before (events.Did read ∷ (between ++ events.Did swap ∷ [])) legal in
     let last = legal_on site next (before ++ events.Did read ∷ []) between (events.Did swap ∷ []) start.1 in

@@ -1,7 +1,7 @@
 -- Versions of items: which cas number an event gives, what holds while one version lasts, and who wrote it.
 use Rattle.std.specs.Prelude.{ℕ, List, [], ◌∷◌, ◌++◌, ◌≡◌, Option, Some, None, IsSomeAnd, decimal, replicate}
 use Rattle.mc_item.specs.Cache.{Cache, answer_of}
-use Rattle.mc_item.specs.Stripe.{after}
+use Rattle.mc_item.specs.Stripe.{cache_after}
 use Rattle.mc_item.specs.declared.answer.Change.{Change}
 use Rattle.mc_item.specs.declared.answer.Change.TheVariants.{Stays, Goes, Hit, Touched, Counted, Renewed}
 use Rattle.mc_item.specs.declared.answer.Site.{Site}
@@ -36,7 +36,7 @@ Holds found flags value cas = IsSomeAnd found (λ item. (item.flags ≡ flags) �
 abbrev pub HoldsThroughout : Site → Cache → List StripeEvent → List ℕ → ℕ → List ℕ → ℕ → Type 0
 HoldsThroughout site cache [] key flags value cas = Holds (cache.items key) flags value cas
 HoldsThroughout site cache (e ∷ es) key flags value cas =
-    Holds (cache.items key) flags value cas × HoldsThroughout site (after site cache e) es key flags value cas
+    Holds (cache.items key) flags value cas × HoldsThroughout site (cache_after site cache e) es key flags value cas
 
 -- incr or decr, answered a number, wrote its digits, perhaps with spaces behind them, and kept the flags of the old item
 abbrev pub WroteNumber : Option Item → Reply → ℕ → List ℕ → Type 0

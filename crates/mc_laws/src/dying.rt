@@ -3,7 +3,7 @@ ghost use Rattle.std.specs.Prelude.{◌≡◌, ◌≤◌, ◌++◌, ◌∷◌, [
 ghost use Rattle.mc_item.specs.Answer.{row_of};
 ghost use Rattle.mc_item.specs.Cache.{Cache, after_change, answer_of, visible_items};
 ghost use Rattle.mc_item.specs.Command.{key_of};
-ghost use Rattle.mc_item.specs.Stripe.{IsDead, IsLegal, after, cache_from, cache_of};
+ghost use Rattle.mc_item.specs.Stripe.{IsDead, IsLegal, cache_after, cache_from, cache_of};
 ghost use Rattle.mc_item.specs.declared.answer.Change.TheVariants.{Goes};
 ghost use Rattle.mc_item.specs.declared.answer.Site.{Site};
 ghost use Rattle.mc_item.specs.declared.command.Command.{Command};
@@ -33,7 +33,7 @@ pub fn the_dead_answer_as_the_absent()
 pub fn cooling_shows_nothing()
     ensures { (site : Site) (cache : Cache) (cooled : Cooled) (later : List StripeEvent) (command : Command) (moment : ℕ) (room : Room)
         → let warm = cache_from site cache later in
-        let cool = cache_from site (after site cache (events.Cooled cooled)) later in
+        let cool = cache_from site (cache_after site cache (events.Cooled cooled)) later in
         ((answer_of site cool command moment room).reply ≡ (answer_of site warm command moment room).reply)
         × ((row_of site cool.versions (cool.items (key_of command)) command moment).need ≡ (row_of site warm.versions (warm.items (key_of command)) command moment).need) }
 {}

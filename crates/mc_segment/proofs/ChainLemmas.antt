@@ -6,7 +6,7 @@ use Rattle.std.proofs.Common.{◌≢◌, inl, inr}
 use Rattle.std.proofs.lemmas.Bool.Decides.{eqb_tells}
 use Rattle.std.proofs.lemmas.Bool.{false≢true, eq-eqb}
 use Rattle.mc_item.specs.declared.lists.Entry.{Entry}
-use Rattle.mc_item.specs.Lists.{find, without, cost_sum}
+use Rattle.mc_rule.specs.Lists.{find, without, cost_sum}
 use Rattle.mc_segment.specs.declared.arena.Node.{Node}
 use Rattle.mc_segment.specs.Links.{with_newer, with_older, names, apply_older, apply_newer, end_of}
 use Rattle.mc_segment.specs.Nodes.{node, first_number, last_from, node_at, lacks, distinct, walk, walked, IsChain}

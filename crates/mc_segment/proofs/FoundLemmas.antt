@@ -6,7 +6,7 @@ use Rattle.std.proofs.lemmas.Bool.{cases_lt}
 use Rattle.mc_item.specs.declared.lists.Entry.{Entry}
 use Rattle.mc_item.specs.declared.lists.Seg.{Seg}
 use Rattle.mc_item.specs.declared.lists.Seg.TheVariants.{Hot, Warm, Cold, Temp}
-use Rattle.mc_item.specs.Lists.{Lists, list_of, find, found, found_in, segment_of, times, times_in}
+use Rattle.mc_rule.specs.Lists.{Lists, list_of, find, found, found_in, segment_of, times, times_in}
 use Rattle.mc_segment.proofs.ChainLemmas.{by_eq, itself, some_none}
 use Rattle.mc_segment.proofs.TailLemmas.{stands_once, once_in}
 

@@ -6,7 +6,7 @@ use Rattle.std.proofs.lemmas.Bool.{false≢true}
 use Rattle.mc_item.specs.declared.lists.Entry.{Entry}
 use Rattle.mc_item.specs.declared.lists.Seg.{Seg}
 use Rattle.mc_item.specs.declared.lists.Seg.TheVariants.{Hot, Warm, Cold, Temp}
-use Rattle.mc_item.specs.Lists.{found, found_in, count_of, Lists, list_of, with_list, linked, unlinked, find, without, cost_sum, times, times_in}
+use Rattle.mc_rule.specs.Lists.{found, found_in, count_of, Lists, list_of, with_list, linked, unlinked, find, without, cost_sum, times, times_in}
 use Rattle.mc_segment.specs.declared.arena.Node.{Node}
 use Rattle.mc_segment.specs.declared.arena.Place.{Place}
 use Rattle.mc_segment.specs.declared.ends.Ends.{Ends}

@@ -10,17 +10,17 @@ use Rattle.mc_item.specs.declared.config.ConfigFault.TheVariants.{Stripes, Sizes
 use Rattle.mc_item.specs.declared.item.ClassNo.{ClassNo}
 use Rattle.std.proofs.lemmas.Bool.Decides.{nat_tests}
 use Rattle.mc_item.specs.Config.{fault_of, are_stripes, are_sizes, are_chunks, are_percents, are_factors, are_callers, are_events}
-use Rattle.mc_item.specs.Lists.{Lists, no_lists, lists_from, lists_of, after, links_in, links_of}
-use Rattle.mc_item.specs.Segment.{Rule}
-use Rattle.mc_item.specs.Lawful.{names, is_named, IsLawfulByLists, IsLawfulByListsFrom, IsLawfulHistoryByLists}
+use Rattle.mc_rule.specs.Lists.{Lists, no_lists, lists_from, lists_of, lists_after, links_in, links_of}
+use Rattle.mc_rule.specs.Segment.{Rule}
+use Rattle.mc_rule.specs.Lawful.{names, is_named, IsLawfulByLists, IsLawfulByListsFrom, IsLawfulHistoryByLists}
 use Rattle.mc_segment.specs.Arena.{Held}
 use Rattle.mc_segment.specs.ClassState.{ClassView, class_view, HasPlaces, IsReplay}
 use Rattle.mc_segment.proofs.ChainLemmas.{not_equal}
 
 -- ---- one event more
-pub lists_from-push : (l : Lists) (es : List ClassEvent) (e : ClassEvent) → lists_from l (es ++ e ∷ []) ≡ after (lists_from l es) e
+pub lists_from-push : (l : Lists) (es : List ClassEvent) (e : ClassEvent) → lists_from l (es ++ e ∷ []) ≡ lists_after (lists_from l es) e
 lists_from-push l [] e = refl
-lists_from-push l (x ∷ es) e = lists_from-push (after l x) es e
+lists_from-push l (x ∷ es) e = lists_from-push (lists_after l x) es e
 
 pub links_of-push : (es : List ClassEvent) (e : ClassEvent) → links_of (es ++ e ∷ []) ≡ links_of es + links_in e
 links_of-push [] e = omega arith
@@ -63,7 +63,7 @@ IsLawfulByListsFrom-push chunks rule before (x ∷ es) e each may =
 
 -- what a class keeps is kept by a lawful event
 kept : (h later : Held) (chunks max_events : ℕ) (rule : Rule) (old : List ClassEvent) (e : ClassEvent) → IsReplay h chunks max_events rule old
-    → later.lists ≡ after (lists_of old) e → later.next ≡ h.next + links_in e → length old + 1 ≤ max_events
+    → later.lists ≡ lists_after (lists_of old) e → later.next ≡ h.next + links_in e → length old + 1 ≤ max_events
     → ((q : ℕ) → later.next ≤ q → names q e ≡ false) → IsLawfulByLists chunks rule old e → IsReplay later chunks max_events rule (old ++ e ∷ [])
 kept h later chunks max_events rule old e r lists next place fresh may =
     let grown : length (old ++ e ∷ []) ≡ length old + 1 = length-append old (e ∷ []) in
@@ -94,11 +94,11 @@ module _ (h : Held) (number : ClassNo) (chunks max_events : ℕ) (rule : Rule) (
       let P : ClassView → Type 0 = λ x. IsLawfulHistoryByLists x.chunks x.rule x.history in
       subst P is r.lawful
 
-  pub keeps : (later : Held) (now : List ClassEvent) (e : ClassEvent) → now ≡ old ++ e ∷ [] → later.lists ≡ after (lists_of v.history) e → later.next ≡ h.next + links_in e → HasPlaces v 1
+  pub keeps : (later : Held) (now : List ClassEvent) (e : ClassEvent) → now ≡ old ++ e ∷ [] → later.lists ≡ lists_after (lists_of v.history) e → later.next ≡ h.next + links_in e → HasPlaces v 1
       → ((q : ℕ) → later.next ≤ q → names q e ≡ false) → IsLawfulByLists v.chunks v.rule v.history e → IsReplay later chunks max_events rule now
   keeps later now e more lists next place fresh may =
       let P : List ClassEvent → Type 0 = λ es. IsReplay later chunks max_events rule es in
-      let Q : ClassView → Type 0 = λ x. later.lists ≡ after (lists_of x.history) e → HasPlaces x 1 → IsLawfulByLists x.chunks x.rule x.history e → P (old ++ e ∷ []) in
+      let Q : ClassView → Type 0 = λ x. later.lists ≡ lists_after (lists_of x.history) e → HasPlaces x 1 → IsLawfulByLists x.chunks x.rule x.history e → P (old ++ e ∷ []) in
       subst P (sym more) ((subst Q is (λ l p m. kept h later chunks max_events rule old e r l next p fresh m)) lists place may)
 
 -- a number below the next is none of those that are to come

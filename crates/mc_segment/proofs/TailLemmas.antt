@@ -10,8 +10,8 @@ use Rattle.mc_item.specs.declared.lists.Entry.{Entry}
 use Rattle.std.specs.Prelude.{IfSome}
 use Rattle.mc_item.specs.declared.lists.Seg.{Seg}
 use Rattle.mc_item.specs.declared.lists.Seg.TheVariants.{Hot, Warm, Cold, Temp}
-use Rattle.mc_item.specs.Lists.{Lists, list_of, times, times_in}
-use Rattle.mc_item.specs.Segment.{behind, numbers_of, numbers_behind}
+use Rattle.mc_rule.specs.Lists.{Lists, list_of, times, times_in}
+use Rattle.mc_rule.specs.Segment.{behind, numbers_of, numbers_behind}
 use Rattle.mc_segment.specs.declared.arena.Node.{Node}
 use Rattle.mc_segment.specs.Nodes.{node, first_number, last_from, node_at, lacks, distinct, before, IsChain}
 use Rattle.mc_segment.proofs.ChainLemmas.{by_eq, both_of, not_of, itself, some_none}

@@ -3,7 +3,7 @@ use Rattle.std.specs.Prelude.{ℕ, ◌==◌, ◌+◌, ◌-◌, ◌*◌, ◌^◌,
 use Rattle.mc_item.specs.declared.lists.Entry.{Entry}
 use Rattle.mc_item.specs.declared.lists.Seg.{Seg}
 use Rattle.mc_item.specs.declared.lists.Seg.TheVariants.{Hot, Warm, Cold, Temp}
-use Rattle.mc_item.specs.Lists.{Lists, list_of, cost_sum, count_of}
+use Rattle.mc_rule.specs.Lists.{Lists, list_of, cost_sum, count_of}
 use Rattle.mc_segment.specs.declared.arena.Node.{Node}
 use Rattle.mc_segment.specs.declared.arena.Place.{Place}
 use Rattle.mc_segment.specs.declared.ends.Ends.{Ends}

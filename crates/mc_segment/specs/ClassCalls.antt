@@ -6,9 +6,9 @@ use Rattle.mc_item.specs.declared.class_event.Why.{Why}
 use Rattle.mc_item.specs.declared.item.Expiry.{Expiry}
 use Rattle.mc_item.specs.declared.item.Who.{Who}
 use Rattle.mc_item.specs.declared.lists.Seg.{Seg}
-use Rattle.mc_item.specs.Lists.{lists_of, links_of}
-use Rattle.mc_item.specs.Lawful.{IsLawfulByLists}
-use Rattle.mc_item.specs.Segment.{segment_for, total_of, cold_age_of}
+use Rattle.mc_rule.specs.Lists.{lists_of, links_of}
+use Rattle.mc_rule.specs.Lawful.{IsLawfulByLists}
+use Rattle.mc_rule.specs.Segment.{segment_for, total_of, cold_age_of}
 use Rattle.mc_segment.specs.declared.surveying.Survey.{Survey}
 use Rattle.mc_segment.specs.ClassState.{ClassView}
 

@@ -5,9 +5,9 @@ use Rattle.mc_item.specs.declared.config.Config.{Config}
 use Rattle.mc_item.specs.declared.fault.Fault.{Fault}
 use Rattle.mc_item.specs.declared.fault.Fault.TheVariants.{NoMemory, HistoryFull}
 use Rattle.mc_item.specs.declared.item.ClassNo.{ClassNo}
-use Rattle.mc_item.specs.Lists.{lists_of, links_of}
-use Rattle.mc_item.specs.Segment.{Rule, rule_of}
-use Rattle.mc_item.specs.Lawful.{is_named, IsLawfulHistoryByLists}
+use Rattle.mc_rule.specs.Lists.{lists_of, links_of}
+use Rattle.mc_rule.specs.Segment.{Rule, rule_of}
+use Rattle.mc_rule.specs.Lawful.{is_named, IsLawfulHistoryByLists}
 use Rattle.mc_segment.specs.Arena.{Held}
 
 -- a class: its number, its limit of chunks and of events, the numbers of its rule, all that happened, oldest first, and

@@ -1,7 +1,7 @@
 -- A list of entries, newest first, as nodes under their numbers.
 use Rattle.std.specs.Prelude.{ℕ, zero, suc, ◌≡◌, ◌==◌, List, [], ◌∷◌, Bool, true, false, if◌then◌else◌, Option, Some, None, length}
 use Rattle.mc_item.specs.declared.lists.Entry.{Entry}
-use Rattle.mc_item.specs.Lists.{cost_sum}
+use Rattle.mc_rule.specs.Lists.{cost_sum}
 use Rattle.mc_segment.specs.declared.arena.Node.{Node}
 
 -- a node by its parts

@@ -1,7 +1,7 @@
 //! Four lists of entries in one vector of places, from which any number is taken out in one step.
 ghost use Rattle.std.specs.Prelude.{◌≡◌, ◌+◌, ◌-◌, ◌*◌, ◌<◌, ◌≤◌, ◌^◌, ℕ, length, None, Some, OnOk, IsOk, IfSome, IsSome, slice_get};
 ghost use Rattle.std.specs.Option.{option_copied};
-ghost use Rattle.mc_item.specs.Lists.{no_lists, list_of, with_list, find, without, found, segment_of, linked, unlinked, moved, cost_sum, count_of, times_in};
+ghost use Rattle.mc_rule.specs.Lists.{no_lists, list_of, with_list, find, without, found, segment_of, linked, unlinked, moved, cost_sum, count_of, times_in};
 ghost use Rattle.mc_segment.specs.Arena.{all_bytes};
 
 use crate::ends::{Ends, Heads};
@@ -45,7 +45,7 @@ impl Model for Arena {
 
 // The time of an entry after a move.
 fn time_after(why: Why, moment: u64, time: u64) -> u64
-    ensures { result ≡ Rattle.mc_item.specs.Lists.time_after why moment time }
+    ensures { result ≡ Rattle.mc_rule.specs.Lists.time_after why moment time }
 {
     match why {
         Why::Hit => moment,

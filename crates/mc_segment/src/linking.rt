@@ -1,7 +1,7 @@
 //! New entries.
 ghost use Rattle.std.specs.Prelude.{◌≡◌, ◌<◌, ◌≤◌, ◌+◌, ◌^◌, IfOk, OnOk, OnErr, MatchResult};
-ghost use Rattle.mc_item.specs.Lists.{lists_of, links_of, count_of};
-ghost use Rattle.mc_item.specs.Segment as rules;
+ghost use Rattle.mc_rule.specs.Lists.{lists_of, links_of, count_of};
+ghost use Rattle.mc_rule.specs.Segment as rules;
 ghost use Rattle.mc_segment.specs.ClassState.{appended, with_room, HasPlaces, MayRefuse};
 ghost use Rattle.mc_segment.specs.ClassCalls.{linked_event};
 

@@ -1,10 +1,10 @@
 //! What a class tells of its lists and its history. None of these calls takes memory.
 ghost use Rattle.std.specs.Prelude.{◌≡◌, ◌≤◌, ◌^◌, ℕ, false, None, Some, length, take, reverse, IfSome};
 ghost use Rattle.std.specs.Option.{option_copied};
-ghost use Rattle.mc_item.specs.Lists.{lists_of, links_of, list_of, bytes_of, count_of, times_in, find, found};
-ghost use Rattle.mc_item.specs.Segment.{numbers_of, numbers_behind};
+ghost use Rattle.mc_rule.specs.Lists.{lists_of, links_of, list_of, bytes_of, count_of, times_in, find, found};
+ghost use Rattle.mc_rule.specs.Segment.{numbers_of, numbers_behind};
 ghost use Rattle.mc_item.specs.declared.lists.Seg.{Seg};
-ghost use Rattle.mc_item.specs.Lawful.{is_named, IsIn, IsLawfulHistoryByLists};
+ghost use Rattle.mc_rule.specs.Lawful.{is_named, IsIn, IsLawfulHistoryByLists};
 
 use crate::state::ClassState;
 use mc_item::{ClassEvent, ClassNo, Entry, Seg};
@@ -56,7 +56,7 @@ impl ClassState {
     /// The j-th entry from a segment's tail, counted from 0. Just the j entries before it from the tail are behind it,
     /// and its number is in no other list.
     pub fn from_tail(&self, seg: Seg, j: u64) -> Option<&Entry>
-        ensures entry { option_copied result ≡ Rattle.mc_item.specs.Lists.from_tail (list_of (lists_of self.now.history) seg) j }
+        ensures entry { option_copied result ≡ Rattle.mc_rule.specs.Lists.from_tail (list_of (lists_of self.now.history) seg) j }
         ensures there { IfSome (option_copied result)
             (λ e. (find e.number (list_of (lists_of self.now.history) seg) ≡ Some e) × (found e.number (lists_of self.now.history) ≡ Some (seg, e))) }
         ensures behind { IfSome (option_copied result)
@@ -68,7 +68,7 @@ impl ClassState {
 
     /// The segment that an entry is in, by its number.
     pub fn segment_of(&self, number: u64) -> Option<Seg>
-        ensures { result ≡ Rattle.mc_item.specs.Lists.segment_of number (lists_of self.now.history) }
+        ensures { result ≡ Rattle.mc_rule.specs.Lists.segment_of number (lists_of self.now.history) }
     {
         self.lists.segment_of(number)
     }
@@ -78,7 +78,7 @@ impl ClassState {
     pub fn law(&self)
         ensures once { (q : ℕ) → times_in q (lists_of self.now.history) ≤ 1 }
         ensures below { (q : ℕ) → links_of self.now.history ≤ q → found q (lists_of self.now.history) ≡ None }
-        ensures inside { (s : Seg) (q : ℕ) → Rattle.mc_item.specs.Lists.segment_of q (lists_of self.now.history) ≡ Some s → IsIn s q (lists_of self.now.history) }
+        ensures inside { (s : Seg) (q : ℕ) → Rattle.mc_rule.specs.Lists.segment_of q (lists_of self.now.history) ≡ Some s → IsIn s q (lists_of self.now.history) }
         ensures fresh { (q : ℕ) → links_of self.now.history ≤ q → is_named q self.now.history ≡ false }
         ensures lawful { IsLawfulHistoryByLists self.now.chunks self.now.rule self.now.history }
         ensures places { (length self.now.history ≤ self.now.max_events) × (self.now.max_events ≤ 2 ^ 32) }

@@ -1,7 +1,7 @@
 //! Entries that move between lists.
 ghost use Rattle.std.specs.Prelude.{◌≡◌, ◌≤◌, ◌+◌, OnOk, OnErr, MatchResult};
 ghost use Rattle.std.specs.Option.{IsSomeAnd};
-ghost use Rattle.mc_item.specs.Lists.{lists_of, segment_of};
+ghost use Rattle.mc_rule.specs.Lists.{lists_of, segment_of};
 ghost use Rattle.mc_segment.specs.ClassState.{appended, with_room, HasPlaces, MayRefuse};
 ghost use Rattle.mc_segment.specs.ClassCalls.{shifted_event, MayCome};
 

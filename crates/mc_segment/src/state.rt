@@ -2,8 +2,8 @@
 ghost use Rattle.std.specs.Prelude.{◌≡◌, ◌+◌, ◌<◌, ◌≤◌, ◌==◌, ◌^◌, ℕ, ◌↔◌, false, length, IsTrue, OnOk, IsOk, MatchResult, vec_len};
 ghost use Rattle.std.specs.Option.{IsSomeAnd};
 ghost use Rattle.mc_item.specs.Config.{IsSound};
-ghost use Rattle.mc_item.specs.Lists.{lists_of, links_of, links_in, count_of, after, unlinked, segment_of};
-ghost use Rattle.mc_item.specs.Lawful.{names, IsListed};
+ghost use Rattle.mc_rule.specs.Lists.{lists_of, links_of, links_in, count_of, lists_after, unlinked, segment_of};
+ghost use Rattle.mc_rule.specs.Lawful.{names, IsListed};
 ghost use Rattle.mc_item.specs.declared.class_event.ClassEvent.TheVariants as events;
 ghost use Rattle.mc_segment.specs.ClassState.{opened, appended, with_room, HasPlaces, MayRefuse};
 ghost use Rattle.mc_segment.specs.ClassCalls.{shifted_event, MayCome};
@@ -157,7 +157,7 @@ impl ClassState {
         requires place { HasPlaces self.old 1 }
         requires there { IsListed number (lists_of self.old.history) }
         requires lawful { MayCome self.old event }
-        requires leaves { after (lists_of self.old.history) event ≡ unlinked number (lists_of self.old.history) }
+        requires leaves { lists_after (lists_of self.old.history) event ≡ unlinked number (lists_of self.old.history) }
         requires links { links_in event ≡ 0 }
         requires names { (q : ℕ) → names q event ≡ (number == q) }
         ensures event { self.new ≡ appended self.old event self.new.room }
@@ -205,7 +205,7 @@ impl ClassState {
         requires room { 0 < self.old.room }
         requires place { HasPlaces self.old 1 }
         requires lawful { MayCome self.old event }
-        requires stays { after (lists_of self.old.history) event ≡ lists_of self.old.history }
+        requires stays { lists_after (lists_of self.old.history) event ≡ lists_of self.old.history }
         requires links { links_in event ≡ 0 }
         requires names { (q : ℕ) → names q event ≡ false }
         ensures event { self.new ≡ appended self.old event self.new.room }

@@ -1,7 +1,7 @@
 //! Events that move no entry: surveys and refusals.
 ghost use Rattle.std.specs.Prelude.{◌≡◌, ◌≤◌, ◌+◌, length, IfOk, OnOk, OnErr, MatchResult};
-ghost use Rattle.mc_item.specs.Lists.{lists_of};
-ghost use Rattle.mc_item.specs.Segment.{total_of, cold_age_of};
+ghost use Rattle.mc_rule.specs.Lists.{lists_of};
+ghost use Rattle.mc_rule.specs.Segment.{total_of, cold_age_of};
 ghost use Rattle.mc_segment.specs.ClassState.{appended, with_room, HasPlaces, MayRefuse};
 ghost use Rattle.mc_segment.specs.ClassCalls.{survey_of, surveyed_event, refused_event, MayCome};
 

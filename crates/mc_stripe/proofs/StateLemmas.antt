@@ -9,7 +9,7 @@ use Rattle.mc_item.specs.Answer.{row_of}
 use Rattle.mc_item.specs.Cache.{Cache, changed, versions_of, answer_of, after_change}
 use Rattle.mc_item.specs.Command.{key_of}
 use Rattle.mc_item.specs.Measure.{stripe_of}
-use Rattle.mc_item.specs.Stripe.{cache_of, after, MayHappen, IsAlive, Fits, MayLose, cooled_change}
+use Rattle.mc_item.specs.Stripe.{cache_of, cache_after, MayHappen, IsAlive, Fits, MayLose, cooled_change}
 use Rattle.mc_item.specs.declared.answer.Answer.{Answer}
 use Rattle.mc_item.specs.declared.answer.Change.{Change}
 use Rattle.mc_item.specs.declared.answer.Change.TheVariants.{Goes}
@@ -29,7 +29,7 @@ use Rattle.mc_stripe.specs.StripeState.{IsKept, last_reply, reply_noted}
 -- an event that may happen, with the items and the count that it leaves
 pub kept_on : (site : Site) (limit : ℕ) (history later : List StripeEvent) (versions count : ℕ) (items now : List ℕ → Option Item) (e : StripeEvent)
     → IsKept site limit history versions items → MayHappen site (cache_of site history) history e → length history < limit
-    → ((q : List ℕ) → now q ≡ (after site (cache_of site history) e).items q) → count ≡ (after site (cache_of site history) e).versions → count ≤ versions + 1
+    → ((q : List ℕ) → now q ≡ (cache_after site (cache_of site history) e).items q) → count ≡ (cache_after site (cache_of site history) e).versions → count ≤ versions + 1
     → later ≡ history ++ e ∷ [] → IsKept site limit later count now
 kept_on site limit history later versions count items now e kept may below new_items new_count few is =
     let pushed = cache_of-push site history e in

@@ -1,6 +1,6 @@
 use Rattle.std.proofs.Common.{◌≡◌, ◌-◌, ap, ◌∙◌, sym, None, length, arith}
 use Rattle.std.specs.List.{slice_get}
-use Rattle.mc_item.specs.Lists.{list_of}
+use Rattle.mc_rule.specs.Lists.{list_of}
 use Rattle.mc_segment.specs.declared.ends.Ends.{Ends}
 use Rattle.mc_segment.specs.Nodes.{before}
 use Rattle.mc_segment.specs.Arena.{part, code}

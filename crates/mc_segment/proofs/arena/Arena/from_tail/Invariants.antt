@@ -1,5 +1,5 @@
 use Rattle.std.proofs.Common.{◌≡◌, ◌-◌, ◌≤◌, length, None}
-use Rattle.mc_item.specs.Lists.{list_of}
+use Rattle.mc_rule.specs.Lists.{list_of}
 use Rattle.mc_segment.specs.Nodes.{before}
 use Rattle.mc_segment.proofs.arena.Arena.from_tail.Given as goal
 

@@ -1,5 +1,5 @@
 use Rattle.std.proofs.Common.{◌≡◌, ◌<◌, ◌^◌, List, Option, ap, ◌∙◌, sym, subst, length, arith}
-use Rattle.mc_item.specs.Lists.{found, count_of}
+use Rattle.mc_rule.specs.Lists.{found, count_of}
 use Rattle.mc_segment.specs.declared.arena.Place.{Place}
 use Rattle.mc_segment.specs.Arena.{Held, IsArena, all_bytes}
 use Rattle.mc_segment.specs.Slots.{slot}

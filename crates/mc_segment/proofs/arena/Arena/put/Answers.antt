@@ -1,6 +1,6 @@
 use Rattle.std.proofs.Common.{◌≡◌, ◌==◌, None, Some, Option, ap, ◌∙◌, sym, subst, length, arith}
 use Rattle.std.specs.Prelude.{if◌then◌else◌}
-use Rattle.mc_item.specs.Lists.{count_of, linked}
+use Rattle.mc_rule.specs.Lists.{count_of, linked}
 use Rattle.mc_segment.specs.declared.arena.Place.{Place}
 use Rattle.mc_segment.specs.declared.ends.Ends.{Ends}
 use Rattle.mc_segment.specs.declared.ends.Heads.{Heads}

@@ -1,6 +1,6 @@
 use Rattle.std.proofs.Common.{◌≡◌, ◌<◌, ◌≤◌, ◌==◌, None, ap, ◌∙◌, sym, subst, arith, ℕ}
 use Rattle.std.specs.Prelude.{if◌then◌else◌}
-use Rattle.mc_item.specs.Lists.{count_of, found, unlinked}
+use Rattle.mc_rule.specs.Lists.{count_of, found, unlinked}
 use Rattle.mc_segment.specs.declared.ends.Ends.{Ends}
 use Rattle.mc_segment.specs.declared.ends.Heads.{Heads}
 use Rattle.mc_segment.specs.Slots.{slot, place_newer, place_older}

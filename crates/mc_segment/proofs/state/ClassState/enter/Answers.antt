@@ -1,7 +1,7 @@
 use Rattle.std.proofs.Common.{◌+◌, ◌∙◌, ap, arith, List, ℕ}
 use Rattle.mc_item.specs.declared.class_event.ClassEvent.{ClassEvent}
 use Rattle.mc_item.specs.declared.class_event.ClassEvent.TheVariants as events
-use Rattle.mc_item.specs.Lists.{Lists, linked, entry}
+use Rattle.mc_rule.specs.Lists.{Lists, linked, entry}
 use Rattle.mc_segment.specs.ClassState.{ClassView}
 use Rattle.mc_segment.proofs.StateLemmas.{keeps, seen_lists, seen_next, seen_fresh, links_of-le, not_to_come}
 use Rattle.mc_segment.proofs.state.ClassState.enter.Goals as goal

@@ -1,8 +1,8 @@
 use Rattle.std.proofs.Common.{◌≡◌, ap, subst, Some, take, reverse}
 use Rattle.std.specs.Prelude.{IfSome}
 use Rattle.std.specs.Option.{option_copied}
-use Rattle.mc_item.specs.Lists.{Lists, list_of, find, found}
-use Rattle.mc_item.specs.Segment.{numbers_of, numbers_behind}
+use Rattle.mc_rule.specs.Lists.{Lists, list_of, find, found}
+use Rattle.mc_rule.specs.Segment.{numbers_of, numbers_behind}
 use Rattle.mc_segment.proofs.StateLemmas.{seen_lists}
 use Rattle.mc_segment.proofs.TailLemmas.{behind_read, once_in}
 use Rattle.mc_segment.proofs.FoundLemmas.{found_tail}

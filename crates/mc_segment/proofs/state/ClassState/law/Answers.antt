@@ -1,4 +1,4 @@
-use Rattle.mc_item.specs.Lists.{lists_of}
+use Rattle.mc_rule.specs.Lists.{lists_of}
 use Rattle.mc_segment.proofs.FoundLemmas.{is_inside}
 use Rattle.mc_segment.proofs.state.ClassState.law.Goals as goal
 

@@ -1,5 +1,5 @@
 use Rattle.std.proofs.Common.{◌∙◌, ap, sym, arith}
-use Rattle.mc_item.specs.Lists.{unlinked}
+use Rattle.mc_rule.specs.Lists.{unlinked}
 use Rattle.mc_segment.proofs.StateLemmas.{keeps, seen_lists, not_to_come}
 use Rattle.mc_segment.proofs.state.ClassState.leave.Goals as goal
 

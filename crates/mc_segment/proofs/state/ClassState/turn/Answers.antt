@@ -3,8 +3,8 @@ use Rattle.std.specs.Option.{IsSomeAnd}
 use Rattle.mc_item.specs.declared.class_event.ClassEvent.{ClassEvent}
 use Rattle.mc_item.specs.declared.class_event.ClassEvent.TheVariants as events
 use Rattle.mc_item.specs.declared.lists.Seg.{Seg}
-use Rattle.mc_item.specs.Lists.{Lists, moved, segment_of}
-use Rattle.mc_item.specs.Lawful.{IsLawfulByLists}
+use Rattle.mc_rule.specs.Lists.{Lists, moved, segment_of}
+use Rattle.mc_rule.specs.Lawful.{IsLawfulByLists}
 use Rattle.mc_segment.proofs.StateLemmas.{keeps, seen_lists, not_to_come}
 use Rattle.mc_segment.proofs.state.ClassState.turn.Goals as goal
 

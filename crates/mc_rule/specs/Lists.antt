@@ -75,19 +75,19 @@ abbrev pub moved : ℕ → Seg → Seg → Why → ℕ → Lists → Lists
 moved n from_seg to_seg why moment l = moved_entry (find n (list_of l from_seg)) n from_seg to_seg why moment l
 
 -- the lists after one event
-abbrev pub after : Lists → ClassEvent → Lists
-after l (events.Linked e) = linked e.seg (entry e.number e.key e.cost e.moment) l
-after l (events.Unlinked e) = unlinked e.number l
-after l (events.Shifted e) = moved e.number e.from_seg e.to_seg e.why e.moment l
-after l (events.Evicted e) = unlinked e.number l
-after l (events.Reclaimed e) = unlinked e.number l
-after l (events.Surveyed e) = l
-after l (events.Refused e) = l
+abbrev pub lists_after : Lists → ClassEvent → Lists
+lists_after l (events.Linked e) = linked e.seg (entry e.number e.key e.cost e.moment) l
+lists_after l (events.Unlinked e) = unlinked e.number l
+lists_after l (events.Shifted e) = moved e.number e.from_seg e.to_seg e.why e.moment l
+lists_after l (events.Evicted e) = unlinked e.number l
+lists_after l (events.Reclaimed e) = unlinked e.number l
+lists_after l (events.Surveyed e) = l
+lists_after l (events.Refused e) = l
 
 -- the lists after these events
 abbrev pub lists_from : Lists → List ClassEvent → Lists
 lists_from l [] = l
-lists_from l (e ∷ es) = lists_from (after l e) es
+lists_from l (e ∷ es) = lists_from (lists_after l e) es
 
 -- the lists that a history leaves
 abbrev pub lists_of : List ClassEvent → Lists

@@ -7,7 +7,7 @@ use Rattle.mc_item.specs.declared.item.Expiry.TheVariants.{Never, At}
 use Rattle.mc_item.specs.declared.lists.Entry.{Entry}
 use Rattle.mc_item.specs.declared.lists.Seg.{Seg}
 use Rattle.mc_item.specs.declared.lists.Seg.TheVariants.{Hot, Warm, Cold, Temp}
-use Rattle.mc_item.specs.Lists.{Lists, bytes_of, from_tail}
+use Rattle.mc_rule.specs.Lists.{Lists, bytes_of, from_tail}
 
 -- the numbers that the rule needs: percents are of the bytes of HOT, WARM and COLD, factors are hundredths of an age
 pub record Rule : Type 0 where
