@@ -39,8 +39,8 @@ impl Step {
     }
 }
 
-// The number after the step, where the value is one.
-fn counted(item: &Item, step: Step) -> Option<u64>
+/// The number after the step, where the value is one.
+pub fn counted(item: &Item, step: Step) -> Option<u64>
     ensures { result ≡ option_map (answers.stepped step) (measure.numeral_of item.now.value) }
 {
     match numeral_of(item.value.bytes()) {
@@ -49,8 +49,8 @@ fn counted(item: &Item, step: Step) -> Option<u64>
     }
 }
 
-// How many digits a number has.
-fn digits_len(number: u64) -> usize
+/// How many digits a number has.
+pub fn digits_len(number: u64) -> usize
     ensures value { result ≡ length (decimal number) }
     ensures few { result ≤ 20 }
 {

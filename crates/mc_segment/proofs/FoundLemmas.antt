@@ -2,7 +2,7 @@
 use Rattle.std.proofs.Common.{◌≡◌, ℕ, zero, suc, ◌+◌, ◌-◌, ◌==◌, ◌<◌, ◌≤◌, inl, inr, List, [], ◌∷◌, Bool, Option, Some, None, refl, sym, ap, ◌∙◌, subst, arith}
 use Rattle.std.specs.Prelude.{if◌then◌else◌, slice_get, IsSome, IfSome, length}
 use Rattle.std.specs.Option.{option_map}
-use Rattle.std.proofs.lemmas.Bool.{cases_lt}
+use Rattle.std.proofs.lemmas.Bool.{cases_lt, false≢true}
 use Rattle.mc_item.specs.declared.lists.Entry.{Entry}
 use Rattle.mc_item.specs.declared.lists.Seg.{Seg}
 use Rattle.mc_item.specs.declared.lists.Seg.TheVariants.{Hot, Warm, Cold, Temp}
@@ -92,3 +92,33 @@ pub found_tail : (l : Lists) (s : Seg) (j : ℕ) (o : Option Entry) → (j < len
     → IfSome o (λ e. (find e.number (list_of l s) ≡ Some e) × (found e.number l ≡ Some (s, e)))
 found_tail l s j o within past once =
     elim (cases_lt j (length (list_of l s))) [ inl less ↦ found_read l s _ o (within less) once | inr more ↦ nothing_found l s o (past more) ]
+
+-- what is found has the number that was asked for
+pub find_number : (q : ℕ) (es : List Entry) (e : Entry) → find q es ≡ Some e → e.number ≡ q
+find_number q [] e h = absurd (none_some h)
+find_number q (x ∷ es) e h =
+    by_eq x.number q (λ b. (if b then Some x else find q es) ≡ Some e → e.number ≡ q)
+    (λ same k. let is : x ≡ e = cc in ap (λ (y : Entry). y.number) (sym is) ∙ same)
+    (λ other k. find_number q es e k)
+    h
+
+-- what is found stands there
+pub find_times : (q : ℕ) (es : List Entry) (e : Entry) → find q es ≡ Some e → 1 ≤ times q es
+find_times q [] e h = absurd (none_some h)
+find_times q (x ∷ es) e h =
+    by_eq x.number q (λ b. (if b then Some x else find q es) ≡ Some e → 1 ≤ (if b then 1 else 0) + times q es)
+    (λ same k. omega arith)
+    (λ other k. let later = find_times q es e k in omega arith)
+    h
+
+there_as : (l : Lists) (q : ℕ) (s : Seg) (o : Option Entry) → find q (list_of l s) ≡ o → IsSome o → times_in q l ≤ 1 → segment_of q l ≡ Some s
+there_as l q s None h some once = absurd (false≢true some)
+there_as l q s (Some e) h some once =
+    let same : e.number ≡ q = find_number q (list_of l s) e h in
+    let here = find_times q (list_of l s) e h in
+    let P : ℕ → Type 0 = λ n. find n (list_of l s) ≡ Some e → 1 ≤ times n (list_of l s) → times_in n l ≤ 1 → segment_of n l ≡ Some s in
+    (subst P same (λ f t o. ap (option_map (λ (p : Seg × Entry). p.0)) (found_there l s e f t o))) h here once
+
+-- a number's segment is that of the list that it is in
+pub segment_is : (l : Lists) (q : ℕ) (s : Seg) → IsSome (find q (list_of l s)) → times_in q l ≤ 1 → segment_of q l ≡ Some s
+segment_is l q s some once = there_as l q s (find q (list_of l s)) refl some once

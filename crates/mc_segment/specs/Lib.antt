@@ -1,3 +1,4 @@
+pub mod Entries
 pub mod Links
 pub mod Nodes
 pub mod Slots

@@ -3,6 +3,7 @@ ghost use Rattle.std.specs.Prelude.{◌≡◌, ◌+◌, ◌-◌, ◌*◌, ◌<�
 ghost use Rattle.std.specs.Option.{option_copied};
 ghost use Rattle.mc_rule.specs.Lists.{no_lists, list_of, with_list, find, without, found, segment_of, linked, unlinked, moved, cost_sum, count_of, times_in};
 ghost use Rattle.mc_segment.specs.Arena.{all_bytes};
+ghost use Rattle.mc_segment.specs.Entries.{entry_of};
 
 use crate::ends::{Ends, Heads};
 use crate::slots::{empty, fill, place_at, set_newer, set_older};
@@ -115,6 +116,20 @@ impl Arena {
         ensures { result ≡ segment_of number self.now.lists }
     {
         Some(place_at(&self.slots, number)?.seg)
+    }
+
+    /// How many entries a list has.
+    pub fn len(&self, seg: Seg) -> u64
+        ensures { result ≡ length (list_of self.now.lists seg) }
+    {
+        self.heads.of(seg).count
+    }
+
+    /// The entry of a number, where it is in a list.
+    pub fn entry(&self, number: u64) -> Option<&Entry>
+        ensures { option_copied result ≡ entry_of number self.now.lists }
+    {
+        Some(&place_at(&self.slots, number)?.node.entry)
     }
 
     /// The law of the lists: no number stands twice, and each is below the next.

@@ -2,6 +2,7 @@
 ghost use Rattle.std.specs.Prelude.{◌≡◌, ◌≤◌, ◌^◌, ℕ, false, None, Some, length, take, reverse, IfSome};
 ghost use Rattle.std.specs.Option.{option_copied};
 ghost use Rattle.mc_rule.specs.Lists.{lists_of, links_of, list_of, bytes_of, count_of, times_in, find, found};
+ghost use Rattle.mc_segment.specs.Entries.{entry_of};
 ghost use Rattle.mc_rule.specs.Segment.{numbers_of, numbers_behind};
 ghost use Rattle.mc_item.specs.declared.lists.Seg.{Seg};
 ghost use Rattle.mc_rule.specs.Lawful.{is_named, IsIn, IsLawfulHistoryByLists};
@@ -73,12 +74,27 @@ impl ClassState {
         self.lists.segment_of(number)
     }
 
+    /// How many entries a segment's list has.
+    pub fn len(&self, seg: Seg) -> u64
+        ensures { result ≡ length (list_of (lists_of self.now.history) seg) }
+    {
+        self.lists.len(seg)
+    }
+
+    /// The entry of a number, where it is in a list.
+    pub fn entry(&self, number: u64) -> Option<&Entry>
+        ensures { option_copied result ≡ entry_of number (lists_of self.now.history) }
+    {
+        self.lists.entry(number)
+    }
+
     /// The law of a class: each number is in one list once, which is that of its segment, no number is used again, and
     /// each event is lawful after those before it as far as the lists tell.
     pub fn law(&self)
         ensures once { (q : ℕ) → times_in q (lists_of self.now.history) ≤ 1 }
         ensures below { (q : ℕ) → links_of self.now.history ≤ q → found q (lists_of self.now.history) ≡ None }
         ensures inside { (s : Seg) (q : ℕ) → Rattle.mc_rule.specs.Lists.segment_of q (lists_of self.now.history) ≡ Some s → IsIn s q (lists_of self.now.history) }
+        ensures lists { (s : Seg) (q : ℕ) → IsIn s q (lists_of self.now.history) → Rattle.mc_rule.specs.Lists.segment_of q (lists_of self.now.history) ≡ Some s }
         ensures fresh { (q : ℕ) → links_of self.now.history ≤ q → is_named q self.now.history ≡ false }
         ensures lawful { IsLawfulHistoryByLists self.now.chunks self.now.rule self.now.history }
         ensures places { (length self.now.history ≤ self.now.max_events) × (self.now.max_events ≤ 2 ^ 32) }

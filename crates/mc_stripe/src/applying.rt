@@ -48,7 +48,9 @@ fn push_answer(
     room: Room,
 )
     requires { vec_len history.old < vec_capacity history.old }
-    ensures { history.new.items ≡ history.old.items ++ events.Did (record { who = who; command = command; moment = moment; reply = reply; room = room }) ∷ [] }
+    ensures items { history.new.items ≡ history.old.items ++ events.Did (record { who = who; command = command; moment = moment; reply = reply; room = room }) ∷ [] }
+    ensures len { vec_len history.new ≡ vec_len history.old + 1 }
+    ensures capacity { vec_capacity history.new ≡ vec_capacity history.old }
 {
     history.push_reserved(StripeEvent::Did(Did {
         who,
@@ -97,6 +99,7 @@ impl StripeState {
         ensures full { IsErrOf result faults.HistoryFull ↔ (self.old.limit ≤ length self.old.history) }
         ensures err { OnErr result (self.new.history ≡ self.old.history) }
         ensures site { KeepsSite self.old self.new }
+        ensures room { self.old.room ≤ self.new.room + 1 }
     {
         if is_full(self.history.as_slice(), self.limit) {
             return Err(Fault::HistoryFull);
@@ -145,6 +148,7 @@ impl StripeState {
         ensures full { IsErrOf result faults.HistoryFull ↔ (self.old.limit ≤ length self.old.history) }
         ensures err { OnErr result (self.new.history ≡ self.old.history) }
         ensures site { KeepsSite self.old self.new }
+        ensures room { self.old.room ≤ self.new.room + 1 }
     {
         match self.note(who, command, moment, Given::Room(room), true)? {
             Ok(told) => Ok(told.unwrap()),
@@ -177,6 +181,7 @@ impl StripeState {
         ensures full { IsErrOf result faults.HistoryFull ↔ (self.old.limit ≤ length self.old.history) }
         ensures err { OnErr result (self.new.history ≡ self.old.history) }
         ensures site { KeepsSite self.old self.new }
+        ensures room { self.old.room ≤ self.new.room + 1 }
     {
         match self.note(who, command, moment, Given::Number(number), false)? {
             Ok(_) => Ok(None),

@@ -6,7 +6,9 @@ mod applying;
 mod changing;
 mod forgetting;
 mod in_place;
+mod planning;
 mod state;
 
 pub use mc_item::{Need, Room};
+pub use planning::{Fate, Plan};
 pub use state::StripeState;

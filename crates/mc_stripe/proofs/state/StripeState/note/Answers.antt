@@ -46,4 +46,4 @@ invariant_of-self-2 c =
     (subst (λ (r : Room). Fits (row_of site cache.versions (cache.items key) command moment).need r c.self.inside.history.items) (sym room_is) fits)
     c.in_ok-reserve.ensures.entries.2
     refl refl ok.1 ok.5 ok.4
-    (c.push_answer.ensures ∙ ap (λ (h : List StripeEvent). h ++ events.Did (record { who = c.args.who; command = command; moment = moment; reply = c.in-Some.answered.noted; room = c.in-Some.answered.room }) ∷ []) c.reserve-2.ensures.items ∙ ap noted ok.2)
+    (c.push_answer.ensures.items ∙ ap (λ (h : List StripeEvent). h ++ events.Did (record { who = c.args.who; command = command; moment = moment; reply = c.in-Some.answered.noted; room = c.in-Some.answered.room }) ∷ []) c.reserve-2.ensures.items ∙ ap noted ok.2)
