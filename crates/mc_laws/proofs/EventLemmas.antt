@@ -89,6 +89,11 @@ stays_meanwhile site cache key [] others = refl
 stays_meanwhile site cache key (e ∷ es) others =
     stays_meanwhile site (cache_after site cache e) key es others.1 ∙ after_elsewhere site cache e key others.0
 
+-- the earlier ones of legal events are legal
+pub legal_before : (site : Site) (cache : Cache) (past es rest : List StripeEvent) → IsLegalFrom site cache past (es ++ rest) → IsLegalFrom site cache past es
+legal_before site cache past [] rest legal = tt
+legal_before site cache past (e ∷ es) rest legal = (legal.0, legal_before site (cache_after site cache e) (past ++ e ∷ []) es rest legal.1)
+
 -- the later events are legal from where the earlier ones lead
 pub legal_on : (site : Site) (cache : Cache) (before es rest : List StripeEvent) → IsLegalFrom site cache before (es ++ rest)
     → IsLegalFrom site (cache_from site cache es) (before ++ es) rest

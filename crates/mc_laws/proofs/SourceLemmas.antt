@@ -2,7 +2,7 @@
 use Rattle.std.proofs.Common.{◌≡◌, ℕ, List, [], ◌∷◌, ◌++◌, refl, sym, ap, ◌∙◌, subst, append-nil, ◌-◌, ◌==◌, ◌⊎◌, inl, inr, ⊎_elim, length, Bool, true, false}
 use Rattle.std.specs.Prelude.{Option, Some, None, nat_le, if◌then◌else◌, decimal}
 use Rattle.std.specs.Option.{option_map}
-use Rattle.mc_laws.proofs.EventLemmas.{legal_on}
+use Rattle.mc_laws.proofs.EventLemmas.{legal_before, legal_on}
 use Rattle.mc_laws.proofs.MarkLemmas.{by_key}
 use Rattle.mc_laws.specs.Versions.{Holds, HoldsThroughout, Wrote, WroteNumber}
 use Rattle.mc_item.specs.Answer.{Row, answer, plain, fresh, row_of, get_row, store_row, let_go, padded}
@@ -35,11 +35,6 @@ use Rattle.mc_item.specs.declared.stripe_event.StripeEvent.{StripeEvent}
 use Rattle.mc_item.specs.declared.stripe_event.StripeEvent.TheVariants as events
 
 -- ---- earlier events
-
--- the earlier ones of legal events are legal
-legal_before : (site : Site) (cache : Cache) (past es rest : List StripeEvent) → IsLegalFrom site cache past (es ++ rest) → IsLegalFrom site cache past es
-legal_before site cache past [] rest legal = tt
-legal_before site cache past (e ∷ es) rest legal = (legal.0, legal_before site (cache_after site cache e) (past ++ e ∷ []) es rest legal.1)
 
 -- one version's flags, value and cas number
 module _ (site : Site) (flags : ℕ) (value : List ℕ) (cas : ℕ) where

@@ -14,8 +14,8 @@ use Rattle.mc_item.specs.declared.lists.Entry.{Entry}
 use Rattle.mc_item.specs.declared.lists.Seg.{Seg}
 use Rattle.mc_item.specs.declared.lists.Seg.TheVariants.{Hot, Warm, Cold, Temp}
 use Rattle.mc_item.specs.Item.{is_dead}
-use Rattle.mc_rule.specs.Lists.{Lists, list_of, find, found, lists_of, bytes_of, count_of, IsFull}
-use Rattle.mc_rule.specs.Segment.{Rule, age_of, total_of, cold_age_of, limit_of, greatest_age_of, IsNearTail}
+use Rattle.mc_rule.specs.Lists.{IsFull, Lists, bytes_of, count_of, find, found, list_of, lists_of}
+use Rattle.mc_rule.specs.Segment.{IsNearTail, Rule, age_of, cold_age_of, greatest_age_of, limit_of, total_of}
 
 -- whether an event names a number
 abbrev pub names : ℕ → ClassEvent → Bool

@@ -1,3 +1,10 @@
 pub mod Lists
 pub mod Segment
 pub mod Lawful
+pub mod Places
+pub mod Pairs
+pub mod Belonging
+pub mod Evidence
+pub mod Cited
+pub mod Partners
+pub mod Agreement

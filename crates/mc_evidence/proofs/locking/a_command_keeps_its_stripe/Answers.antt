@@ -1,0 +1,5 @@
+use Rattle.mc_evidence.proofs.EntryLemmas.{command_step}
+use Rattle.mc_evidence.proofs.locking.a_command_keeps_its_stripe.Goals as goal
+
+pub returns : goal.returns
+returns c = command_step

@@ -1,0 +1,10 @@
+pub mod Made
+pub mod Small
+pub mod Setting
+pub mod Sound
+pub mod Locks
+pub mod Finding
+pub mod Losses
+pub mod Refusals
+pub mod Seen
+pub mod Example

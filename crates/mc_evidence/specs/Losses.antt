@@ -1,0 +1,51 @@
+-- Between two commands: items only go, each by a loss that has its cause.
+use Rattle.std.specs.Prelude.{ℕ, ◌≡◌, List, [], ◌∷◌, true, length}
+use Rattle.mc_item.specs.Cache.{marked}
+use Rattle.mc_item.specs.Item.{is_dead}
+use Rattle.mc_item.specs.declared.class_event.ClassEvent.{ClassEvent}
+use Rattle.mc_item.specs.declared.class_event.ClassEvent.TheVariants as entries
+use Rattle.mc_item.specs.declared.class_event.Evicted.{Evicted}
+use Rattle.mc_item.specs.declared.item.ClassNo.{ClassNo}
+use Rattle.mc_item.specs.declared.item.Item.{Item}
+use Rattle.mc_item.specs.declared.item.Marks.{Marks}
+use Rattle.mc_item.specs.declared.lists.Seg.TheVariants.{Cold}
+use Rattle.mc_item.specs.declared.stripe_event.Cause.{Cause}
+use Rattle.mc_item.specs.declared.stripe_event.Cause.TheVariants.{Expired, Taken}
+use Rattle.mc_item.specs.declared.stripe_event.Lost.{Lost}
+use Rattle.mc_item.specs.declared.stripe_event.StripeEvent.{StripeEvent}
+use Rattle.mc_item.specs.declared.stripe_event.StripeEvent.TheVariants as items
+use Rattle.mc_rule.specs.Lawful.{IsIn}
+use Rattle.mc_rule.specs.Lists.{IsFull, lists_of}
+use Rattle.mc_rule.specs.Places.{Has}
+use Rattle.mc_rule.specs.Segment.{IsNearTail}
+
+-- none of these events is a command
+abbrev pub AreNoCommands : List StripeEvent → Type 0
+AreNoCommands [] = Unit {0}
+AreNoCommands (items.Did did ∷ es) = ⊥
+AreNoCommands (items.Lost lost ∷ es) = AreNoCommands es
+AreNoCommands (items.Cooled cooled ∷ es) = AreNoCommands es
+
+-- an item but for its marks
+abbrev pub IsSameItem : Item → Item → Type 0
+IsSameItem item other = (marks : Marks) × (other ≡ marked marks item)
+
+-- the eviction that took an item's chunk: at the place that the loss cites, by the same call, of the item's entry near COLD's
+-- tail, when the class was full
+pub record IsTaking (chunks cited : ℕ) (item : Item) (lost : Lost) (behind : List ClassEvent) (e : Evicted) : Type 0 where
+  pub place : length behind ≡ cited
+  pub who : e.who ≡ lost.who
+  pub number : e.number ≡ item.link.number
+  pub full : IsFull chunks (lists_of behind)
+  pub cold : IsIn Cold e.number (lists_of behind)
+  pub near : IsNearTail e.number (lists_of behind).cold e.passed
+
+-- why an item went, in a store with these limits and classes: it was dead at the loss's moment, or its chunk was taken
+abbrev pub HadCause : (ClassNo → ℕ) → (ClassNo → List ClassEvent) → Item → Lost → Cause → Type 0
+HadCause chunks classes item lost (Expired moment) = is_dead item moment ≡ true
+HadCause chunks classes item lost (Taken class place) =
+    (item.link.class ≡ class) × Has entries.Evicted (classes class) (λ behind e. IsTaking (chunks class) place item lost behind e)
+
+-- a key's item was lost by one of these events, with its cause
+abbrev pub WasLost : (ClassNo → ℕ) → (ClassNo → List ClassEvent) → List StripeEvent → List ℕ → Item → Type 0
+WasLost chunks classes between key item = Has items.Lost between (λ before lost. (lost.key ≡ key) × HadCause chunks classes item lost lost.cause)

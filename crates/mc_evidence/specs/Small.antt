@@ -1,0 +1,20 @@
+-- Which items are small enough for a class, and which commands leave the links of items alone.
+use Rattle.std.specs.Prelude.{ℕ, ◌≡◌, ◌≤◌, ◌^◌, List, Some}
+use Rattle.mc_item.specs.Measure.{class_of}
+use Rattle.mc_item.specs.declared.command.Command.{Command}
+use Rattle.mc_item.specs.declared.command.Command.TheVariants.{Get, Store, Huge, Incr, Decr, Touch, Delete}
+use Rattle.mc_item.specs.declared.item.ClassNo.{ClassNo}
+
+-- what has a class among these sizes costs no more than 2^20 bytes
+pub record AreSmall (sizes : List ℕ) : Type 0 where
+  pub most : (cost : ℕ) (class : ClassNo) → class_of sizes cost ≡ Some class → cost ≤ 2 ^ 20
+
+-- a command that reads, or changes an item's expiry alone
+abbrev pub IsReader : Command → Type 0
+IsReader (Get key) = Unit {0}
+IsReader (Store verb key flags exptime value) = ⊥
+IsReader (Huge verb key) = ⊥
+IsReader (Incr key delta) = ⊥
+IsReader (Decr key delta) = ⊥
+IsReader (Touch key exptime) = Unit {0}
+IsReader (Delete key) = ⊥

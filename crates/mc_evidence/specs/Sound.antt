@@ -1,0 +1,27 @@
+-- When the histories of all stripes and of all classes of a store are sound together.
+use Rattle.std.specs.Prelude.{ℕ, ◌<◌, List, Option}
+use Rattle.mc_item.specs.Measure.{stripe_of}
+use Rattle.mc_item.specs.Stripe.{IsLegal}
+use Rattle.mc_item.specs.declared.class_event.ClassEvent.{ClassEvent}
+use Rattle.mc_item.specs.declared.item.ClassNo.{ClassNo}
+use Rattle.mc_item.specs.declared.item.Item.{Item}
+use Rattle.mc_item.specs.declared.stripe_event.StripeEvent.{StripeEvent}
+use Rattle.mc_rule.specs.Cited.{cited_in}
+use Rattle.mc_rule.specs.Evidence.{AreEvidence}
+use Rattle.mc_rule.specs.Lawful.{IsLawfulHistory}
+use Rattle.mc_rule.specs.Partners.{ClearsOnce}
+use Rattle.mc_rule.specs.Places.{Each}
+use Rattle.mc_evidence.specs.Setting.{IsClass, Setting, site_in}
+
+-- what the stripe of a key held under it when it had this many events
+abbrev pub cited_of : Setting → (ℕ → List StripeEvent) → List ℕ → ℕ → Option Item
+cited_of setting stripes key at = cited_in (site_in setting (stripe_of key setting.stripes).0) (stripes (stripe_of key setting.stripes).0) key at
+
+-- each stripe's history is legal, each class's is lawful with the items that it cites and clears no mark twice, and any two
+-- are evidence of each other
+pub record IsSoundStore (setting : Setting) (stripes : ℕ → List StripeEvent) (classes : ClassNo → List ClassEvent) : Type 0 where
+  pub some : 0 < setting.stripes
+  pub legal : (s : ℕ) → s < setting.stripes → IsLegal (site_in setting s) (stripes s)
+  pub lawful : (class : ClassNo) → IsClass setting class → IsLawfulHistory class (setting.chunks class) setting.rule (cited_of setting stripes) (classes class)
+  pub once : (class : ClassNo) → IsClass setting class → Each ClearsOnce (classes class)
+  pub evidence : (s : ℕ) (class : ClassNo) → s < setting.stripes → IsClass setting class → AreEvidence (site_in setting s) setting.rule class (stripes s) (classes class)

@@ -1,0 +1,60 @@
+//! What a command of a stripe has to do with links: the new entry that it calls for, and when none comes or goes.
+ghost use Rattle.std.specs.Prelude.{IsSomeAnd, List, None, [], false, ℕ, ◌++◌, ◌^◌, ◌∷◌, ◌≡◌, ◌≤◌};
+ghost use Rattle.mc_item.specs.Command.{key_of};
+ghost use Rattle.mc_item.specs.Config.{IsSound};
+ghost use Rattle.mc_item.specs.Measure.{cost_of};
+ghost use Rattle.mc_item.specs.Stripe.{IsUnnamed, MayDo, cache_of};
+ghost use Rattle.mc_item.specs.declared.answer.Site.{Site};
+ghost use Rattle.mc_item.specs.declared.class_event.ClassEvent.{ClassEvent};
+ghost use Rattle.mc_item.specs.declared.config.Config.{Config};
+ghost use Rattle.mc_item.specs.declared.item.ClassNo.{ClassNo};
+ghost use Rattle.mc_item.specs.declared.item.Link.{Link};
+ghost use Rattle.mc_item.specs.declared.reply.Reply.TheVariants as replies;
+ghost use Rattle.mc_item.specs.declared.reply.Room.TheVariants as rooms;
+ghost use Rattle.mc_item.specs.declared.stripe_event.Did.{Did};
+ghost use Rattle.mc_item.specs.declared.stripe_event.StripeEvent.{StripeEvent};
+ghost use Rattle.mc_item.specs.declared.stripe_event.StripeEvent.TheVariants as items;
+ghost use Rattle.mc_rule.specs.Evidence.{IsTold};
+ghost use Rattle.mc_rule.specs.Lawful.{is_named};
+ghost use Rattle.mc_rule.specs.Pairs.{IsLinking, LetsGo, item_after, link_to};
+ghost use Rattle.mc_rule.specs.Places.{Each};
+ghost use Rattle.mc_rule.specs.Segment.{Rule};
+ghost use Rattle.mc_evidence.specs.Made.{linked_for};
+ghost use Rattle.mc_evidence.specs.Small.{AreSmall, IsReader};
+
+/// A command that was given a chunk left an item, whose new entry is its partner.
+pub fn the_new_entry_is_a_partner()
+    ensures { (site : Site) (rule : Rule) (class : ClassNo) (number : ℕ) (stripe : List StripeEvent) (did : Did)
+        → MayDo site (cache_of site stripe) stripe did → did.room ≡ rooms.At (link_to class number)
+        → IsSomeAnd (item_after site (stripe ++ items.Did did ∷ []) (key_of did.command)) (λ item. IsLinking site rule class stripe did (linked_for rule number did item)) }
+{}
+
+/// What has a class of a checked configuration costs at most 2^20 bytes.
+pub fn a_checked_configuration_has_small_sizes()
+    ensures { (config : Config) → IsSound config → AreSmall config.sizes }
+{}
+
+/// A command that was given a chunk left an item of a cost that a class can hold: at most 2^20 bytes.
+pub fn a_new_item_is_small()
+    ensures { (site : Site) (stripe : List StripeEvent) (did : Did) (link : Link) → AreSmall site.sizes
+        → MayDo site (cache_of site stripe) stripe did → did.room ≡ rooms.At link
+        → IsSomeAnd (item_after site (stripe ++ items.Did did ∷ []) (key_of did.command)) (λ item. cost_of (key_of did.command) item.value ≤ 2 ^ 20) }
+{}
+
+/// A number that no event of a class names is in no link that a stripe has named, where the class tells its events.
+pub fn new_numbers_are_unnamed()
+    ensures { (site : Site) (rule : Rule) (class : ClassNo) (n : ℕ) (stripe : List StripeEvent) (history : List ClassEvent)
+        → Each (IsTold site rule class history) stripe → is_named n history ≡ false → IsUnnamed (link_to class n) stripe }
+{}
+
+/// A command that reads, or that finds no item, takes no link away.
+pub fn readers_spare_links()
+    ensures reads { (site : Site) (stripe : List StripeEvent) (did : Did) (link : Link) → IsReader did.command → LetsGo site stripe did link → ⊥ }
+    ensures absent { (site : Site) (stripe : List StripeEvent) (did : Did) (link : Link) → item_after site stripe (key_of did.command) ≡ None → LetsGo site stripe did link → ⊥ }
+{}
+
+/// A command that was answered that no chunk was found was refused one.
+pub fn a_command_without_room_was_refused()
+    ensures { (site : Site) (stripe : List StripeEvent) (did : Did) → MayDo site (cache_of site stripe) stripe did → did.reply ≡ replies.NoRoom
+        → (class : ClassNo) × (place : ℕ) × (did.room ≡ rooms.Refused class place) }
+{}

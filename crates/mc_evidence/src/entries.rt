@@ -1,0 +1,30 @@
+//! The items of a stripe and the entries of a slab class that are evidence of each other.
+ghost use Rattle.std.specs.Prelude.{List, Some, ℕ, ◌≡◌, ◌≤◌};
+ghost use Rattle.mc_item.specs.Stripe.{IsLegal};
+ghost use Rattle.mc_item.specs.declared.answer.Site.{Site};
+ghost use Rattle.mc_item.specs.declared.class_event.ClassEvent.{ClassEvent};
+ghost use Rattle.mc_item.specs.declared.item.ClassNo.{ClassNo};
+ghost use Rattle.mc_item.specs.declared.item.Item.{Item};
+ghost use Rattle.mc_item.specs.declared.lists.Entry.{Entry};
+ghost use Rattle.mc_item.specs.declared.lists.Seg.{Seg};
+ghost use Rattle.mc_item.specs.declared.stripe_event.StripeEvent.{StripeEvent};
+ghost use Rattle.mc_rule.specs.Belonging.{HasEntry, HasItem};
+ghost use Rattle.mc_rule.specs.Evidence.{AreEvidence};
+ghost use Rattle.mc_rule.specs.Lawful.{IsLawfulHistoryByLists};
+ghost use Rattle.mc_rule.specs.Lists.{found, lists_of, times_in};
+ghost use Rattle.mc_rule.specs.Pairs.{IsKeyOf, item_after};
+ghost use Rattle.mc_rule.specs.Segment.{Rule};
+
+/// An item with a link of the class has its entry there, an entry with a key of the stripe has its item, and a number
+/// stands in the four lists once at the most: so items are exactly entries, with one number, key and cost.
+pub fn items_are_exactly_entries()
+    ensures items { (site : Site) (rule : Rule) (class : ClassNo) (chunks : ℕ) (stripe : List StripeEvent) (history : List ClassEvent)
+        → IsLegal site stripe → IsLawfulHistoryByLists chunks rule history → AreEvidence site rule class stripe history
+        → (key : List ℕ) (item : Item) → item_after site stripe key ≡ Some item → item.link.class ≡ class → HasEntry history key item }
+    ensures entries { (site : Site) (rule : Rule) (class : ClassNo) (chunks : ℕ) (stripe : List StripeEvent) (history : List ClassEvent)
+        → IsLegal site stripe → IsLawfulHistoryByLists chunks rule history → AreEvidence site rule class stripe history
+        → (number : ℕ) (seg : Seg) (entry : Entry) → found number (lists_of history) ≡ Some (seg, entry) → IsKeyOf site entry.key
+        → HasItem site class stripe number entry }
+    ensures once { (rule : Rule) (chunks : ℕ) (history : List ClassEvent) (number : ℕ) → IsLawfulHistoryByLists chunks rule history
+        → times_in number (lists_of history) ≤ 1 }
+{}

@@ -1,0 +1,66 @@
+//! Each pair of events that one call makes keeps evidence, where each side is told the other's whole history.
+ghost use Rattle.std.specs.Prelude.{List, [], length, ℕ, ◌++◌, ◌∷◌, ◌≡◌};
+ghost use Rattle.mc_item.specs.Command.{key_of};
+ghost use Rattle.mc_item.specs.declared.answer.Site.{Site};
+ghost use Rattle.mc_item.specs.declared.class_event.ClassEvent.{ClassEvent};
+ghost use Rattle.mc_item.specs.declared.class_event.ClassEvent.TheVariants as entries;
+ghost use Rattle.mc_item.specs.declared.class_event.Linked.{Linked};
+ghost use Rattle.mc_item.specs.declared.class_event.Shifted.{Shifted};
+ghost use Rattle.mc_item.specs.declared.class_event.Unlinked.{Unlinked};
+ghost use Rattle.mc_item.specs.declared.item.ClassNo.{ClassNo};
+ghost use Rattle.mc_item.specs.declared.item.Who.{Who};
+ghost use Rattle.mc_item.specs.declared.stripe_event.Did.{Did};
+ghost use Rattle.mc_item.specs.declared.stripe_event.StripeEvent.{StripeEvent};
+ghost use Rattle.mc_item.specs.declared.stripe_event.StripeEvent.TheVariants as items;
+ghost use Rattle.mc_rule.specs.Belonging.{Belong, IsEntryOf};
+ghost use Rattle.mc_rule.specs.Evidence.{AreEvidence, IsTold};
+ghost use Rattle.mc_rule.specs.Pairs.{ClearsMark, IsLinking, IsUnlinking};
+ghost use Rattle.mc_rule.specs.Segment.{Rule};
+ghost use Rattle.mc_evidence.specs.Made.{IsAlone, IsGivenNone, IsRefusedThere, LetsNoneGo, cooled_as, evicted_as, lost_at, lost_to, reclaimed_as};
+
+/// An eviction or a reclaiming, with its loss.
+pub fn a_loss_keeps_evidence()
+    ensures evicted { (site : Site) (rule : Rule) (class : ClassNo) (stripe : List StripeEvent) (history : List ClassEvent) → AreEvidence site rule class stripe history
+        → (who : Who) (key passed : List ℕ) (number : ℕ) → Belong site class stripe history key number
+        → AreEvidence site rule class (stripe ++ lost_to class who key (length history) ∷ []) (history ++ evicted_as who number passed (length stripe) ∷ []) }
+    ensures reclaimed { (site : Site) (rule : Rule) (class : ClassNo) (stripe : List StripeEvent) (history : List ClassEvent) → AreEvidence site rule class stripe history
+        → (who : Who) (key : List ℕ) (number moment : ℕ) → Belong site class stripe history key number
+        → AreEvidence site rule class (stripe ++ lost_at who key moment ∷ []) (history ++ reclaimed_as who number moment (length stripe) ∷ []) }
+{}
+
+/// A move that clears an item's mark, with its cooling.
+pub fn a_cooling_keeps_evidence()
+    ensures { (site : Site) (rule : Rule) (class : ClassNo) (stripe : List StripeEvent) (history : List ClassEvent) → AreEvidence site rule class stripe history
+        → (key : List ℕ) (e : Shifted) → Belong site class stripe history key e.number → ClearsMark e.why → e.at ≡ length stripe
+        → AreEvidence site rule class (stripe ++ cooled_as e.who key ∷ []) (history ++ entries.Shifted e ∷ []) }
+{}
+
+/// A command, as one class sees it: with a new entry there, with one that goes, with both, or with neither.
+pub fn a_command_keeps_evidence()
+    ensures links { (site : Site) (rule : Rule) (class : ClassNo) (stripe : List StripeEvent) (history : List ClassEvent) → AreEvidence site rule class stripe history
+        → (did : Did) (e : Linked) → IsLinking site rule class stripe did e → LetsNoneGo site class stripe did
+        → AreEvidence site rule class (stripe ++ items.Did did ∷ []) (history ++ entries.Linked e ∷ []) }
+    ensures unlinks { (site : Site) (rule : Rule) (class : ClassNo) (stripe : List StripeEvent) (history : List ClassEvent) → AreEvidence site rule class stripe history
+        → (did : Did) (x : Unlinked) → IsUnlinking site class stripe did x → IsEntryOf history x.number (key_of did.command)
+        → IsGivenNone class did → IsRefusedThere class did history
+        → AreEvidence site rule class (stripe ++ items.Did did ∷ []) (history ++ entries.Unlinked x ∷ []) }
+    ensures replaces { (site : Site) (rule : Rule) (class : ClassNo) (stripe : List StripeEvent) (history : List ClassEvent) → AreEvidence site rule class stripe history
+        → (did : Did) (e : Linked) (x : Unlinked) → IsLinking site rule class stripe did e → IsUnlinking site class stripe did x
+        → IsEntryOf (history ++ entries.Linked e ∷ []) x.number (key_of did.command)
+        → AreEvidence site rule class (stripe ++ items.Did did ∷ []) ((history ++ entries.Linked e ∷ []) ++ entries.Unlinked x ∷ []) }
+    ensures neither { (site : Site) (rule : Rule) (class : ClassNo) (stripe : List StripeEvent) (history : List ClassEvent) → AreEvidence site rule class stripe history
+        → (did : Did) → IsGivenNone class did → LetsNoneGo site class stripe did → IsRefusedThere class did history
+        → AreEvidence site rule class (stripe ++ items.Did did ∷ []) history }
+{}
+
+/// A survey, a refusal, a move that clears no mark, and any event for an entry with a key of another stripe.
+pub fn events_of_the_class_alone_keep_evidence()
+    ensures { (site : Site) (rule : Rule) (class : ClassNo) (stripe : List StripeEvent) (history : List ClassEvent) → AreEvidence site rule class stripe history
+        → (e : ClassEvent) → IsAlone site history e → AreEvidence site rule class stripe (history ++ e ∷ []) }
+{}
+
+/// A loss or a cooling of an item whose link is of another class.
+pub fn events_of_the_stripe_alone_keep_evidence()
+    ensures { (site : Site) (rule : Rule) (class : ClassNo) (stripe : List StripeEvent) (history : List ClassEvent) → AreEvidence site rule class stripe history
+        → (e : StripeEvent) → IsTold site rule class history stripe e → AreEvidence site rule class (stripe ++ e ∷ []) history }
+{}

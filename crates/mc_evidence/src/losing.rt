@@ -1,0 +1,45 @@
+//! Between two commands of a stripe items only go, each by a loss that has its cause.
+ghost use Rattle.std.specs.Prelude.{IsSomeAnd, List, None, Some, false, ℕ, ◌++◌, ◌≡◌};
+ghost use Rattle.mc_item.specs.Cache.{visible_items};
+ghost use Rattle.mc_item.specs.Item.{is_dead};
+ghost use Rattle.mc_item.specs.Stripe.{IsLegal, cache_of};
+ghost use Rattle.mc_item.specs.declared.answer.Site.{Site};
+ghost use Rattle.mc_item.specs.declared.class_event.ClassEvent.{ClassEvent};
+ghost use Rattle.mc_item.specs.declared.item.ClassNo.{ClassNo};
+ghost use Rattle.mc_item.specs.declared.item.Item.{Item};
+ghost use Rattle.mc_item.specs.declared.stripe_event.StripeEvent.{StripeEvent};
+ghost use Rattle.mc_rule.specs.Evidence.{AreEvidence};
+ghost use Rattle.mc_rule.specs.Lawful.{IsLawfulHistoryByLists};
+ghost use Rattle.mc_rule.specs.Lists.{IsFull, lists_of};
+ghost use Rattle.mc_rule.specs.Pairs.{item_after};
+ghost use Rattle.mc_rule.specs.Segment.{Rule};
+ghost use Rattle.mc_evidence.specs.Losses.{AreNoCommands, IsSameItem, WasLost};
+
+/// Where no command stands between, each item that is visible at a moment was visible before, the same but for its marks.
+pub fn between_commands_items_only_go()
+    ensures { (site : Site) (before between : List StripeEvent) (key : List ℕ) (item : Item) (moment : ℕ) → AreNoCommands between
+        → visible_items (cache_of site (before ++ between)) moment key ≡ Some item
+        → IsSomeAnd (visible_items (cache_of site before) moment key) (λ old. IsSameItem old item) }
+{}
+
+/// An item that was there and is gone, with no command between, was lost in between: it was dead at the loss's moment, or
+/// its entry was evicted by the same call, as the loss says, near COLD's tail in a full class.
+pub fn each_loss_has_its_cause()
+    ensures { (site : Site) (rule : Rule) (chunks : ClassNo → ℕ) (classes : ClassNo → List ClassEvent) (before between later : List StripeEvent) (key : List ℕ) (item : Item)
+        → IsLegal site (before ++ (between ++ later)) → AreNoCommands between
+        → AreEvidence site rule item.link.class (before ++ (between ++ later)) (classes item.link.class)
+        → IsLawfulHistoryByLists (chunks item.link.class) rule (classes item.link.class)
+        → item_after site before key ≡ Some item → item_after site (before ++ between) key ≡ None
+        → WasLost chunks classes between key item }
+{}
+
+/// An item that never dies stays, the same but for its marks, while no command stands between and its class is never full.
+pub fn a_living_item_stays_while_chunks_are_free()
+    ensures { (site : Site) (rule : Rule) (chunks : ClassNo → ℕ) (classes : ClassNo → List ClassEvent) (before between later : List StripeEvent) (key : List ℕ) (item : Item)
+        → IsLegal site (before ++ (between ++ later)) → AreNoCommands between
+        → AreEvidence site rule item.link.class (before ++ (between ++ later)) (classes item.link.class)
+        → IsLawfulHistoryByLists (chunks item.link.class) rule (classes item.link.class)
+        → item_after site before key ≡ Some item → ((moment : ℕ) → is_dead item moment ≡ false)
+        → ((behind more : List ClassEvent) → classes item.link.class ≡ behind ++ more → IsFull (chunks item.link.class) (lists_of behind) → ⊥)
+        → IsSomeAnd (item_after site (before ++ between) key) (λ now. IsSameItem item now) }
+{}

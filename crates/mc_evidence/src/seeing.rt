@@ -1,0 +1,47 @@
+//! Evidence that one history has found in another stays while the other grows.
+ghost use Rattle.std.specs.Prelude.{List, map, ℕ, ◌++◌, ◌≡◌};
+ghost use mathlib.Core.List.{IsPrefix};
+ghost use Rattle.mc_item.specs.declared.answer.Site.{Site};
+ghost use Rattle.mc_item.specs.declared.class_event.ClassEvent.{ClassEvent};
+ghost use Rattle.mc_item.specs.declared.event.Event.{Event};
+ghost use Rattle.mc_item.specs.declared.event.Event.TheVariants.{Class, Stripe};
+ghost use Rattle.mc_item.specs.declared.item.ClassNo.{ClassNo};
+ghost use Rattle.mc_item.specs.declared.stripe_event.Did.{Did};
+ghost use Rattle.mc_item.specs.declared.stripe_event.StripeEvent.{StripeEvent};
+ghost use Rattle.mc_rule.specs.Cited.{IsSuited};
+ghost use Rattle.mc_rule.specs.Evidence.{IsBacked, IsTold};
+ghost use Rattle.mc_rule.specs.Places.{Each};
+ghost use Rattle.mc_rule.specs.Segment.{Rule};
+ghost use Rattle.mc_evidence.specs.Locks.{SeesMore, StripeKeeps};
+ghost use Rattle.mc_evidence.specs.Refusals.{WasTried};
+ghost use Rattle.mc_evidence.specs.Seen.{class_events, classes_seen, stripe_events, stripes_seen};
+ghost use Rattle.mc_evidence.specs.Setting.{IsClass, Setting, site_in};
+
+/// What events have found in another history as far as it was seen they find in it when more is seen: a stripe's events
+/// in a class's history, a class's events in a stripe's, the items that a class's events cite, and that a refusal wasn't
+/// made at once.
+pub fn evidence_stays_as_more_is_seen()
+    ensures told { (site : Site) (rule : Rule) (class : ClassNo) (seen more : List ClassEvent) (own : List StripeEvent)
+        → Each (IsTold site rule class seen) own → Each (IsTold site rule class (seen ++ more)) own }
+    ensures backed { (site : Site) (rule : Rule) (class : ClassNo) (seen more : List StripeEvent) (own : List ClassEvent)
+        → Each (IsBacked site rule class seen) own → Each (IsBacked site rule class (seen ++ more)) own }
+    ensures suited { (site : Site) (class : ClassNo) (seen more : List StripeEvent) (own : List ClassEvent)
+        → Each (IsSuited site class seen) own → Each (IsSuited site class (seen ++ more)) own }
+    ensures tried { (site : Site) (class : ClassNo) (seen more : List ClassEvent) (did : Did)
+        → WasTried site class seen did → WasTried site class (seen ++ more) did }
+{}
+
+/// A pass that has seen no less than a stripe's lock has the partners of the stripe's events in its seen lists.
+pub fn a_pass_that_saw_it_has_the_partners()
+    ensures { (setting : Setting) (s : ℕ) (own : List StripeEvent) (seen pass : ClassNo → List ClassEvent) → StripeKeeps setting s own seen → SeesMore seen pass
+        → (class : ClassNo) → IsClass setting class → Each (IsTold (site_in setting s) setting.rule class (pass class)) own }
+{}
+
+/// Where each list that a token has seen is a beginning of another's, so is each stripe's and each class's history in it;
+/// and what a lock was told of its own events is its history.
+pub fn seen_lists_show_histories()
+    ensures classes { (stripes : ℕ) (a b : ℕ → List Event) → ((lock : ℕ) → IsPrefix (a lock) (b lock)) → SeesMore (classes_seen stripes a) (classes_seen stripes b) }
+    ensures stripes { (a b : ℕ → List Event) → ((lock : ℕ) → IsPrefix (a lock) (b lock)) → SeesMore (stripes_seen a) (stripes_seen b) }
+    ensures own_class { (es : List ClassEvent) → class_events (map Class es) ≡ es }
+    ensures own_stripe { (es : List StripeEvent) → stripe_events (map Stripe es) ≡ es }
+{}

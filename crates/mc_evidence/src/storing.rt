@@ -1,0 +1,49 @@
+//! All stripes and all classes of a store together.
+ghost use Rattle.std.specs.Prelude.{List, None, Some, ℕ, ◌++◌, ◌<◌, ◌≡◌, ◌≤◌};
+ghost use Rattle.mc_item.specs.Measure.{stripe_of};
+ghost use Rattle.mc_item.specs.declared.class_event.ClassEvent.{ClassEvent};
+ghost use Rattle.mc_item.specs.declared.item.ClassNo.{ClassNo};
+ghost use Rattle.mc_item.specs.declared.item.Item.{Item};
+ghost use Rattle.mc_item.specs.declared.lists.Entry.{Entry};
+ghost use Rattle.mc_item.specs.declared.lists.Seg.{Seg};
+ghost use Rattle.mc_item.specs.declared.stripe_event.StripeEvent.{StripeEvent};
+ghost use Rattle.mc_rule.specs.Belonging.{HasEntry, HasItem};
+ghost use Rattle.mc_rule.specs.Lists.{found, lists_of, times_in};
+ghost use Rattle.mc_rule.specs.Pairs.{item_after};
+ghost use Rattle.mc_evidence.specs.Locks.{ClassKeeps, HaveSeen, StripeKeeps};
+ghost use Rattle.mc_evidence.specs.Losses.{AreNoCommands, WasLost};
+ghost use Rattle.mc_evidence.specs.Setting.{IsClass, Setting, site_in};
+ghost use Rattle.mc_evidence.specs.Sound.{IsSoundStore};
+
+/// Where each lock keeps what it keeps, and of each stripe and class has seen a beginning, the whole store is sound.
+pub fn locks_keep_a_sound_store()
+    ensures { (setting : Setting) (stripes : ℕ → List StripeEvent) (classes : ClassNo → List ClassEvent)
+        (seen : ℕ → ClassNo → List ClassEvent) (seen_of : ClassNo → ℕ → List StripeEvent) → 0 < setting.stripes
+        → ((s : ℕ) → s < setting.stripes → StripeKeeps setting s (stripes s) (seen s))
+        → ((class : ClassNo) → IsClass setting class → ClassKeeps setting class (classes class) (seen_of class))
+        → ((s : ℕ) (class : ClassNo) → s < setting.stripes → IsClass setting class → HaveSeen (seen s class) (classes class) (seen_of class s) (stripes s))
+        → IsSoundStore setting stripes classes }
+{}
+
+/// In a sound store each item has its entry in its link's class, which is one of the store's, each entry has its item in
+/// its key's stripe, and each number stands in its class once at the most.
+pub fn a_sound_store_has_items_exactly_as_entries()
+    ensures items { (setting : Setting) (stripes : ℕ → List StripeEvent) (classes : ClassNo → List ClassEvent) → IsSoundStore setting stripes classes
+        → (s : ℕ) (key : List ℕ) (item : Item) → s < setting.stripes → item_after (site_in setting s) (stripes s) key ≡ Some item
+        → IsClass setting item.link.class × HasEntry (classes item.link.class) key item }
+    ensures entries { (setting : Setting) (stripes : ℕ → List StripeEvent) (classes : ClassNo → List ClassEvent) → IsSoundStore setting stripes classes
+        → (class : ClassNo) (number : ℕ) (seg : Seg) (entry : Entry) → IsClass setting class → found number (lists_of (classes class)) ≡ Some (seg, entry)
+        → let s = (stripe_of entry.key setting.stripes).0 in
+        (s < setting.stripes) × HasItem (site_in setting s) class (stripes s) number entry }
+    ensures once { (setting : Setting) (stripes : ℕ → List StripeEvent) (classes : ClassNo → List ClassEvent) → IsSoundStore setting stripes classes
+        → (class : ClassNo) (number : ℕ) → IsClass setting class → times_in number (lists_of (classes class)) ≤ 1 }
+{}
+
+/// In a sound store each item that was there and is gone, with no command between, was lost in between with its cause.
+pub fn in_a_sound_store_each_loss_has_its_cause()
+    ensures { (setting : Setting) (stripes : ℕ → List StripeEvent) (classes : ClassNo → List ClassEvent) → IsSoundStore setting stripes classes
+        → (s : ℕ) (before between later : List StripeEvent) (key : List ℕ) (item : Item) → s < setting.stripes
+        → stripes s ≡ before ++ (between ++ later) → AreNoCommands between
+        → item_after (site_in setting s) before key ≡ Some item → item_after (site_in setting s) (before ++ between) key ≡ None
+        → WasLost setting.chunks classes between key item }
+{}

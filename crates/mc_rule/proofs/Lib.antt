@@ -1,0 +1,5 @@
+pub mod TestLemmas
+pub mod PlaceLemmas
+pub mod ListLemmas
+pub mod HistoryLemmas
+pub mod OnceLemmas

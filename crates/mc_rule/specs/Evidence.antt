@@ -1,0 +1,65 @@
+-- Evidence: what an event of a stripe has to find in a class's history, and an event of a class in a stripe's.
+use Rattle.std.specs.Prelude.{ℕ, ◌≡◌, List, Some}
+use Rattle.mc_item.specs.Command.{key_of}
+use Rattle.mc_item.specs.Item.{link_of_item}
+use Rattle.mc_item.specs.declared.answer.Site.{Site}
+use Rattle.mc_item.specs.declared.class_event.ClassEvent.{ClassEvent}
+use Rattle.mc_item.specs.declared.class_event.ClassEvent.TheVariants as entries
+use Rattle.mc_item.specs.declared.item.ClassNo.{ClassNo}
+use Rattle.mc_item.specs.declared.lists.Entry.{Entry}
+use Rattle.mc_item.specs.declared.lists.Seg.{Seg}
+use Rattle.mc_item.specs.declared.reply.Room.TheVariants as rooms
+use Rattle.mc_item.specs.declared.stripe_event.Cause.{Cause}
+use Rattle.mc_item.specs.declared.stripe_event.Cause.TheVariants.{Expired, Taken}
+use Rattle.mc_item.specs.declared.stripe_event.Did.{Did}
+use Rattle.mc_item.specs.declared.stripe_event.Lost.{Lost}
+use Rattle.mc_item.specs.declared.stripe_event.StripeEvent.{StripeEvent}
+use Rattle.mc_item.specs.declared.stripe_event.StripeEvent.TheVariants as items
+use Rattle.mc_rule.specs.Lists.{found, lists_of}
+use Rattle.mc_rule.specs.Pairs.{ClearsMark, IsCooling, IsEviction, IsKeyOf, IsLinking, IsReclaiming, IsRefusal, IsUnlinking, LetsGo, item_after, link_to}
+use Rattle.mc_rule.specs.Places.{Each, Has}
+use Rattle.mc_rule.specs.Segment.{Rule}
+
+-- a stripe's command, told to a class: a chunk of the class that it was given was linked, a link of the class that it took
+-- away was unlinked, and a refusal of the class that it names stands there
+pub record IsCommandTold (site : Site) (rule : Rule) (class : ClassNo) (seen : List ClassEvent) (before : List StripeEvent) (did : Did) : Type 0 where
+  pub linked : (number : ℕ) → did.room ≡ rooms.At (link_to class number) → Has entries.Linked seen (λ behind e. IsLinking site rule class before did e)
+  pub unlinked : (number : ℕ) → LetsGo site before did (link_to class number) → Has entries.Unlinked seen (λ behind e. IsUnlinking site class before did e)
+  pub refused : (place : ℕ) → did.room ≡ rooms.Refused class place → Has entries.Refused seen (λ behind e. IsRefusal class did behind e)
+
+-- a loss by its cause, told to the class of the lost link: a taken chunk was evicted, a dead item's was reclaimed
+abbrev pub IsLossTold : Site → ClassNo → List ClassEvent → List StripeEvent → Lost → Cause → Type 0
+IsLossTold site class seen before lost (Taken other place) = Has entries.Evicted seen (λ behind e. IsEviction site class before lost behind e)
+IsLossTold site class seen before lost (Expired moment) = Has entries.Reclaimed seen (λ behind e. IsReclaiming site class before lost e)
+
+-- what a stripe's event has to find in a class's history, as it is seen
+abbrev pub IsTold : Site → Rule → ClassNo → List ClassEvent → List StripeEvent → StripeEvent → Type 0
+IsTold site rule class seen before (items.Did did) = IsCommandTold site rule class seen before did
+IsTold site rule class seen before (items.Lost lost) =
+    (number : ℕ) → link_of_item (item_after site before lost.key) ≡ Some (link_to class number) → IsLossTold site class seen before lost lost.cause
+IsTold site rule class seen before (items.Cooled cooled) =
+    (number : ℕ) → link_of_item (item_after site before cooled.key) ≡ Some (link_to class number)
+    → Has entries.Shifted seen (λ behind e. IsCooling site class before cooled e)
+
+-- where the entry of a number has a key of the stripe, the key does
+abbrev pub OfStripe : Site → List ClassEvent → ℕ → (List ℕ → Type 0) → Type 0
+OfStripe site behind number P = (s : Seg) (entry : Entry) → found number (lists_of behind) ≡ Some (s, entry) → IsKeyOf site entry.key → P entry.key
+
+-- what a class's event has to find in a stripe's history, as it is seen, where its entry has a key of the stripe
+abbrev pub IsBacked : Site → Rule → ClassNo → List StripeEvent → List ClassEvent → ClassEvent → Type 0
+IsBacked site rule class seen behind (entries.Linked e) = IsKeyOf site e.key → Has items.Did seen (λ before did. IsLinking site rule class before did e)
+IsBacked site rule class seen behind (entries.Unlinked e) =
+    OfStripe site behind e.number (λ key. Has items.Did seen (λ before did. (key_of did.command ≡ key) × IsUnlinking site class before did e))
+IsBacked site rule class seen behind (entries.Evicted e) =
+    OfStripe site behind e.number (λ key. Has items.Lost seen (λ before lost. (lost.key ≡ key) × IsEviction site class before lost behind e))
+IsBacked site rule class seen behind (entries.Reclaimed e) =
+    OfStripe site behind e.number (λ key. Has items.Lost seen (λ before lost. (lost.key ≡ key) × IsReclaiming site class before lost e))
+IsBacked site rule class seen behind (entries.Shifted e) =
+    ClearsMark e.why → OfStripe site behind e.number (λ key. Has items.Cooled seen (λ before cooled. (cooled.key ≡ key) × IsCooling site class before cooled e))
+IsBacked site rule class seen behind (entries.Surveyed e) = Unit {0}
+IsBacked site rule class seen behind (entries.Refused e) = Unit {0}
+
+-- a stripe's history and a class's are evidence of each other
+pub record AreEvidence (site : Site) (rule : Rule) (class : ClassNo) (stripe : List StripeEvent) (history : List ClassEvent) : Type 0 where
+  pub told : Each (IsTold site rule class history) stripe
+  pub backed : Each (IsBacked site rule class stripe) history
