@@ -1,9 +1,10 @@
 -- What follows where nothing is wrong with a configuration.
-use Rattle.std.proofs.Common.{◌≡◌, ◌≤◌, ◌<◌, ◌^◌, ◌==◌, ◌&&◌, ◌||◌, Bool, true, false, not, ℕ, List, length, refl, Option, Some, None, arith, inl, inr}
+use Rattle.std.proofs.Common.{◌≡◌, ◌≤◌, ◌<◌, ◌^◌, ◌==◌, ◌&&◌, ◌||◌, Bool, true, false, not, ℕ, List, length, refl, Option, Some, None, arith, inl, inr, get_or}
 use Rattle.std.specs.Prelude.{if◌then◌else◌, nat_le, nat_lt, ◌⊎◌}
-use Rattle.std.specs.List.{list_all}
+use Rattle.std.specs.List.{All, list_all}
 use Rattle.std.proofs.lemmas.Bool.{false≢true}
 use Rattle.std.proofs.lemmas.Bool.Decides.{nat_tests}
+use Rattle.std.proofs.lemmas.List.Sums.{AllPass-from_list_all}
 use Rattle.mc_item.specs.Config.{fault_of, are_stripes, are_sizes, are_chunks, are_percents, are_factors, are_callers, are_events, IsBounded, is_size, is_rising, is_limit}
 use Rattle.mc_item.specs.declared.config.Config.{Config}
 use Rattle.mc_item.specs.declared.config.ConfigFault.{ConfigFault}
@@ -40,6 +41,16 @@ sizes_bound xs is =
     let ends = both (nat_lt 0 (length xs)) (nat_le (length xs) 63) inner.0 in
     (below 0 (length xs) ends.0, at_most (length xs) 63 ends.1)
 
+-- each size is at most 2^20
+small : (size : ℕ) → is_size size ≡ true → size ≤ 2 ^ 20
+small size is = grind (arith, nat_tests)
+
+small_sizes : (xs : List ℕ) → are_sizes xs ≡ true → All (λ size. size ≤ 2 ^ 20) xs
+small_sizes xs is =
+    let outer = both (nat_lt 0 (length xs) && nat_le (length xs) 63 && list_all is_size xs) (is_rising xs) is in
+    let inner = both (nat_lt 0 (length xs) && nat_le (length xs) 63) (list_all is_size xs) outer.0 in
+    λ k d within. small (get_or xs k d) (AllPass-from_list_all is_size xs inner.1 k d within)
+
 -- a checked configuration's bounds
 pub bounded : (c : Config) → fault_of c ≡ None → IsBounded c
 bounded c none =
@@ -60,6 +71,7 @@ bounded c none =
       few_stripes = stripes.1;
       some_sizes = sizes.0;
       few_sizes = sizes.1;
+      small_sizes = small_sizes c.sizes b.0;
       as_many = same (length c.chunks) (length c.sizes) chunks.0;
       some_callers = at_most 1 c.callers callers.0;
       few_callers = at_most c.callers 64 callers.1;

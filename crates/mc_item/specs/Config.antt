@@ -1,7 +1,7 @@
 -- Configurations: which are sound, and the usual one (own).
 use Rattle.std.specs.Prelude.{ℕ, ◌+◌, ◌*◌, ◌/◌, ◌^◌, ◌<◌, ◌≤◌, ◌==◌, ◌&&◌, ◌||◌, List, [], ◌∷◌, Bool, true, not, nat_le, nat_lt, if◌then◌else◌, Option, Some, None, length, replicate, zero, suc}
 use Rattle.std.specs.Prelude.{false, ◌≡◌}
-use Rattle.std.specs.List.{list_all}
+use Rattle.std.specs.List.{All, list_all}
 use Rattle.mc_item.specs.declared.config.Config.{Config}
 use Rattle.mc_item.specs.declared.config.ConfigFault.{ConfigFault}
 use Rattle.mc_item.specs.declared.config.ConfigFault.TheVariants.{Stripes, Sizes, Chunks, Percent, Factor, Callers, Events}
@@ -70,6 +70,7 @@ pub record IsBounded (c : Config) : Type 0 where
   pub few_stripes : c.stripes ≤ 64
   pub some_sizes : 0 < length c.sizes
   pub few_sizes : length c.sizes ≤ 63
+  pub small_sizes : All (λ size. size ≤ 2 ^ 20) c.sizes
   pub as_many : length c.chunks ≡ length c.sizes
   pub some_callers : 0 < c.callers
   pub few_callers : c.callers ≤ 64

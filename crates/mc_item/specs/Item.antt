@@ -1,9 +1,10 @@
--- Items: when one dies, what an exptime means, and what hits leave.
-use Rattle.std.specs.Prelude.{ℕ, ◌+◌, ◌==◌, nat_le, ℤ, pos, negsuc, Bool, true, false, if◌then◌else◌}
+-- Items: when one dies, what an exptime means, what hits leave, and where one has its chunk.
+use Rattle.std.specs.Prelude.{ℕ, ◌+◌, ◌==◌, nat_le, ℤ, pos, negsuc, Bool, true, false, if◌then◌else◌, Option, Some, None}
 use Rattle.mc_item.specs.declared.item.Expiry.{Expiry}
 use Rattle.mc_item.specs.declared.item.Expiry.TheVariants.{Never, At}
 use Rattle.mc_item.specs.declared.item.Marks.{Marks}
 use Rattle.mc_item.specs.declared.item.Item.{Item}
+use Rattle.mc_item.specs.declared.item.Link.{Link}
 
 -- whether an expiry has come at a moment (own: the second of the expiry counts)
 abbrev pub has_come : Expiry → ℕ → Bool
@@ -27,3 +28,8 @@ no_marks = record { fetched = false; active = false }
 -- the marks after one more hit: the first sets FETCHED, the second ACTIVE (new_lru.txt)
 abbrev pub hit_marks : Marks → Marks
 hit_marks marks = record { fetched = true; active = if marks.fetched then true else marks.active }
+
+-- the link of an item, where there is one
+abbrev pub link_of_item : Option Item → Option Link
+link_of_item None = None
+link_of_item (Some item) = Some item.link

@@ -1,7 +1,9 @@
 -- How large an item is, which slab class holds it, which stripe has its key, and which values are numbers.
-use Rattle.std.specs.Prelude.{ℕ, ◌+◌, ◌-◌, ◌*◌, ◌%◌, ◌^◌, ◌&&◌, List, [], ◌∷◌, Bool, nat_le, nat_lt, if◌then◌else◌, Option, Some, None, length, drop, position, fold, take_while, bit_xor, ◌==◌}
+use Rattle.std.specs.Prelude.{ℕ, ◌+◌, ◌-◌, ◌*◌, ◌%◌, ◌^◌, ◌<◌, ◌≤◌, ◌&&◌, List, [], ◌∷◌, Bool, nat_le, nat_lt, if◌then◌else◌, Option, Some, None, length, get_or, drop, position, fold, take_while, bit_xor, ◌==◌}
 use Rattle.std.specs.List.{list_all}
 use Rattle.std.specs.Option.{option_map}
+use Rattle.mc_item.specs.declared.answer.Need.{Need}
+use Rattle.mc_item.specs.declared.answer.Need.TheVariants.{Nothing, Same, Fresh, TooLarge}
 use Rattle.mc_item.specs.declared.item.ClassNo.{ClassNo}
 use Rattle.mc_item.specs.declared.item.StripeNo.{StripeNo}
 
@@ -13,7 +15,33 @@ cost_of key value = 64 + length key + length value
 abbrev pub class_at : ℕ → ClassNo
 class_at place = record { 0 = place + 1 }
 
--- the class of the first size that is at least the cost, where sizes rise the least class
+-- a class of these sizes: from 1 to the number of sizes
+pub record IsClass (sizes : List ℕ) (class : ClassNo) : Type 0 where
+  pub first : 1 ≤ class.0
+  pub last : class.0 ≤ length sizes
+
+-- a need whose chunk, where it is one, is of a class of these sizes
+abbrev pub IsNeedOf : List ℕ → Need → Type 0
+IsNeedOf sizes (Fresh class) = IsClass sizes class
+IsNeedOf sizes Nothing = Unit {0}
+IsNeedOf sizes Same = Unit {0}
+IsNeedOf sizes TooLarge = Unit {0}
+
+-- the size of a class
+abbrev pub size_of : List ℕ → ClassNo → ℕ
+size_of sizes class = get_or sizes (class.0 - 1) 0
+
+-- the least class whose size is at least a cost: the size of each class below it is smaller
+pub record IsLeastClass (sizes : List ℕ) (cost : ℕ) (class : ClassNo) : Type 0 where
+  pub is_class : IsClass sizes class
+  pub holds : cost ≤ size_of sizes class
+  pub least : (other : ClassNo) → IsClass sizes other → cost ≤ size_of sizes other → class.0 ≤ other.0
+
+-- no class has a size that is at least a cost
+abbrev pub IsTooLarge : List ℕ → ℕ → Type 0
+IsTooLarge sizes cost = (class : ClassNo) → IsClass sizes class → size_of sizes class < cost
+
+-- the class of the first size that is at least the cost
 abbrev pub class_of : List ℕ → ℕ → Option ClassNo
 class_of sizes cost = option_map class_at (position (λ size. nat_le cost size) sizes)
 
@@ -37,6 +65,11 @@ number_from number (digit ∷ digits) = number_from (10 * number + (digit - 48))
 -- the number that these digits spell
 abbrev pub number_of : List ℕ → ℕ
 number_of digits = number_from 0 digits
+
+-- the number below 2^64 that a text is: one digit at least, and digits alone
+abbrev pub number_in : List ℕ → Option ℕ
+number_in digits =
+    if nat_lt 0 (length digits) && list_all is_digit digits && nat_lt (number_of digits) (2 ^ 64) then Some (number_of digits) else None
 
 -- the digits that a value begins with
 abbrev pub digits_of : List ℕ → List ℕ

@@ -1,8 +1,9 @@
 //! The whole table: what any command needs, and its answer.
-ghost use Rattle.std.specs.Prelude.{◌≡◌, ◌+◌, ◌*◌, ◌<◌, ◌≤◌, ◌^◌, IfOk, length, ℕ};
+ghost use Rattle.std.specs.Prelude.{◌≡◌, ◌+◌, ◌*◌, ◌<◌, ◌≤◌, ◌^◌, IfOk, IfSome, length, ℕ};
 ghost use Rattle.std.specs.Option.{option_copied};
 ghost use Rattle.mc_item.specs.Answer as answers;
 ghost use Rattle.mc_item.specs.Measure as measure;
+ghost use Rattle.mc_item.specs.Measure.{IsClass, IsNeedOf};
 ghost use Rattle.mc_item.specs.declared.reply.Room.{Room};
 ghost use Rattle.mc_item.specs.declared.reply.Reply.TheVariants as replies;
 
@@ -12,7 +13,7 @@ use crate::counting::Step;
 use crate::fault::NoMemory;
 use crate::item::{ClassNo, Expiry, Item, expiry_of};
 use crate::key::Key;
-use crate::measure::{cost, least_class};
+use crate::measure::cost;
 use crate::reply::{Reply, Room};
 use crate::storing::{Content, let_go, store_need};
 use crate::value::Value;
@@ -85,19 +86,18 @@ impl Site {
     /// The class of an item's cost.
     #[inline(always)]
     pub fn class_of_item(&self, key: &Key, value: &Value) -> Option<ClassNo>
-        ensures { result ≡ measure.class_of self.now.sizes (measure.cost_of key.now value.now) }
+        ensures value { result ≡ measure.class_of self.now.sizes (measure.cost_of key.now value.now) }
+        ensures bound { IfSome result (IsClass self.now.sizes) }
     {
-        least_class(
-            self.sizes.as_slice(),
-            cost(key.bytes().len() as u64, value.bytes().len() as u64),
-        )
+        self.class_of(cost(key.bytes().len() as u64, value.bytes().len() as u64))
     }
 
     /// What a command needs, where its key's item is `found`. It is the same at each moment, and after any number
     /// of versions. It takes no memory.
     #[inline(always)]
     pub fn need(&self, found: Option<&Item>, command: &Command) -> Need
-        ensures { (n moment : ℕ) → result ≡ (answers.row_of self.now n (option_copied found.entry) command.now moment).need }
+        ensures need { (n moment : ℕ) → result ≡ (answers.row_of self.now n (option_copied found.entry) command.now moment).need }
+        ensures bound { IsNeedOf self.now.sizes result }
     {
         match command {
             Command::Get(_) => Need::Nothing,

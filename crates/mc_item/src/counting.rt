@@ -4,6 +4,7 @@ ghost use Rattle.std.specs.Option.{option_copied, option_map};
 ghost use Rattle.mc_item.specs.Answer as answers;
 ghost use Rattle.mc_item.specs.Cache as caches;
 ghost use Rattle.mc_item.specs.Measure as measure;
+ghost use Rattle.mc_item.specs.Measure.{IsClass, IsNeedOf};
 ghost use Rattle.mc_item.specs.declared.item.Link.{Link};
 ghost use Rattle.mc_item.specs.declared.reply.Reply.TheVariants as replies;
 ghost use Rattle.mc_item.specs.declared.answer.Change.TheVariants as changes;
@@ -12,7 +13,7 @@ use crate::answer::{Answer, Change, Need, Site};
 use crate::fault::NoMemory;
 use crate::item::{ClassNo, Item, Marks};
 use crate::key::Key;
-use crate::measure::{cost, least_class, numeral_of};
+use crate::measure::{cost, numeral_of};
 use crate::reply::{Reply, Room};
 use crate::value::Value;
 use itoa::Buffer;
@@ -112,17 +113,16 @@ impl Site {
     // The class of a number's cost.
     fn class_of_digits(&self, key: &Key, digits: usize) -> Option<ClassNo>
         requires { digits ≤ 20 }
-        ensures { result ≡ measure.class_of self.now.sizes (64 + length key.now + digits) }
+        ensures value { result ≡ measure.class_of self.now.sizes (64 + length key.now + digits) }
+        ensures bound { IfSome result (IsClass self.now.sizes) }
     {
-        least_class(
-            self.sizes.as_slice(),
-            cost(key.bytes().len() as u64, digits as u64),
-        )
+        self.class_of(cost(key.bytes().len() as u64, digits as u64))
     }
 
     // What a new number needs.
     fn number_need(&self, key: &Key, item: &Item, counted: Option<u64>) -> Need
-        ensures { (n : ℕ) → result ≡ (answers.number_row self.now n key.now item.now counted).need }
+        ensures need { (n : ℕ) → result ≡ (answers.number_row self.now n key.now item.now counted).need }
+        ensures bound { IsNeedOf self.now.sizes result }
     {
         let Some(number) = counted else {
             return Need::Nothing;
@@ -139,7 +139,8 @@ impl Site {
 
     /// What `incr` or `decr` needs.
     pub fn count_need(&self, key: &Key, step: Step, found: Option<&Item>) -> Need
-        ensures { (n : ℕ) → result ≡ (answers.count_row self.now n key.now (answers.stepped step) (option_copied found.entry)).need }
+        ensures need { (n : ℕ) → result ≡ (answers.count_row self.now n key.now (answers.stepped step) (option_copied found.entry)).need }
+        ensures bound { IsNeedOf self.now.sizes result }
     {
         match found {
             None => Need::Nothing,

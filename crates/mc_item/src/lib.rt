@@ -35,7 +35,7 @@ pub use fault::{Fault, NoMemory};
 pub use item::{ClassNo, Expiry, Item, Link, Marks, StripeNo, Who, expiry_of};
 pub use key::{Key, KeyFault, MAX_KEY_LEN};
 pub use lists::{Entry, Passed, Seg};
-pub use measure::{class_of, cost, least_class, numeral_of, stripe_of};
+pub use measure::{class_of, cost, least_class, number_of, numeral_of, stripe_of};
 pub use numbers::{ClassSizes, Numbers};
 pub use reply::{Reply, Room};
 pub use spare::KeyBuffer;

@@ -1,9 +1,11 @@
 //! How large an item is, which slab class holds it, which stripe has its key, and which values are numbers.
-ghost use Rattle.std.specs.Prelude.{◌≡◌, ◌+◌, ◌-◌, ◌<◌, ◌≤◌, ◌^◌, ℕ, None, IfSome, IfNone, IsTrue, All, length, take};
+ghost use Rattle.std.specs.Prelude.{◌≡◌, ◌+◌, ◌-◌, ◌<◌, ◌≤◌, ◌^◌, ℕ, None, IfSome, IfNone, IsTrue, All, MatchOption, get_or, length, take};
 ghost use Rattle.std.specs.List.{prefix_len, position, list_all};
 ghost use Rattle.std.specs.Prelude.{nat_le, ◌==◌};
 ghost use Rattle.mc_item.specs.Measure as measure;
+ghost use Rattle.mc_item.specs.Measure.{IsLeastClass, IsTooLarge};
 
+use crate::answer::Site;
 use crate::config::Config;
 use crate::item::{ClassNo, StripeNo};
 use crate::key::Key;
@@ -20,6 +22,9 @@ pub fn cost(key_len: u64, value_len: u64) -> u64
 fn place_of(sizes: &[u64], cost: u64) -> Option<usize>
     ensures value { result ≡ position (λ size. nat_le cost size) sizes.now }
     ensures bound { IfSome result (λ place. place < length sizes.now) }
+    ensures holds { IfSome result (λ place. cost ≤ get_or sizes.now place 0) }
+    ensures first { IfSome result (λ place. (k : ℕ) → k < place → get_or sizes.now k 0 < cost) }
+    ensures none { IfNone result ((k : ℕ) → k < length sizes.now → get_or sizes.now k 0 < cost) }
 {
     sizes.iter().position(|size| cost <= *size)
 }
@@ -35,6 +40,7 @@ fn are_spaces(bytes: &[u8]) -> bool
 pub fn least_class(sizes: &[u64], cost: u64) -> Option<ClassNo>
     requires { length sizes.now ≤ 63 }
     ensures value { result ≡ measure.class_of sizes.now cost }
+    ensures least { MatchOption result (IsTooLarge sizes.now cost) (IsLeastClass sizes.now cost) }
 {
     match place_of(sizes, cost) {
         Some(place) => Some(ClassNo(place as u32 + 1)),
@@ -46,8 +52,21 @@ pub fn least_class(sizes: &[u64], cost: u64) -> Option<ClassNo>
 pub fn class_of(config: &Config, cost: u64) -> Option<ClassNo>
     requires { length config.now.sizes ≤ 63 }
     ensures value { result ≡ measure.class_of config.now.sizes cost }
+    ensures least { MatchOption result (IsTooLarge config.now.sizes cost) (IsLeastClass config.now.sizes cost) }
 {
     least_class(config.sizes.as_slice(), cost)
+}
+
+impl Site {
+    /// The least class whose size is at least the cost. Where no size is above 2^20, nor is a cost that has a class.
+    #[inline(always)]
+    pub fn class_of(&self, cost: u64) -> Option<ClassNo>
+        ensures value { result ≡ measure.class_of self.now.sizes cost }
+        ensures least { MatchOption result (IsTooLarge self.now.sizes cost) (IsLeastClass self.now.sizes cost) }
+        ensures small { All (λ size. size ≤ 2 ^ 20) self.now.sizes → IfSome result (λ class. cost ≤ 2 ^ 20) }
+    {
+        least_class(self.sizes.as_slice(), cost)
+    }
 }
 
 const FNV_START: u32 = 2_166_136_261;
@@ -81,40 +100,54 @@ fn digits_end(bytes: &[u8]) -> usize
         .count()
 }
 
-// The number that at most 19 digits spell.
-fn short_number_of(digits: &[u8]) -> u64
+// The number that a text of at most 19 bytes is. So few digits don't wrap.
+#[inline(always)]
+fn short_number_of(digits: &[u8]) -> Option<u64>
     requires few { length digits.now ≤ 19 }
-    requires digits { All (λ byte. IsTrue (measure.is_digit byte)) digits.now }
-    ensures { result ≡ measure.number_of digits.now }
+    ensures value { result ≡ measure.number_in digits.now }
+    ensures bound { IfSome result (λ n. n < 10 ^ length digits.now) }
+{
+    if digits.is_empty() {
+        return None;
+    }
+    let mut number: u64 = 0;
+    for digit in digits {
+        if !digit.is_ascii_digit() {
+            return None;
+        }
+        number = 10 * number + u64::from(*digit - b'0');
+    }
+    Some(number)
+}
+
+// The number that a longer text is. Its leading zeros may be many.
+#[cold]
+#[inline(never)]
+fn long_number_of(digits: &[u8]) -> Option<u64>
+    requires many { 20 ≤ length digits.now }
+    ensures value { result ≡ measure.number_in digits.now }
+    ensures bound { IfSome result (λ n. n < 10 ^ length digits.now) }
 {
     let mut number: u64 = 0;
     for digit in digits {
-        number = 10 * number + u64::from(*digit - b'0');
+        if !digit.is_ascii_digit() {
+            return None;
+        }
+        number = number
+            .checked_mul(10)?
+            .checked_add(u64::from(*digit - b'0'))?;
     }
-    number
+    Some(number)
 }
 
-// The number that at most 20 digits spell.
-fn long_number_of(digits: &[u8]) -> u128
-    requires few { length digits.now ≤ 20 }
-    requires digits { All (λ byte. IsTrue (measure.is_digit byte)) digits.now }
-    ensures { result ≡ measure.number_of digits.now }
-{
-    let mut number: u128 = 0;
-    for digit in digits {
-        number = 10 * number + u128::from(*digit - b'0');
-    }
-    number
-}
-
-// The number that at most 20 digits spell; only the longest need 128 bits on the way.
-fn number_of(digits: &[u8]) -> u128
-    requires few { length digits.now ≤ 20 }
-    requires digits { All (λ byte. IsTrue (measure.is_digit byte)) digits.now }
-    ensures { result ≡ measure.number_of digits.now }
+/// The number below 2^64 that a text is: one digit at least, and digits alone. Leading zeros are fine.
+#[inline(always)]
+pub fn number_of(digits: &[u8]) -> Option<u64>
+    ensures value { result ≡ measure.number_in digits.now }
+    ensures bound { IfSome result (λ n. n < 10 ^ length digits.now) }
 {
     if digits.len() < 20 {
-        u128::from(short_number_of(digits))
+        short_number_of(digits)
     } else {
         long_number_of(digits)
     }
@@ -125,13 +158,8 @@ pub fn numeral_of(value: &[u8]) -> Option<u64>
     ensures { result ≡ measure.numeral_of value.now }
 {
     let (digits, rest) = value.split_at(digits_end(value));
-    if digits.is_empty() || digits.len() > 20 || !are_spaces(rest) {
+    if digits.len() > 20 || !are_spaces(rest) {
         return None;
     }
-    let number = number_of(digits);
-    if number < 1 << 64 {
-        Some(number as u64)
-    } else {
-        None
-    }
+    number_of(digits)
 }

@@ -1,7 +1,8 @@
 //! The rows of the storage commands.
-ghost use Rattle.std.specs.Prelude.{◌≡◌, ◌+◌, ◌*◌, ◌<◌, ◌≤◌, ◌^◌, IfOk, OnOk, OnErr, Some, true, length, ℕ, Option};
+ghost use Rattle.std.specs.Prelude.{◌≡◌, ◌+◌, ◌*◌, ◌<◌, ◌≤◌, ◌^◌, IfOk, IfSome, OnOk, OnErr, Some, true, length, ℕ, List, Option};
 ghost use Rattle.std.specs.Option.{option_copied};
 ghost use Rattle.mc_item.specs.Answer as answers;
+ghost use Rattle.mc_item.specs.Measure.{IsClass, IsNeedOf};
 ghost use Rattle.mc_item.specs.declared.item.Item.{Item};
 ghost use Rattle.mc_item.specs.declared.item.Link.{Link};
 ghost use Rattle.mc_item.specs.declared.reply.Reply.TheVariants as replies;
@@ -40,7 +41,8 @@ pub fn let_go(verb: Verb) -> Change
 
 /// What a storage command needs, by the class of its cost and the item that is there.
 pub fn store_need(class: Option<ClassNo>, verb: Verb, found: Option<&Item>) -> Need
-    ensures { (version : Link → Item) → result ≡ (answers.store_row class verb (option_copied found.entry) version).need }
+    ensures need { (version : Link → Item) → result ≡ (answers.store_row class verb (option_copied found.entry) version).need }
+    ensures bound { (sizes : List ℕ) → IfSome class (IsClass sizes) → IsNeedOf sizes result }
 {
     let Some(class) = class else {
         return Need::TooLarge;

@@ -2,7 +2,7 @@
 use crate::tests::{NO_MARKS, item};
 use mc_item::{
     ClassNo, ClassSizes, Config, Expiry, Histogram, Marks, Passed, class_of, cost, expiry_of,
-    numeral_of,
+    number_of, numeral_of,
 };
 
 #[test]
@@ -109,4 +109,32 @@ fn sums_of_counts(rt: HostRuntime) {
     );
     assert_eq!(rt; (sum.hour_plus, sum.no_expiry, sum.seen), (3, 4, 5));
     assert_eq!(rt; (sum.reclaimed, sum.passed, sum.gone), (6, 7, 8));
+}
+
+#[test]
+fn texts_that_are_numbers(rt: HostRuntime) {
+    for (text, want) in [
+        (b"0".as_slice(), Some(0)),
+        (b"007".as_slice(), Some(7)),
+        (
+            b"9999999999999999999".as_slice(),
+            Some(9_999_999_999_999_999_999),
+        ),
+        (
+            b"18446744073709551615".as_slice(),
+            Some(18_446_744_073_709_551_615),
+        ),
+        (b"18446744073709551616".as_slice(), None),
+        (b"99999999999999999999".as_slice(), None),
+        (b"000000000000000000000000000042".as_slice(), Some(42)),
+        (b"00000000000000000000000000004x".as_slice(), None),
+        (b"".as_slice(), None),
+        (b"+5".as_slice(), None),
+        (b"-1".as_slice(), None),
+        (b"1 ".as_slice(), None),
+        (b"1/".as_slice(), None),
+        (b"1:".as_slice(), None),
+    ] {
+        assert_eq!(rt; number_of(text), want, "{text:?}");
+    }
 }
