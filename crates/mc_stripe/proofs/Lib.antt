@@ -1,2 +1,1 @@
 pub mod StateLemmas
-mod PlanLemmas

@@ -39,9 +39,7 @@ kept_on site limit history later versions count items now e kept may below new_i
       versions_are = new_count ∙ ap (λ (c : Cache). c.versions) (sym pushed);
       few_versions = omega (arith, length-append history (e ∷ []), kept.few_versions);
       within = omega (arith, length-append history (e ∷ []));
-      few_events = kept.few_events;
-      one_of = kept.one_of;
-      few_stripes = kept.few_stripes;
+      bounds = kept.bounds;
     } in
     subst (λ (h : List StripeEvent). IsKept site limit h count now) (sym is) whole
 

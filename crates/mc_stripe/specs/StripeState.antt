@@ -1,6 +1,6 @@
 -- A stripe as contracts see it, and what its fields keep.
 use Rattle.std.specs.Prelude.{ℕ, ◌≡◌, ◌<◌, ◌≤◌, ◌^◌, ◌-◌, List, Option, Some, None, length}
-use Rattle.std.specs.List.{slice_get}
+use Rattle.std.specs.List.{All, slice_get}
 use Rattle.mc_item.specs.Cache.{Cache}
 use Rattle.mc_item.specs.Stripe.{cache_of, IsLegal}
 use Rattle.mc_item.specs.declared.answer.Site.{Site}
@@ -36,6 +36,14 @@ reply_noted (Some (events.Cooled cooled)) = None
 abbrev pub last_reply : List StripeEvent → Option Reply
 last_reply history = reply_noted (slice_get history (length history - 1))
 
+-- the bounds of what a stripe is made with: its number is one of at most 64 stripes, each size is at most 2^20, and
+-- its history may have at most 2^32 events
+pub record HasBounds (site : Site) (limit : ℕ) : Type 0 where
+  pub one_of : site.stripe < site.stripes
+  pub few_stripes : site.stripes ≤ 64
+  pub small_sizes : All (λ size. size ≤ 2 ^ 20) site.sizes
+  pub few_events : limit ≤ 2 ^ 32
+
 -- what a stripe's fields keep: the history is legal and within its limit, and the items and the count of
 -- versions are those of the cache that it leaves
 pub record IsKept (site : Site) (limit : ℕ) (history : List StripeEvent) (versions : ℕ) (items : List ℕ → Option Item) : Type 0 where
@@ -44,6 +52,4 @@ pub record IsKept (site : Site) (limit : ℕ) (history : List StripeEvent) (vers
   pub versions_are : versions ≡ (cache_of site history).versions
   pub few_versions : versions ≤ length history
   pub within : length history ≤ limit
-  pub few_events : limit ≤ 2 ^ 32
-  pub one_of : site.stripe < site.stripes
-  pub few_stripes : site.stripes ≤ 64
+  pub bounds : HasBounds site limit

@@ -24,7 +24,7 @@ use std::hash::RandomState;
 fn answer_miss(given: Given, copies: bool) -> Answered
     ensures room { result.room ≡ calls.room_of given needs.Nothing }
     ensures noted { result.noted ≡ replies.Miss }
-    ensures told { result.told ≡ (if copies then Some replies.Miss else None) }
+    ensures copy { result.copy ≡ (if copies then Some replies.Miss else None) }
     ensures added { result.added ≡ 0 }
 {
     let room = match given {
@@ -33,7 +33,7 @@ fn answer_miss(given: Given, copies: bool) -> Answered
     };
     Answered {
         noted: Reply::Miss,
-        told: if copies { Some(Reply::Miss) } else { None },
+        copy: if copies { Some(Reply::Miss) } else { None },
         room,
         added: 0,
     }
@@ -49,13 +49,13 @@ fn answer_get(
     given: Given,
     copies: bool,
 ) -> Result<Option<Answered>, NoMemory>
-    ensures alive { IfOk result (λ told. IfSome told (λ a. IsAlive (get (pointwise nat_eq) items.old key.now) moment)) }
-    ensures room { IfOk result (λ told. IfSome told (λ a. a.room ≡ calls.room_of given needs.Nothing)) }
-    ensures ok { IfOk result (λ told. IfSome told (λ a. (answer : Answer) × (answer ≡ (get_row (get (pointwise nat_eq) items.old key.now)).answer a.room)
-        × (a.noted ≡ answer.reply) × (a.told ≡ (if copies then Some answer.reply else None)) × (a.added ≡ Rattle.mc_item.specs.Cache.versions_of answer.change)
+    ensures alive { IfOk result (λ answered. IfSome answered (λ a. IsAlive (get (pointwise nat_eq) items.old key.now) moment)) }
+    ensures room { IfOk result (λ answered. IfSome answered (λ a. a.room ≡ calls.room_of given needs.Nothing)) }
+    ensures ok { IfOk result (λ answered. IfSome answered (λ a. (answer : Answer) × (answer ≡ (get_row (get (pointwise nat_eq) items.old key.now)).answer a.room)
+        × (a.noted ≡ answer.reply) × (a.copy ≡ (if copies then Some answer.reply else None)) × (a.added ≡ Rattle.mc_item.specs.Cache.versions_of answer.change)
         × ((q : List ℕ) → get (pointwise nat_eq) items.new q ≡ (if pointwise nat_eq key.now q then changed (get (pointwise nat_eq) items.old key.now) answer.change else get (pointwise nat_eq) items.old q)))) }
-    ensures dead { IfOk result (λ told. IfNone told (IsDead (get (pointwise nat_eq) items.old key.now) moment)) }
-    ensures same { IfOk result (λ told. IfNone told ((q : List ℕ) → get (pointwise nat_eq) items.new q ≡ get (pointwise nat_eq) items.old q)) }
+    ensures dead { IfOk result (λ answered. IfNone answered (IsDead (get (pointwise nat_eq) items.old key.now) moment)) }
+    ensures same { IfOk result (λ answered. IfNone answered ((q : List ℕ) → get (pointwise nat_eq) items.new q ≡ get (pointwise nat_eq) items.old q)) }
     ensures err { OnErr result ((q : List ℕ) → get (pointwise nat_eq) items.new q ≡ get (pointwise nat_eq) items.old q) }
     ensures spare { spare items.old ≤ spare items.new + 1 }
 {
@@ -81,13 +81,13 @@ fn answer_stored(
     requires cas { cas_of site.now versions < 2 ^ 64 }
     requires moment { moment ≤ 2 ^ 62 }
     requires room { 0 < spare items.old }
-    ensures alive { IfOk result (λ told. IfSome told (λ a. IsAlive (get (pointwise nat_eq) items.old (key_of command.now)) moment)) }
-    ensures room { IfOk result (λ told. IfSome told (λ a. a.room ≡ calls.room_of given (row_of site.now versions (get (pointwise nat_eq) items.old (key_of command.now)) command.now moment).need)) }
-    ensures ok { IfOk result (λ told. IfSome told (λ a. (answer : Answer) × (answer ≡ (row_of site.now versions (get (pointwise nat_eq) items.old (key_of command.now)) command.now moment).answer a.room)
-        × (a.noted ≡ answer.reply) × (a.told ≡ (if copies then Some answer.reply else None)) × (a.added ≡ Rattle.mc_item.specs.Cache.versions_of answer.change)
+    ensures alive { IfOk result (λ answered. IfSome answered (λ a. IsAlive (get (pointwise nat_eq) items.old (key_of command.now)) moment)) }
+    ensures room { IfOk result (λ answered. IfSome answered (λ a. a.room ≡ calls.room_of given (row_of site.now versions (get (pointwise nat_eq) items.old (key_of command.now)) command.now moment).need)) }
+    ensures ok { IfOk result (λ answered. IfSome answered (λ a. (answer : Answer) × (answer ≡ (row_of site.now versions (get (pointwise nat_eq) items.old (key_of command.now)) command.now moment).answer a.room)
+        × (a.noted ≡ answer.reply) × (a.copy ≡ (if copies then Some answer.reply else None)) × (a.added ≡ Rattle.mc_item.specs.Cache.versions_of answer.change)
         × ((q : List ℕ) → get (pointwise nat_eq) items.new q ≡ (if pointwise nat_eq (key_of command.now) q then changed (get (pointwise nat_eq) items.old (key_of command.now)) answer.change else get (pointwise nat_eq) items.old q)))) }
-    ensures dead { IfOk result (λ told. IfNone told (IsDead (get (pointwise nat_eq) items.old (key_of command.now)) moment)) }
-    ensures same { IfOk result (λ told. IfNone told ((q : List ℕ) → get (pointwise nat_eq) items.new q ≡ get (pointwise nat_eq) items.old q)) }
+    ensures dead { IfOk result (λ answered. IfNone answered (IsDead (get (pointwise nat_eq) items.old (key_of command.now)) moment)) }
+    ensures same { IfOk result (λ answered. IfNone answered ((q : List ℕ) → get (pointwise nat_eq) items.new q ≡ get (pointwise nat_eq) items.old q)) }
     ensures err { OnErr result ((q : List ℕ) → get (pointwise nat_eq) items.new q ≡ get (pointwise nat_eq) items.old q) }
     ensures spare { spare items.old ≤ spare items.new + 1 }
 {
@@ -129,13 +129,13 @@ fn answer_other(
     requires cas { cas_of site.now versions < 2 ^ 64 }
     requires moment { moment ≤ 2 ^ 62 }
     requires room { 0 < spare items.old }
-    ensures alive { IfOk result (λ told. IfSome told (λ a. IsAlive (get (pointwise nat_eq) items.old (key_of command.now)) moment)) }
-    ensures room { IfOk result (λ told. IfSome told (λ a. a.room ≡ calls.room_of given (row_of site.now versions (get (pointwise nat_eq) items.old (key_of command.now)) command.now moment).need)) }
-    ensures ok { IfOk result (λ told. IfSome told (λ a. (answer : Answer) × (answer ≡ (row_of site.now versions (get (pointwise nat_eq) items.old (key_of command.now)) command.now moment).answer a.room)
-        × (a.noted ≡ answer.reply) × (a.told ≡ (if copies then Some answer.reply else None)) × (a.added ≡ Rattle.mc_item.specs.Cache.versions_of answer.change)
+    ensures alive { IfOk result (λ answered. IfSome answered (λ a. IsAlive (get (pointwise nat_eq) items.old (key_of command.now)) moment)) }
+    ensures room { IfOk result (λ answered. IfSome answered (λ a. a.room ≡ calls.room_of given (row_of site.now versions (get (pointwise nat_eq) items.old (key_of command.now)) command.now moment).need)) }
+    ensures ok { IfOk result (λ answered. IfSome answered (λ a. (answer : Answer) × (answer ≡ (row_of site.now versions (get (pointwise nat_eq) items.old (key_of command.now)) command.now moment).answer a.room)
+        × (a.noted ≡ answer.reply) × (a.copy ≡ (if copies then Some answer.reply else None)) × (a.added ≡ Rattle.mc_item.specs.Cache.versions_of answer.change)
         × ((q : List ℕ) → get (pointwise nat_eq) items.new q ≡ (if pointwise nat_eq (key_of command.now) q then changed (get (pointwise nat_eq) items.old (key_of command.now)) answer.change else get (pointwise nat_eq) items.old q)))) }
-    ensures dead { IfOk result (λ told. IfNone told (IsDead (get (pointwise nat_eq) items.old (key_of command.now)) moment)) }
-    ensures same { IfOk result (λ told. IfNone told ((q : List ℕ) → get (pointwise nat_eq) items.new q ≡ get (pointwise nat_eq) items.old q)) }
+    ensures dead { IfOk result (λ answered. IfNone answered (IsDead (get (pointwise nat_eq) items.old (key_of command.now)) moment)) }
+    ensures same { IfOk result (λ answered. IfNone answered ((q : List ℕ) → get (pointwise nat_eq) items.new q ≡ get (pointwise nat_eq) items.old q)) }
     ensures err { OnErr result ((q : List ℕ) → get (pointwise nat_eq) items.new q ≡ get (pointwise nat_eq) items.old q) }
     ensures spare { spare items.old ≤ spare items.new + 1 }
 {
@@ -176,13 +176,13 @@ pub(crate) fn answer_item(
     requires cas { cas_of site.now versions < 2 ^ 64 }
     requires moment { moment ≤ 2 ^ 62 }
     requires room { 0 < spare items.old }
-    ensures alive { IfOk result (λ told. IfSome told (λ a. IsAlive (get (pointwise nat_eq) items.old (key_of command.now)) moment)) }
-    ensures room { IfOk result (λ told. IfSome told (λ a. a.room ≡ calls.room_of given (row_of site.now versions (get (pointwise nat_eq) items.old (key_of command.now)) command.now moment).need)) }
-    ensures ok { IfOk result (λ told. IfSome told (λ a. (answer : Answer) × (answer ≡ (row_of site.now versions (get (pointwise nat_eq) items.old (key_of command.now)) command.now moment).answer a.room)
-        × (a.noted ≡ answer.reply) × (a.told ≡ (if copies then Some answer.reply else None)) × (a.added ≡ Rattle.mc_item.specs.Cache.versions_of answer.change)
+    ensures alive { IfOk result (λ answered. IfSome answered (λ a. IsAlive (get (pointwise nat_eq) items.old (key_of command.now)) moment)) }
+    ensures room { IfOk result (λ answered. IfSome answered (λ a. a.room ≡ calls.room_of given (row_of site.now versions (get (pointwise nat_eq) items.old (key_of command.now)) command.now moment).need)) }
+    ensures ok { IfOk result (λ answered. IfSome answered (λ a. (answer : Answer) × (answer ≡ (row_of site.now versions (get (pointwise nat_eq) items.old (key_of command.now)) command.now moment).answer a.room)
+        × (a.noted ≡ answer.reply) × (a.copy ≡ (if copies then Some answer.reply else None)) × (a.added ≡ Rattle.mc_item.specs.Cache.versions_of answer.change)
         × ((q : List ℕ) → get (pointwise nat_eq) items.new q ≡ (if pointwise nat_eq (key_of command.now) q then changed (get (pointwise nat_eq) items.old (key_of command.now)) answer.change else get (pointwise nat_eq) items.old q)))) }
-    ensures dead { IfOk result (λ told. IfNone told (IsDead (get (pointwise nat_eq) items.old (key_of command.now)) moment)) }
-    ensures same { IfOk result (λ told. IfNone told ((q : List ℕ) → get (pointwise nat_eq) items.new q ≡ get (pointwise nat_eq) items.old q)) }
+    ensures dead { IfOk result (λ answered. IfNone answered (IsDead (get (pointwise nat_eq) items.old (key_of command.now)) moment)) }
+    ensures same { IfOk result (λ answered. IfNone answered ((q : List ℕ) → get (pointwise nat_eq) items.new q ≡ get (pointwise nat_eq) items.old q)) }
     ensures err { OnErr result ((q : List ℕ) → get (pointwise nat_eq) items.new q ≡ get (pointwise nat_eq) items.old q) }
     ensures spare { spare items.old ≤ spare items.new + 1 }
 {

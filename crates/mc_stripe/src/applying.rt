@@ -3,7 +3,7 @@ ghost use Rattle.std.specs.Prelude.{◌≡◌, ◌≤◌, ◌<◌, ◌+◌, ◌^
 ghost use Rattle.mc_item.specs.Answer.{row_of};
 ghost use Rattle.mc_item.specs.Cache.{answer_of};
 ghost use Rattle.mc_item.specs.Command.{key_of};
-ghost use Rattle.mc_item.specs.Measure.{stripe_of};
+ghost use Rattle.mc_item.specs.Measure.{IsNeedOf, stripe_of};
 ghost use Rattle.mc_item.specs.Stripe.{Fits, IsAlive, IsDead};
 ghost use Rattle.mc_item.specs.declared.answer.Site.{Site};
 ghost use Rattle.mc_item.specs.declared.fault.Fault.TheVariants as faults;
@@ -64,7 +64,8 @@ fn push_answer(
 impl StripeState {
     /// What a command of a key of this stripe needs, where the key's item isn't dead at the moment. It takes no memory.
     pub fn need(&self, command: &Command, moment: u64) -> Need
-        ensures { result ≡ (row_of self.now.site (cache_now self.now).versions ((cache_now self.now).items (key_of command.now)) command.now moment).need }
+        ensures need { result ≡ (row_of self.now.site (cache_now self.now).versions ((cache_now self.now).items (key_of command.now)) command.now moment).need }
+        ensures bound { IsNeedOf self.now.site.sizes result }
     {
         let _moment = moment;
         if asks_for_item(command) {
@@ -89,7 +90,7 @@ impl StripeState {
         requires moment { moment ≤ 2 ^ 62 }
         requires fits { Fits (row_of self.old.site (cache_now self.old).versions ((cache_now self.old).items (key_of command)) command moment).need
             (room_of given (row_of self.old.site (cache_now self.old).versions ((cache_now self.old).items (key_of command)) command moment).need) self.old.history }
-        ensures reply { IfOk result (λ noted. IfOk noted (λ told. told ≡ (if copies then Some (answer_of self.old.site (cache_now self.old) command moment
+        ensures reply { IfOk result (λ noted. IfOk noted (λ copy. copy ≡ (if copies then Some (answer_of self.old.site (cache_now self.old) command moment
             (room_of given (row_of self.old.site (cache_now self.old).versions ((cache_now self.old).items (key_of command)) command moment).need)).reply else None))) }
         ensures event { IfOk result (λ noted. OnOk noted (Notes self.old self.new who command moment
             (room_of given (row_of self.old.site (cache_now self.old).versions ((cache_now self.old).items (key_of command)) command moment).need))) }
@@ -128,7 +129,7 @@ impl StripeState {
             answered.noted,
             answered.room,
         );
-        Ok(Ok(answered.told))
+        Ok(Ok(answered.copy))
     }
 
     /// Answers a command at a moment, and notes that as one event. The room is one that fits the command's need.
@@ -150,8 +151,33 @@ impl StripeState {
         ensures site { KeepsSite self.old self.new }
         ensures room { self.old.room ≤ self.new.room + 1 }
     {
-        match self.note(who, command, moment, Given::Room(room), true)? {
-            Ok(told) => Ok(told.unwrap()),
+        let copy = self.apply_with(who, command, moment, room, true)?;
+        Ok(copy.unwrap())
+    }
+
+    /// Answers a command as `apply` does. A copy of the reply is made where one is asked for; the reply stands in the
+    /// history, at the place that was its end.
+    pub fn apply_with(
+        &mut self,
+        who: Who,
+        command: Command,
+        moment: u64,
+        room: Room,
+        copies: bool,
+    ) -> Result<Option<Reply>, Fault>
+        requires stripe { stripe_of (key_of command) self.old.site.stripes ≡ record { 0 = self.old.site.stripe } }
+        requires moment { moment ≤ 2 ^ 62 }
+        requires alive { IsAlive ((cache_now self.old).items (key_of command)) moment }
+        requires fits { Fits (row_of self.old.site (cache_now self.old).versions ((cache_now self.old).items (key_of command)) command moment).need room self.old.history }
+        ensures reply { IfOk result (λ copy. copy ≡ (if copies then Some (answer_of self.old.site (cache_now self.old) command moment room).reply else None)) }
+        ensures event { OnOk result (Notes self.old self.new who command moment room) }
+        ensures full { IsErrOf result faults.HistoryFull ↔ (self.old.limit ≤ length self.old.history) }
+        ensures err { OnErr result (self.new.history ≡ self.old.history) }
+        ensures site { KeepsSite self.old self.new }
+        ensures room { self.old.room ≤ self.new.room + 1 }
+    {
+        match self.note(who, command, moment, Given::Room(room), copies)? {
+            Ok(copy) => Ok(copy),
             Err(_) => unreachable!(),
         }
     }

@@ -28,7 +28,7 @@ pub(crate) enum Given {
 #[derive(Drop)]
 pub(crate) struct Answered {
     pub noted: Reply,
-    pub told: Option<Reply>,
+    pub copy: Option<Reply>,
     pub room: Room,
     pub added: u64,
 }
@@ -59,7 +59,7 @@ fn room_of(site: &Site, found: Option<&Item>, command: &Command, given: Given) -
 /// A copy of a reply, where one is asked for.
 #[inline(always)]
 pub(crate) fn copy_if(alloc: Global, reply: &Reply, copies: bool) -> Result<Option<Reply>, NoMemory>
-    ensures { IfOk result (λ told. told ≡ (if copies then Some reply.now else None)) }
+    ensures { IfOk result (λ copy. copy ≡ (if copies then Some reply.now else None)) }
 {
     if copies {
         Ok(Some(reply.copy(alloc)?))
@@ -84,14 +84,14 @@ fn versions_of(change: &Change) -> u64
 
 // What a command is answered, and what becomes of its key's item.
 #[derive(Drop)]
-struct Told {
+struct Effect {
     answered: Answered,
     change: Change,
 }
 
-// What a command is told where its key's item is `found`.
+// What a command is answered and changes where its key's item is `found`.
 #[inline(always)]
-fn told_of(
+fn effect_of(
     alloc: Global,
     site: &Site,
     versions: u64,
@@ -100,22 +100,22 @@ fn told_of(
     moment: u64,
     given: Given,
     copies: bool,
-) -> Result<Told, NoMemory>
+) -> Result<Effect, NoMemory>
     requires cas { cas_of site.now versions < 2 ^ 64 }
     requires moment { moment ≤ 2 ^ 62 }
-    ensures room { IfOk result (λ t. t.answered.room ≡ calls.room_of given (row_of site.now versions (option_copied found.entry) command.now moment).need) }
-    ensures ok { IfOk result (λ t. (answer : Answer) × (answer ≡ (row_of site.now versions (option_copied found.entry) command.now moment).answer t.answered.room)
-        × (t.answered.noted ≡ answer.reply) × (t.answered.told ≡ (if copies then Some answer.reply else None)) × (t.answered.added ≡ Rattle.mc_item.specs.Cache.versions_of answer.change)
-        × (t.change ≡ answer.change)) }
+    ensures room { IfOk result (λ e. e.answered.room ≡ calls.room_of given (row_of site.now versions (option_copied found.entry) command.now moment).need) }
+    ensures ok { IfOk result (λ e. (answer : Answer) × (answer ≡ (row_of site.now versions (option_copied found.entry) command.now moment).answer e.answered.room)
+        × (e.answered.noted ≡ answer.reply) × (e.answered.copy ≡ (if copies then Some answer.reply else None)) × (e.answered.added ≡ Rattle.mc_item.specs.Cache.versions_of answer.change)
+        × (e.change ≡ answer.change)) }
 {
     let room = room_of(site, found, command, given);
     let Answer { reply, change } = site.answer(alloc, versions, found, command, moment, room)?;
-    let told = copy_if(alloc, &reply, copies)?;
+    let copy = copy_if(alloc, &reply, copies)?;
     let added = versions_of(&change);
-    Ok(Told {
+    Ok(Effect {
         answered: Answered {
             noted: reply,
-            told,
+            copy,
             room,
             added,
         },
@@ -197,11 +197,11 @@ pub(crate) fn answer_found(
     requires moment { moment ≤ 2 ^ 62 }
     ensures room { IfOk result (λ x. x.0.room ≡ calls.room_of given (row_of site.now versions (Some item.old) command.now moment).need) }
     ensures ok { IfOk result (λ x. (answer : Answer) × (answer ≡ (row_of site.now versions (Some item.old) command.now moment).answer x.0.room)
-        × (x.0.noted ≡ answer.reply) × (x.0.told ≡ (if copies then Some answer.reply else None)) × (x.0.added ≡ Rattle.mc_item.specs.Cache.versions_of answer.change)
+        × (x.0.noted ≡ answer.reply) × (x.0.copy ≡ (if copies then Some answer.reply else None)) × (x.0.added ≡ Rattle.mc_item.specs.Cache.versions_of answer.change)
         × (changed (Some item.old) answer.change ≡ (if x.1 then Some item.new else None))) }
     ensures err { OnErr result (item.new ≡ item.old) }
 {
-    let told = told_of(
+    let effect = effect_of(
         alloc,
         site,
         versions,
@@ -211,8 +211,8 @@ pub(crate) fn answer_found(
         given,
         copies,
     )?;
-    let stays = change_found(item, told.change);
-    Ok((told.answered, stays))
+    let stays = change_found(item, effect.change);
+    Ok((effect.answered, stays))
 }
 
 // The answer to a command whose key has no item.
@@ -233,12 +233,12 @@ pub(crate) fn answer_absent(
     requires absent { get (pointwise nat_eq) items.old (key_of command.now) ≡ None }
     ensures room { IfOk result (λ a. a.room ≡ calls.room_of given (row_of site.now versions None command.now moment).need) }
     ensures ok { IfOk result (λ a. (answer : Answer) × (answer ≡ (row_of site.now versions None command.now moment).answer a.room)
-        × (a.noted ≡ answer.reply) × (a.told ≡ (if copies then Some answer.reply else None)) × (a.added ≡ Rattle.mc_item.specs.Cache.versions_of answer.change)
+        × (a.noted ≡ answer.reply) × (a.copy ≡ (if copies then Some answer.reply else None)) × (a.added ≡ Rattle.mc_item.specs.Cache.versions_of answer.change)
         × ((q : List ℕ) → get (pointwise nat_eq) items.new q ≡ (if pointwise nat_eq (key_of command.now) q then changed None answer.change else get (pointwise nat_eq) items.old q))) }
     ensures err { OnErr result ((q : List ℕ) → get (pointwise nat_eq) items.new q ≡ get (pointwise nat_eq) items.old q) }
     ensures spare { spare items.old ≤ spare items.new + 1 }
 {
-    let told = told_of(alloc, site, versions, None, command, moment, given, copies)?;
-    change_absent(alloc, items, command.key(), told.change)?;
-    Ok(told.answered)
+    let effect = effect_of(alloc, site, versions, None, command, moment, given, copies)?;
+    change_absent(alloc, items, command.key(), effect.change)?;
+    Ok(effect.answered)
 }

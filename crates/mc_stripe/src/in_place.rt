@@ -25,7 +25,7 @@ pub(crate) fn answer_hit(
 ) -> Result<Answered, NoMemory>
     ensures room { IfOk result (λ a. a.room ≡ calls.room_of given needs.Nothing) }
     ensures noted { IfOk result (λ a. a.noted ≡ replies.Value item.old.flags item.old.value item.old.cas) }
-    ensures told { IfOk result (λ a. a.told ≡ (if copies then Some (replies.Value item.old.flags item.old.value item.old.cas) else None)) }
+    ensures copy { IfOk result (λ a. a.copy ≡ (if copies then Some (replies.Value item.old.flags item.old.value item.old.cas) else None)) }
     ensures added { IfOk result (λ a. a.added ≡ 0) }
     ensures item { OnOk result (changed (Some item.old) (changes.Hit (hit_marks item.old.marks)) ≡ Some item.new) }
     ensures err { OnErr result (item.new ≡ item.old) }
@@ -39,11 +39,11 @@ pub(crate) fn answer_hit(
         value: item.value.copy(alloc)?,
         cas: item.cas,
     };
-    let told = copy_if(alloc, &noted, copies)?;
+    let copy = copy_if(alloc, &noted, copies)?;
     item.marks = item.marks.hit();
     Ok(Answered {
         noted,
-        told,
+        copy,
         room,
         added: 0,
     })
@@ -64,11 +64,11 @@ pub(crate) fn answer_over(
 ) -> Result<Option<Answered>, NoMemory>
     requires cas { cas_of site.now versions < 2 ^ 64 }
     requires moment { moment ≤ 2 ^ 62 }
-    ensures room { IfOk result (λ told. IfSome told (λ a. a.room ≡ calls.room_of given (row_of site.now versions (Some item.old) command.now moment).need)) }
-    ensures ok { IfOk result (λ told. IfSome told (λ a. (answer : Answer) × (answer ≡ (row_of site.now versions (Some item.old) command.now moment).answer a.room)
-        × (a.noted ≡ answer.reply) × (a.told ≡ (if copies then Some answer.reply else None)) × (a.added ≡ Rattle.mc_item.specs.Cache.versions_of answer.change)
+    ensures room { IfOk result (λ answered. IfSome answered (λ a. a.room ≡ calls.room_of given (row_of site.now versions (Some item.old) command.now moment).need)) }
+    ensures ok { IfOk result (λ answered. IfSome answered (λ a. (answer : Answer) × (answer ≡ (row_of site.now versions (Some item.old) command.now moment).answer a.room)
+        × (a.noted ≡ answer.reply) × (a.copy ≡ (if copies then Some answer.reply else None)) × (a.added ≡ Rattle.mc_item.specs.Cache.versions_of answer.change)
         × (changed (Some item.old) answer.change ≡ Some item.new))) }
-    ensures same { IfOk result (λ told. IfNone told (item.new ≡ item.old)) }
+    ensures same { IfOk result (λ answered. IfNone answered (item.new ≡ item.old)) }
     ensures err { OnErr result (item.new ≡ item.old) }
 {
     let Given::Number(number) = given else {
@@ -99,7 +99,7 @@ pub(crate) fn answer_over(
     site.renew(alloc, versions, item, &content, link)?;
     Ok(Some(Answered {
         noted: Reply::Stored,
-        told: if copies { Some(Reply::Stored) } else { None },
+        copy: if copies { Some(Reply::Stored) } else { None },
         room: Room::At(link),
         added: 1,
     }))
@@ -120,7 +120,7 @@ fn answer_count(
     requires cas { cas_of site.now versions < 2 ^ 64 }
     ensures room { IfSome result (λ a. a.room ≡ calls.room_of given (count_row site.now versions key.now (stepped step) (Some item.old)).need) }
     ensures ok { IfSome result (λ a. (answer : Answer) × (answer ≡ (count_row site.now versions key.now (stepped step) (Some item.old)).answer a.room)
-        × (a.noted ≡ answer.reply) × (a.told ≡ (if copies then Some answer.reply else None)) × (a.added ≡ Rattle.mc_item.specs.Cache.versions_of answer.change)
+        × (a.noted ≡ answer.reply) × (a.copy ≡ (if copies then Some answer.reply else None)) × (a.added ≡ Rattle.mc_item.specs.Cache.versions_of answer.change)
         × (changed (Some item.old) answer.change ≡ Some item.new)) }
     ensures same { result ≡ None → item.new ≡ item.old }
 {
@@ -134,7 +134,7 @@ fn answer_count(
     };
     Some(Answered {
         noted: Reply::Number(number),
-        told: if copies {
+        copy: if copies {
             Some(Reply::Number(number))
         } else {
             None
@@ -159,7 +159,7 @@ pub(crate) fn answer_counted(
     requires cas { cas_of site.now versions < 2 ^ 64 }
     ensures room { IfSome result (λ a. a.room ≡ calls.room_of given (row_of site.now versions (Some item.old) command.now moment).need) }
     ensures ok { IfSome result (λ a. (answer : Answer) × (answer ≡ (row_of site.now versions (Some item.old) command.now moment).answer a.room)
-        × (a.noted ≡ answer.reply) × (a.told ≡ (if copies then Some answer.reply else None)) × (a.added ≡ Rattle.mc_item.specs.Cache.versions_of answer.change)
+        × (a.noted ≡ answer.reply) × (a.copy ≡ (if copies then Some answer.reply else None)) × (a.added ≡ Rattle.mc_item.specs.Cache.versions_of answer.change)
         × (changed (Some item.old) answer.change ≡ Some item.new)) }
     ensures same { result ≡ None → item.new ≡ item.old }
 {

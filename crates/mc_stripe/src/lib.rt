@@ -4,11 +4,14 @@
 mod answering;
 mod applying;
 mod changing;
+mod fate;
 mod forgetting;
 mod in_place;
+mod new_versions;
 mod planning;
 mod state;
 
+pub use fate::Fate;
 pub use mc_item::{Need, Room};
-pub use planning::{Fate, Plan};
+pub use planning::Plan;
 pub use state::StripeState;

@@ -1,11 +1,12 @@
 //! The state of a stripe.
 ghost use Rattle.std.specs.Prelude.{◌≡◌, ◌≤◌, ◌<◌, ◌+◌, ◌^◌, [], OnOk, OnErr, IsErrOf, IsTrue, MatchBool, ◌↔◌, length};
+ghost use Rattle.std.specs.List.{slice_get};
 ghost use Rattle.std.specs.Option.{option_copied};
 ghost use Rattle.mc_item.specs.Config.{IsBounded};
 ghost use Rattle.mc_item.specs.Measure as measure;
 ghost use Rattle.mc_item.specs.Stripe.{IsLegal};
 ghost use Rattle.mc_item.specs.declared.fault.Fault.TheVariants as faults;
-ghost use Rattle.mc_stripe.specs.StripeState.{cache_now, last_reply};
+ghost use Rattle.mc_stripe.specs.StripeState.{HasBounds, cache_now, last_reply, reply_noted};
 ghost use Rattle.mc_stripe.specs.StripeCalls.{KeepsSite};
 
 use mc_item::{
@@ -74,6 +75,13 @@ impl StripeState {
         }
     }
 
+    /// The number of the stripe.
+    pub fn number(&self) -> StripeNo
+        ensures { result.0 ≡ self.now.site.stripe }
+    {
+        StripeNo(self.site.stripe)
+    }
+
     /// Whether a key is of this stripe, as that of each command on it must be. It takes no memory.
     pub fn owns(&self, key: &Key) -> bool
         ensures { IsTrue result ↔ (measure.stripe_of key.now self.now.site.stripes ≡ record { 0 = self.now.site.stripe }) }
@@ -93,6 +101,7 @@ impl StripeState {
         ensures value { result.now ≡ self.now.history }
         ensures legal { IsLegal self.now.site self.now.history }
         ensures within { length self.now.history ≤ self.now.limit }
+        ensures bounds { HasBounds self.now.site self.now.limit }
     {
         self.history.as_slice()
     }
@@ -102,6 +111,18 @@ impl StripeState {
         ensures { option_copied result ≡ last_reply self.now.history }
     {
         match self.history.as_slice().last() {
+            Some(StripeEvent::Did(did)) => Some(&did.reply),
+            Some(StripeEvent::Lost(_)) => None,
+            Some(StripeEvent::Cooled(_)) => None,
+            None => None,
+        }
+    }
+
+    /// The reply that the event at a place of the history notes, where it is there and a command's.
+    pub fn reply_at(&self, place: u64) -> Option<&Reply>
+        ensures { option_copied result ≡ reply_noted (slice_get self.now.history place) }
+    {
+        match self.history.get(place as usize) {
             Some(StripeEvent::Did(did)) => Some(&did.reply),
             Some(StripeEvent::Lost(_)) => None,
             Some(StripeEvent::Cooled(_)) => None,

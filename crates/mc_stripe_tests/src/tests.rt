@@ -6,6 +6,7 @@ mod calls;
 mod histories;
 mod items;
 mod plain;
+mod plans;
 mod table;
 
 use mc_item::{Command, Config, Key, Numbers, StripeNo, Value, Verb, Who};

@@ -135,6 +135,30 @@ pub fn is_refused(alloc: Global, stripe: &mut StripeState) -> Result<bool, Fail>
     }
 }
 
+/// Answers a get of the key `b` and clears the mark that it leaves, with room that was made for both before: the
+/// second call can't be refused for want of memory.
+pub fn cools_without_memory(alloc: Global, stripe: &mut StripeState) -> Result<bool, Fail> {
+    let command = command_of(alloc, Asked::Get)?;
+    let key = b(alloc)?;
+    stripe.reserve(2)?;
+    if !stripe.owns(command.key()) || is_dead(stripe, command.key(), 1000) {
+        return Ok(false);
+    }
+    let need = stripe.need(&command, 1000);
+    let Some(room) = room_for(need, stripe.history(), 0, false) else {
+        return Ok(false);
+    };
+    let _reply = stripe.apply(WHO, command, 1000, room)?;
+    if !is_active(stripe, &key) {
+        return Ok(false);
+    }
+    match stripe.cool(WHO, key) {
+        Ok(()) => Ok(true),
+        Err(Fault::HistoryFull) => Ok(false),
+        Err(Fault::NoMemory) => unreachable!(),
+    }
+}
+
 /// Answers a command, and copies no reply. Says whether it was answered, or given back since its key's item is dead.
 pub fn notes(
     alloc: Global,

@@ -1,0 +1,97 @@
+//! What becomes of the chunks of a command's key.
+ghost use Rattle.std.specs.Prelude.{◌≡◌, ℕ, List, []};
+ghost use Rattle.std.specs.Option.{option_copied};
+ghost use Rattle.mc_item.specs.Answer as answers;
+ghost use Rattle.mc_item.specs.Item as items;
+ghost use Rattle.mc_item.specs.declared.item.Expiry.{Expiry};
+ghost use Rattle.mc_item.specs.declared.reply.Room.TheVariants as rooms;
+ghost use Rattle.mc_stripe.specs.Plan as plans;
+ghost use Rattle.mc_stripe.specs.Plan.{IsHeld, fate_of};
+
+use mc_item::{Expiry, Item, Link, Verb};
+
+/// What becomes of the chunks of a command's key.
+#[derive(Clone, Copy, Debug, PartialEq, Eq)]
+pub enum Fate {
+    /// Nothing.
+    Untouched,
+    /// A new version takes one: its cost, its expiry, and the link of the item that it replaces.
+    Renewed {
+        cost: u64,
+        expiry: Expiry,
+        old: Option<Link>,
+    },
+    /// The item of this link goes.
+    Goes(Link),
+    /// A hit leaves the mark ACTIVE at the item of this link, which didn't have it.
+    Woken(Link),
+}
+
+/// The link of an item, where there is one.
+pub(crate) fn link_of(found: Option<&Item>) -> Option<Link>
+    ensures { result ≡ items.link_of_item (option_copied found.entry) }
+{
+    match found {
+        None => None,
+        Some(item) => Some(item.link),
+    }
+}
+
+/// The link of an item that is dead at a moment.
+pub(crate) fn dead_link(found: Option<&Item>, moment: u64) -> Option<Link>
+    ensures { result ≡ plans.dead_link (option_copied found.entry) moment }
+{
+    match found {
+        None => None,
+        Some(item) => {
+            if item.dead(moment) {
+                Some(item.link)
+            } else {
+                None
+            }
+        }
+    }
+}
+
+/// What becomes of the chunk of an item that goes, where there is one.
+pub(crate) fn gone_fate(found: Option<&Item>) -> Fate
+    ensures fate { result ≡ plans.gone_fate (option_copied found.entry) }
+    ensures held { (sizes : List ℕ) → IsHeld sizes result }
+{
+    match found {
+        None => Fate::Untouched,
+        Some(item) => Fate::Goes(item.link),
+    }
+}
+
+/// What becomes of the chunk of an item that is hit once more, where there is one.
+pub(crate) fn hit_fate(found: Option<&Item>) -> Fate
+    ensures get { result ≡ fate_of [] (option_copied found.entry) ((answers.get_row (option_copied found.entry)).answer rooms.Keep).change }
+    ensures touch { (expiry : Expiry) → result ≡ fate_of [] (option_copied found.entry) ((answers.touch_row expiry (option_copied found.entry)).answer rooms.Keep).change }
+    ensures held { (sizes : List ℕ) → IsHeld sizes result }
+{
+    match found {
+        None => Fate::Untouched,
+        Some(item) => {
+            if item.marks.hit().active && !item.marks.active {
+                Fate::Woken(item.link)
+            } else {
+                Fate::Untouched
+            }
+        }
+    }
+}
+
+/// What becomes of the chunk of an item that a storage command finds no chunk to replace in, where there is one.
+pub(crate) fn let_go_fate(verb: Verb, found: Option<&Item>) -> Fate
+    ensures fate { (key : List ℕ) → result ≡ fate_of key (option_copied found.entry) (answers.let_go verb) }
+    ensures no_key { result ≡ fate_of [] (option_copied found.entry) (answers.let_go verb) }
+    ensures held { (sizes : List ℕ) → IsHeld sizes result }
+{
+    match verb {
+        Verb::Set => gone_fate(found),
+        Verb::Add => Fate::Untouched,
+        Verb::Replace => Fate::Untouched,
+        Verb::Cas(_) => Fate::Untouched,
+    }
+}
