@@ -1,4 +1,5 @@
-//! Times a class: links, forced moves from a tail, hits in a random order, and removals in a random order.
+//! Times a class: links, forced moves from a tail, hits in a random order, and removals in a random order; and links
+//! of which few stay.
 ghost use Rattle.std.specs.Prelude.{◌≡◌, ◌<◌, IfSome};
 ghost use Rattle.mc_item.specs.Config.{IsSound};
 
@@ -15,13 +16,29 @@ fn step(x: u64) -> u64 {
         .wrapping_add(1_442_695_040_888_963_407)
 }
 
+fn link(alloc: Global, class: &mut ClassState, moment: u64) -> Result<(), Fault> {
+    let Ok(key) = Key::of(alloc, b"a_key_of_twenty_byte") else {
+        return Err(Fault::NoMemory);
+    };
+    if class.count() < class.chunks() {
+        class.link(WHO, key, 66, moment, Expiry::Never)?;
+    }
+    Ok(())
+}
+
 fn link_all(alloc: Global, class: &mut ClassState, entries: u64) -> Result<(), Fault> {
     for i in 0..entries {
-        let Ok(key) = Key::of(alloc, b"a_key_of_twenty_byte") else {
-            return Err(Fault::NoMemory);
-        };
-        if class.count() < class.chunks() {
-            class.link(WHO, key, 66, i, Expiry::Never)?;
+        link(alloc, class, i)?;
+    }
+    Ok(())
+}
+
+// Links entries, of which each thousandth stays and the others go at once.
+fn link_and_remove(alloc: Global, class: &mut ClassState, entries: u64) -> Result<(), Fault> {
+    for i in 0..entries {
+        link(alloc, class, i)?;
+        if i % 1000 != 0 {
+            remove(class, i)?;
         }
     }
     Ok(())
@@ -147,11 +164,8 @@ fn run(rt: &HostRuntime, entries: u64) -> io::Result<()>
     Ok(())
 }
 
-/// Times classes of three sizes, and prints the most memory that the process had.
-pub(crate) fn time_all(rt: &HostRuntime) -> io::Result<()> {
-    run(rt, 10_000)?;
-    run(rt, 100_000)?;
-    run(rt, 1_000_000)?;
+// Prints the most memory that the process had.
+fn print_memory(rt: &HostRuntime) -> io::Result<()> {
     let status = std::fs::read_to_string(rt, "/proc/self/status")?;
     for line in status.as_str().lines() {
         if line.starts_with("VmHWM") {
@@ -159,4 +173,26 @@ pub(crate) fn time_all(rt: &HostRuntime) -> io::Result<()> {
         }
     }
     Ok(())
+}
+
+/// Times classes of three sizes, and prints the most memory that the process had.
+pub(crate) fn time_all(rt: &HostRuntime) -> io::Result<()> {
+    run(rt, 10_000)?;
+    run(rt, 100_000)?;
+    run(rt, 1_000_000)?;
+    print_memory(rt)
+}
+
+/// Times a million links of which a thousand stay, and prints the most memory that the process had.
+pub(crate) fn time_few(rt: &HostRuntime) -> io::Result<()> {
+    let entries = 1_000_000;
+    let Some(mut class) = class_with(rt.alloc(), entries) else {
+        return println!(rt; "no memory");
+    };
+    let start = Instant::now(rt)?;
+    let done = link_and_remove(rt.alloc(), &mut class, entries).is_ok();
+    let each = start.elapsed(rt)?.as_nanos() / (entries as u128);
+    let left = class.count();
+    println!(rt; "{entries} links and removals: {each} ns each; {left} left; done: {done}")?;
+    print_memory(rt)
 }

@@ -1,6 +1,8 @@
 //! What the tests share: the one who calls.
 mod class_lists;
 mod growing_histories;
+mod room_made;
+mod walks;
 
 use mc_item::Who;
 

@@ -8,7 +8,7 @@ use Rattle.std.proofs.lemmas.Bool.{false≢true, eq-eqb}
 use Rattle.mc_item.specs.declared.lists.Entry.{Entry}
 use Rattle.mc_rule.specs.Lists.{find, without, cost_sum}
 use Rattle.mc_segment.specs.declared.arena.Node.{Node}
-use Rattle.mc_segment.specs.Links.{with_newer, with_older, names, apply_older, apply_newer, end_of}
+use Rattle.mc_segment.specs.Links.{with_newer, with_older, points_to, apply_older, apply_newer, end_of}
 use Rattle.mc_segment.specs.Nodes.{node, first_number, last_from, node_at, lacks, distinct, walk, walked, IsChain}
 
 abbrev pub lacks_name : Option ℕ → List Entry → Bool
@@ -113,19 +113,19 @@ push_chain f g n o count bytes es e c fresh h = record {
   apart = both_to _ _ fresh c.apart;
 }
 
-pub first_lacked : (es : List Entry) (k : ℕ) → lacks k es ≡ true → names k (first_number es) ≡ false
+pub first_lacked : (es : List Entry) (k : ℕ) → lacks k es ≡ true → points_to k (first_number es) ≡ false
 first_lacked [] k h = refl
 first_lacked (e ∷ es) k h = (not_of (e.number == k) (lacks k es) h).0
 
 -- what is told of the neighbours of a node: neither is a number that the list does not have
-pub names_lacked : (w : Option ℕ) (es : List Entry) (m k : ℕ) (x : Node) → node_at w es m ≡ Some x → names k w ≡ false → lacks k es ≡ true → (names k x.newer ≡ false) × (names k x.older ≡ false)
+pub names_lacked : (w : Option ℕ) (es : List Entry) (m k : ℕ) (x : Node) → node_at w es m ≡ Some x → points_to k w ≡ false → lacks k es ≡ true → (points_to k x.newer ≡ false) × (points_to k x.older ≡ false)
 names_lacked w [] m k x is a b = cc
 names_lacked w (e ∷ es) m k x is a b =
     let p = not_of (e.number == k) (lacks k es) b in
-    by_eq e.number m (λ t. (if t then Some (node e w (first_number es)) else node_at (Some e.number) es m) ≡ Some x → (names k x.newer ≡ false) × (names k x.older ≡ false))
+    by_eq e.number m (λ t. (if t then Some (node e w (first_number es)) else node_at (Some e.number) es m) ≡ Some x → (points_to k x.newer ≡ false) × (points_to k x.older ≡ false))
     (λ same h.
     let at : node e w (first_number es) ≡ x = cc in
-    (ap (λ (n : Node). names k n.newer) (sym at) ∙ a, ap (λ (n : Node). names k n.older) (sym at) ∙ first_lacked es k p.1))
+    (ap (λ (n : Node). points_to k n.newer) (sym at) ∙ a, ap (λ (n : Node). points_to k n.older) (sym at) ∙ first_lacked es k p.1))
     (λ other h. names_lacked (Some e.number) es m k x h p.0 p.1)
     is
 
@@ -136,7 +136,7 @@ found_none : (w : Option ℕ) (es : List Entry) (q : ℕ) (x : Node) → lacks q
 found_none w es q x l h = some_none (sym (node_lacks w es q l) ∙ h)
 
 -- the first number, once a number is taken out
-taken_first : (w : Option ℕ) (es : List Entry) (m : ℕ) (x : Node) → node_at w es m ≡ Some x → first_number (without m es) ≡ (if names m (first_number es) then x.older else first_number es)
+taken_first : (w : Option ℕ) (es : List Entry) (m : ℕ) (x : Node) → node_at w es m ≡ Some x → first_number (without m es) ≡ (if points_to m (first_number es) then x.older else first_number es)
 taken_first w [] m x is = cc
 taken_first w (e ∷ es) m x is =
     by_eq e.number m (λ t. (if t then Some (node e w (first_number es)) else node_at (Some e.number) es m) ≡ Some x → first_number (if t then es else (e ∷ without m es)) ≡ (if t then x.older else Some e.number))
@@ -145,12 +145,12 @@ taken_first w (e ∷ es) m x is =
     is
 
 -- where the first number is not the one that is taken out, the number before the list is no neighbour
-taken_names : (k : ℕ) (es : List Entry) (m : ℕ) (x : Node) → lacks k es ≡ true → distinct es ≡ true → node_at (Some k) es m ≡ Some x → names k x.newer ≡ names m (first_number es)
+taken_names : (k : ℕ) (es : List Entry) (m : ℕ) (x : Node) → lacks k es ≡ true → distinct es ≡ true → node_at (Some k) es m ≡ Some x → points_to k x.newer ≡ points_to m (first_number es)
 taken_names k [] m x l d is = cc
 taken_names k (e ∷ es) m x l d is =
     let p = not_of (e.number == k) (lacks k es) l in
-    by_eq e.number m (λ t. (if t then Some (node e (Some k) (first_number es)) else node_at (Some e.number) es m) ≡ Some x → names k x.newer ≡ t)
-    (λ same h. let at : node e (Some k) (first_number es) ≡ x = cc in ap (λ (n : Node). names k n.newer) (sym at) ∙ itself k)
+    by_eq e.number m (λ t. (if t then Some (node e (Some k) (first_number es)) else node_at (Some e.number) es m) ≡ Some x → points_to k x.newer ≡ t)
+    (λ same h. let at : node e (Some k) (first_number es) ≡ x = cc in ap (λ (n : Node). points_to k n.newer) (sym at) ∙ itself k)
     (λ other h. (names_lacked (Some e.number) es m k x h p.0 p.1).0)
     is
 
@@ -165,12 +165,12 @@ lacks_name_later : (w : Option ℕ) (e : Entry) (es : List Entry) → lacks_name
 lacks_name_later None e es l = refl
 lacks_name_later (Some a) e es l = (not_of (e.number == a) (lacks a es) l).1
 
-older_lacked : (w : Option ℕ) (es : List Entry) (m k : ℕ) (x : Node) → node_at w es m ≡ Some x → lacks k es ≡ true → names k x.older ≡ false
+older_lacked : (w : Option ℕ) (es : List Entry) (m k : ℕ) (x : Node) → node_at w es m ≡ Some x → lacks k es ≡ true → points_to k x.older ≡ false
 older_lacked w [] m k x is b = cc
 older_lacked w (e ∷ es) m k x is b =
     let p = not_of (e.number == k) (lacks k es) b in
-    by_eq e.number m (λ t. (if t then Some (node e w (first_number es)) else node_at (Some e.number) es m) ≡ Some x → names k x.older ≡ false)
-    (λ same h. let at : node e w (first_number es) ≡ x = cc in ap (λ (n : Node). names k n.older) (sym at) ∙ first_lacked es k p.1)
+    by_eq e.number m (λ t. (if t then Some (node e w (first_number es)) else node_at (Some e.number) es m) ≡ Some x → points_to k x.older ≡ false)
+    (λ same h. let at : node e w (first_number es) ≡ x = cc in ap (λ (n : Node). points_to k n.older) (sym at) ∙ first_lacked es k p.1)
     (λ other h. older_lacked (Some e.number) es m k x h p.1)
     is
 
@@ -188,14 +188,14 @@ fixed e w older first false c to h = ap (λ (x : Bool). if x then option_map (wi
 taken_before : (w : Option ℕ) (es : List Entry) (m q : ℕ) (e : Entry) (x : Node) → lacks e.number es ≡ true → distinct es ≡ true → e.number ≢ m → e.number ≡ q → node_at (Some e.number) es m ≡ Some x
     → Some (node e w (first_number (without m es))) ≡ (if m == q then None else apply_newer x.older x.newer q (apply_older x.newer x.older q (Some (node e w (first_number es)))))
 taken_before w es m q e x l d other same h =
-    let b = names m (first_number es) in
+    let b = points_to m (first_number es) in
     let one : Some (node e w (first_number (without m es))) ≡ Some (node e w (if b then x.older else first_number es)) = ap (λ f. Some (node e w f)) (taken_first (Some e.number) es m x h) in
-    let newer : names q x.newer ≡ b = ap (λ k. names k x.newer) (sym same) ∙ taken_names e.number es m x l d h in
-    let older : names q x.older ≡ false = ap (λ k. names k x.older) (sym same) ∙ older_lacked (Some e.number) es m e.number x h l in
+    let newer : points_to q x.newer ≡ b = ap (λ k. points_to k x.newer) (sym same) ∙ taken_names e.number es m x l d h in
+    let older : points_to q x.older ≡ false = ap (λ k. points_to k x.older) (sym same) ∙ older_lacked (Some e.number) es m e.number x h l in
     let apart : (m == q) ≡ false = not_equal m q (λ k. other (same ∙ sym k)) in
-    one ∙ (fixed e w x.older (first_number es) b (names q x.older) x.newer older
-    ∙ (ap (λ (t : Bool). if names q x.older then option_map (with_newer x.newer) (if t then Some (node e w x.older) else Some (node e w (first_number es))) else (if t then Some (node e w x.older) else Some (node e w (first_number es)))) (sym newer)
-    ∙ (ap (λ (o : Option Node). apply_newer x.older x.newer q o) (pushed (names q x.newer) e w (first_number es) x.older) ∙ ap (λ (t : Bool). if t then None else apply_newer x.older x.newer q (apply_older x.newer x.older q (Some (node e w (first_number es))))) (sym apart))))
+    one ∙ (fixed e w x.older (first_number es) b (points_to q x.older) x.newer older
+    ∙ (ap (λ (t : Bool). if points_to q x.older then option_map (with_newer x.newer) (if t then Some (node e w x.older) else Some (node e w (first_number es))) else (if t then Some (node e w x.older) else Some (node e w (first_number es)))) (sym newer)
+    ∙ (ap (λ (o : Option Node). apply_newer x.older x.newer q o) (pushed (points_to q x.newer) e w (first_number es) x.older) ∙ ap (λ (t : Bool). if t then None else apply_newer x.older x.newer q (apply_older x.newer x.older q (Some (node e w (first_number es))))) (sym apart))))
 
 taken_head : (w : Option ℕ) (es : List Entry) (q : ℕ) (e : Entry) → lacks e.number es ≡ true → lacks_name w (e ∷ es) ≡ true
     → node_at w es q ≡ (if e.number == q then None else apply_newer (first_number es) w q (apply_older w (first_number es) q (if e.number == q then Some (node e w (first_number es)) else node_at (Some e.number) es q)))
@@ -291,7 +291,7 @@ nothing false true F G = refl
 nothing false false F G = refl
 
 gone : (b : Bool) (x : Node) (q : ℕ) (o : Option Node) → apply_newer x.older x.newer q (apply_older x.newer x.older q (if b then None else o)) ≡ (if b then None else apply_newer x.older x.newer q (apply_older x.newer x.older q o))
-gone true x q o = nothing (names q x.newer) (names q x.older) (with_older x.older) (with_newer x.newer)
+gone true x q o = nothing (points_to q x.newer) (points_to q x.older) (with_older x.older) (with_newer x.newer)
 gone false x q o = refl
 
 -- a number is taken out

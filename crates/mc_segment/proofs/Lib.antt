@@ -1,5 +1,7 @@
 pub mod ChainLemmas
 pub mod TailLemmas
 pub mod PartLemmas
+pub mod ArenaLemmas
+pub mod BlockLemmas
 pub mod StateLemmas
 pub mod FoundLemmas

@@ -1,6 +1,6 @@
 -- What a class keeps, one event later.
 use Rattle.std.proofs.Common.{◌≡◌, ◌+◌, ◌<◌, ◌≤◌, ◌^◌, ◌==◌, ℕ, List, [], ◌∷◌, ◌++◌, Bool, true, false, Some, None, length, refl, sym, ap, ◌∙◌, subst, append_assoc, length-append, arith}
-use Rattle.std.specs.Prelude.{◌||◌, not, if◌then◌else◌}
+use Rattle.std.specs.Prelude.{◌||◌, not, if◌then◌else◌, slice_get}
 use Rattle.std.proofs.lemmas.Bool.{false≢true}
 use Rattle.std.proofs.lemmas.List.{append-nil}
 use Rattle.mc_item.specs.declared.class_event.ClassEvent.{ClassEvent}
@@ -34,6 +34,11 @@ links_in-le (events.Evicted e) = omega arith
 links_in-le (events.Reclaimed e) = omega arith
 links_in-le (events.Surveyed e) = omega arith
 links_in-le (events.Refused e) = omega arith
+
+-- the last of these events stands at the place of their number
+pub last_is : (es : List ClassEvent) (e : ClassEvent) → slice_get (es ++ e ∷ []) (length es) ≡ Some e
+last_is [] e = refl
+last_is (x ∷ es) e = last_is es e
 
 -- no more entries were linked than events were made
 pub links_of-le : (es : List ClassEvent) → links_of es ≤ length es

@@ -4,13 +4,14 @@ use Rattle.std.specs.Prelude.{if◌then◌else◌, slice_get}
 use Rattle.std.proofs.lemmas.Bool.{false≢true, cases_lt}
 use Rattle.std.proofs.Common.{inl, inr}
 use Rattle.std.proofs.Common.{◌++◌, take, drop, reverse, length-drop}
-use Rattle.std.proofs.lemmas.List.{take-append-drop, reverse-append, length-reverse, length-map}
+use Rattle.std.proofs.lemmas.List.{take-append-drop, reverse-append, length-reverse, length-map, map-append, get_or-reverse}
+use Rattle.std.proofs.lemmas.Option.{slice_get-get_or, get_or_from_slice_get, slice_get_past, slice_get_within}
 use Rattle.std.proofs.Math.Seq.{take-append_seam}
 use Rattle.mc_item.specs.declared.lists.Entry.{Entry}
 use Rattle.std.specs.Prelude.{IfSome}
 use Rattle.mc_item.specs.declared.lists.Seg.{Seg}
 use Rattle.mc_item.specs.declared.lists.Seg.TheVariants.{Hot, Warm, Cold, Temp}
-use Rattle.mc_rule.specs.Lists.{Lists, list_of, times, times_in}
+use Rattle.mc_rule.specs.Lists.{Lists, list_of, from_tail, times, times_in}
 use Rattle.mc_rule.specs.Segment.{behind, numbers_of, numbers_behind}
 use Rattle.mc_segment.specs.declared.arena.Node.{Node}
 use Rattle.mc_segment.specs.Nodes.{node, first_number, last_from, node_at, lacks, distinct, before, IsChain}
@@ -160,3 +161,82 @@ once_in q l Hot h = omega arith
 once_in q l Warm h = omega arith
 once_in q l Cold h = omega arith
 once_in q l Temp h = omega arith
+
+-- ---- one place newer
+tail_there : (es : List Entry) (j : ℕ) → j < length es → (e : Entry) × (slice_get es (length es - 1 - j) ≡ Some e) × (from_tail es j ≡ Some e)
+tail_there es j h =
+    let here = there_is es (length es - 1 - j) (omega arith) in
+    let len = length-reverse es in (
+      here.0,
+      here.1,
+      slice_get-get_or (reverse es) j here.0 (omega (arith, len)) ∙ ap (λ (e : Entry). Some e) (get_or-reverse es j here.0 h ∙ get_or_from_slice_get es _ here.0 here.0 here.1),
+    )
+
+pub past_tail : (es : List Entry) (j : ℕ) → length es ≤ j → from_tail es j ≡ None
+past_tail es j h = slice_get_past (reverse es) j (let len = length-reverse es in omega (arith, len))
+
+-- what stands at a place from the tail, by its place from the head
+pub from_head : (es : List Entry) (j : ℕ) → j < length es → from_tail es j ≡ slice_get es (length es - 1 - j)
+from_head es j h = let here = tail_there es j h in here.2 ∙ sym here.1
+
+module _ (f : ℕ → Option Node) (n o : Option ℕ) (count bytes : ℕ) (es : List Entry) (c : IsChain f n o count bytes es) (j : ℕ) (e : Entry) (there : from_tail es j ≡ Some e) where
+  pub inside : j < length es
+  inside = let within = slice_get_within (reverse es) j e there in let len = length-reverse es in omega (arith, within, len)
+
+  pub tail_node : (older : Option ℕ) × (f e.number ≡ Some (node e (before None es (length es - 1 - j)) older))
+  tail_node =
+      let here = node_there None es (length es - 1 - j) e c.apart (sym (from_head es j inside) ∙ there) in
+      (here.0, c.nodes e.number ∙ here.1)
+
+  pub not_missing : f e.number ≡ None → ⊥
+  not_missing none = some_none (sym none ∙ tail_node.1)
+
+  before_here : (x : Node) → f e.number ≡ Some x → x.newer ≡ before None es (length es - 1 - j)
+  before_here x is = ap (λ (y : Node). y.newer) (some_same x _ (sym is ∙ tail_node.1))
+
+  -- the newest entry is the last from the tail
+  pub none_newer : (x : Node) → f e.number ≡ Some x → x.newer ≡ None → None ≡ from_tail es (j + 1)
+  none_newer x is none =
+      elim (cases_lt (j + 1) (length es)) [
+        | inl less ↦
+            let here = tail_there es (j + 1) less in
+            let at : length es - 1 - j ≡ suc (length es - 1 - (j + 1)) = omega (arith, less) in
+            absurd (some_none (sym none ∙ (before_here x is ∙ (ap (before None es) at ∙ before_is None es _ here.0 here.1))))
+        | inr past ↦ sym (past_tail es (j + 1) past)
+      ]
+
+  -- the number beside an entry is that of the next one from the tail
+  pub newer_stands : (x : Node) (q : ℕ) → f e.number ≡ Some x → x.newer ≡ Some q → (later : Entry) × (q ≡ later.number) × (from_tail es (j + 1) ≡ Some later)
+  newer_stands x q is some =
+      elim (cases_lt (j + 1) (length es)) [
+        | inl less ↦
+            let here = tail_there es (j + 1) less in
+            let at : length es - 1 - j ≡ suc (length es - 1 - (j + 1)) = omega (arith, less) in
+            (here.0, some_same q here.0.number (sym some ∙ (before_here x is ∙ (ap (before None es) at ∙ before_is None es _ here.0 here.1))), here.2)
+        | inr past ↦
+            let within = inside in
+            let at : length es - 1 - j ≡ 0 = omega (arith, past, within) in
+            absurd (some_none (ap (before None es) (sym at) ∙ (sym (before_here x is) ∙ some)))
+      ]
+
+-- ---- the numbers from the tail
+numbers_reverse : (es : List Entry) → reverse (numbers_of es) ≡ numbers_of (reverse es)
+numbers_reverse [] = refl
+numbers_reverse (e ∷ es) =
+    reverse-append (e.number ∷ []) (numbers_of es)
+    ∙ (ap (λ (ns : List ℕ). ns ++ e.number ∷ []) (numbers_reverse es)
+    ∙ sym (ap numbers_of (reverse-append (e ∷ []) es) ∙ map-append (λ (x : Entry). x.number) (reverse es) (e ∷ [])))
+
+take_next : (rs : List Entry) (j : ℕ) (e : Entry) → slice_get rs j ≡ Some e → take (suc j) (numbers_of rs) ≡ take j (numbers_of rs) ++ e.number ∷ []
+take_next [] j e h = absurd (some_none h)
+take_next (x ∷ rs) zero e h = ap (λ (y : Entry). y.number ∷ []) (some_same x e h)
+take_next (x ∷ rs) (suc j) e h = ap (λ (ns : List ℕ). x.number ∷ ns) (take_next rs j e h)
+
+-- one number more from the tail
+pub tail_number : (es : List Entry) (j : ℕ) (e : Entry) → j < length es → slice_get es (length es - 1 - j) ≡ Some e → take (j + 1) (reverse (numbers_of es)) ≡ take j (reverse (numbers_of es)) ++ e.number ∷ []
+tail_number es j e less h =
+    let same = numbers_reverse es in
+    let more : j + 1 ≡ suc j = omega arith in
+    ap (λ (ns : List ℕ). take (j + 1) ns) same
+    ∙ (ap (λ (k : ℕ). take k (numbers_of (reverse es))) more
+    ∙ (take_next (reverse es) j e (from_head es j less ∙ h) ∙ ap (λ (ns : List ℕ). take j ns ++ e.number ∷ []) (sym same)))

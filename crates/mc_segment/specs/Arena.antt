@@ -1,5 +1,5 @@
--- Four lists in one vector of places: which lists the places and the ends stand for.
-use Rattle.std.specs.Prelude.{ℕ, ◌==◌, ◌+◌, ◌-◌, ◌*◌, ◌^◌, ◌≤◌, List, Option, Some, None, if◌then◌else◌, length}
+-- Four lists over one table of places: which lists the places and the ends stand for.
+use Rattle.std.specs.Prelude.{ℕ, ◌≡◌, ◌==◌, ◌+◌, ◌-◌, ◌*◌, ◌%◌, ◌^◌, ◌<◌, ◌≤◌, List, Option, Some, None, if◌then◌else◌}
 use Rattle.mc_item.specs.declared.lists.Entry.{Entry}
 use Rattle.mc_item.specs.declared.lists.Seg.{Seg}
 use Rattle.mc_item.specs.declared.lists.Seg.TheVariants.{Hot, Warm, Cold, Temp}
@@ -10,17 +10,22 @@ use Rattle.mc_segment.specs.declared.ends.Ends.{Ends}
 use Rattle.mc_segment.specs.declared.ends.Heads.{Heads}
 use Rattle.mc_segment.specs.Nodes.{walk, IsChain}
 use Rattle.mc_segment.specs.Links.{end_of}
-use Rattle.mc_segment.specs.Slots.{slot}
+use Rattle.mc_segment.specs.Slots.{Block, slot, slots_of, IsReady}
 
--- an arena as contracts see it: its lists, the next number, and how many more entries it takes without memory
+-- an arena as contracts see it: its lists, the next number, how many more entries it takes without memory, and its blocks
 pub record Held : Type 0 where
   pub lists : Lists
   pub next : ℕ
   pub room : ℕ
+  pub blocks : List Block
 
 -- an arena by its parts
-abbrev pub held : Lists → ℕ → ℕ → Held
-held lists next room = record { lists = lists; next = next; room = room }
+abbrev pub held : Lists → ℕ → ℕ → List Block → Held
+held lists next room blocks = record { lists = lists; next = next; room = room; blocks = blocks }
+
+-- the number has a slot in memory
+abbrev pub HasSlot : Held → ℕ → Type 0
+HasSlot h q = q % 64 < slots_of h.blocks q
 
 -- the bytes of all four lists
 abbrev pub all_bytes : Lists → ℕ
@@ -39,8 +44,8 @@ part k None = None
 part k (Some p) = if code p.seg == k then Some p.node else None
 
 -- the nodes of the list of this code, by their numbers
-abbrev pub nodes_of : List (Option Place) → ℕ → ℕ → Option Node
-nodes_of xs k q = part k (slot xs q)
+abbrev pub nodes_of : (ℕ → Option Place) → ℕ → ℕ → Option Node
+nodes_of f k q = part k (f q)
 
 -- the ends of a segment's list
 abbrev pub ends_of : Heads → Seg → Ends
@@ -65,20 +70,26 @@ abbrev pub taken_ends : Ends → Option ℕ → Option ℕ → ℕ → Ends
 taken_ends x newer older cost = record { newest = end_of newer older x.newest; oldest = end_of older newer x.oldest; count = x.count - 1; bytes = x.bytes - cost }
 
 -- the entries that are met from the newest on
-abbrev pub walk_in : List (Option Place) → ℕ → Ends → List Entry
-walk_in xs k e = walk (nodes_of xs k) e.count e.newest
+abbrev pub walk_in : (ℕ → Option Place) → ℕ → Ends → List Entry
+walk_in f k e = walk (nodes_of f k) e.count e.newest
 
 -- the four lists that the places and the ends stand for
-abbrev pub lists_in : List (Option Place) → Heads → Lists
-lists_in xs h = record { hot = walk_in xs 0 h.hot; warm = walk_in xs 1 h.warm; cold = walk_in xs 2 h.cold; temp = walk_in xs 3 h.temp }
+abbrev pub lists_in : (ℕ → Option Place) → Heads → Lists
+lists_in f h = record { hot = walk_in f 0 h.hot; warm = walk_in f 1 h.warm; cold = walk_in f 2 h.cold; temp = walk_in f 3 h.temp }
 
 -- the nodes and the ends of a list stand for these entries
 abbrev pub IsPart : (ℕ → Option Node) → Ends → List Entry → Type 0
 IsPart f e es = IsChain f e.newest e.oldest e.count e.bytes es
 
--- each list is a chain over its part of the slots
-pub record IsArena (xs : List (Option Place)) (h : Heads) (l : Lists) : Type 0 where
-  pub parts : (s : Seg) → IsPart (nodes_of xs (code s)) (ends_of h s) (list_of l s)
-  pub count : count_of l ≤ length xs
-  pub bytes : all_bytes l ≤ 2 ^ 20 * length xs
-  pub limit : length xs ≤ 2 ^ 32
+-- each list is a chain over its part of the places, and no number from the next one on has a place
+pub record IsArena (f : ℕ → Option Place) (next : ℕ) (h : Heads) (l : Lists) : Type 0 where
+  pub parts : (s : Seg) → IsPart (nodes_of f (code s)) (ends_of h s) (list_of l s)
+  pub later : (q : ℕ) → next ≤ q → f q ≡ None
+  pub count : count_of l ≤ next
+  pub bytes : all_bytes l ≤ 2 ^ 20 * next
+  pub limit : next ≤ 2 ^ 32
+
+-- what an arena keeps: its lists over the places of its blocks, and blocks that are ready for the next numbers
+pub record IsKept (bs : List Block) (next : ℕ) (h : Heads) : Type 0 where
+  pub arena : IsArena (slot bs) next h (lists_in (slot bs) h)
+  pub ready : IsReady bs next

@@ -1,8 +1,9 @@
--- The event that each call of a class makes.
-use Rattle.std.specs.Prelude.{ℕ, List, length}
+-- The event that each call of a class makes, and how such a call ends.
+use Rattle.std.specs.Prelude.{ℕ, ◌≡◌, ◌≤◌, List, Result, MatchResult, length}
 use Rattle.mc_item.specs.declared.class_event.ClassEvent.{ClassEvent}
 use Rattle.mc_item.specs.declared.class_event.ClassEvent.TheVariants as events
 use Rattle.mc_item.specs.declared.class_event.Why.{Why}
+use Rattle.mc_item.specs.declared.fault.Fault.{Fault}
 use Rattle.mc_item.specs.declared.item.Expiry.{Expiry}
 use Rattle.mc_item.specs.declared.item.Who.{Who}
 use Rattle.mc_item.specs.declared.lists.Seg.{Seg}
@@ -10,7 +11,7 @@ use Rattle.mc_rule.specs.Lists.{lists_of, links_of}
 use Rattle.mc_rule.specs.Lawful.{IsLawfulByLists}
 use Rattle.mc_rule.specs.Segment.{segment_for, total_of, cold_age_of}
 use Rattle.mc_segment.specs.declared.surveying.Survey.{Survey}
-use Rattle.mc_segment.specs.ClassState.{ClassView}
+use Rattle.mc_segment.specs.ClassState.{ClassView, appended, with_room, HasPlaces, MayRefuse}
 
 -- a new entry, with the next number, at the head of the segment that the rule names
 abbrev pub linked_event : ClassView → Who → List ℕ → ℕ → ℕ → Expiry → ClassEvent
@@ -51,3 +52,15 @@ refused_event who = events.Refused (record { who = who })
 -- the event may come next, as far as the lists tell
 abbrev pub MayCome : ClassView → ClassEvent → Type 0
 MayCome c e = IsLawfulByLists c.chunks c.rule c.history e
+
+-- the class has one event more, this one, and nothing else but its room has changed
+abbrev pub Makes : ClassView → ClassView → ClassEvent → Type 0
+Makes c c' e = c' ≡ appended c e c'.room
+
+-- nothing but the room has changed, and that isn't less
+abbrev pub Stays : ClassView → ClassView → Type 0
+Stays c c' = (c' ≡ with_room c c'.room) × (c.room ≤ c'.room)
+
+-- how a call that makes one event may end: well where the history had a place, and else with the fault that fits
+abbrev pub MayEnd : {A : Type 0} → ClassView → Result A Fault → Type 0
+MayEnd c result = MatchResult result (λ _. HasPlaces c 1) (MayRefuse c 1)

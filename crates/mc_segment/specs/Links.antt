@@ -12,17 +12,17 @@ abbrev pub with_older : Option ℕ → Node → Node
 with_older to n = record n { older = to }
 
 -- whether an option is this number
-abbrev pub names : ℕ → Option ℕ → Bool
-names q None = false
-names q (Some a) = a == q
+abbrev pub points_to : ℕ → Option ℕ → Bool
+points_to q None = false
+points_to q (Some a) = a == q
 
 -- the node at a number, once the node at `at` was told the number behind it
 abbrev pub apply_older : Option ℕ → Option ℕ → ℕ → Option Node → Option Node
-apply_older at to q o = if names q at then option_map (with_older to) o else o
+apply_older at to q o = if points_to q at then option_map (with_older to) o else o
 
 -- the node at a number, once the node at `at` was told the number before it
 abbrev pub apply_newer : Option ℕ → Option ℕ → ℕ → Option Node → Option Node
-apply_newer at to q o = if names q at then option_map (with_newer to) o else o
+apply_newer at to q o = if points_to q at then option_map (with_newer to) o else o
 
 -- an end of a list: another number where nothing stands beside the node that has gone
 abbrev pub end_of : Option ℕ → Option ℕ → Option ℕ → Option ℕ

@@ -1,12 +1,11 @@
-//! Four lists of entries in one vector of places, from which any number is taken out in one step.
-ghost use Rattle.std.specs.Prelude.{◌≡◌, ◌+◌, ◌-◌, ◌*◌, ◌<◌, ◌≤◌, ◌^◌, ℕ, length, None, Some, OnOk, IsOk, IfSome, IsSome, slice_get};
-ghost use Rattle.std.specs.Option.{option_copied};
+//! Four lists of entries over one table of places, from which any number is taken out in one step.
+ghost use Rattle.std.specs.Prelude.{◌≡◌, ◌+◌, ◌*◌, ◌<◌, ◌≤◌, ◌^◌, ℕ, length, None, Some, OnOk, IsOk, IfSome, IsSome};
 ghost use Rattle.mc_rule.specs.Lists.{no_lists, list_of, with_list, find, without, found, segment_of, linked, unlinked, moved, cost_sum, count_of, times_in};
-ghost use Rattle.mc_segment.specs.Arena.{all_bytes};
-ghost use Rattle.mc_segment.specs.Entries.{entry_of};
+ghost use Rattle.mc_segment.specs.Arena.{all_bytes, HasSlot};
 
+use crate::blocks::BLOCK_LEN;
 use crate::ends::{Ends, Heads};
-use crate::slots::{empty, fill, place_at, set_newer, set_older};
+use crate::slots::{empty, fill, give_back, make_blocks, set_newer, set_older};
 use mc_item::{Entry, Seg, Why};
 use std::alloc::{AllocError, Global};
 use std::marker::Model;
@@ -26,22 +25,25 @@ pub struct Place {
     pub node: Node,
 }
 
-/// Four lists, newest first. A number is a slot, and is given once.
+/// Four lists, newest first. A number is given once; its slot's memory is given back with its block.
 #[derive(Drop)]
 pub struct Arena {
-    slots: Vec<Option<Place>>,
-    heads: Heads,
+    pub(crate) slots: Vec<Vec<Option<Place>>>,
+    pub(crate) next: u64,
+    pub(crate) heads: Heads,
+    alloc: Global,
 }
 
 impl Model for Arena {
-    ghost use Rattle.std.specs.Prelude.{◌-◌, vec_len, vec_capacity};
-    ghost use Rattle.mc_segment.specs.Arena.{Held, held, lists_in, IsArena};
+    ghost use Rattle.std.specs.Prelude.{◌-◌, ◌*◌, length};
+    ghost use Rattle.mc_segment.specs.Slots.{slot};
+    ghost use Rattle.mc_segment.specs.Arena.{Held, held, lists_in, IsKept};
 
     ghost Value = { Held };
 
-    ghost view = { λ a. held (lists_in a.slots.items a.heads) (vec_len a.slots) (vec_capacity a.slots - vec_len a.slots) };
+    ghost view = { λ a. held (lists_in (slot a.slots.items) a.heads) a.next (64 * length a.slots.items - a.next) a.slots.items };
 
-    ghost invariant = { λ a. IsArena a.slots.items a.heads (lists_in a.slots.items a.heads) };
+    ghost invariant = { λ a. IsKept a.slots.items a.next a.heads };
 }
 
 // The time of an entry after a move.
@@ -70,30 +72,34 @@ impl Arena {
         };
         Arena {
             slots: Vec::new(alloc),
+            next: 0,
             heads: Heads {
                 hot: ends,
                 warm: ends,
                 cold: ends,
                 temp: ends,
             },
+            alloc,
         }
     }
 
     /// Makes room for n more numbers.
     pub fn reserve(&mut self, n: usize) -> Result<(), AllocError>
+        requires few { n ≤ 2 ^ 32 }
         ensures same { (self.new.lists ≡ self.old.lists) × (self.new.next ≡ self.old.next) }
         ensures room { OnOk result (n ≤ self.new.room) }
         ensures kept { self.old.room ≤ self.new.room }
         ensures succeeds { n ≤ self.old.room → IsOk result }
     {
-        self.slots.reserve(n)
+        let count = (self.next + n as u64).div_ceil(BLOCK_LEN);
+        make_blocks(&mut self.slots, self.alloc, count)
     }
 
     /// The number of the next push.
     pub fn next(&self) -> u64
         ensures { result ≡ self.now.next }
     {
-        self.slots.len() as u64
+        self.next
     }
 
     /// The bytes of a list.
@@ -111,25 +117,11 @@ impl Arena {
         self.heads.hot.count + self.heads.warm.count + self.heads.cold.count + self.heads.temp.count
     }
 
-    /// The list that a number is in.
-    pub fn segment_of(&self, number: u64) -> Option<Seg>
-        ensures { result ≡ segment_of number self.now.lists }
-    {
-        Some(place_at(&self.slots, number)?.seg)
-    }
-
     /// How many entries a list has.
     pub fn len(&self, seg: Seg) -> u64
         ensures { result ≡ length (list_of self.now.lists seg) }
     {
         self.heads.of(seg).count
-    }
-
-    /// The entry of a number, where it is in a list.
-    pub fn entry(&self, number: u64) -> Option<&Entry>
-        ensures { option_copied result ≡ entry_of number self.now.lists }
-    {
-        Some(&place_at(&self.slots, number)?.node.entry)
     }
 
     /// The law of the lists: no number stands twice, and each is below the next.
@@ -141,7 +133,7 @@ impl Arena {
         let _ = self.heads.of(Seg::Hot);
     }
 
-    // Makes an empty slot.
+    // Gives the next number an empty slot.
     fn grow(&mut self)
         requires room { 0 < self.old.room }
         requires limit { self.old.next < 2 ^ 32 }
@@ -149,14 +141,16 @@ impl Arena {
         ensures fresh { found self.old.next self.new.lists ≡ None }
         ensures sums { (count_of self.new.lists < self.new.next) × (all_bytes self.new.lists + 2 ^ 20 ≤ 2 ^ 20 * self.new.next) }
         ensures room { (self.new.next ≡ self.old.next + 1) × (self.old.room ≤ self.new.room + 1) }
+        ensures slot { HasSlot self.new self.old.next }
     {
-        self.slots.push_reserved(None);
+        self.next += 1;
     }
 
     // Puts an entry at a head, where its number is in no list.
     fn put(&mut self, seg: Seg, entry: Entry)
         requires absent { found entry.number self.old.lists ≡ None }
         requires inside { entry.number < self.old.next }
+        requires slot { HasSlot self.old entry.number }
         requires count { count_of self.old.lists < self.old.next }
         requires cost { all_bytes self.old.lists + entry.cost ≤ 2 ^ 20 * self.old.next }
         ensures lists { self.new.lists ≡ linked seg entry self.old.lists }
@@ -199,6 +193,7 @@ impl Arena {
         ensures lists { self.new.lists ≡ unlinked number self.old.lists }
         ensures gone { found number self.new.lists ≡ None }
         ensures sums { IfSome result (λ p. (p.1.number ≡ number) × (number < self.old.next) × (count_of self.new.lists + 1 ≡ count_of self.old.lists) × (all_bytes self.new.lists + p.1.cost ≡ all_bytes self.old.lists)) }
+        ensures slot { IfSome result (λ p. HasSlot self.new number) }
         ensures fits { IfSome result (λ p. (count_of self.new.lists < self.new.next) × (all_bytes self.new.lists + p.1.cost ≤ 2 ^ 20 * self.new.next)) }
         ensures same { (self.new.next ≡ self.old.next) × (self.new.room ≡ self.old.room) }
     {
@@ -216,6 +211,15 @@ impl Arena {
         Some((seg, entry))
     }
 
+    // Gives back the memory of a number's block, where it has no entry and no number of it is to come.
+    fn give_back(&mut self, number: u64)
+        ensures { (self.new.lists ≡ self.old.lists) × (self.new.next ≡ self.old.next) × (self.new.room ≡ self.old.room) }
+    {
+        if number / BLOCK_LEN < self.next / BLOCK_LEN {
+            give_back(&mut self.slots, self.alloc, number);
+        }
+    }
+
     /// Takes the entry of a number that is in a list.
     pub fn remove(&mut self, number: u64) -> Entry
         requires there { IsSome (found number self.old.lists) }
@@ -225,37 +229,20 @@ impl Arena {
         ensures same { (self.new.next ≡ self.old.next) × (self.new.room ≡ self.old.room) }
     {
         let (_, entry) = self.take(number).unwrap();
+        self.give_back(number);
         entry
     }
 
-    /// The entry of a number goes from the list that it is in, which is answered, to the head of another.
-    pub fn move_to(&mut self, number: u64, to_seg: Seg, why: Why, moment: u64) -> Seg
-        requires there { IsSome (found number self.old.lists) }
-        ensures from { segment_of number self.old.lists ≡ Some result }
-        ensures lists { self.new.lists ≡ moved number result to_seg why moment self.old.lists }
+    /// The entry of a number goes from the list that it is in to the head of another, or of its own.
+    pub fn move_to(&mut self, number: u64, from_seg: Seg, to_seg: Seg, why: Why, moment: u64)
+        requires there { segment_of number self.old.lists ≡ Some from_seg }
+        ensures lists { self.new.lists ≡ moved number from_seg to_seg why moment self.old.lists }
         ensures inside { number < self.old.next }
         ensures count { count_of self.new.lists ≡ count_of self.old.lists }
         ensures same { (self.new.next ≡ self.old.next) × (self.new.room ≡ self.old.room) }
     {
-        let (from_seg, mut entry) = self.take(number).unwrap();
+        let (_, mut entry) = self.take(number).unwrap();
         entry.time = time_after(why, moment, entry.time);
         self.put(to_seg, entry);
-        from_seg
-    }
-
-    /// The j-th entry from a list's tail.
-    pub fn from_tail(&self, seg: Seg, j: u64) -> Option<&Entry>
-        ensures inside { j < length (list_of self.now.lists seg) → option_copied result ≡ slice_get (list_of self.now.lists seg) (length (list_of self.now.lists seg) - 1 - j) }
-        ensures outside { length (list_of self.now.lists seg) ≤ j → result ≡ None }
-    {
-        let mut at = self.heads.of(seg).oldest;
-        for _ in 0..j {
-            let number = at?;
-            let place = place_at(&self.slots, number)?;
-            at = place.node.newer;
-        }
-        let number = at?;
-        let place = place_at(&self.slots, number)?;
-        Some(&place.node.entry)
     }
 }

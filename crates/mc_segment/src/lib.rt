@@ -2,13 +2,16 @@
 #![tactic(auto)]
 
 mod arena;
+mod blocks;
 mod ends;
 mod leaving;
 mod linking;
+mod looks;
 mod reading;
 mod shifting;
 mod slots;
 mod state;
+mod steps;
 mod surveying;
 
 pub use state::ClassState;

@@ -1,9 +1,9 @@
 //! New entries.
-ghost use Rattle.std.specs.Prelude.{◌≡◌, ◌<◌, ◌≤◌, ◌+◌, ◌^◌, IfOk, OnOk, OnErr, MatchResult};
+ghost use Rattle.std.specs.Prelude.{◌≡◌, ◌<◌, ◌≤◌, ◌+◌, ◌^◌, IfOk, OnOk, OnErr};
 ghost use Rattle.mc_rule.specs.Lists.{lists_of, links_of, count_of};
 ghost use Rattle.mc_rule.specs.Segment as rules;
-ghost use Rattle.mc_segment.specs.ClassState.{appended, with_room, HasPlaces, MayRefuse};
-ghost use Rattle.mc_segment.specs.ClassCalls.{linked_event};
+ghost use Rattle.mc_segment.specs.ClassState.{HasPlaces};
+ghost use Rattle.mc_segment.specs.ClassCalls.{linked_event, Makes, Stays, MayEnd};
 
 use crate::state::ClassState;
 use mc_item::{Expiry, Fault, Key, Seg, Who};
@@ -39,13 +39,35 @@ impl ClassState {
         requires free { count_of (lists_of self.old.history) < self.old.chunks }
         requires cost { cost ≤ 2 ^ 20 }
         ensures number { IfOk result (λ number. number ≡ links_of self.old.history) }
-        ensures ok { OnOk result (self.new ≡ appended self.old (linked_event self.old who key cost moment expiry) self.new.room) }
-        ensures err { OnErr result ((self.new ≡ with_room self.old self.new.room) × (self.old.room ≤ self.new.room)) }
-        ensures refusal { MatchResult result (λ _. HasPlaces self.old 1) (MayRefuse self.old 1) }
+        ensures ok { OnOk result (Makes self.old self.new (linked_event self.old who key cost moment expiry)) }
+        ensures err { OnErr result (Stays self.old self.new) }
+        ensures refusal { MayEnd self.old result }
         ensures room { self.old.room ≤ self.new.room + 1 }
     {
-        self.reserve(1)?;
         let seg = self.segment_for(moment, expiry);
-        Ok(self.enter(who, key, cost, seg, moment))
+        self.enter(who, key, cost, seg, moment)
+    }
+
+    /// The same, where room was made: it takes no memory and can't be refused.
+    pub fn link_reserved(
+        &mut self,
+        who: Who,
+        key: Key,
+        cost: u64,
+        moment: u64,
+        expiry: Expiry,
+    ) -> u64
+        requires room { 0 < self.old.room }
+        requires place { HasPlaces self.old 1 }
+        requires free { count_of (lists_of self.old.history) < self.old.chunks }
+        requires cost { cost ≤ 2 ^ 20 }
+        ensures number { result ≡ links_of self.old.history }
+        ensures event { Makes self.old self.new (linked_event self.old who key cost moment expiry) }
+        ensures room { self.old.room ≤ self.new.room + 1 }
+    {
+        let Ok(number) = self.link(who, key, cost, moment, expiry) else {
+            unreachable!();
+        };
+        number
     }
 }

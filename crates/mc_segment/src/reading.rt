@@ -1,14 +1,15 @@
-//! What a class tells of its lists and its history. None of these calls takes memory.
-ghost use Rattle.std.specs.Prelude.{◌≡◌, ◌≤◌, ◌^◌, ℕ, false, None, Some, length, take, reverse, IfSome};
-ghost use Rattle.std.specs.Option.{option_copied};
-ghost use Rattle.mc_rule.specs.Lists.{lists_of, links_of, list_of, bytes_of, count_of, times_in, find, found};
+//! What a class tells of its lists and its history. None of these calls but `key` takes memory.
+ghost use Rattle.std.specs.Prelude.{◌≡◌, ◌≤◌, ◌^◌, ◌+◌, ◌↔◌, ℕ, false, None, Some, length, take, reverse, IsTrue, IfSome, IfOk};
+ghost use Rattle.std.specs.Option.{option_copied, IsSomeAnd};
+ghost use Rattle.mc_item.specs.declared.lists.Entry.{Entry};
+ghost use Rattle.mc_rule.specs.Lists.{lists_of, links_of, list_of, bytes_of, count_of, times_in, find, found, IsFull};
 ghost use Rattle.mc_segment.specs.Entries.{entry_of};
 ghost use Rattle.mc_rule.specs.Segment.{numbers_of, numbers_behind};
 ghost use Rattle.mc_item.specs.declared.lists.Seg.{Seg};
-ghost use Rattle.mc_rule.specs.Lawful.{is_named, IsIn, IsLawfulHistoryByLists};
+ghost use Rattle.mc_rule.specs.Lawful.{is_named, IsIn, IsListed, IsLawfulHistoryByLists};
 
 use crate::state::ClassState;
-use mc_item::{ClassEvent, ClassNo, Entry, Seg};
+use mc_item::{ClassEvent, ClassNo, Entry, Key, NoMemory, Passed, Seg};
 
 impl ClassState {
     /// The class's number.
@@ -46,6 +47,13 @@ impl ClassState {
         self.chunks
     }
 
+    /// Whether the lists have as many entries as they may have.
+    pub fn is_full(&self) -> bool
+        ensures { IsTrue result ↔ IsFull self.now.chunks (lists_of self.now.history) }
+    {
+        self.count() >= self.chunks
+    }
+
     /// The bytes of a segment: the sum of its entries' costs.
     pub fn bytes(&self, seg: Seg) -> u64
         ensures value { result ≡ bytes_of (lists_of self.now.history) seg }
@@ -67,6 +75,29 @@ impl ClassState {
         self.lists.from_tail(seg, j)
     }
 
+    /// The numbers of the j entries that are nearest to a segment's tail, from the tail. There are as many, and j is at
+    /// most 4. They are those behind the j-th entry from the tail.
+    pub fn passed(&self, seg: Seg, j: u64) -> Passed
+        requires few { j ≤ 4 }
+        requires there { j ≤ length (list_of (lists_of self.now.history) seg) }
+        ensures value { result ≡ take j (reverse (numbers_of (list_of (lists_of self.now.history) seg))) }
+        ensures behind { IfSome (Rattle.mc_rule.specs.Lists.from_tail (list_of (lists_of self.now.history) seg) j)
+            (λ e. numbers_behind e.number (list_of (lists_of self.now.history) seg) ≡ result) }
+    {
+        self.lists.law();
+        self.lists.passed(seg, j)
+    }
+
+    /// The entry that is one place newer than that of a number in its list: the next one on a way from the tail. There
+    /// is none past the newest, and none of a number that is in no list.
+    pub fn next_newer(&self, number: u64) -> Option<&Entry>
+        ensures newer { (s : Seg) (j : ℕ) (e : Entry) → Rattle.mc_rule.specs.Lists.from_tail (list_of (lists_of self.now.history) s) j ≡ Some e → e.number ≡ number
+            → option_copied result ≡ Rattle.mc_rule.specs.Lists.from_tail (list_of (lists_of self.now.history) s) (j + 1) }
+        ensures absent { found number (lists_of self.now.history) ≡ None → result ≡ None }
+    {
+        self.lists.next_newer(number)
+    }
+
     /// The segment that an entry is in, by its number.
     pub fn segment_of(&self, number: u64) -> Option<Seg>
         ensures { result ≡ Rattle.mc_rule.specs.Lists.segment_of number (lists_of self.now.history) }
@@ -86,6 +117,14 @@ impl ClassState {
         ensures { option_copied result ≡ entry_of number (lists_of self.now.history) }
     {
         self.lists.entry(number)
+    }
+
+    /// A copy of the key of an entry that is in a list.
+    pub fn key(&self, number: u64) -> Result<Key, NoMemory>
+        requires there { IsListed number (lists_of self.now.history) }
+        ensures { IfOk result (λ key. IsSomeAnd (entry_of number (lists_of self.now.history)) (λ e. key ≡ e.key)) }
+    {
+        self.entry(number).unwrap().key.copy(self.alloc)
     }
 
     /// The law of a class: each number is in one list once, which is that of its segment, no number is used again, and

@@ -1,12 +1,12 @@
 //! Entries that move between lists.
-ghost use Rattle.std.specs.Prelude.{◌≡◌, ◌≤◌, ◌+◌, OnOk, OnErr, MatchResult};
+ghost use Rattle.std.specs.Prelude.{◌≡◌, ◌<◌, ◌≤◌, ◌+◌, OnOk, OnErr};
 ghost use Rattle.std.specs.Option.{IsSomeAnd};
 ghost use Rattle.mc_rule.specs.Lists.{lists_of, segment_of};
-ghost use Rattle.mc_segment.specs.ClassState.{appended, with_room, HasPlaces, MayRefuse};
-ghost use Rattle.mc_segment.specs.ClassCalls.{shifted_event, MayCome};
+ghost use Rattle.mc_segment.specs.ClassState.{HasPlaces};
+ghost use Rattle.mc_segment.specs.ClassCalls.{shifted_event, MayCome, Makes, Stays, MayEnd};
 
 use crate::state::ClassState;
-use mc_item::{Fault, Passed, Seg, Who, Why};
+use mc_item::{Fault, Passed, Seg, Shifted, Who, Why};
 
 impl ClassState {
     /// An entry goes from the segment that it is in to the head of another, or of its own. A hit or an active entry's
@@ -25,13 +25,65 @@ impl ClassState {
         requires { IsSomeAnd (segment_of number (lists_of self.old.history))
             (λ from_seg. MayCome self.old (shifted_event who number to_seg why moment passed at from_seg)) }
         ensures ok { OnOk result (IsSomeAnd (segment_of number (lists_of self.old.history))
-            (λ from_seg. self.new ≡ appended self.old (shifted_event who number to_seg why moment passed at from_seg) self.new.room)) }
-        ensures err { OnErr result ((self.new ≡ with_room self.old self.new.room) × (self.old.room ≤ self.new.room)) }
-        ensures refusal { MatchResult result (λ _. HasPlaces self.old 1) (MayRefuse self.old 1) }
+            (λ from_seg. Makes self.old self.new (shifted_event who number to_seg why moment passed at from_seg))) }
+        ensures err { OnErr result (Stays self.old self.new) }
+        ensures refusal { MayEnd self.old result }
         ensures room { self.old.room ≤ self.new.room + 1 }
     {
-        self.reserve(1)?;
-        self.turn(who, number, to_seg, why, moment, passed, at);
-        Ok(())
+        let from_seg = self.segment_of(number).unwrap();
+        self.shift_from(who, number, from_seg, to_seg, why, moment, passed, at)
+    }
+
+    /// The same, where the caller knows the segment that the entry is in.
+    pub fn shift_from(
+        &mut self,
+        who: Who,
+        number: u64,
+        from_seg: Seg,
+        to_seg: Seg,
+        why: Why,
+        moment: u64,
+        passed: Passed,
+        at: u64,
+    ) -> Result<(), Fault>
+        requires { MayCome self.old (shifted_event who number to_seg why moment passed at from_seg) }
+        ensures ok { OnOk result (Makes self.old self.new (shifted_event who number to_seg why moment passed at from_seg)) }
+        ensures err { OnErr result (Stays self.old self.new) }
+        ensures refusal { MayEnd self.old result }
+        ensures room { self.old.room ≤ self.new.room + 1 }
+    {
+        self.turn(Shifted {
+            who,
+            number,
+            from_seg,
+            to_seg,
+            why,
+            moment,
+            passed,
+            at,
+        })
+    }
+
+    /// The same as `shift_from`, where room was made: it takes no memory and can't be refused.
+    pub fn shift_reserved(
+        &mut self,
+        who: Who,
+        number: u64,
+        from_seg: Seg,
+        to_seg: Seg,
+        why: Why,
+        moment: u64,
+        passed: Passed,
+        at: u64,
+    )
+        requires room { 0 < self.old.room }
+        requires place { HasPlaces self.old 1 }
+        requires lawful { MayCome self.old (shifted_event who number to_seg why moment passed at from_seg) }
+        ensures event { Makes self.old self.new (shifted_event who number to_seg why moment passed at from_seg) }
+        ensures room { self.old.room ≤ self.new.room + 1 }
+    {
+        let Ok(()) = self.shift_from(who, number, from_seg, to_seg, why, moment, passed, at) else {
+            unreachable!();
+        };
     }
 }

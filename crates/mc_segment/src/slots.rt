@@ -1,77 +1,99 @@
-//! The places of a class, by the numbers of their entries.
-ghost use Rattle.std.specs.Prelude.{◌≡◌, ◌<◌, ◌==◌, ℕ, Some, None, if◌then◌else◌, vec_len, vec_capacity, length};
-ghost use Rattle.std.specs.Option.{option_copied, option_map};
-ghost use Rattle.mc_segment.specs.Slots.{slot, place_newer, place_older, renewed, reolded};
+//! The slots of a class, by the numbers of their entries. A block is made when its first number is to come, and given
+//! back when its last entry goes.
+ghost use Rattle.std.specs.Prelude.{◌≡◌, ◌≢◌, ◌<◌, ◌≤◌, ◌==◌, ◌/◌, ◌%◌, ℕ, Some, None, OnOk, IsOk, if◌then◌else◌, length};
+ghost use Rattle.std.specs.Option.{option_copied};
+ghost use Rattle.mc_segment.specs.Slots.{slot, slots_of, place_newer, place_older, IsShaped, IsLonger};
 
 use crate::arena::Place;
+use crate::blocks;
+use crate::blocks::{BLOCK_LEN, is_free, new_block};
+use std::alloc::{AllocError, Global};
+
+// Makes blocks until there are this many.
+pub(crate) fn make_blocks(
+    slots: &mut Vec<Vec<Option<Place>>>,
+    alloc: Global,
+    count: u64,
+) -> Result<(), AllocError>
+    ensures longer { IsLonger slots.old.items slots.new.items }
+    ensures ok { OnOk result (count ≤ length slots.new.items) }
+    ensures succeeds { count ≤ length slots.old.items → IsOk result }
+{
+    'making: while (slots.len() as u64) < count {
+        slots.push(new_block(alloc)?)?;
+    }
+    Ok(())
+}
 
 // The place of a number.
-pub(crate) fn place_at(slots: &Vec<Option<Place>>, number: u64) -> Option<&Place>
+pub(crate) fn place_at(slots: &Vec<Vec<Option<Place>>>, number: u64) -> Option<&Place>
     ensures { option_copied result ≡ slot slots.now.items number }
 {
-    slots.get(number as usize)?.as_ref()
+    blocks::place_at(
+        slots.get((number / BLOCK_LEN) as usize)?,
+        number % BLOCK_LEN,
+    )
 }
 
 // Takes the place out of a slot.
-pub(crate) fn empty(slots: &mut Vec<Option<Place>>, number: u64) -> Option<Place>
+pub(crate) fn empty(slots: &mut Vec<Vec<Option<Place>>>, number: u64) -> Option<Place>
     ensures place { result ≡ slot slots.old.items number }
     ensures slots { (q : ℕ) → slot slots.new.items q ≡ (if number == q then None else slot slots.old.items q) }
-    ensures len { (vec_len slots.new ≡ vec_len slots.old) × (length slots.new.items ≡ length slots.old.items) }
-    ensures capacity { vec_capacity slots.new ≡ vec_capacity slots.old }
+    ensures shape { IsShaped slots.old.items slots.new.items }
 {
-    slots.get_mut(number as usize)?.take()
+    let Some(block) = slots.get_mut((number / BLOCK_LEN) as usize) else {
+        return None;
+    };
+    blocks::empty(block, number % BLOCK_LEN)
 }
 
 // Fills a slot.
-pub(crate) fn fill(slots: &mut Vec<Option<Place>>, number: u64, place: Place)
-    requires { number < vec_len slots.old }
+pub(crate) fn fill(slots: &mut Vec<Vec<Option<Place>>>, number: u64, place: Place)
+    requires { number % 64 < slots_of slots.old.items number }
     ensures slots { (q : ℕ) → slot slots.new.items q ≡ (if number == q then Some place else slot slots.old.items q) }
-    ensures len { (vec_len slots.new ≡ vec_len slots.old) × (length slots.new.items ≡ length slots.old.items) }
-    ensures capacity { vec_capacity slots.new ≡ vec_capacity slots.old }
+    ensures shape { IsShaped slots.old.items slots.new.items }
 {
-    slots[number as usize] = Some(place);
+    let Some(block) = slots.get_mut((number / BLOCK_LEN) as usize) else {
+        unreachable!();
+    };
+    blocks::fill(block, number % BLOCK_LEN, place);
 }
 
 // Tells a node the number before it.
-pub(crate) fn set_newer(slots: &mut Vec<Option<Place>>, at: Option<u64>, to: Option<u64>)
+pub(crate) fn set_newer(slots: &mut Vec<Vec<Option<Place>>>, at: Option<u64>, to: Option<u64>)
     ensures slots { (q : ℕ) → slot slots.new.items q ≡ place_newer at to q (slot slots.old.items q) }
-    ensures len { (vec_len slots.new ≡ vec_len slots.old) × (length slots.new.items ≡ length slots.old.items) }
-    ensures capacity { vec_capacity slots.new ≡ vec_capacity slots.old }
+    ensures shape { IsShaped slots.old.items slots.new.items }
 {
     let Some(at) = at else {
         return;
     };
-    if let Some(place) = slots.get_mut(at as usize) {
-        tell_newer(place, to);
+    if let Some(block) = slots.get_mut((at / BLOCK_LEN) as usize) {
+        blocks::set_newer(block, at % BLOCK_LEN, to);
     }
 }
 
 // Tells a node the number behind it.
-pub(crate) fn set_older(slots: &mut Vec<Option<Place>>, at: Option<u64>, to: Option<u64>)
+pub(crate) fn set_older(slots: &mut Vec<Vec<Option<Place>>>, at: Option<u64>, to: Option<u64>)
     ensures slots { (q : ℕ) → slot slots.new.items q ≡ place_older at to q (slot slots.old.items q) }
-    ensures len { (vec_len slots.new ≡ vec_len slots.old) × (length slots.new.items ≡ length slots.old.items) }
-    ensures capacity { vec_capacity slots.new ≡ vec_capacity slots.old }
+    ensures shape { IsShaped slots.old.items slots.new.items }
 {
     let Some(at) = at else {
         return;
     };
-    if let Some(place) = slots.get_mut(at as usize) {
-        tell_older(place, to);
+    if let Some(block) = slots.get_mut((at / BLOCK_LEN) as usize) {
+        blocks::set_older(block, at % BLOCK_LEN, to);
     }
 }
 
-fn tell_newer(place: &mut Option<Place>, to: Option<u64>)
-    ensures { place.new ≡ option_map (renewed to) place.old }
+// Gives back the memory of a number's block, where no slot of it has a place.
+pub(crate) fn give_back(slots: &mut Vec<Vec<Option<Place>>>, alloc: Global, number: u64)
+    ensures slots { (q : ℕ) → slot slots.new.items q ≡ slot slots.old.items q }
+    ensures blocks { length slots.new.items ≡ length slots.old.items }
+    ensures others { (q : ℕ) → number / 64 ≢ q / 64 → slots_of slots.new.items q ≡ slots_of slots.old.items q }
 {
-    if let Some(place) = place {
-        place.node.newer = to;
-    }
-}
-
-fn tell_older(place: &mut Option<Place>, to: Option<u64>)
-    ensures { place.new ≡ option_map (reolded to) place.old }
-{
-    if let Some(place) = place {
-        place.node.older = to;
+    if let Some(block) = slots.get_mut((number / BLOCK_LEN) as usize) {
+        if is_free(block) {
+            *block = Vec::new(alloc);
+        }
     }
 }

@@ -1,18 +1,10 @@
-//! The state of a class: what it keeps, how it is made, and the steps that every event is made by.
-ghost use Rattle.std.specs.Prelude.{◌≡◌, ◌+◌, ◌<◌, ◌≤◌, ◌==◌, ◌^◌, ℕ, ◌↔◌, false, length, IsTrue, OnOk, IsOk, MatchResult, vec_len};
-ghost use Rattle.std.specs.Option.{IsSomeAnd};
+//! The state of a class: what it keeps, how it is made, and how room is made.
+ghost use Rattle.std.specs.Prelude.{◌≡◌, ◌≤◌, ◌↔◌, length, IsTrue, OnOk, IsOk, MatchResult, vec_len};
 ghost use Rattle.mc_item.specs.Config.{IsSound};
-ghost use Rattle.mc_rule.specs.Lists.{lists_of, links_of, links_in, count_of, lists_after, unlinked, segment_of};
-ghost use Rattle.mc_rule.specs.Lawful.{names, IsListed};
-ghost use Rattle.mc_item.specs.declared.class_event.ClassEvent.TheVariants as events;
-ghost use Rattle.mc_segment.specs.ClassState.{opened, appended, with_room, HasPlaces, MayRefuse};
-ghost use Rattle.mc_segment.specs.ClassCalls.{shifted_event, MayCome};
+ghost use Rattle.mc_segment.specs.ClassState.{opened, with_room, HasPlaces, MayRefuse};
 
 use crate::arena::Arena;
-use mc_item::{
-    ClassEvent, ClassNo, Config, Entry, Fault, Key, KeyBuffer, Linked, NoMemory, Passed, Seg,
-    Shifted, Who, Why,
-};
+use mc_item::{ClassEvent, ClassNo, Config, Fault, KeyBuffer, NoMemory};
 use std::alloc::Global;
 use std::marker::Model;
 
@@ -61,17 +53,6 @@ fn fill(spares: &mut Vec<KeyBuffer>, alloc: Global, n: usize) -> Result<(), NoMe
     Ok(())
 }
 
-// Keeps the buffer of a key that isn't wanted any more, where that takes no memory.
-fn recycle(spares: &mut Vec<KeyBuffer>, key: Key)
-    ensures { vec_len spares.old ≤ vec_len spares.new }
-{
-    if spares.len() < spares.capacity() {
-        if let Some(buffer) = KeyBuffer::of(key) {
-            spares.push_reserved(buffer);
-        }
-    }
-}
-
 impl ClassState {
     /// A class without entries, of this number, in a store that is made by this configuration. It takes no memory.
     pub fn new(alloc: Global, number: ClassNo, config: &Config) -> ClassState
@@ -97,7 +78,7 @@ impl ClassState {
     }
 
     // Whether the history has places for n more events.
-    fn has_places(&self, n: usize) -> bool
+    pub(crate) fn has_places(&self, n: usize) -> bool
         ensures { IsTrue result ↔ HasPlaces self.now n }
     {
         n as u64 <= self.max_events - (self.history.len() as u64)
@@ -118,99 +99,5 @@ impl ClassState {
         self.lists.reserve(n)?;
         fill(&mut self.spares, self.alloc, n)?;
         Ok(())
-    }
-
-    // Puts a new entry at a list's head. It takes no memory.
-    pub(crate) fn enter(&mut self, who: Who, key: Key, cost: u64, seg: Seg, moment: u64) -> u64
-        requires room { 0 < self.old.room }
-        requires place { HasPlaces self.old 1 }
-        requires free { count_of (lists_of self.old.history) < self.old.chunks }
-        requires cost { cost ≤ 2 ^ 20 }
-        ensures number { result ≡ links_of self.old.history }
-        ensures event { self.new ≡ appended self.old
-            (events.Linked (record { who = who; number = links_of self.old.history; key = key; cost = cost; seg = seg; moment = moment })) self.new.room }
-        ensures room { self.old.room ≤ self.new.room + 1 }
-    {
-        let number = self.lists.next();
-        let buffer = self.spares.pop().unwrap();
-        let entry = Entry {
-            number,
-            key: key.copy_into(buffer),
-            cost,
-            time: moment,
-        };
-        self.lists.push(seg, entry);
-        self.history.push_reserved(ClassEvent::Linked(Linked {
-            who,
-            number,
-            key,
-            cost,
-            seg,
-            moment,
-        }));
-        number
-    }
-
-    // Takes an entry out of its list for an event that does so. It takes no memory.
-    pub(crate) fn leave(&mut self, number: u64, event: ClassEvent)
-        requires room { 0 < self.old.room }
-        requires place { HasPlaces self.old 1 }
-        requires there { IsListed number (lists_of self.old.history) }
-        requires lawful { MayCome self.old event }
-        requires leaves { lists_after (lists_of self.old.history) event ≡ unlinked number (lists_of self.old.history) }
-        requires links { links_in event ≡ 0 }
-        requires names { (q : ℕ) → names q event ≡ (number == q) }
-        ensures event { self.new ≡ appended self.old event self.new.room }
-        ensures room { self.old.room ≤ self.new.room + 1 }
-    {
-        let entry = self.lists.remove(number);
-        recycle(&mut self.spares, entry.key);
-        self.history.push_reserved(event);
-    }
-
-    // Moves an entry to a list's head. It takes no memory.
-    pub(crate) fn turn(
-        &mut self,
-        who: Who,
-        number: u64,
-        to_seg: Seg,
-        why: Why,
-        moment: u64,
-        passed: Passed,
-        at: u64,
-    )
-        requires room { 0 < self.old.room }
-        requires place { HasPlaces self.old 1 }
-        requires lawful { IsSomeAnd (segment_of number (lists_of self.old.history))
-            (λ from_seg. MayCome self.old (shifted_event who number to_seg why moment passed at from_seg)) }
-        ensures event { IsSomeAnd (segment_of number (lists_of self.old.history))
-            (λ from_seg. self.new ≡ appended self.old (shifted_event who number to_seg why moment passed at from_seg) self.new.room) }
-        ensures room { self.old.room ≤ self.new.room + 1 }
-    {
-        let from_seg = self.lists.move_to(number, to_seg, why, moment);
-        self.history.push_reserved(ClassEvent::Shifted(Shifted {
-            who,
-            number,
-            from_seg,
-            to_seg,
-            why,
-            moment,
-            passed,
-            at,
-        }));
-    }
-
-    // Notes an event that moves no entry. It takes no memory.
-    pub(crate) fn note(&mut self, event: ClassEvent)
-        requires room { 0 < self.old.room }
-        requires place { HasPlaces self.old 1 }
-        requires lawful { MayCome self.old event }
-        requires stays { lists_after (lists_of self.old.history) event ≡ lists_of self.old.history }
-        requires links { links_in event ≡ 0 }
-        requires names { (q : ℕ) → names q event ≡ false }
-        ensures event { self.new ≡ appended self.old event self.new.room }
-        ensures room { self.old.room ≤ self.new.room + 1 }
-    {
-        self.history.push_reserved(event);
     }
 }

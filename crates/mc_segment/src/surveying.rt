@@ -1,9 +1,9 @@
 //! Events that move no entry: surveys and refusals.
-ghost use Rattle.std.specs.Prelude.{◌≡◌, ◌≤◌, ◌+◌, length, IfOk, OnOk, OnErr, MatchResult};
+ghost use Rattle.std.specs.Prelude.{◌≡◌, ◌<◌, ◌≤◌, ◌+◌, Some, length, slice_get, IfOk, OnOk, OnErr};
 ghost use Rattle.mc_rule.specs.Lists.{lists_of};
 ghost use Rattle.mc_rule.specs.Segment.{total_of, cold_age_of};
-ghost use Rattle.mc_segment.specs.ClassState.{appended, with_room, HasPlaces, MayRefuse};
-ghost use Rattle.mc_segment.specs.ClassCalls.{survey_of, surveyed_event, refused_event, MayCome};
+ghost use Rattle.mc_segment.specs.ClassState.{HasPlaces};
+ghost use Rattle.mc_segment.specs.ClassCalls.{survey_of, surveyed_event, refused_event, MayCome, Makes, Stays, MayEnd};
 
 use crate::state::ClassState;
 use mc_item::{ClassEvent, Fault, Refused, Seg, Surveyed, Who};
@@ -35,24 +35,24 @@ impl ClassState {
         }
     }
 
-    /// Notes the bytes and the cold age of the class at a moment. The faults are those of `unlink`.
+    /// Notes the bytes and the cold age of the class at a moment. The history has the survey at the place that is
+    /// answered. The faults are those of `unlink`.
     pub fn survey(&mut self, who: Who, moment: u64) -> Result<Survey, Fault>
         ensures value { IfOk result (λ survey. survey ≡ survey_of self.old moment) }
-        ensures ok { OnOk result (self.new ≡ appended self.old (surveyed_event self.old who moment) self.new.room) }
-        ensures err { OnErr result ((self.new ≡ with_room self.old self.new.room) × (self.old.room ≤ self.new.room)) }
-        ensures refusal { MatchResult result (λ _. HasPlaces self.old 1) (MayRefuse self.old 1) }
+        ensures noted { IfOk result (λ survey. slice_get self.new.history survey.place ≡ Some (surveyed_event self.old who moment)) }
+        ensures ok { OnOk result (Makes self.old self.new (surveyed_event self.old who moment)) }
+        ensures err { OnErr result (Stays self.old self.new) }
+        ensures refusal { MayEnd self.old result }
         ensures room { self.old.room ≤ self.new.room + 1 }
     {
-        self.reserve(1)?;
-        let place = self.history().len() as u64;
         let total = self.total();
         let cold_age = self.cold_age(moment);
-        self.note(ClassEvent::Surveyed(Surveyed {
+        let place = self.note(ClassEvent::Surveyed(Surveyed {
             who,
             moment,
             total,
             cold_age,
-        }));
+        }))?;
         Ok(Survey {
             place,
             total,
@@ -60,19 +60,49 @@ impl ClassState {
         })
     }
 
+    /// The same, where room was made: it takes no memory and can't be refused.
+    pub fn survey_reserved(&mut self, who: Who, moment: u64) -> Survey
+        requires room { 0 < self.old.room }
+        requires place { HasPlaces self.old 1 }
+        ensures value { result ≡ survey_of self.old moment }
+        ensures noted { slice_get self.new.history result.place ≡ Some (surveyed_event self.old who moment) }
+        ensures event { Makes self.old self.new (surveyed_event self.old who moment) }
+        ensures room { self.old.room ≤ self.new.room + 1 }
+    {
+        let Ok(survey) = self.survey(who, moment) else {
+            unreachable!();
+        };
+        survey
+    }
+
     /// Notes that no chunk was found, and answers the place of that event. The class is full. The faults are those of
     /// `unlink`.
     pub fn refuse(&mut self, who: Who) -> Result<u64, Fault>
         requires { MayCome self.old (refused_event who) }
         ensures place { IfOk result (λ place. place ≡ length self.old.history) }
-        ensures ok { OnOk result (self.new ≡ appended self.old (refused_event who) self.new.room) }
-        ensures err { OnErr result ((self.new ≡ with_room self.old self.new.room) × (self.old.room ≤ self.new.room)) }
-        ensures refusal { MatchResult result (λ _. HasPlaces self.old 1) (MayRefuse self.old 1) }
+        ensures noted { IfOk result (λ place. slice_get self.new.history place ≡ Some (refused_event who)) }
+        ensures ok { OnOk result (Makes self.old self.new (refused_event who)) }
+        ensures err { OnErr result (Stays self.old self.new) }
+        ensures refusal { MayEnd self.old result }
         ensures room { self.old.room ≤ self.new.room + 1 }
     {
-        self.reserve(1)?;
-        let place = self.history().len() as u64;
-        self.note(ClassEvent::Refused(Refused { who }));
+        let place = self.note(ClassEvent::Refused(Refused { who }))?;
         Ok(place)
+    }
+
+    /// The same, where room was made: it takes no memory and can't be refused.
+    pub fn refuse_reserved(&mut self, who: Who) -> u64
+        requires room { 0 < self.old.room }
+        requires place { HasPlaces self.old 1 }
+        requires lawful { MayCome self.old (refused_event who) }
+        ensures place { result ≡ length self.old.history }
+        ensures noted { slice_get self.new.history result ≡ Some (refused_event who) }
+        ensures event { Makes self.old self.new (refused_event who) }
+        ensures room { self.old.room ≤ self.new.room + 1 }
+    {
+        let Ok(place) = self.refuse(who) else {
+            unreachable!();
+        };
+        place
     }
 }

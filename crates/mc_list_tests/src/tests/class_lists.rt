@@ -18,6 +18,16 @@ fn checked(config: Config) -> Result<Config, Fail>
 
 // A class with this many chunks, and TEMP in use or not; its history holds 16 events.
 fn class_with(alloc: Global, chunks: u64, temp: bool) -> Result<ClassState, Fail> {
+    class_of(alloc, chunks, temp, 16)
+}
+
+// The same, with a history that holds this many events.
+pub(super) fn class_of(
+    alloc: Global,
+    chunks: u64,
+    temp: bool,
+    max_events: u64,
+) -> Result<ClassState, Fail> {
     let sizes = Numbers::from_vec(Vec::from_slice(alloc, &[96])?);
     let chunks = Numbers::from_vec(Vec::from_slice(alloc, &[chunks])?);
     let usual = Config::usual(alloc, 3)?;
@@ -25,7 +35,7 @@ fn class_with(alloc: Global, chunks: u64, temp: bool) -> Result<ClassState, Fail
         sizes,
         chunks,
         temp,
-        max_events: 16,
+        max_events,
         ..usual
     })?;
     Ok(ClassState::new(alloc, ClassNo(1), &config))
@@ -47,7 +57,7 @@ fn try_link(
 }
 
 // A new entry in a class with a free chunk, and its number.
-fn link(
+pub(super) fn link(
     rt: &impl Abort,
     class: &mut ClassState,
     key: Key,
@@ -61,7 +71,7 @@ fn link(
 }
 
 // The key of these bytes.
-fn key(rt: &impl Abort, alloc: Global, bytes: &[u8]) -> Key {
+pub(super) fn key(rt: &impl Abort, alloc: Global, bytes: &[u8]) -> Key {
     Key::of(alloc, bytes).expect(rt, "a key")
 }
 
@@ -127,7 +137,7 @@ fn evict(rt: &impl Abort, class: &mut ClassState, number: u64) {
 }
 
 // An entry goes with its item.
-fn unlink(rt: &impl Abort, class: &mut ClassState, number: u64) {
+pub(super) fn unlink(rt: &impl Abort, class: &mut ClassState, number: u64) {
     assert!(rt; class.segment_of(number).is_some());
     class.unlink(WHO, number).expect(rt, "a removal");
 }

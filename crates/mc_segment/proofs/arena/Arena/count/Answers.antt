@@ -1,6 +1,6 @@
 use Rattle.std.proofs.Common.{arith}
 use Rattle.mc_item.specs.declared.lists.Seg.TheVariants.{Hot, Warm, Cold, Temp}
-use Rattle.mc_segment.proofs.PartLemmas.{seen}
+use Rattle.mc_segment.proofs.ArenaLemmas.{seen}
 use Rattle.mc_segment.proofs.arena.Arena.count.Goals as goal
 
 pub overflow_add-result : goal.overflow_add-result

@@ -5,7 +5,8 @@ use Rattle.mc_segment.specs.declared.ends.Ends.{Ends}
 use Rattle.mc_segment.specs.Nodes.{before}
 use Rattle.mc_segment.specs.Arena.{part, code}
 use Rattle.mc_segment.proofs.TailLemmas.{before_last, not_yet, missing, next_is, entry_is, node_here}
-use Rattle.mc_segment.proofs.PartLemmas.{seen, mine}
+use Rattle.mc_segment.proofs.PartLemmas.{mine}
+use Rattle.mc_segment.proofs.ArenaLemmas.{seen}
 use Rattle.mc_segment.proofs.arena.Arena.from_tail.Goals as goal
 
 pub loop-init : goal.loop-init

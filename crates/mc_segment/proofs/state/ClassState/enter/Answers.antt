@@ -1,26 +1,29 @@
-use Rattle.std.proofs.Common.{◌+◌, ◌∙◌, ap, arith, List, ℕ}
+use Rattle.std.proofs.Common.{◌+◌, ◌∙◌, ap, arith, rules, List, ℕ}
 use Rattle.mc_item.specs.declared.class_event.ClassEvent.{ClassEvent}
 use Rattle.mc_item.specs.declared.class_event.ClassEvent.TheVariants as events
 use Rattle.mc_rule.specs.Lists.{Lists, linked, entry}
-use Rattle.mc_segment.specs.ClassState.{ClassView}
+use Rattle.mc_segment.specs.ClassState.{ClassView, HasPlaces}
 use Rattle.mc_segment.proofs.StateLemmas.{keeps, seen_lists, seen_next, seen_fresh, links_of-le, not_to_come}
 use Rattle.mc_segment.proofs.state.ClassState.enter.Goals as goal
 
 pub push-requires-clause-limit : goal.push-requires-clause-limit
 push-requires-clause-limit c =
     let v = c.args.self.now in
-    omega (arith, seen_next _ _ _ _ _ _ _ _ c.self.invariant c.self.view_is, links_of-le v.history, c.requires.place, c.self.invariant.limit, ap (λ (x : ClassView). x.max_events) c.self.view_is)
+    let place : HasPlaces v 1 = search rules in
+    omega (arith, c.reserve-2.ensures.same, seen_next _ _ _ _ _ _ _ _ c.self.invariant c.self.view_is, links_of-le v.history, place, c.self.invariant.limit, ap (λ (x : ClassView). x.max_events) c.self.view_is)
 
-pub invariant_of-self : goal.invariant_of-self
-invariant_of-self c =
+pub invariant_of-self-2 : goal.invariant_of-self-2
+invariant_of-self-2 c =
     let a = c.args in
     let n = c.next-number.result in
+    let place : HasPlaces a.self.now 1 = search rules in
+    let same = c.reserve-2.ensures.same in
     let seen = seen_lists _ _ _ _ _ _ _ _ c.self.invariant c.self.view_is in
     let e : ClassEvent = events.Linked (record { who = a.who; number = n; key = a.key; cost = a.cost; seg = a.seg; moment = a.moment }) in
-    keeps _ _ _ _ _ _ _ _ c.self.invariant c.self.view_is c.push.new.self _ e c.push_reserved.ensures.items
+    keeps _ _ _ _ _ _ _ _ c.self.invariant c.self.view_is c.push.new.self _ e (search rules)
     (c.push.ensures.lists
-    ∙ (ap (λ (key : List ℕ). linked a.seg (entry n key a.cost a.moment) c.self.inside.lists.lists) c.copy_into.ensures
-    ∙ ap (λ (l : Lists). linked a.seg (entry n a.key a.cost a.moment) l) seen))
-    (omega (arith, c.push.ensures.room)) c.requires.place
-    (λ q below. not_to_come n (n + 1) q (omega arith) (omega (arith, c.push.ensures.room, c.next-number.ensures, below)))
-    (c.requires.free, seen_fresh _ _ _ _ _ _ _ _ c.self.invariant c.self.view_is n (omega (arith, c.next-number.ensures)))
+    ∙ (ap (λ (key : List ℕ). linked a.seg (entry n key a.cost a.moment) c.reserve-2.new.self.lists) c.in_ok-copy.ensures.value
+    ∙ ap (λ (l : Lists). linked a.seg (entry n a.key a.cost a.moment) l) (same.0 ∙ seen)))
+    (omega (arith, same, c.push.ensures.room)) place
+    (λ q below. not_to_come n (n + 1) q (omega arith) (omega (arith, same, c.push.ensures.room, c.next-number.ensures, below)))
+    (c.requires.free, seen_fresh _ _ _ _ _ _ _ _ c.self.invariant c.self.view_is n (omega (arith, same, c.next-number.ensures)))

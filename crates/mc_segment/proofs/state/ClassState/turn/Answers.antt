@@ -1,24 +1,25 @@
-use Rattle.std.proofs.Common.{◌∙◌, ap, sym, subst, Some, Option, arith}
-use Rattle.std.specs.Option.{IsSomeAnd}
-use Rattle.mc_item.specs.declared.class_event.ClassEvent.{ClassEvent}
+use Rattle.std.proofs.Common.{◌≤◌, ◌∙◌, ap, subst, rules, arith}
 use Rattle.mc_item.specs.declared.class_event.ClassEvent.TheVariants as events
-use Rattle.mc_item.specs.declared.lists.Seg.{Seg}
-use Rattle.mc_rule.specs.Lists.{Lists, moved, segment_of}
-use Rattle.mc_rule.specs.Lawful.{IsLawfulByLists}
+use Rattle.mc_rule.specs.Lists.{Lists, moved, segment_of, times_in}
+use Rattle.mc_segment.specs.ClassState.{HasPlaces}
 use Rattle.mc_segment.proofs.StateLemmas.{keeps, seen_lists, not_to_come}
+use Rattle.mc_segment.proofs.FoundLemmas.{segment_is}
 use Rattle.mc_segment.proofs.state.ClassState.turn.Goals as goal
 
-pub invariant_of-self : goal.invariant_of-self
-invariant_of-self c =
-    let now = c.move_to-from_seg in
-    let a = c.args in
-    let v = a.self.now in
+pub move_to-requires : goal.move_to-requires
+move_to-requires c =
+    let e = c.args.shifted in
     let seen = seen_lists _ _ _ _ _ _ _ _ c.self.invariant c.self.view_is in
-    let move : Seg → ClassEvent = λ (from : Seg). events.Shifted (record { who = a.who; number = a.number; from_seg = from; to_seg = a.to_seg; why = a.why; moment = a.moment; passed = a.passed; at = a.at }) in
-    let May : Option Seg → Type 0 = λ o. IsSomeAnd o (λ from. IsLawfulByLists v.chunks v.rule v.history (move from)) in
-    let lawful : May (Some now.result) = subst May (ap (segment_of a.number) (sym seen) ∙ now.ensures.from) c.requires.lawful in
-    keeps _ _ _ _ _ _ _ _ c.self.invariant c.self.view_is now.new.self _ (move now.result) c.push_reserved.ensures.items
-    (now.ensures.lists ∙ ap (λ (l : Lists). moved a.number now.result a.to_seg a.why a.moment l) seen)
-    (omega (arith, now.ensures.same)) c.requires.place
-    (λ q below. not_to_come a.number c.self.inside.lists.next q now.ensures.inside (omega (arith, now.ensures.same, below)))
-    lawful
+    let once = subst (λ (l : Lists). times_in e.number l ≤ 1) seen (c.law.ensures.once e.number) in
+    record { there = ap (segment_of e.number) seen ∙ segment_is _ e.number e.from_seg c.requires.lawful.0 once }
+
+pub invariant_of-self-2 : goal.invariant_of-self-2
+invariant_of-self-2 c =
+    let e = c.args.shifted in
+    let now = c.move_to in
+    let place : HasPlaces c.args.self.now 1 = search rules in
+    keeps _ _ _ _ _ _ _ _ c.self.invariant c.self.view_is now.new.self _ (events.Shifted e) (search rules)
+    (now.ensures.lists ∙ ap (moved e.number e.from_seg e.to_seg e.why e.moment) (seen_lists _ _ _ _ _ _ _ _ c.self.invariant c.self.view_is))
+    (omega (arith, now.ensures.same)) place
+    (λ q below. not_to_come e.number c.self.inside.lists.next q now.ensures.inside (omega (arith, now.ensures.same, below)))
+    c.requires.lawful
