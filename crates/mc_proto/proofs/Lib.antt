@@ -1,9 +1,11 @@
-pub mod Cuts
-pub mod Spellings
-pub mod Tokens
-pub mod KeyLists
-pub mod Steps
-mod QuickLines
-pub mod Rests
-pub mod Streams
-pub mod Texts
+pub mod CutLemmas
+pub mod SpellingLemmas
+pub mod TokenLemmas
+pub mod LineLemmas
+pub mod KeyListLemmas
+pub mod StorageLemmas
+pub mod TakingLemmas
+mod QuickLemmas
+pub mod RestLemmas
+pub mod StreamLemmas
+pub mod TextLemmas

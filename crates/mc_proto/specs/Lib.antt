@@ -1,7 +1,7 @@
 pub mod Keys
 pub mod Lines
-pub mod Verbs
-pub mod Rows
+pub mod Kinds
+pub mod Table
 pub mod Grammar
 pub mod Reader
 pub mod Text

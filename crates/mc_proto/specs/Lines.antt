@@ -1,9 +1,13 @@
--- Lines, their tokens, and what tokens say: keys, numbers and exptimes (protocol.txt; the limits are this profile's own).
-use Rattle.std.specs.Prelude.{ℕ, ◌-◌, ◌≡◌, ◌==◌, ◌&&◌, List, [], ◌∷◌, ◌++◌, Bool, if◌then◌else◌, Option, Some, None, length, get_or, take, nat_lt, nat_le, is_none, ℤ, pos, neg_ℤ}
+-- Lines, their tokens, and what tokens say: words, keys, numbers, exptimes and slab classes (protocol.txt; the limits are this profile's own).
+use Rattle.std.specs.Prelude.{ℕ, ◌-◌, ◌<◌, ◌≡◌, ◌==◌, ◌&&◌, List, [], ◌∷◌, ◌++◌, Bool, if◌then◌else◌, Option, Some, None, length, get_or, take, nat_lt, nat_le, nat_eq, is_none, codes, ℤ, pos, neg_ℤ}
+use Rattle.std.specs.Cmp.Lexicographic.{pointwise}
 use Rattle.std.specs.List.{list_all}
 use Rattle.std.specs.Option.{option_map}
 use Rattle.mc_item.specs.Key.{key_fault_of}
 use Rattle.mc_item.specs.Measure.{is_digit, number_of}
+use Rattle.mc_proto.specs.declared.request.Limits.{Limits}
+use Rattle.mc_proto.specs.declared.request.Target.{Target}
+use Rattle.mc_proto.specs.declared.request.Target.TheVariants.{All, Class}
 
 -- b is none of the bytes
 abbrev pub Lacks : ℕ → List ℕ → Type 0
@@ -27,6 +31,29 @@ tokens_from token (b ∷ bs) = if b == 32 then ended token ++ tokens_from [] bs 
 -- the tokens of a line: the longest runs of bytes other than the space
 abbrev pub tokens : List ℕ → List (List ℕ)
 tokens line = tokens_from [] line
+
+-- each of the bytes is a space
+abbrev pub AreSpaces : List ℕ → Type 0
+AreSpaces [] = Unit {0}
+AreSpaces (b ∷ bs) = (b ≡ 32) × AreSpaces bs
+
+-- a line begins with spaces or none, this token and this rest: the token is one byte at least, none a space, and no rest makes it longer
+pub record BeginsWith (line token rest : List ℕ) : Type 0 where
+  pub spaces : List ℕ
+  pub whole : line ≡ spaces ++ token ++ rest
+  pub blank : AreSpaces spaces
+  pub some : 0 < length token
+  pub one : Lacks 32 token
+  pub ends : 0 < length rest → get_or rest 0 0 ≡ 32
+
+-- a line is these tokens, one after the other, and then spaces or nothing
+abbrev pub AreTokens : List ℕ → List (List ℕ) → Type 0
+AreTokens line [] = AreSpaces line
+AreTokens line (token ∷ ts) = (rest : List ℕ) × BeginsWith line token rest × AreTokens rest ts
+
+-- whether a token is this word
+abbrev pub is_word : List ℕ → List ℕ → Bool
+is_word token word = pointwise nat_eq token word
 
 -- whether a token can be a key
 abbrev pub is_key : List ℕ → Bool
@@ -53,3 +80,12 @@ number_up_to limit token = up_to limit (number 20 token)
 abbrev pub exptime : List ℕ → Option ℤ
 exptime [] = None
 exptime (b ∷ bs) = if b == 45 then option_map (λ n. neg_ℤ (pos n)) (number 18 bs) else option_map pos (number 18 (b ∷ bs))
+
+-- the slab class of a number, which isn't 0
+abbrev pub class_target : Option ℕ → Option Target
+class_target None = None
+class_target (Some n) = if n == 0 then None else Some (Class (record { 0 = n }))
+
+-- the slab classes that a token names: all, or one by its number (own)
+abbrev pub target_of : Limits → List ℕ → Option Target
+target_of limits token = if is_word token (codes "all") then Some All else class_target (number_up_to limits.classes token)

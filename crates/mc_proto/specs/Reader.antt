@@ -2,7 +2,7 @@
 use Rattle.std.specs.Prelude.{ℕ, ◌+◌, ◌<◌, ◌≤◌, ◌≡◌, ◌==◌, List, [], ◌∷◌, ◌++◌, Bool, true, false, if◌then◌else◌, Option, Some, None, length}
 use Rattle.std.specs.List.{list_any}
 use Rattle.mc_proto.specs.Lines.{Lacks}
-use Rattle.mc_proto.specs.Rows.{says}
+use Rattle.mc_proto.specs.Table.{says}
 use Rattle.mc_proto.specs.Grammar.{IsLine, Spelt, closed}
 use Rattle.mc_proto.specs.declared.request.Limits.{Limits}
 use Rattle.mc_proto.specs.declared.request.Request.{Request}

@@ -1,10 +1,17 @@
-//! Laws of the grammar: how a stream reads depends on its bytes alone, and each stream reads in one way.
+//! Laws of the grammar: a line is its tokens, how a stream reads depends on its bytes alone, and each stream reads in one way.
 ghost use Rattle.std.specs.Prelude.{◌≡◌, ◌++◌, ℕ, List};
 ghost use Rattle.mc_proto.specs.Grammar.{Spells, Spelt, Reads};
+ghost use Rattle.mc_proto.specs.Lines.{AreTokens, tokens};
 ghost use Rattle.mc_proto.specs.Reader.{After, Stands};
 ghost use Rattle.mc_proto.specs.declared.request.Limits.{Limits};
 ghost use Rattle.mc_proto.specs.declared.request.Request.{Request};
 ghost use Rattle.mc_proto.specs.declared.state.State.{State};
+
+/// The tokens of a line are the runs of bytes other than the space that it is made of, and a line is made of no others.
+pub fn a_line_is_its_tokens()
+    ensures made { (line : List ℕ) → AreTokens line (tokens line) }
+    ensures one { (line : List ℕ) (ts : List (List ℕ)) → AreTokens line ts → ts ≡ tokens line }
+{}
 
 /// No spelling begins another, so it doesn't matter how a stream was cut.
 pub fn no_spelling_begins_another()

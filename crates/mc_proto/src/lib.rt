@@ -2,22 +2,26 @@
 //! written. Nothing here runs a command.
 #![tactic(auto)]
 
-mod call;
+mod command;
+mod directive;
+mod get;
 mod laws;
+mod line;
+mod quick;
 mod reader;
 mod request;
-mod row;
 mod said;
 mod sink;
 mod state;
-mod step;
 mod storage;
+mod taking;
 mod text;
 mod token;
-mod word;
+mod verb;
 
 pub use laws::{
-    after_is_reading, every_stream_reads, no_spelling_begins_another, one_reading, reading_goes_on,
+    a_line_is_its_tokens, after_is_reading, every_stream_reads, no_spelling_begins_another,
+    one_reading, reading_goes_on,
 };
 pub use reader::Reader;
 pub use request::{Keys, Limits, LineFault, Request, Rest, Target};

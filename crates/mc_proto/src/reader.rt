@@ -8,7 +8,7 @@ ghost use Rattle.mc_proto.specs.declared.state.State.TheVariants.{Line, Failed, 
 
 use crate::request::{Limits, Request, Rest};
 use crate::state::State;
-use crate::step::any_step;
+use crate::taking::take_part;
 use bytes::BytesMut;
 use mc_item::NoMemory;
 use std::alloc::Global;
@@ -36,7 +36,7 @@ fn read_piece(
     let mut requests = Vec::with_capacity(alloc, room_for(piece.len()))?;
     let mut rest = piece;
     while !rest.is_empty() {
-        let taken = any_step(alloc, limits, state, line, &mut requests, rest)?;
+        let taken = take_part(alloc, limits, state, line, &mut requests, rest)?;
         rest = rest.split_at(taken).1;
     }
     Ok(requests)

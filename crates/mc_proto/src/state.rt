@@ -53,30 +53,3 @@ pub enum State {
     /// There was no memory.
     Failed,
 }
-
-/// The lines that `noreply` can make quiet, by their verbs.
-#[derive(Clone, Copy, Debug, PartialEq, Eq)]
-pub enum Call {
-    Set,
-    Add,
-    Replace,
-    Cas,
-    Incr,
-    Decr,
-    Touch,
-    Delete,
-}
-
-/// Which line a verb begins.
-#[derive(Clone, Copy, Debug, PartialEq, Eq)]
-pub enum Word {
-    Get,
-    Gets,
-    Call(Call),
-    At,
-    Juggle,
-    Crawl,
-    Next,
-    Quit,
-    Unknown,
-}

@@ -1,10 +1,13 @@
 //! The storage lines: set, add, replace and cas.
-ghost use Rattle.std.specs.Prelude.{◌≡◌, ◌+◌, ◌<◌, ◌≤◌, IfOk, IfSome, length, map};
+ghost use Rattle.std.specs.Prelude.{◌≡◌, ◌∷◌, [], ◌+◌, ◌<◌, ◌≤◌, IfOk, IfSome, length, map};
+ghost use Rattle.mc_item.specs.declared.command.Verb.TheVariants as verbs;
 ghost use Rattle.mc_proto.specs.Grammar.{IsFine};
-ghost use Rattle.mc_proto.specs.Rows as rows;
+ghost use Rattle.mc_proto.specs.Kinds as kinds;
+ghost use Rattle.mc_proto.specs.Table as table;
+ghost use Rattle.mc_proto.specs.Table.{row_says, kinds_say, Noreply};
 
 use crate::request::Limits;
-use crate::said::{no_format, no_line};
+use crate::said::{no_format, no_line, quiet_by};
 use crate::state::{Said, Start};
 use crate::token::{exptime, key_of, number_up_to};
 use mc_item::{Key, NoMemory, Verb};
@@ -20,7 +23,7 @@ pub const MAX_FLAGS: u64 = 4_294_967_295;
 #[inline(always)]
 pub fn begun(limits: Limits, start: Start) -> Said
     requires { start.count ≤ 2147483645 }
-    ensures value { result ≡ rows.begun limits start }
+    ensures value { result ≡ table.begun limits start }
     ensures fine { IsFine result }
 {
     if limits.largest < 64 + start.key.bytes().len() as u64 + start.count {
@@ -30,85 +33,97 @@ pub fn begun(limits: Limits, start: Start) -> Said
     }
 }
 
-// A storage line whose tokens are these, as far as they are what is due.
+// A storage line with a good key, by the tokens of its three numbers.
 fn stored_said(
     limits: Limits,
+    verb: Verb,
+    key: Key,
+    flags: &[u8],
+    e: &[u8],
+    count: &[u8],
     quiet: bool,
-    verb: Option<Verb>,
-    key: Option<Key>,
-    flags: Option<u64>,
-    e: Option<i64>,
-    count: Option<u64>,
 ) -> Said
-    requires flags { IfSome flags (λ n. n ≤ 4294967295) }
-    requires count { IfSome count (λ n. n ≤ 2147483645) }
-    ensures value { result ≡ rows.stored_said limits quiet verb key flags e count }
+    ensures value { result ≡ kinds_say limits quiet (kinds.Flags ∷ kinds.Exptime ∷ kinds.Bytes ∷ []) Noreply (table.store limits verb key) (flags.now ∷ e.now ∷ count.now ∷ []) }
     ensures fine { IsFine result }
 {
-    match (verb, key, flags, e, count) {
-        (Some(verb), Some(key), Some(flags), Some(exptime), Some(count)) => begun(
-            limits,
-            Start {
-                verb,
-                key,
-                flags: flags as u32,
-                exptime,
-                count,
-                quiet,
-            },
-        ),
-        _ => no_format(quiet),
-    }
+    let Some(flags) = number_up_to(MAX_FLAGS, flags) else {
+        return no_format(quiet);
+    };
+    let Some(exptime) = exptime(e) else {
+        return no_format(quiet);
+    };
+    let Some(count) = number_up_to(MAX_BYTES, count) else {
+        return no_format(quiet);
+    };
+    let flags = flags as u32;
+    begun(
+        limits,
+        Start {
+            verb,
+            key,
+            flags,
+            exptime,
+            count,
+            quiet,
+        },
+    )
 }
 
 /// The lines set, add and replace: key, flags, exptime and bytes.
 pub fn store_line(
     alloc: Global,
     limits: Limits,
-    quiet: bool,
-    verb: Option<Verb>,
+    verb: Verb,
     args: &[&[u8]],
 ) -> Result<Said, NoMemory>
-    ensures value { IfOk result (λ s. s ≡ rows.store_row limits quiet verb (map (λ t. t.now) args.now)) }
+    ensures value { IfOk result (λ s. s ≡ row_says limits (kinds.Key ∷ kinds.Flags ∷ kinds.Exptime ∷ kinds.Bytes ∷ []) Noreply (table.store limits verb) (map (λ t. t.now) args.now)) }
     ensures fine { IfOk result (λ s. IsFine s) }
 {
-    let [key, flags, e, count] = args else {
+    let [key, flags, e, count, rest @ ..] = args else {
         return Ok(no_line());
     };
-    Ok(stored_said(
-        limits,
-        quiet,
-        verb,
-        key_of(alloc, *key)?,
-        number_up_to(MAX_FLAGS, *flags),
-        exptime(*e),
-        number_up_to(MAX_BYTES, *count),
-    ))
+    let Some(quiet) = quiet_by(rest) else {
+        return Ok(no_line());
+    };
+    let Some(key) = key_of(alloc, *key)? else {
+        return Ok(no_format(quiet));
+    };
+    Ok(stored_said(limits, verb, key, *flags, *e, *count, quiet))
 }
 
-// The verb cas, with a cas number.
-fn cas_verb(unique: Option<u64>) -> Option<Verb>
-    ensures { result ≡ rows.cas_verb unique }
+// A line cas with a good key, by the tokens of its four numbers.
+#[tactic(auto, using(crate::proofs::StorageLemmas::cas_without, crate::proofs::StorageLemmas::cas_with))]
+fn cas_said(
+    limits: Limits,
+    key: Key,
+    flags: &[u8],
+    e: &[u8],
+    count: &[u8],
+    unique: &[u8],
+    quiet: bool,
+) -> Said
+    ensures value { result ≡ kinds_say limits quiet (kinds.Flags ∷ kinds.Exptime ∷ kinds.Bytes ∷ kinds.CasNumber ∷ []) Noreply (λ flags e n unique. table.store limits (verbs.Cas unique) key flags e n) (flags.now ∷ e.now ∷ count.now ∷ unique.now ∷ []) }
+    ensures fine { IsFine result }
 {
-    match unique {
-        Some(unique) => Some(Verb::Cas(unique)),
-        None => None,
-    }
+    let Some(unique) = number_up_to(u64::MAX, unique) else {
+        return no_format(quiet);
+    };
+    stored_said(limits, Verb::Cas(unique), key, flags, e, count, quiet)
 }
 
 /// The line cas: key, flags, exptime, bytes and cas number.
-pub fn cas_line(
-    alloc: Global,
-    limits: Limits,
-    quiet: bool,
-    args: &[&[u8]],
-) -> Result<Said, NoMemory>
-    ensures value { IfOk result (λ s. s ≡ rows.cas_row limits quiet (map (λ t. t.now) args.now)) }
+pub fn cas_line(alloc: Global, limits: Limits, args: &[&[u8]]) -> Result<Said, NoMemory>
+    ensures value { IfOk result (λ s. s ≡ row_says limits (kinds.Key ∷ kinds.Flags ∷ kinds.Exptime ∷ kinds.Bytes ∷ kinds.CasNumber ∷ []) Noreply (λ key flags e n unique. table.store limits (verbs.Cas unique) key flags e n) (map (λ t. t.now) args.now)) }
     ensures fine { IfOk result (λ s. IsFine s) }
 {
-    let [key, flags, e, count, unique] = args else {
+    let [key, flags, e, count, unique, rest @ ..] = args else {
         return Ok(no_line());
     };
-    let verb = cas_verb(number_up_to(u64::MAX, *unique));
-    store_line(alloc, limits, quiet, verb, &[*key, *flags, *e, *count])
+    let Some(quiet) = quiet_by(rest) else {
+        return Ok(no_line());
+    };
+    let Some(key) = key_of(alloc, *key)? else {
+        return Ok(no_format(quiet));
+    };
+    Ok(cas_said(limits, key, *flags, *e, *count, *unique, quiet))
 }

@@ -5,7 +5,7 @@ ghost use Rattle.mc_item.specs.Measure.{is_digit};
 ghost use Rattle.mc_proto.specs.Lines as lines;
 ghost use Rattle.mc_proto.specs.Lines.{Lacks, tokens};
 
-use mc_item::{Key, KeyFault, NoMemory};
+use mc_item::{Key, KeyFault, NoMemory, number_of};
 use memchr::memchr;
 use std::alloc::{AllocError, Global};
 
@@ -125,38 +125,16 @@ pub fn key_of(alloc: Global, token: &[u8]) -> Result<Option<Key>, NoMemory>
     }
 }
 
-// Whether each byte is a digit.
-fn are_digits(bytes: &[u8]) -> bool
-    ensures { result ≡ list_all is_digit bytes.now }
-{
-    bytes.iter().all(|byte| byte.is_ascii_digit())
-}
-
-// The number that at most 20 digits spell.
-fn number_of(digits: &[u8]) -> u128
-    requires few { length digits.now ≤ 20 }
-    requires digits { All (λ byte. IsTrue (is_digit byte)) digits.now }
-    ensures value { result ≡ Rattle.mc_item.specs.Measure.number_of digits.now }
-    ensures bound { result < 10 ^ length digits.now }
-{
-    let mut number: u128 = 0;
-    for digit in digits {
-        number = 10 * number + u128::from(*digit - b'0');
-    }
-    number
-}
-
 // The number of a token of 1 to `most` digits.
-fn number(most: usize, token: &[u8]) -> Option<u128>
-    requires { most ≤ 20 }
+fn number(most: usize, token: &[u8]) -> Option<u64>
+    requires { most ≤ 19 }
     ensures value { result ≡ lines.number most token.now }
     ensures bound { IfSome result (λ n. n < 10 ^ most) }
 {
-    if !token.is_empty() && token.len() <= most && are_digits(token) {
-        Some(number_of(token))
-    } else {
-        None
+    if token.len() > most {
+        return None;
     }
+    number_of(token)
 }
 
 /// The number of a token of 1 to 20 digits, where it is at most `limit`.
@@ -164,16 +142,11 @@ pub fn number_up_to(limit: u64, token: &[u8]) -> Option<u64>
     ensures value { result ≡ lines.number_up_to limit token.now }
     ensures bound { IfSome result (λ n. n ≤ limit) }
 {
-    match number(20, token) {
-        Some(n) => {
-            if n <= u128::from(limit) {
-                Some(n as u64)
-            } else {
-                None
-            }
-        }
-        None => None,
+    if token.len() > 20 {
+        return None;
     }
+    let number = number_of(token)?;
+    if number <= limit { Some(number) } else { None }
 }
 
 // The number that the digits spell with which the bytes begin, 18 at most, and how many they are.

@@ -4,3 +4,4 @@ mod lines;
 mod pieces;
 mod replies;
 mod show;
+mod table;

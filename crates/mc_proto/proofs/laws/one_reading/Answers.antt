@@ -1,4 +1,4 @@
-use Rattle.mc_proto.proofs.Spellings.{reads_once}
+use Rattle.mc_proto.proofs.SpellingLemmas.{reads_once}
 use Rattle.mc_proto.proofs.laws.one_reading.Goals as goal
 
 pub returns : goal.returns

@@ -1,5 +1,5 @@
 use Rattle.std.proofs.Common.{◌≡◌, ◌++◌, ◌∙◌, sym, ap, take, drop, List, ℕ, take-append-drop}
-use Rattle.mc_proto.proofs.Steps.{part_more}
+use Rattle.mc_proto.proofs.TakingLemmas.{part_more}
 use Rattle.mc_proto.proofs.reader.read_piece.Goals as goal
 
 pub loop-rest-preserved : goal.loop-rest-preserved

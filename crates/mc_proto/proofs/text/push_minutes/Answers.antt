@@ -1,5 +1,5 @@
 use Rattle.std.proofs.Common.{arith, refl}
-use Rattle.mc_proto.proofs.Texts.{minutes_more}
+use Rattle.mc_proto.proofs.TextLemmas.{minutes_more}
 use Rattle.mc_proto.proofs.text.push_minutes.Goals as goal
 
 pub loop-i-preserved : goal.loop-i-preserved

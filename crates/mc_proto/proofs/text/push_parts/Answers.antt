@@ -1,6 +1,6 @@
 use Rattle.std.proofs.Common.{◌∙◌, take, arith, ap, List, ℕ}
 use Rattle.std.specs.List.{flat_map}
-use Rattle.mc_proto.proofs.Texts.{taken_back}
+use Rattle.mc_proto.proofs.TextLemmas.{taken_back}
 use Rattle.mc_proto.proofs.text.push_parts.Goals as goal
 
 pub returns-in-Err-clause-err : goal.returns-in-Err-clause-err

@@ -1,7 +1,7 @@
 use Rattle.std.proofs.Common.{rules, ◌≡◌, ◌+◌, ◌-◌, ◌*◌, ◌<◌, ◌≤◌, ◌^◌, ◌++◌, ◌∷◌, [], ℕ, List, take, get_or, true, arith, refl}
 use Rattle.std.proofs.lemmas.List.{take_more}
 use Rattle.mc_item.specs.Measure.{is_digit, number_from}
-use Rattle.mc_proto.proofs.Tokens.{pow_within, number_more, digits_more, digit_small, next_power}
+use Rattle.mc_proto.proofs.TokenLemmas.{pow_within, number_more, digits_more, digit_small, next_power}
 use Rattle.mc_proto.proofs.token.digits_front.Goals as goal
 
 small : (n i : ℕ) → n < 10 ^ i → i ≤ 18 → n < 1000000000000000000

@@ -1,7 +1,7 @@
 use Rattle.std.proofs.Common.{◌≡◌, ◌+◌, ◌<◌, ◌≤◌, ◌==◌, ℕ, List, length, take, get_or, arith, true, suc, zero}
 use Rattle.std.proofs.lemmas.Bool.{eq-eqb}
 use Rattle.mc_proto.specs.Lines.{Lacks}
-use Rattle.mc_proto.proofs.Tokens.{lacks_more}
+use Rattle.mc_proto.proofs.TokenLemmas.{lacks_more}
 use Rattle.mc_proto.proofs.token.line_end.Goals as goal
 
 lacks_up_to : (xs : List ℕ) (n : ℕ) → n ≤ length xs → ((i : ℕ) → i < n → get_or xs i 0 == 10 ≡ true → ⊥) → Lacks 10 (take n xs)

@@ -1,7 +1,7 @@
 use Rattle.std.proofs.Common.{◌≡◌, ◌<◌, ◌≤◌, ◌∙◌, ℕ, List, length, take, get_or, arith, ap, sym, refl, rules}
 use Rattle.std.specs.Prelude.{Some, pos}
 use Rattle.std.proofs.lemmas.List.{length-take-le}
-use Rattle.mc_proto.proofs.Tokens.{first_token, digits_lack, digits_number, digits_exptime, pow_within}
+use Rattle.mc_proto.proofs.TokenLemmas.{first_token, digits_lack, digits_number, digits_exptime, pow_within}
 use Rattle.mc_proto.proofs.token.next_number.Goals as goal
 
 pub returns : goal.returns

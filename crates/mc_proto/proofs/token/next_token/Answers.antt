@@ -1,5 +1,5 @@
 use Rattle.std.proofs.Common.{arith}
-use Rattle.mc_proto.proofs.Tokens.{first_token}
+use Rattle.mc_proto.proofs.TokenLemmas.{first_token}
 use Rattle.mc_proto.proofs.token.next_token.Goals as goal
 
 pub returns-else-end-eq0 : goal.returns-else-end-eq0

@@ -1,6 +1,9 @@
-use Rattle.std.proofs.Common.{arith, length}
-use Rattle.mc_proto.proofs.Tokens.{pow_within}
+use Rattle.std.proofs.Common.{length, ◌∙◌}
+use Rattle.mc_proto.proofs.TokenLemmas.{few_digits, bound_within}
 use Rattle.mc_proto.proofs.token.number.Goals as goal
 
-pub returns-then-are_digits-clause-bound : goal.returns-then-are_digits-clause-bound
-returns-then-are_digits-clause-bound c = pow_within c.number_of.result (length c.args.token.now) c.args.most c.number_of.ensures.bound (omega arith)
+pub returns-clause-value : goal.returns-clause-value
+returns-clause-value c = c.number_of.ensures.value ∙ few_digits c.args.most c.args.token.now c.if-token-most.false c.requires
+
+pub returns-clause-bound : goal.returns-clause-bound
+returns-clause-bound c = bound_within c.number_of.result (length c.args.token.now) c.args.most c.number_of.ensures.bound c.if-token-most.false

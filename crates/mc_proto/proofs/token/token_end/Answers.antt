@@ -1,4 +1,4 @@
-use Rattle.mc_proto.proofs.Tokens.{lacks_more}
+use Rattle.mc_proto.proofs.TokenLemmas.{lacks_more}
 use Rattle.mc_proto.proofs.token.token_end.Goals as goal
 
 pub loop-i-preserved : goal.loop-i-preserved

@@ -1,6 +1,6 @@
 use Rattle.std.proofs.Common.{◌≡◌}
 use Rattle.mc_proto.specs.declared.state.State.TheVariants.{Closed}
-use Rattle.mc_proto.proofs.Steps.{seen_closed, closed_reads}
+use Rattle.mc_proto.proofs.TakingLemmas.{seen_closed, closed_reads}
 use Rattle.mc_proto.proofs.reader.Reader.feed.Goals as goal
 
 pub returns-in-Closed-clause-reads : goal.returns-in-Closed-clause-reads

@@ -1,0 +1,76 @@
+-- The tokens of a line, seen through references: the keys of a get, and noreply.
+use Rattle.std.proofs.Common.{◌≡◌, ◌++◌, ◌∷◌, [], ◌+◌, ◌<◌, ℕ, List, length, refl, ap, sym, ◌∙◌, arith, suc, zero, take, drop, get_or, map, Bool, true, false}
+use Rattle.std.specs.Prelude.{Option, Some, None, if◌then◌else◌}
+use Rattle.std.specs.List.{list_all}
+use Rattle.std.proofs.lemmas.List.{take_more, at_drop_more, length-map}
+use Rattle.mc_proto.specs.Lines.{is_key, key_of}
+use Rattle.mc_proto.specs.Table.{bad, row_says, Keys}
+use Rattle.mc_proto.specs.declared.request.Limits.{Limits}
+use Rattle.mc_proto.specs.declared.request.Request.TheVariants.{Get}
+use Rattle.mc_proto.specs.declared.state.Said.{Said}
+use Rattle.mc_proto.specs.declared.state.Said.TheVariants.{Whole}
+use Rattle.mc_proto.specs.declared.request.LineFault.TheVariants as faults
+
+pub get_or_map : {A B : Type 0} (f : A → B) (xs : List A) (i : ℕ) (d : A) → get_or (map f xs) i (f d) ≡ f (get_or xs i d)
+get_or_map f [] i d = refl
+get_or_map f (x ∷ xs) zero d = refl
+get_or_map f (x ∷ xs) (suc i) d = get_or_map f xs i d
+
+-- the same within the list, whatever is answered beyond it
+pub get_or_map_within : {A B : Type 0} (f : A → B) (xs : List A) (i : ℕ) (d : A) (e : B) → i < length xs → get_or (map f xs) i e ≡ f (get_or xs i d)
+get_or_map_within f [] i d e l = absurd (omega arith)
+get_or_map_within f (x ∷ xs) zero d e l = refl
+get_or_map_within f (x ∷ xs) (suc i) d e l = get_or_map_within f xs i d e (omega arith)
+
+pub take_map : {A B : Type 0} (f : A → B) (n : ℕ) (xs : List A) → map f (take n xs) ≡ take n (map f xs)
+take_map f zero xs = refl
+take_map f (suc n) [] = refl
+take_map f (suc n) (x ∷ xs) = ap (λ (t : List _). f x ∷ t) (take_map f n xs)
+
+picked : (t k : List ℕ) (b : Bool) → is_key t ≡ b → Some k ≡ (if b then Some t else None) → (is_key t ≡ true) × (k ≡ t)
+picked t k true is e = let same : k ≡ t = cc in (is, same)
+picked t k false is e = absurd (cc)
+
+-- a key is its token, which can be one
+pub key_some : (t k : List ℕ) → Some k ≡ key_of t → (is_key t ≡ true) × (k ≡ t)
+key_some t k e = picked t k (is_key t) refl e
+
+unpicked : (t : List ℕ) (b : Bool) → is_key t ≡ b → None ≡ (if b then Some t else None) → is_key t ≡ false
+unpicked t true is e = absurd (cc)
+unpicked t false is e = is
+
+-- where there is no key, the token can't be one
+pub key_none : (t : List ℕ) → None ≡ key_of t → is_key t ≡ false
+key_none t e = unpicked t (is_key t) refl e
+
+tested : {A : Type 0} (f : A → List ℕ) (xs : List A) (i : ℕ) (d : A) → i < length xs → list_all is_key (drop i (map f xs)) ≡ list_all is_key (map f xs)
+    → list_all is_key (get_or (map f xs) i (f d) ∷ drop (i + 1) (map f xs)) ≡ list_all is_key (map f xs)
+tested f xs i d l at = sym (at_drop_more (list_all is_key) (map f xs) i (f d) (omega (arith, length-map xs f))) ∙ at
+
+pub keys_more : {A : Type 0} (f : A → List ℕ) (xs : List A) (i : ℕ) (d : A) → i < length xs → is_key (f (get_or xs i d)) ≡ true → list_all is_key (drop i (map f xs)) ≡ list_all is_key (map f xs) → list_all is_key (drop (i + 1) (map f xs)) ≡ list_all is_key (map f xs)
+keys_more f xs i d l is at =
+    let on : is_key (get_or (map f xs) i (f d)) ≡ true = ap is_key (get_or_map f xs i d) ∙ is in
+    let t = tested f xs i d l at in
+    rw on at t
+
+pub keys_end : {A : Type 0} (f : A → List ℕ) (xs : List A) (i : ℕ) (d : A) → i < length xs → is_key (f (get_or xs i d)) ≡ false → list_all is_key (drop i (map f xs)) ≡ list_all is_key (map f xs) → list_all is_key (map f xs) ≡ false
+keys_end f xs i d l is at =
+    let off : is_key (get_or (map f xs) i (f d)) ≡ false = ap is_key (get_or_map f xs i d) ∙ is in
+    let t = tested f xs i d l at in
+    sym (rw off at t)
+
+pub taken_more : {A : Type 0} (f : A → List ℕ) (xs : List A) (i : ℕ) (d : A) → i < length xs → take (i + 1) (map f xs) ≡ take i (map f xs) ++ f (get_or xs i d) ∷ []
+taken_more f xs i d l = take_more (map f xs) i (f d) (omega (arith, length-map xs f)) ∙ ap (λ (k : List ℕ). take i (map f xs) ++ k ∷ []) (get_or_map f xs i d)
+
+-- what a line of get, or of gets, says by the tokens behind its verb
+abbrev pub get_says : Limits → Bool → List (List ℕ) → Said
+get_says limits with_cas args = row_says limits [] Keys (λ keys. Whole (Get keys with_cas)) args
+
+-- tokens of which one can't be a key are refused
+pub refused_keys : (limits : Limits) (with_cas : Bool) (ks : List (List ℕ)) → 0 < length ks → list_all is_key ks ≡ false → bad faults.Format false ≡ get_says limits with_cas ks
+refused_keys limits with_cas [] l h = absurd (omega arith)
+refused_keys limits with_cas (k ∷ ks) l h = rw h refl
+
+-- the same where the key of a token was asked for and is none
+pub keys_stop : {A : Type 0} (f : A → List ℕ) (xs : List A) (i : ℕ) (d : A) (key : Option (List ℕ)) → key ≡ key_of (f (get_or xs i d)) → key ≡ None → i < length xs → list_all is_key (drop i (map f xs)) ≡ list_all is_key (map f xs) → list_all is_key (map f xs) ≡ false
+keys_stop f xs i d key is none l at = keys_end f xs i d l (key_none (f (get_or xs i d)) (sym none ∙ is)) at

@@ -1,0 +1,27 @@
+use Rattle.std.proofs.Common.{◌≡◌, ◌∷◌, [], ◌∙◌, ℕ, List, Bool, true, false, rules, sym, ap, codes}
+use Rattle.std.specs.Prelude.{◌&&◌, if◌then◌else◌}
+use Rattle.mc_proto.specs.Lines.{tokens, no_cr, is_key}
+use Rattle.mc_proto.specs.Table.{says, tokens_say, bad}
+use Rattle.mc_proto.specs.declared.request.Limits.{Limits}
+use Rattle.mc_proto.specs.declared.request.LineFault.TheVariants as faults
+use Rattle.mc_proto.specs.declared.request.Request.TheVariants as requests
+use Rattle.mc_proto.specs.declared.state.Said.TheVariants as said
+use Rattle.mc_proto.proofs.KeyListLemmas.{key_some}
+use Rattle.mc_proto.proofs.TokenLemmas.{lone_tokens}
+use Rattle.mc_proto.proofs.quick.lone_get.Goals as goal
+
+lone_says : (limits : Limits) (line token key : List ℕ) → tokens (no_cr line) ≡ codes "get" ∷ token ∷ [] → is_key token ≡ true → key ≡ token → says limits line ≡ said.Whole (requests.Get (key ∷ []) false)
+unfolding says
+lone_says limits line token key ts k is =
+    ap (tokens_say limits) ts
+    ∙ ap (λ (b : Bool). if b && true then said.Whole (requests.Get (token ∷ []) false) else bad faults.Format false) k
+    ∙ ap (λ (t : List ℕ). said.Whole (requests.Get (t ∷ []) false)) (sym is)
+
+pub returns-in-Some-clause-value : goal.returns-in-Some-clause-value
+returns-in-Some-clause-value c = λ limits.
+    let line = c.without_cr-line.result.now in
+    let token = c.split_at.result.1.now in
+    let key = key_some token c.in-Some.key (sym c.in-Some.is ∙ c.in_ok-key.ensures) in
+    let word : c.split_at.result.0.now ≡ codes "get " = search rules in
+    lone_says limits c.args.line.now token c.in-Some.key
+    (ap tokens (sym c.without_cr-line.ensures) ∙ lone_tokens line c.split_at.result.0.now token c.split_at.ensures.front c.split_at.ensures.back word key.0) key.0 key.1

@@ -1,7 +1,0 @@
-use Rattle.std.proofs.Common.{◌++◌, length, take}
-use Rattle.mc_proto.proofs.Steps.{stays_closed}
-use Rattle.mc_proto.proofs.step.any_step.Goals as goal
-
-pub returns-in-Closed-clause-reads : goal.returns-in-Closed-clause-reads
-returns-in-Closed-clause-reads c = λ stream before a.
-    stays_closed c.args.limits c.args.state.now c.args.line.now.items c.args.line.now.items stream (take (length c.args.piece.now) c.args.piece.now) (before ++ c.args.requests.now.items) c.in-Closed.is a

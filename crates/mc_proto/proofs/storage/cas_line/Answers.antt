@@ -1,0 +1,9 @@
+use Rattle.std.proofs.Common.{◌∙◌, [], ℕ, List, Bor, sym}
+use Rattle.mc_proto.proofs.StorageLemmas.{cas_row}
+use Rattle.mc_proto.proofs.storage.cas_line.Goals as goal
+
+pub returns-clause-value : goal.returns-clause-value
+returns-clause-value c =
+    let none : Bor (List ℕ) = record { ref_ptr = (0, 0); now = [] } in
+    c.cas_said.ensures.value
+    ∙ cas_row c.args.limits c.args.args.now none c.in-Some-2.key c.in-Some.quiet c.in-len5-up.len_at_least (sym c.in-Some.is ∙ c.quiet_by.ensures) (sym c.in-Some-2.is ∙ c.in_ok-key.ensures)

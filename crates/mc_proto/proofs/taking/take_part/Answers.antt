@@ -1,0 +1,7 @@
+use Rattle.std.proofs.Common.{◌++◌, length, take}
+use Rattle.mc_proto.proofs.TakingLemmas.{stays_closed}
+use Rattle.mc_proto.proofs.taking.take_part.Goals as goal
+
+pub returns-in-Closed-clause-reads : goal.returns-in-Closed-clause-reads
+returns-in-Closed-clause-reads c = λ stream before a.
+    stays_closed c.args.limits c.args.state.now c.args.line.now.items c.args.line.now.items stream (take (length c.args.piece.now) c.args.piece.now) (before ++ c.args.requests.now.items) c.in-Closed.is a

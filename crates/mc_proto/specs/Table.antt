@@ -1,0 +1,117 @@
+-- The table of request lines, and the one rule that reads a line by it (protocol.txt, "Commands"; the directives and which fault comes first are this profile's own).
+use Rattle.std.specs.Prelude.{ℕ, ◌+◌, List, [], ◌∷◌, Bool, true, false, if◌then◌else◌, Option, Some, None, length, nat_lt, codes, ℤ}
+use Rattle.std.specs.List.{list_all}
+use Rattle.std.specs.Option.{option_map, unwrap_or}
+use Rattle.mc_item.specs.declared.command.Command.{Command}
+use Rattle.mc_item.specs.declared.command.Command.TheVariants.{Incr, Decr, Touch, Delete}
+use Rattle.mc_item.specs.declared.command.Verb.{Verb}
+use Rattle.mc_item.specs.declared.command.Verb.TheVariants.{Set, Add, Replace, Cas}
+use Rattle.mc_proto.specs.Kinds.{Kind, Value, value, fault_of}
+use Rattle.mc_proto.specs.Kinds.{Key, Flags, Exptime, Bytes, CasNumber, Delta, NewExptime, Moment, Classes}
+use Rattle.mc_proto.specs.Lines.{is_key, is_word, tokens, no_cr}
+use Rattle.mc_proto.specs.declared.request.Limits.{Limits}
+use Rattle.mc_proto.specs.declared.request.LineFault.{LineFault}
+use Rattle.mc_proto.specs.declared.request.LineFault.TheVariants.{Error, Format}
+use Rattle.mc_proto.specs.declared.request.Request.TheVariants.{Get, One, Bad, At, Next, Juggle, Crawl, Quit}
+use Rattle.mc_proto.specs.declared.state.Said.{Said}
+use Rattle.mc_proto.specs.declared.state.Said.TheVariants.{Whole, Block, Skip}
+use Rattle.mc_proto.specs.declared.state.Start.{Start}
+
+-- what may stand behind the tokens that are due: nothing, the word noreply, or one or more keys
+pub data End : Type 0 where
+  Nothing : End
+  Noreply : End
+  Keys : End
+
+-- what a line asks for, by the values of its tokens, and by whether it is quiet or by the keys at its end
+abbrev pub Asks : List Kind → End → Type 0
+Asks (kind ∷ kinds) end = Value kind → Asks kinds end
+Asks [] Nothing = Said
+Asks [] Noreply = Bool → Said
+Asks [] Keys = List (List ℕ) → Said
+
+-- a row of the table: a verb, the kinds of the tokens that are due behind it, the end of its line, and what it asks for
+pub data Row : Type 0 where
+  Line : List ℕ → (kinds : List Kind) → (end : End) → Asks kinds end → Row
+
+-- a line that is refused
+abbrev pub bad : LineFault → Bool → Said
+bad why quiet = Whole (Bad why quiet)
+
+-- an empty line, an unknown verb, or another number of tokens: it is never quiet (own)
+abbrev pub no_line : Said
+no_line = bad Error false
+
+-- a line that is a whole command
+abbrev pub one : Bool → Command → Said
+one quiet command = Whole (One command quiet)
+
+-- a good storage line: a block that no slab class can hold is skipped (own)
+abbrev pub begun : Limits → Start → Said
+begun limits s = if nat_lt limits.largest (64 + length s.key + s.count) then Skip s else Block s
+
+-- a good storage line by its values
+abbrev pub store : Limits → Verb → List ℕ → ℕ → ℤ → ℕ → Bool → Said
+store limits verb key flags exptime count quiet =
+    begun limits (record { verb = verb; key = key; flags = flags; exptime = exptime; count = count; quiet = quiet })
+
+-- the command incr, or else decr, by its values
+abbrev pub count : Bool → List ℕ → ℕ → Bool → Said
+count up key delta quiet = one quiet (if up then Incr key delta else Decr key delta)
+
+-- the table: verbs are lower case
+abbrev pub table : Limits → List Row
+table limits =
+    Line (codes "get") [] Keys (λ keys. Whole (Get keys false))
+    ∷ Line (codes "gets") [] Keys (λ keys. Whole (Get keys true))
+    ∷ Line (codes "set") (Key ∷ Flags ∷ Exptime ∷ Bytes ∷ []) Noreply (store limits Set)
+    ∷ Line (codes "add") (Key ∷ Flags ∷ Exptime ∷ Bytes ∷ []) Noreply (store limits Add)
+    ∷ Line (codes "replace") (Key ∷ Flags ∷ Exptime ∷ Bytes ∷ []) Noreply (store limits Replace)
+    ∷ Line (codes "cas") (Key ∷ Flags ∷ Exptime ∷ Bytes ∷ CasNumber ∷ []) Noreply (λ key flags e n unique. store limits (Cas unique) key flags e n)
+    ∷ Line (codes "incr") (Key ∷ Delta ∷ []) Noreply (count true)
+    ∷ Line (codes "decr") (Key ∷ Delta ∷ []) Noreply (count false)
+    ∷ Line (codes "touch") (Key ∷ NewExptime ∷ []) Noreply (λ key e quiet. one quiet (Touch key e))
+    ∷ Line (codes "delete") (Key ∷ []) Noreply (λ key quiet. one quiet (Delete key))
+    ∷ Line (codes "%at") (Moment ∷ []) Nothing (λ moment. Whole (At moment))
+    ∷ Line (codes "%juggle") (Classes ∷ []) Nothing (λ target. Whole (Juggle target))
+    ∷ Line (codes "%crawl") (Classes ∷ []) Nothing (λ target. Whole (Crawl target))
+    ∷ Line (codes "%next") [] Nothing (Whole Next)
+    ∷ Line (codes "quit") [] Nothing (Whole Quit)
+    ∷ []
+
+-- whether a line with these tokens behind its verb is quiet; none, where they are too few or too many
+abbrev pub quiet_of : List Kind → End → List (List ℕ) → Option Bool
+quiet_of (kind ∷ kinds) end [] = None
+quiet_of (kind ∷ kinds) end (token ∷ args) = quiet_of kinds end args
+quiet_of [] Keys [] = None
+quiet_of [] Keys (key ∷ keys) = Some false
+quiet_of [] Noreply (token ∷ []) = if is_word token (codes "noreply") then Some true else None
+quiet_of [] end [] = Some false
+quiet_of [] end (token ∷ args) = None
+
+-- what tokens say that are due to be of these kinds: the first that isn't names the fault, and one bad key of many refuses all (own)
+abbrev pub kinds_say : Limits → Bool → (kinds : List Kind) → (end : End) → Asks kinds end → List (List ℕ) → Said
+kinds_say limits quiet (kind ∷ kinds) end asks [] = no_line
+kinds_say limits quiet (kind ∷ kinds) end asks (token ∷ args) =
+    unwrap_or (option_map (λ v. kinds_say limits quiet kinds end (asks v) args) (value limits kind token)) (bad (fault_of kind) quiet)
+kinds_say limits quiet [] Nothing asks args = asks
+kinds_say limits quiet [] Noreply asks args = asks quiet
+kinds_say limits quiet [] Keys asks args = if list_all is_key args then asks args else bad Format quiet
+
+-- what the tokens behind a verb say by its row: how many they are is looked at first
+abbrev pub row_says : Limits → (kinds : List Kind) → (end : End) → Asks kinds end → List (List ℕ) → Said
+row_says limits kinds end asks args = unwrap_or (option_map (λ quiet. kinds_say limits quiet kinds end asks args) (quiet_of kinds end args)) no_line
+
+-- what a verb and the tokens behind it say by these rows
+abbrev pub rows_say : Limits → List Row → List ℕ → List (List ℕ) → Said
+rows_say limits [] verb args = no_line
+rows_say limits (Line word kinds end asks ∷ rows) verb args = if is_word verb word then row_says limits kinds end asks args else rows_say limits rows verb args
+
+-- what the tokens of a line say
+abbrev pub tokens_say : Limits → List (List ℕ) → Said
+tokens_say limits [] = no_line
+tokens_say limits (verb ∷ args) = rows_say limits (table limits) verb args
+
+-- what a line says, of which the LF is no part
+unfoldable pub says : Limits → List ℕ → Said
+says limits line = tokens_say limits (tokens (no_cr line))

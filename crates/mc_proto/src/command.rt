@@ -1,0 +1,85 @@
+//! The lines of a command that has no block: incr, decr, touch and delete.
+ghost use Rattle.std.specs.Prelude.{◌≡◌, ◌∷◌, [], IfOk, map};
+ghost use Rattle.mc_proto.specs.Grammar.{IsFine};
+ghost use Rattle.mc_proto.specs.Kinds as kinds;
+ghost use Rattle.mc_proto.specs.Table as table;
+ghost use Rattle.mc_proto.specs.Table.{row_says, Noreply};
+ghost use Rattle.mc_proto.specs.declared.request.Limits.{Limits};
+ghost use Rattle.mc_item.specs.declared.command.Command.TheVariants as commands;
+
+use crate::request::LineFault;
+use crate::said::{bad, no_format, no_line, one, quiet_by};
+use crate::state::Said;
+use crate::token::{exptime, key_of, number_up_to};
+use mc_item::{Command, Key, NoMemory};
+use std::alloc::Global;
+
+/// The command incr, or else decr.
+#[inline(always)]
+pub fn count(up: bool, key: Key, delta: u64, quiet: bool) -> Said
+    ensures value { result ≡ table.count up key delta quiet }
+    ensures fine { IsFine result }
+{
+    if up {
+        one(quiet, Command::Incr(key, delta))
+    } else {
+        one(quiet, Command::Decr(key, delta))
+    }
+}
+
+/// The lines incr and decr: key and delta.
+pub fn count_line(alloc: Global, up: bool, args: &[&[u8]]) -> Result<Said, NoMemory>
+    ensures value { (limits : Limits) → IfOk result (λ s. s ≡ row_says limits (kinds.Key ∷ kinds.Delta ∷ []) Noreply (table.count up) (map (λ t. t.now) args.now)) }
+    ensures fine { IfOk result (λ s. IsFine s) }
+{
+    let [key, delta, rest @ ..] = args else {
+        return Ok(no_line());
+    };
+    let Some(quiet) = quiet_by(rest) else {
+        return Ok(no_line());
+    };
+    let Some(key) = key_of(alloc, *key)? else {
+        return Ok(no_format(quiet));
+    };
+    let Some(delta) = number_up_to(u64::MAX, *delta) else {
+        return Ok(bad(LineFault::Delta, quiet));
+    };
+    Ok(count(up, key, delta, quiet))
+}
+
+/// The line touch: key and exptime.
+pub fn touch_line(alloc: Global, args: &[&[u8]]) -> Result<Said, NoMemory>
+    ensures value { (limits : Limits) → IfOk result (λ s. s ≡ row_says limits (kinds.Key ∷ kinds.NewExptime ∷ []) Noreply (λ key e quiet. table.one quiet (commands.Touch key e)) (map (λ t. t.now) args.now)) }
+    ensures fine { IfOk result (λ s. IsFine s) }
+{
+    let [key, e, rest @ ..] = args else {
+        return Ok(no_line());
+    };
+    let Some(quiet) = quiet_by(rest) else {
+        return Ok(no_line());
+    };
+    let Some(key) = key_of(alloc, *key)? else {
+        return Ok(no_format(quiet));
+    };
+    let Some(e) = exptime(*e) else {
+        return Ok(bad(LineFault::Exptime, quiet));
+    };
+    Ok(one(quiet, Command::Touch(key, e)))
+}
+
+/// The line delete: key.
+pub fn delete_line(alloc: Global, args: &[&[u8]]) -> Result<Said, NoMemory>
+    ensures value { (limits : Limits) → IfOk result (λ s. s ≡ row_says limits (kinds.Key ∷ []) Noreply (λ key quiet. table.one quiet (commands.Delete key)) (map (λ t. t.now) args.now)) }
+    ensures fine { IfOk result (λ s. IsFine s) }
+{
+    let [key, rest @ ..] = args else {
+        return Ok(no_line());
+    };
+    let Some(quiet) = quiet_by(rest) else {
+        return Ok(no_line());
+    };
+    let Some(key) = key_of(alloc, *key)? else {
+        return Ok(no_format(quiet));
+    };
+    Ok(one(quiet, Command::Delete(key)))
+}

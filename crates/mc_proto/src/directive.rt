@@ -1,0 +1,102 @@
+//! The lines of the directives, and quit: their verbs are followed by one token or none, and never by noreply.
+ghost use Rattle.std.specs.Prelude.{◌≡◌, ◌∷◌, [], ◌<◌, ◌≤◌, ◌^◌, IfSome, map, false};
+ghost use Rattle.mc_proto.specs.Grammar.{IsFine, IsModerate, closes};
+ghost use Rattle.mc_proto.specs.Kinds as kinds;
+ghost use Rattle.mc_proto.specs.Lines as lines;
+ghost use Rattle.mc_proto.specs.Table.{row_says, Nothing};
+ghost use Rattle.mc_proto.specs.declared.request.Limits.{Limits};
+ghost use Rattle.mc_proto.specs.declared.request.Request.TheVariants as requests;
+ghost use Rattle.mc_proto.specs.declared.state.Said.TheVariants as said;
+
+use crate::request::{Limits, Request, Target};
+use crate::said::{no_format, no_line};
+use crate::state::Said;
+use crate::token::number_up_to;
+use mc_item::ClassNo;
+
+/// The largest moment in seconds: 2^62.
+const MAX_MOMENT: u64 = 4_611_686_018_427_387_904;
+
+/// The line %at: a moment.
+pub fn at_line(args: &[&[u8]]) -> Said
+    ensures value { (limits : Limits) → result ≡ row_says limits (kinds.Moment ∷ []) Nothing (λ moment. said.Whole (requests.At moment)) (map (λ t. t.now) args.now) }
+    ensures fine { IsFine result }
+{
+    let [moment] = args else {
+        return no_line();
+    };
+    match number_up_to(MAX_MOMENT, *moment) {
+        Some(moment) => Said::Whole(Request::At(moment)),
+        None => no_format(false),
+    }
+}
+
+// The slab class of a number, which isn't 0.
+fn class_target(number: Option<u64>) -> Option<Target>
+    requires { IfSome number (λ n. n < 4294967296) }
+    ensures { result ≡ lines.class_target number }
+{
+    match number {
+        Some(n) => {
+            if n == 0 {
+                None
+            } else {
+                Some(Target::Class(ClassNo(n as u32)))
+            }
+        }
+        None => None,
+    }
+}
+
+// The slab classes that a token names: all, or one by its number.
+fn target_of(limits: Limits, token: &[u8]) -> Option<Target>
+    ensures { result ≡ lines.target_of limits token.now }
+{
+    if token == b"all".as_slice() {
+        Some(Target::All)
+    } else {
+        class_target(number_up_to(u64::from(limits.classes), token))
+    }
+}
+
+/// The line %juggle: all, or a class.
+pub fn juggle_line(limits: Limits, args: &[&[u8]]) -> Said
+    ensures value { result ≡ row_says limits (kinds.Classes ∷ []) Nothing (λ target. said.Whole (requests.Juggle target)) (map (λ t. t.now) args.now) }
+    ensures fine { IsFine result }
+{
+    let [token] = args else {
+        return no_line();
+    };
+    match target_of(limits, *token) {
+        Some(target) => Said::Whole(Request::Juggle(target)),
+        None => no_format(false),
+    }
+}
+
+/// The line %crawl: all, or a class.
+pub fn crawl_line(limits: Limits, args: &[&[u8]]) -> Said
+    ensures value { result ≡ row_says limits (kinds.Classes ∷ []) Nothing (λ target. said.Whole (requests.Crawl target)) (map (λ t. t.now) args.now) }
+    ensures fine { IsFine result }
+{
+    let [token] = args else {
+        return no_line();
+    };
+    match target_of(limits, *token) {
+        Some(target) => Said::Whole(Request::Crawl(target)),
+        None => no_format(false),
+    }
+}
+
+/// The lines %next and quit: nothing further.
+pub fn lone_line(request: Request, args: &[&[u8]]) -> Said
+    requires stays { closes request ≡ false }
+    requires moderate { IsModerate request }
+    ensures value { (limits : Limits) → result ≡ row_says limits [] Nothing (said.Whole request) (map (λ t. t.now) args.now) }
+    ensures fine { IsFine result }
+{
+    if args.is_empty() {
+        Said::Whole(request)
+    } else {
+        no_line()
+    }
+}

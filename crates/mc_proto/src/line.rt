@@ -1,0 +1,35 @@
+//! What a line says.
+ghost use Rattle.std.specs.Prelude.{◌≡◌, IfOk};
+ghost use Rattle.mc_proto.specs.Grammar.{IsFine};
+ghost use Rattle.mc_proto.specs.Table as table;
+
+use crate::quick::{quick_count, quick_set};
+use crate::request::Limits;
+use crate::state::Said;
+use crate::token::{first_tokens, more_tokens, without_cr};
+use crate::verb::tokens_said;
+use mc_item::NoMemory;
+use std::alloc::Global;
+
+/// What a line says, of which the LF is no part.
+#[inline(always)]
+#[tactic(auto, unfolding(crate::specs::Table::says))]
+pub fn said_of(alloc: Global, limits: Limits, line: &[u8]) -> Result<Said, NoMemory>
+    ensures value { IfOk result (λ s. s ≡ table.says limits line.now) }
+    ensures fine { IfOk result (λ s. IsFine s) }
+{
+    let line = without_cr(line);
+    if let Some(said) = quick_set(alloc, limits, line)? {
+        return Ok(said);
+    }
+    if let Some(said) = quick_count(alloc, limits, line)? {
+        return Ok(said);
+    }
+    let mut few = [line; 8];
+    let (count, rest) = first_tokens(line, &mut few);
+    if count < 8 {
+        return tokens_said(alloc, limits, few.as_slice().split_at(count).0);
+    }
+    let tokens = more_tokens(alloc, few.as_slice(), rest)?;
+    tokens_said(alloc, limits, tokens.as_slice())
+}

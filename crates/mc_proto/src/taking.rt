@@ -1,0 +1,264 @@
+//! What a part of a piece makes of where a reader stands.
+ghost use Rattle.std.specs.Prelude.{◌≡◌, ◌++◌, [], ◌+◌, ◌-◌, ◌<◌, ◌≤◌, ℕ, List, IfOk, OnOk, All, length, take, option_to_list};
+ghost use Rattle.mc_proto.specs.Grammar.{stored, skipped, IsFine, IsModerate};
+ghost use Rattle.mc_proto.specs.Table.{says};
+ghost use Rattle.mc_proto.specs.Reader.{After, IsSound, state_after, request_after};
+ghost use Rattle.mc_proto.specs.declared.request.Limits.{Limits};
+ghost use Rattle.mc_proto.specs.declared.request.Request.{Request};
+ghost use Rattle.mc_proto.specs.declared.state.State.{State};
+ghost use Rattle.mc_proto.specs.declared.state.State.TheVariants.{Line};
+
+use crate::line::said_of;
+use crate::quick::lone_get;
+use crate::request::{Keys, Limits, LineFault, Request};
+use crate::state::{Part, Said, Start, State};
+use crate::token::line_end;
+use bytes::BytesMut;
+use mc_item::{Command, NoMemory, Value};
+use std::alloc::Global;
+use std::mem;
+
+/// The longest line in bytes, without its LF.
+const MAX_LINE: usize = 65_536;
+
+// What a line says that lies in two pieces, of which the second has `front`.
+#[cold]
+#[inline(never)]
+fn said_behind(
+    alloc: Global,
+    limits: Limits,
+    line: &mut BytesMut,
+    front: &[u8],
+) -> Result<Said, NoMemory>
+    ensures value { IfOk result (λ s. s ≡ says limits (line.old.items ++ front.now)) }
+    ensures fine { IfOk result (λ s. IsFine s) }
+    ensures none { IfOk result (λ s. line.new.items ≡ []) }
+{
+    line.extend_from_slice(front)?;
+    let said = said_of(alloc, limits, line.as_slice())?;
+    line.clear();
+    Ok(said)
+}
+
+// What a line says whose last bytes are `front`; a line that lies whole in one piece isn't copied.
+#[inline(always)]
+fn said_at(
+    alloc: Global,
+    limits: Limits,
+    line: &mut BytesMut,
+    front: &[u8],
+) -> Result<Said, NoMemory>
+    ensures value { IfOk result (λ s. s ≡ says limits (line.old.items ++ front.now)) }
+    ensures fine { IfOk result (λ s. IsFine s) }
+    ensures none { IfOk result (λ s. line.new.items ≡ []) }
+{
+    if line.is_empty() {
+        return said_of(alloc, limits, front);
+    }
+    said_behind(alloc, limits, line, front)
+}
+
+// What a whole line makes of where the reader stands, and of the requests. Room for its whole block is taken at once.
+fn take_said(
+    alloc: Global,
+    state: &mut State,
+    requests: &mut Vec<Request>,
+    said: Said,
+) -> Result<(), NoMemory>
+    requires line { state.old ≡ Line }
+    requires fine { IsFine said }
+    ensures state { OnOk result (state.new ≡ state_after said) }
+    ensures requests { OnOk result (requests.new.items ≡ requests.old.items ++ option_to_list (request_after said)) }
+    ensures moderate { OnOk result (All IsModerate requests.old.items → All IsModerate requests.new.items) }
+{
+    match said {
+        Said::Whole(request) => {
+            requests.push(request)?;
+        }
+        Said::Block(start) => {
+            let bytes = Vec::with_capacity(alloc, start.count as usize + 2)?;
+            *state = State::Block(start, Part { bytes });
+        }
+        Said::Skip(start) => {
+            let left = start.count + 2;
+            *state = State::Skip(start, left);
+        }
+    }
+    Ok(())
+}
+
+// Takes bytes of a line, up to its LF, and says how many.
+fn take_line(
+    alloc: Global,
+    limits: Limits,
+    state: &mut State,
+    line: &mut BytesMut,
+    requests: &mut Vec<Request>,
+    piece: &[u8],
+) -> Result<usize, NoMemory>
+    requires some { 0 < length piece.now }
+    requires line { state.old ≡ Line }
+    requires sound { IsSound Line line.old.items }
+    ensures taken { IfOk result (λ n. (0 < n) × (n ≤ length piece.now)) }
+    ensures sound { OnOk result (IsSound state.new line.new.items) }
+    ensures moderate { OnOk result (All IsModerate requests.old.items → All IsModerate requests.new.items) }
+    ensures reads { IfOk result (λ n. (stream : List ℕ) (before : List Request) → After limits Line line.old.items stream (before ++ requests.old.items)
+        → After limits state.new line.new.items (stream ++ take n piece.now) (before ++ requests.new.items)) }
+{
+    let end = line_end(piece);
+    if line.len() + end > MAX_LINE {
+        line.clear();
+        requests.push(Request::Bad {
+            why: LineFault::LineTooLong,
+            quiet: false,
+        })?;
+        *state = State::Closed;
+        return Ok(piece.len());
+    }
+    if end == piece.len() {
+        line.extend_from_slice(piece)?;
+        return Ok(end);
+    }
+    let front = piece.split_at(end).0;
+    if line.is_empty() {
+        if let Some(key) = lone_get(alloc, front)? {
+            requests.push(Request::Get {
+                keys: Keys::one(key),
+                with_cas: false,
+            })?;
+            return Ok(end + 1);
+        }
+    }
+    let said = said_at(alloc, limits, line, front)?;
+    take_said(alloc, state, requests, said)?;
+    Ok(end + 1)
+}
+
+// The request of a block that is whole. Its bytes become the value, without a copy.
+fn stored_of(alloc: Global, start: Start, mut block: Vec<u8>) -> Result<Request, NoMemory>
+    requires { length block.items ≡ start.count + 2 }
+    ensures value { IfOk result (λ r. r ≡ stored start block.items) }
+    ensures moderate { IfOk result (λ r. IsModerate r) }
+{
+    let count = start.count as usize;
+    if block[count] == b'\r' && block[count + 1] == b'\n' {
+        block.truncate(count);
+        Ok(Request::One {
+            command: Command::Store {
+                verb: start.verb,
+                key: start.key,
+                flags: start.flags,
+                exptime: start.exptime,
+                value: Value::sharing(alloc, block)?,
+            },
+            quiet: start.quiet,
+        })
+    } else {
+        Ok(Request::Bad {
+            why: LineFault::Chunk,
+            quiet: start.quiet,
+        })
+    }
+}
+
+// Takes bytes of a block that is kept, and says how many. Where it isn't whole, the state has it again.
+fn take_block(
+    alloc: Global,
+    state: &mut State,
+    requests: &mut Vec<Request>,
+    start: Start,
+    part: Part,
+    piece: &[u8],
+) -> Result<usize, NoMemory>
+    requires some { 0 < length piece.now }
+    requires line { state.old ≡ Line }
+    requires sound { IsSound (State.Block start part) [] }
+    ensures taken { IfOk result (λ n. (0 < n) × (n ≤ length piece.now)) }
+    ensures sound { OnOk result (IsSound state.new []) }
+    ensures moderate { OnOk result (All IsModerate requests.old.items → All IsModerate requests.new.items) }
+    ensures reads { IfOk result (λ n. (limits : Limits) (stream : List ℕ) (before : List Request) → After limits (State.Block start part) [] stream (before ++ requests.old.items)
+        → After limits state.new [] (stream ++ take n piece.now) (before ++ requests.new.items)) }
+{
+    let Part { mut bytes } = part;
+    let wanted = start.count as usize + 2 - bytes.len();
+    if piece.len() < wanted {
+        bytes.extend_from_slice(piece)?;
+        *state = State::Block(start, Part { bytes });
+        return Ok(piece.len());
+    }
+    bytes.extend_from_slice(piece.split_at(wanted).0)?;
+    requests.push(stored_of(alloc, start, bytes)?)?;
+    Ok(wanted)
+}
+
+// Takes bytes of a block that is skipped, and says how many: only how many are to come is kept.
+fn take_skipped(
+    state: &mut State,
+    requests: &mut Vec<Request>,
+    start: Start,
+    left: u64,
+    piece: &[u8],
+) -> Result<usize, NoMemory>
+    requires some { 0 < length piece.now }
+    requires line { state.old ≡ Line }
+    requires sound { IsSound (State.Skip start left) [] }
+    ensures taken { IfOk result (λ n. (0 < n) × (n ≤ length piece.now)) }
+    ensures sound { OnOk result (IsSound state.new []) }
+    ensures moderate { OnOk result (All IsModerate requests.old.items → All IsModerate requests.new.items) }
+    ensures reads { IfOk result (λ n. (limits : Limits) (stream : List ℕ) (before : List Request) → After limits (State.Skip start left) [] stream (before ++ requests.old.items)
+        → After limits state.new [] (stream ++ take n piece.now) (before ++ requests.new.items)) }
+{
+    let count = piece.len() as u64;
+    if count < left {
+        *state = State::Skip(start, left - count);
+        return Ok(piece.len());
+    }
+    requests.push(Request::One {
+        command: Command::Huge {
+            verb: start.verb,
+            key: start.key,
+        },
+        quiet: start.quiet,
+    })?;
+    Ok(left as usize)
+}
+
+/// Takes a part of a piece, up to the end of a line or a block, and says how many bytes that were. A request that
+/// became whole comes behind the others.
+pub fn take_part(
+    alloc: Global,
+    limits: Limits,
+    state: &mut State,
+    line: &mut BytesMut,
+    requests: &mut Vec<Request>,
+    piece: &[u8],
+) -> Result<usize, NoMemory>
+    requires some { 0 < length piece.now }
+    requires sound { IsSound state.old line.old.items }
+    ensures taken { IfOk result (λ n. (0 < n) × (n ≤ length piece.now)) }
+    ensures sound { OnOk result (IsSound state.new line.new.items) }
+    ensures moderate { OnOk result (All IsModerate requests.old.items → All IsModerate requests.new.items) }
+    ensures reads { IfOk result (λ n. (stream : List ℕ) (before : List Request) → After limits state.old line.old.items stream (before ++ requests.old.items)
+        → After limits state.new line.new.items (stream ++ take n piece.now) (before ++ requests.new.items)) }
+{
+    match state {
+        State::Line => {
+            return take_line(alloc, limits, state, line, requests, piece);
+        }
+        State::Closed => {
+            return Ok(piece.len());
+        }
+        State::Failed => {
+            return Ok(piece.len());
+        }
+        State::Block(_, _) => {}
+        State::Skip(_, _) => {}
+    }
+    match mem::replace(state, State::Line) {
+        State::Block(start, part) => take_block(alloc, state, requests, start, part, piece),
+        State::Skip(start, left) => take_skipped(state, requests, start, left, piece),
+        State::Line => unreachable!(),
+        State::Closed => unreachable!(),
+        State::Failed => unreachable!(),
+    }
+}
