@@ -11,12 +11,12 @@ use Rattle.mc_item.specs.declared.stripe_event.Did.{Did}
 use Rattle.mc_item.specs.declared.stripe_event.Lost.{Lost}
 use Rattle.mc_item.specs.declared.stripe_event.StripeEvent.{StripeEvent}
 use Rattle.mc_item.specs.declared.stripe_event.StripeEvent.TheVariants as events
-use Rattle.mc_driver.specs.Noted.{told_in}
+use Rattle.mc_driver.specs.Noted.{exchanges_in}
 use Rattle.mc_driver.specs.Session.{IsNamedBelow, NamesNoMore, IsReadyAt}
 use Rattle.mc_stripe.specs.StripeState.{Stripe}
 use Rattle.mc_stripe.specs.StripeCalls.{KeepsSite, Gains, room_for}
 use Rattle.mc_item.specs.declared.answer.Site.{Site}
-use Rattle.mc_driver.proofs.TellLemmas.{told_in-append}
+use Rattle.mc_driver.proofs.NoteLemmas.{exchanges_in-append}
 
 -- one event more names no other link
 IsUnnamed-push : (link : Link) (es : List StripeEvent) (e : StripeEvent) → IsUnnamed link es → (link_named e ≢ Some link) → IsUnnamed link (es ++ e ∷ [])
@@ -57,7 +57,7 @@ names_lost next history lost names link above = IsUnnamed-push link history (eve
 pub lost_names_no_more : (old new : List StripeEvent) (lost : Lost) → new ≡ old ++ events.Lost lost ∷ [] → NamesNoMore old new
 lost_names_no_more old new lost is =
     let whole : NamesNoMore old (old ++ events.Lost lost ∷ []) = record {
-      told = told_in-append old (events.Lost lost ∷ []) ∙ append-nil (told_in old);
+      noted = exchanges_in-append old (events.Lost lost ∷ []) ∙ append-nil (exchanges_in old);
       names = λ next names. names_lost next old lost names;
       length = omega (arith, length-append old (events.Lost lost ∷ []));
     } in
@@ -66,25 +66,24 @@ lost_names_no_more old new lost is =
 -- the same history
 pub same_names_no_more : (old new : List StripeEvent) → new ≡ old → NamesNoMore old new
 same_names_no_more old new is =
-    let whole : NamesNoMore old old = record { told = refl; names = λ next names. names; length = omega arith } in
+    let whole : NamesNoMore old old = record { noted = refl; names = λ next names. names; length = omega arith } in
     subst (NamesNoMore old) (sym is) whole
 
 -- a stripe that names no link more
-pub ready_still : (old new : Stripe) (turn moment next : ℕ) → IsReadyAt old turn moment next → KeepsSite old new → NamesNoMore old.history new.history → IsReadyAt new turn moment next
-ready_still old new turn moment next ready same more = record {
+pub ready_still : (old new : Stripe) (turn next : ℕ) → IsReadyAt old turn next → KeepsSite old new → NamesNoMore old.history new.history → IsReadyAt new turn next
+ready_still old new turn next ready same more = record {
   only = ap (λ (s : Site). s.stripes) same.site ∙ ready.only;
   first = ap (λ (s : Site). s.stripe) same.site ∙ ready.first;
   names = more.names next ready.names;
   next_few = omega (arith, ready.next_few, more.length);
   turn_few = omega (arith, ready.turn_few, more.length);
   limit_few = omega (arith, ready.limit_few, same.limit);
-  moment_few = ready.moment_few;
 }
 
 -- a stripe that answered a command more, with the room for its need
-pub ready_did : (old new : Stripe) (turn moment next : ℕ) (need : Need) (did : Did) → IsReadyAt old turn moment next → KeepsSite old new → Gains old new (events.Did did)
-    → did.room ≡ room_for need next → IsReadyAt new (turn + 1) moment (next + 1)
-ready_did old new turn moment next need did ready same gains room =
+pub ready_did : (old new : Stripe) (turn next : ℕ) (need : Need) (did : Did) → IsReadyAt old turn next → KeepsSite old new → Gains old new (events.Did did)
+    → did.room ≡ room_for need next → IsReadyAt new (turn + 1) (next + 1)
+ready_did old new turn next need did ready same gains room =
     let more : length new.history ≡ length old.history + 1 = ap length gains ∙ length-append old.history (events.Did did ∷ []) in
     record {
       only = ap (λ (s : Site). s.stripes) same.site ∙ ready.only;
@@ -93,5 +92,4 @@ ready_did old new turn moment next need did ready same gains room =
       next_few = omega (arith, ready.next_few);
       turn_few = omega (arith, ready.turn_few);
       limit_few = omega (arith, ready.limit_few, same.limit);
-      moment_few = ready.moment_few;
     }

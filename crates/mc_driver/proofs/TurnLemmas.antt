@@ -1,6 +1,6 @@
 -- Turns of a caller that is alone.
 use Rattle.std.proofs.Common.{◌≡◌, ℕ, List, [], ◌∷◌, ◌++◌, sym, ap, ◌∙◌, append_assoc, append-nil, subst}
-use Rattle.std.specs.Prelude.{OnOk, Result, Ok, Err}
+use Rattle.std.specs.Prelude.{OnErr, OnOk, Result, Ok, Err}
 use Rattle.mc_item.specs.declared.answer.Need.{Need}
 use Rattle.mc_item.specs.declared.answer.Need.TheVariants as needs
 use Rattle.mc_item.specs.declared.stripe_event.Cause.TheVariants.{Expired}
@@ -8,9 +8,7 @@ use Rattle.mc_item.specs.declared.stripe_event.Did.{Did}
 use Rattle.mc_item.specs.declared.stripe_event.Lost.{Lost}
 use Rattle.mc_item.specs.declared.stripe_event.StripeEvent.{StripeEvent}
 use Rattle.mc_item.specs.declared.stripe_event.StripeEvent.TheVariants as events
-use Rattle.mc_script.specs.Script.{Told}
-use Rattle.mc_script.specs.Calls.{Adds}
-use Rattle.mc_driver.specs.Noted.{AreTurns, GainsTorn, GainsTurns, IsFoundBy, IsGranted, IsOf, told_in}
+use Rattle.mc_driver.specs.Noted.{AreTurns, GainsTorn, GainsTurns, IsFoundBy, IsGranted, IsPlain}
 use Rattle.mc_stripe.specs.StripeCalls.{room_for}
 
 -- the room for a need isn't refused
@@ -59,25 +57,21 @@ gains_lost old between new lost moment cause went is = record { more = events.Lo
 pub turns_more : (old new : List StripeEvent) → AreTurns old → GainsTurns old new → AreTurns new
 turns_more old new before gains = subst AreTurns (sym gains.is) (turns-append old gains.more before gains.are_turns)
 
--- what is known of calls after a whole turn
-pub adds_turn : (old new : List StripeEvent) (more : List Told) → AreTurns old → GainsTurns old new → told_in new ≡ told_in old ++ more → Adds (IsOf old) (IsOf new) more
-adds_turn old new more before gains told = record {
-  at = λ calls of. record {
-    told = told ∙ ap (λ (t : List Told). t ++ more) of.told;
-    plain = record { turns = new; torn = []; split = sym (append-nil new); are_turns = turns_more old new before gains; is_torn = tt };
-  };
-}
+-- a history that gained whole turns is plain
+pub plain_turns : (old new : List StripeEvent) → AreTurns old → GainsTurns old new → IsPlain new
+plain_turns old new before gains =
+    record { turns = new; torn = []; split = sym (append-nil new); are_turns = turns_more old new before gains; is_torn = tt }
 
--- and after one that failed
-pub adds_torn : (old new : List StripeEvent) → AreTurns old → GainsTorn old new → told_in new ≡ told_in old ++ [] → Adds (IsOf old) (IsOf new) []
-adds_torn old new before gains told = record {
-  at = λ calls of. record {
-    told = told ∙ ap (λ (t : List Told). t ++ []) of.told;
-    plain = record { turns = old; torn = gains.more; split = gains.is; are_turns = before; is_torn = gains.is_torn };
-  };
-}
+-- and one that gained what a turn left that failed
+pub plain_torn : (old new : List StripeEvent) → AreTurns old → GainsTorn old new → IsPlain new
+plain_torn old new before gains = record { turns = old; torn = gains.more; split = gains.is; are_turns = before; is_torn = gains.is_torn }
 
 -- what follows from two things that hold of a success
 pub on_ok_both : {X Y A B C : Type 0} (r : Result X Y) → (A → B → C) → OnOk r A → OnOk r B → OnOk r C
 on_ok_both (Ok x) f a b = f a b
 on_ok_both (Err e) f a b = tt
+
+-- and of a failure
+pub on_err_both : {X Y A B C : Type 0} (r : Result X Y) → (A → B → C) → OnErr r A → OnErr r B → OnErr r C
+on_err_both (Ok x) f a b = tt
+on_err_both (Err e) f a b = f a b

@@ -7,37 +7,10 @@ use Rattle.std.proofs.lemmas.List.{at_drop_more, at_drop_all, drop_more}
 use Rattle.std.proofs.lemmas.List.Splits.{slice_split_none, slice_split_at, slice_split_first}
 use Rattle.std.proofs.lemmas.List.Sums.{AllPass-from_list_all, split_at_first, fails_before_first, passes_at_first}
 use Rattle.std.specs.List.{list_all, slice_split, All, position_or_len, before_first, after_first}
-use Rattle.mc_item.specs.Measure.{is_digit, number_of, number_from}
+use Rattle.mc_item.specs.Measure.{is_digit, number_of, number_in}
 use Rattle.mc_item.specs.declared.config.Config.{Config}
 use Rattle.mc_item.specs.declared.config.ConfigFault.{ConfigFault}
-use Rattle.mc_driver.specs.Words.{number_in, IsListOf, IsNoList}
-
--- a number doesn't fall where digits come behind it
-number_grows : (digits : List ℕ) (n : ℕ) → n ≤ number_from n digits
-number_grows [] n = omega arith
-number_grows (d ∷ ds) n = omega (arith, number_grows ds (10 * n + (d - 48)))
-
--- digits of a number of 2^64 or more spell none that is read
-none_for_large : (digits : List ℕ) → 2 ^ 64 ≤ number_of digits → number_in digits ≡ None
-none_for_large digits large = grind (arith, nat_tests)
-
--- digits of a number below 2^64 spell it
-some_for_digits : (digits : List ℕ) → 0 < length digits → list_all is_digit digits ≡ true → number_of digits < 2 ^ 64 → number_in digits ≡ Some (number_of digits)
-some_for_digits digits some all small = grind (arith, nat_tests)
-
--- where the digits so far spell a number that the next makes 2^64 or more, no number is read
-pub too_large : (digits : List ℕ) (i n : ℕ) → i < length digits → number_from n (drop i digits) ≡ number_from 0 digits → 2 ^ 64 ≤ 10 * n + (get_or digits i 0 - 48) → number_in digits ≡ None
-too_large digits i n at is large =
-    let step = at_drop_more (number_from n) digits i 0 at in
-    let grows = number_grows (drop (i + 1) digits) (10 * n + (get_or digits i 0 - 48)) in
-    none_for_large digits (omega (arith, step, grows, is))
-
--- where nothing is left, the number is read
-pub all_read : (digits : List ℕ) (i n : ℕ) → 0 < length digits → length digits ≤ i → number_from n (drop i digits) ≡ number_from 0 digits → list_all is_digit (drop i digits) ≡ list_all is_digit digits → n < 2 ^ 64 → Some n ≡ number_in digits
-all_read digits i n some end is all small =
-    let same = sym (at_drop_all (number_from n) digits i end) ∙ is in
-    let each = sym all ∙ at_drop_all (list_all is_digit) digits i end in
-    ap Some same ∙ sym (some_for_digits digits some each (omega (arith, same)))
+use Rattle.mc_driver.specs.Words.{IsListOf, IsNoList}
 
 -- a number is read only where the second of three tests passes
 second_passes : (a b c : Bool) (n m : ℕ) → cond (a && b && c) (Some n) None ≡ Some m → b ≡ true

@@ -1,4 +1,5 @@
 pub mod Noted
+pub mod Stand
 pub mod Session
 pub mod Run
 pub mod Words

@@ -1,4 +1,4 @@
--- What a history notes: calls, each in the event of its answer, and what else stands there where one caller is alone.
+-- What a history notes: exchanges, each in the event of its answer, and what else stands there where one caller is alone.
 use Rattle.std.specs.Prelude.{ℕ, ◌≡◌, List, [], ◌∷◌, ◌++◌}
 use Rattle.std.specs.List.{flat_map}
 use Rattle.mc_item.specs.Command.{key_of}
@@ -9,21 +9,21 @@ use Rattle.mc_item.specs.declared.stripe_event.Did.{Did}
 use Rattle.mc_item.specs.declared.stripe_event.Lost.{Lost}
 use Rattle.mc_item.specs.declared.stripe_event.StripeEvent.{StripeEvent}
 use Rattle.mc_item.specs.declared.stripe_event.StripeEvent.TheVariants as events
-use Rattle.mc_script.specs.Script.{Told}
+use Rattle.mc_script.specs.Script.{Exchange}
 
--- the call that an event notes, whatever its room
-abbrev pub told_by : Did → Told
-told_by did = record { who = did.who; command = did.command; moment = did.moment; reply = did.reply }
+-- the exchange that an answered command is, whatever its room
+abbrev pub exchange_of : Did → Exchange
+exchange_of did = record { who = did.who; command = did.command; moment = did.moment; reply = did.reply }
 
--- the calls that an event notes
-abbrev pub calls_noted : StripeEvent → List Told
-calls_noted (events.Did did) = told_by did ∷ []
-calls_noted (events.Lost lost) = []
-calls_noted (events.Cooled cooled) = []
+-- the exchanges that an event notes
+abbrev pub exchanges_noted : StripeEvent → List Exchange
+exchanges_noted (events.Did did) = exchange_of did ∷ []
+exchanges_noted (events.Lost lost) = []
+exchanges_noted (events.Cooled cooled) = []
 
--- the calls that a history notes, oldest first
-abbrev pub told_in : List StripeEvent → List Told
-told_in history = flat_map calls_noted history
+-- the exchanges that a history notes, oldest first
+abbrev pub exchanges_in : List StripeEvent → List Exchange
+exchanges_in history = flat_map exchanges_noted history
 
 -- room wasn't refused
 abbrev pub IsGranted : Room → Type 0
@@ -76,6 +76,6 @@ pub record GainsTorn (old new : List StripeEvent) : Type 0 where
   pub is_torn : IsTorn more
 
 -- the history notes just these calls, and nothing but their turns
-pub record IsOf (history : List StripeEvent) (calls : List Told) : Type 0 where
-  pub told : told_in history ≡ calls
+pub record IsOf (history : List StripeEvent) (calls : List Exchange) : Type 0 where
+  pub noted : exchanges_in history ≡ calls
   pub plain : IsPlain history

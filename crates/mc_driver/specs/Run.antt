@@ -1,19 +1,24 @@
--- Which runs are accepted, and at which place they are run.
-use Rattle.std.specs.Prelude.{ℕ, ◌≡◌, ◌-◌, None, length, slice_index}
+-- Which runs are accepted, and the store that one leaves.
+use Rattle.std.specs.Prelude.{ℕ, ◌≡◌, ◌<◌, ◌≤◌, ◌-◌, List, Some, None, length, slice_index}
+use Rattle.std.specs.List.{slice_get}
 use Rattle.mc_item.specs.Config.{fault_of}
+use Rattle.mc_item.specs.Stripe.{IsLegal}
 use Rattle.mc_item.specs.declared.answer.Site.{Site}
 use Rattle.mc_item.specs.declared.config.Config.{Config}
 use Rattle.mc_proto.specs.declared.request.Limits.{Limits}
 use Rattle.mc_driver.specs.declared.fault.RunFault.{RunFault}
 use Rattle.mc_driver.specs.declared.fault.RunFault.TheVariants as refusals
+use Rattle.mc_driver.specs.Noted.{AreTurns}
+use Rattle.mc_driver.specs.Stand.{Histories}
+use Rattle.mc_stripe.specs.StripeState.{Stripe}
 
 -- what a reader has to know of a configuration: the size of the last slab class, and how many there are
 abbrev pub limits_of : Config → Limits
 limits_of config = record { largest = slice_index config.sizes (length config.sizes - 1); classes = length config.sizes }
 
--- the one stripe of a configuration
-abbrev pub site_of : Config → Site
-site_of config = record { stripe = 0; stripes = config.stripes; sizes = config.sizes }
+-- the stripe of this number of a configuration
+abbrev pub site_of : Config → ℕ → Site
+site_of config number = record { stripe = number; stripes = config.stripes; sizes = config.sizes }
 
 -- the configuration for one script, which has a caller for it, for the maintainer and for the crawler
 abbrev pub with_callers : Config → Config
@@ -49,3 +54,24 @@ abbrev pub IsRefused : RunFault → ℕ → ℕ → Config → Type 0
 IsRefused refusals.Scripts scripts upkeep config = IsOneScript scripts upkeep → ⊥
 IsRefused refusals.Configuration scripts upkeep config = IsOneScript scripts upkeep × (IsOneStripe config → ⊥)
 IsRefused refusals.NoMemory scripts upkeep config = IsAccepted scripts upkeep config
+
+-- a stripe of this number of a configuration, with a legal history
+pub record IsStripe (config : Config) (number : ℕ) (s : Stripe) : Type 0 where
+  pub site : s.site ≡ site_of config number
+  pub limit : s.limit ≡ config.max_events
+  pub legal : IsLegal s.site s.history
+
+-- a store of a configuration: all of its stripes, in the order of their numbers
+pub record IsStore (config : Config) (stripes : List Stripe) : Type 0 where
+  pub count : length stripes ≡ config.stripes
+  pub each : (number : ℕ) (s : Stripe) → slice_get stripes number ≡ Some s → IsStripe config number s
+
+-- one of a configuration's stripes has no place left in its history
+pub record HasFull (config : Config) (histories : Histories) : Type 0 where
+  pub number : ℕ
+  pub below : number < config.stripes
+  pub full : config.max_events ≤ length (histories number)
+
+-- each of a configuration's stripes has whole turns alone in its history
+pub record AreWholeTurns (config : Config) (histories : Histories) : Type 0 where
+  pub at : (number : ℕ) → number < config.stripes → AreTurns (histories number)

@@ -3,8 +3,8 @@ use Rattle.std.specs.Prelude.{ℕ, ◌≡◌, ◌≤◌, ◌^◌, List, ◌++◌
 use Rattle.mc_item.specs.Stripe.{IsUnnamed}
 use Rattle.mc_item.specs.declared.item.Link.{Link}
 use Rattle.mc_item.specs.declared.stripe_event.StripeEvent.{StripeEvent}
-use Rattle.mc_script.specs.Script.{Told}
-use Rattle.mc_driver.specs.Noted.{told_in}
+use Rattle.mc_script.specs.Script.{Exchange}
+use Rattle.mc_driver.specs.Noted.{exchanges_in}
 use Rattle.mc_driver.specs.declared.session.Session.{Session}
 use Rattle.mc_stripe.specs.StripeState.{Stripe}
 
@@ -13,18 +13,17 @@ abbrev pub IsNamedBelow : ℕ → List StripeEvent → Type 0
 IsNamedBelow next history = (link : Link) → next ≤ link.number → IsUnnamed link history
 
 -- a call may be made: there is one stripe, links of this number and later ones are new, and no count is too large
-pub record IsReadyAt (stripe : Stripe) (turn moment next : ℕ) : Type 0 where
+pub record IsReadyAt (stripe : Stripe) (turn next : ℕ) : Type 0 where
   pub only : stripe.site.stripes ≡ 1
   pub first : stripe.site.stripe ≡ 0
   pub names : IsNamedBelow next stripe.history
   pub next_few : next ≤ length stripe.history
   pub turn_few : turn ≤ length stripe.history
   pub limit_few : stripe.limit ≤ 2 ^ 32
-  pub moment_few : moment ≤ 2 ^ 62
 
 -- the session may make a call
 abbrev pub IsReady : Session → Type 0
-IsReady s = IsReadyAt s.stripe s.turn s.moment s.next
+IsReady s = IsReadyAt s.stripe s.turn s.next
 
 -- who makes the calls, and on what, stay
 pub record KeepsPlace (old new : Session) : Type 0 where
@@ -33,11 +32,11 @@ pub record KeepsPlace (old new : Session) : Type 0 where
   pub limit : new.stripe.limit ≡ old.stripe.limit
 
 -- the history notes these calls more
-abbrev pub Tells : Session → Session → List Told → Type 0
-Tells old new calls = told_in new.stripe.history ≡ told_in old.stripe.history ++ calls
+abbrev pub NotesMore : Session → Session → List Exchange → Type 0
+NotesMore old new calls = exchanges_in new.stripe.history ≡ exchanges_in old.stripe.history ++ calls
 
 -- a history notes no call and names no link that it didn't before, and is no shorter
 pub record NamesNoMore (old new : List StripeEvent) : Type 0 where
-  pub told : told_in new ≡ told_in old
+  pub noted : exchanges_in new ≡ exchanges_in old
   pub names : (next : ℕ) → IsNamedBelow next old → IsNamedBelow next new
   pub length : length old ≤ length new

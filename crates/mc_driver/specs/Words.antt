@@ -6,7 +6,7 @@ use Rattle.clap.specs.Words.{App, Kinds, Rule, Text, first_of, matches_of, new_a
 use Rattle.clap.specs.declared.builder.action.ArgAction.TheVariants.{Set}
 use Rattle.clap.specs.declared.builder.value_parser.ValueParser.TheVariants.{Unsigned}
 use Rattle.mc_item.specs.Config.{fault_of, usual_config}
-use Rattle.mc_item.specs.Measure.{is_digit, number_of}
+use Rattle.mc_item.specs.Measure.{number_in}
 use Rattle.mc_item.specs.declared.config.Config.{Config}
 use Rattle.mc_item.specs.declared.config.ConfigFault.{ConfigFault}
 use Rattle.mc_item.specs.declared.config.ConfigFault.TheVariants.{Stripes, Sizes, Chunks, Percent, Factor, Callers, Events}
@@ -38,11 +38,6 @@ sizes_in words = first_of (codes "sizes") (matches_of mcseg words)
 -- the text that the words give for the limit of events
 abbrev pub events_in : List Text → Option Text
 events_in words = one_of (codes "events") (matches_of mcseg words)
-
--- the number that these digits spell: one digit at least, digits alone, and a number below 2^64
-abbrev pub number_in : List ℕ → Option ℕ
-number_in digits =
-    if nat_lt 0 (length digits) && list_all is_digit digits && nat_lt (number_of digits) (2 ^ 64) then Some (number_of digits) else None
 
 -- there is a limit where there is a text, and then the text is that number; a plus may stand before its digits
 abbrev pub IsLimit : Option Text → Option ℕ → Type 0
@@ -103,10 +98,10 @@ fault_number Callers = 6
 fault_number Events = 7
 
 -- what is wrong with the words where there is no plan of their options
-abbrev pub told_of : PlanFault → WordsFault
-told_of plan_faults.List = words_faults.List
-told_of (plan_faults.Configuration n) = words_faults.Configuration n
-told_of plan_faults.NoMemory = words_faults.NoMemory
+abbrev pub words_fault_of : PlanFault → WordsFault
+words_fault_of plan_faults.List = words_faults.List
+words_fault_of (plan_faults.Configuration n) = words_faults.Configuration n
+words_fault_of plan_faults.NoMemory = words_faults.NoMemory
 
 -- the configuration has the fault of this number
 abbrev pub IsFault : ℕ → Config → Type 0

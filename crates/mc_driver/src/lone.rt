@@ -30,18 +30,11 @@ impl Model for Lone {
 impl Lone {
     /// A caller before its first turn at a stripe that is the only one.
     pub fn new(alloc: Global, stripe: StripeState, caller: u32) -> Lone
-        requires { IsReadyAt stripe 0 1000 0 }
+        requires { IsReadyAt stripe 0 0 }
         ensures { (result.stripe ≡ stripe) × (result.caller ≡ caller) × (result.turn ≡ 0) }
     {
         Lone {
-            session: Session {
-                alloc,
-                stripe,
-                caller,
-                turn: 0,
-                moment: 1000,
-                next: 0,
-            },
+            session: Session::new(alloc, stripe, caller),
         }
     }
 
@@ -49,14 +42,15 @@ impl Lone {
     pub fn into_stripe(self) -> StripeState
         ensures { result ≡ self.stripe }
     {
-        self.session.stripe
+        self.session.into_stripe()
     }
 }
 
 impl Calls for Lone {
-    ghost use Rattle.std.specs.Prelude.{◌≤◌, ℕ, length};
+    ghost use Rattle.std.specs.Prelude.{◌≤◌, ◌∷◌, [], ℕ, length};
     ghost use Rattle.mc_item.specs.declared.answer.Site.{Site};
-    ghost use Rattle.mc_driver.specs.Noted.{AreTurns, IsOf};
+    ghost use Rattle.mc_driver.specs.Noted.{AreTurns};
+    ghost use Rattle.mc_driver.specs.Stand.{AreAlone, histories_of};
     ghost use Rattle.mc_stripe.specs.StripeState.{last_reply};
 
     ghost Place = { Site × ℕ };
@@ -67,7 +61,7 @@ impl Calls for Lone {
 
     ghost turn = { λ s. s.turn };
 
-    ghost notes = { λ s calls. IsOf s.stripe.history calls };
+    ghost notes = { λ s calls. AreAlone 1 s.caller (histories_of (s.stripe ∷ [])) calls };
 
     ghost last = { λ s. last_reply s.stripe.history };
 
@@ -77,8 +71,7 @@ impl Calls for Lone {
 
     #[inline(always)]
     fn command(&mut self, _rt: &impl Wait, command: Command, moment: u64) -> Result<(), Fault> {
-        self.session.moment = moment;
-        self.session.call(command)
+        self.session.call(command, moment)
     }
 
     #[inline(always)]

@@ -38,7 +38,7 @@ const INPUT: &[u8] = b"mcseg: input failed\n";
 const OUTPUT: &[u8] = b"mcseg: output failed\n";
 
 // A line on standard error; that it fails changes no status.
-fn told<E: Write>(errors: &mut E, line: &[u8], status: u8) -> u8
+fn say_line<E: Write>(errors: &mut E, line: &[u8], status: u8) -> u8
     ensures { result ≡ status }
 {
     let _ = errors.write_all(line);
@@ -59,25 +59,25 @@ fn say_words<W: Write, E: Write>(
     errors: &mut E,
 ) -> u8 {
     if let ErrorKind::OutOfMemory = error.kind() {
-        return told(errors, MEMORY, 1);
+        return say_line(errors, MEMORY, 1);
     }
     let Ok(text) = error.to_string(alloc) else {
-        return told(errors, MEMORY, 1);
+        return say_line(errors, MEMORY, 1);
     };
     if error.use_stderr() {
-        return told(errors, text.as_bytes(), 2);
+        return say_line(errors, text.as_bytes(), 2);
     }
     match print_all(writer, text.as_bytes()) {
         Ok(()) => 0,
-        Err(_) => told(errors, OUTPUT, 3),
+        Err(_) => say_line(errors, OUTPUT, 3),
     }
 }
 
 // What is wrong with a configuration, by its number.
 fn say_configuration<E: Write>(alloc: Global, number: u8, errors: &mut E) -> u8 {
     match format!(in alloc; "mcseg: bad configuration {number}\n") {
-        Ok(text) => told(errors, text.as_bytes(), 2),
-        Err(_) => told(errors, MEMORY, 1),
+        Ok(text) => say_line(errors, text.as_bytes(), 2),
+        Err(_) => say_line(errors, MEMORY, 1),
     }
 }
 
@@ -86,10 +86,10 @@ fn say_outcome<E: Write>(outcome: Option<&Outcome>, errors: &mut E) -> u8 {
     match outcome {
         None => 0,
         Some(Outcome::Done) => 0,
-        Some(Outcome::Memory) => told(errors, MEMORY, 1),
-        Some(Outcome::Output) => told(errors, MEMORY, 1),
-        Some(Outcome::HistoryFull) => told(errors, HISTORY, 1),
-        Some(Outcome::Input) => told(errors, INPUT, 3),
+        Some(Outcome::Memory) => say_line(errors, MEMORY, 1),
+        Some(Outcome::Output) => say_line(errors, MEMORY, 1),
+        Some(Outcome::HistoryFull) => say_line(errors, HISTORY, 1),
+        Some(Outcome::Input) => say_line(errors, INPUT, 3),
     }
 }
 
@@ -128,7 +128,7 @@ fn run_input<L: Ledger, W: Write, E: Write>(
     let sink = Kept::<L>::new(alloc, blank);
     let mut scripts = Vec::new(alloc);
     if scripts.push((source, sink)).is_err() {
-        return told(errors, MEMORY, 1);
+        return say_line(errors, MEMORY, 1);
     }
     match run_scripts(
         rt,
@@ -138,19 +138,19 @@ fn run_input<L: Ledger, W: Write, E: Write>(
         scripts,
         plan.upkeep.as_slice(),
     ) {
-        Err(RunFault::NoMemory) => told(errors, MEMORY, 1),
-        Err(RunFault::Configuration) => told(errors, CONFIGURATION, 2),
-        Err(RunFault::Scripts) => told(errors, SCRIPTS, 2),
+        Err(RunFault::NoMemory) => say_line(errors, MEMORY, 1),
+        Err(RunFault::Configuration) => say_line(errors, CONFIGURATION, 2),
+        Err(RunFault::Scripts) => say_line(errors, SCRIPTS, 2),
         Ok(run) => {
             for end in run.ends.as_slice() {
                 for piece in end.1.pieces.as_slice() {
                     if writer.write_all(piece.as_slice()).is_err() {
-                        return told(errors, OUTPUT, 3);
+                        return say_line(errors, OUTPUT, 3);
                     }
                 }
             }
             if writer.flush().is_err() {
-                return told(errors, OUTPUT, 3);
+                return say_line(errors, OUTPUT, 3);
             }
             let status = say_outcome(run.outcomes.as_slice().first(), errors);
             // Freeing a history event by event is a tenth of the work: its memory goes with the process.
@@ -179,22 +179,22 @@ pub fn run_words<R: Read, W: Write, E: Write>(
             return say_words(alloc, &error, writer, errors);
         }
         Err(WordsFault::List) => {
-            return told(errors, LIST, 2);
+            return say_line(errors, LIST, 2);
         }
         Err(WordsFault::Configuration(number)) => {
             return say_configuration(alloc, number, errors);
         }
         Err(WordsFault::NoMemory) => {
-            return told(errors, MEMORY, 1);
+            return say_line(errors, MEMORY, 1);
         }
     };
     let input = match read_pieces(alloc, reader) {
         Ok(input) => input,
         Err(error) => {
             if error.kind() == io::ErrorKind::OutOfMemory {
-                return told(errors, MEMORY, 1);
+                return say_line(errors, MEMORY, 1);
             }
-            return told(errors, INPUT, 3);
+            return say_line(errors, INPUT, 3);
         }
     };
     run_input::<Brand, W, E>(rt, alloc, seed, plan, input, Blank::new(1), writer, errors)

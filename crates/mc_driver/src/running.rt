@@ -1,9 +1,10 @@
 //! Runs of scripts, and what they leave.
-ghost use Rattle.std.specs.Prelude.{◌≡◌, ◌≢◌, ◌≤◌, ◌<◌, ◌+◌, ◌⊎◌, List, [], ◌∷◌, ◌++◌, ℕ, IfOk, IfErr, None, length, slice_index_or};
+ghost use Rattle.std.specs.Prelude.{◌≡◌, ◌≢◌, ◌<◌, List, [], ◌∷◌, ◌++◌, ℕ, IfOk, IfErr, Some, None, length, slice_index_or};
+ghost use Rattle.std.specs.List.{slice_get};
 ghost use Rattle.mc_item.specs.Config.{fault_of, IsBounded};
 ghost use Rattle.mc_item.specs.Stripe.{IsLegal};
-ghost use Rattle.mc_driver.specs.Noted.{AreTurns, IsOf};
-ghost use Rattle.mc_driver.specs.Run.{IsAccepted, IsRefused, limits_of, site_of, with_callers};
+ghost use Rattle.mc_driver.specs.Run.{AreWholeTurns, HasFull, IsAccepted, IsRefused, IsStore, limits_of, site_of, with_callers};
+ghost use Rattle.mc_driver.specs.Stand.{AreAlone, histories_of};
 ghost use Rattle.mc_script.specs.Run.{AreCounted, Leaves};
 ghost use Rattle.mc_script.specs.declared.outcome.Outcome.{Outcome};
 ghost use Rattle.mc_script.specs.declared.outcome.Outcome.TheVariants as outcomes;
@@ -20,28 +21,28 @@ use std::hash::RandomState;
 use std::marker::Model;
 use std::sync::Wait;
 
-/// What a run leaves of the store: for now its one stripe, as which contracts see it.
+/// What a run leaves of the store: its stripes, in the order of their numbers, as the list of which contracts see it.
 #[derive(Drop)]
 pub struct Final {
-    only: StripeState,
+    stripes: Vec<StripeState>,
 }
 
 impl Model for Final {
+    ghost use Rattle.std.specs.Prelude.{List};
     ghost use Rattle.mc_stripe.specs.StripeState.{Stripe};
 
-    ghost Value = { Stripe };
+    ghost Value = { List Stripe };
 
-    ghost view = { λ f. f.only };
+    ghost view = { λ f. f.stripes.items };
 }
 
 impl Final {
-    /// The stripe of this number, as the run left it.
+    /// The stripe of this number, as the run left it. There are as many as the run's configuration has, numbered from 0.
     pub fn stripe(&self, number: StripeNo) -> &StripeState
-        requires { number.0 < 1 }
-        ensures { result.now ≡ self.now }
+        requires { number.0 < length self.now }
+        ensures { slice_get self.now number.0 ≡ Some result.now }
     {
-        let _number = number;
-        &self.only
+        &self.stripes[number.0 as usize]
     }
 }
 
@@ -60,7 +61,7 @@ fn first_calls(alloc: Global, config: &Config, seed: RandomState) -> Lone
     requires stripes { config.now.stripes ≡ 1 }
     ensures caller { (result.caller ≡ 0) × (result.turn ≡ 0) }
     ensures none { result.stripe.history ≡ [] }
-    ensures place { (result.stripe.site ≡ site_of config.now) × (result.stripe.limit ≡ config.now.max_events) }
+    ensures place { (result.stripe.site ≡ site_of config.now 0) × (result.stripe.limit ≡ config.now.max_events) }
 {
     let stripe = StripeState::new(alloc, StripeNo(0), config, seed);
     Lone::new(alloc, stripe, 0)
@@ -97,14 +98,14 @@ fn checked(config: Config) -> Result<Config, RunFault>
     }
 }
 
-// A caller's stripe is what its run leaves.
-fn left(calls: Lone) -> Final
+// The stripe that a caller leaves.
+fn left(calls: Lone) -> StripeState
     ensures same { result ≡ calls.stripe }
     ensures legal { IsLegal result.site result.history }
 {
     let stripe = calls.into_stripe();
     let _events = stripe.history();
-    Final { only: stripe }
+    stripe
 }
 
 /// Runs scripts against a store of this configuration, whose number of callers is set here: one script for now, one
@@ -122,26 +123,25 @@ pub fn run_scripts<S: Source, K: Sink>(
     ensures refused { IfErr result (λ e. IsRefused e (length scripts.items) (length upkeep.now) config) }
     ensures accepted { IfOk result (λ _. IsAccepted (length scripts.items) (length upkeep.now) config) }
 
-    // What each script leaves: which bytes are still to come, what its sink took, which calls the history notes, and
-    // which side failed.
+    // What each script leaves: which bytes are still to come, what its sink took, which of its calls stand in the
+    // stripes' histories, and which side failed.
     ensures leaves { IfOk result (λ run. (i : ℕ) (ends : S × K) (outcome : Outcome) → i < length scripts.items
         → Leaves (slice_index_or run.outcomes.items i outcome) (limits_of config)
         (S.coming (slice_index_or scripts.items i ends).0) (S.coming (slice_index_or run.ends.items i ends).0)
-        (K.taken (slice_index_or scripts.items i ends).1) (K.taken (slice_index_or run.ends.items i ends).1) (IsOf run.ledger.history) i) }
+        (K.taken (slice_index_or scripts.items i ends).1) (K.taken (slice_index_or run.ends.items i ends).1) (AreAlone config.stripes i (histories_of run.ledger)) i) }
     ensures counted { IfOk result (λ run. (i : ℕ) (ends : S × K) (outcome : Outcome) → i < length scripts.items
         → AreCounted (slice_index_or run.outcomes.items i outcome)
         (S.failures (slice_index_or scripts.items i ends).0) (S.failures (slice_index_or run.ends.items i ends).0)
         (K.failures (slice_index_or scripts.items i ends).1) (K.failures (slice_index_or run.ends.items i ends).1)) }
     ensures full { IfOk result (λ run. (i : ℕ) (outcome : Outcome) → i < length scripts.items
-        → slice_index_or run.outcomes.items i outcome ≡ outcomes.HistoryFull → run.ledger.limit ≤ length run.ledger.history) }
-
+        → slice_index_or run.outcomes.items i outcome ≡ outcomes.HistoryFull → HasFull config (histories_of run.ledger)) }
     ensures whole { IfOk result (λ run. (i : ℕ) (outcome : Outcome) → i < length scripts.items
-        → slice_index_or run.outcomes.items i outcome ≡ outcomes.Done → AreTurns run.ledger.history) }
+        → slice_index_or run.outcomes.items i outcome ≡ outcomes.Done → AreWholeTurns config (histories_of run.ledger)) }
 
     // What else the run leaves: the outcomes of upkeep behind those of the scripts, and the store.
     ensures outcomes { IfOk result (λ run. (own : List Outcome) × (length own ≡ length scripts.items) × (run.outcomes.items ≡ own ++ outcomes.Done ∷ outcomes.Done ∷ [])) }
     ensures ends { IfOk result (λ run. length run.ends.items ≡ length scripts.items) }
-    ensures legal { IfOk result (λ run. (run.ledger.site ≡ site_of config) × (run.ledger.limit ≡ config.max_events) × IsLegal run.ledger.site run.ledger.history) }
+    ensures store { IfOk result (λ run. IsStore config run.ledger) }
 {
     let mut scripts = scripts;
     if scripts.len() != 1 || !upkeep.is_empty() {
@@ -149,6 +149,7 @@ pub fn run_scripts<S: Source, K: Sink>(
     }
     let config = checked(config)?;
     let mut outcomes = Vec::with_capacity(alloc, 3)?;
+    let mut stripes = Vec::with_capacity(alloc, 1)?;
     let (source, sink) = scripts.pop().unwrap();
     let limits = limits_for(&config);
     let mut calls = first_calls(alloc, &config, seed);
@@ -158,8 +159,9 @@ pub fn run_scripts<S: Source, K: Sink>(
     outcomes.push_reserved(outcome);
     outcomes.push_reserved(Outcome::Done);
     outcomes.push_reserved(Outcome::Done);
+    stripes.push_reserved(left(calls));
     Ok(Run {
-        ledger: left(calls),
+        ledger: Final { stripes },
         outcomes,
         ends: scripts,
     })

@@ -5,13 +5,13 @@ ghost use Rattle.mc_item.specs.Config.{fault_of};
 ghost use Rattle.clap.specs.Walk.{texts};
 ghost use Rattle.clap.specs.Words.{HasKind, app_of};
 ghost use Rattle.clap.specs.declared.error.Error.{Error as Refusal};
-ghost use Rattle.mc_driver.specs.Words.{AreAsked, AreNamed, IsFault, IsListOf, IsNoList, NamesNone, asked, fault_number, mcseg, refusals, sizes_in, told_of};
+ghost use Rattle.mc_driver.specs.Words.{AreAsked, AreNamed, IsFault, IsListOf, IsNoList, NamesNone, asked, fault_number, mcseg, refusals, sizes_in, words_fault_of};
 ghost use Rattle.mc_driver.specs.declared.words.PlanFault.TheVariants as faults;
 ghost use Rattle.mc_driver.specs.declared.words.WordsFault.TheVariants as words_faults;
 
 use crate::help::{ABOUT, AFTER, VERSION};
 use clap::{Arg, ArgAction, Command, Error};
-use mc_item::{Config, ConfigFault, NoMemory, Numbers};
+use mc_item::{Config, ConfigFault, NoMemory, Numbers, number_of};
 use std::alloc::{AllocError, Global};
 
 /// What the words ask for: a store's configuration, and the moments of upkeep.
@@ -71,7 +71,7 @@ impl From<Error> for WordsFault {
 }
 
 impl From<PlanFault> for WordsFault {
-    ghost from_gives = { λ fault e. e ≡ told_of fault };
+    ghost from_gives = { λ fault e. e ≡ words_fault_of fault };
 
     fn from(fault: PlanFault) -> WordsFault {
         match fault {
@@ -82,32 +82,13 @@ impl From<PlanFault> for WordsFault {
     }
 }
 
-// The number that these digits spell, where it is below 2^64; leading zeros are fine.
-fn number_in(digits: &[u8]) -> Option<u64>
-    ensures { result ≡ Rattle.mc_driver.specs.Words.number_in digits.now }
-{
-    if digits.is_empty() {
-        return None;
-    }
-    let mut number: u64 = 0;
-    for digit in digits {
-        if !digit.is_ascii_digit() {
-            return None;
-        }
-        number = number
-            .checked_mul(10)?
-            .checked_add(u64::from(*digit - b'0'))?;
-    }
-    Some(number)
-}
-
 // The numbers of a list with one comma between two.
 fn list_in(alloc: Global, text: &[u8]) -> Result<Option<Vec<u64>>, NoMemory>
     ensures { IfOk result (λ list. MatchOption list (IsNoList text.now) (λ numbers. IsListOf text.now numbers.items)) }
 {
     let mut numbers = Vec::new(alloc);
     for digits in text.split(|byte| *byte == b',') {
-        match number_in(digits) {
+        match number_of(digits) {
             Some(number) => numbers.push(number)?,
             None => {
                 return Ok(None);
@@ -118,7 +99,7 @@ fn list_in(alloc: Global, text: &[u8]) -> Result<Option<Vec<u64>>, NoMemory>
 }
 
 // The fault's number, in the order in which faults are looked at.
-fn number_of(fault: ConfigFault) -> u8
+fn fault_number(fault: ConfigFault) -> u8
     ensures { result ≡ fault_number fault }
 {
     match fault {
@@ -223,7 +204,7 @@ fn plan_of(alloc: Global, config: Config) -> Result<Plan, PlanFault>
             config,
             upkeep: Numbers::from_vec(Vec::new(alloc)),
         }),
-        Err(fault) => Err(PlanFault::Configuration(number_of(fault))),
+        Err(fault) => Err(PlanFault::Configuration(fault_number(fault))),
     }
 }
 

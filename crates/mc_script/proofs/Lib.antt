@@ -1,4 +1,5 @@
 pub mod IterLemmas
 pub mod CallLemmas
 pub mod ProgressLemmas
+pub mod PieceLemmas
 pub mod RunLemmas

@@ -8,7 +8,7 @@ use Rattle.mc_proto.specs.Text.{IsBeginning}
 use Rattle.mc_proto.specs.declared.request.Limits.{Limits}
 use Rattle.mc_proto.specs.declared.request.Request.{Request}
 use Rattle.mc_script.specs.Calls.{IsPart}
-use Rattle.mc_script.specs.Script.{Answered, AreWhole, Told, all_told, calls_of, ends, moment_behind, own_requests, request_told, requests_of, texts_of, turn_behind}
+use Rattle.mc_script.specs.Script.{Answered, AreWhole, Exchange, all_exchanges, calls_of, ends, moment_behind, own_requests, request_exchanges, requests_of, texts_of, turn_behind}
 use Rattle.mc_script.specs.declared.outcome.Outcome.{Outcome}
 use Rattle.mc_script.specs.declared.outcome.Outcome.TheVariants.{Done, Memory, HistoryFull, Input, Output}
 
@@ -22,7 +22,7 @@ NoneEnds [] = Unit {0}
 NoneEnds (r ∷ rs) = (ends r ≡ false) × NoneEnds rs
 
 -- all requests of these bytes were answered: their texts were taken, and just their calls were made
-pub record HasRun (limits : Limits) (bytes start taken : List ℕ) (notes : List Told → Type 0) (caller : ℕ) : Type 0 where
+pub record HasRun (limits : Limits) (bytes start taken : List ℕ) (notes : List Exchange → Type 0) (caller : ℕ) : Type 0 where
   pub requests : List Request
   pub rest : List ℕ
   pub answered : List Answered
@@ -30,7 +30,7 @@ pub record HasRun (limits : Limits) (bytes start taken : List ℕ) (notes : List
   pub asked : requests_of answered ≡ own_requests requests
   pub whole : AreWhole answered
   pub texts : taken ≡ start ++ texts_of answered
-  pub calls : notes (all_told caller 0 first_moment answered)
+  pub calls : notes (all_exchanges caller 0 first_moment answered)
 
 -- the bytes that the source gave, of those that it had, and that requests of the script were read from
 pub record HasRead (limits : Limits) (bytes left : List ℕ) (own : List Request) : Type 0 where
@@ -55,18 +55,18 @@ pub record IsOut (limits : Limits) (bytes left start taken : List ℕ) : Type 0 
   pub texts : taken ≡ start ++ texts_of answered
 
 -- the source failed, or there was no memory for a piece behind: all requests of the bytes that came before were answered
-pub record HasRunTo (limits : Limits) (bytes left start taken : List ℕ) (notes : List Told → Type 0) (caller : ℕ) : Type 0 where
+pub record HasRunTo (limits : Limits) (bytes left start taken : List ℕ) (notes : List Exchange → Type 0) (caller : ℕ) : Type 0 where
   pub came : List ℕ
   pub split : bytes ≡ came ++ left
   pub run : HasRun limits came start taken notes caller
 
 -- a piece came that could not be read
-pub record HasStarved (limits : Limits) (bytes left start taken : List ℕ) (notes : List Told → Type 0) (caller : ℕ) : Type 0 where
+pub record HasStarved (limits : Limits) (bytes left start taken : List ℕ) (notes : List Exchange → Type 0) (caller : ℕ) : Type 0 where
   pub piece : List ℕ
   pub run : HasRunTo limits bytes (piece ++ left) start taken notes caller
 
 -- a request failed: the texts of those before it were taken, and of its own calls the first were made
-pub record HasStopped (fault : Fault) (limits : Limits) (bytes left start taken : List ℕ) (notes : List Told → Type 0) (caller : ℕ) : Type 0 where
+pub record HasStopped (fault : Fault) (limits : Limits) (bytes left start taken : List ℕ) (notes : List Exchange → Type 0) (caller : ℕ) : Type 0 where
   pub answered : List Answered
   pub request : Request
   pub back : List Request
@@ -75,27 +75,27 @@ pub record HasStopped (fault : Fault) (limits : Limits) (bytes left start taken 
   pub texts : taken ≡ start ++ texts_of answered
   pub replies : List Reply
   pub part : IsPart fault (length replies) (calls_of request)
-  pub calls : notes (all_told caller 0 first_moment answered ++ request_told caller (turn_behind 0 answered) (moment_behind first_moment answered) request replies)
+  pub calls : notes (all_exchanges caller 0 first_moment answered ++ request_exchanges caller (turn_behind 0 answered) (moment_behind first_moment answered) request replies)
 
 -- no calls, or the first calls of the first of these requests
-abbrev pub ArePartOf : List Request → ℕ → ℕ → ℕ → List Told → Type 0
+abbrev pub ArePartOf : List Request → ℕ → ℕ → ℕ → List Exchange → Type 0
 ArePartOf [] caller turn moment more = more ≡ []
-ArePartOf (r ∷ rs) caller turn moment more = (replies : List Reply) × IsPart faults.NoMemory (length replies) (calls_of r) × (more ≡ request_told caller turn moment r replies)
+ArePartOf (r ∷ rs) caller turn moment more = (replies : List Reply) × IsPart faults.NoMemory (length replies) (calls_of r) × (more ≡ request_exchanges caller turn moment r replies)
 
 -- the sink failed: it took a beginning of the texts of some first requests, all of whose calls were made
-pub record HasBroken (limits : Limits) (bytes left start taken : List ℕ) (notes : List Told → Type 0) (caller : ℕ) : Type 0 where
+pub record HasBroken (limits : Limits) (bytes left start taken : List ℕ) (notes : List Exchange → Type 0) (caller : ℕ) : Type 0 where
   pub answered : List Answered
   pub back : List Request
   pub read : HasRead limits bytes left (requests_of answered ++ back)
   pub whole : AreWhole answered
   pub texts : IsBeginning start taken (texts_of answered)
-  pub more : List Told
+  pub more : List Exchange
   pub part : ArePartOf back caller (turn_behind 0 answered) (moment_behind first_moment answered) more
-  pub calls : notes (all_told caller 0 first_moment answered ++ more)
+  pub calls : notes (all_exchanges caller 0 first_moment answered ++ more)
 
 -- what a run leaves, by how it ended: of these bytes so many are left, the sink took these behind those at the start,
 -- and this is known of the calls
-abbrev pub Leaves : Outcome → Limits → List ℕ → List ℕ → List ℕ → List ℕ → (List Told → Type 0) → ℕ → Type 0
+abbrev pub Leaves : Outcome → Limits → List ℕ → List ℕ → List ℕ → List ℕ → (List Exchange → Type 0) → ℕ → Type 0
 Leaves Done limits bytes left start taken notes caller = HasRun limits bytes start taken notes caller
 Leaves Input limits bytes left start taken notes caller = HasRunTo limits bytes left start taken notes caller
 Leaves Memory limits bytes left start taken notes caller =

@@ -3,13 +3,14 @@ ghost use Rattle.std.specs.Prelude.{Option, Some, IsSome, ◌≡◌, ◌≤◌, 
 ghost use Rattle.mc_item.specs.declared.fault.Fault.TheVariants as faults;
 ghost use Rattle.mc_item.specs.declared.reply.Reply.{Reply};
 ghost use Rattle.mc_script.specs.Calls.{Adds};
-ghost use Rattle.mc_script.specs.Script.{Told, told};
+ghost use Rattle.mc_script.specs.Script.{Exchange, exchange};
 
 use mc_item::{Command, Fault, Reply};
 use std::sync::Wait;
 
-/// A caller that makes calls, each in a turn of its own. What is known of its calls so far is a fact about their list:
-/// each call adds itself to it. Where it makes them stays as it is. When the next call may be made, each type says; after one that went well it may.
+/// A caller that makes calls, each in a turn of its own. What is known of its calls so far is a fact about the list of
+/// them with their replies: each call adds itself to it. Where it makes them stays as it is. When the next call may be
+/// made, each type says; after one that went well it may.
 pub trait Calls: Drop {
     ghost Place: { Type 0 };
 
@@ -19,7 +20,7 @@ pub trait Calls: Drop {
 
     ghost turn: { Self → ℕ };
 
-    ghost notes: { Self → List Told → Type 0 };
+    ghost notes: { Self → List Exchange → Type 0 };
 
     ghost last: { Self → Option Reply };
 
@@ -35,8 +36,8 @@ pub trait Calls: Drop {
         ensures place { place self.new ≡ place self.old }
         ensures caller { caller self.new ≡ caller self.old }
         ensures turn { OnOk result (turn self.new ≡ turn self.old + 1) }
-        ensures told { OnOk result ((reply : Reply) × (last self.new ≡ Some reply)
-            × Adds (notes self.old) (notes self.new) (told (caller self.old) (turn self.old) command moment reply ∷ [])) }
+        ensures ok { OnOk result ((reply : Reply) × (last self.new ≡ Some reply)
+            × Adds (notes self.old) (notes self.new) (exchange (caller self.old) (turn self.old) command moment reply ∷ [])) }
         ensures err { OnErr result (Adds (notes self.old) (notes self.new) []) }
         ensures full { IsErrOf result faults.HistoryFull → is_full self.new };
 

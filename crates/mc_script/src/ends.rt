@@ -6,7 +6,7 @@ use crate::source::{Source, SourceFault};
 use mc_proto::{Sink, SinkFault};
 
 /// Where a script's bytes come from and where its texts go. Contracts see the bytes to come and those that were taken,
-/// count failures of both sides, and how often the end was told. When the next piece may be asked for, each type says.
+/// count failures of both sides, and how often the end was reached. When the next piece may be asked for, each type says.
 pub trait Ends: Drop {
     ghost coming: { Self → List ℕ };
 

@@ -17,7 +17,7 @@ use std::alloc::Global;
 use std::sync::Wait;
 
 // How far the requests of a piece were answered.
-#[derive(Clone, Copy, Debug, PartialEq, Eq)]
+#[derive(Clone, Copy)]
 pub(crate) enum Progress {
     More,
     Ended,
@@ -165,7 +165,7 @@ fn answer_piece<E: Ends, C: Calls>(
 
 /// Runs a script: reads requests until the end of its bytes or one that ends the script, answers them, and prints
 /// their texts. The next piece is asked for only when the replies to all that came are out, nothing failed, the end was
-/// not told, and no request that came ends the script. After a call that failed none is made.
+/// not reached, and no request that came ends the script. After a call that failed none is made.
 pub fn run_script<E: Ends, C: Calls>(
     rt: &impl Wait,
     alloc: Global,

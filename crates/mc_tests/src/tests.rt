@@ -1,7 +1,11 @@
 //! What the tests run: the program over bytes in memory, and a script over pieces.
+mod asking;
 mod examples;
 mod failures;
+mod histories;
 mod pieces;
+mod places;
+mod plans;
 mod supplies;
 mod words;
 
@@ -40,7 +44,7 @@ fn seed_of<R: Abort + RandomSource>(rt: &R) -> RandomState {
     RandomState::new(rt).expect(rt, "random numbers")
 }
 
-// What the program answered, printed and told on standard error.
+// What the program answered, printed and said on standard error.
 #[derive(Drop)]
 struct Ran {
     status: u8,

@@ -204,7 +204,7 @@ static FAILURES: [Failure; 13] = [
         errors: "",
     },
     Failure {
-        name: "errors that nothing is told",
+        name: "errors to which nothing is said",
         fails: ERRORS,
         words: &["mcseg"],
         input: "get a|",

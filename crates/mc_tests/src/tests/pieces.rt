@@ -35,7 +35,7 @@ fn run_over<L: Ledger, R: Abort + Wait + RandomSource>(
     rt: &R,
     alloc: Global,
     config: Config,
-    input: &[u8],
+    source: Pieces<'_>,
     supply: Supply,
     blank: Blank,
 ) -> Ended
@@ -44,7 +44,6 @@ fn run_over<L: Ledger, R: Abort + Wait + RandomSource>(
     requires part { 0 < blank.parts }
     requires some { 0 < supply.taken }
 {
-    let source = Pieces::new(alloc, input, supply.piece, supply.read);
     let sink = Slow::<L>::new(alloc, supply.taken, supply.write, blank);
     let mut scripts = Vec::new(alloc);
     let _ = scripts.push((source, sink));
@@ -78,22 +77,21 @@ fn run_script<R: Abort + Wait + RandomSource>(
     requires { 0 < supply.taken }
 {
     let config = Config::usual(alloc, 3).expect(rt, "memory");
-    run_over::<Brand, R>(rt, alloc, config, input, supply, Blank::new(1))
+    let source = Pieces::new(alloc, input, supply.piece, supply.read);
+    run_over::<Brand, R>(rt, alloc, config, source, supply, Blank::new(1))
 }
 
-// A worked example in pieces of one size.
+// A worked example from a source of its bytes.
 fn run_example<R: Abort + Wait + RandomSource>(
     rt: &R,
     alloc: Global,
     example: &Example,
-    input: &[u8],
-    piece: usize,
+    source: Pieces<'_>,
 ) -> Ended {
     let Ok(plan) = read_words(alloc, example.words) else {
         panic!(rt; "words of {}", example.name);
     };
-    let supply = Supply { piece, ..WHOLE };
-    run_over::<Brand, R>(rt, alloc, plan.config, input, supply, Blank::new(1))
+    run_over::<Brand, R>(rt, alloc, plan.config, source, WHOLE, Blank::new(1))
 }
 
 static INPUT: &str =
@@ -131,11 +129,21 @@ fn no_cut_changes_a_worked_example(rt: HostRuntime) {
         let input = lines(&rt, rt.alloc(), example.input);
         let output = lines(&rt, rt.alloc(), example.output);
         for cut in 0..input.len() {
-            let ended = run_example(&rt, rt.alloc(), example, input.as_slice(), cut + 1);
+            let size = cut + 1;
+            let pieces = Pieces::new(rt.alloc(), input.as_slice(), size, None);
+            let small = run_example(&rt, rt.alloc(), example, pieces);
             assert_eq!(rt;
-                ended.output.as_slice(),
+                small.output.as_slice(),
                 output.as_slice(),
-                "{}, cut {cut}",
+                "{}, in pieces of {size}",
+                example.name
+            );
+            let halves = Pieces::cut_once(rt.alloc(), input.as_slice(), cut);
+            let once = run_example(&rt, rt.alloc(), example, halves);
+            assert_eq!(rt;
+                once.output.as_slice(),
+                output.as_slice(),
+                "{}, cut behind {cut}",
                 example.name
             );
         }
@@ -168,6 +176,32 @@ fn a_read_that_fails_ends_the_script(rt: HostRuntime) {
             output.as_slice().starts_with(ended.output.as_slice()),
             "at read {read}"
         );
+    }
+}
+
+// A read that would fail isn't asked for behind what ends the script. Without it the same read fails the script.
+#[test]
+fn a_read_behind_the_end_is_not_asked(rt: HostRuntime) {
+    for (text, outcome) in [
+        ("get a|quit  |get b|", Outcome::Done),
+        ("get a|%next |get b|", Outcome::Done),
+        ("get a|bogus |get b|", Outcome::Input),
+    ] {
+        let input = lines(&rt, rt.alloc(), text);
+        let supply = Supply {
+            piece: 15,
+            read: Some(1),
+            ..WHOLE
+        };
+        let ended = run_script(&rt, rt.alloc(), input.as_slice(), supply);
+        assert_eq!(rt; ended.outcome, Some(outcome), "{text}");
+        let printed = if outcome == Outcome::Done {
+            "END|"
+        } else {
+            "END|ERROR|"
+        };
+        let output = lines(&rt, rt.alloc(), printed);
+        assert_eq!(rt; ended.output.as_slice(), output.as_slice(), "{text}");
     }
 }
 

@@ -1,29 +1,47 @@
 //! Sources and sinks for tests: pieces of any size, one read that fails, one write that fails, slow sinks.
-ghost use Rattle.std.specs.Prelude.{◌≡◌, ◌+◌, ◌<◌, ◌≤◌};
+ghost use Rattle.std.specs.Prelude.{◌≡◌, ◌+◌, ◌<◌, ◌≤◌, [], false};
 
 use mc_driver::{Source, SourceFault};
 use mc_proto::{Sink, SinkFault, write_whole};
 use std::alloc::Global;
 use std::sync::ledger::{Blank, Book, Ledger, Share};
 
-/// A source of pieces of one size. The read of one number fails, once, where there is one.
+/// A source of a first piece of one size and further ones of another. The read of one number fails, once, where there
+/// is one.
 #[derive(Drop)]
 pub struct Pieces<'a> {
     alloc: Global,
-    rest: &'a [u8],
+    pub rest: &'a [u8],
     size: usize,
+    next: usize,
     reads: Option<u64>,
-    failed: bool,
+    pub failed: bool,
 }
 
 impl<'a> Pieces<'a> {
     /// These bytes, in pieces of this size.
-    pub fn new(alloc: Global, bytes: &'a [u8], size: usize, reads: Option<u64>) -> Pieces<'a> {
+    pub fn new(alloc: Global, bytes: &'a [u8], size: usize, reads: Option<u64>) -> Pieces<'a>
+        ensures bytes { result.rest.now ≡ bytes.now }
+        ensures fine { result.failed ≡ false }
+    {
         Pieces {
             alloc,
             rest: bytes,
             size,
+            next: size,
             reads,
+            failed: false,
+        }
+    }
+
+    /// These bytes, cut once, behind so many. No read fails.
+    pub fn cut_once(alloc: Global, bytes: &'a [u8], front: usize) -> Pieces<'a> {
+        Pieces {
+            alloc,
+            rest: bytes,
+            size: front,
+            next: bytes.len(),
+            reads: None,
             failed: false,
         }
     }
@@ -58,6 +76,7 @@ impl Source for Pieces<'_> {
         match Vec::from_slice(self.alloc, front) {
             Ok(piece) => {
                 self.rest = behind;
+                self.size = self.next;
                 Ok(Some(piece))
             }
             Err(_) => Ok(Some(Vec::new(self.alloc))),
@@ -136,6 +155,7 @@ impl<L: Ledger> Slow<L> {
         requires parts { blank.parts ≡ L.parts }
         requires part { 0 < blank.parts }
         requires some { 0 < size }
+        ensures { result.little.bytes.items ≡ [] }
     {
         let (book, share) = blank.open::<L>();
         Slow {

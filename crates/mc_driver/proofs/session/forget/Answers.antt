@@ -1,5 +1,5 @@
 use Rattle.mc_driver.proofs.NameLemmas.{lost_names_no_more}
-use Rattle.mc_driver.proofs.TellLemmas.{lost_is_not_dead}
+use Rattle.mc_driver.proofs.NoteLemmas.{lost_is_not_dead}
 use Rattle.mc_item.specs.declared.stripe_event.Cause.TheVariants.{Expired}
 use Rattle.mc_item.specs.declared.stripe_event.StripeEvent.TheVariants as events
 use Rattle.mc_stripe.specs.StripeCalls.{Gains}

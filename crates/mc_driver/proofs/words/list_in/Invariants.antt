@@ -1,6 +1,6 @@
 use Rattle.std.proofs.Common.{◌≡◌, ◌++◌, eqb, drop, length, map, Some}
 use Rattle.std.specs.List.{slice_split}
-use Rattle.mc_driver.specs.Words.{number_in}
+use Rattle.mc_item.specs.Measure.{number_in}
 use Rattle.mc_driver.proofs.words.list_in.Given as goal
 
 -- the numbers so far are those of the parts so far

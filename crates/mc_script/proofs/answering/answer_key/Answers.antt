@@ -5,7 +5,7 @@ use Rattle.mc_script.proofs.answering.answer_key.Goals as goal
 
 pub returns-in_err-push_value_tail-clause-err : goal.returns-in_err-push_value_tail-clause-err
 returns-in_err-push_value_tail-clause-err g c =
-    let told = c.in_ok-command.ensures.told in
+    let noted = c.in_ok-command.ensures.ok in
     let made : FailsKey faults.NoMemory c.args.key (g.C.Calls.caller c.args.calls.now) (g.C.Calls.turn c.args.calls.now) c.args.moment (g.C.Calls.notes c.args.calls.now) (g.C.Calls.notes c.command.new.self) =
-    record { replies = told.0 ∷ []; part = omega arith; calls = told.2 } in
+    record { replies = noted.0 ∷ []; part = omega arith; calls = noted.2 } in
     search rules

@@ -13,19 +13,19 @@ one_there x y same = cc
 
 pub returns-in_err-push_unless-clause-err : goal.returns-in_err-push_unless-clause-err
 returns-in_err-push_unless-clause-err g c =
-    let told = c.in_ok-command.ensures.told in
+    let noted = c.in_ok-command.ensures.ok in
     let made : Fails faults.NoMemory (requests.One c.args.command c.args.quiet) (g.C.Calls.caller c.args.calls.now) (g.C.Calls.turn c.args.calls.now) c.args.moment (g.C.Calls.notes c.args.calls.now) (g.C.Calls.notes c.command.new.self) =
-    record { replies = told.0 ∷ []; part = omega arith; calls = told.2 } in
+    record { replies = noted.0 ∷ []; part = omega arith; calls = noted.2 } in
     search rules
 
 pub returns-clause-ok : goal.returns-clause-ok
 returns-clause-ok g c =
-    let told = c.in_ok-command.ensures.told in
-    let same = one_there c.reply.result.now told.0 (sym c.reply.ensures ∙ told.1) in
+    let noted = c.in_ok-command.ensures.ok in
+    let same = one_there c.reply.result.now noted.0 (sym c.reply.ensures ∙ noted.1) in
     record {
-      replies = told.0 ∷ [];
+      replies = noted.0 ∷ [];
       long = refl;
       texts = c.in_ok-push_unless.ensures.ok ∙ ap (λ (r : Reply). c.args.text.now.items ++ (if c.args.quiet then [] else reply_text r)) same;
-      calls = told.2;
+      calls = noted.2;
       turns = c.in_ok-command.ensures.turn;
     }

@@ -1,4 +1,4 @@
--- The calls that a history notes, and what is printed for requests.
+-- The exchanges that a history notes, and items that went.
 use Rattle.std.proofs.Common.{◌≡◌, ℕ, List, [], ◌∷◌, ◌++◌, refl, sym, ap, ◌∙◌, append_assoc, subst, Bool}
 use Rattle.std.specs.Prelude.{nat_eq, Option, None, true, if◌then◌else◌}
 use Rattle.std.specs.Cmp.Lexicographic.{pointwise, nat_list_eq_equiv}
@@ -11,13 +11,13 @@ use Rattle.mc_item.specs.declared.stripe_event.StripeEvent.{StripeEvent}
 use Rattle.mc_item.specs.declared.stripe_event.StripeEvent.TheVariants as events
 use Rattle.mc_item.proofs.StripeLemmas.{cache_of-push}
 use Rattle.mc_stripe.specs.StripeState.{Stripe, cache_now}
-use Rattle.mc_script.specs.Script.{Told}
-use Rattle.mc_driver.specs.Noted.{told_in, calls_noted}
+use Rattle.mc_script.specs.Script.{Exchange}
+use Rattle.mc_driver.specs.Noted.{exchanges_in, exchanges_noted}
 
--- a longer history notes the calls of both parts
-pub told_in-append : (xs ys : List StripeEvent) → told_in (xs ++ ys) ≡ told_in xs ++ told_in ys
-told_in-append [] ys = refl
-told_in-append (x ∷ xs) ys = ap (λ (t : List Told). calls_noted x ++ t) (told_in-append xs ys) ∙ sym (append_assoc (calls_noted x) (told_in xs) (told_in ys))
+-- a longer history notes the exchanges of both parts
+pub exchanges_in-append : (xs ys : List StripeEvent) → exchanges_in (xs ++ ys) ≡ exchanges_in xs ++ exchanges_in ys
+exchanges_in-append [] ys = refl
+exchanges_in-append (x ∷ xs) ys = ap (λ (t : List Exchange). exchanges_noted x ++ t) (exchanges_in-append xs ys) ∙ sym (append_assoc (exchanges_noted x) (exchanges_in xs) (exchanges_in ys))
 
 -- an item that went is there no more
 pub lost_is_gone : (site : Site) (history : List StripeEvent) (lost : Lost) → (cache_of site (history ++ events.Lost lost ∷ [])).items lost.key ≡ None
