@@ -1,0 +1,15 @@
+pub mod OutcomeLemmas
+mod SettledLemmas
+mod KeepLemmas
+pub mod TailLemmas
+pub mod LengthLemmas
+pub mod GrowthLemmas
+pub mod WayLemmas
+pub mod RoundLemmas
+pub mod LoneLemmas
+mod PartLemmas
+mod PerformLemmas
+mod PlacedLemmas
+mod CallLemmas
+mod ClassPartLemmas
+mod PerformedLemmas

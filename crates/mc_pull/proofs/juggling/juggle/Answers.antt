@@ -1,0 +1,33 @@
+use Rattle.std.proofs.Common.{List, ◌++◌, Bool, refl, ap, ◌∙◌, sym, subst, append_assoc}
+use Rattle.mc_segment.specs.ClassState.{ClassView}
+use Rattle.mc_rule.specs.Segment.{Rule}
+use Rattle.mc_pull.specs.Juggle.{juggling, JugglesTemp, JugglesRounds}
+use Rattle.mc_pull.specs.Rounds.{rounds}
+use Rattle.mc_pull.specs.declared.looking.Answer.{Answer}
+use Rattle.mc_pull.proofs.juggling.juggle.Goals as goal
+
+pub returns-clause-juggle : goal.returns-clause-juggle
+returns-clause-juggle g c =
+    let old = c.args.class.now in
+    let mid = c.juggle_temp.new.class in
+    let after = c.juggle_rest.new.class in
+    let temp = c.in_ok-before.ensures.temp in
+    let rest = c.in_ok-sum.ensures.rest in
+    let between = juggling mid.history c.in_ok-before.before in
+    let end = juggling after.history c.in_ok-sum.sum in
+    let r = rounds old c.args.who c.args.moment c.args.config.now in
+    let rest_is = subst (λ (x : ClassView). JugglesRounds (rounds x c.args.who c.args.moment c.args.config.now) between rest.0 end) c.in_ok-before.ensures.grows.same rest.2 in
+    let temp_is = subst (λ (b : Bool). JugglesTemp r b old.history temp.0 between) (ap (λ (x : Rule). x.temp) (sym c.requires.config.rule)) temp.2 in (
+      temp.0 ++ rest.0,
+      rest.1 ∙ (ap (λ (ys : List Answer). ys ++ rest.0) temp.1 ∙ append_assoc _ temp.0 rest.0),
+      record {
+        temp = temp.0;
+        rest = rest.0;
+        between = between;
+        sum = c.in_ok-sum.sum;
+        temp_is = temp_is;
+        rest_is = rest_is;
+        moves_is = refl;
+        answers = refl;
+      },
+    )

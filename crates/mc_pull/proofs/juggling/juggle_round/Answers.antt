@@ -1,0 +1,48 @@
+use Rattle.std.proofs.Common.{List, ◌++◌, Bool, refl, ap, ◌∙◌, subst, append_assoc}
+use Rattle.mc_item.specs.declared.lists.Seg.TheVariants.{Cold}
+use Rattle.mc_segment.specs.ClassState.{ClassView}
+use Rattle.mc_pull.specs.declared.judge.Mode.TheVariants.{Plain}
+use Rattle.mc_pull.specs.declared.looking.Answer.{Answer}
+use Rattle.mc_pull.specs.declared.pulled.Pulled.{Pulled}
+use Rattle.mc_pull.specs.Juggle.{PullsWarm}
+use Rattle.mc_pull.specs.Pulled.{plus}
+use Rattle.mc_pull.specs.Rounds.{rounds}
+use Rattle.mc_pull.proofs.GrowthLemmas.{grows_both}
+use Rattle.mc_pull.specs.Walk.{pull, IsWalk}
+use Rattle.mc_pull.proofs.juggling.juggle_round.Goals as goal
+
+pub returns-clause-round : goal.returns-clause-round
+returns-clause-round g c =
+    let who = c.args.who in
+    let moment = c.args.moment in
+    let config = c.args.config.now in
+    let survey = c.args.survey in
+    let mid = c.pull_tail.new.class in
+    let next = c.pull_warm.new.class in
+    let last = c.pull_tail-2.new.class in
+    let hot = c.in_ok-hot.ensures.walk in
+    let warm = c.in_ok-warm.ensures.walk in
+    let cold = c.in_ok-cold.ensures.walk in
+    let grows = c.in_ok-hot.ensures.grows in
+    let later = grows_both _ mid next grows c.in_ok-warm.ensures.grows in
+    let warm_is = subst (λ (b : Bool). PullsWarm (rounds c.args.class.now who moment config) survey b mid.history warm.0 next.history c.in_ok-warm.warm) c.did_something-did.ensures
+    (subst (λ (x : ClassView). PullsWarm (rounds x who moment config) survey c.did_something-did.result mid.history warm.0 next.history c.in_ok-warm.warm) grows.same warm.2) in
+    let cold_is = subst (λ (x : ClassView). IsWalk (pull x Cold (Plain survey) who moment config) cold.0 last.history c.in_ok-cold.cold) later.same cold.2 in (
+      (hot.0 ++ warm.0) ++ cold.0,
+      cold.1 ∙ (ap (λ (ys : List Answer). ys ++ cold.0) (warm.1 ∙ (ap (λ (ys : List Answer). ys ++ warm.0) hot.1 ∙ append_assoc _ hot.0 warm.0)) ∙ append_assoc _ (hot.0 ++ warm.0) cold.0),
+      record {
+        hot = hot.0;
+        warm = warm.0;
+        cold = cold.0;
+        after_hot = mid.history;
+        after_warm = next.history;
+        of_hot = c.in_ok-hot.hot;
+        of_warm = c.in_ok-warm.warm;
+        of_cold = c.in_ok-cold.cold;
+        hot_is = hot.2;
+        warm_is = warm_is;
+        cold_is = cold_is;
+        sum_is = c.plus-2.ensures ∙ ap (λ (p : Pulled). plus p c.in_ok-cold.cold) c.plus.ensures;
+        answers = refl;
+      },
+    )

@@ -1,0 +1,23 @@
+use Rattle.std.proofs.Common.{List, ◌≡◌, ◌+◌, ◌-◌, ◌*◌, ◌≤◌, true}
+use Rattle.mc_item.specs.declared.class_event.ClassEvent.{ClassEvent}
+use Rattle.mc_pull.specs.declared.judge.Mode.TheVariants.{Plain}
+use Rattle.mc_pull.specs.Growth.{Grows}
+use Rattle.mc_pull.specs.Question.{IsClassOf, IsSurveyIn}
+use Rattle.mc_pull.specs.Juggle.{juggling, Adds}
+use Rattle.mc_pull.specs.Pulled.{none_pulled, sum_of}
+use Rattle.mc_pull.specs.Rounds.{rounds, Walks}
+use Rattle.mc_item.specs.declared.lists.Seg.TheVariants.{Temp}
+use Rattle.mc_pull.proofs.RoundLemmas.{OnRounds}
+use Rattle.mc_pull.specs.Walker.{walker_of}
+use Rattle.mc_pull.proofs.juggling.temp_rounds.Given as goal
+
+abbrev pub invariant-rounds : goal.invariant-rounds
+invariant-rounds g l =
+    OnRounds (Adds (Walks (rounds l.fn.class l.who l.moment l.config) Temp (Plain l.survey)) true) (g.G.Gate.answers l.fn.gate) (g.G.Gate.answers l.gate) (juggling l.fn.class.history none_pulled) (juggling l.class.history l.sum) (500 - l.left)
+    × (l.left ≤ 500) × (sum_of l.sum + 5 * l.left ≤ 2500) × Grows l.fn.class l.class
+    × IsSurveyIn l.class.history l.who l.moment l.survey × IsClassOf l.config l.class × g.G.Gate.serves l.gate l.config
+    × (g.G.Gate.reference l.gate ≡ g.G.Gate.reference l.fn.gate)
+    × ((first : g.row.G.Denot) (begun : List ClassEvent) → g.G.Gate.keeps (walker_of l.fn.class l.who l.moment) first begun l.fn.gate l.fn.class.history → g.G.Gate.keeps (walker_of l.fn.class l.who l.moment) first begun l.gate l.class.history)
+
+abbrev pub decreases-rounds : goal.decreases-rounds
+decreases-rounds g l = l.left

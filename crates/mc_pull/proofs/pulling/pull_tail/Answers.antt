@@ -1,0 +1,28 @@
+use Rattle.std.proofs.Common.{◌∙◌, sym, arith}
+use Rattle.mc_pull.proofs.GrowthLemmas.{may_later, class_later, kept_later}
+use Rattle.mc_pull.proofs.WayLemmas.{looked_on, looked_whole}
+use Rattle.mc_pull.proofs.pulling.pull_tail.Goals as goal
+
+pub looks-preserved : goal.looks-preserved
+looks-preserved g c =
+    let inv = c.looks.invariant in
+    let look = c.in_ok-answer.ensures.answer in
+    let made = c.in_ok-answer.ensures.class in
+    let grows = c.in_ok-answer.ensures.grows in (
+      looked_on c.in_ok-answer.answer inv.0 look.0 look.1 made grows.same c.counted-pulled.ensures c.looks-test.true (sym c.ends_with.ensures ∙ c.if-ends_with.false),
+      may_later c.looks.class c.look_next.new.class c.args.seg c.args.mode c.args.who c.args.moment grows inv.1,
+      class_later _ _ _ inv.2 grows,
+      c.in_ok-answer.ensures.serves,
+      c.in_ok-answer.ensures.holds ∙ inv.4,
+      λ h v k. kept_later g.G.Gate.keeps c.args.who c.args.moment c.args.class.now c.looks.class inv.0.grows _ _ _ _ c.in_ok-answer.ensures.kept h v (inv.5 h v k),
+    )
+
+pub returns-then-ends_with-clause-walk : goal.returns-then-ends_with-clause-walk
+returns-then-ends_with-clause-walk g c =
+    let inv = c.looks.invariant in
+    let look = c.in_ok-answer.ensures.answer in
+    let made = c.in_ok-answer.ensures.class in
+    looked_whole c.in_ok-answer.answer inv.0 look.0 look.1 made c.in_ok-answer.ensures.grows.same c.counted-pulled.ensures (sym c.ends_with.ensures ∙ c.if-ends_with.true)
+
+pub look_next-requires-clause-there : goal.look_next-requires-clause-there
+look_next-requires-clause-there g c = omega (arith, c.looks.invariant.0.enough, c.looks-test.true)

@@ -1,0 +1,25 @@
+use Rattle.std.proofs.Common.{◌≡◌, ◌-◌, suc, ◌∙◌, subst, arith}
+use Rattle.mc_segment.specs.ClassState.{ClassView}
+use Rattle.mc_pull.specs.Rounds.{rounds, IsRoomRound}
+use Rattle.mc_pull.proofs.RoundLemmas.{rounds_more}
+use Rattle.mc_pull.proofs.GrowthLemmas.{grows_both, class_later, kept_later}
+use Rattle.mc_pull.proofs.rounds.make_room.Goals as goal
+
+pub rounds-preserved : goal.rounds-preserved
+rounds-preserved g c =
+    let inv = c.rounds.invariant in
+    let made = c.in_ok-room_round.ensures in
+    let before = c.rounds.class in
+    let after = c.room_round.new.class in
+    let few = inv.1 in
+    let some = c.rounds-test.true in
+    let round = subst (λ (x : ClassView). IsRoomRound (rounds x c.args.who c.args.moment c.args.config.now) before.history made.round.0 after.history) inv.2.same made.round.2 in
+    let count : 10 - (c.rounds.left - 1) ≡ suc (10 - c.rounds.left) = omega (arith, few, some) in (
+      rounds_more made.round.0 inv.0 made.round.1 round count,
+      omega (arith, few),
+      grows_both _ before after inv.2 made.grows,
+      class_later c.args.config.now before after inv.3 made.grows,
+      made.serves,
+      made.holds ∙ inv.5,
+      λ h v k. kept_later g.G.Gate.keeps c.args.who c.args.moment c.args.class.now before inv.2 _ _ _ _ made.kept h v (inv.6 h v k),
+    )

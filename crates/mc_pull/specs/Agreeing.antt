@@ -1,0 +1,38 @@
+-- That steps on a class and a stripe keep what their histories are of each other.
+use Rattle.std.specs.Prelude.{ℕ, ◌≡◌, ◌≢◌, List, Some, slice_get}
+use Rattle.mc_item.specs.declared.class_event.ClassEvent.{ClassEvent}
+use Rattle.mc_item.specs.declared.class_event.ClassEvent.TheVariants as events
+use Rattle.mc_item.specs.declared.item.ClassNo.{ClassNo}
+use Rattle.mc_item.specs.declared.item.Who.{Who}
+use Rattle.mc_item.specs.declared.reply.Room.{Room}
+use Rattle.mc_item.specs.declared.reply.Room.TheVariants as rooms
+use Rattle.mc_rule.specs.Agreement.{Agree}
+use Rattle.mc_rule.specs.Segment.{Rule}
+use Rattle.mc_segment.specs.ClassState.{ClassView}
+use Rattle.mc_stripe.specs.StripeState.{Stripe}
+use Rattle.mc_pull.specs.Lent.{Each, EachPair}
+use Rattle.mc_pull.specs.Perform.{Call}
+
+-- the histories of a class and of a stripe agree
+abbrev pub AgreeNow : ClassView → Stripe → Type 0
+AgreeNow c s = Agree s.site c.rule c.number s.history c.history
+
+-- the histories agree still, where they agreed before: the class's with the stripe's, and each other class's, which gained nothing
+pub record KeepsAgreement (c c_new : ClassView) (s s_new : Stripe) : Type 0 where
+  pub own : AgreeNow c s → AgreeNow c_new s_new
+  pub others : (other : ClassNo) (rule : Rule) (history : List ClassEvent) → other ≢ c.number → Agree s.site rule other s.history history → Agree s.site rule other s_new.history history
+
+-- a refusal of this class that a room names is an event of this caller's call in the class's history
+abbrev pub HasRefusal : Who → Room → ClassNo → List ClassEvent → Type 0
+HasRefusal who room class history =
+    (place : ℕ) → room ≡ rooms.Refused class place → slice_get history place ≡ Some (events.Refused (record { who = who }))
+
+-- a number is that of none of these classes
+abbrev pub IsApart : ClassNo → List ClassView → Type 0
+IsApart number vs = Each (λ v. number ≢ v.number) vs
+
+-- the histories agree still after a call: that of each lent class with the stripe's, and that of each other class, which
+-- gained nothing and has the refusal that the call's room may name
+pub record KeepsAgreements (c : Call) (s s_new : Stripe) (vs ws : List ClassView) : Type 0 where
+  pub own : EachPair (λ v w. AgreeNow v s → AgreeNow w s_new) vs ws
+  pub others : (other : ClassNo) (rule : Rule) (history : List ClassEvent) → IsApart other vs → HasRefusal c.who c.room other history → Agree s.site rule other s.history history → Agree s.site rule other s_new.history history

@@ -1,0 +1,40 @@
+-- What is done with an entry, by its class and the cache of its key's stripe.
+use Rattle.std.specs.Prelude.{ℕ, ◌==◌, ◌&&◌, Bool, if◌then◌else◌, Option, Some, None}
+use Rattle.mc_item.specs.declared.item.ClassNo.{ClassNo}
+use Rattle.mc_item.specs.declared.item.Item.{Item}
+use Rattle.mc_item.specs.declared.lists.Entry.{Entry}
+use Rattle.mc_item.specs.Cache.{Cache}
+use Rattle.mc_item.specs.Item.{is_dead}
+use Rattle.mc_rule.specs.Lists.{Lists, lists_of}
+use Rattle.mc_rule.specs.Segment.{Rule}
+use Rattle.mc_segment.specs.ClassState.{ClassView}
+use Rattle.mc_segment.specs.Entries.{entry_of}
+use Rattle.mc_pull.specs.declared.judge.Judge.{Judge}
+use Rattle.mc_pull.specs.declared.judge.Judge.TheVariants.{Walk, Dead}
+use Rattle.mc_pull.specs.declared.judge.Done.{Done}
+use Rattle.mc_pull.specs.declared.judge.Done.TheVariants as done
+use Rattle.mc_pull.specs.Outcome.{is_due, outcome_of}
+use Rattle.mc_pull.specs.Question.{Question}
+
+-- the item has the chunk of this entry
+abbrev pub has_link : ClassNo → ℕ → Item → Bool
+has_link class number item = item.link.class.0 == class.0 && item.link.number == number
+
+-- what is done with an entry whose item this is
+abbrev pub done_by : Rule → Lists → ℕ → Judge → Entry → Item → Done
+done_by rule l moment (Walk s mode passed) e item = outcome_of s mode (is_dead item moment) item.marks.active (is_due rule l s mode moment e)
+done_by rule l moment Dead e item = if is_dead item moment then done.Reclaimed else done.Alive item.expiry
+
+-- the same, where the item of the entry's key may be absent or have another chunk
+abbrev pub done_if : ClassNo → ℕ → Option Item → (Item → Done) → Done
+done_if class number None made = done.Stranger
+done_if class number (Some item) made = if has_link class number item then made item else done.Stranger
+
+-- the same of an entry that may be absent
+abbrev pub done_with : ClassView → Cache → Question → Option Entry → Done
+done_with c cache q None = done.Stranger
+done_with c cache q (Some e) = done_if c.number q.number (cache.items e.key) (done_by c.rule (lists_of c.history) q.moment q.judge e)
+
+-- what is done with the entry that a question names
+abbrev pub done_of : ClassView → Cache → Question → Done
+done_of c cache q = done_with c cache q (entry_of q.number (lists_of c.history))

@@ -1,0 +1,103 @@
+-- How the lists of a class are juggled: rounds of walks by a survey.
+use Rattle.std.specs.Prelude.{ℕ, ◌≡◌, ◌<◌, ◌++◌, ◌⊎◌, List, [], ◌∷◌, Bool, true, false}
+use Rattle.mc_item.specs.declared.class_event.ClassEvent.{ClassEvent}
+use Rattle.mc_item.specs.declared.class_event.ClassEvent.TheVariants as events
+use Rattle.mc_item.specs.declared.class_event.Surveyed.{Surveyed}
+use Rattle.mc_item.specs.declared.counts.Moves.{Moves}
+use Rattle.mc_item.specs.declared.lists.Seg.TheVariants.{Hot, Warm, Cold, Temp}
+use Rattle.mc_segment.specs.declared.surveying.Survey.{Survey}
+use Rattle.mc_segment.specs.ClassCalls.{survey_of, surveyed_event}
+use Rattle.mc_pull.specs.declared.judge.Mode.TheVariants.{Plain}
+use Rattle.mc_pull.specs.declared.looking.Answer.{Answer}
+use Rattle.mc_pull.specs.declared.pulled.Pulled.{Pulled}
+use Rattle.mc_pull.specs.Pulled.{none_pulled, did_something, plus}
+use Rattle.mc_pull.specs.Rounds.{Rounds, Walks, Repeats}
+use Rattle.mc_pull.specs.Walk.{class_at}
+
+-- what was kept since any earlier gate and history is kept by a survey too
+abbrev pub KeepsSurveys : {S : Type 0} → (S → List ClassEvent → S → List ClassEvent → Type 0) → Type 0
+KeepsSurveys {S} keeps =
+    (first : S) (begun : List ClassEvent) (gate : S) (history : List ClassEvent) (survey : Surveyed) → keeps first begun gate history → keeps first begun gate (history ++ events.Surveyed survey ∷ [])
+
+-- the survey of a class with this history
+abbrev pub survey_at : Rounds → List ClassEvent → Survey
+survey_at r history = survey_of (class_at r.class history) r.moment
+
+-- a history once that survey was made
+abbrev pub history_surveyed : Rounds → List ClassEvent → List ClassEvent
+history_surveyed r history = history ++ surveyed_event (class_at r.class history) r.who r.moment ∷ []
+
+-- WARM is pulled only where HOT gave nothing
+abbrev pub PullsWarm : Rounds → Survey → Bool → List ClassEvent → List Answer → List ClassEvent → Pulled → Type 0
+PullsWarm r survey true before xs after pulled = (xs ≡ []) × (after ≡ before) × (pulled ≡ none_pulled)
+PullsWarm r survey false before xs after pulled = Walks r Warm (Plain survey) before xs after pulled
+
+-- a round by a survey: HOT is pulled; where that did nothing, WARM; and COLD once in every round
+pub record IsJuggleRound (r : Rounds) (survey : Survey) (before : List ClassEvent) (xs : List Answer) (after : List ClassEvent) (sum : Pulled) : Type 0 where
+  pub hot : List Answer
+  pub warm : List Answer
+  pub cold : List Answer
+  pub after_hot : List ClassEvent
+  pub after_warm : List ClassEvent
+  pub of_hot : Pulled
+  pub of_warm : Pulled
+  pub of_cold : Pulled
+  pub hot_is : Walks r Hot (Plain survey) before hot after_hot of_hot
+  pub warm_is : PullsWarm r survey (did_something of_hot) after_hot warm after_warm of_warm
+  pub cold_is : Walks r Cold (Plain survey) after_warm cold after of_cold
+  pub sum_is : sum ≡ plus (plus of_hot of_warm) of_cold
+  pub answers : xs ≡ (hot ++ warm) ++ cold
+
+-- where juggling is: the class's history, and the counts so far
+pub record Juggling : Type 0 where
+  pub history : List ClassEvent
+  pub pulled : Pulled
+
+-- where juggling is, by its parts
+abbrev pub juggling : List ClassEvent → Pulled → Juggling
+juggling history pulled = record { history = history; pulled = pulled }
+
+-- a step of juggling, from one history with these answers to another with these counts
+abbrev pub JuggleStep : Type 1
+JuggleStep = List ClassEvent → List Answer → List ClassEvent → Pulled → Type 0
+
+-- a step that did something, or nothing; its counts are added to those so far
+pub record Adds (Step : JuggleStep) (did : Bool) (a : Juggling) (xs : List Answer) (b : Juggling) : Type 0 where
+  pub sum : Pulled
+  pub made : Step a.history xs b.history sum
+  pub did_is : did_something sum ≡ did
+  pub count : b.pulled ≡ plus a.pulled sum
+
+-- the end of steps: after 500, or with one that did nothing
+abbrev pub Ends : JuggleStep → ℕ → Juggling → List Answer → Juggling → Type 0
+Ends Step times a xs b = ((times ≡ 500) × (xs ≡ []) × (b ≡ a)) ⊎ ((times < 500) × Adds Step false a xs b)
+
+-- at most 500 steps, until one did nothing
+pub record IsJuggled (Step : JuggleStep) (a : Juggling) (xs : List Answer) (b : Juggling) : Type 0 where
+  pub times : ℕ
+  pub between : Juggling
+  pub most : List Answer
+  pub last : List Answer
+  pub each : Repeats (Adds Step true) times a most between
+  pub end : Ends Step times between last b
+  pub answers : xs ≡ most ++ last
+
+-- TEMP's part of juggling: where TEMP is in use, a survey and at most 500 walks; else nothing
+abbrev pub JugglesTemp : Rounds → Bool → List ClassEvent → List Answer → Juggling → Type 0
+JugglesTemp r false before xs b = (xs ≡ []) × (b ≡ juggling before none_pulled)
+JugglesTemp r true before xs b = IsJuggled (Walks r Temp (Plain (survey_at r before))) (juggling (history_surveyed r before) none_pulled) xs b
+
+-- the other part: a survey and at most 500 rounds, whose counts are added to those so far
+abbrev pub JugglesRounds : Rounds → Juggling → List Answer → Juggling → Type 0
+JugglesRounds r a xs b = IsJuggled (IsJuggleRound r (survey_at r a.history)) (juggling (history_surveyed r a.history) a.pulled) xs b
+
+-- juggling: TEMP's part, then the rounds; what was reclaimed and moved is summed over all walks
+pub record IsJuggle (r : Rounds) (before : List ClassEvent) (xs : List Answer) (after : List ClassEvent) (moves : Moves) : Type 0 where
+  pub temp : List Answer
+  pub rest : List Answer
+  pub between : Juggling
+  pub sum : Pulled
+  pub temp_is : JugglesTemp r r.class.rule.temp before temp between
+  pub rest_is : JugglesRounds r between rest (juggling after sum)
+  pub moves_is : moves ≡ record { reclaimed = sum.reclaimed; moved = sum.moved }
+  pub answers : xs ≡ temp ++ rest

@@ -1,0 +1,41 @@
+-- What a gate answers, and what its answer does to the class.
+use Rattle.std.specs.Prelude.{ℕ, ◌≡◌, List, [], Option, Some, None, length}
+use Rattle.mc_item.specs.declared.class_event.ClassEvent.{ClassEvent}
+use Rattle.mc_item.specs.declared.config.Config.{Config}
+use Rattle.mc_item.specs.declared.item.StripeNo.{StripeNo}
+use Rattle.mc_item.specs.Stripe.{IsLegal}
+use Rattle.mc_segment.specs.ClassState.{ClassView}
+use Rattle.mc_stripe.specs.StripeState.{Stripe, cache_now}
+use Rattle.mc_pull.specs.declared.judge.Done.{Done}
+use Rattle.mc_pull.specs.declared.looking.Answer.{Answer}
+use Rattle.mc_pull.specs.declared.looking.Judged.{Judged}
+use Rattle.mc_pull.specs.Judgement.{done_of}
+use Rattle.mc_pull.specs.Question.{Question, IsStripeOf}
+use Rattle.mc_pull.specs.Settled.{class_events}
+
+-- what was done, with a stripe that had so many events
+abbrev pub judgement : Done → ℕ → Judged
+judgement made at = record { done = made; at = at }
+
+-- an answer by its parts
+abbrev pub answer : StripeNo → Option Judged → Answer
+answer stripe judged = record { stripe = stripe; judged = judged }
+
+-- the events of the class after an answer: none where the stripe was not had
+abbrev pub events_if : ClassView → Question → Option Judged → List ClassEvent
+events_if c q None = []
+events_if c q (Some j) = class_events c q j.at j.done
+
+-- what was done is what a state of this stripe tells: one with so many events, made with this configuration
+pub record IsJudged (config : Config) (number : StripeNo) (c : ClassView) (q : Question) (j : Judged) : Type 0 where
+  pub stripe : Stripe
+  pub legal : IsLegal stripe.site stripe.history
+  pub of : IsStripeOf config stripe
+  pub number_is : stripe.site.stripe ≡ number.0
+  pub at_is : j.at ≡ length stripe.history
+  pub done_is : j.done ≡ done_of c (cache_now stripe) q
+
+-- the same, where the stripe was had
+abbrev pub IsJudgedIf : Config → StripeNo → ClassView → Question → Option Judged → Type 0
+IsJudgedIf config number c q None = Unit {0}
+IsJudgedIf config number c q (Some j) = IsJudged config number c q j

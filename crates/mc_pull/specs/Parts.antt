@@ -1,0 +1,114 @@
+-- A class's part of a command: which of its entries come, go or move, and the events of that.
+use Rattle.std.specs.Prelude.{ℕ, ◌≡◌, ◌==◌, ◌&&◌, ◌<◌, ◌≤◌, ◌+◌, ◌^◌, nat_eq, length, List, [], ◌∷◌, Bool, true, false, if◌then◌else◌, Option, Some, None}
+use Rattle.std.specs.Cmp.Lexicographic.{pointwise}
+use Rattle.mc_item.specs.declared.class_event.ClassEvent.{ClassEvent}
+use Rattle.mc_item.specs.declared.class_event.Why.TheVariants as whys
+use Rattle.mc_item.specs.declared.fault.Fault.{Fault}
+use Rattle.mc_item.specs.declared.fault.Fault.TheVariants.{NoMemory, HistoryFull}
+use Rattle.mc_item.specs.declared.item.Expiry.{Expiry}
+use Rattle.mc_item.specs.declared.item.Link.{Link}
+use Rattle.mc_item.specs.declared.item.Who.{Who}
+use Rattle.mc_item.specs.declared.lists.Entry.{Entry}
+use Rattle.mc_item.specs.declared.lists.Seg.{Seg}
+use Rattle.mc_item.specs.declared.lists.Seg.TheVariants.{Hot, Warm, Cold, Temp}
+use Rattle.mc_item.specs.declared.reply.Room.{Room}
+use Rattle.mc_item.specs.declared.reply.Room.TheVariants as rooms
+use Rattle.mc_rule.specs.Lists.{lists_of, count_of, segment_of}
+use Rattle.mc_rule.specs.Lawful.{IsListed}
+use Rattle.mc_segment.specs.ClassState.{ClassView}
+use Rattle.mc_segment.specs.ClassCalls.{linked_event, unlinked_event, shifted_event}
+use Rattle.mc_segment.specs.Entries.{entry_of}
+use Rattle.mc_stripe.specs.declared.fate.Fate.{Fate}
+use Rattle.mc_stripe.specs.declared.fate.Fate.TheVariants as fates
+use Rattle.mc_pull.specs.declared.parts.Part.{Part}
+use Rattle.mc_pull.specs.declared.parts.Part.TheVariants as parts
+
+-- an entry is there, and of this key
+abbrev pub is_for : List ℕ → Option Entry → Bool
+is_for key None = false
+is_for key (Some e) = pointwise nat_eq e.key key
+
+-- the number of a link of this class, where the class has an entry of that number and this key
+abbrev pub number_in : ClassView → List ℕ → Option Link → Option ℕ
+number_in c key None = None
+number_in c key (Some link) = if link.class.0 == c.number.0 && is_for key (entry_of link.number (lists_of c.history)) then Some link.number else None
+
+-- a room is a link of this class
+abbrev pub is_here : ClassView → Room → Bool
+is_here c (rooms.At link) = link.class.0 == c.number.0
+is_here c (rooms.Refused class place) = false
+is_here c rooms.Keep = false
+
+-- a segment is COLD
+abbrev pub is_cold : Option Seg → Bool
+is_cold None = false
+is_cold (Some Hot) = false
+is_cold (Some Warm) = false
+is_cold (Some Cold) = true
+is_cold (Some Temp) = false
+
+-- a new version: its entry comes where its link is of this class, and the old entry goes where it is in this class
+abbrev pub new_part : List ℕ → ℕ → Expiry → Bool → Option ℕ → Part
+new_part key cost expiry true None = parts.Links key cost expiry
+new_part key cost expiry true (Some number) = parts.Renews key cost expiry number
+new_part key cost expiry false None = parts.Nothing
+new_part key cost expiry false (Some number) = parts.Unlinks number
+
+-- the entry goes, where it is in this class
+abbrev pub gone_part : Option ℕ → Part
+gone_part None = parts.Nothing
+gone_part (Some number) = parts.Unlinks number
+
+-- the entry goes to WARM, where it lies in COLD
+abbrev pub hit_part : ClassView → Option ℕ → Part
+hit_part c None = parts.Nothing
+hit_part c (Some number) = if is_cold (segment_of number (lists_of c.history)) then parts.Warms number else parts.Nothing
+
+-- a class's part of a command of this key, by the room that it is given and what becomes of chunks
+abbrev pub part_for : ClassView → List ℕ → Room → Fate → Part
+part_for c key room fates.Untouched = parts.Nothing
+part_for c key room (fates.Renewed cost expiry old) = new_part key cost expiry (is_here c room) (number_in c key old)
+part_for c key room (fates.Goes link) = gone_part (number_in c key (Some link))
+part_for c key room (fates.Woken link) = hit_part c (number_in c key (Some link))
+
+-- the events of a part, the new entry first, where the key's stripe has `at` events once it has the command's
+abbrev pub part_events : ClassView → Who → ℕ → ℕ → Part → List ClassEvent
+part_events c who moment at parts.Nothing = []
+part_events c who moment at (parts.Links key cost expiry) = linked_event c who key cost moment expiry ∷ []
+part_events c who moment at (parts.Renews key cost expiry number) = linked_event c who key cost moment expiry ∷ unlinked_event who number ∷ []
+part_events c who moment at (parts.Unlinks number) = unlinked_event who number ∷ []
+part_events c who moment at (parts.Warms number) = shifted_event who number Warm whys.Hit moment [] at Cold ∷ []
+
+-- how many events that is
+abbrev pub places_of : Part → ℕ
+places_of parts.Nothing = 0
+places_of (parts.Links key cost expiry) = 1
+places_of (parts.Renews key cost expiry number) = 2
+places_of (parts.Unlinks number) = 1
+places_of (parts.Warms number) = 1
+
+-- a part moves an entry to WARM
+abbrev pub is_warming : Part → Bool
+is_warming parts.Nothing = false
+is_warming (parts.Links key cost expiry) = false
+is_warming (parts.Renews key cost expiry number) = false
+is_warming (parts.Unlinks number) = false
+is_warming (parts.Warms number) = true
+
+-- a new entry may come: a chunk is free, and the cost is one that a class may hold
+pub record MayLink (c : ClassView) (bytes : ℕ) : Type 0 where
+  pub free : count_of (lists_of c.history) < c.chunks
+  pub few : bytes ≤ 2 ^ 20
+
+-- the events of a part may come
+abbrev pub MayMake : ClassView → Part → Type 0
+MayMake c parts.Nothing = Unit {0}
+MayMake c (parts.Links key cost expiry) = MayLink c cost
+MayMake c (parts.Renews key cost expiry number) = MayLink c cost × IsListed number (lists_of c.history)
+MayMake c (parts.Unlinks number) = IsListed number (lists_of c.history)
+MayMake c (parts.Warms number) = segment_of number (lists_of c.history) ≡ Some Cold
+
+-- the fault that may be answered where this part is to be made: a full history only where it has no places for just that
+abbrev pub MayRefusePart : ClassView → Part → Fault → Type 0
+MayRefusePart c part HistoryFull = c.max_events < length c.history + places_of part
+MayRefusePart c part NoMemory = Unit {0}

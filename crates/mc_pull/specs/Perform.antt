@@ -1,0 +1,82 @@
+-- One command on a stripe and the classes that it is lent: when it may be made.
+use Rattle.std.specs.Prelude.{ℕ, ◌≡◌, ◌<◌, ◌≤◌, ◌^◌, List, true, Option, Some, slice_get}
+use Rattle.mc_item.specs.declared.answer.Answer.{Answer}
+use Rattle.mc_item.specs.declared.class_event.ClassEvent.TheVariants as class_events
+use Rattle.mc_item.specs.declared.command.Command.{Command}
+use Rattle.mc_item.specs.declared.config.Config.{Config}
+use Rattle.mc_item.specs.declared.item.Item.{Item}
+use Rattle.mc_item.specs.declared.item.Who.{Who}
+use Rattle.mc_item.specs.declared.reply.Room.{Room}
+use Rattle.mc_item.specs.declared.reply.Room.TheVariants as rooms
+use Rattle.mc_item.specs.Answer.{row_of}
+use Rattle.mc_item.specs.Cache.{answer_of}
+use Rattle.mc_item.specs.Command.{key_of}
+use Rattle.mc_item.specs.Measure.{stripe_of}
+use Rattle.mc_item.specs.Stripe.{Fits, IsAlive, link_of}
+use Rattle.mc_rule.specs.Lists.{lists_of, links_of, count_of}
+use Rattle.mc_segment.specs.ClassState.{ClassView}
+use Rattle.mc_stripe.specs.declared.fate.Fate.{Fate}
+use Rattle.mc_stripe.specs.declared.fate.Fate.TheVariants as fates
+use Rattle.mc_stripe.specs.Plan.{fate_of}
+use Rattle.mc_stripe.specs.StripeState.{Stripe, cache_now}
+use Rattle.mc_pull.specs.Lent.{Each, AreRising, IsLent, IsLentIf}
+use Rattle.mc_pull.specs.Parts.{is_here}
+use Rattle.mc_pull.specs.Question.{IsClassOf, IsStripeOf}
+
+-- a call: who makes it, the command, its moment and the room that it is given
+pub record Call : Type 0 where
+  pub who : Who
+  pub command : Command
+  pub moment : ℕ
+  pub room : Room
+
+-- a call by its parts
+abbrev pub call : Who → Command → ℕ → Room → Call
+call who command moment room = record { who = who; command = command; moment = moment; room = room }
+
+-- the item of the command's key, before it
+abbrev pub item_before : Stripe → Call → Option Item
+item_before s c = (cache_now s).items (key_of c.command)
+
+-- what the command's row answers
+abbrev pub answer_to : Stripe → Call → Answer
+answer_to s c = answer_of s.site (cache_now s) c.command c.moment c.room
+
+-- what becomes of the key's chunks
+abbrev pub fate_for : Stripe → Call → Fate
+fate_for s c = fate_of (key_of c.command) (item_before s c) (answer_to s c).change
+
+-- the room names the class as it is: a link of it has its next number, and a refusal is an event of this caller's call
+abbrev pub IsRoomOf : Who → Room → ClassView → Type 0
+IsRoomOf who (rooms.At link) v = link.class ≡ v.number → link.number ≡ links_of v.history
+IsRoomOf who (rooms.Refused class place) v = class ≡ v.number → slice_get v.history place ≡ Some (class_events.Refused (record { who = who }))
+IsRoomOf who rooms.Keep v = Unit {0}
+
+-- a class gives the room: where it is a link of this class, a chunk is free
+pub record GivesRoom (who : Who) (room : Room) (v : ClassView) : Type 0 where
+  pub free : is_here v room ≡ true → count_of (lists_of v.history) < v.chunks
+  pub named : IsRoomOf who room v
+
+-- the classes that a command needs are lent: that of its new version, that of an item that goes or is replaced, that of
+-- one that a hit makes ACTIVE
+abbrev pub AreLent : List ClassView → Room → Fate → Type 0
+AreLent vs room fates.Untouched = Unit {0}
+AreLent vs room (fates.Renewed cost expiry old) = IsLentIf vs (link_of room) × IsLentIf vs old
+AreLent vs room (fates.Goes link) = IsLent vs link
+AreLent vs room (fates.Woken link) = IsLent vs link
+
+-- a command may be answered by a stripe: its key is of this stripe and has no dead item, and the room fits its need
+pub record MayAnswer (s : Stripe) (c : Call) : Type 0 where
+  pub stripe : stripe_of (key_of c.command) s.site.stripes ≡ record { 0 = s.site.stripe }
+  pub moment : c.moment ≤ 2 ^ 62
+  pub alive : IsAlive (item_before s c) c.moment
+  pub fits : Fits (row_of s.site (cache_now s).versions (item_before s c) c.command c.moment).need c.room s.history
+
+-- a command may be made on a stripe and these classes
+pub record MayPerform (config : Config) (s : Stripe) (c : Call) (vs : List ClassView) : Type 0 where
+  pub answer : MayAnswer s c
+  pub made_with : IsStripeOf config s
+  pub classes : Each (IsClassOf config) vs
+  pub rising : AreRising vs
+  pub rooms : Each (GivesRoom c.who c.room) vs
+  pub lent : AreLent vs c.room (fate_for s c)

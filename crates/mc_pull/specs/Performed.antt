@@ -1,0 +1,84 @@
+-- One command on a stripe and the classes that it is lent: the events of all of them, and the faults that it may answer.
+use Rattle.std.specs.Prelude.{ℕ, ◌≡◌, ◌<◌, ◌+◌, ◌++◌, ◌⊎◌, ◌||◌, List, [], ◌∷◌, Bool, true, false, length}
+use Rattle.mc_item.specs.declared.class_event.ClassEvent.{ClassEvent}
+use Rattle.mc_item.specs.declared.fault.Fault.{Fault}
+use Rattle.mc_item.specs.declared.fault.Fault.TheVariants.{NoMemory, HistoryFull}
+use Rattle.mc_item.specs.declared.item.Who.{Who}
+use Rattle.mc_item.specs.declared.stripe_event.StripeEvent.{StripeEvent}
+use Rattle.mc_item.specs.declared.stripe_event.StripeEvent.TheVariants as stripe_events
+use Rattle.mc_item.specs.Command.{key_of}
+use Rattle.mc_segment.specs.ClassState.{ClassView, with_room}
+use Rattle.mc_stripe.specs.StripeState.{Stripe}
+use Rattle.mc_pull.specs.declared.parts.Part.{Part}
+use Rattle.mc_pull.specs.Lent.{EachPair}
+use Rattle.mc_pull.specs.Parts.{part_for, part_events, places_of, is_warming}
+use Rattle.mc_pull.specs.Perform.{Call, answer_to, fate_for}
+use Rattle.mc_pull.specs.Settled.{class_with, cooled_event}
+
+-- a class's part of a call
+abbrev pub part_in : Stripe → Call → ClassView → Part
+part_in s c v = part_for v (key_of c.command) c.room (fate_for s c)
+
+-- the events that a call makes in a class: one of COLD that a hit moves names the place of its partner behind the command's event
+abbrev pub events_in : Stripe → Call → ClassView → List ClassEvent
+events_in s c v = part_events v c.who c.moment (length s.history + 1) (part_in s c v)
+
+-- one of the classes moves the entry of the item that was hit
+abbrev pub is_cooling : Stripe → Call → List ClassView → Bool
+is_cooling s c [] = false
+is_cooling s c (v ∷ vs) = is_warming (part_in s c v) || is_cooling s c vs
+
+-- the mark of a hit that moved an entry is cleared
+abbrev pub cooled_if : Who → List ℕ → Bool → List StripeEvent
+cooled_if who key true = cooled_event who key ∷ []
+cooled_if who key false = []
+
+-- how many events that is
+abbrev pub one_if : Bool → ℕ
+one_if true = 1
+one_if false = 0
+
+-- the command's event
+abbrev pub did_event : Stripe → Call → StripeEvent
+did_event s c = stripe_events.Did (record { who = c.who; command = c.command; moment = c.moment; reply = (answer_to s c).reply; room = c.room })
+
+-- the command's event, and behind it the partner of an entry's move by its hit
+abbrev pub events_on_stripe : Stripe → Call → Bool → List StripeEvent
+events_on_stripe s c cooling = did_event s c ∷ cooled_if c.who (key_of c.command) cooling
+
+-- a class has the events of its part more
+abbrev pub GainsPart : Stripe → Call → ClassView → ClassView → Type 0
+GainsPart s c v w = w ≡ class_with v (events_in s c v) w.room
+
+-- a class is as it was but for its room
+abbrev pub Stays : ClassView → ClassView → Type 0
+Stays v w = w ≡ with_room v w.room
+
+-- a command was made: just its events stand at the ends of all histories
+pub record IsPerformed (s s_new : Stripe) (c : Call) (vs ws : List ClassView) : Type 0 where
+  pub stripe : s_new.history ≡ s.history ++ events_on_stripe s c (is_cooling s c vs)
+  pub classes : EachPair (GainsPart s c) vs ws
+
+-- nothing was made
+pub record IsUntouched (s s_new : Stripe) (vs ws : List ClassView) : Type 0 where
+  pub stripe : s_new.history ≡ s.history
+  pub classes : EachPair Stays vs ws
+
+-- the stripe has no place for just the command's events
+abbrev pub IsStripeFull : Stripe → Bool → Type 0
+IsStripeFull s cooling = s.limit < length s.history + (1 + one_if cooling)
+
+-- a class has no place for just its part of the command
+abbrev pub IsAnyFull : Stripe → Call → List ClassView → Type 0
+IsAnyFull s c [] = ⊥
+IsAnyFull s c (v ∷ vs) = (v.max_events < length v.history + places_of (part_in s c v)) ⊎ IsAnyFull s c vs
+
+-- the fault that may be answered: a full history only where one has no place for just what this command makes
+abbrev pub MayRefuseCall : Stripe → Call → List ClassView → Fault → Type 0
+MayRefuseCall s c vs HistoryFull = IsStripeFull s (is_cooling s c vs) ⊎ IsAnyFull s c vs
+MayRefuseCall s c vs NoMemory = Unit {0}
+
+-- the same of the stripe alone
+abbrev pub MayRefuseStripe : Stripe → Bool → Fault → Type 0
+MayRefuseStripe s cooling HistoryFull = IsStripeFull s cooling
+MayRefuseStripe s cooling NoMemory = Unit {0}

@@ -1,0 +1,87 @@
+-- What is asked of an entry, and when it may be asked.
+use Rattle.std.specs.Prelude.{ℕ, ◌≡◌, List, Some, slice_get}
+use Rattle.mc_item.specs.declared.class_event.ClassEvent.{ClassEvent}
+use Rattle.mc_item.specs.declared.class_event.ClassEvent.TheVariants as events
+use Rattle.mc_item.specs.declared.config.Config.{Config}
+use Rattle.mc_item.specs.declared.item.Who.{Who}
+use Rattle.mc_item.specs.declared.lists.Seg.{Seg}
+use Rattle.mc_item.specs.declared.lists.Seg.TheVariants.{Hot, Cold}
+use Rattle.mc_item.specs.Config.{IsBounded}
+use Rattle.mc_rule.specs.Lists.{list_of, lists_of, IsFull}
+use Rattle.mc_rule.specs.Segment.{rule_of, IsNearTail}
+use Rattle.mc_rule.specs.Lawful.{IsIn, IsListed}
+use Rattle.mc_segment.specs.declared.surveying.Survey.{Survey}
+use Rattle.mc_segment.specs.ClassState.{ClassView, chunks_for}
+use Rattle.mc_stripe.specs.StripeState.{Stripe}
+use Rattle.mc_pull.specs.declared.judge.Ask.{Ask}
+use Rattle.mc_pull.specs.declared.judge.Mode.{Mode}
+use Rattle.mc_pull.specs.declared.judge.Mode.TheVariants.{Plain, Evict, Force}
+use Rattle.mc_pull.specs.declared.judge.Judge.{Judge}
+use Rattle.mc_pull.specs.declared.judge.Judge.TheVariants.{Walk, Dead}
+
+-- what is asked: by whom, of which entry, how, and at which moment
+pub record Question : Type 0 where
+  pub who : Who
+  pub number : ℕ
+  pub judge : Judge
+  pub moment : ℕ
+
+-- a question by its parts
+abbrev pub question : Who → ℕ → Judge → ℕ → Question
+question who number judge moment = record { who = who; number = number; judge = judge; moment = moment }
+
+-- the question that is put
+abbrev pub question_of : Ask → Question
+question_of ask = question ask.who ask.number ask.judge.now ask.moment
+
+-- the class was made with this configuration, which was checked
+pub record IsClassOf (config : Config) (c : ClassView) : Type 0 where
+  pub bounded : IsBounded config
+  pub chunks : c.chunks ≡ chunks_for config c.number
+  pub max_events : c.max_events ≡ config.max_events
+  pub rule : c.rule ≡ rule_of config
+
+-- the stripe was made with this configuration
+pub record IsStripeOf (config : Config) (s : Stripe) : Type 0 where
+  pub stripes : s.site.stripes ≡ config.stripes
+  pub sizes : s.site.sizes ≡ config.sizes
+  pub limit : s.limit ≡ config.max_events
+
+-- the survey is the event at its place of this history, by this caller's call and of this moment
+abbrev pub IsSurveyIn : List ClassEvent → Who → ℕ → Survey → Type 0
+IsSurveyIn history who moment survey =
+    slice_get history survey.place ≡ Some (events.Surveyed (record { who = who; moment = moment; total = survey.total; cold_age = survey.cold_age }))
+
+-- a list may be walked so: by a survey that is the class's own; or to take an entry of COLD, or to force one out of HOT
+abbrev pub MayWalk : ClassView → Seg → Mode → Who → ℕ → Type 0
+MayWalk c s (Plain survey) who moment = IsSurveyIn c.history who moment survey
+MayWalk c s Evict who moment = s ≡ Cold
+MayWalk c s Force who moment = s ≡ Hot
+
+-- an entry is taken or forced of a full class alone
+abbrev pub IsFullFor : ClassView → Mode → Type 0
+IsFullFor c (Plain survey) = Unit {0}
+IsFullFor c Evict = IsFull c.chunks (lists_of c.history)
+IsFullFor c Force = IsFull c.chunks (lists_of c.history)
+
+-- an entry may be judged on a walk: it is in the list, with just those that were passed behind it, and the mode fits
+pub record MayJudgeOn (c : ClassView) (who : Who) (number moment : ℕ) (s : Seg) (mode : Mode) (passed : List ℕ) : Type 0 where
+  pub listed : IsIn s number (lists_of c.history)
+  pub near : IsNearTail number (list_of (lists_of c.history) s) passed
+  pub walk : MayWalk c s mode who moment
+  pub full : IsFullFor c mode
+
+-- an entry may be judged so: on a walk, or for whether its item is dead wherever it is in a list
+abbrev pub MayJudgeBy : ClassView → Who → ℕ → ℕ → Judge → Type 0
+MayJudgeBy c who number moment (Walk s mode passed) = MayJudgeOn c who number moment s mode passed
+MayJudgeBy c who number moment Dead = IsListed number (lists_of c.history)
+
+-- a question may be put to a class
+abbrev pub MayJudge : ClassView → Question → Type 0
+MayJudge c q = MayJudgeBy c q.who q.number q.moment q.judge
+
+-- what is asked may be asked of this class and this stripe
+pub record IsAsked (c : ClassView) (s : Stripe) (ask : Ask) : Type 0 where
+  pub class : IsClassOf ask.config.now c
+  pub stripe : IsStripeOf ask.config.now s
+  pub judge : MayJudge c (question_of ask)

@@ -1,0 +1,39 @@
+-- The faults that a judgement may answer.
+use Rattle.std.specs.Prelude.{◌<◌, ◌≤◌, ◌⊎◌, length}
+use Rattle.mc_item.specs.declared.fault.Fault.{Fault}
+use Rattle.mc_item.specs.declared.fault.Fault.TheVariants.{NoMemory, HistoryFull}
+use Rattle.mc_segment.specs.ClassState.{ClassView, HasPlaces, MayRefuse}
+use Rattle.mc_stripe.specs.StripeState.{Stripe}
+use Rattle.mc_pull.specs.declared.judge.Done.{Done}
+use Rattle.mc_pull.specs.declared.judge.Done.TheVariants as done
+
+-- both histories have a place for one event more
+pub record HavePlaces (c : ClassView) (s : Stripe) : Type 0 where
+  pub class : HasPlaces c 1
+  pub stripe : length s.history < s.limit
+
+-- the fault that may be answered where an event of each history is to be made: a full history is told of first
+abbrev pub MayRefuseBoth : ClassView → Stripe → Fault → Type 0
+MayRefuseBoth c s HistoryFull = (c.max_events ≤ length c.history) ⊎ (s.limit ≤ length s.history)
+MayRefuseBoth c s NoMemory = HavePlaces c s
+
+-- the fault that may be answered where this is to be done: none where no event is to be made
+abbrev pub MayRefuseFor : ClassView → Stripe → Done → Fault → Type 0
+MayRefuseFor c s done.Reclaimed fault = MayRefuseBoth c s fault
+MayRefuseFor c s done.ToWarm fault = MayRefuseBoth c s fault
+MayRefuseFor c s done.WithinWarm fault = MayRefuseBoth c s fault
+MayRefuseFor c s done.Evicted fault = MayRefuseBoth c s fault
+MayRefuseFor c s done.ToCold fault = MayRefuse c 1 fault
+MayRefuseFor c s done.Stayed fault = ⊥
+MayRefuseFor c s (done.Alive expiry) fault = ⊥
+MayRefuseFor c s done.Stranger fault = ⊥
+
+-- the fault that may be answered by a call that makes events of a class and a stripe: a full history only where one is
+abbrev pub MayFail : ClassView → Stripe → Fault → Type 0
+MayFail c s HistoryFull = (c.max_events ≤ length c.history) ⊎ (s.limit ≤ length s.history)
+MayFail c s NoMemory = Unit {0}
+
+-- the same of a call that makes events of a class alone
+abbrev pub MayFailAlone : ClassView → Fault → Type 0
+MayFailAlone c HistoryFull = c.max_events ≤ length c.history
+MayFailAlone c NoMemory = Unit {0}

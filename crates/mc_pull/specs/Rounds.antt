@@ -1,0 +1,64 @@
+-- Rounds of walks, and how room is made in a full class.
+use Rattle.std.specs.Prelude.{ℕ, zero, suc, ◌≡◌, ◌≤◌, ◌++◌, List, [], Bool, true, false, nat_lt}
+use Rattle.mc_item.specs.declared.class_event.ClassEvent.{ClassEvent}
+use Rattle.mc_item.specs.declared.config.Config.{Config}
+use Rattle.mc_item.specs.declared.item.Who.{Who}
+use Rattle.mc_item.specs.declared.lists.Seg.{Seg}
+use Rattle.mc_item.specs.declared.lists.Seg.TheVariants.{Hot, Cold}
+use Rattle.mc_rule.specs.Lists.{lists_of, count_of}
+use Rattle.mc_segment.specs.ClassState.{ClassView}
+use Rattle.mc_pull.specs.declared.judge.Mode.{Mode}
+use Rattle.mc_pull.specs.declared.judge.Mode.TheVariants.{Evict, Force}
+use Rattle.mc_pull.specs.declared.looking.Answer.{Answer}
+use Rattle.mc_pull.specs.declared.pulled.Pulled.{Pulled}
+use Rattle.mc_pull.specs.Pulled.{did_something}
+use Rattle.mc_pull.specs.Walk.{pull, class_at, IsWalk}
+
+-- what is fixed for rounds: the class, the caller's call, its moment and the configuration
+pub record Rounds : Type 0 where
+  pub class : ClassView
+  pub who : Who
+  pub moment : ℕ
+  pub config : Config
+
+-- rounds by what is fixed; the history and the room of the class tell nothing
+abbrev pub rounds : ClassView → Who → ℕ → Config → Rounds
+rounds class who moment config = record { class = class_at class []; who = who; moment = moment; config = config }
+
+-- a walk along a list, from one history with these answers to another with these counts
+abbrev pub Walks : Rounds → Seg → Mode → List ClassEvent → List Answer → List ClassEvent → Pulled → Type 0
+Walks r s mode before xs after pulled = IsWalk (pull (class_at r.class before) s mode r.who r.moment r.config) xs after pulled
+
+-- so many steps, one after the other, with the answers of all
+abbrev pub Repeats : {S : Type 0} → (S → List Answer → S → Type 0) → ℕ → S → List Answer → S → Type 0
+Repeats Step zero first xs last = (xs ≡ []) × (last ≡ first)
+Repeats {S} Step (suc n) first xs last =
+    (mid : S) × (ys : List Answer) × (zs : List Answer) × Repeats Step n first ys mid × Step mid zs last × (xs ≡ ys ++ zs)
+
+-- a chunk is free
+abbrev pub is_free : ClassView → List ClassEvent → Bool
+is_free c history = nat_lt (count_of (lists_of history)) c.chunks
+
+-- HOT is pulled by force only where COLD gave nothing
+abbrev pub ForcesHot : Rounds → Bool → List ClassEvent → List Answer → List ClassEvent → Type 0
+ForcesHot r true before xs after = (xs ≡ []) × (after ≡ before)
+ForcesHot r false before xs after = (pulled : Pulled) × Walks r Hot Force before xs after pulled
+
+-- a round: no chunk is free; an entry of COLD is wanted, and where that did nothing, one is forced out of HOT
+pub record IsRoomRound (r : Rounds) (before : List ClassEvent) (xs : List Answer) (after : List ClassEvent) : Type 0 where
+  pub full : is_free r.class before ≡ false
+  pub cold : List Answer
+  pub hot : List Answer
+  pub between : List ClassEvent
+  pub pulled : Pulled
+  pub cold_is : Walks r Cold Evict before cold between pulled
+  pub hot_is : ForcesHot r (did_something pulled) between hot after
+  pub answers : xs ≡ cold ++ hot
+
+-- at most ten rounds, until a chunk is free; what is answered is whether one is
+pub record IsRoom (r : Rounds) (before : List ClassEvent) (xs : List Answer) (after : List ClassEvent) (found : Bool) : Type 0 where
+  pub times : ℕ
+  pub few : times ≤ 10
+  pub each : Repeats (IsRoomRound r) times before xs after
+  pub found_is : found ≡ is_free r.class after
+  pub tries : found ≡ false → times ≡ 10

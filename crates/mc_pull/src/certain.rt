@@ -1,0 +1,141 @@
+//! Events that room was made for: none of these calls takes memory or can be refused.
+ghost use Rattle.std.specs.Prelude.{◌≡◌, ◌<◌, ◌≤◌, ◌+◌, ◌^◌, length, true, IsSomeAnd};
+ghost use Rattle.mc_rule.specs.Lists.{lists_of, count_of, segment_of};
+ghost use Rattle.mc_item.specs.Stripe.{IsDead};
+ghost use Rattle.mc_item.specs.declared.stripe_event.Cause.TheVariants as causes;
+ghost use Rattle.mc_segment.specs.ClassState.{appended, HasPlaces};
+ghost use Rattle.mc_segment.specs.ClassCalls.{linked_event, unlinked_event, reclaimed_event, evicted_event, shifted_event, MayCome};
+ghost use Rattle.mc_pull.specs.Settled.{lost_event, cooled_event};
+ghost use Rattle.mc_stripe.specs.StripeState.{cache_now};
+ghost use Rattle.mc_stripe.specs.StripeCalls.{KeepsSite, Gains};
+
+use mc_item::{ClassNo, Expiry, Key, Passed, Seg, Who, Why};
+use mc_segment::ClassState;
+use mc_stripe::StripeState;
+
+// A new entry.
+pub(crate) fn link(
+    class: &mut ClassState,
+    who: Who,
+    key: Key,
+    cost: u64,
+    moment: u64,
+    expiry: Expiry,
+)
+    requires room { 0 < class.old.room }
+    requires place { HasPlaces class.old 1 }
+    requires free { count_of (lists_of class.old.history) < class.old.chunks }
+    requires cost { cost ≤ 2 ^ 20 }
+    ensures event { class.new ≡ appended class.old (linked_event class.old who key cost moment expiry) class.new.room }
+    ensures room { class.old.room ≤ class.new.room + 1 }
+{
+    match class.link(who, key, cost, moment, expiry) {
+        Ok(_) => {}
+        Err(_) => unreachable!(),
+    }
+}
+
+// An entry goes with its item.
+pub(crate) fn unlink(class: &mut ClassState, who: Who, number: u64)
+    requires room { 0 < class.old.room }
+    requires place { HasPlaces class.old 1 }
+    requires lawful { MayCome class.old (unlinked_event who number) }
+    ensures event { class.new ≡ appended class.old (unlinked_event who number) class.new.room }
+{
+    match class.unlink(who, number) {
+        Ok(()) => {}
+        Err(_) => unreachable!(),
+    }
+}
+
+// An entry goes whose item is dead.
+pub(crate) fn reclaim(class: &mut ClassState, who: Who, number: u64, moment: u64, at: u64)
+    requires room { 0 < class.old.room }
+    requires place { HasPlaces class.old 1 }
+    requires lawful { MayCome class.old (reclaimed_event who number moment at) }
+    ensures event { class.new ≡ appended class.old (reclaimed_event who number moment at) class.new.room }
+{
+    match class.reclaim(who, number, moment, at) {
+        Ok(()) => {}
+        Err(_) => unreachable!(),
+    }
+}
+
+// An entry of COLD is taken.
+pub(crate) fn evict(class: &mut ClassState, who: Who, number: u64, passed: Passed, at: u64)
+    requires room { 0 < class.old.room }
+    requires place { HasPlaces class.old 1 }
+    requires lawful { MayCome class.old (evicted_event who number passed at) }
+    ensures event { class.new ≡ appended class.old (evicted_event who number passed at) class.new.room }
+{
+    match class.evict(who, number, passed, at) {
+        Ok(()) => {}
+        Err(_) => unreachable!(),
+    }
+}
+
+// An entry goes to the head of a list.
+pub(crate) fn shift(
+    class: &mut ClassState,
+    who: Who,
+    number: u64,
+    to_seg: Seg,
+    why: Why,
+    moment: u64,
+    passed: Passed,
+    at: u64,
+)
+    requires room { 0 < class.old.room }
+    requires place { HasPlaces class.old 1 }
+    requires lawful { IsSomeAnd (segment_of number (lists_of class.old.history))
+        (λ from_seg. MayCome class.old (shifted_event who number to_seg why moment passed at from_seg)) }
+    ensures event { IsSomeAnd (segment_of number (lists_of class.old.history))
+        (λ from_seg. class.new ≡ appended class.old (shifted_event who number to_seg why moment passed at from_seg) class.new.room) }
+{
+    match class.shift(who, number, to_seg, why, moment, passed, at) {
+        Ok(()) => {}
+        Err(_) => unreachable!(),
+    }
+}
+
+// A dead item goes.
+pub(crate) fn forget_expired(stripe: &mut StripeState, who: Who, key: Key, moment: u64)
+    requires room { 0 < stripe.old.room }
+    requires place { length stripe.old.history < stripe.old.limit }
+    requires dead { IsDead ((cache_now stripe.old).items key) moment }
+    ensures event { Gains stripe.old stripe.new (lost_event who key (causes.Expired moment)) }
+    ensures site { KeepsSite stripe.old stripe.new }
+{
+    match stripe.forget_expired(who, key, moment) {
+        Ok(()) => {}
+        Err(_) => unreachable!(),
+    }
+}
+
+// An item goes whose chunk was taken.
+pub(crate) fn forget_taken(stripe: &mut StripeState, who: Who, key: Key, class: ClassNo, place: u64)
+    requires room { 0 < stripe.old.room }
+    requires place { length stripe.old.history < stripe.old.limit }
+    requires there { IsSomeAnd ((cache_now stripe.old).items key) (λ item. item.link.class ≡ class) }
+    ensures event { Gains stripe.old stripe.new (lost_event who key (causes.Taken class place)) }
+    ensures site { KeepsSite stripe.old stripe.new }
+{
+    match stripe.forget_taken(who, key, class, place) {
+        Ok(()) => {}
+        Err(_) => unreachable!(),
+    }
+}
+
+// An item's mark is cleared.
+pub(crate) fn cool(stripe: &mut StripeState, who: Who, key: Key)
+    requires room { 0 < stripe.old.room }
+    requires place { length stripe.old.history < stripe.old.limit }
+    requires active { IsSomeAnd ((cache_now stripe.old).items key) (λ item. item.marks.active ≡ true) }
+    ensures event { Gains stripe.old stripe.new (cooled_event who key) }
+    ensures site { KeepsSite stripe.old stripe.new }
+{
+    match stripe.cool(who, key) {
+        Ok(()) => {}
+        Err(_) => unreachable!(),
+    }
+}

@@ -1,0 +1,246 @@
+//! Juggling: rounds of walks by one survey.
+ghost use Rattle.std.specs.Prelude.{◌≡◌, ◌≤◌, ◌+◌, ◌++◌, ◌⊎◌, List, IfOk, IfErr, OnOk, OnErr};
+ghost use Rattle.mc_item.specs.declared.config.Config.{Config};
+ghost use Rattle.mc_item.specs.declared.lists.Seg.TheVariants.{Temp};
+ghost use Rattle.mc_pull.specs.declared.judge.Mode.TheVariants.{Plain};
+ghost use Rattle.mc_pull.specs.Growth.{Grows, Kept};
+ghost use Rattle.mc_pull.specs.Juggle.{juggling, survey_at, history_surveyed, KeepsSurveys, PullsWarm, IsJuggleRound, IsJuggled, JugglesTemp, JugglesRounds, IsJuggle};
+ghost use Rattle.mc_pull.specs.Pulled.{none_pulled, sum_of};
+ghost use Rattle.mc_pull.specs.Question.{IsClassOf, IsSurveyIn};
+ghost use Rattle.mc_pull.specs.Refusal.{MayFailAlone};
+ghost use Rattle.mc_pull.specs.Rounds.{rounds, Walks};
+ghost use Rattle.mc_pull.specs.Walker.{walker_of};
+ghost use Rattle.mc_pull.specs.declared.looking.Answer.{Answer};
+
+use crate::judge::Mode;
+use crate::looking::Gate;
+use crate::pulled::Pulled;
+use crate::pulling::pull_tail;
+use mc_item::{Config, Fault, Moves, Seg, Who};
+use mc_segment::{ClassState, Survey};
+use std::alloc::Global;
+
+// How many rounds juggling makes at most, and how many walks along TEMP (own).
+const MOST_ROUNDS: u64 = 500;
+
+// WARM is pulled, unless HOT gave something.
+fn pull_warm<G: Gate>(
+    alloc: Global,
+    class: &mut ClassState,
+    survey: Survey,
+    did: bool,
+    who: Who,
+    moment: u64,
+    config: &Config,
+    gate: &mut G,
+) -> Result<Pulled, Fault>
+    requires survey { IsSurveyIn class.old.history who moment survey }
+    requires config { IsClassOf config.now class.old }
+    requires gate { G.serves gate.old config.now }
+    ensures walk { IfOk result (λ pulled. (xs : List Answer) × (G.answers gate.new ≡ G.answers gate.old ++ xs) × PullsWarm (rounds class.old who moment config.now) survey did class.old.history xs class.new.history pulled) }
+    ensures few { IfOk result (λ pulled. sum_of pulled ≤ 5) }
+    ensures grows { Grows class.old class.new }
+    ensures fault { IfErr result (G.faults gate.new class.new) }
+    ensures holds { G.reference gate.new ≡ G.reference gate.old }
+    ensures serves { G.serves gate.new config.now }
+    ensures kept { Kept (G.keeps (walker_of class.old who moment)) gate.old class.old.history gate.new class.new.history }
+{
+    if did {
+        return Ok(Pulled::none());
+    }
+    let mode = Mode::Plain(survey);
+    pull_tail(alloc, class, Seg::Warm, mode, who, moment, config, gate)
+}
+
+// One round of juggling by a survey.
+fn juggle_round<G: Gate>(
+    alloc: Global,
+    class: &mut ClassState,
+    survey: Survey,
+    who: Who,
+    moment: u64,
+    config: &Config,
+    gate: &mut G,
+) -> Result<Pulled, Fault>
+    requires survey { IsSurveyIn class.old.history who moment survey }
+    requires config { IsClassOf config.now class.old }
+    requires gate { G.serves gate.old config.now }
+    ensures round { IfOk result (λ sum. (xs : List Answer) × (G.answers gate.new ≡ G.answers gate.old ++ xs) × IsJuggleRound (rounds class.old who moment config.now) survey class.old.history xs class.new.history sum) }
+    ensures few { IfOk result (λ sum. sum_of sum ≤ 15) }
+    ensures grows { Grows class.old class.new }
+    ensures fault { IfErr result (G.faults gate.new class.new) }
+    ensures holds { G.reference gate.new ≡ G.reference gate.old }
+    ensures serves { G.serves gate.new config.now }
+    ensures kept { Kept (G.keeps (walker_of class.old who moment)) gate.old class.old.history gate.new class.new.history }
+{
+    let mode = Mode::Plain(survey);
+    let hot = pull_tail(alloc, class, Seg::Hot, mode, who, moment, config, gate)?;
+    let did = hot.did_something();
+    let warm = pull_warm(alloc, class, survey, did, who, moment, config, gate)?;
+    let cold = pull_tail(alloc, class, Seg::Cold, mode, who, moment, config, gate)?;
+    Ok(hot.plus(warm).plus(cold))
+}
+
+// Rounds of juggling by a survey: up to 500, until one did nothing. It adds to counts that were made before.
+fn juggle_rounds<G: Gate>(
+    alloc: Global,
+    class: &mut ClassState,
+    survey: Survey,
+    total: Pulled,
+    who: Who,
+    moment: u64,
+    config: &Config,
+    gate: &mut G,
+) -> Result<Pulled, Fault>
+    requires small { sum_of total ≤ 2500 }
+    requires survey { IsSurveyIn class.old.history who moment survey }
+    requires config { IsClassOf config.now class.old }
+    requires gate { G.serves gate.old config.now }
+    ensures juggled { IfOk result (λ sum. (xs : List Answer) × (G.answers gate.new ≡ G.answers gate.old ++ xs) × IsJuggled (IsJuggleRound (rounds class.old who moment config.now) survey) (juggling class.old.history total) xs (juggling class.new.history sum)) }
+    ensures grows { Grows class.old class.new }
+    ensures fault { IfErr result (G.faults gate.new class.new) }
+    ensures holds { G.reference gate.new ≡ G.reference gate.old }
+    ensures serves { G.serves gate.new config.now }
+    ensures kept { Kept (G.keeps (walker_of class.old who moment)) gate.old class.old.history gate.new class.new.history }
+{
+    let mut sum = total;
+    let mut left: u64 = MOST_ROUNDS;
+    'rounds: while left > 0 {
+        let made = juggle_round(alloc, class, survey, who, moment, config, gate)?;
+        sum = sum.plus(made);
+        if !made.did_something() {
+            break;
+        }
+        left -= 1;
+    }
+    Ok(sum)
+}
+
+// Walks along TEMP by a survey: up to 500, until one did nothing.
+fn temp_rounds<G: Gate>(
+    alloc: Global,
+    class: &mut ClassState,
+    survey: Survey,
+    who: Who,
+    moment: u64,
+    config: &Config,
+    gate: &mut G,
+) -> Result<Pulled, Fault>
+    requires survey { IsSurveyIn class.old.history who moment survey }
+    requires config { IsClassOf config.now class.old }
+    requires gate { G.serves gate.old config.now }
+    ensures juggled { IfOk result (λ sum. (xs : List Answer) × (G.answers gate.new ≡ G.answers gate.old ++ xs) × IsJuggled (Walks (rounds class.old who moment config.now) Temp (Plain survey)) (juggling class.old.history none_pulled) xs (juggling class.new.history sum)) }
+    ensures few { IfOk result (λ sum. sum_of sum ≤ 2500) }
+    ensures grows { Grows class.old class.new }
+    ensures fault { IfErr result (G.faults gate.new class.new) }
+    ensures holds { G.reference gate.new ≡ G.reference gate.old }
+    ensures serves { G.serves gate.new config.now }
+    ensures kept { Kept (G.keeps (walker_of class.old who moment)) gate.old class.old.history gate.new class.new.history }
+{
+    let mut sum = Pulled::none();
+    let mut left: u64 = MOST_ROUNDS;
+    'rounds: while left > 0 {
+        let mode = Mode::Plain(survey);
+        let made = pull_tail(alloc, class, Seg::Temp, mode, who, moment, config, gate)?;
+        sum = sum.plus(made);
+        if !made.did_something() {
+            break;
+        }
+        left -= 1;
+    }
+    Ok(sum)
+}
+
+// A survey of a class, which a walk may then name.
+fn survey_class(class: &mut ClassState, who: Who, moment: u64) -> Result<Survey, Fault>
+    ensures survey { (config : Config) → IfOk result (λ survey. survey ≡ survey_at (rounds class.old who moment config) class.old.history) }
+    ensures noted { IfOk result (λ survey. IsSurveyIn class.new.history who moment survey) }
+    ensures history { (config : Config) → OnOk result (class.new.history ≡ history_surveyed (rounds class.old who moment config) class.old.history) }
+    ensures err { OnErr result (class.new.history ≡ class.old.history) }
+    ensures fault { IfErr result (MayFailAlone class.new) }
+    ensures grows { Grows class.old class.new }
+{
+    class.survey(who, moment)
+}
+
+// TEMP's part of juggling: where TEMP is in use, a survey and walks by it.
+fn juggle_temp<G: Gate>(
+    alloc: Global,
+    class: &mut ClassState,
+    who: Who,
+    moment: u64,
+    config: &Config,
+    gate: &mut G,
+) -> Result<Pulled, Fault>
+    requires config { IsClassOf config.now class.old }
+    requires gate { G.serves gate.old config.now }
+    requires surveys { KeepsSurveys (G.keeps (walker_of class.old who moment)) }
+    ensures temp { IfOk result (λ sum. (xs : List Answer) × (G.answers gate.new ≡ G.answers gate.old ++ xs) × JugglesTemp (rounds class.old who moment config.now) config.now.temp class.old.history xs (juggling class.new.history sum)) }
+    ensures few { IfOk result (λ sum. sum_of sum ≤ 2500) }
+    ensures grows { Grows class.old class.new }
+    ensures fault { IfErr result (λ fault. G.faults gate.new class.new fault ⊎ MayFailAlone class.new fault) }
+    ensures holds { G.reference gate.new ≡ G.reference gate.old }
+    ensures serves { G.serves gate.new config.now }
+    ensures kept { Kept (G.keeps (walker_of class.old who moment)) gate.old class.old.history gate.new class.new.history }
+{
+    if !config.temp {
+        return Ok(Pulled::none());
+    }
+    let survey = survey_class(class, who, moment)?;
+    temp_rounds(alloc, class, survey, who, moment, config, gate)
+}
+
+// The rounds' part of juggling: a survey and rounds by it. It adds to counts that were made before.
+fn juggle_rest<G: Gate>(
+    alloc: Global,
+    class: &mut ClassState,
+    total: Pulled,
+    who: Who,
+    moment: u64,
+    config: &Config,
+    gate: &mut G,
+) -> Result<Pulled, Fault>
+    requires small { sum_of total ≤ 2500 }
+    requires config { IsClassOf config.now class.old }
+    requires gate { G.serves gate.old config.now }
+    requires surveys { KeepsSurveys (G.keeps (walker_of class.old who moment)) }
+    ensures rest { IfOk result (λ sum. (xs : List Answer) × (G.answers gate.new ≡ G.answers gate.old ++ xs) × JugglesRounds (rounds class.old who moment config.now) (juggling class.old.history total) xs (juggling class.new.history sum)) }
+    ensures grows { Grows class.old class.new }
+    ensures fault { IfErr result (λ fault. G.faults gate.new class.new fault ⊎ MayFailAlone class.new fault) }
+    ensures holds { G.reference gate.new ≡ G.reference gate.old }
+    ensures serves { G.serves gate.new config.now }
+    ensures kept { Kept (G.keeps (walker_of class.old who moment)) gate.old class.old.history gate.new class.new.history }
+{
+    let survey = survey_class(class, who, moment)?;
+    juggle_rounds(alloc, class, survey, total, who, moment, config, gate)
+}
+
+/// Juggles a class: where TEMP is in use, walks along it by a survey, until one did nothing; then rounds by a new survey,
+/// each of which pulls HOT, or else WARM, and COLD, until one did nothing; at most 500 of each. It answers how many
+/// entries were reclaimed and moved. What a gate keeps of a class's history, it must keep of one with a survey more. The
+/// faults are the gate's and those of `ClassState::survey`; the events so far then stand.
+pub fn juggle<G: Gate>(
+    alloc: Global,
+    class: &mut ClassState,
+    who: Who,
+    moment: u64,
+    config: &Config,
+    gate: &mut G,
+) -> Result<Moves, Fault>
+    requires config { IsClassOf config.now class.old }
+    requires gate { G.serves gate.old config.now }
+    requires surveys { KeepsSurveys (G.keeps (walker_of class.old who moment)) }
+    ensures juggle { IfOk result (λ moves. (xs : List Answer) × (G.answers gate.new ≡ G.answers gate.old ++ xs) × IsJuggle (rounds class.old who moment config.now) class.old.history xs class.new.history moves) }
+    ensures grows { Grows class.old class.new }
+    ensures fault { IfErr result (λ fault. G.faults gate.new class.new fault ⊎ MayFailAlone class.new fault) }
+    ensures holds { G.reference gate.new ≡ G.reference gate.old }
+    ensures serves { G.serves gate.new config.now }
+    ensures kept { Kept (G.keeps (walker_of class.old who moment)) gate.old class.old.history gate.new class.new.history }
+{
+    let before = juggle_temp(alloc, class, who, moment, config, gate)?;
+    let sum = juggle_rest(alloc, class, before, who, moment, config, gate)?;
+    Ok(Moves {
+        reclaimed: sum.reclaimed,
+        moved: sum.moved,
+    })
+}

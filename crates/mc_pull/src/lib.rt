@@ -1,0 +1,30 @@
+//! Steps on a class and a stripe at once: an entry is judged with its item, a walk along a list's tail judges several, and
+//! rounds of walks make room in a class or juggle its lists. Nothing here locks.
+#![tactic(auto)]
+
+mod certain;
+mod judge;
+mod juggling;
+mod lent;
+mod lone;
+mod looking;
+mod making;
+mod outcome;
+mod parts;
+mod performing;
+mod pulled;
+mod pulling;
+mod rounds;
+mod settling;
+mod verdict;
+
+pub use judge::{Ask, Done, Judge, Mode};
+pub use juggling::juggle;
+pub use lent::Lent;
+pub use lone::Lone;
+pub use looking::{Answer, Gate, Judged, Look};
+pub use performing::{fate_for, perform, perform_with};
+pub use pulled::Pulled;
+pub use pulling::pull_tail;
+pub use rounds::make_room;
+pub use settling::settle;

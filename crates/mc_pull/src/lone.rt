@@ -1,0 +1,104 @@
+//! A gate that is lent one stripe, and has no other.
+ghost use Rattle.std.specs.Prelude.{◌≡◌, ◌++◌, List, IfOk, IfErr};
+ghost use Rattle.mc_pull.specs.Growth.{Grows};
+ghost use Rattle.mc_pull.specs.Juggle.{IsJuggle};
+ghost use Rattle.mc_pull.specs.Lone.{Serves, Walked};
+ghost use Rattle.mc_pull.specs.Question.{IsClassOf};
+ghost use Rattle.mc_pull.specs.Refusal.{MayFail};
+ghost use Rattle.mc_pull.specs.Rounds.{rounds, IsRoom};
+ghost use Rattle.mc_pull.specs.Walker.{walker_of};
+ghost use Rattle.mc_pull.specs.declared.looking.Answer.{Answer};
+
+use crate::juggling::juggle;
+use crate::looking::{Answer, Gate, Look};
+use crate::rounds::make_room;
+use mc_item::{Config, Fault, Moves, StripeNo, Who};
+use mc_segment::ClassState;
+use mc_stripe::StripeState;
+use std::alloc::Global;
+
+/// A gate that is lent one stripe, by its number, and a list for its answers. It tries the others in vain.
+#[derive(Drop)]
+pub struct Lone<'a> {
+    pub number: StripeNo,
+    pub stripe: &'a mut StripeState,
+    pub answers: &'a mut Vec<Answer>,
+}
+
+impl<'a> Gate for Lone<'a> {
+    ghost use Rattle.mc_pull.specs.Lone.{Serves, Walked};
+    ghost use Rattle.mc_pull.specs.Refusal.{MayFail};
+
+    ghost answers = { λ g. g.answers.now.items };
+
+    ghost serves = { λ g config. Serves g.number.0 g.stripe.now config };
+
+    ghost reference = { λ g. g.stripe.ghost_name };
+
+    ghost faults = { λ g c. MayFail c g.stripe.now };
+
+    ghost keeps = { λ w g begun h history. Walked w g.stripe.now begun h.stripe.now history };
+
+    fn visit(&mut self, stripe: StripeNo, look: &mut Look<'_>) -> Result<bool, Fault> {
+        self.answers.reserve(1)?;
+        if stripe.0 != self.number.0 {
+            self.answers.push_reserved(Answer {
+                stripe,
+                judged: None,
+            });
+            return Ok(false);
+        }
+        let own = &mut *self.stripe;
+        look.settle(own)?;
+        self.answers.push_reserved(Answer {
+            stripe,
+            judged: look.judged,
+        });
+        Ok(true)
+    }
+}
+
+impl<'a> Lone<'a> {
+    /// Makes room in a class, as `make_room` does. It says of this gate what the call for any gate can't: that it holds
+    /// the same stripe, which has only events of this walker more, and what agreed with it agrees still.
+    pub fn make_room(
+        &mut self,
+        alloc: Global,
+        class: &mut ClassState,
+        who: Who,
+        moment: u64,
+        config: &Config,
+    ) -> Result<bool, Fault>
+        requires config { IsClassOf config.now class.old }
+        requires gate { Serves self.old.number.0 self.old.stripe.now config.now }
+        ensures room { IfOk result (λ found. (xs : List Answer) × (self.new.answers.now.items ≡ self.old.answers.now.items ++ xs) × IsRoom (rounds class.old who moment config.now) class.old.history xs class.new.history found) }
+        ensures fault { IfErr result (MayFail class.new self.new.stripe.now) }
+        ensures grows { Grows class.old class.new }
+        ensures same_reference { self.new.stripe.ghost_name ≡ self.old.stripe.ghost_name }
+        ensures walked { Walked (walker_of class.old who moment) self.old.stripe.now class.old.history self.new.stripe.now class.new.history }
+        ensures serves { Serves self.new.number.0 self.new.stripe.now config.now }
+    {
+        make_room(alloc, class, who, moment, config, self)
+    }
+
+    /// Juggles a class, as `juggle` does, and says of this gate what `make_room` says.
+    pub fn juggle(
+        &mut self,
+        alloc: Global,
+        class: &mut ClassState,
+        who: Who,
+        moment: u64,
+        config: &Config,
+    ) -> Result<Moves, Fault>
+        requires config { IsClassOf config.now class.old }
+        requires gate { Serves self.old.number.0 self.old.stripe.now config.now }
+        ensures juggle { IfOk result (λ moves. (xs : List Answer) × (self.new.answers.now.items ≡ self.old.answers.now.items ++ xs) × IsJuggle (rounds class.old who moment config.now) class.old.history xs class.new.history moves) }
+        ensures fault { IfErr result (MayFail class.new self.new.stripe.now) }
+        ensures grows { Grows class.old class.new }
+        ensures same_reference { self.new.stripe.ghost_name ≡ self.old.stripe.ghost_name }
+        ensures walked { Walked (walker_of class.old who moment) self.old.stripe.now class.old.history self.new.stripe.now class.new.history }
+        ensures serves { Serves self.new.number.0 self.new.stripe.now config.now }
+    {
+        juggle(alloc, class, who, moment, config, self)
+    }
+}

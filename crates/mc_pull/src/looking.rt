@@ -1,0 +1,142 @@
+//! Looks: how an entry's stripe is reached, by whoever can.
+ghost use Rattle.std.specs.Prelude.{◌≡◌, ◌++◌, ◌∷◌, [], List, Some, None, is_some, length, IfOk, IfErr, OnOk, OnErr};
+ghost use Rattle.mc_item.specs.declared.item.StripeNo.{StripeNo};
+ghost use Rattle.mc_item.specs.declared.class_event.ClassEvent.{ClassEvent};
+ghost use Rattle.mc_segment.specs.ClassState.{with_room};
+ghost use Rattle.mc_stripe.specs.StripeState.{cache_now};
+ghost use Rattle.mc_stripe.specs.StripeCalls.{KeepsSite};
+ghost use Rattle.mc_pull.specs.Agreeing.{KeepsAgreement};
+ghost use Rattle.mc_pull.specs.Judgement.{done_of};
+ghost use Rattle.mc_pull.specs.Looks.{answer, judgement, events_if, IsJudged, IsJudgedIf};
+ghost use Rattle.mc_pull.specs.Question.{question, question_of, IsAsked, IsClassOf, MayJudge};
+ghost use Rattle.mc_pull.specs.Refusal.{MayFail, MayRefuseFor};
+ghost use Rattle.mc_pull.specs.Settled.{class_with, IsSettled};
+ghost use Rattle.mc_pull.specs.Walker.{walker_of};
+
+use crate::judge::{Ask, Done, Judge};
+use crate::settling::settle_ask;
+use mc_item::{Config, Fault, StripeNo, Who};
+use mc_segment::ClassState;
+use mc_stripe::StripeState;
+use std::alloc::Global;
+
+/// What was done with an entry, and how many events its stripe had.
+#[derive(Clone, Copy, Debug, PartialEq, Eq)]
+pub struct Judged {
+    pub done: Done,
+    pub at: u64,
+}
+
+/// What a gate has answered: the stripe that was asked for, and, where it was had, what was done.
+#[derive(Clone, Copy, Debug, PartialEq, Eq)]
+pub struct Answer {
+    pub stripe: StripeNo,
+    pub judged: Option<Judged>,
+}
+
+/// One entry of a class, to be judged with the state of its stripe.
+#[derive(Drop)]
+pub struct Look<'a> {
+    pub alloc: Global,
+    pub class: &'a mut ClassState,
+    pub ask: Ask<'a>,
+    pub judged: Option<Judged>,
+}
+
+impl<'a> Look<'a> {
+    /// A look at an entry. It takes no memory.
+    pub fn new(
+        alloc: Global,
+        class: &'a mut ClassState,
+        who: Who,
+        number: u64,
+        judge: &'a Judge,
+        moment: u64,
+        config: &'a Config,
+    ) -> Look<'a>
+        ensures same_reference { result.class.ghost_name ≡ class.entry.ghost_name }
+        ensures class { result.class.now ≡ class.old }
+        ensures ask { question_of result.ask ≡ question who number judge.now moment }
+        ensures config { result.ask.config.now ≡ config.now }
+        ensures judged { result.judged ≡ None }
+    {
+        Look {
+            alloc,
+            class,
+            ask: Ask {
+                who,
+                number,
+                judge,
+                moment,
+                config,
+            },
+            judged: None,
+        }
+    }
+
+    /// Judges the entry with its stripe. It is done once.
+    pub fn settle(&mut self, stripe: &mut StripeState) -> Result<Done, Fault>
+        requires asked { IsAsked self.old.class.now stripe.old self.old.ask }
+        requires once { self.old.judged ≡ None }
+        ensures same_reference { self.new.class.ghost_name ≡ self.old.class.ghost_name }
+        ensures ask { self.new.ask ≡ self.old.ask }
+        ensures done { IfOk result (λ made. (made ≡ done_of self.old.class.now (cache_now stripe.old) (question_of self.old.ask)) × (self.new.judged ≡ Some (judgement made (length stripe.old.history)))) }
+        ensures settled { IfOk result (λ made. IsSettled self.old.class.now self.new.class.now stripe.old stripe.new (question_of self.old.ask) made) }
+        ensures agreement { KeepsAgreement self.old.class.now self.new.class.now stripe.old stripe.new }
+        ensures judged { IfOk result (λ made. IsJudged self.old.ask.config.now (record { 0 = stripe.old.site.stripe }) self.old.class.now (question_of self.old.ask) (judgement made (length stripe.old.history))) }
+        ensures err { OnErr result ((self.new.class.now ≡ with_room self.old.class.now self.new.class.now.room) × (stripe.new.history ≡ stripe.old.history)) }
+        ensures site { KeepsSite stripe.old stripe.new }
+        ensures full { IfErr result (MayFail self.new.class.now stripe.new) }
+        ensures refusal { IfErr result (MayRefuseFor self.old.class.now stripe.old (done_of self.old.class.now (cache_now stripe.old) (question_of self.old.ask))) }
+    {
+        let at = stripe.history().len() as u64;
+        let class = &mut *self.class;
+        let done = settle_ask(self.alloc, class, stripe, &self.ask)?;
+        self.judged = Some(Judged { done, at });
+        Ok(done)
+    }
+}
+
+/// What lets a walk look at the stripe of an entry.
+pub trait Gate {
+    ghost use Rattle.std.specs.Prelude.{List, ℕ};
+    ghost use Rattle.mc_item.specs.declared.config.Config.{Config};
+    ghost use Rattle.mc_item.specs.declared.class_event.ClassEvent.{ClassEvent};
+    ghost use Rattle.mc_item.specs.declared.fault.Fault.{Fault};
+    ghost use Rattle.mc_segment.specs.ClassState.{ClassView};
+    ghost use Rattle.mc_pull.specs.Walker.{Walker};
+    ghost use Rattle.mc_pull.specs.declared.looking.Answer.{Answer};
+
+    /// The answers so far.
+    ghost answers: { Self → List Answer };
+
+    /// The stripes that it reaches were made with this configuration.
+    ghost serves: { Self → Config → Type 0 };
+
+    /// The mutable reference that it holds, by its ghost name: a visit keeps it.
+    ghost reference: { Self → ℕ };
+
+    /// The faults that a visit may answer: it tells that it had to, by how it leaves the gate and the class.
+    ghost faults: { Self → ClassView → Fault → Type 0 };
+
+    /// What each visit of a walker keeps of the gate and the class's history since any earlier state of both.
+    ghost keeps: { Walker → Self → List ClassEvent → Self → List ClassEvent → Type 0 };
+
+    /// Lends the state of a stripe to a look, which judges its entry. False: the stripe was not had, and nothing
+    /// changed.
+    fn visit(&mut self, stripe: StripeNo, look: &mut Look<'_>) -> Result<bool, Fault>
+        requires gate { serves self.old look.old.ask.config.now }
+        requires class { IsClassOf look.old.ask.config.now look.old.class.now }
+        requires judge { MayJudge look.old.class.now (question_of look.old.ask) }
+        requires once { look.old.judged ≡ None }
+        ensures same_reference { look.new.class.ghost_name ≡ look.old.class.ghost_name }
+        ensures holds { reference self.new ≡ reference self.old }
+        ensures answer { IfOk result (λ had. (is_some look.new.judged ≡ had) × (answers self.new ≡ answers self.old ++ answer stripe look.new.judged ∷ [])) }
+        ensures class { OnOk result (look.new.class.now ≡ class_with look.old.class.now (events_if look.old.class.now (question_of look.old.ask) look.new.judged) look.new.class.now.room) }
+        ensures judged { OnOk result (IsJudgedIf look.old.ask.config.now stripe look.old.class.now (question_of look.old.ask) look.new.judged) }
+        ensures err { OnErr result ((look.new.class.now ≡ with_room look.old.class.now look.new.class.now.room) × (answers self.new ≡ answers self.old)) }
+        ensures fault { IfErr result (faults self.new look.new.class.now) }
+        ensures serves { serves self.new look.old.ask.config.now }
+        ensures kept { (g : Self) (h : List ClassEvent) → keeps (walker_of look.old.class.now look.old.ask.who look.old.ask.moment) g h self.old look.old.class.now.history
+            → keeps (walker_of look.old.class.now look.old.ask.who look.old.ask.moment) g h self.new look.new.class.now.history };
+}

@@ -1,0 +1,111 @@
+//! What a walk counts.
+ghost use Rattle.std.specs.Prelude.{◌≡◌, ◌<◌, ◌≤◌, ◌+◌, ◌^◌};
+ghost use Rattle.mc_pull.specs.Pulled as words;
+ghost use Rattle.mc_pull.specs.Pulled.{none_pulled, counts_if, sum_of};
+
+use crate::judge::Done;
+use crate::looking::Judged;
+
+/// How many entries a walk has reclaimed, moved, evicted and passed.
+#[derive(Clone, Copy, Debug, PartialEq, Eq)]
+pub struct Pulled {
+    pub reclaimed: u64,
+    pub moved: u64,
+    pub evicted: u64,
+    pub passed: u64,
+}
+
+impl Pulled {
+    // Nothing yet.
+    pub(crate) fn none() -> Pulled
+        ensures { result ≡ none_pulled }
+    {
+        Pulled {
+            reclaimed: 0,
+            moved: 0,
+            evicted: 0,
+            passed: 0,
+        }
+    }
+
+    // The counts after one more answer.
+    pub(crate) fn counted(self, judged: Option<Judged>) -> Pulled
+        requires { sum_of self < 2 ^ 63 }
+        ensures { result ≡ counts_if judged self }
+    {
+        let Some(judged) = judged else {
+            return Pulled {
+                passed: self.passed + 1,
+                ..self
+            };
+        };
+        match judged.done {
+            Done::Reclaimed => Pulled {
+                reclaimed: self.reclaimed + 1,
+                ..self
+            },
+            Done::ToWarm => Pulled {
+                moved: self.moved + 1,
+                ..self
+            },
+            Done::WithinWarm => Pulled {
+                moved: self.moved + 1,
+                ..self
+            },
+            Done::ToCold => Pulled {
+                moved: self.moved + 1,
+                ..self
+            },
+            Done::Evicted => Pulled {
+                evicted: self.evicted + 1,
+                ..self
+            },
+            Done::Stayed => self,
+            Done::Alive(_) => self,
+            Done::Stranger => Pulled {
+                passed: self.passed + 1,
+                ..self
+            },
+        }
+    }
+
+    // Whether a walk did something.
+    pub(crate) fn did_something(self) -> bool
+        requires { sum_of self ≤ 15 }
+        ensures { result ≡ words.did_something self }
+    {
+        0 < self.reclaimed + self.moved + self.evicted
+    }
+
+    // The counts of two walks together.
+    pub(crate) fn plus(self, other: Pulled) -> Pulled
+        requires { sum_of self + sum_of other ≤ 10000 }
+        ensures { result ≡ words.plus self other }
+    {
+        Pulled {
+            reclaimed: self.reclaimed + other.reclaimed,
+            moved: self.moved + other.moved,
+            evicted: self.evicted + other.evicted,
+            passed: self.passed + other.passed,
+        }
+    }
+}
+
+// Whether a walk ends with an answer.
+pub(crate) fn ends_with(judged: Option<Judged>) -> bool
+    ensures { result ≡ words.is_end_if judged }
+{
+    match judged {
+        None => false,
+        Some(judged) => match judged.done {
+            Done::Reclaimed => false,
+            Done::WithinWarm => false,
+            Done::Stranger => false,
+            Done::ToWarm => true,
+            Done::ToCold => true,
+            Done::Evicted => true,
+            Done::Stayed => true,
+            Done::Alive(_) => true,
+        },
+    }
+}

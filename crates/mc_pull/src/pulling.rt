@@ -1,0 +1,168 @@
+//! Walks along the tail of a list.
+ghost use Rattle.std.specs.Prelude.{◌≡◌, ◌<◌, ◌≤◌, ◌++◌, ◌∷◌, [], List, true, false, length, take, reverse, IfOk, IfErr, OnErr};
+ghost use Rattle.mc_rule.specs.Lists.{lists_of, list_of, count_of};
+ghost use Rattle.mc_rule.specs.Segment.{numbers_of};
+ghost use Rattle.mc_segment.specs.ClassState.{with_room};
+ghost use Rattle.mc_pull.specs.Growth.{Grows, Kept};
+ghost use Rattle.mc_pull.specs.Looks.{answer, events_if, IsJudgedIf};
+ghost use Rattle.mc_pull.specs.Pulled.{sum_of};
+ghost use Rattle.mc_pull.specs.Question.{question, IsClassOf, MayJudge, MayWalk};
+ghost use Rattle.mc_pull.specs.Settled.{class_with};
+ghost use Rattle.mc_pull.specs.Walk as words;
+ghost use Rattle.mc_pull.specs.Walk.{pull, way, step, IsAnswer, IsWalk, IsBeginning};
+ghost use Rattle.mc_pull.specs.Walker.{walker_of};
+ghost use Rattle.mc_pull.specs.declared.looking.Answer.{Answer};
+
+use crate::judge::{Judge, Mode};
+use crate::looking::{Answer, Gate, Judged, Look};
+use crate::pulled::{Pulled, ends_with};
+use mc_item::{Config, Fault, Passed, Seg, StripeNo, Who, stripe_of};
+use mc_segment::ClassState;
+use std::alloc::Global;
+
+// How many entries a walk looks at, at most (own).
+const MOST_LOOKS: u64 = 5;
+
+// The numbers of this many entries from a list's tail.
+fn passed_behind(class: &ClassState, seg: Seg, place: u64) -> Passed
+    requires few { place ≤ 4 }
+    requires there { place ≤ length (list_of (lists_of class.now.history) seg) }
+    ensures { result ≡ take place (reverse (numbers_of (list_of (lists_of class.now.history) seg))) }
+{
+    let mut numbers = [0; 4];
+    'numbers: for j in 0..place {
+        let entry = class.from_tail(seg, j).unwrap();
+        numbers[j as usize] = entry.number;
+    }
+    Passed::of(&numbers[..place as usize])
+}
+
+// Whether a walk of this mode still wants a chunk.
+fn is_wanted(class: &ClassState, mode: Mode) -> bool
+    ensures { result ≡ words.is_wanted mode class.now.chunks (count_of (lists_of class.now.history)) }
+{
+    match mode {
+        Mode::Plain(_) => true,
+        Mode::Evict => class.chunks() <= class.count(),
+        Mode::Force => class.chunks() <= class.count(),
+    }
+}
+
+// One entry is looked at.
+fn look_at<G: Gate>(
+    alloc: Global,
+    class: &mut ClassState,
+    stripe: StripeNo,
+    who: Who,
+    number: u64,
+    judge: &Judge,
+    moment: u64,
+    config: &Config,
+    gate: &mut G,
+) -> Result<Option<Judged>, Fault>
+    requires config { IsClassOf config.now class.old }
+    requires judge { MayJudge class.old (question who number judge.now moment) }
+    requires gate { G.serves gate.old config.now }
+    ensures answer { IfOk result (λ judged. G.answers gate.new ≡ G.answers gate.old ++ answer stripe judged ∷ []) }
+    ensures class { IfOk result (λ judged. class.new ≡ class_with class.old (events_if class.old (question who number judge.now moment) judged) class.new.room) }
+    ensures judged { IfOk result (λ judged. IsJudgedIf config.now stripe class.old (question who number judge.now moment) judged) }
+    ensures err { OnErr result ((class.new ≡ with_room class.old class.new.room) × (G.answers gate.new ≡ G.answers gate.old)) }
+    ensures fault { IfErr result (G.faults gate.new class.new) }
+    ensures holds { G.reference gate.new ≡ G.reference gate.old }
+    ensures serves { G.serves gate.new config.now }
+    ensures kept { Kept (G.keeps (walker_of class.old who moment)) gate.old class.old.history gate.new class.new.history }
+{
+    let mut look = Look::new(alloc, class, who, number, judge, moment, config);
+    gate.visit(stripe, &mut look)?;
+    let judged = look.judged;
+    Ok(judged)
+}
+
+// Looks at the next entry of a walk.
+fn look_next<G: Gate>(
+    alloc: Global,
+    class: &mut ClassState,
+    seg: Seg,
+    mode: Mode,
+    left: u64,
+    pulled: Pulled,
+    who: Who,
+    moment: u64,
+    config: &Config,
+    gate: &mut G,
+) -> Result<Answer, Fault>
+    requires left { 0 < left }
+    requires wanted { words.is_wanted mode class.old.chunks (count_of (lists_of class.old.history)) ≡ true }
+    requires few { pulled.passed ≤ 4 }
+    requires there { pulled.passed < length (list_of (lists_of class.old.history) seg) }
+    requires walk { MayWalk class.old seg mode who moment }
+    requires config { IsClassOf config.now class.old }
+    requires gate { G.serves gate.old config.now }
+    ensures answer { IfOk result (λ a. IsAnswer (pull class.old seg mode who moment config.now) (way class.old.history left pulled false) a × (G.answers gate.new ≡ G.answers gate.old ++ a ∷ [])) }
+    ensures class { IfOk result (λ a. class.new.history ≡ (step (pull class.old seg mode who moment config.now) (way class.old.history left pulled false) a).history) }
+    ensures grows { Grows class.old class.new }
+    ensures err { OnErr result ((class.new.history ≡ class.old.history) × (G.answers gate.new ≡ G.answers gate.old)) }
+    ensures fault { IfErr result (G.faults gate.new class.new) }
+    ensures holds { G.reference gate.new ≡ G.reference gate.old }
+    ensures serves { G.serves gate.new config.now }
+    ensures kept { Kept (G.keeps (walker_of class.old who moment)) gate.old class.old.history gate.new class.new.history }
+{
+    let _left = left;
+    let entry = class.from_tail(seg, pulled.passed).unwrap();
+    let number = entry.number;
+    let stripe = stripe_of(&entry.key, config.stripes);
+    let judge = Judge::Walk {
+        seg,
+        mode,
+        passed: passed_behind(class, seg, pulled.passed),
+    };
+    let judged = look_at(
+        alloc, class, stripe, who, number, &judge, moment, config, gate,
+    )?;
+    Ok(Answer { stripe, judged })
+}
+
+/// Looks at up to five entries, from a list's tail on, each by one try at its stripe, and does with those whose stripe
+/// was had what the rule of the segment says. It ends where that says so, or where no chunk is wanted any more, and
+/// answers how many entries it reclaimed, moved, evicted and passed. Its faults are the gate's; the events so far then
+/// stand. A walk by a survey names one that is the class's own, of this call and moment; one that takes an entry goes
+/// along COLD, and one that forces an entry out along HOT.
+pub fn pull_tail<G: Gate>(
+    alloc: Global,
+    class: &mut ClassState,
+    seg: Seg,
+    mode: Mode,
+    who: Who,
+    moment: u64,
+    config: &Config,
+    gate: &mut G,
+) -> Result<Pulled, Fault>
+    requires walk { MayWalk class.old seg mode who moment }
+    requires config { IsClassOf config.now class.old }
+    requires gate { G.serves gate.old config.now }
+    ensures walk { IfOk result (λ pulled. (xs : List Answer) × (G.answers gate.new ≡ G.answers gate.old ++ xs) × IsWalk (pull class.old seg mode who moment config.now) xs class.new.history pulled) }
+    ensures err { OnErr result ((xs : List Answer) × (G.answers gate.new ≡ G.answers gate.old ++ xs) × IsBeginning (pull class.old seg mode who moment config.now) xs class.new.history) }
+    ensures grows { Grows class.old class.new }
+    ensures few { IfOk result (λ pulled. sum_of pulled ≤ 5) }
+    ensures fault { IfErr result (G.faults gate.new class.new) }
+    ensures holds { G.reference gate.new ≡ G.reference gate.old }
+    ensures serves { G.serves gate.new config.now }
+    ensures kept { Kept (G.keeps (walker_of class.old who moment)) gate.old class.old.history gate.new class.new.history }
+{
+    let mut left = class.len(seg).min(MOST_LOOKS);
+    let mut pulled = Pulled::none();
+    'looks: while left > 0 {
+        if !is_wanted(class, mode) {
+            break;
+        }
+        let answer = look_next(
+            alloc, class, seg, mode, left, pulled, who, moment, config, gate,
+        )?;
+        left -= 1;
+        pulled = pulled.counted(answer.judged);
+        if ends_with(answer.judged) {
+            break;
+        }
+    }
+    Ok(pulled)
+}

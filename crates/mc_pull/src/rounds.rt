@@ -1,0 +1,101 @@
+//! Rounds of walks that make room in a full class.
+ghost use Rattle.std.specs.Prelude.{◌≡◌, ◌++◌, List, false, IfOk, IfErr};
+ghost use Rattle.mc_pull.specs.Growth.{Grows, Kept};
+ghost use Rattle.mc_pull.specs.Question.{IsClassOf};
+ghost use Rattle.mc_pull.specs.Rounds as words;
+ghost use Rattle.mc_pull.specs.Rounds.{rounds, IsRoomRound, IsRoom};
+ghost use Rattle.mc_pull.specs.Walker.{walker_of};
+ghost use Rattle.mc_pull.specs.declared.looking.Answer.{Answer};
+
+use crate::judge::Mode;
+use crate::looking::Gate;
+use crate::pulling::pull_tail;
+use mc_item::{Config, Fault, Seg, Who};
+use mc_segment::ClassState;
+use std::alloc::Global;
+
+// How many rounds are made at most for a chunk (own).
+const MOST_ROUNDS: u64 = 10;
+
+// Whether a class has a free chunk.
+fn is_free(class: &ClassState) -> bool
+    ensures { result ≡ words.is_free class.now class.now.history }
+{
+    class.count() < class.chunks()
+}
+
+// One round of making room in a class without a free chunk.
+fn room_round<G: Gate>(
+    alloc: Global,
+    class: &mut ClassState,
+    who: Who,
+    moment: u64,
+    config: &Config,
+    gate: &mut G,
+) -> Result<(), Fault>
+    requires full { words.is_free class.old class.old.history ≡ false }
+    requires config { IsClassOf config.now class.old }
+    requires gate { G.serves gate.old config.now }
+    ensures round { IfOk result (λ _. (xs : List Answer) × (G.answers gate.new ≡ G.answers gate.old ++ xs) × IsRoomRound (rounds class.old who moment config.now) class.old.history xs class.new.history) }
+    ensures grows { Grows class.old class.new }
+    ensures fault { IfErr result (G.faults gate.new class.new) }
+    ensures holds { G.reference gate.new ≡ G.reference gate.old }
+    ensures serves { G.serves gate.new config.now }
+    ensures kept { Kept (G.keeps (walker_of class.old who moment)) gate.old class.old.history gate.new class.new.history }
+{
+    let pulled = pull_tail(
+        alloc,
+        class,
+        Seg::Cold,
+        Mode::Evict,
+        who,
+        moment,
+        config,
+        gate,
+    )?;
+    if pulled.did_something() {
+        return Ok(());
+    }
+    pull_tail(
+        alloc,
+        class,
+        Seg::Hot,
+        Mode::Force,
+        who,
+        moment,
+        config,
+        gate,
+    )?;
+    Ok(())
+}
+
+/// Makes room in a class: up to ten rounds, each of which pulls COLD for an entry to take, and, where that did nothing,
+/// HOT for one to force to COLD. It answers whether a chunk is free. Its faults are the gate's; the events so far then
+/// stand.
+pub fn make_room<G: Gate>(
+    alloc: Global,
+    class: &mut ClassState,
+    who: Who,
+    moment: u64,
+    config: &Config,
+    gate: &mut G,
+) -> Result<bool, Fault>
+    requires config { IsClassOf config.now class.old }
+    requires gate { G.serves gate.old config.now }
+    ensures room { IfOk result (λ found. (xs : List Answer) × (G.answers gate.new ≡ G.answers gate.old ++ xs) × IsRoom (rounds class.old who moment config.now) class.old.history xs class.new.history found) }
+    ensures grows { Grows class.old class.new }
+    ensures fault { IfErr result (G.faults gate.new class.new) }
+    ensures holds { G.reference gate.new ≡ G.reference gate.old }
+    ensures serves { G.serves gate.new config.now }
+    ensures kept { Kept (G.keeps (walker_of class.old who moment)) gate.old class.old.history gate.new class.new.history }
+{
+    let mut left: u64 = MOST_ROUNDS;
+    'rounds: while left > 0 {
+        if is_free(class) {
+            break;
+        }
+        room_round(alloc, class, who, moment, config, gate)?;
+        left -= 1;
+    }
+    Ok(is_free(class))
+}

@@ -1,0 +1,283 @@
+//! One entry is judged with its stripe, and what is to be done is done in both.
+ghost use Rattle.std.specs.Prelude.{◌≡◌, ◌≤◌, ◌<◌, ◌⊎◌, length, IfOk, IfErr, OnOk, OnErr, IsSomeAnd, MatchResult};
+ghost use Rattle.mc_rule.specs.Segment.{rule_of};
+ghost use Rattle.mc_rule.specs.Lawful.{IsListed};
+ghost use Rattle.mc_rule.specs.Lists.{lists_of};
+ghost use Rattle.mc_segment.specs.ClassState.{with_room, HasPlaces, MayRefuse};
+ghost use Rattle.mc_segment.specs.Entries.{entry_of};
+ghost use Rattle.mc_stripe.specs.StripeState.{cache_now};
+ghost use Rattle.mc_stripe.specs.StripeCalls.{KeepsSite};
+ghost use Rattle.mc_pull.specs.Agreeing.{KeepsAgreement};
+ghost use Rattle.mc_pull.specs.Judgement.{done_of};
+ghost use Rattle.mc_pull.specs.Question.{question, question_of, IsAsked, IsClassOf, IsStripeOf, MayJudge};
+ghost use Rattle.mc_pull.specs.Refusal.{HavePlaces, MayFail, MayRefuseBoth, MayRefuseFor};
+ghost use Rattle.mc_pull.specs.Settled as words;
+ghost use Rattle.mc_pull.specs.Settled.{class_events, class_with, IsSettled};
+ghost use Rattle.mc_pull.specs.Outcome as table;
+ghost use Rattle.mc_pull.specs.declared.judge.Done.TheVariants as done;
+ghost use Rattle.mc_pull.specs.declared.judge.Judge.TheVariants as judges;
+
+use crate::certain;
+use crate::judge::{Ask, Done, Judge, Mode};
+use crate::verdict::{is_over, verdict};
+use mc_item::{Config, Fault, Key, Passed, Seg, Who, Why};
+use mc_segment::ClassState;
+use mc_stripe::StripeState;
+use std::alloc::Global;
+
+// Makes room for an event of a class and one of a stripe, and copies the entry's key for the stripe's.
+fn prepare(
+    alloc: Global,
+    class: &mut ClassState,
+    stripe: &mut StripeState,
+    number: u64,
+    config: &Config,
+) -> Result<Key, Fault>
+    requires class { IsClassOf config.now class.old }
+    requires stripe { IsStripeOf config.now stripe.old }
+    requires there { IsListed number (lists_of class.old.history) }
+    ensures key { IfOk result (λ key. IsSomeAnd (entry_of number (lists_of class.old.history)) (λ e. key ≡ e.key)) }
+    ensures class { class.new ≡ with_room class.old class.new.room }
+    ensures history { stripe.new.history ≡ stripe.old.history }
+    ensures site { KeepsSite stripe.old stripe.new }
+    ensures room { OnOk result ((0 < class.new.room) × (0 < stripe.new.room)) }
+    ensures refusal { MatchResult result (λ _. HavePlaces class.old stripe.old) (MayRefuseBoth class.old stripe.old) }
+{
+    if class.history().len() as u64 >= config.max_events {
+        return Err(Fault::HistoryFull);
+    }
+    if stripe.history().len() as u64 >= config.max_events {
+        return Err(Fault::HistoryFull);
+    }
+    let key = class.entry(number).unwrap().key.copy(alloc)?;
+    class.reserve(1)?;
+    stripe.reserve(1)?;
+    Ok(key)
+}
+
+// The numbers behind an entry.
+fn passed_of(judge: &Judge) -> Passed
+    ensures { result ≡ words.passed_of judge.now }
+{
+    match judge {
+        Judge::Walk { passed, .. } => Passed::of(passed.as_slice()),
+        Judge::Dead => Passed::of(&[]),
+    }
+}
+
+// Why an entry of this segment goes to COLD.
+fn cold_why(class: &ClassState, seg: Seg, mode: Mode, config: &Config) -> Why
+    ensures { result ≡ table.cold_why (rule_of config.now) (lists_of class.now.history) seg mode }
+{
+    match mode {
+        Mode::Plain(survey) => {
+            if is_over(class, seg, survey, config) {
+                Why::Over(survey.place)
+            } else {
+                Why::Old(survey.place)
+            }
+        }
+        Mode::Evict => Why::Forced,
+        Mode::Force => Why::Forced,
+    }
+}
+
+// The entry of a dead item goes with it.
+fn settle_dead(
+    alloc: Global,
+    class: &mut ClassState,
+    stripe: &mut StripeState,
+    ask: &Ask<'_>,
+) -> Result<(), Fault>
+    requires asked { IsAsked class.old stripe.old ask.now }
+    requires done { done_of class.old (cache_now stripe.old) (question_of ask.now) ≡ done.Reclaimed }
+    ensures settled { OnOk result (IsSettled class.old class.new stripe.old stripe.new (question_of ask.now) done.Reclaimed) }
+    ensures err { OnErr result ((class.new ≡ with_room class.old class.new.room) × (stripe.new.history ≡ stripe.old.history)) }
+    ensures site { KeepsSite stripe.old stripe.new }
+    ensures refusal { MatchResult result (λ _. HavePlaces class.old stripe.old) (MayRefuseBoth class.old stripe.old) }
+{
+    let key = prepare(alloc, class, stripe, ask.number, ask.config)?;
+    let at = stripe.history().len() as u64;
+    certain::reclaim(class, ask.who, ask.number, ask.moment, at);
+    certain::forget_expired(stripe, ask.who, key, ask.moment);
+    Ok(())
+}
+
+// An entry of COLD is taken, and its item goes.
+fn settle_taken(
+    alloc: Global,
+    class: &mut ClassState,
+    stripe: &mut StripeState,
+    ask: &Ask<'_>,
+) -> Result<(), Fault>
+    requires asked { IsAsked class.old stripe.old ask.now }
+    requires done { done_of class.old (cache_now stripe.old) (question_of ask.now) ≡ done.Evicted }
+    ensures settled { OnOk result (IsSettled class.old class.new stripe.old stripe.new (question_of ask.now) done.Evicted) }
+    ensures err { OnErr result ((class.new ≡ with_room class.old class.new.room) × (stripe.new.history ≡ stripe.old.history)) }
+    ensures site { KeepsSite stripe.old stripe.new }
+    ensures refusal { MatchResult result (λ _. HavePlaces class.old stripe.old) (MayRefuseBoth class.old stripe.old) }
+{
+    let key = prepare(alloc, class, stripe, ask.number, ask.config)?;
+    let at = stripe.history().len() as u64;
+    let place = class.history().len() as u64;
+    certain::evict(class, ask.who, ask.number, passed_of(ask.judge), at);
+    certain::forget_taken(stripe, ask.who, key, class.number(), place);
+    Ok(())
+}
+
+// An active entry goes to WARM's head, and its item is cooled.
+fn settle_active(
+    alloc: Global,
+    class: &mut ClassState,
+    stripe: &mut StripeState,
+    ask: &Ask<'_>,
+    made: Done,
+) -> Result<(), Fault>
+    requires asked { IsAsked class.old stripe.old ask.now }
+    requires done { done_of class.old (cache_now stripe.old) (question_of ask.now) ≡ made }
+    requires made { (made ≡ done.ToWarm) ⊎ (made ≡ done.WithinWarm) }
+    ensures settled { OnOk result (IsSettled class.old class.new stripe.old stripe.new (question_of ask.now) made) }
+    ensures err { OnErr result ((class.new ≡ with_room class.old class.new.room) × (stripe.new.history ≡ stripe.old.history)) }
+    ensures site { KeepsSite stripe.old stripe.new }
+    ensures refusal { MatchResult result (λ _. HavePlaces class.old stripe.old) (MayRefuseBoth class.old stripe.old) }
+{
+    let _made = made;
+    let key = prepare(alloc, class, stripe, ask.number, ask.config)?;
+    let at = stripe.history().len() as u64;
+    class.law();
+    certain::shift(
+        class,
+        ask.who,
+        ask.number,
+        Seg::Warm,
+        Why::Active,
+        ask.moment,
+        passed_of(ask.judge),
+        at,
+    );
+    certain::cool(stripe, ask.who, key);
+    Ok(())
+}
+
+// An entry goes to COLD's head.
+fn settle_cold(
+    class: &mut ClassState,
+    stripe: &StripeState,
+    ask: &Ask<'_>,
+    seg: Seg,
+    mode: Mode,
+    passed: &Passed,
+) -> Result<(), Fault>
+    requires judge { ask.now.judge.now ≡ judges.Walk seg mode passed.now }
+    requires asked { IsAsked class.old stripe.now ask.now }
+    requires done { done_of class.old (cache_now stripe.now) (question_of ask.now) ≡ done.ToCold }
+    ensures ok { OnOk result (class.new ≡ class_with class.old (class_events class.old (question_of ask.now) (length stripe.now.history) done.ToCold) class.new.room) }
+    ensures err { OnErr result (class.new ≡ with_room class.old class.new.room) }
+    ensures refusal { MatchResult result (λ _. HasPlaces class.old 1) (MayRefuse class.old 1) }
+{
+    let why = cold_why(class, seg, mode, ask.config);
+    let at = stripe.history().len() as u64;
+    class.law();
+    class.shift(
+        ask.who,
+        ask.number,
+        Seg::Cold,
+        why,
+        ask.moment,
+        Passed::of(passed.as_slice()),
+        at,
+    )
+}
+
+// Judges an entry, by what is to be done with it.
+fn settle_by(
+    alloc: Global,
+    class: &mut ClassState,
+    stripe: &mut StripeState,
+    ask: &Ask<'_>,
+) -> Result<Done, Fault>
+    requires asked { IsAsked class.old stripe.old ask.now }
+    ensures done { IfOk result (λ made. made ≡ done_of class.old (cache_now stripe.old) (question_of ask.now)) }
+    ensures settled { IfOk result (λ made. IsSettled class.old class.new stripe.old stripe.new (question_of ask.now) made) }
+    ensures err { OnErr result ((class.new ≡ with_room class.old class.new.room) × (stripe.new.history ≡ stripe.old.history)) }
+    ensures site { KeepsSite stripe.old stripe.new }
+    ensures full { IfErr result (MayFail class.new stripe.new) }
+    ensures refusal { IfErr result (MayRefuseFor class.old stripe.old (done_of class.old (cache_now stripe.old) (question_of ask.now))) }
+{
+    let made = verdict(class, stripe, ask.number, ask.judge, ask.moment, ask.config);
+    match made {
+        Done::Reclaimed => settle_dead(alloc, class, stripe, ask)?,
+        Done::ToWarm => settle_active(alloc, class, stripe, ask, made)?,
+        Done::WithinWarm => settle_active(alloc, class, stripe, ask, made)?,
+        Done::ToCold => match ask.judge {
+            Judge::Walk { seg, mode, passed } => {
+                settle_cold(class, stripe, ask, *seg, *mode, passed)?
+            }
+            Judge::Dead => unreachable!(),
+        },
+        Done::Evicted => settle_taken(alloc, class, stripe, ask)?,
+        Done::Stayed => {}
+        Done::Alive(_) => {}
+        Done::Stranger => {}
+    }
+    Ok(made)
+}
+
+// Judges an entry.
+pub(crate) fn settle_ask(
+    alloc: Global,
+    class: &mut ClassState,
+    stripe: &mut StripeState,
+    ask: &Ask<'_>,
+) -> Result<Done, Fault>
+    requires asked { IsAsked class.old stripe.old ask.now }
+    ensures done { IfOk result (λ made. made ≡ done_of class.old (cache_now stripe.old) (question_of ask.now)) }
+    ensures settled { IfOk result (λ made. IsSettled class.old class.new stripe.old stripe.new (question_of ask.now) made) }
+    ensures agreement { KeepsAgreement class.old class.new stripe.old stripe.new }
+    ensures err { OnErr result ((class.new ≡ with_room class.old class.new.room) × (stripe.new.history ≡ stripe.old.history)) }
+    ensures site { KeepsSite stripe.old stripe.new }
+    ensures refusal { IfErr result (MayRefuseFor class.old stripe.old (done_of class.old (cache_now stripe.old) (question_of ask.now))) }
+{
+    class.law();
+    stripe.history();
+    settle_by(alloc, class, stripe, ask)
+}
+
+/// Judges one entry with its stripe, by the rule of its segment or only for whether its item is dead, and makes the
+/// events of both histories. The entry is in a list; a walk names its list, and just the entries behind it. A stranger
+/// changes nothing. `HistoryFull` exactly where a history has no place for an event that is to be made, `NoMemory` only
+/// where one is to be made; then neither history has changed.
+pub fn settle(
+    alloc: Global,
+    class: &mut ClassState,
+    stripe: &mut StripeState,
+    who: Who,
+    number: u64,
+    judge: &Judge,
+    moment: u64,
+    config: &Config,
+) -> Result<Done, Fault>
+    requires class { IsClassOf config.now class.old }
+    requires stripe { IsStripeOf config.now stripe.old }
+    requires judge { MayJudge class.old (question who number judge.now moment) }
+    ensures done { IfOk result (λ made. made ≡ done_of class.old (cache_now stripe.old) (question who number judge.now moment)) }
+    ensures settled { IfOk result (λ made. IsSettled class.old class.new stripe.old stripe.new (question who number judge.now moment) made) }
+    ensures agreement { KeepsAgreement class.old class.new stripe.old stripe.new }
+    ensures err { OnErr result ((class.new ≡ with_room class.old class.new.room) × (stripe.new.history ≡ stripe.old.history)) }
+    ensures site { KeepsSite stripe.old stripe.new }
+    ensures full { IfErr result (MayFail class.new stripe.new) }
+    ensures refusal { IfErr result (MayRefuseFor class.old stripe.old (done_of class.old (cache_now stripe.old) (question who number judge.now moment))) }
+{
+    settle_ask(
+        alloc,
+        class,
+        stripe,
+        &Ask {
+            who,
+            number,
+            judge,
+            moment,
+            config,
+        },
+    )
+}

@@ -1,0 +1,11 @@
+//! What the tests share: the one who calls.
+mod bounds;
+mod by_list;
+mod judgements;
+mod performing;
+mod walks;
+mod world;
+
+use mc_item::Who;
+
+const WHO: Who = Who { caller: 0, turn: 0 };

@@ -1,0 +1,237 @@
+//! A store of one stripe and one class, filled by hand.
+ghost use Rattle.std.specs.Prelude.{◌≡◌, ◌≢◌, IfOk, Some, true, false};
+ghost use Rattle.mc_item.specs.Config.{IsSound, IsBounded};
+ghost use Rattle.mc_item.specs.Stripe.{Fits, IsUnnamed, link_named};
+ghost use Rattle.mc_stripe.specs.StripeCalls.{room_for};
+ghost use Rattle.mc_pull_tests.specs.World.{IsWorld};
+
+use super::WHO;
+use mc_item::{
+    Cause, ClassEvent, ClassNo, Command, Config, Key, Link, Moves, Need, Numbers, Room, Seg,
+    StripeEvent, StripeNo, Value, Verb,
+};
+use mc_pull::Lone;
+use mc_segment::ClassState;
+use mc_stripe::StripeState;
+use std::alloc::Global;
+use std::hash::RandomState;
+use std::process::Abort;
+use std::random::RandomSource;
+use std::test::Fail;
+
+/// A stripe and a class, and what both were made with.
+#[derive(Drop)]
+pub struct World {
+    pub alloc: Global,
+    pub config: Config,
+    pub class: ClassState,
+    pub stripe: StripeState,
+}
+
+fn checked(config: Config) -> Result<Config, Fail>
+    ensures sound { IfOk result (λ c. IsSound c × (c ≡ config)) }
+    ensures bounded { IfOk result IsBounded }
+{
+    Ok(config.check()?)
+}
+
+/// The usual configuration with one slab class of this many chunks of 96 bytes.
+pub fn usual(alloc: Global, chunks: u64) -> Result<Config, Fail> {
+    let sizes = Numbers::from_vec(Vec::from_slice(alloc, &[96])?);
+    let chunks = Numbers::from_vec(Vec::from_slice(alloc, &[chunks])?);
+    let usual = Config::usual(alloc, 1)?;
+    Ok(Config {
+        sizes,
+        chunks,
+        ..usual
+    })
+}
+
+/// A store of this configuration, which has one stripe.
+pub fn opened<R: Abort + RandomSource>(rt: &R, alloc: Global, config: Config) -> Result<World, Fail>
+    ensures { IfOk result (λ w. IsWorld w.config w.class w.stripe) }
+{
+    let config = checked(config)?;
+    let seed = RandomState::new(rt)?;
+    let class = ClassState::new(alloc, ClassNo(1), &config);
+    let stripe = StripeState::new(alloc, StripeNo(0), &config, seed);
+    Ok(World {
+        alloc,
+        config,
+        class,
+        stripe,
+    })
+}
+
+// Whether an event gives the link to a new version.
+fn gives(event: &StripeEvent, link: Link) -> bool
+    ensures { result ≡ false → link_named event.now ≢ Some link }
+{
+    match event {
+        StripeEvent::Did(did) => match did.room {
+            Room::At(given) => given == link,
+            Room::Keep => false,
+            Room::Refused { .. } => false,
+        },
+        StripeEvent::Lost(_) => false,
+        StripeEvent::Cooled(_) => false,
+    }
+}
+
+/// Whether no event gives the link.
+pub fn is_unnamed(events: &[StripeEvent], link: Link) -> bool
+    ensures { result ≡ true → IsUnnamed link events.now }
+{
+    match events {
+        [] => true,
+        [first, ..] => !gives(first, link) && is_unnamed(&events[1..], link),
+    }
+}
+
+// Whether a need is met by the link of this number.
+fn is_met(need: Need, events: &[StripeEvent], number: u64) -> bool
+    ensures { result ≡ true → Fits need (room_for need number) events.now }
+{
+    match need {
+        Need::Fresh(class) => is_unnamed(events, Link { class, number }),
+        Need::Nothing => true,
+        Need::Same => true,
+        Need::TooLarge => true,
+    }
+}
+
+/// Answers a command on the stripe; a new version gets the next number of the class.
+pub fn ask<R: Abort>(rt: &R, world: &mut World, command: Command, moment: u64)
+    requires world { IsWorld world.old.config world.old.class world.old.stripe }
+    ensures world { IsWorld world.new.config world.new.class world.new.stripe }
+{
+    let stripe = &mut world.stripe;
+    let number = world.class.next_number();
+    assert!(rt; moment <= 1 << 62);
+    assert!(rt; stripe.owns(command.key()));
+    let need = stripe.need(&command, moment);
+    assert!(rt; is_met(need, stripe.history(), number));
+    let back = stripe
+        .answer(WHO, command, moment, number)
+        .expect(rt, "an answer");
+    assert!(rt; back.is_none());
+}
+
+/// The key of one letter.
+pub fn key<R: Abort>(rt: &R, alloc: Global, letter: u8) -> Key {
+    Key::of(alloc, &[letter]).expect(rt, "a key")
+}
+
+/// Stores an item of 66 bytes under the key of one letter.
+pub fn set<R: Abort>(rt: &R, world: &mut World, letter: u8, exptime: i64, moment: u64)
+    requires world { IsWorld world.old.config world.old.class world.old.stripe }
+    ensures world { IsWorld world.new.config world.new.class world.new.stripe }
+{
+    let alloc = world.alloc;
+    let text = Vec::from_slice(alloc, &[letter]).expect(rt, "a value");
+    let command = Command::Store {
+        verb: Verb::Set,
+        key: key(rt, alloc, letter),
+        flags: 0,
+        exptime,
+        value: Value::from_vec(text),
+    };
+    ask(rt, world, command, moment);
+}
+
+/// Stores such an item and links its entry.
+pub fn store<R: Abort>(rt: &R, world: &mut World, letter: u8, exptime: i64, moment: u64)
+    requires world { IsWorld world.old.config world.old.class world.old.stripe }
+    ensures world { IsWorld world.new.config world.new.class world.new.stripe }
+{
+    set(rt, world, letter, exptime, moment);
+    let key = key(rt, world.alloc, letter);
+    let expiry = world.stripe.find(&key).expect(rt, "an item").expiry;
+    let class = &mut world.class;
+    assert!(rt; class.count() < class.chunks());
+    class
+        .link(WHO, key, 66, moment, expiry)
+        .expect(rt, "an entry");
+}
+
+/// Juggles the class, through a gate that is lent the stripe.
+pub fn juggle<R: Abort>(rt: &R, world: &mut World, moment: u64) -> Moves
+    requires world { IsWorld world.old.config world.old.class world.old.stripe }
+    ensures world { IsWorld world.new.config world.new.class world.new.stripe }
+{
+    let alloc = world.alloc;
+    let mut answers = Vec::new(alloc);
+    let mut gate = Lone {
+        number: StripeNo(0),
+        stripe: &mut world.stripe,
+        answers: &mut answers,
+    };
+    let class = &mut world.class;
+    gate.juggle(alloc, class, WHO, moment, &world.config)
+        .expect(rt, "moves")
+}
+
+/// Asserts the numbers of a list's entries, from its tail.
+pub fn asserts_list<R: Abort>(rt: &R, world: &World, seg: Seg, wanted: &[u64]) {
+    let mut numbers = Vec::new(world.alloc);
+    for j in 0..world.class.len(seg) {
+        let entry = world.class.from_tail(seg, j).expect(rt, "an entry");
+        numbers.push(entry.number).expect(rt, "a place");
+    }
+    assert_eq!(rt; numbers.as_slice(), wanted);
+}
+
+/// What a class's last event says.
+pub fn last_of_class(world: &World) -> Result<String, Fail> {
+    let alloc = world.alloc;
+    match world.class.history().last() {
+        Some(ClassEvent::Evicted(e)) => {
+            Ok(format!(in alloc;
+                "evicts {} past {:?} at {}",
+                e.number,
+                e.passed.as_slice(),
+                e.at
+            )?)
+        }
+        Some(ClassEvent::Reclaimed(e)) => Ok(format!(in alloc;
+            "reclaims {} at {}",
+            e.number, e.at
+        )?),
+        Some(ClassEvent::Shifted(e)) => {
+            let moved = format!(in alloc;
+                "moves {} from {:?} to {:?}",
+                e.number, e.from_seg, e.to_seg
+            )?;
+            Ok(format!(in alloc;
+                "{moved} for {:?} past {:?} at {}",
+                e.why,
+                e.passed.as_slice(),
+                e.at
+            )?)
+        }
+        _ => Ok(format!(in alloc; "else")?),
+    }
+}
+
+/// What a stripe's last event says.
+pub fn last_of_stripe(world: &World) -> Result<String, Fail> {
+    let alloc = world.alloc;
+    match world.stripe.history().last() {
+        Some(StripeEvent::Lost(e)) => match e.cause {
+            Cause::Expired(moment) => Ok(format!(in alloc;
+                "loses {:?} dead at {moment}",
+                e.key.bytes()
+            )?),
+            Cause::Taken { class, place } => {
+                Ok(format!(in alloc;
+                    "loses {:?} taken by {} of class {}",
+                    e.key.bytes(),
+                    place,
+                    class.0
+                )?)
+            }
+        },
+        Some(StripeEvent::Cooled(e)) => Ok(format!(in alloc; "cools {:?}", e.key.bytes())?),
+        _ => Ok(format!(in alloc; "else")?),
+    }
+}
