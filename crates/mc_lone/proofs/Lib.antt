@@ -1,0 +1,3 @@
+pub mod TogetherLemmas
+pub mod DeadLemmas
+pub mod StoreLemmas

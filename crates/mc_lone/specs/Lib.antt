@@ -1,0 +1,2 @@
+pub mod LoneStore
+pub mod LoneSteps

@@ -1,0 +1,10 @@
+//! One stripe with all its slab classes, on one thread: commands and juggling, by the rule of the segments.
+#![tactic(auto)]
+
+mod steps;
+mod store;
+mod walks;
+
+pub use steps::{bury, refuse_in};
+pub use store::LoneStore;
+pub use walks::{juggle_in, make_room_in};

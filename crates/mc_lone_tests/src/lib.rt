@@ -1,0 +1,5 @@
+//! Tests of a store that one thread alone uses.
+#![tactic(auto)]
+
+#[cfg(test)]
+mod tests;
