@@ -14,5 +14,6 @@ mod state;
 mod steps;
 mod surveying;
 
+pub use mc_item::Passed;
 pub use state::ClassState;
 pub use surveying::Survey;
