@@ -18,7 +18,7 @@ pub struct ByList<'a> {
 }
 
 impl<'a> Gate for ByList<'a> {
-    ghost use Rattle.mc_pull.specs.Lone.{Serves, StripeGrows};
+    ghost use Rattle.mc_pull.specs.Lone.{Serves};
     ghost use Rattle.mc_pull.specs.Refusal.{MayFail};
 
     ghost answers = { λ g. g.answers.now.items };
@@ -29,7 +29,7 @@ impl<'a> Gate for ByList<'a> {
 
     ghost faults = { λ g c. MayFail c g.stripe.now };
 
-    ghost keeps = { λ g begun h history. StripeGrows g.stripe.now h.stripe.now };
+    ghost keeps = { λ w g begun h history. Unit {0} };
 
     fn visit(&mut self, stripe: StripeNo, look: &mut Look<'_>) -> Result<bool, Fault> {
         let place = self.answers.len();
