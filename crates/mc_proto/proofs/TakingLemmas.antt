@@ -121,7 +121,7 @@ line_skips limits u stream piece rs end s a l lf lack short is =
 
 -- a line that is whole, whatever it says
 pub line_done : (limits : Limits) (u v stream piece : List ℕ) (rs : List Request) (end : ℕ) (x : Said) → After limits Line u stream rs → end < length piece → get_or piece end 0 ≡ 10 → Lacks 10 (take end piece) → length u + end ≤ 65536
-    → x ≡ says limits (u ++ take end piece) → IsFine x → v ≡ [] → After limits (state_after x) v (stream ++ take (end + 1) piece) (rs ++ option_to_list (request_after x))
+    → x ≡ says limits (u ++ take end piece) → IsFine limits x → v ≡ [] → After limits (state_after x) v (stream ++ take (end + 1) piece) (rs ++ option_to_list (request_after x))
 line_done limits u v stream piece rs end (said.Whole r) a l lf lack short is fine none = rw none (line_asks limits Line u stream piece rs end r a l lf lack short is (refl, tt, omega arith) fine.0)
 line_done limits u v stream piece rs end (said.Block s) a l lf lack short is fine none = rw (none, append-nil rs) (line_blocks limits u stream piece rs end s a l lf lack short is)
 line_done limits u v stream piece rs end (said.Skip s) a l lf lack short is fine none = rw (none, append-nil rs) (line_skips limits u stream piece rs end s a l lf lack short is)

@@ -9,6 +9,8 @@ use Rattle.mc_proto.specs.declared.request.LineFault.{LineFault}
 use Rattle.mc_proto.specs.declared.request.LineFault.TheVariants.{Error, Format, Chunk, Delta, LineTooLong, Exptime}
 use Rattle.mc_proto.specs.declared.request.Request.{Request}
 use Rattle.mc_proto.specs.declared.request.Request.TheVariants.{Get, One, Bad, At, Next, Juggle, Crawl, Quit}
+use Rattle.mc_proto.specs.declared.request.Target.{Target}
+use Rattle.mc_proto.specs.declared.request.Target.TheVariants.{All, Class}
 use Rattle.mc_proto.specs.declared.state.Said.{Said}
 use Rattle.mc_proto.specs.declared.state.Said.TheVariants.{Whole, Block, Skip}
 use Rattle.mc_proto.specs.declared.state.Start.{Start}
@@ -100,19 +102,24 @@ pub record Reads (limits : Limits) (stream : List ℕ) (requests : List Request)
   pub spelt : Spelt limits stream requests rest
   pub all : closed requests ≡ false → BeginsNone limits rest
 
--- a request sets no moment above 2^62
-abbrev pub IsModerate : Request → Type 0
-IsModerate (At moment) = moment ≤ 2 ^ 62
-IsModerate (Get keys with_cas) = Unit {0}
-IsModerate (One command quiet) = Unit {0}
-IsModerate (Bad why quiet) = Unit {0}
-IsModerate Next = Unit {0}
-IsModerate (Juggle target) = Unit {0}
-IsModerate (Crawl target) = Unit {0}
-IsModerate Quit = Unit {0}
+-- the slab classes that a directive names are among those of the limits
+abbrev pub AreAmong : Limits → Target → Type 0
+AreAmong limits All = Unit {0}
+AreAmong limits (Class class) = (1 ≤ class.0) × (class.0 ≤ limits.classes)
 
--- what each line is: none closes the reader or sets too late a moment, and the bytes of a block have a bound
-abbrev pub IsFine : Said → Type 0
-IsFine (Whole r) = (closes r ≡ false) × IsModerate r
-IsFine (Block s) = s.count ≤ 2147483645
-IsFine (Skip s) = s.count ≤ 2147483645
+-- a request sets no moment above 2^62, and names no class that isn't there
+abbrev pub IsModerate : Limits → Request → Type 0
+IsModerate limits (At moment) = moment ≤ 2 ^ 62
+IsModerate limits (Juggle target) = AreAmong limits target
+IsModerate limits (Crawl target) = AreAmong limits target
+IsModerate limits (Get keys with_cas) = Unit {0}
+IsModerate limits (One command quiet) = Unit {0}
+IsModerate limits (Bad why quiet) = Unit {0}
+IsModerate limits Next = Unit {0}
+IsModerate limits Quit = Unit {0}
+
+-- what each line is: none closes the reader, sets too late a moment or names a class that isn't there, and the bytes of a block have a bound
+abbrev pub IsFine : Limits → Said → Type 0
+IsFine limits (Whole r) = (closes r ≡ false) × IsModerate limits r
+IsFine limits (Block s) = s.count ≤ 2147483645
+IsFine limits (Skip s) = s.count ≤ 2147483645

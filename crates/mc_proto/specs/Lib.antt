@@ -5,3 +5,4 @@ pub mod Table
 pub mod Grammar
 pub mod Reader
 pub mod Text
+pub mod Answers

@@ -6,8 +6,6 @@ use Rattle.mc_item.specs.declared.reply.Reply.{Reply}
 use Rattle.mc_item.specs.declared.reply.Reply.TheVariants as replies
 use Rattle.mc_proto.specs.declared.request.LineFault.{LineFault}
 use Rattle.mc_proto.specs.declared.request.LineFault.TheVariants as faults
-use Rattle.mc_proto.specs.declared.request.Request.{Request}
-use Rattle.mc_proto.specs.declared.request.Request.TheVariants as requests
 
 -- the end of a line
 abbrev pub crlf : List ℕ
@@ -71,18 +69,6 @@ values_text with_cas (key ∷ keys) [] = []
 abbrev pub one_text : List Reply → List ℕ
 one_text [] = []
 one_text (reply ∷ rs) = reply_text reply
-
--- the text of a request by its replies; nothing where it is quiet
-abbrev pub text_of : Request → List Reply → List ℕ
-text_of (requests.Get keys with_cas) rs = values_text with_cas keys rs ++ end_text
-text_of (requests.One command quiet) rs = if quiet then [] else one_text rs
-text_of (requests.Bad why quiet) rs = if quiet then [] else fault_text why
-text_of (requests.At moment) rs = []
-text_of requests.Next rs = []
-text_of requests.Quit rs = []
--- nothing drives the maintainer or the crawler yet, so their directives are printed as an error
-text_of (requests.Juggle target) rs = fault_text faults.Error
-text_of (requests.Crawl target) rs = fault_text faults.Error
 
 -- the text of the maintainer's directive: how many entries were reclaimed and moved (own)
 abbrev pub moves_text : Moves → List ℕ

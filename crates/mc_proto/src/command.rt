@@ -18,7 +18,7 @@ use std::alloc::Global;
 #[inline(always)]
 pub fn count(up: bool, key: Key, delta: u64, quiet: bool) -> Said
     ensures value { result ≡ table.count up key delta quiet }
-    ensures fine { IsFine result }
+    ensures fine { (limits : Limits) → IsFine limits result }
 {
     if up {
         one(quiet, Command::Incr(key, delta))
@@ -30,7 +30,7 @@ pub fn count(up: bool, key: Key, delta: u64, quiet: bool) -> Said
 /// The lines incr and decr: key and delta.
 pub fn count_line(alloc: Global, up: bool, args: &[&[u8]]) -> Result<Said, NoMemory>
     ensures value { (limits : Limits) → IfOk result (λ s. s ≡ row_says limits (kinds.Key ∷ kinds.Delta ∷ []) Noreply (table.count up) (map (λ t. t.now) args.now)) }
-    ensures fine { IfOk result (λ s. IsFine s) }
+    ensures fine { (limits : Limits) → IfOk result (λ s. IsFine limits s) }
 {
     let [key, delta, rest @ ..] = args else {
         return Ok(no_line());
@@ -50,7 +50,7 @@ pub fn count_line(alloc: Global, up: bool, args: &[&[u8]]) -> Result<Said, NoMem
 /// The line touch: key and exptime.
 pub fn touch_line(alloc: Global, args: &[&[u8]]) -> Result<Said, NoMemory>
     ensures value { (limits : Limits) → IfOk result (λ s. s ≡ row_says limits (kinds.Key ∷ kinds.NewExptime ∷ []) Noreply (λ key e quiet. table.one quiet (commands.Touch key e)) (map (λ t. t.now) args.now)) }
-    ensures fine { IfOk result (λ s. IsFine s) }
+    ensures fine { (limits : Limits) → IfOk result (λ s. IsFine limits s) }
 {
     let [key, e, rest @ ..] = args else {
         return Ok(no_line());
@@ -70,7 +70,7 @@ pub fn touch_line(alloc: Global, args: &[&[u8]]) -> Result<Said, NoMemory>
 /// The line delete: key.
 pub fn delete_line(alloc: Global, args: &[&[u8]]) -> Result<Said, NoMemory>
     ensures value { (limits : Limits) → IfOk result (λ s. s ≡ row_says limits (kinds.Key ∷ []) Noreply (λ key quiet. table.one quiet (commands.Delete key)) (map (λ t. t.now) args.now)) }
-    ensures fine { IfOk result (λ s. IsFine s) }
+    ensures fine { (limits : Limits) → IfOk result (λ s. IsFine limits s) }
 {
     let [key, rest @ ..] = args else {
         return Ok(no_line());

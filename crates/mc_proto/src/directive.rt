@@ -20,7 +20,7 @@ const MAX_MOMENT: u64 = 4_611_686_018_427_387_904;
 /// The line %at: a moment.
 pub fn at_line(args: &[&[u8]]) -> Said
     ensures value { (limits : Limits) → result ≡ row_says limits (kinds.Moment ∷ []) Nothing (λ moment. said.Whole (requests.At moment)) (map (λ t. t.now) args.now) }
-    ensures fine { IsFine result }
+    ensures fine { (limits : Limits) → IsFine limits result }
 {
     let [moment] = args else {
         return no_line();
@@ -62,7 +62,7 @@ fn target_of(limits: Limits, token: &[u8]) -> Option<Target>
 /// The line %juggle: all, or a class.
 pub fn juggle_line(limits: Limits, args: &[&[u8]]) -> Said
     ensures value { result ≡ row_says limits (kinds.Classes ∷ []) Nothing (λ target. said.Whole (requests.Juggle target)) (map (λ t. t.now) args.now) }
-    ensures fine { IsFine result }
+    ensures fine { IsFine limits result }
 {
     let [token] = args else {
         return no_line();
@@ -76,7 +76,7 @@ pub fn juggle_line(limits: Limits, args: &[&[u8]]) -> Said
 /// The line %crawl: all, or a class.
 pub fn crawl_line(limits: Limits, args: &[&[u8]]) -> Said
     ensures value { result ≡ row_says limits (kinds.Classes ∷ []) Nothing (λ target. said.Whole (requests.Crawl target)) (map (λ t. t.now) args.now) }
-    ensures fine { IsFine result }
+    ensures fine { IsFine limits result }
 {
     let [token] = args else {
         return no_line();
@@ -90,9 +90,9 @@ pub fn crawl_line(limits: Limits, args: &[&[u8]]) -> Said
 /// The lines %next and quit: nothing further.
 pub fn lone_line(request: Request, args: &[&[u8]]) -> Said
     requires stays { closes request ≡ false }
-    requires moderate { IsModerate request }
+    requires moderate { (limits : Limits) → IsModerate limits request }
     ensures value { (limits : Limits) → result ≡ row_says limits [] Nothing (said.Whole request) (map (λ t. t.now) args.now) }
-    ensures fine { IsFine result }
+    ensures fine { (limits : Limits) → IsFine limits result }
 {
     if args.is_empty() {
         Said::Whole(request)

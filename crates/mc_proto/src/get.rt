@@ -19,7 +19,7 @@ use std::alloc::Global;
 #[inline(always)]
 fn get_said(key: Option<Key>, with_cas: bool) -> Said
     ensures value { (limits : Limits) (token : List ℕ) → key ≡ lines.key_of token → result ≡ row_says limits [] table.Keys (λ keys. said.Whole (requests.Get keys with_cas)) (token ∷ []) }
-    ensures fine { IsFine result }
+    ensures fine { (limits : Limits) → IsFine limits result }
 {
     match key {
         Some(key) => Said::Whole(Request::Get {
@@ -34,7 +34,7 @@ fn get_said(key: Option<Key>, with_cas: bool) -> Said
 #[inline(never)]
 pub fn get_line(alloc: Global, with_cas: bool, tokens: &[&[u8]]) -> Result<Said, NoMemory>
     ensures value { (limits : Limits) → IfOk result (λ s. s ≡ row_says limits [] table.Keys (λ keys. said.Whole (requests.Get keys with_cas)) (map (λ t. t.now) tokens.now)) }
-    ensures fine { IfOk result (λ s. IsFine s) }
+    ensures fine { (limits : Limits) → IfOk result (λ s. IsFine limits s) }
 {
     if tokens.is_empty() {
         return Ok(no_line());

@@ -16,7 +16,7 @@ use std::alloc::Global;
 #[tactic(auto, unfolding(crate::specs::Table::says))]
 pub fn said_of(alloc: Global, limits: Limits, line: &[u8]) -> Result<Said, NoMemory>
     ensures value { IfOk result (λ s. s ≡ table.says limits line.now) }
-    ensures fine { IfOk result (λ s. IsFine s) }
+    ensures fine { IfOk result (λ s. IsFine limits s) }
 {
     let line = without_cr(line);
     if let Some(said) = quick_set(alloc, limits, line)? {

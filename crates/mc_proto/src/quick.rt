@@ -21,7 +21,7 @@ use std::alloc::Global;
 #[inline(always)]
 pub fn lone_get(alloc: Global, line: &[u8]) -> Result<Option<Key>, NoMemory>
     ensures value { IfOk result (λ found. IfSome found (λ key. (limits : Limits) → table.says limits line.now ≡ said.Whole (requests.Get (key ∷ []) false))) }
-    ensures fine { IfOk result (λ found. IfSome found (λ key. IsFine (said.Whole (requests.Get (key ∷ []) false)))) }
+    ensures fine { (limits : Limits) → IfOk result (λ found. IfSome found (λ key. IsFine limits (said.Whole (requests.Get (key ∷ []) false)))) }
 {
     let line = without_cr(line);
     if line.len() < 5 {
@@ -74,7 +74,7 @@ fn begun_set(limits: Limits, key: Key, flags: u64, exptime: u64, count: u64, qui
     requires exptime { exptime < 10 ^ 18 }
     requires count { count ≤ 2147483645 }
     ensures value { result ≡ table.begun limits (record { verb = stores.Set; key = key; flags = flags; exptime = pos exptime; count = count; quiet = quiet }) }
-    ensures fine { IsFine result }
+    ensures fine { IsFine limits result }
 {
     let exptime = exptime as i64;
     begun(
@@ -94,7 +94,7 @@ fn begun_set(limits: Limits, key: Key, flags: u64, exptime: u64, count: u64, qui
 #[inline(always)]
 pub fn quick_set(alloc: Global, limits: Limits, line: &[u8]) -> Result<Option<Said>, NoMemory>
     ensures value { IfOk result (λ found. IfSome found (λ s. s ≡ tokens_say limits (tokens line.now))) }
-    ensures fine { IfOk result (λ found. IfSome found (λ s. IsFine s)) }
+    ensures fine { IfOk result (λ found. IfSome found (λ s. IsFine limits s)) }
 {
     let Some(rest) = after_set(line) else {
         return Ok(None);
@@ -146,7 +146,7 @@ fn after_count(line: &[u8]) -> Option<(bool, &[u8])>
 #[inline(always)]
 pub fn quick_count(alloc: Global, limits: Limits, line: &[u8]) -> Result<Option<Said>, NoMemory>
     ensures value { IfOk result (λ found. IfSome found (λ s. s ≡ tokens_say limits (tokens line.now))) }
-    ensures fine { IfOk result (λ found. IfSome found (λ s. IsFine s)) }
+    ensures fine { IfOk result (λ found. IfSome found (λ s. IsFine limits s)) }
 {
     let _limits = limits;
     let Some((up, rest)) = after_count(line) else {

@@ -29,7 +29,7 @@ fn read_piece(
 ) -> Result<Vec<Request>, NoMemory>
     requires sound { IsSound state.old line.old.items }
     ensures sound { OnOk result (IsSound state.new line.new.items) }
-    ensures moderate { IfOk result (λ v. All IsModerate v.items) }
+    ensures moderate { IfOk result (λ v. All (IsModerate limits) v.items) }
     ensures reads { IfOk result (λ v. (stream : List ℕ) (requests : List Request) → After limits state.old line.old.items stream requests
         → After limits state.new line.new.items (stream ++ piece.now) (requests ++ v.items)) }
 {
@@ -83,7 +83,7 @@ impl Reader {
         ensures reads { IfOk result (λ v. (stream : List ℕ) (requests : List Request) → After self.old.limits self.old.state self.old.unread stream requests
             → After self.new.limits self.new.state self.new.unread (stream ++ piece.now) (requests ++ v.items)) }
         ensures closed { self.old.state ≡ Closed → (IfOk result (λ v. v.items ≡ []) × (self.new ≡ self.old) × IsOk result) }
-        ensures moderate { IfOk result (λ v. All IsModerate v.items) }
+        ensures moderate { IfOk result (λ v. All (IsModerate self.old.limits) v.items) }
         ensures err { OnErr result (self.new.state ≡ Failed) }
         ensures failed { self.old.state ≡ Failed → IsErr result }
     {

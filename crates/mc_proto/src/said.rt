@@ -2,6 +2,7 @@
 ghost use Rattle.std.specs.Prelude.{◌≡◌, [], false, map};
 ghost use Rattle.mc_proto.specs.Grammar.{IsFine, closing};
 ghost use Rattle.mc_proto.specs.Table as table;
+ghost use Rattle.mc_proto.specs.declared.request.Limits.{Limits};
 ghost use Rattle.mc_proto.specs.declared.request.LineFault.TheVariants as faults;
 
 use crate::request::{LineFault, Request};
@@ -12,7 +13,7 @@ use mc_item::Command;
 pub fn bad(why: LineFault, quiet: bool) -> Said
     requires { closing why ≡ false }
     ensures value { result ≡ table.bad why quiet }
-    ensures fine { IsFine result }
+    ensures fine { (limits : Limits) → IsFine limits result }
 {
     Said::Whole(Request::Bad { why, quiet })
 }
@@ -20,7 +21,7 @@ pub fn bad(why: LineFault, quiet: bool) -> Said
 /// An empty line, an unknown verb, or another number of tokens.
 pub fn no_line() -> Said
     ensures value { result ≡ table.no_line }
-    ensures fine { IsFine result }
+    ensures fine { (limits : Limits) → IsFine limits result }
 {
     bad(LineFault::Error, false)
 }
@@ -28,7 +29,7 @@ pub fn no_line() -> Said
 /// A line of which a token isn't what is due, but for a delta and a new exptime.
 pub fn no_format(quiet: bool) -> Said
     ensures value { result ≡ table.bad faults.Format quiet }
-    ensures fine { IsFine result }
+    ensures fine { (limits : Limits) → IsFine limits result }
 {
     bad(LineFault::Format, quiet)
 }
@@ -36,7 +37,7 @@ pub fn no_format(quiet: bool) -> Said
 /// A line that is a whole command.
 pub fn one(quiet: bool, command: Command) -> Said
     ensures value { result ≡ table.one quiet command }
-    ensures fine { IsFine result }
+    ensures fine { (limits : Limits) → IsFine limits result }
 {
     Said::Whole(Request::One { command, quiet })
 }

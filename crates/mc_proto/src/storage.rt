@@ -24,7 +24,7 @@ pub const MAX_FLAGS: u64 = 4_294_967_295;
 pub fn begun(limits: Limits, start: Start) -> Said
     requires { start.count ≤ 2147483645 }
     ensures value { result ≡ table.begun limits start }
-    ensures fine { IsFine result }
+    ensures fine { IsFine limits result }
 {
     if limits.largest < 64 + start.key.bytes().len() as u64 + start.count {
         Said::Skip(start)
@@ -44,7 +44,7 @@ fn stored_said(
     quiet: bool,
 ) -> Said
     ensures value { result ≡ kinds_say limits quiet (kinds.Flags ∷ kinds.Exptime ∷ kinds.Bytes ∷ []) Noreply (table.store limits verb key) (flags.now ∷ e.now ∷ count.now ∷ []) }
-    ensures fine { IsFine result }
+    ensures fine { IsFine limits result }
 {
     let Some(flags) = number_up_to(MAX_FLAGS, flags) else {
         return no_format(quiet);
@@ -77,7 +77,7 @@ pub fn store_line(
     args: &[&[u8]],
 ) -> Result<Said, NoMemory>
     ensures value { IfOk result (λ s. s ≡ row_says limits (kinds.Key ∷ kinds.Flags ∷ kinds.Exptime ∷ kinds.Bytes ∷ []) Noreply (table.store limits verb) (map (λ t. t.now) args.now)) }
-    ensures fine { IfOk result (λ s. IsFine s) }
+    ensures fine { IfOk result (λ s. IsFine limits s) }
 {
     let [key, flags, e, count, rest @ ..] = args else {
         return Ok(no_line());
@@ -103,7 +103,7 @@ fn cas_said(
     quiet: bool,
 ) -> Said
     ensures value { result ≡ kinds_say limits quiet (kinds.Flags ∷ kinds.Exptime ∷ kinds.Bytes ∷ kinds.CasNumber ∷ []) Noreply (λ flags e n unique. table.store limits (verbs.Cas unique) key flags e n) (flags.now ∷ e.now ∷ count.now ∷ unique.now ∷ []) }
-    ensures fine { IsFine result }
+    ensures fine { IsFine limits result }
 {
     let Some(unique) = number_up_to(u64::MAX, unique) else {
         return no_format(quiet);
@@ -114,7 +114,7 @@ fn cas_said(
 /// The line cas: key, flags, exptime, bytes and cas number.
 pub fn cas_line(alloc: Global, limits: Limits, args: &[&[u8]]) -> Result<Said, NoMemory>
     ensures value { IfOk result (λ s. s ≡ row_says limits (kinds.Key ∷ kinds.Flags ∷ kinds.Exptime ∷ kinds.Bytes ∷ kinds.CasNumber ∷ []) Noreply (λ key flags e n unique. table.store limits (verbs.Cas unique) key flags e n) (map (λ t. t.now) args.now)) }
-    ensures fine { IfOk result (λ s. IsFine s) }
+    ensures fine { IfOk result (λ s. IsFine limits s) }
 {
     let [key, flags, e, count, unique, rest @ ..] = args else {
         return Ok(no_line());

@@ -31,7 +31,7 @@ fn said_behind(
     front: &[u8],
 ) -> Result<Said, NoMemory>
     ensures value { IfOk result (λ s. s ≡ says limits (line.old.items ++ front.now)) }
-    ensures fine { IfOk result (λ s. IsFine s) }
+    ensures fine { IfOk result (λ s. IsFine limits s) }
     ensures none { IfOk result (λ s. line.new.items ≡ []) }
 {
     line.extend_from_slice(front)?;
@@ -49,7 +49,7 @@ fn said_at(
     front: &[u8],
 ) -> Result<Said, NoMemory>
     ensures value { IfOk result (λ s. s ≡ says limits (line.old.items ++ front.now)) }
-    ensures fine { IfOk result (λ s. IsFine s) }
+    ensures fine { IfOk result (λ s. IsFine limits s) }
     ensures none { IfOk result (λ s. line.new.items ≡ []) }
 {
     if line.is_empty() {
@@ -61,15 +61,16 @@ fn said_at(
 // What a whole line makes of where the reader stands, and of the requests. Room for its whole block is taken at once.
 fn take_said(
     alloc: Global,
+    _limits: Limits,
     state: &mut State,
     requests: &mut Vec<Request>,
     said: Said,
 ) -> Result<(), NoMemory>
     requires line { state.old ≡ Line }
-    requires fine { IsFine said }
+    requires fine { IsFine _limits said }
     ensures state { OnOk result (state.new ≡ state_after said) }
     ensures requests { OnOk result (requests.new.items ≡ requests.old.items ++ option_to_list (request_after said)) }
-    ensures moderate { OnOk result (All IsModerate requests.old.items → All IsModerate requests.new.items) }
+    ensures moderate { OnOk result (All (IsModerate _limits) requests.old.items → All (IsModerate _limits) requests.new.items) }
 {
     match said {
         Said::Whole(request) => {
@@ -101,7 +102,7 @@ fn take_line(
     requires sound { IsSound Line line.old.items }
     ensures taken { IfOk result (λ n. (0 < n) × (n ≤ length piece.now)) }
     ensures sound { OnOk result (IsSound state.new line.new.items) }
-    ensures moderate { OnOk result (All IsModerate requests.old.items → All IsModerate requests.new.items) }
+    ensures moderate { OnOk result (All (IsModerate limits) requests.old.items → All (IsModerate limits) requests.new.items) }
     ensures reads { IfOk result (λ n. (stream : List ℕ) (before : List Request) → After limits Line line.old.items stream (before ++ requests.old.items)
         → After limits state.new line.new.items (stream ++ take n piece.now) (before ++ requests.new.items)) }
 {
@@ -130,7 +131,7 @@ fn take_line(
         }
     }
     let said = said_at(alloc, limits, line, front)?;
-    take_said(alloc, state, requests, said)?;
+    take_said(alloc, limits, state, requests, said)?;
     Ok(end + 1)
 }
 
@@ -138,7 +139,7 @@ fn take_line(
 fn stored_of(alloc: Global, start: Start, mut block: Vec<u8>) -> Result<Request, NoMemory>
     requires { length block.items ≡ start.count + 2 }
     ensures value { IfOk result (λ r. r ≡ stored start block.items) }
-    ensures moderate { IfOk result (λ r. IsModerate r) }
+    ensures moderate { (limits : Limits) → IfOk result (λ r. IsModerate limits r) }
 {
     let count = start.count as usize;
     if block[count] == b'\r' && block[count + 1] == b'\n' {
@@ -175,7 +176,7 @@ fn take_block(
     requires sound { IsSound (State.Block start part) [] }
     ensures taken { IfOk result (λ n. (0 < n) × (n ≤ length piece.now)) }
     ensures sound { OnOk result (IsSound state.new []) }
-    ensures moderate { OnOk result (All IsModerate requests.old.items → All IsModerate requests.new.items) }
+    ensures moderate { (limits : Limits) → OnOk result (All (IsModerate limits) requests.old.items → All (IsModerate limits) requests.new.items) }
     ensures reads { IfOk result (λ n. (limits : Limits) (stream : List ℕ) (before : List Request) → After limits (State.Block start part) [] stream (before ++ requests.old.items)
         → After limits state.new [] (stream ++ take n piece.now) (before ++ requests.new.items)) }
 {
@@ -204,7 +205,7 @@ fn take_skipped(
     requires sound { IsSound (State.Skip start left) [] }
     ensures taken { IfOk result (λ n. (0 < n) × (n ≤ length piece.now)) }
     ensures sound { OnOk result (IsSound state.new []) }
-    ensures moderate { OnOk result (All IsModerate requests.old.items → All IsModerate requests.new.items) }
+    ensures moderate { (limits : Limits) → OnOk result (All (IsModerate limits) requests.old.items → All (IsModerate limits) requests.new.items) }
     ensures reads { IfOk result (λ n. (limits : Limits) (stream : List ℕ) (before : List Request) → After limits (State.Skip start left) [] stream (before ++ requests.old.items)
         → After limits state.new [] (stream ++ take n piece.now) (before ++ requests.new.items)) }
 {
@@ -237,7 +238,7 @@ pub fn take_part(
     requires sound { IsSound state.old line.old.items }
     ensures taken { IfOk result (λ n. (0 < n) × (n ≤ length piece.now)) }
     ensures sound { OnOk result (IsSound state.new line.new.items) }
-    ensures moderate { OnOk result (All IsModerate requests.old.items → All IsModerate requests.new.items) }
+    ensures moderate { OnOk result (All (IsModerate limits) requests.old.items → All (IsModerate limits) requests.new.items) }
     ensures reads { IfOk result (λ n. (stream : List ℕ) (before : List Request) → After limits state.old line.old.items stream (before ++ requests.old.items)
         → After limits state.new line.new.items (stream ++ take n piece.now) (before ++ requests.new.items)) }
 {

@@ -248,17 +248,17 @@ pub fn fault_text(alloc: Global, why: LineFault) -> Result<Vec<u8>, NoMemory>
     Ok(out)
 }
 
-/// The text of `%juggle`: how many entries were reclaimed, and how many moved.
-pub fn moves_text(alloc: Global, moves: &Moves) -> Result<Vec<u8>, NoMemory>
-    ensures { IfOk result (λ text. text.items ≡ texts.moves_text moves.now) }
+/// Adds the text of `%juggle`: how many entries were reclaimed, and how many moved. After an `Err` nothing is added.
+pub fn push_moves(out: &mut Vec<u8>, moves: &Moves) -> Result<(), NoMemory>
+    ensures ok { OnOk result (out.new.items ≡ out.old.items ++ texts.moves_text moves.now) }
+    ensures err { OnErr result (out.new.items ≡ out.old.items) }
 {
     let mut for_reclaimed = Buffer::new();
     let mut for_moved = Buffer::new();
     let reclaimed = for_reclaimed.format(moves.reclaimed).as_bytes();
     let moved = for_moved.format(moves.moved).as_bytes();
-    let mut out = Vec::new(alloc);
     push_parts(
-        &mut out,
+        out,
         &[
             b"JUGGLED ".as_slice(),
             reclaimed,
@@ -266,7 +266,15 @@ pub fn moves_text(alloc: Global, moves: &Moves) -> Result<Vec<u8>, NoMemory>
             moved,
             b"\r\n".as_slice(),
         ],
-    )?;
+    )
+}
+
+/// The text of `%juggle`: how many entries were reclaimed, and how many moved.
+pub fn moves_text(alloc: Global, moves: &Moves) -> Result<Vec<u8>, NoMemory>
+    ensures { IfOk result (λ text. text.items ≡ texts.moves_text moves.now) }
+{
+    let mut out = Vec::new(alloc);
+    push_moves(&mut out, moves)?;
     Ok(out)
 }
 

@@ -19,7 +19,7 @@ use std::alloc::Global;
 #[inline(never)]
 fn line_from_at(limits: Limits, verb: &[u8], args: &[&[u8]]) -> Said
     ensures value { result ≡ rows_say limits (drop 10 (table.table limits)) verb.now (map (λ t. t.now) args.now) }
-    ensures fine { IsFine result }
+    ensures fine { IsFine limits result }
 {
     if verb == b"%at".as_slice() {
         at_line(args)
@@ -44,7 +44,7 @@ fn line_from_incr(
     args: &[&[u8]],
 ) -> Result<Said, NoMemory>
     ensures value { IfOk result (λ s. s ≡ rows_say limits (drop 6 (table.table limits)) verb.now (map (λ t. t.now) args.now)) }
-    ensures fine { IfOk result (λ s. IsFine s) }
+    ensures fine { IfOk result (λ s. IsFine limits s) }
 {
     if verb == b"incr".as_slice() {
         count_line(alloc, true, args)
@@ -68,7 +68,7 @@ fn line_from_set(
     args: &[&[u8]],
 ) -> Result<Said, NoMemory>
     ensures value { IfOk result (λ s. s ≡ rows_say limits (drop 2 (table.table limits)) verb.now (map (λ t. t.now) args.now)) }
-    ensures fine { IfOk result (λ s. IsFine s) }
+    ensures fine { IfOk result (λ s. IsFine limits s) }
 {
     if verb == b"set".as_slice() {
         store_line(alloc, limits, Verb::Set, args)
@@ -92,7 +92,7 @@ fn line_from_get(
     args: &[&[u8]],
 ) -> Result<Said, NoMemory>
     ensures value { IfOk result (λ s. s ≡ rows_say limits (table.table limits) verb.now (map (λ t. t.now) args.now)) }
-    ensures fine { IfOk result (λ s. IsFine s) }
+    ensures fine { IfOk result (λ s. IsFine limits s) }
 {
     if verb == b"get".as_slice() {
         get_line(alloc, false, args)
@@ -107,7 +107,7 @@ fn line_from_get(
 #[inline(always)]
 pub fn tokens_said(alloc: Global, limits: Limits, tokens: &[&[u8]]) -> Result<Said, NoMemory>
     ensures value { IfOk result (λ s. s ≡ tokens_say limits (map (λ t. t.now) tokens.now)) }
-    ensures fine { IfOk result (λ s. IsFine s) }
+    ensures fine { IfOk result (λ s. IsFine limits s) }
 {
     let [verb, args @ ..] = tokens else {
         return Ok(no_line());

@@ -1,11 +1,17 @@
 -- What is known of a caller's calls, and what a request does to it.
-use Rattle.std.specs.Prelude.{ℕ, ◌≡◌, ◌≤◌, ◌<◌, ◌+◌, Bool, List, [], ◌∷◌, ◌++◌, length, take}
+use Rattle.std.specs.Prelude.{ℕ, ◌≡◌, ◌≤◌, ◌<◌, ◌+◌, Bool, List, [], ◌∷◌, ◌++◌, length, map, take}
+use Rattle.mc_item.specs.declared.command.Command.TheVariants.{Get}
 use Rattle.mc_item.specs.declared.fault.Fault.{Fault}
 use Rattle.mc_item.specs.declared.fault.Fault.TheVariants as faults
+use Rattle.mc_item.specs.declared.item.ClassNo.{ClassNo}
+use Rattle.mc_item.specs.declared.counts.Moves.{Moves}
 use Rattle.mc_item.specs.declared.reply.Reply.{Reply}
-use Rattle.mc_proto.specs.Text.{text_of, value_text}
+use Rattle.mc_proto.specs.Answers.{Answer, Replied, moves_of, text_of}
+use Rattle.mc_proto.specs.Text.{value_text}
+use Rattle.mc_proto.specs.declared.request.Limits.{Limits}
 use Rattle.mc_proto.specs.declared.request.Request.{Request}
-use Rattle.mc_script.specs.Script.{Exchange, calls_of, key_exchanges, request_exchanges}
+use Rattle.mc_script.specs.Exchanges.{AreAnswers, Asks, Call, Exchange, Juggles, exchanges}
+use Rattle.mc_script.specs.Script.{calls_of}
 
 -- what was known of some calls is now known of them and these
 pub record Adds (old new : List Exchange → Type 0) (more : List Exchange) : Type 0 where
@@ -16,32 +22,45 @@ abbrev pub IsPart : Fault → ℕ → ℕ → Type 0
 IsPart faults.NoMemory made all = made ≤ all
 IsPart faults.HistoryFull made all = made < all
 
--- the calls of a request were made, in order and each in a turn of its own, and its text was added
-pub record Answers (request : Request) (caller turn turn' moment : ℕ) (notes notes' : List Exchange → Type 0) (text text' : List ℕ) : Type 0 where
-  pub replies : List Reply
-  pub long : length replies ≡ calls_of request
-  pub texts : text' ≡ text ++ text_of request replies
-  pub calls : Adds notes notes' (request_exchanges caller turn moment request replies)
-  pub turns : turn' ≡ turn + calls_of request
+-- these calls were made, in order and each in a turn of its own, with these answers
+pub record Makes (calls : List Call) (answers : List Answer) (caller turn turn' moment : ℕ) (notes notes' : List Exchange → Type 0) : Type 0 where
+  pub long : length answers ≡ length calls
+  pub kinds : AreAnswers calls answers
+  pub noted : Adds notes notes' (exchanges caller turn moment calls answers)
+  pub turns : turn' ≡ turn + length calls
+
+-- the first of these calls were made, and then one failed, or there was no memory for a text
+pub record Breaks (fault : Fault) (calls : List Call) (caller turn moment : ℕ) (notes notes' : List Exchange → Type 0) : Type 0 where
+  pub answers : List Answer
+  pub part : IsPart fault (length answers) (length calls)
+  pub kinds : AreAnswers calls answers
+  pub noted : Adds notes notes' (exchanges caller turn moment calls answers)
+
+-- the calls of a request were made, and its text was added
+pub record Answers (limits : Limits) (request : Request) (caller turn turn' moment : ℕ) (notes notes' : List Exchange → Type 0) (text text' : List ℕ) : Type 0 where
+  pub answers : List Answer
+  pub texts : text' ≡ text ++ text_of request answers
+  pub makes : Makes (calls_of limits request) answers caller turn turn' moment notes notes'
 
 -- a request failed: the first of its calls were made
-pub record Fails (fault : Fault) (request : Request) (caller turn moment : ℕ) (notes notes' : List Exchange → Type 0) : Type 0 where
-  pub replies : List Reply
-  pub part : IsPart fault (length replies) (calls_of request)
-  pub calls : Adds notes notes' (request_exchanges caller turn moment request replies)
+abbrev pub Fails : Fault → Limits → Request → ℕ → ℕ → ℕ → (List Exchange → Type 0) → (List Exchange → Type 0) → Type 0
+Fails fault limits request caller turn moment notes notes' = Breaks fault (calls_of limits request) caller turn moment notes notes'
 
 -- a key was asked for, and its value's text was added, where there is one
 pub record AnswersKey (key : List ℕ) (with_cas : Bool) (caller turn turn' moment : ℕ) (notes notes' : List Exchange → Type 0) (text text' : List ℕ) : Type 0 where
   pub reply : Reply
   pub texts : text' ≡ text ++ value_text key reply with_cas
-  pub calls : Adds notes notes' (key_exchanges caller turn moment (key ∷ []) (reply ∷ []))
-  pub turns : turn' ≡ turn + 1
+  pub makes : Makes (Asks (Get key) ∷ []) (Replied reply ∷ []) caller turn turn' moment notes notes'
 
 -- a key's call failed, or its text
-pub record FailsKey (fault : Fault) (key : List ℕ) (caller turn moment : ℕ) (notes notes' : List Exchange → Type 0) : Type 0 where
-  pub replies : List Reply
-  pub part : IsPart fault (length replies) 1
-  pub calls : Adds notes notes' (key_exchanges caller turn moment (key ∷ []) replies)
+abbrev pub FailsKey : Fault → List ℕ → ℕ → ℕ → ℕ → (List Exchange → Type 0) → (List Exchange → Type 0) → Type 0
+FailsKey fault key caller turn moment notes notes' = Breaks fault (Asks (Get key) ∷ []) caller turn moment notes notes'
+
+-- the maintainer worked on these classes, in order, and these are the sums of its moves
+pub record JugglesAll (classes : List ClassNo) (moves : Moves) (caller turn turn' moment : ℕ) (notes notes' : List Exchange → Type 0) : Type 0 where
+  pub answers : List Answer
+  pub sums : moves ≡ moves_of answers
+  pub makes : Makes (map Juggles classes) answers caller turn turn' moment notes notes'
 
 -- the new text begins with the old one
 abbrev pub Begins : List ℕ → List ℕ → Type 0

@@ -1,3 +1,4 @@
+pub mod Exchanges
 pub mod Script
 pub mod Calls
 pub mod Run

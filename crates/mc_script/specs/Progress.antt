@@ -2,7 +2,7 @@
 use Rattle.std.specs.Prelude.{ℕ, ◌≡◌, ◌<◌, List, [], ◌∷◌, ◌++◌, Option, Some, None, true, false, length}
 use Rattle.mc_item.specs.declared.fault.Fault.{Fault}
 use Rattle.mc_item.specs.declared.fault.Fault.TheVariants as faults
-use Rattle.mc_item.specs.declared.reply.Reply.{Reply}
+use Rattle.mc_proto.specs.Answers.{Answer}
 use Rattle.mc_proto.specs.Grammar.{IsModerate}
 use Rattle.mc_proto.specs.Reader.{After}
 use Rattle.mc_proto.specs.Text.{IsBeginning}
@@ -10,38 +10,41 @@ use Rattle.mc_proto.specs.declared.request.Limits.{Limits}
 use Rattle.mc_proto.specs.declared.state.State.{State}
 use Rattle.mc_proto.specs.declared.request.Request.{Request}
 use Rattle.mc_script.specs.Calls.{IsPart}
-use Rattle.mc_script.specs.Script.{Answered, AreWhole, Exchange, all_exchanges, calls_of, ends, moment_behind, request_exchanges, requests_of, texts_of, turn_behind}
+use Rattle.mc_script.specs.Exchanges.{AreAnswers, Exchange, exchanges}
+use Rattle.mc_script.specs.Script.{Answered, AreWhole, all_exchanges, calls_of, ends, moment_behind, requests_of, texts_of, turn_behind}
 use Rattle.mc_script.specs.Run.{Leaves, NoneEnds, first_moment}
 use Rattle.mc_script.specs.declared.outcome.Outcome.{Outcome}
 use Rattle.mc_script.specs.declared.scripting.Progress.{Progress}
 use Rattle.mc_script.specs.declared.scripting.Progress.TheVariants.{More, Ended, Memory, Full, Output}
 
 -- these requests were answered, and their texts are taken or gathered
-pub record HasAnswered (answered : List Answered) (start taken text : List ℕ) (notes : List Exchange → Type 0) (caller turn moment : ℕ) : Type 0 where
-  pub whole : AreWhole answered
+pub record HasAnswered (limits : Limits) (answered : List Answered) (start taken text : List ℕ) (notes : List Exchange → Type 0) (caller turn moment : ℕ) : Type 0 where
+  pub whole : AreWhole limits answered
   pub printed : List ℕ
   pub took : taken ≡ start ++ printed
   pub texts : printed ++ text ≡ texts_of answered
-  pub notes_all : notes (all_exchanges caller 0 first_moment answered)
-  pub turn_is : turn ≡ turn_behind 0 answered
+  pub notes_all : notes (all_exchanges limits caller 0 first_moment answered)
+  pub turn_is : turn ≡ turn_behind limits 0 answered
   pub moment_is : moment ≡ moment_behind first_moment answered
 
 -- these were answered, and the first calls of the next
-pub record HasFailed (fault : Fault) (request : Request) (answered : List Answered) (start taken text : List ℕ) (notes : List Exchange → Type 0) (caller : ℕ) : Type 0 where
-  pub whole : AreWhole answered
+pub record HasFailed (fault : Fault) (limits : Limits) (request : Request) (answered : List Answered) (start taken text : List ℕ) (notes : List Exchange → Type 0) (caller : ℕ) : Type 0 where
+  pub whole : AreWhole limits answered
   pub printed : List ℕ
   pub took : taken ≡ start ++ printed
   pub texts : printed ++ text ≡ texts_of answered
   pub own : ends request ≡ false
-  pub replies : List Reply
-  pub part : IsPart fault (length replies) (calls_of request)
-  pub notes_part : notes (all_exchanges caller 0 first_moment answered ++ request_exchanges caller (turn_behind 0 answered) (moment_behind first_moment answered) request replies)
+  pub answers : List Answer
+  pub part : IsPart fault (length answers) (length (calls_of limits request))
+  pub kinds : AreAnswers (calls_of limits request) answers
+  pub notes_part : notes (all_exchanges limits caller 0 first_moment answered
+      ++ exchanges caller (turn_behind limits 0 answered) (moment_behind first_moment answered) (calls_of limits request) answers)
 
 -- these were answered, and a beginning of their texts is taken
-pub record HasTorn (answered : List Answered) (start taken : List ℕ) (notes : List Exchange → Type 0) (caller : ℕ) : Type 0 where
-  pub whole : AreWhole answered
+pub record HasTorn (limits : Limits) (answered : List Answered) (start taken : List ℕ) (notes : List Exchange → Type 0) (caller : ℕ) : Type 0 where
+  pub whole : AreWhole limits answered
   pub texts : IsBeginning start taken (texts_of answered)
-  pub notes_all : notes (all_exchanges caller 0 first_moment answered)
+  pub notes_all : notes (all_exchanges limits caller 0 first_moment answered)
 
 -- the first of these ends its script
 abbrev pub EndsHere : List Request → Type 0
@@ -49,38 +52,38 @@ EndsHere [] = ⊥
 EndsHere (r ∷ rs) = ends r ≡ true
 
 -- the first of these failed
-abbrev pub FailsHere : Fault → List Request → List Answered → List ℕ → List ℕ → List ℕ → (List Exchange → Type 0) → ℕ → Type 0
-FailsHere fault [] answered start taken text notes caller = ⊥
-FailsHere fault (r ∷ rs) answered start taken text notes caller = HasFailed fault r answered start taken text notes caller
+abbrev pub FailsHere : Fault → Limits → List Request → List Answered → List ℕ → List ℕ → List ℕ → (List Exchange → Type 0) → ℕ → Type 0
+FailsHere fault limits [] answered start taken text notes caller = ⊥
+FailsHere fault limits (r ∷ rs) answered start taken text notes caller = HasFailed fault limits r answered start taken text notes caller
 
--- none of these sets a moment above 2^62
-abbrev pub AreMoments : List Request → Type 0
-AreMoments [] = Unit {0}
-AreMoments (r ∷ rs) = IsModerate r × AreMoments rs
+-- none of these sets a moment above 2^62, or names a class that isn't there
+abbrev pub AreModerate : Limits → List Request → Type 0
+AreModerate limits [] = Unit {0}
+AreModerate limits (r ∷ rs) = IsModerate limits r × AreModerate limits rs
 
 -- how far requests were answered: all, up to one that ends the script, or up to one that failed
-abbrev pub IsAt : Progress → List Request → List Answered → List ℕ → List ℕ → List ℕ → (List Exchange → Type 0) → ℕ → ℕ → ℕ → Type 0
-IsAt More back answered start taken text notes caller turn moment = (back ≡ []) × HasAnswered answered start taken text notes caller turn moment
-IsAt Ended back answered start taken text notes caller turn moment = EndsHere back × HasAnswered answered start taken text notes caller turn moment
-IsAt Memory back answered start taken text notes caller turn moment = FailsHere faults.NoMemory back answered start taken text notes caller
-IsAt Full back answered start taken text notes caller turn moment = FailsHere faults.HistoryFull back answered start taken text notes caller
-IsAt Output back answered start taken text notes caller turn moment = HasTorn answered start taken notes caller
+abbrev pub IsAt : Progress → Limits → List Request → List Answered → List ℕ → List ℕ → List ℕ → (List Exchange → Type 0) → ℕ → ℕ → ℕ → Type 0
+IsAt More limits back answered start taken text notes caller turn moment = (back ≡ []) × HasAnswered limits answered start taken text notes caller turn moment
+IsAt Ended limits back answered start taken text notes caller turn moment = EndsHere back × HasAnswered limits answered start taken text notes caller turn moment
+IsAt Memory limits back answered start taken text notes caller turn moment = FailsHere faults.NoMemory limits back answered start taken text notes caller
+IsAt Full limits back answered start taken text notes caller turn moment = FailsHere faults.HistoryFull limits back answered start taken text notes caller
+IsAt Output limits back answered start taken text notes caller turn moment = HasTorn limits answered start taken notes caller
 
 -- some of the requests, the first ones, were answered behind those that were before
-pub record Goes (progress : Progress) (requests : List Request) (before : List Answered) (start taken text : List ℕ) (notes : List Exchange → Type 0) (caller turn moment : ℕ) : Type 0 where
+pub record Goes (progress : Progress) (limits : Limits) (requests : List Request) (before : List Answered) (start taken text : List ℕ) (notes : List Exchange → Type 0) (caller turn moment : ℕ) : Type 0 where
   pub front : List Request
   pub back : List Request
   pub added : List Answered
   pub split : requests ≡ front ++ back
   pub own : NoneEnds front
   pub asked : requests_of added ≡ front
-  pub state : IsAt progress back (before ++ added) start taken text notes caller turn moment
+  pub state : IsAt progress limits back (before ++ added) start taken text notes caller turn moment
 
 -- so far these requests were answered behind those before
-pub record Went (yielded : List Request) (before : List Answered) (start taken text : List ℕ) (notes : List Exchange → Type 0) (caller turn moment : ℕ) : Type 0 where
+pub record Went (limits : Limits) (yielded : List Request) (before : List Answered) (start taken text : List ℕ) (notes : List Exchange → Type 0) (caller turn moment : ℕ) : Type 0 where
   pub added : List Answered
   pub asked : requests_of added ≡ yielded
-  pub state : HasAnswered (before ++ added) start taken text notes caller turn moment
+  pub state : HasAnswered limits (before ++ added) start taken text notes caller turn moment
 
 -- a run between two pieces: what came was read as requests, none of which ends the script, and these were answered
 pub record IsOnWay (limits : Limits) (state : State) (unread bytes left start taken text : List ℕ) (notes : List Exchange → Type 0) (caller turn moment : ℕ) : Type 0 where
@@ -91,7 +94,7 @@ pub record IsOnWay (limits : Limits) (state : State) (unread bytes left start ta
   pub after : After limits state unread came requests
   pub own : NoneEnds requests
   pub asked : requests_of done ≡ requests
-  pub state_of : HasAnswered done start taken text notes caller turn moment
+  pub state_of : HasAnswered limits done start taken text notes caller turn moment
 
 -- a piece was read on the way, which holds these requests
 pub record HasCome (limits : Limits) (bytes left : List ℕ) (done : List Answered) (added : List Request) : Type 0 where
@@ -105,16 +108,16 @@ pub record HasCome (limits : Limits) (bytes left : List ℕ) (done : List Answer
   pub asked : requests_of done ≡ requests
 
 -- a piece was answered whole, and its texts are out
-pub record GoesOn (start taken text : List ℕ) (notes : List Exchange → Type 0) (caller turn moment : ℕ) (done : List Answered) (added : List Request) : Type 0 where
+pub record GoesOn (limits : Limits) (start taken text : List ℕ) (notes : List Exchange → Type 0) (caller turn moment : ℕ) (done : List Answered) (added : List Request) : Type 0 where
   pub own : NoneEnds added
   pub out : text ≡ []
   pub now : List Answered
   pub asked : requests_of now ≡ requests_of done ++ added
-  pub state_of : HasAnswered now start taken text notes caller turn moment
+  pub state_of : HasAnswered limits now start taken text notes caller turn moment
 
 -- what a piece leaves: the script goes on, or ends here
 abbrev pub LeavesPiece : Option Outcome → Limits → List ℕ → List ℕ → List ℕ → List ℕ → List ℕ → (List Exchange → Type 0) → ℕ → ℕ → ℕ → List Answered → List Request → Type 0
-LeavesPiece None limits bytes left start taken text notes caller turn moment done added = GoesOn start taken text notes caller turn moment done added
+LeavesPiece None limits bytes left start taken text notes caller turn moment done added = GoesOn limits start taken text notes caller turn moment done added
 LeavesPiece (Some outcome) limits bytes left start taken text notes caller turn moment done added = Leaves outcome limits bytes left start taken notes caller
 
 -- the sink failed just where that ended the requests

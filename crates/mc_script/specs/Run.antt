@@ -2,13 +2,14 @@
 use Rattle.std.specs.Prelude.{ℕ, ◌≡◌, ◌<◌, ◌⊎◌, List, [], ◌∷◌, ◌++◌, Option, Some, None, false, length}
 use Rattle.mc_item.specs.declared.fault.Fault.{Fault}
 use Rattle.mc_item.specs.declared.fault.Fault.TheVariants as faults
-use Rattle.mc_item.specs.declared.reply.Reply.{Reply}
+use Rattle.mc_proto.specs.Answers.{Answer}
 use Rattle.mc_proto.specs.Grammar.{Reads}
 use Rattle.mc_proto.specs.Text.{IsBeginning}
 use Rattle.mc_proto.specs.declared.request.Limits.{Limits}
 use Rattle.mc_proto.specs.declared.request.Request.{Request}
 use Rattle.mc_script.specs.Calls.{IsPart}
-use Rattle.mc_script.specs.Script.{Answered, AreWhole, Exchange, all_exchanges, calls_of, ends, moment_behind, own_requests, request_exchanges, requests_of, texts_of, turn_behind}
+use Rattle.mc_script.specs.Exchanges.{AreAnswers, Exchange, exchanges}
+use Rattle.mc_script.specs.Script.{Answered, AreWhole, all_exchanges, calls_of, ends, moment_behind, own_requests, requests_of, texts_of, turn_behind}
 use Rattle.mc_script.specs.declared.outcome.Outcome.{Outcome}
 use Rattle.mc_script.specs.declared.outcome.Outcome.TheVariants.{Done, Memory, HistoryFull, Input, Output}
 
@@ -28,9 +29,9 @@ pub record HasRun (limits : Limits) (bytes start taken : List ℕ) (notes : List
   pub answered : List Answered
   pub reads : Reads limits bytes requests rest
   pub asked : requests_of answered ≡ own_requests requests
-  pub whole : AreWhole answered
+  pub whole : AreWhole limits answered
   pub texts : taken ≡ start ++ texts_of answered
-  pub calls : notes (all_exchanges caller 0 first_moment answered)
+  pub calls : notes (all_exchanges limits caller 0 first_moment answered)
 
 -- the bytes that the source gave, of those that it had, and that requests of the script were read from
 pub record HasRead (limits : Limits) (bytes left : List ℕ) (own : List Request) : Type 0 where
@@ -51,7 +52,7 @@ pub record IsOut (limits : Limits) (bytes left start taken : List ℕ) : Type 0 
   pub own : NoneEnds requests
   pub answered : List Answered
   pub asked : requests_of answered ≡ requests
-  pub whole : AreWhole answered
+  pub whole : AreWhole limits answered
   pub texts : taken ≡ start ++ texts_of answered
 
 -- the source failed, or there was no memory for a piece behind: all requests of the bytes that came before were answered
@@ -71,27 +72,36 @@ pub record HasStopped (fault : Fault) (limits : Limits) (bytes left start taken 
   pub request : Request
   pub back : List Request
   pub read : HasRead limits bytes left (requests_of answered ++ request ∷ back)
-  pub whole : AreWhole answered
+  pub whole : AreWhole limits answered
   pub texts : taken ≡ start ++ texts_of answered
-  pub replies : List Reply
-  pub part : IsPart fault (length replies) (calls_of request)
-  pub calls : notes (all_exchanges caller 0 first_moment answered ++ request_exchanges caller (turn_behind 0 answered) (moment_behind first_moment answered) request replies)
+  pub answers : List Answer
+  pub part : IsPart fault (length answers) (length (calls_of limits request))
+  pub kinds : AreAnswers (calls_of limits request) answers
+  pub calls : notes (all_exchanges limits caller 0 first_moment answered
+      ++ exchanges caller (turn_behind limits 0 answered) (moment_behind first_moment answered) (calls_of limits request) answers)
+
+-- the first calls of a request, with answers to them
+pub record IsPartOf (limits : Limits) (request : Request) (caller turn moment : ℕ) (more : List Exchange) : Type 0 where
+  pub answers : List Answer
+  pub part : length answers ≤ length (calls_of limits request)
+  pub kinds : AreAnswers (calls_of limits request) answers
+  pub are : more ≡ exchanges caller turn moment (calls_of limits request) answers
 
 -- no calls, or the first calls of the first of these requests
-abbrev pub ArePartOf : List Request → ℕ → ℕ → ℕ → List Exchange → Type 0
-ArePartOf [] caller turn moment more = more ≡ []
-ArePartOf (r ∷ rs) caller turn moment more = (replies : List Reply) × IsPart faults.NoMemory (length replies) (calls_of r) × (more ≡ request_exchanges caller turn moment r replies)
+abbrev pub ArePartOf : Limits → List Request → ℕ → ℕ → ℕ → List Exchange → Type 0
+ArePartOf limits [] caller turn moment more = more ≡ []
+ArePartOf limits (r ∷ rs) caller turn moment more = IsPartOf limits r caller turn moment more
 
 -- the sink failed: it took a beginning of the texts of some first requests, all of whose calls were made
 pub record HasBroken (limits : Limits) (bytes left start taken : List ℕ) (notes : List Exchange → Type 0) (caller : ℕ) : Type 0 where
   pub answered : List Answered
   pub back : List Request
   pub read : HasRead limits bytes left (requests_of answered ++ back)
-  pub whole : AreWhole answered
+  pub whole : AreWhole limits answered
   pub texts : IsBeginning start taken (texts_of answered)
   pub more : List Exchange
-  pub part : ArePartOf back caller (turn_behind 0 answered) (moment_behind first_moment answered) more
-  pub calls : notes (all_exchanges caller 0 first_moment answered ++ more)
+  pub part : ArePartOf limits back caller (turn_behind limits 0 answered) (moment_behind first_moment answered) more
+  pub calls : notes (all_exchanges limits caller 0 first_moment answered ++ more)
 
 -- what a run leaves, by how it ended: of these bytes so many are left, the sink took these behind those at the start,
 -- and this is known of the calls

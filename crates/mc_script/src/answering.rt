@@ -3,14 +3,16 @@ ghost use Rattle.std.specs.Prelude.{◌≡◌, ◌≤◌, ◌++◌, ◌^◌, [],
 ghost use Rattle.mc_item.specs.declared.fault.Fault.TheVariants as faults;
 ghost use Rattle.mc_proto.specs.Grammar.{IsModerate};
 ghost use Rattle.mc_proto.specs.Text.{fault_text, reply_text};
+ghost use Rattle.mc_proto.specs.declared.request.Limits.{Limits};
 ghost use Rattle.mc_proto.specs.declared.request.Request.TheVariants as requests;
 ghost use Rattle.mc_script.specs.Calls.{Answers, AnswersKey, Begins, Fails, FailsKey};
-ghost use Rattle.mc_script.specs.Script.{moment_after};
+ghost use Rattle.mc_script.specs.Script.{AllThere, moment_after};
 
 use crate::calls::Calls;
+use crate::juggling::answer_juggle;
 use mc_item::{Command, Fault, Key, NoMemory, Reply};
 use mc_proto::{
-    Keys, LineFault, Request, push_end, push_fault, push_reply, push_value_head, push_value_tail,
+    Keys, Limits, LineFault, Request, push_end, push_fault, push_reply, push_value_head, push_value_tail,
 };
 use std::sync::Wait;
 
@@ -59,8 +61,8 @@ fn answer_keys<C: Calls>(
     ensures may { OnOk result (C.may_call calls.new) }
     ensures place { C.place calls.new ≡ C.place calls.old }
     ensures caller { C.caller calls.new ≡ C.caller calls.old }
-    ensures ok { OnOk result (Answers (requests.Get keys.items with_cas) (C.caller calls.old) (C.turn calls.old) (C.turn calls.new) moment (C.notes calls.old) (C.notes calls.new) text.old.items text.new.items) }
-    ensures err { IfErr result (λ e. Fails e (requests.Get keys.items with_cas) (C.caller calls.old) (C.turn calls.old) moment (C.notes calls.old) (C.notes calls.new)) }
+    ensures ok { (limits : Limits) → OnOk result (Answers limits (requests.Get keys.items with_cas) (C.caller calls.old) (C.turn calls.old) (C.turn calls.new) moment (C.notes calls.old) (C.notes calls.new) text.old.items text.new.items) }
+    ensures err { (limits : Limits) → IfErr result (λ e. Fails e limits (requests.Get keys.items with_cas) (C.caller calls.old) (C.turn calls.old) moment (C.notes calls.old) (C.notes calls.new)) }
     ensures front { Begins text.old.items text.new.items }
     ensures full { IsErrOf result faults.HistoryFull → C.is_full calls.new }
 {
@@ -85,8 +87,8 @@ fn answer_lone_key<C: Calls>(
     ensures may { OnOk result (C.may_call calls.new) }
     ensures place { C.place calls.new ≡ C.place calls.old }
     ensures caller { C.caller calls.new ≡ C.caller calls.old }
-    ensures ok { OnOk result (Answers (requests.Get (key ∷ []) with_cas) (C.caller calls.old) (C.turn calls.old) (C.turn calls.new) moment (C.notes calls.old) (C.notes calls.new) text.old.items text.new.items) }
-    ensures err { IfErr result (λ e. Fails e (requests.Get (key ∷ []) with_cas) (C.caller calls.old) (C.turn calls.old) moment (C.notes calls.old) (C.notes calls.new)) }
+    ensures ok { (limits : Limits) → OnOk result (Answers limits (requests.Get (key ∷ []) with_cas) (C.caller calls.old) (C.turn calls.old) (C.turn calls.new) moment (C.notes calls.old) (C.notes calls.new) text.old.items text.new.items) }
+    ensures err { (limits : Limits) → IfErr result (λ e. Fails e limits (requests.Get (key ∷ []) with_cas) (C.caller calls.old) (C.turn calls.old) moment (C.notes calls.old) (C.notes calls.new)) }
     ensures front { Begins text.old.items text.new.items }
     ensures full { IsErrOf result faults.HistoryFull → C.is_full calls.new }
 {
@@ -109,8 +111,8 @@ fn answer_get<C: Calls>(
     ensures may { OnOk result (C.may_call calls.new) }
     ensures place { C.place calls.new ≡ C.place calls.old }
     ensures caller { C.caller calls.new ≡ C.caller calls.old }
-    ensures ok { OnOk result (Answers (requests.Get keys with_cas) (C.caller calls.old) (C.turn calls.old) (C.turn calls.new) moment (C.notes calls.old) (C.notes calls.new) text.old.items text.new.items) }
-    ensures err { IfErr result (λ e. Fails e (requests.Get keys with_cas) (C.caller calls.old) (C.turn calls.old) moment (C.notes calls.old) (C.notes calls.new)) }
+    ensures ok { (limits : Limits) → OnOk result (Answers limits (requests.Get keys with_cas) (C.caller calls.old) (C.turn calls.old) (C.turn calls.new) moment (C.notes calls.old) (C.notes calls.new) text.old.items text.new.items) }
+    ensures err { (limits : Limits) → IfErr result (λ e. Fails e limits (requests.Get keys with_cas) (C.caller calls.old) (C.turn calls.old) moment (C.notes calls.old) (C.notes calls.new)) }
     ensures front { Begins text.old.items text.new.items }
     ensures full { IsErrOf result faults.HistoryFull → C.is_full calls.new }
 {
@@ -145,8 +147,8 @@ fn answer_one<C: Calls>(
     ensures may { OnOk result (C.may_call calls.new) }
     ensures place { C.place calls.new ≡ C.place calls.old }
     ensures caller { C.caller calls.new ≡ C.caller calls.old }
-    ensures ok { OnOk result (Answers (requests.One command quiet) (C.caller calls.old) (C.turn calls.old) (C.turn calls.new) moment (C.notes calls.old) (C.notes calls.new) text.old.items text.new.items) }
-    ensures err { IfErr result (λ e. Fails e (requests.One command quiet) (C.caller calls.old) (C.turn calls.old) moment (C.notes calls.old) (C.notes calls.new)) }
+    ensures ok { (limits : Limits) → OnOk result (Answers limits (requests.One command quiet) (C.caller calls.old) (C.turn calls.old) (C.turn calls.new) moment (C.notes calls.old) (C.notes calls.new) text.old.items text.new.items) }
+    ensures err { (limits : Limits) → IfErr result (λ e. Fails e limits (requests.One command quiet) (C.caller calls.old) (C.turn calls.old) moment (C.notes calls.old) (C.notes calls.new)) }
     ensures front { Begins text.old.items text.new.items }
     ensures full { IsErrOf result faults.HistoryFull → C.is_full calls.new }
 {
@@ -169,6 +171,7 @@ fn refuse(text: &mut Vec<u8>, why: LineFault, quiet: bool) -> Result<(), Fault>
 // A request that doesn't end its script. After an `Err` its text isn't there.
 fn answer_whole<C: Calls>(
     rt: &impl Wait,
+    limits: Limits,
     calls: &mut C,
     text: &mut Vec<u8>,
     request: Request,
@@ -176,14 +179,15 @@ fn answer_whole<C: Calls>(
 ) -> Result<(), Fault>
     requires may { C.may_call calls.old }
     requires now { moment.old ≤ 2 ^ 62 }
-    requires later { IsModerate request }
+    requires moderate { IsModerate limits request }
+    requires classes { AllThere (C.has_class (C.place calls.old)) limits }
     ensures may { OnOk result (C.may_call calls.new) }
     ensures early { moment.new ≤ 2 ^ 62 }
     ensures moment { OnOk result (moment.new ≡ moment_after moment.old request) }
     ensures place { C.place calls.new ≡ C.place calls.old }
     ensures caller { C.caller calls.new ≡ C.caller calls.old }
-    ensures ok { OnOk result (Answers request (C.caller calls.old) (C.turn calls.old) (C.turn calls.new) moment.old (C.notes calls.old) (C.notes calls.new) text.old.items text.new.items) }
-    ensures err { IfErr result (λ e. Fails e request (C.caller calls.old) (C.turn calls.old) moment.old (C.notes calls.old) (C.notes calls.new)) }
+    ensures ok { OnOk result (Answers limits request (C.caller calls.old) (C.turn calls.old) (C.turn calls.new) moment.old (C.notes calls.old) (C.notes calls.new) text.old.items text.new.items) }
+    ensures err { IfErr result (λ e. Fails e limits request (C.caller calls.old) (C.turn calls.old) moment.old (C.notes calls.old) (C.notes calls.new)) }
     ensures front { Begins text.old.items text.new.items }
     ensures full { IsErrOf result faults.HistoryFull → C.is_full calls.new }
 {
@@ -195,7 +199,7 @@ fn answer_whole<C: Calls>(
             *moment = next;
             Ok(())
         }
-        Request::Juggle(_) => refuse(text, LineFault::Error, false),
+        Request::Juggle(target) => answer_juggle(rt, limits, calls, text, target, *moment),
         Request::Crawl(_) => refuse(text, LineFault::Error, false),
         Request::Next => Ok(()),
         Request::Quit => Ok(()),
@@ -205,6 +209,7 @@ fn answer_whole<C: Calls>(
 /// Answers a request that doesn't end its script. After an `Err` the text is as it was.
 pub fn answer_request<C: Calls>(
     rt: &impl Wait,
+    limits: Limits,
     calls: &mut C,
     text: &mut Vec<u8>,
     request: Request,
@@ -212,19 +217,20 @@ pub fn answer_request<C: Calls>(
 ) -> Result<(), Fault>
     requires may { C.may_call calls.old }
     requires now { moment.old ≤ 2 ^ 62 }
-    requires later { IsModerate request }
+    requires moderate { IsModerate limits request }
+    requires classes { AllThere (C.has_class (C.place calls.old)) limits }
     ensures may { OnOk result (C.may_call calls.new) }
     ensures early { moment.new ≤ 2 ^ 62 }
     ensures moment { OnOk result (moment.new ≡ moment_after moment.old request) }
     ensures place { C.place calls.new ≡ C.place calls.old }
     ensures caller { C.caller calls.new ≡ C.caller calls.old }
-    ensures ok { OnOk result (Answers request (C.caller calls.old) (C.turn calls.old) (C.turn calls.new) moment.old (C.notes calls.old) (C.notes calls.new) text.old.items text.new.items) }
-    ensures err { IfErr result (λ e. Fails e request (C.caller calls.old) (C.turn calls.old) moment.old (C.notes calls.old) (C.notes calls.new)) }
+    ensures ok { OnOk result (Answers limits request (C.caller calls.old) (C.turn calls.old) (C.turn calls.new) moment.old (C.notes calls.old) (C.notes calls.new) text.old.items text.new.items) }
+    ensures err { IfErr result (λ e. Fails e limits request (C.caller calls.old) (C.turn calls.old) moment.old (C.notes calls.old) (C.notes calls.new)) }
     ensures text { OnErr result (text.new.items ≡ text.old.items) }
     ensures full { IsErrOf result faults.HistoryFull → C.is_full calls.new }
 {
     let start = text.len();
-    match answer_whole(rt, calls, text, request, moment) {
+    match answer_whole(rt, limits, calls, text, request, moment) {
         Ok(()) => Ok(()),
         Err(fault) => {
             text.truncate(start);

@@ -1,20 +1,24 @@
 //! A caller's turns at whatever answers commands.
-ghost use Rattle.std.specs.Prelude.{Option, Some, IsSome, ◌≡◌, ◌≤◌, ◌+◌, ◌^◌, ◌∷◌, ℕ, List, [], OnErr, OnOk, IsErrOf};
+ghost use Rattle.std.specs.Prelude.{Option, Some, IsSome, ◌≡◌, ◌≤◌, ◌<◌, ◌+◌, ◌^◌, ◌∷◌, ℕ, List, [], IfOk, OnErr, OnOk, IsErrOf};
 ghost use Rattle.mc_item.specs.declared.fault.Fault.TheVariants as faults;
+ghost use Rattle.mc_item.specs.declared.item.ClassNo.{ClassNo};
 ghost use Rattle.mc_item.specs.declared.reply.Reply.{Reply};
+ghost use Rattle.mc_proto.specs.Answers.{Moved, Replied};
 ghost use Rattle.mc_script.specs.Calls.{Adds};
-ghost use Rattle.mc_script.specs.Script.{Exchange, exchange};
+ghost use Rattle.mc_script.specs.Exchanges.{Asks, Exchange, Juggles, exchange};
 
-use mc_item::{Command, Fault, Reply};
+use mc_item::{ClassNo, Command, Fault, Moves, Reply};
 use std::sync::Wait;
 
 /// A caller that makes calls, each in a turn of its own. What is known of its calls so far is a fact about the list of
-/// them with their replies: each call adds itself to it. Where it makes them stays as it is. When the next call may be
-/// made, each type says; after one that went well it may.
+/// them with their answers: each call adds itself to it. Where it makes them stays as it is, and says which slab classes
+/// there are. When the next call may be made, each type says; after one that went well it may.
 pub trait Calls: Drop {
     ghost Place: { Type 0 };
 
     ghost place: { Self → Place };
+
+    ghost has_class: { Place → ClassNo → Type 0 };
 
     ghost caller: { Self → ℕ };
 
@@ -28,7 +32,7 @@ pub trait Calls: Drop {
 
     ghost may_call: { Self → Type 0 };
 
-    /// Makes one call at a moment.
+    /// Makes one command's call at a moment.
     fn command(&mut self, rt: &impl Wait, command: Command, moment: u64) -> Result<(), Fault>
         requires may { may_call self.old }
         requires early { moment ≤ 2 ^ 62 }
@@ -37,11 +41,25 @@ pub trait Calls: Drop {
         ensures caller { caller self.new ≡ caller self.old }
         ensures turn { OnOk result (turn self.new ≡ turn self.old + 1) }
         ensures ok { OnOk result ((reply : Reply) × (last self.new ≡ Some reply)
-            × Adds (notes self.old) (notes self.new) (exchange (caller self.old) (turn self.old) command moment reply ∷ [])) }
+            × Adds (notes self.old) (notes self.new) (exchange (caller self.old) (turn self.old) (Asks command) moment (Replied reply) ∷ [])) }
         ensures err { OnErr result (Adds (notes self.old) (notes self.new) []) }
         ensures full { IsErrOf result faults.HistoryFull → is_full self.new };
 
-    /// The reply to the last call.
+    /// Makes one call of the maintainer's work on a slab class at a moment: how many entries were reclaimed and moved.
+    fn juggle(&mut self, rt: &impl Wait, class: ClassNo, moment: u64) -> Result<Moves, Fault>
+        requires may { may_call self.old }
+        requires early { moment ≤ 2 ^ 62 }
+        requires there { has_class (place self.old) class }
+        ensures may { OnOk result (may_call self.new) }
+        ensures place { place self.new ≡ place self.old }
+        ensures caller { caller self.new ≡ caller self.old }
+        ensures turn { OnOk result (turn self.new ≡ turn self.old + 1) }
+        ensures ok { IfOk result (λ moves. Adds (notes self.old) (notes self.new) (exchange (caller self.old) (turn self.old) (Juggles class) moment (Moved moves) ∷ [])) }
+        ensures small { IfOk result (λ moves. (moves.reclaimed < 2 ^ 32) × (moves.moved < 2 ^ 32)) }
+        ensures err { OnErr result (Adds (notes self.old) (notes self.new) []) }
+        ensures full { IsErrOf result faults.HistoryFull → is_full self.new };
+
+    /// The reply to the last command, where nothing was called since.
     fn reply(&self) -> &Reply
         requires { IsSome (last self.now) }
         ensures { last self.now ≡ Some result.now };

@@ -4,6 +4,7 @@
 mod answering;
 mod calls;
 mod ends;
+mod juggling;
 mod outcome;
 mod scripting;
 mod source;

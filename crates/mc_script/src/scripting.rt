@@ -1,9 +1,9 @@
 //! A script's run: requests are answered as they come, and their texts are printed.
 ghost use Rattle.std.specs.Prelude.{◌≡◌, ◌≤◌, ◌<◌, ◌++◌, ◌^◌, List, ℕ, [], None, Some, OnErr, OnOk, true, false, length};
 ghost use Rattle.mc_proto.specs.Text.{IsBeginning};
-ghost use Rattle.mc_script.specs.Progress.{AreMoments, AreWritten, Goes, HasAnswered, HasCome, LeavesPiece};
+ghost use Rattle.mc_script.specs.Progress.{AreModerate, AreWritten, Goes, HasAnswered, HasCome, LeavesPiece};
 ghost use Rattle.mc_script.specs.Run.{AreCounted, AreCountedSoFar, IsOut, Leaves};
-ghost use Rattle.mc_script.specs.Script.{Answered, ends};
+ghost use Rattle.mc_script.specs.Script.{AllThere, Answered, ends};
 ghost use Rattle.mc_proto.specs.declared.request.Limits.{Limits};
 ghost use Rattle.mc_script.specs.declared.outcome.Outcome.TheVariants as outcomes;
 
@@ -74,6 +74,7 @@ fn print_much<E: Ends>(ends: &mut E, text: &mut Vec<u8>) -> Result<(), SinkFault
 // Answers the requests of a piece, up to one that ends the script.
 fn answer_all<E: Ends, C: Calls>(
     rt: &impl Wait,
+    limits: Limits,
     calls: &mut C,
     ends: &mut E,
     text: &mut Vec<u8>,
@@ -82,15 +83,16 @@ fn answer_all<E: Ends, C: Calls>(
 ) -> Progress
     requires may { C.may_call calls.old }
     requires early { moment.old ≤ 2 ^ 62 }
-    requires moments { AreMoments requests.items }
+    requires classes { AllThere (C.has_class (C.place calls.old)) limits }
+    requires moderate { AreModerate limits requests.items }
     ensures may { result ≡ Progress.More → C.may_call calls.new }
     ensures ended { result ≡ Progress.Ended → C.may_call calls.new }
     ensures early { moment.new ≤ 2 ^ 62 }
     ensures place { C.place calls.new ≡ C.place calls.old }
     ensures caller { C.caller calls.new ≡ C.caller calls.old }
     ensures goes { (before : List Answered) (start : List ℕ)
-        → HasAnswered before start (E.taken ends.old) text.old.items (C.notes calls.old) (C.caller calls.old) (C.turn calls.old) moment.old
-        → Goes result requests.items before start (E.taken ends.new) text.new.items (C.notes calls.new) (C.caller calls.old) (C.turn calls.new) moment.new }
+        → HasAnswered limits before start (E.taken ends.old) text.old.items (C.notes calls.old) (C.caller calls.old) (C.turn calls.old) moment.old
+        → Goes result limits requests.items before start (E.taken ends.new) text.new.items (C.notes calls.new) (C.caller calls.old) (C.turn calls.new) moment.new }
     ensures full { result ≡ Progress.Full → C.is_full calls.new }
     ensures written { AreWritten result (E.writes ends.old) (E.writes ends.new) }
     ensures coming { E.coming ends.new ≡ E.coming ends.old }
@@ -101,7 +103,7 @@ fn answer_all<E: Ends, C: Calls>(
         if ends_script(&request) {
             return Progress::Ended;
         }
-        match answer_request(rt, calls, text, request, moment) {
+        match answer_request(rt, limits, calls, text, request, moment) {
             Ok(()) => {}
             Err(Fault::NoMemory) => {
                 return Progress::Memory;
@@ -123,6 +125,7 @@ fn answer_all<E: Ends, C: Calls>(
 // Answers the requests of a piece and prints all their texts. Where the script ends here, the answer says how.
 fn answer_piece<E: Ends, C: Calls>(
     rt: &impl Wait,
+    limits: Limits,
     calls: &mut C,
     ends: &mut E,
     text: &mut Vec<u8>,
@@ -131,22 +134,23 @@ fn answer_piece<E: Ends, C: Calls>(
 ) -> Option<Outcome>
     requires may { C.may_call calls.old }
     requires early { moment.old ≤ 2 ^ 62 }
-    requires moments { AreMoments requests.items }
+    requires classes { AllThere (C.has_class (C.place calls.old)) limits }
+    requires moderate { AreModerate limits requests.items }
     requires none { text.old.items ≡ [] }
     ensures may { result ≡ None → C.may_call calls.new }
     ensures done { result ≡ Some outcomes.Done → C.may_call calls.new }
     ensures early { moment.new ≤ 2 ^ 62 }
     ensures place { C.place calls.new ≡ C.place calls.old }
     ensures caller { C.caller calls.new ≡ C.caller calls.old }
-    ensures leaves { (limits : Limits) (bytes start : List ℕ) (done : List Answered) → HasCome limits bytes (E.coming ends.old) done requests.items
-        → HasAnswered done start (E.taken ends.old) text.old.items (C.notes calls.old) (C.caller calls.old) (C.turn calls.old) moment.old
+    ensures leaves { (bytes start : List ℕ) (done : List Answered) → HasCome limits bytes (E.coming ends.old) done requests.items
+        → HasAnswered limits done start (E.taken ends.old) text.old.items (C.notes calls.old) (C.caller calls.old) (C.turn calls.old) moment.old
         → LeavesPiece result limits bytes (E.coming ends.old) start (E.taken ends.new) text.new.items (C.notes calls.new) (C.caller calls.old) (C.turn calls.new) moment.new done requests.items }
     ensures full { result ≡ Some outcomes.HistoryFull → C.is_full calls.new }
     ensures counted { AreCountedSoFar result (E.reads ends.old) (E.reads ends.new) (E.writes ends.old) (E.writes ends.new) }
     ensures coming { E.coming ends.new ≡ E.coming ends.old }
     ensures over { E.over ends.new ≡ E.over ends.old }
 {
-    let progress = answer_all(rt, calls, ends, text, requests, moment);
+    let progress = answer_all(rt, limits, calls, ends, text, requests, moment);
     if let Progress::Output = progress {
         return Some(Outcome::Output);
     }
@@ -165,7 +169,8 @@ fn answer_piece<E: Ends, C: Calls>(
 
 /// Runs a script: reads requests until the end of its bytes or one that ends the script, answers them, and prints
 /// their texts. The next piece is asked for only when the replies to all that came are out, nothing failed, the end was
-/// not reached, and no request that came ends the script. After a call that failed none is made.
+/// not reached, and no request that came ends the script. After a call that failed none is made. The maintainer works on
+/// the slab classes of the limits, so these must be there.
 pub fn run_script<E: Ends, C: Calls>(
     rt: &impl Wait,
     alloc: Global,
@@ -176,6 +181,7 @@ pub fn run_script<E: Ends, C: Calls>(
     requires may { C.may_call calls.old }
     requires first { C.turn calls.old ≡ 0 }
     requires none { C.notes calls.old [] }
+    requires classes { AllThere (C.has_class (C.place calls.old)) limits }
     requires asks { (e : E) → IsOut limits (E.coming ends.old) (E.coming e) (E.taken ends.old) (E.taken e)
         → E.reads e ≡ E.reads ends.old → E.writes e ≡ E.writes ends.old → E.over e ≡ E.over ends.old → E.may_ask e }
     ensures leaves { Leaves result limits (E.coming ends.old) (E.coming ends.new) (E.taken ends.old) (E.taken ends.new) (C.notes calls.new) (C.caller calls.old) }
@@ -198,7 +204,7 @@ pub fn run_script<E: Ends, C: Calls>(
             Ok(requests) => requests,
             Err(_) => return Outcome::Memory,
         };
-        match answer_piece(rt, calls, ends, &mut text, requests, &mut moment) {
+        match answer_piece(rt, limits, calls, ends, &mut text, requests, &mut moment) {
             None => {}
             Some(outcome) => return outcome,
         }

@@ -8,7 +8,7 @@ use Rattle.mc_proto.proofs.reader.read_piece.Given as goal
 abbrev pub invariant-loop-rest : goal.invariant-loop-rest
 invariant-loop-rest l = record {
   sound : IsSound l.state l.line.items;
-  moderate : All IsModerate l.requests.items;
+  moderate : All (IsModerate l.limits) l.requests.items;
   read : (front : List ℕ) × (l.fn.piece ≡ front ++ l.rest) × ((stream : List ℕ) (requests : List Request) → After l.limits l.fn.state l.fn.line.items stream requests → After l.limits l.state l.line.items (stream ++ front) (requests ++ l.requests.items));
 }
 

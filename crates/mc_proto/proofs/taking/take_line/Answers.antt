@@ -48,7 +48,7 @@ returns-in-Some-clause-reads c = λ stream before a.
     let l : c.line_end-end.result < length c.args.piece.now = omega arith in
     let empty : c.args.line.now.items ≡ [] = none_left c.args.line.now.items (search rules) in
     let value : says c.args.limits c.split_at.result.0.now ≡ Whole (Get (c.in-Some.key ∷ []) false) = (rw c.in-Some.is at c.in_ok-key.ensures.value) c.args.limits in
-    let fine : IsFine (Whole (Get (c.in-Some.key ∷ []) false)) = rw c.in-Some.is at c.in_ok-key.ensures.fine in
+    let fine : IsFine c.args.limits (Whole (Get (c.in-Some.key ∷ []) false)) = (rw c.in-Some.is at c.in_ok-key.ensures.fine) c.args.limits in
     let told : Whole (Get (c.in-Some.key ∷ []) false) ≡ says c.args.limits (c.args.line.now.items ++ take c.line_end-end.result c.args.piece.now) =
     sym value ∙ ap (says c.args.limits) c.split_at.ensures.front ∙ ap (λ (t : List ℕ). says c.args.limits (t ++ take c.line_end-end.result c.args.piece.now)) (sym empty) in
     let at : c.args.state.now ≡ Line = c.requires.line in

@@ -1,0 +1,97 @@
+//! The maintainer's directive: it is one call for each class that it names, and their sums are printed.
+ghost use Rattle.std.specs.Prelude.{◌≡◌, ◌+◌, ◌<◌, ◌≤◌, ◌^◌, ℕ, map, IfErr, IfOk, OnOk, IsErrOf};
+ghost use Rattle.mc_item.specs.declared.fault.Fault.TheVariants as faults;
+ghost use Rattle.mc_proto.specs.Grammar.{AreAmong};
+ghost use Rattle.mc_proto.specs.declared.request.Request.TheVariants as requests;
+ghost use Rattle.mc_script.specs.Calls.{Answers, Begins, Breaks, Fails, JugglesAll};
+ghost use Rattle.mc_script.specs.Exchanges.{Juggles};
+ghost use Rattle.mc_script.specs.Script.{AllThere, classes_from, classes_of};
+
+use crate::calls::Calls;
+use mc_item::{ClassNo, Fault, Moves};
+use mc_proto::{Limits, Target, push_moves};
+use std::sync::Wait;
+
+// So many classes from one on, in rising number. The answer is the sums of their moves.
+fn juggle_from<C: Calls>(
+    rt: &impl Wait,
+    calls: &mut C,
+    first: u32,
+    count: u32,
+    moment: u64,
+) -> Result<Moves, Fault>
+    requires may { C.may_call calls.old }
+    requires early { moment ≤ 2 ^ 62 }
+    requires numbers { first + count ≤ 2 ^ 32 }
+    requires there { (n : ℕ) → first ≤ n → n < first + count → C.has_class (C.place calls.old) (record { 0 = n }) }
+    ensures may { OnOk result (C.may_call calls.new) }
+    ensures place { C.place calls.new ≡ C.place calls.old }
+    ensures caller { C.caller calls.new ≡ C.caller calls.old }
+    ensures ok { IfOk result (λ moves. JugglesAll (classes_from first count) moves (C.caller calls.old) (C.turn calls.old) (C.turn calls.new) moment (C.notes calls.old) (C.notes calls.new)) }
+    ensures err { IfErr result (λ e. Breaks e (map Juggles (classes_from first count)) (C.caller calls.old) (C.turn calls.old) moment (C.notes calls.old) (C.notes calls.new)) }
+    ensures full { IsErrOf result faults.HistoryFull → C.is_full calls.new }
+{
+    let mut sums = Moves {
+        reclaimed: 0,
+        moved: 0,
+    };
+    for i in 0..count {
+        let moves = calls.juggle(rt, ClassNo(first + i), moment)?;
+        sums.reclaimed += moves.reclaimed;
+        sums.moved += moves.moved;
+    }
+    Ok(sums)
+}
+
+// The classes that the directive names. The answer is the sums of their moves.
+fn juggle_target<C: Calls>(
+    rt: &impl Wait,
+    limits: Limits,
+    calls: &mut C,
+    target: Target,
+    moment: u64,
+) -> Result<Moves, Fault>
+    requires may { C.may_call calls.old }
+    requires early { moment ≤ 2 ^ 62 }
+    requires among { AreAmong limits target }
+    requires classes { AllThere (C.has_class (C.place calls.old)) limits }
+    ensures may { OnOk result (C.may_call calls.new) }
+    ensures place { C.place calls.new ≡ C.place calls.old }
+    ensures caller { C.caller calls.new ≡ C.caller calls.old }
+    ensures ok { IfOk result (λ moves. JugglesAll (classes_of limits target) moves (C.caller calls.old) (C.turn calls.old) (C.turn calls.new) moment (C.notes calls.old) (C.notes calls.new)) }
+    ensures err { IfErr result (λ e. Breaks e (map Juggles (classes_of limits target)) (C.caller calls.old) (C.turn calls.old) moment (C.notes calls.old) (C.notes calls.new)) }
+    ensures full { IsErrOf result faults.HistoryFull → C.is_full calls.new }
+{
+    match target {
+        Target::All => juggle_from(rt, calls, 1, limits.classes, moment),
+        Target::Class(class) => juggle_from(rt, calls, class.0, 1, moment),
+    }
+}
+
+/// The maintainer's directive: a call for each class, and then the sums of the moves. After an `Err` no text was added.
+#[cold]
+#[inline(never)]
+pub fn answer_juggle<C: Calls>(
+    rt: &impl Wait,
+    limits: Limits,
+    calls: &mut C,
+    text: &mut Vec<u8>,
+    target: Target,
+    moment: u64,
+) -> Result<(), Fault>
+    requires may { C.may_call calls.old }
+    requires early { moment ≤ 2 ^ 62 }
+    requires among { AreAmong limits target }
+    requires classes { AllThere (C.has_class (C.place calls.old)) limits }
+    ensures may { OnOk result (C.may_call calls.new) }
+    ensures place { C.place calls.new ≡ C.place calls.old }
+    ensures caller { C.caller calls.new ≡ C.caller calls.old }
+    ensures ok { OnOk result (Answers limits (requests.Juggle target) (C.caller calls.old) (C.turn calls.old) (C.turn calls.new) moment (C.notes calls.old) (C.notes calls.new) text.old.items text.new.items) }
+    ensures err { IfErr result (λ e. Fails e limits (requests.Juggle target) (C.caller calls.old) (C.turn calls.old) moment (C.notes calls.old) (C.notes calls.new)) }
+    ensures front { Begins text.old.items text.new.items }
+    ensures full { IsErrOf result faults.HistoryFull → C.is_full calls.new }
+{
+    let moves = juggle_target(rt, limits, calls, target, moment)?;
+    push_moves(text, &moves)?;
+    Ok(())
+}
