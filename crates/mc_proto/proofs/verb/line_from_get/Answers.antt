@@ -12,3 +12,9 @@ returns-then-eq-2-clause-value c =
     let not : is_word c.args.verb.now (codes "get") ≡ false = search rules in
     let is : is_word c.args.verb.now (codes "gets") ≡ true = search rules in
     rw (not, is) (c.get_line-then-eq-2.ensures.value c.args.limits)
+
+pub returns-then-eq-clause-fine : goal.returns-then-eq-clause-fine
+returns-then-eq-clause-fine c = c.get_line.ensures.fine c.args.limits
+
+pub returns-then-eq-2-clause-fine : goal.returns-then-eq-2-clause-fine
+returns-then-eq-2-clause-fine c = c.get_line-then-eq-2.ensures.fine c.args.limits

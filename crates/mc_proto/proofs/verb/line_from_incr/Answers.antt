@@ -12,3 +12,15 @@ returns-then-eq-2-clause-value c =
     let not : is_word c.args.verb.now (codes "incr") ≡ false = search rules in
     let is : is_word c.args.verb.now (codes "decr") ≡ true = search rules in
     rw (not, is) (c.count_line-then-eq-2.ensures.value c.args.limits)
+
+pub returns-then-eq-clause-fine : goal.returns-then-eq-clause-fine
+returns-then-eq-clause-fine c = c.count_line.ensures.fine c.args.limits
+
+pub returns-then-eq-2-clause-fine : goal.returns-then-eq-2-clause-fine
+returns-then-eq-2-clause-fine c = c.count_line-then-eq-2.ensures.fine c.args.limits
+
+pub returns-then-eq-3-clause-fine : goal.returns-then-eq-3-clause-fine
+returns-then-eq-3-clause-fine c = c.touch_line.ensures.fine c.args.limits
+
+pub returns-then-eq-4-clause-fine : goal.returns-then-eq-4-clause-fine
+returns-then-eq-4-clause-fine c = c.delete_line.ensures.fine c.args.limits
