@@ -12,10 +12,11 @@ use Rattle.mc_proto.proofs.StreamLemmas.{stream_reads, reading_on}
 use Rattle.mc_script.specs.Calls.{IsPart}
 use Rattle.mc_script.specs.Progress.{EndsHere, FailsHere, Goes, GoesOn, HasAnswered, HasCome}
 use Rattle.mc_script.specs.Run.{ArePartOf, first_moment, HasBroken, HasRead, HasRun, HasStopped, NoneEnds}
-use Rattle.mc_script.specs.Script.{Answered, Exchange, all_exchanges, calls_of, ends, moment_behind, own_requests, request_exchanges, requests_of, texts_of, turn_behind}
+use Rattle.mc_script.specs.Exchanges.{Exchange, exchanges}
+use Rattle.mc_script.specs.Script.{Answered, all_exchanges, calls_of, ends, moment_behind, own_requests, requests_of, texts_of, turn_behind}
 use Rattle.mc_script.specs.declared.scripting.Progress.{Progress}
 use Rattle.mc_script.specs.declared.scripting.Progress.TheVariants as progress
-use Rattle.mc_script.proofs.CallLemmas.{no_exchanges}
+use Rattle.mc_script.proofs.CallLemmas.{AreAnswers-none, exchanges-none, part_few}
 use Rattle.mc_script.proofs.ProgressLemmas.{requests_of-append, printed_more}
 
 -- requests none of which ends the script are its own, and so are those behind them
@@ -55,14 +56,10 @@ now_torn printed start taken text taken' texts took is by = (
 )
 
 -- no call of the next request was made
-part_none : (back : List Request) (caller turn moment : ℕ) → ArePartOf back caller turn moment []
-part_none [] caller turn moment = refl
-part_none (r ∷ rs) caller turn moment = ([], omega arith, sym (no_exchanges caller turn moment r))
-
--- at most all
-part_memory : (fault : Fault) (n m : ℕ) → IsPart fault n m → IsPart faults.NoMemory n m
-part_memory faults.NoMemory n m part = part
-part_memory faults.HistoryFull n m part = omega arith
+part_none : (limits : Limits) (back : List Request) (caller turn moment : ℕ) → ArePartOf limits back caller turn moment []
+part_none limits [] caller turn moment = refl
+part_none limits (r ∷ rs) caller turn moment =
+    record { answers = []; part = omega arith; kinds = AreAnswers-none (calls_of limits r); are = sym (exchanges-none caller turn moment (calls_of limits r)) }
 
 -- what was read, where the first of these requests were answered
 come_read : (limits : Limits) (bytes left : List ℕ) (done : List Answered) (added front back : List Request) (more : List Answered)
@@ -82,7 +79,7 @@ come_read limits bytes left done added front back more come split own asked =
 
 -- the script ended in a piece
 pub piece_ended : (limits : Limits) (bytes left start taken text taken' : List ℕ) (notes : List Exchange → Type 0) (caller turn moment : ℕ) (done : List Answered) (added : List Request)
-    → HasCome limits bytes left done added → Goes progress.Ended added done start taken text notes caller turn moment → taken' ≡ taken ++ text → HasRun limits bytes start taken' notes caller
+    → HasCome limits bytes left done added → Goes progress.Ended limits added done start taken text notes caller turn moment → taken' ≡ taken ++ text → HasRun limits bytes start taken' notes caller
 piece_ended limits bytes left start taken text taken' notes caller turn moment done added come g out =
     let whole = stream_reads limits bytes in
     let on = reading_on limits come.came left come.after.rest whole.1 (come.requests ++ added) whole.0 come.after.spelt (subst (λ (t : List ℕ). Reads limits t whole.0 whole.1) come.split whole.2) in
@@ -102,21 +99,21 @@ piece_ended limits bytes left start taken text taken' notes caller turn moment d
     }
 
 -- all requests of a piece were answered, and the script goes on
-pub piece_goes_on : (start taken text taken' text' : List ℕ) (notes : List Exchange → Type 0) (caller turn moment : ℕ) (done : List Answered) (added : List Request)
-    → Goes progress.More added done start taken text notes caller turn moment → taken' ≡ taken ++ text → text' ≡ [] → GoesOn start taken' text' notes caller turn moment done added
-piece_goes_on start taken text taken' text' notes caller turn moment done added g out none =
+pub piece_goes_on : (limits : Limits) (start taken text taken' text' : List ℕ) (notes : List Exchange → Type 0) (caller turn moment : ℕ) (done : List Answered) (added : List Request)
+    → Goes progress.More limits added done start taken text notes caller turn moment → taken' ≡ taken ++ text → text' ≡ [] → GoesOn limits start taken' text' notes caller turn moment done added
+piece_goes_on limits start taken text taken' text' notes caller turn moment done added g out none =
     let all : added ≡ g.front = g.split ∙ ap (λ (t : List Request). g.front ++ t) g.state.0 ∙ append-nil g.front in
     record {
       own = subst NoneEnds (sym all) g.own;
       out = none;
       now = done ++ g.added;
       asked = requests_of-append done g.added ∙ ap (λ (t : List Request). requests_of done ++ t) (g.asked ∙ sym all);
-      state_of = printed_more (done ++ g.added) start taken text taken' text' notes caller turn moment g.state.1 (text, out, sym (append-nil text) ∙ ap (λ (t : List ℕ). text ++ t) (sym none));
+      state_of = printed_more limits (done ++ g.added) start taken text taken' text' notes caller turn moment g.state.1 (text, out, sym (append-nil text) ∙ ap (λ (t : List ℕ). text ++ t) (sym none));
     }
 
 -- a request failed, and the texts before it are out
 failed_stops : (fault : Fault) (limits : Limits) (bytes left start taken text taken' : List ℕ) (notes : List Exchange → Type 0) (caller : ℕ) (done : List Answered) (back : List Request)
-    → HasRead limits bytes left (requests_of done ++ own_requests back) → FailsHere fault back done start taken text notes caller → taken' ≡ taken ++ text → HasStopped fault limits bytes left start taken' notes caller
+    → HasRead limits bytes left (requests_of done ++ own_requests back) → FailsHere fault limits back done start taken text notes caller → taken' ≡ taken ++ text → HasStopped fault limits bytes left start taken' notes caller
 failed_stops fault limits bytes left start taken text taken' notes caller done [] read has out = absurd has
 failed_stops fault limits bytes left start taken text taken' notes caller done (r ∷ rs) read has out = record {
   answered = done;
@@ -125,14 +122,15 @@ failed_stops fault limits bytes left start taken text taken' notes caller done (
   read = subst (λ (t : List Request). HasRead limits bytes left (requests_of done ++ t)) (own_requests-one r rs has.own) read;
   whole = has.whole;
   texts = now_printed has.printed start taken text taken' (texts_of done) has.took has.texts out;
-  replies = has.replies;
+  answers = has.answers;
   part = has.part;
+  kinds = has.kinds;
   calls = has.notes_part;
 }
 
 -- a request failed, and then the sink
 failed_breaks : (fault : Fault) (limits : Limits) (bytes left start taken text taken' : List ℕ) (notes : List Exchange → Type 0) (caller : ℕ) (done : List Answered) (back : List Request)
-    → HasRead limits bytes left (requests_of done ++ own_requests back) → FailsHere fault back done start taken text notes caller → IsBeginning taken taken' text → HasBroken limits bytes left start taken' notes caller
+    → HasRead limits bytes left (requests_of done ++ own_requests back) → FailsHere fault limits back done start taken text notes caller → IsBeginning taken taken' text → HasBroken limits bytes left start taken' notes caller
 failed_breaks fault limits bytes left start taken text taken' notes caller done [] read has by = absurd has
 failed_breaks fault limits bytes left start taken text taken' notes caller done (r ∷ rs) read has by = record {
   answered = done;
@@ -140,14 +138,14 @@ failed_breaks fault limits bytes left start taken text taken' notes caller done 
   read = subst (λ (t : List Request). HasRead limits bytes left (requests_of done ++ t)) (own_requests-one r rs has.own) read;
   whole = has.whole;
   texts = now_torn has.printed start taken text taken' (texts_of done) has.took has.texts by;
-  more = request_exchanges caller (turn_behind 0 done) (moment_behind first_moment done) r has.replies;
-  part = (has.replies, part_memory fault (length has.replies) (calls_of r) has.part, refl);
+  more = exchanges caller (turn_behind limits 0 done) (moment_behind first_moment done) (calls_of limits r) has.answers;
+  part = record { answers = has.answers; part = part_few fault (length has.answers) (length (calls_of limits r)) has.part; kinds = has.kinds; are = refl };
   calls = has.notes_part;
 }
 
 -- requests were answered, and then the sink failed
 answered_breaks : (limits : Limits) (bytes left start taken text taken' : List ℕ) (notes : List Exchange → Type 0) (caller turn moment : ℕ) (done : List Answered) (back : List Request)
-    → HasRead limits bytes left (requests_of done ++ own_requests back) → HasAnswered done start taken text notes caller turn moment → IsBeginning taken taken' text → HasBroken limits bytes left start taken' notes caller
+    → HasRead limits bytes left (requests_of done ++ own_requests back) → HasAnswered limits done start taken text notes caller turn moment → IsBeginning taken taken' text → HasBroken limits bytes left start taken' notes caller
 answered_breaks limits bytes left start taken text taken' notes caller turn moment done back read has by = record {
   answered = done;
   back = own_requests back;
@@ -155,13 +153,13 @@ answered_breaks limits bytes left start taken text taken' notes caller turn mome
   whole = has.whole;
   texts = now_torn has.printed start taken text taken' (texts_of done) has.took has.texts by;
   more = [];
-  part = part_none (own_requests back) caller (turn_behind 0 done) (moment_behind first_moment done);
-  calls = subst notes (sym (append-nil (all_exchanges caller 0 first_moment done))) has.notes_all;
+  part = part_none limits (own_requests back) caller (turn_behind limits 0 done) (moment_behind first_moment done);
+  calls = subst notes (sym (append-nil (all_exchanges limits caller 0 first_moment done))) has.notes_all;
 }
 
 -- the sink failed within a piece
 pub piece_torn : (limits : Limits) (bytes left start taken text : List ℕ) (notes : List Exchange → Type 0) (caller turn moment : ℕ) (done : List Answered) (added : List Request)
-    → HasCome limits bytes left done added → Goes progress.Output added done start taken text notes caller turn moment → HasBroken limits bytes left start taken notes caller
+    → HasCome limits bytes left done added → Goes progress.Output limits added done start taken text notes caller turn moment → HasBroken limits bytes left start taken notes caller
 piece_torn limits bytes left start taken text notes caller turn moment done added come g =
     let read = come_read limits bytes left done added g.front g.back g.added come g.split g.own g.asked in
     record {
@@ -171,27 +169,27 @@ piece_torn limits bytes left start taken text notes caller turn moment done adde
       whole = g.state.whole;
       texts = g.state.texts;
       more = [];
-      part = part_none (own_requests g.back) caller (turn_behind 0 (done ++ g.added)) (moment_behind first_moment (done ++ g.added));
-      calls = subst notes (sym (append-nil (all_exchanges caller 0 first_moment (done ++ g.added)))) g.state.notes_all;
+      part = part_none limits (own_requests g.back) caller (turn_behind limits 0 (done ++ g.added)) (moment_behind first_moment (done ++ g.added));
+      calls = subst notes (sym (append-nil (all_exchanges limits caller 0 first_moment (done ++ g.added)))) g.state.notes_all;
     }
 
 -- a request failed for want of memory
 pub piece_memory : (limits : Limits) (bytes left start taken text taken' : List ℕ) (notes : List Exchange → Type 0) (caller turn moment : ℕ) (done : List Answered) (added : List Request)
-    → HasCome limits bytes left done added → Goes progress.Memory added done start taken text notes caller turn moment → taken' ≡ taken ++ text → HasStopped faults.NoMemory limits bytes left start taken' notes caller
+    → HasCome limits bytes left done added → Goes progress.Memory limits added done start taken text notes caller turn moment → taken' ≡ taken ++ text → HasStopped faults.NoMemory limits bytes left start taken' notes caller
 piece_memory limits bytes left start taken text taken' notes caller turn moment done added come g out =
     failed_stops faults.NoMemory limits bytes left start taken text taken' notes caller (done ++ g.added) g.back
     (come_read limits bytes left done added g.front g.back g.added come g.split g.own g.asked) g.state out
 
 -- or since the history is full
 pub piece_full : (limits : Limits) (bytes left start taken text taken' : List ℕ) (notes : List Exchange → Type 0) (caller turn moment : ℕ) (done : List Answered) (added : List Request)
-    → HasCome limits bytes left done added → Goes progress.Full added done start taken text notes caller turn moment → taken' ≡ taken ++ text → HasStopped faults.HistoryFull limits bytes left start taken' notes caller
+    → HasCome limits bytes left done added → Goes progress.Full limits added done start taken text notes caller turn moment → taken' ≡ taken ++ text → HasStopped faults.HistoryFull limits bytes left start taken' notes caller
 piece_full limits bytes left start taken text taken' notes caller turn moment done added come g out =
     failed_stops faults.HistoryFull limits bytes left start taken text taken' notes caller (done ++ g.added) g.back
     (come_read limits bytes left done added g.front g.back g.added come g.split g.own g.asked) g.state out
 
 -- the sink failed behind a piece
 pub piece_breaks : (p : Progress) (limits : Limits) (bytes left start taken text taken' : List ℕ) (notes : List Exchange → Type 0) (caller turn moment : ℕ) (done : List Answered) (added : List Request)
-    → HasCome limits bytes left done added → Goes p added done start taken text notes caller turn moment → (p ≡ progress.Output → ⊥) → IsBeginning taken taken' text → HasBroken limits bytes left start taken' notes caller
+    → HasCome limits bytes left done added → Goes p limits added done start taken text notes caller turn moment → (p ≡ progress.Output → ⊥) → IsBeginning taken taken' text → HasBroken limits bytes left start taken' notes caller
 piece_breaks progress.More limits bytes left start taken text taken' notes caller turn moment done added come g not by =
     answered_breaks limits bytes left start taken text taken' notes caller turn moment (done ++ g.added) g.back (come_read limits bytes left done added g.front g.back g.added come g.split g.own g.asked) g.state.1 by
 piece_breaks progress.Ended limits bytes left start taken text taken' notes caller turn moment done added come g not by =

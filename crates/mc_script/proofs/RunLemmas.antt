@@ -7,9 +7,10 @@ use Rattle.mc_proto.specs.declared.request.Limits.{Limits}
 use Rattle.mc_proto.specs.declared.request.Request.{Request}
 use Rattle.mc_proto.specs.declared.state.State.{State}
 use Rattle.mc_proto.proofs.RestLemmas.{after_reads}
-use Rattle.mc_script.specs.Progress.{AreMoments, GoesOn, HasAnswered, HasCome, IsOnWay}
+use Rattle.mc_script.specs.Progress.{AreModerate, GoesOn, HasAnswered, HasCome, IsOnWay}
 use Rattle.mc_script.specs.Run.{first_moment, HasRun, HasRunTo, HasStarved, IsOut}
-use Rattle.mc_script.specs.Script.{Answered, Exchange, texts_of}
+use Rattle.mc_script.specs.Exchanges.{Exchange}
+use Rattle.mc_script.specs.Script.{Answered, texts_of}
 use Rattle.mc_script.proofs.PieceLemmas.{own_requests-all, NoneEnds-append}
 
 -- before the first piece
@@ -27,8 +28,8 @@ way_starts limits state unread bytes start text notes caller turn moment after n
 }
 
 -- all that was gathered is printed
-all_printed : (done : List Answered) (start taken text : List ℕ) (notes : List Exchange → Type 0) (caller turn moment : ℕ) → HasAnswered done start taken text notes caller turn moment → text ≡ [] → taken ≡ start ++ texts_of done
-all_printed done start taken text notes caller turn moment has none =
+all_printed : (limits : Limits) (done : List Answered) (start taken text : List ℕ) (notes : List Exchange → Type 0) (caller turn moment : ℕ) → HasAnswered limits done start taken text notes caller turn moment → text ≡ [] → taken ≡ start ++ texts_of done
+all_printed limits done start taken text notes caller turn moment has none =
     has.took ∙ ap (λ (t : List ℕ). start ++ t) (sym (append-nil has.printed) ∙ ap (λ (t : List ℕ). has.printed ++ t) (sym none) ∙ has.texts)
 
 -- the next piece may be asked for
@@ -46,7 +47,7 @@ way_out limits state unread bytes left start taken text notes caller turn moment
       answered = way.done;
       asked = way.asked;
       whole = way.state_of.whole;
-      texts = all_printed way.done start taken text notes caller turn moment way.state_of none;
+      texts = all_printed limits way.done start taken text notes caller turn moment way.state_of none;
     }
 
 -- all requests of the bytes that came were answered
@@ -61,7 +62,7 @@ way_done limits state unread bytes left start taken text notes caller turn momen
       reads = read.1;
       asked = way.asked ∙ sym (own_requests-all way.requests way.own);
       whole = way.state_of.whole;
-      texts = all_printed way.done start taken text notes caller turn moment way.state_of none;
+      texts = all_printed limits way.done start taken text notes caller turn moment way.state_of none;
       calls = way.state_of.notes_all;
     }
 
@@ -102,7 +103,7 @@ way_comes limits first second state next unread later bytes left behind start ta
 
 -- and the script goes on
 pub way_goes_on : (limits : Limits) (bytes left start taken text : List ℕ) (notes : List Exchange → Type 0) (caller turn moment : ℕ) (done : List Answered) (added : List Request)
-    → (come : HasCome limits bytes left done added) → GoesOn start taken text notes caller turn moment done added
+    → (come : HasCome limits bytes left done added) → GoesOn limits start taken text notes caller turn moment done added
     → IsOnWay limits come.state come.unread bytes left start taken text notes caller turn moment
 way_goes_on limits bytes left start taken text notes caller turn moment done added come on = record {
   came = come.came;
@@ -115,13 +116,13 @@ way_goes_on limits bytes left start taken text notes caller turn moment done add
   state_of = on.state_of;
 }
 
--- each of all these sets no moment that is too late
-pub moments_are : (rs : List Request) → All IsModerate rs → AreMoments rs
-moments_are [] all = tt
-moments_are (r ∷ rs) all = (all 0 r (omega arith), moments_are rs (λ k d below. all (suc k) d (omega arith)))
+-- each of all these sets no moment that is too late, and names no class that isn't there
+pub moderate_are : (limits : Limits) (rs : List Request) → All (IsModerate limits) rs → AreModerate limits rs
+moderate_are limits [] all = tt
+moderate_are limits (r ∷ rs) all = (all 0 r (omega arith), moderate_are limits rs (λ k d below. all (suc k) d (omega arith)))
 
 -- the same taken bytes and caller by other names
-pub answered_at : (done : List Answered) (start taken taken' text : List ℕ) (notes : List Exchange → Type 0) (caller caller' turn moment : ℕ) → HasAnswered done start taken text notes caller turn moment → taken' ≡ taken → caller' ≡ caller
-    → HasAnswered done start taken' text notes caller' turn moment
-answered_at done start taken taken' text notes caller caller' turn moment has same is =
-    subst (λ (n : ℕ). HasAnswered done start taken' text notes n turn moment) (sym is) (subst (λ (t : List ℕ). HasAnswered done start t text notes caller turn moment) (sym same) has)
+pub answered_at : (limits : Limits) (done : List Answered) (start taken taken' text : List ℕ) (notes : List Exchange → Type 0) (caller caller' turn moment : ℕ) → HasAnswered limits done start taken text notes caller turn moment → taken' ≡ taken → caller' ≡ caller
+    → HasAnswered limits done start taken' text notes caller' turn moment
+answered_at limits done start taken taken' text notes caller caller' turn moment has same is =
+    subst (λ (n : ℕ). HasAnswered limits done start taken' text notes n turn moment) (sym is) (subst (λ (t : List ℕ). HasAnswered limits done start t text notes caller turn moment) (sym same) has)

@@ -33,16 +33,16 @@ pub returns-in_err-answer_key-clause-front : goal.returns-in_err-answer_key-clau
 returns-in_err-answer_key-clause-front g c = begins_further c.args.text.now.items c.loop-key.text.items c.answer_key.new.text.items c.loop-key.invariant.front c.in_err-answer_key.ensures.front
 
 pub returns-in_err-answer_key-clause-err : goal.returns-in_err-answer_key-clause-err
-returns-in_err-answer_key-clause-err g c =
+returns-in_err-answer_key-clause-err g c = λ limits.
     let split = split_at c.args.keys.items c.loop-key.yielded c.in-Some.key c.into_iter-key-iterator.result c.loop-key.key-iterator c.next.new.self c.into_iter-key-iterator.ensures.into_iter_gives.0 c.loop-key.yielded_by c.in-Some.ensures.steps.0 in
     let failed = c.in_err-answer_key.ensures.err in
-    let made = keys_fail c.args.keys.items c.loop-key.yielded c.in-Some.key (into_iter_items c.next.new.self) _ c.args.with_cas _ _ _ _ _ _ _ _ c.args.text.now.items c.loop-key.text.items split c.loop-key.invariant.keys c.loop-key.invariant.caller failed in
+    let made = keys_fail c.args.keys.items c.loop-key.yielded c.in-Some.key (into_iter_items c.next.new.self) _ c.args.with_cas _ _ _ _ _ _ _ _ c.args.text.now.items c.loop-key.text.items split c.loop-key.invariant.keys c.loop-key.invariant.caller failed limits in
     search rules
 
 pub returns-in_err-push_end-clause-err : goal.returns-in_err-push_end-clause-err
-returns-in_err-push_end-clause-err g c =
+returns-in_err-push_end-clause-err g c = λ limits.
     let whole = all_taken c.args.keys.items c.into_iter-key-iterator.result c.loop-key.yielded c.loop-key.key-iterator c.into_iter-key-iterator.ensures.into_iter_gives.0 (c.into_iter-key-iterator.ensures.into_iter_gives.1 ∙ c.args.keys.ok.0) c.loop-key.yielded_by c.in-None.ensures.steps.0 in
-    let made = keys_end_fails c.args.keys.items c.loop-key.yielded c.args.with_cas _ _ _ _ _ _ c.args.text.now.items c.loop-key.text.items whole c.loop-key.invariant.keys in
+    let made = keys_end_fails c.args.keys.items c.loop-key.yielded c.args.with_cas _ _ _ _ _ _ c.args.text.now.items c.loop-key.text.items whole c.loop-key.invariant.keys limits in
     search rules
 
 pub returns-clause-ok : goal.returns-clause-ok

@@ -17,6 +17,6 @@ invariant-loop-request g l = record {
   over : g.E.Ends.over l.ends ≡ g.E.Ends.over l.fn.ends;
   own : NoneEnds l.yielded;
   went : (before : List Answered) (start : List ℕ)
-      → HasAnswered before start (g.E.Ends.taken l.fn.ends) l.fn.text.items (g.C.Calls.notes l.fn.calls) (g.C.Calls.caller l.fn.calls) (g.C.Calls.turn l.fn.calls) l.fn.moment
-      → Went l.yielded before start (g.E.Ends.taken l.ends) l.text.items (g.C.Calls.notes l.calls) (g.C.Calls.caller l.fn.calls) (g.C.Calls.turn l.calls) l.moment;
+      → HasAnswered l.limits before start (g.E.Ends.taken l.fn.ends) l.fn.text.items (g.C.Calls.notes l.fn.calls) (g.C.Calls.caller l.fn.calls) (g.C.Calls.turn l.fn.calls) l.fn.moment
+      → Went l.limits l.yielded before start (g.E.Ends.taken l.ends) l.text.items (g.C.Calls.notes l.calls) (g.C.Calls.caller l.fn.calls) (g.C.Calls.turn l.calls) l.moment;
 }

@@ -1,9 +1,12 @@
 use Rattle.std.proofs.Common.{◌++◌, ◌<◌, List, ℕ, sym, ap, ◌∙◌, refl, arith, subst, inr}
+use Rattle.std.specs.Prelude.{All}
+use Rattle.mc_proto.specs.Grammar.{IsModerate}
+use Rattle.mc_proto.specs.declared.request.Limits.{Limits}
 use Rattle.mc_script.specs.Progress.{GoesOn, IsOnWay}
 use Rattle.mc_script.specs.Run.{AreCounted, Leaves}
 use Rattle.mc_script.specs.declared.outcome.Outcome.{Outcome}
 use Rattle.mc_script.specs.declared.outcome.Outcome.TheVariants as outcomes
-use Rattle.mc_script.proofs.RunLemmas.{way_starts, way_out, way_ends, way_runs_out, way_starves, way_comes, way_goes_on, answered_at, moments_are}
+use Rattle.mc_script.proofs.RunLemmas.{way_starts, way_out, way_ends, way_runs_out, way_starves, way_comes, way_goes_on, answered_at, moderate_are}
 use Rattle.mc_script.proofs.scripting.run_script.Goals as goal
 
 pub loop-init : goal.loop-init
@@ -50,8 +53,9 @@ returns-in-Err-feed-clause-leaves g c =
     subst (λ (t : List ℕ). Leaves outcomes.Memory c.args.limits (g.E.Ends.coming c.args.ends.now) (g.E.Ends.coming c.piece.new.self) (g.E.Ends.taken c.args.ends.now) t (g.C.Calls.notes c.loop.calls) (g.C.Calls.caller c.args.calls.now)) (sym c.in-Ok-Some.ensures.taken)
     (inr (way_starves c.args.limits c.loop.reader.state c.loop.reader.unread (g.E.Ends.coming c.args.ends.now) (g.E.Ends.coming c.loop.ends) _ (g.E.Ends.coming c.piece.new.self) (g.E.Ends.taken c.args.ends.now) (g.E.Ends.taken c.loop.ends) c.loop.text.items _ _ _ _ c.loop.invariant.way c.loop.invariant.none came.0))
 
-pub answer_piece-requires-clause-moments : goal.answer_piece-requires-clause-moments
-answer_piece-requires-clause-moments g c = moments_are c.in-Ok.requests.items c.in-Ok.ensures.moderate
+pub answer_piece-requires-clause-moderate : goal.answer_piece-requires-clause-moderate
+answer_piece-requires-clause-moderate g c =
+    moderate_are c.args.limits c.in-Ok.requests.items (subst (λ (l : Limits). All (IsModerate l) c.in-Ok.requests.items) c.loop.invariant.limits c.in-Ok.ensures.moderate)
 
 pub returns-in-Some-answer_piece-clause-leaves : goal.returns-in-Some-answer_piece-clause-leaves
 returns-in-Some-answer_piece-clause-leaves g c =
@@ -59,8 +63,8 @@ returns-in-Some-answer_piece-clause-leaves g c =
     let came = rw c.in-Ok-Some.field-0-is at c.in-Ok-Some.ensures.ok in
     let come = way_comes c.args.limits c.loop.reader.limits c.feed.new.self.limits c.loop.reader.state c.feed.new.self.state c.loop.reader.unread c.feed.new.self.unread (g.E.Ends.coming c.args.ends.now) (g.E.Ends.coming c.loop.ends) (g.E.Ends.coming c.piece.new.self) (g.E.Ends.taken c.args.ends.now) (g.E.Ends.taken c.loop.ends)
     c.loop.text.items c.as_slice.result.now _ _ _ _ c.in-Ok.requests.items c.loop.invariant.way c.loop.invariant.limits c.in-Ok.ensures.limits c.in-Ok.ensures.reads (came.0 ∙ ap (λ (t : List ℕ). t ++ g.E.Ends.coming c.piece.new.self) (sym c.as_slice.ensures.value)) in
-    let has = answered_at c.loop.invariant.way.done (g.E.Ends.taken c.args.ends.now) (g.E.Ends.taken c.loop.ends) (g.E.Ends.taken c.piece.new.self) c.loop.text.items (g.C.Calls.notes c.loop.calls) (g.C.Calls.caller c.args.calls.now) (g.C.Calls.caller c.loop.calls) _ _ c.loop.invariant.way.state_of c.in-Ok-Some.ensures.taken c.loop.invariant.caller in
-    let left = rw c.in-Some-answer_piece.is at (c.answer_piece.ensures.leaves c.args.limits (g.E.Ends.coming c.args.ends.now) (g.E.Ends.taken c.args.ends.now) c.loop.invariant.way.done come has) in
+    let has = answered_at c.args.limits c.loop.invariant.way.done (g.E.Ends.taken c.args.ends.now) (g.E.Ends.taken c.loop.ends) (g.E.Ends.taken c.piece.new.self) c.loop.text.items (g.C.Calls.notes c.loop.calls) (g.C.Calls.caller c.args.calls.now) (g.C.Calls.caller c.loop.calls) _ _ c.loop.invariant.way.state_of c.in-Ok-Some.ensures.taken c.loop.invariant.caller in
+    let left = rw c.in-Some-answer_piece.is at (c.answer_piece.ensures.leaves (g.E.Ends.coming c.args.ends.now) (g.E.Ends.taken c.args.ends.now) c.loop.invariant.way.done come has) in
     let here = subst (λ (t : List ℕ). Leaves c.in-Some-answer_piece.outcome c.args.limits (g.E.Ends.coming c.args.ends.now) t (g.E.Ends.taken c.args.ends.now) (g.E.Ends.taken c.answer_piece.new.ends) (g.C.Calls.notes c.answer_piece.new.calls) (g.C.Calls.caller c.loop.calls)) (sym c.answer_piece.ensures.coming) left in
     subst (λ (n : ℕ). Leaves c.in-Some-answer_piece.outcome c.args.limits (g.E.Ends.coming c.args.ends.now) (g.E.Ends.coming c.answer_piece.new.ends) (g.E.Ends.taken c.args.ends.now) (g.E.Ends.taken c.answer_piece.new.ends) (g.C.Calls.notes c.answer_piece.new.calls) n) c.loop.invariant.caller here
 
@@ -70,9 +74,9 @@ loop-preserved g c =
     let came = rw c.in-Ok-Some.field-0-is at c.in-Ok-Some.ensures.ok in
     let come = way_comes c.args.limits c.loop.reader.limits c.feed.new.self.limits c.loop.reader.state c.feed.new.self.state c.loop.reader.unread c.feed.new.self.unread (g.E.Ends.coming c.args.ends.now) (g.E.Ends.coming c.loop.ends) (g.E.Ends.coming c.piece.new.self) (g.E.Ends.taken c.args.ends.now) (g.E.Ends.taken c.loop.ends)
     c.loop.text.items c.as_slice.result.now _ _ _ _ c.in-Ok.requests.items c.loop.invariant.way c.loop.invariant.limits c.in-Ok.ensures.limits c.in-Ok.ensures.reads (came.0 ∙ ap (λ (t : List ℕ). t ++ g.E.Ends.coming c.piece.new.self) (sym c.as_slice.ensures.value)) in
-    let has = answered_at c.loop.invariant.way.done (g.E.Ends.taken c.args.ends.now) (g.E.Ends.taken c.loop.ends) (g.E.Ends.taken c.piece.new.self) c.loop.text.items (g.C.Calls.notes c.loop.calls) (g.C.Calls.caller c.args.calls.now) (g.C.Calls.caller c.loop.calls) _ _ c.loop.invariant.way.state_of c.in-Ok-Some.ensures.taken c.loop.invariant.caller in
-    let goes = rw c.in-None-answer_piece.is at (c.answer_piece.ensures.leaves c.args.limits (g.E.Ends.coming c.args.ends.now) (g.E.Ends.taken c.args.ends.now) c.loop.invariant.way.done come has) in
-    let on = subst (λ (n : ℕ). GoesOn (g.E.Ends.taken c.args.ends.now) (g.E.Ends.taken c.answer_piece.new.ends) c.answer_piece.new.text.items (g.C.Calls.notes c.answer_piece.new.calls) n (g.C.Calls.turn c.answer_piece.new.calls) c.answer_piece.new.moment c.loop.invariant.way.done c.in-Ok.requests.items) c.loop.invariant.caller goes in
+    let has = answered_at c.args.limits c.loop.invariant.way.done (g.E.Ends.taken c.args.ends.now) (g.E.Ends.taken c.loop.ends) (g.E.Ends.taken c.piece.new.self) c.loop.text.items (g.C.Calls.notes c.loop.calls) (g.C.Calls.caller c.args.calls.now) (g.C.Calls.caller c.loop.calls) _ _ c.loop.invariant.way.state_of c.in-Ok-Some.ensures.taken c.loop.invariant.caller in
+    let goes = rw c.in-None-answer_piece.is at (c.answer_piece.ensures.leaves (g.E.Ends.coming c.args.ends.now) (g.E.Ends.taken c.args.ends.now) c.loop.invariant.way.done come has) in
+    let on = subst (λ (n : ℕ). GoesOn c.args.limits (g.E.Ends.taken c.args.ends.now) (g.E.Ends.taken c.answer_piece.new.ends) c.answer_piece.new.text.items (g.C.Calls.notes c.answer_piece.new.calls) n (g.C.Calls.turn c.answer_piece.new.calls) c.answer_piece.new.moment c.loop.invariant.way.done c.in-Ok.requests.items) c.loop.invariant.caller goes in
     let counted = rw c.in-None-answer_piece.is at c.answer_piece.ensures.counted in
     record {
       may = c.answer_piece.ensures.may c.in-None-answer_piece.is;

@@ -1,0 +1,15 @@
+use Rattle.std.proofs.Common.{◌≡◌, ◌≤◌, ◌*◌}
+use Rattle.mc_script.specs.Calls.{JugglesAll}
+use Rattle.mc_script.specs.Script.{classes_from}
+use Rattle.mc_script.proofs.juggling.juggle_from.Given as goal
+
+-- the classes so far were juggled, and no sum is large
+abbrev pub invariant-loop-i : goal.invariant-loop-i
+invariant-loop-i g l = record {
+  may : g.C.Calls.may_call l.calls;
+  place : g.C.Calls.place l.calls ≡ g.C.Calls.place l.fn.calls;
+  caller : g.C.Calls.caller l.calls ≡ g.C.Calls.caller l.fn.calls;
+  reclaimed : l.sums.reclaimed ≤ l.i * 4294967295;
+  moved : l.sums.moved ≤ l.i * 4294967295;
+  juggled : JugglesAll (classes_from l.first l.i) l.sums (g.C.Calls.caller l.fn.calls) (g.C.Calls.turn l.fn.calls) (g.C.Calls.turn l.calls) l.moment (g.C.Calls.notes l.fn.calls) (g.C.Calls.notes l.calls);
+}
