@@ -4,7 +4,7 @@ ghost use Rattle.std.specs.Prelude.{List, ℕ, ◌≡◌, ◌<◌};
 use mc_item::{Histogram, Key, Moves, Reply, Value};
 use mc_proto::{
     Keys, LineFault, Sink, SinkFault, fault_text, histogram_text, moves_text, push_end, push_fault,
-    push_reply, push_value_head, push_value_tail, reply_text, value_text, write_reply, write_whole,
+    push_moves, push_reply, push_value_head, push_value_tail, reply_text, value_text, write_reply, write_whole,
 };
 use std::alloc::Global;
 use std::process::Abort;
@@ -172,6 +172,10 @@ fn upkeep(rt: HostRuntime) {
     };
     let text = moves_text(rt.alloc(), &moves).expect(&rt, "memory");
     assert_eq!(rt; text.as_slice(), b"JUGGLED 3 500\r\n".as_slice());
+    let mut out = Vec::new(rt.alloc());
+    push_end(&mut out).expect(&rt, "memory");
+    push_moves(&mut out, &moves).expect(&rt, "memory");
+    assert_eq!(rt; out.as_slice(), b"END\r\nJUGGLED 3 500\r\n".as_slice());
     let mut counts = Histogram::new();
     let none = histogram_text(rt.alloc(), &counts).expect(&rt, "memory");
     assert_eq!(rt; none.as_slice(), b"CRAWL 0 0 0 0 0 0\r\nEND\r\n".as_slice());
