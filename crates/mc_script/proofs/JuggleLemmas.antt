@@ -1,5 +1,5 @@
 -- The maintainer's directive, class by class.
-use Rattle.std.proofs.Common.{◌≡◌, ◌+◌, ◌-◌, ◌<◌, ◌≤◌, ℕ, zero, suc, List, [], ◌∷◌, ◌++◌, refl, sym, ap, ◌∙◌, append-nil, arith, map, subst}
+use Rattle.std.proofs.Common.{◌≡◌, ◌+◌, ◌-◌, ◌<◌, ℕ, zero, suc, List, [], ◌∷◌, ◌++◌, refl, sym, ap, ◌∙◌, arith, map, subst}
 use Rattle.std.proofs.lemmas.List.{map-append}
 use Rattle.mc_item.specs.declared.counts.Moves.{Moves}
 use Rattle.mc_item.specs.declared.fault.Fault.{Fault}
@@ -81,7 +81,7 @@ juggled_fails first n all fault sums caller caller' turn turn' moment notes note
     let here = Juggles (record { 0 = first + n }) in
     let later = map Juggles (classes_from (first + n + 1) (all - (n + 1))) in
     let made = breaks_later fault (map Juggles (classes_from first n)) (here ∷ []) later so_far.answers caller caller' turn turn' moment notes notes' notes'' so_far.makes same
-        (breaks_first fault here [] caller' turn' moment notes' notes'' none) in
+    (breaks_first fault here [] caller' turn' moment notes' notes'' none) in
     subst (λ (cs : List Call). Breaks fault cs caller turn moment notes notes'')
     (sym (ap (map Juggles) (classes_from-split first n all below) ∙ map-append Juggles (classes_from first n) (record { 0 = first + n } ∷ classes_from (first + n + 1) (all - (n + 1))))) made
 

@@ -9,7 +9,6 @@ use Rattle.mc_proto.specs.declared.request.Limits.{Limits}
 use Rattle.mc_proto.specs.declared.request.Request.{Request}
 use Rattle.mc_proto.proofs.RestLemmas.{after_reads}
 use Rattle.mc_proto.proofs.StreamLemmas.{stream_reads, reading_on}
-use Rattle.mc_script.specs.Calls.{IsPart}
 use Rattle.mc_script.specs.Progress.{EndsHere, FailsHere, Goes, GoesOn, HasAnswered, HasCome}
 use Rattle.mc_script.specs.Run.{ArePartOf, first_moment, HasBroken, HasRead, HasRun, HasStopped, NoneEnds}
 use Rattle.mc_script.specs.Exchanges.{Exchange, exchanges}

@@ -12,7 +12,8 @@ use crate::calls::Calls;
 use crate::juggling::answer_juggle;
 use mc_item::{Command, Fault, Key, NoMemory, Reply};
 use mc_proto::{
-    Keys, Limits, LineFault, Request, push_end, push_fault, push_reply, push_value_head, push_value_tail,
+    Keys, Limits, LineFault, Request, push_end, push_fault, push_reply, push_value_head,
+    push_value_tail,
 };
 use std::sync::Wait;
 

@@ -126,7 +126,9 @@ impl<R: Abort> Sink for Kept<'_, R> {
 
     fn put(&mut self, bytes: &[u8]) -> Result<usize, SinkFault> {
         assert!(self.rt; !bytes.is_empty());
-        self.bytes.extend_from_slice(bytes).expect(self.rt, "memory");
+        self.bytes
+            .extend_from_slice(bytes)
+            .expect(self.rt, "memory");
         Ok(bytes.len())
     }
 
@@ -183,9 +185,21 @@ fn run_noted<R: Abort + Wait>(rt: &R, alloc: Global, script: &[u8], fails: Optio
 #[test]
 fn one_class_and_all_are_juggled(rt: HostRuntime) {
     for (script, text, classes) in [
-        (b"%juggle 2\r\n".as_slice(), b"JUGGLED 2 20\r\n".as_slice(), [2].as_slice()),
-        (b"%juggle 3\r\n".as_slice(), b"JUGGLED 3 30\r\n".as_slice(), [3].as_slice()),
-        (b"%juggle all\r\n".as_slice(), b"JUGGLED 6 60\r\n".as_slice(), [1, 2, 3].as_slice()),
+        (
+            b"%juggle 2\r\n".as_slice(),
+            b"JUGGLED 2 20\r\n".as_slice(),
+            [2].as_slice(),
+        ),
+        (
+            b"%juggle 3\r\n".as_slice(),
+            b"JUGGLED 3 30\r\n".as_slice(),
+            [3].as_slice(),
+        ),
+        (
+            b"%juggle all\r\n".as_slice(),
+            b"JUGGLED 6 60\r\n".as_slice(),
+            [1, 2, 3].as_slice(),
+        ),
         (
             b"get a\r\n%juggle 1\r\nget b\r\n".as_slice(),
             b"END\r\nJUGGLED 1 10\r\nEND\r\n".as_slice(),
@@ -206,8 +220,16 @@ fn one_class_and_all_are_juggled(rt: HostRuntime) {
 
 #[test]
 fn the_maintainer_works_at_the_scripts_moment(rt: HostRuntime) {
-    let ran = run_noted(&rt, rt.alloc(), b"%juggle 1\r\n%at 5\r\n%juggle 2\r\n", None);
-    assert_eq!(rt; ran.text.as_slice(), b"JUGGLED 1 10\r\nJUGGLED 2 20\r\n".as_slice());
+    let ran = run_noted(
+        &rt,
+        rt.alloc(),
+        b"%juggle 1\r\n%at 5\r\n%juggle 2\r\n",
+        None,
+    );
+    assert_eq!(rt;
+        ran.text.as_slice(),
+        b"JUGGLED 1 10\r\nJUGGLED 2 20\r\n".as_slice()
+    );
     assert_eq!(rt; ran.moments.as_slice(), [1000, 5].as_slice());
 }
 
@@ -230,7 +252,10 @@ fn a_class_that_is_not_there_is_a_bad_line(rt: HostRuntime) {
     ] {
         let ran = run_noted(&rt, rt.alloc(), script, None);
         assert_eq!(rt; ran.outcome, Outcome::Done);
-        assert_eq!(rt; ran.text.as_slice(), b"CLIENT_ERROR bad command line format\r\n".as_slice());
+        assert_eq!(rt;
+            ran.text.as_slice(),
+            b"CLIENT_ERROR bad command line format\r\n".as_slice()
+        );
         assert_eq!(rt; ran.made, 0);
     }
 }

@@ -4,7 +4,8 @@ ghost use Rattle.std.specs.Prelude.{List, ℕ, ◌≡◌, ◌<◌};
 use mc_item::{Histogram, Key, Moves, Reply, Value};
 use mc_proto::{
     Keys, LineFault, Sink, SinkFault, fault_text, histogram_text, moves_text, push_end, push_fault,
-    push_moves, push_reply, push_value_head, push_value_tail, reply_text, value_text, write_reply, write_whole,
+    push_moves, push_reply, push_value_head, push_value_tail, reply_text, value_text, write_reply,
+    write_whole,
 };
 use std::alloc::Global;
 use std::process::Abort;

@@ -1,4 +1,4 @@
-use Rattle.std.proofs.Common.{rules, ◌∷◌, []}
+use Rattle.std.proofs.Common.{rules}
 use Rattle.mc_item.specs.declared.command.Command.TheVariants as commands
 use Rattle.mc_item.specs.declared.fault.Fault.TheVariants as faults
 use Rattle.mc_proto.specs.Answers.{Replied}
