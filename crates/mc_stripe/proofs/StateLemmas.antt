@@ -1,10 +1,7 @@
 -- What a stripe keeps, with one event more.
-use Rattle.std.proofs.Common.{◌≡◌, ◌+◌, ◌-◌, ◌≤◌, ◌<◌, ◌++◌, ◌∷◌, [], ℕ, List, length, length-append, refl, sym, ap, ◌∙◌, subst, arith}
+use Rattle.std.proofs.Common.{◌≡◌, ◌+◌, ◌≤◌, ◌<◌, ◌++◌, ◌∷◌, [], ℕ, List, length, length-append, sym, ap, ◌∙◌, subst, arith}
 use Rattle.std.specs.Prelude.{Option, Some, None, nat_eq, if◌then◌else◌, IsSomeAnd, true}
 use Rattle.std.specs.Cmp.Lexicographic.{pointwise}
-use Rattle.std.proofs.Math.ListN.{get_or}
-use Rattle.std.proofs.Math.Seq.{get_or-append_seam}
-use Rattle.std.proofs.lemmas.Option.{slice_get_read}
 use Rattle.mc_item.specs.Answer.{row_of}
 use Rattle.mc_item.specs.Cache.{Cache, changed, versions_of, answer_of, after_change}
 use Rattle.mc_item.specs.Command.{key_of}
@@ -13,6 +10,8 @@ use Rattle.mc_item.specs.Stripe.{cache_of, cache_after, MayHappen, IsAlive, Fits
 use Rattle.mc_item.specs.declared.answer.Answer.{Answer}
 use Rattle.mc_item.specs.declared.answer.Change.{Change}
 use Rattle.mc_item.specs.declared.answer.Change.TheVariants.{Goes}
+use Rattle.mc_item.specs.declared.answer.Need.{Need}
+use Rattle.mc_item.specs.declared.answer.Need.TheVariants as needs
 use Rattle.mc_item.specs.declared.answer.Site.{Site}
 use Rattle.mc_item.specs.declared.stripe_event.Lost.{Lost}
 use Rattle.mc_item.specs.declared.stripe_event.Cooled.{Cooled}
@@ -20,11 +19,12 @@ use Rattle.mc_item.specs.declared.command.Command.{Command}
 use Rattle.mc_item.specs.declared.item.Item.{Item}
 use Rattle.mc_item.specs.declared.item.Who.{Who}
 use Rattle.mc_item.specs.declared.reply.Room.{Room}
-use Rattle.mc_item.specs.declared.stripe_event.Did.{Did}
+use Rattle.mc_item.specs.declared.reply.Room.TheVariants as rooms
 use Rattle.mc_item.specs.declared.stripe_event.StripeEvent.{StripeEvent}
 use Rattle.mc_item.specs.declared.stripe_event.StripeEvent.TheVariants as events
 use Rattle.mc_item.proofs.StripeLemmas.{cache_of-push, IsLegal-push, versions_of-few}
-use Rattle.mc_stripe.specs.StripeState.{IsKept, last_reply, reply_noted}
+use Rattle.mc_stripe.specs.Alone.{IsChunkless}
+use Rattle.mc_stripe.specs.StripeState.{IsKept}
 
 -- an event that may happen, with the items and the count that it leaves
 pub kept_on : (site : Site) (limit : ℕ) (history later : List StripeEvent) (versions count : ℕ) (items now : List ℕ → Option Item) (e : StripeEvent)
@@ -112,13 +112,9 @@ cooled_kept site limit history later versions items now cooled kept below may no
     (change_at items now (cache_of site history) cooled.key (cooled_change ((cache_of site history).items cooled.key)) kept.items_are same_change)
     (kept.versions_are ∙ cooled_adds ((cache_of site history).versions) ((cache_of site history).items cooled.key)) (omega arith) later_is
 
--- the last event's reply is that of a command that was just noted
-pub last_reply-push : (history later : List StripeEvent) (did : Did) → later ≡ history ++ events.Did did ∷ [] → last_reply later ≡ Some did.reply
-last_reply-push history later did is =
-    ap last_reply is
-    ∙ ap reply_noted (slice_get_read (history ++ events.Did did ∷ []) (length (history ++ events.Did did ∷ [])) (length (history ++ events.Did did ∷ []) - 1) (events.Did did)
-    refl (omega (arith, length-append history (events.Did did ∷ []))) (sym there))
-  where
-    there : get_or (history ++ events.Did did ∷ []) (length (history ++ events.Did did ∷ []) - 1) (events.Did did) ≡ events.Did did
-    there = ap (λ (i : ℕ). get_or (history ++ events.Did did ∷ []) i (events.Did did)) (omega (arith, length-append history (events.Did did ∷ [])))
-        ∙ get_or-append_seam history (events.Did did) [] (events.Did did)
+-- where no fresh chunk is needed, no room fits
+pub chunkless_fits : (need : Need) (before : List StripeEvent) → IsChunkless need → Fits need rooms.Keep before
+chunkless_fits (needs.Fresh class) before chunkless = chunkless
+chunkless_fits needs.Nothing before chunkless = tt
+chunkless_fits needs.Same before chunkless = tt
+chunkless_fits needs.TooLarge before chunkless = tt

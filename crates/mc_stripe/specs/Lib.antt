@@ -4,3 +4,4 @@ pub use Rattle.mc_item.specs.Stripe
 pub mod StripeState
 pub mod StripeCalls
 pub mod Plan
+pub mod Alone

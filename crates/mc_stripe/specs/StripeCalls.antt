@@ -1,15 +1,10 @@
 -- What the calls of a stripe ensure.
 use Rattle.std.specs.Prelude.{ℕ, ◌≡◌, [], ◌∷◌, ◌++◌}
 use Rattle.mc_item.specs.Cache.{answer_of}
-use Rattle.mc_item.specs.declared.answer.Need.{Need}
-use Rattle.mc_item.specs.declared.answer.Need.TheVariants as needs
 use Rattle.mc_item.specs.declared.command.Command.{Command}
 use Rattle.mc_item.specs.declared.item.Who.{Who}
 use Rattle.mc_item.specs.declared.reply.Room.{Room}
-use Rattle.mc_item.specs.declared.reply.Room.TheVariants as rooms
 use Rattle.mc_item.specs.declared.stripe_event.StripeEvent.{StripeEvent}
-use Rattle.mc_stripe.specs.declared.changing.Given.{Given}
-use Rattle.mc_stripe.specs.declared.changing.Given.TheVariants as given
 use Rattle.mc_item.specs.declared.stripe_event.StripeEvent.TheVariants as events
 use Rattle.mc_stripe.specs.StripeState.{Stripe, cache_now}
 
@@ -21,18 +16,6 @@ pub record KeepsSite (old new : Stripe) : Type 0 where
 -- the history gains just this event, at its end
 abbrev pub Gains : Stripe → Stripe → StripeEvent → Type 0
 Gains old new event = new.history ≡ old.history ++ event ∷ []
-
--- the room for a need: where a chunk is needed, the link of this number in its class
-abbrev pub room_for : Need → ℕ → Room
-room_for (needs.Fresh class) number = rooms.At (record { class = class; number = number })
-room_for needs.Nothing number = rooms.Keep
-room_for needs.Same number = rooms.Keep
-room_for needs.TooLarge number = rooms.Keep
-
--- the room that a command of this need is given: one that was chosen, or the one for the need
-abbrev pub room_of : Given → Need → Room
-room_of (given.Room room) need = room
-room_of (given.Number number) need = room_for need number
 
 -- the history gains the event of this command, answered at this moment with this room by what the cache was
 abbrev pub Notes : Stripe → Stripe → Who → Command → ℕ → Room → Type 0

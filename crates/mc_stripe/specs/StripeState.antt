@@ -1,6 +1,6 @@
 -- A stripe as contracts see it, and what its fields keep.
-use Rattle.std.specs.Prelude.{ℕ, ◌≡◌, ◌<◌, ◌≤◌, ◌^◌, ◌-◌, List, Option, Some, None, length}
-use Rattle.std.specs.List.{All, slice_get}
+use Rattle.std.specs.Prelude.{ℕ, ◌≡◌, ◌<◌, ◌≤◌, ◌^◌, List, Option, Some, None, length}
+use Rattle.std.specs.List.{All}
 use Rattle.mc_item.specs.Cache.{Cache}
 use Rattle.mc_item.specs.Stripe.{cache_of, IsLegal}
 use Rattle.mc_item.specs.declared.answer.Site.{Site}
@@ -31,10 +31,6 @@ reply_noted None = None
 reply_noted (Some (events.Did did)) = Some did.reply
 reply_noted (Some (events.Lost lost)) = None
 reply_noted (Some (events.Cooled cooled)) = None
-
--- the reply that the last event of a history notes
-abbrev pub last_reply : List StripeEvent → Option Reply
-last_reply history = reply_noted (slice_get history (length history - 1))
 
 -- the bounds of what a stripe is made with: its number is one of at most 64 stripes, each size is at most 2^20, and
 -- its history may have at most 2^32 events

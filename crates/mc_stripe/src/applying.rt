@@ -1,19 +1,21 @@
 //! Commands on a stripe.
-ghost use Rattle.std.specs.Prelude.{◌≡◌, ◌≤◌, ◌<◌, ◌+◌, ◌^◌, ℕ, Option, None, false, IfOk, IfErr, IfSome, IfNone, OnOk, OnErr, OnSome, Some, if◌then◌else◌, IsErrOf, ◌↔◌, ◌++◌, ◌∷◌, [], length, vec_len, vec_capacity};
+ghost use Rattle.std.specs.Prelude.{◌≡◌, ◌≤◌, ◌<◌, ◌+◌, ◌^◌, ℕ, Option, None, false, IfOk, IfSome, IfNone, OnOk, OnErr, OnSome, Some, if◌then◌else◌, ◌⊎◌, IsErrOf, ◌↔◌, ◌++◌, ◌∷◌, [], length, vec_len, vec_capacity};
 ghost use Rattle.mc_item.specs.Answer.{row_of};
 ghost use Rattle.mc_item.specs.Cache.{answer_of};
 ghost use Rattle.mc_item.specs.Command.{key_of};
 ghost use Rattle.mc_item.specs.Measure.{IsNeedOf, stripe_of};
-ghost use Rattle.mc_item.specs.Stripe.{Fits, IsAlive, IsDead};
+ghost use Rattle.mc_item.specs.Stripe.{Fits, IsAlive};
 ghost use Rattle.mc_item.specs.declared.answer.Site.{Site};
 ghost use Rattle.mc_item.specs.declared.fault.Fault.TheVariants as faults;
 ghost use Rattle.mc_item.specs.declared.item.Item.{Item};
 ghost use Rattle.mc_item.specs.declared.stripe_event.StripeEvent.TheVariants as events;
-ghost use Rattle.mc_stripe.specs.StripeState.{cache_now, last_reply};
-ghost use Rattle.mc_stripe.specs.StripeCalls.{KeepsSite, Gains, Notes, room_for, room_of};
+ghost use Rattle.mc_item.specs.declared.reply.Room.TheVariants as rooms;
+ghost use Rattle.mc_stripe.specs.Alone.{IsStorage, TouchesNoChunk};
+ghost use Rattle.mc_stripe.specs.StripeState.{cache_now};
+ghost use Rattle.mc_stripe.specs.StripeCalls.{KeepsSite, Gains, Notes};
 
+use crate::alone::answer_alone;
 use crate::answering::answer_item;
-use crate::changing::Given;
 use crate::state::{StripeState, is_full};
 use mc_item::{Command, Did, Fault, Need, Reply, Room, StripeEvent, Verb, Who};
 
@@ -75,63 +77,6 @@ impl StripeState {
         }
     }
 
-    // Answers a command at a moment, and notes that as one event; a copy of the reply is made where one is asked for.
-    // Where the key's item is dead, nothing happens, and the command is given back.
-    #[inline(always)]
-    fn note(
-        &mut self,
-        who: Who,
-        command: Command,
-        moment: u64,
-        given: Given,
-        copies: bool,
-    ) -> Result<Result<Option<Reply>, Command>, Fault>
-        requires stripe { stripe_of (key_of command) self.old.site.stripes ≡ record { 0 = self.old.site.stripe } }
-        requires moment { moment ≤ 2 ^ 62 }
-        requires fits { Fits (row_of self.old.site (cache_now self.old).versions ((cache_now self.old).items (key_of command)) command moment).need
-            (room_of given (row_of self.old.site (cache_now self.old).versions ((cache_now self.old).items (key_of command)) command moment).need) self.old.history }
-        ensures reply { IfOk result (λ noted. IfOk noted (λ copy. copy ≡ (if copies then Some (answer_of self.old.site (cache_now self.old) command moment
-            (room_of given (row_of self.old.site (cache_now self.old).versions ((cache_now self.old).items (key_of command)) command moment).need)).reply else None))) }
-        ensures event { IfOk result (λ noted. OnOk noted (Notes self.old self.new who command moment
-            (room_of given (row_of self.old.site (cache_now self.old).versions ((cache_now self.old).items (key_of command)) command moment).need))) }
-        ensures alive { IfOk result (λ noted. OnOk noted (IsAlive ((cache_now self.old).items (key_of command)) moment)) }
-        ensures dead { IfOk result (λ noted. OnErr noted (IsDead ((cache_now self.old).items (key_of command)) moment)) }
-        ensures back { IfOk result (λ noted. IfErr noted (λ c. (c ≡ command) × (self.new.history ≡ self.old.history))) }
-        ensures full { IsErrOf result faults.HistoryFull ↔ (self.old.limit ≤ length self.old.history) }
-        ensures err { OnErr result (self.new.history ≡ self.old.history) }
-        ensures site { KeepsSite self.old self.new }
-        ensures room { self.old.room ≤ self.new.room + 1 }
-    {
-        if is_full(self.history.as_slice(), self.limit) {
-            return Err(Fault::HistoryFull);
-        }
-        self.items.reserve(1)?;
-        self.history.reserve(1)?;
-        let Some(answered) = answer_item(
-            self.alloc,
-            &self.site,
-            self.versions,
-            &mut self.items,
-            &command,
-            moment,
-            given,
-            copies,
-        )?
-        else {
-            return Ok(Err(command));
-        };
-        self.versions += answered.added;
-        push_answer(
-            &mut self.history,
-            who,
-            command,
-            moment,
-            answered.noted,
-            answered.room,
-        );
-        Ok(Ok(answered.copy))
-    }
-
     /// Answers a command at a moment, and notes that as one event. The room is one that fits the command's need.
     pub fn apply(
         &mut self,
@@ -176,42 +121,80 @@ impl StripeState {
         ensures site { KeepsSite self.old self.new }
         ensures room { self.old.room ≤ self.new.room + 1 }
     {
-        match self.note(who, command, moment, Given::Room(room), copies)? {
-            Ok(copy) => Ok(copy),
-            Err(_) => unreachable!(),
+        if is_full(self.history.as_slice(), self.limit) {
+            return Err(Fault::HistoryFull);
         }
+        self.items.reserve(1)?;
+        self.history.reserve(1)?;
+        let answered = answer_item(
+            self.alloc,
+            &self.site,
+            self.versions,
+            &mut self.items,
+            &command,
+            moment,
+            room,
+            copies,
+        )?;
+        self.versions += answered.added;
+        push_answer(
+            &mut self.history,
+            who,
+            command,
+            moment,
+            answered.noted,
+            room,
+        );
+        Ok(answered.copy)
     }
 
-    /// Answers a command as `apply` does, and copies no reply: it stands in the history, where `last_reply` finds it.
-    /// Where the command needs a chunk, its room is the link of this number. Where its key's item is dead at the
-    /// moment, nothing happens, and the command is given back.
+    /// The quick way of a command at a moment of at most 2^62: `get`, `incr`, `decr`, `touch` and `delete` are answered
+    /// in their place where they touch no chunk, with one event more and no copy of the reply, which stands in the
+    /// history, at the place that was its end. A storage command is given back, and so is any other whose key's item is
+    /// dead, which needs a fresh chunk, or of which a chunk goes or is woken; then nothing happened. `HistoryFull` is
+    /// answered where the history has no place left. It looks the key up once.
     #[inline(always)]
     pub fn answer(
         &mut self,
         who: Who,
         command: Command,
         moment: u64,
-        number: u64,
     ) -> Result<Option<Command>, Fault>
         requires stripe { stripe_of (key_of command) self.old.site.stripes ≡ record { 0 = self.old.site.stripe } }
         requires moment { moment ≤ 2 ^ 62 }
-        requires fits { Fits (row_of self.old.site (cache_now self.old).versions ((cache_now self.old).items (key_of command)) command moment).need
-            (room_for (row_of self.old.site (cache_now self.old).versions ((cache_now self.old).items (key_of command)) command moment).need number) self.old.history }
-        ensures event { IfOk result (λ back. IfNone back (Notes self.old self.new who command moment
-            (room_for (row_of self.old.site (cache_now self.old).versions ((cache_now self.old).items (key_of command)) command moment).need number))) }
-        ensures last { IfOk result (λ back. IfNone back (last_reply self.new.history ≡ Some (answer_of self.old.site (cache_now self.old) command moment
-            (room_for (row_of self.old.site (cache_now self.old).versions ((cache_now self.old).items (key_of command)) command moment).need number)).reply)) }
-        ensures alive { IfOk result (λ back. IfNone back (IsAlive ((cache_now self.old).items (key_of command)) moment)) }
-        ensures dead { IfOk result (λ back. OnSome back (IsDead ((cache_now self.old).items (key_of command)) moment)) }
+        ensures event { IfOk result (λ back. IfNone back (Notes self.old self.new who command moment rooms.Keep)) }
+        ensures chunks { IfOk result (λ back. IfNone back (TouchesNoChunk self.old command moment)) }
+        ensures touched { IfOk result (λ back. OnSome back (IsStorage command ⊎ (TouchesNoChunk self.old command moment → ⊥))) }
         ensures back { IfOk result (λ back. IfSome back (λ c. (c ≡ command) × (self.new.history ≡ self.old.history))) }
         ensures full { IsErrOf result faults.HistoryFull ↔ (self.old.limit ≤ length self.old.history) }
         ensures err { OnErr result (self.new.history ≡ self.old.history) }
         ensures site { KeepsSite self.old self.new }
         ensures room { self.old.room ≤ self.new.room + 1 }
     {
-        match self.note(who, command, moment, Given::Number(number), false)? {
-            Ok(_) => Ok(None),
-            Err(command) => Ok(Some(command)),
+        if is_full(self.history.as_slice(), self.limit) {
+            return Err(Fault::HistoryFull);
         }
+        self.history.reserve(1)?;
+        let Some(told) = answer_alone(
+            self.alloc,
+            &self.site,
+            self.versions,
+            &mut self.items,
+            &command,
+            moment,
+        )?
+        else {
+            return Ok(Some(command));
+        };
+        self.versions += told.added;
+        push_answer(
+            &mut self.history,
+            who,
+            command,
+            moment,
+            told.noted,
+            Room::Keep,
+        );
+        Ok(None)
     }
 }

@@ -1,59 +1,24 @@
 //! What a command makes of the item under its key.
-ghost use Rattle.std.specs.Prelude.{◌≡◌, ◌≤◌, ◌<◌, ◌+◌, ◌^◌, ℕ, List, IfOk, IfSome, IfNone, OnOk, OnErr, nat_eq, if◌then◌else◌, Some, None};
+ghost use Rattle.std.specs.Prelude.{◌≡◌, ◌≤◌, ◌<◌, ◌+◌, ◌^◌, ℕ, List, IfOk, OnOk, OnErr, nat_eq, if◌then◌else◌, Some, None};
 ghost use Rattle.std.specs.Option.{option_copied};
 ghost use Rattle.std.specs.Cmp.Lexicographic.{pointwise};
 ghost use Rattle.std.specs.HashMap.{get, spare};
-ghost use Rattle.mc_item.specs.Answer.{cas_of, get_row, row_of};
+ghost use Rattle.mc_item.specs.Answer.{cas_of, row_of};
 ghost use Rattle.mc_item.specs.Cache.{changed};
 ghost use Rattle.mc_item.specs.Command.{key_of};
-ghost use Rattle.mc_item.specs.Stripe.{IsAlive, IsDead};
 ghost use Rattle.mc_item.specs.declared.answer.Answer.{Answer};
-ghost use Rattle.mc_item.specs.declared.answer.Need.TheVariants as needs;
-ghost use Rattle.mc_item.specs.declared.reply.Reply.TheVariants as replies;
-ghost use Rattle.mc_stripe.specs.StripeCalls as calls;
 
-use mc_item::{Answer, Change, Command, Item, Key, Link, Need, NoMemory, Reply, Room, Site};
+use mc_item::{Answer, Change, Command, Item, Key, NoMemory, Reply, Room, Site};
 use std::alloc::Global;
 use std::collections::HashMap;
 use std::hash::RandomState;
 
-/// The room that a command is given: this one, or, where it needs a chunk, the link of this number in its class.
-#[derive(Clone, Copy)]
-pub(crate) enum Given {
-    Room(Room),
-    Number(u64),
-}
-
-/// A command's reply, a copy of it where one was asked for, the room that it had, and how many versions it added.
+/// A command's reply, a copy of it where one was asked for, and how many versions it added.
 #[derive(Drop)]
 pub(crate) struct Answered {
     pub noted: Reply,
     pub copy: Option<Reply>,
-    pub room: Room,
     pub added: u64,
-}
-
-// The room for a need: where a chunk is needed, the link of this number in its class.
-fn room_for(need: Need, number: u64) -> Room
-    ensures { result ≡ calls.room_for need number }
-{
-    match need {
-        Need::Fresh(class) => Room::At(Link { class, number }),
-        Need::Nothing => Room::Keep,
-        Need::Same => Room::Keep,
-        Need::TooLarge => Room::Keep,
-    }
-}
-
-// The room that a command is given.
-#[inline(always)]
-fn room_of(site: &Site, found: Option<&Item>, command: &Command, given: Given) -> Room
-    ensures { (n moment : ℕ) → result ≡ calls.room_of given (row_of site.now n (option_copied found.entry) command.now moment).need }
-{
-    match given {
-        Given::Room(room) => room,
-        Given::Number(number) => room_for(site.need(found, command), number),
-    }
 }
 
 /// A copy of a reply, where one is asked for.
@@ -98,17 +63,15 @@ fn effect_of(
     found: Option<&Item>,
     command: &Command,
     moment: u64,
-    given: Given,
+    room: Room,
     copies: bool,
 ) -> Result<Effect, NoMemory>
     requires cas { cas_of site.now versions < 2 ^ 64 }
     requires moment { moment ≤ 2 ^ 62 }
-    ensures room { IfOk result (λ e. e.answered.room ≡ calls.room_of given (row_of site.now versions (option_copied found.entry) command.now moment).need) }
-    ensures ok { IfOk result (λ e. (answer : Answer) × (answer ≡ (row_of site.now versions (option_copied found.entry) command.now moment).answer e.answered.room)
+    ensures ok { IfOk result (λ e. (answer : Answer) × (answer ≡ (row_of site.now versions (option_copied found.entry) command.now moment).answer room)
         × (e.answered.noted ≡ answer.reply) × (e.answered.copy ≡ (if copies then Some answer.reply else None)) × (e.answered.added ≡ Rattle.mc_item.specs.Cache.versions_of answer.change)
         × (e.change ≡ answer.change)) }
 {
-    let room = room_of(site, found, command, given);
     let Answer { reply, change } = site.answer(alloc, versions, found, command, moment, room)?;
     let copy = copy_if(alloc, &reply, copies)?;
     let added = versions_of(&change);
@@ -116,7 +79,6 @@ fn effect_of(
         answered: Answered {
             noted: reply,
             copy,
-            room,
             added,
         },
         change,
@@ -190,13 +152,12 @@ pub(crate) fn answer_found(
     item: &mut Item,
     command: &Command,
     moment: u64,
-    given: Given,
+    room: Room,
     copies: bool,
 ) -> Result<(Answered, bool), NoMemory>
     requires cas { cas_of site.now versions < 2 ^ 64 }
     requires moment { moment ≤ 2 ^ 62 }
-    ensures room { IfOk result (λ x. x.0.room ≡ calls.room_of given (row_of site.now versions (Some item.old) command.now moment).need) }
-    ensures ok { IfOk result (λ x. (answer : Answer) × (answer ≡ (row_of site.now versions (Some item.old) command.now moment).answer x.0.room)
+    ensures ok { IfOk result (λ x. (answer : Answer) × (answer ≡ (row_of site.now versions (Some item.old) command.now moment).answer room)
         × (x.0.noted ≡ answer.reply) × (x.0.copy ≡ (if copies then Some answer.reply else None)) × (x.0.added ≡ Rattle.mc_item.specs.Cache.versions_of answer.change)
         × (changed (Some item.old) answer.change ≡ (if x.1 then Some item.new else None))) }
     ensures err { OnErr result (item.new ≡ item.old) }
@@ -208,7 +169,7 @@ pub(crate) fn answer_found(
         Some(&*item),
         command,
         moment,
-        given,
+        room,
         copies,
     )?;
     let stays = change_found(item, effect.change);
@@ -224,21 +185,20 @@ pub(crate) fn answer_absent(
     items: &mut HashMap<Key, Item, RandomState>,
     command: &Command,
     moment: u64,
-    given: Given,
+    room: Room,
     copies: bool,
 ) -> Result<Answered, NoMemory>
     requires cas { cas_of site.now versions < 2 ^ 64 }
     requires moment { moment ≤ 2 ^ 62 }
     requires room { 0 < spare items.old }
     requires absent { get (pointwise nat_eq) items.old (key_of command.now) ≡ None }
-    ensures room { IfOk result (λ a. a.room ≡ calls.room_of given (row_of site.now versions None command.now moment).need) }
-    ensures ok { IfOk result (λ a. (answer : Answer) × (answer ≡ (row_of site.now versions None command.now moment).answer a.room)
+    ensures ok { IfOk result (λ a. (answer : Answer) × (answer ≡ (row_of site.now versions None command.now moment).answer room)
         × (a.noted ≡ answer.reply) × (a.copy ≡ (if copies then Some answer.reply else None)) × (a.added ≡ Rattle.mc_item.specs.Cache.versions_of answer.change)
         × ((q : List ℕ) → get (pointwise nat_eq) items.new q ≡ (if pointwise nat_eq (key_of command.now) q then changed None answer.change else get (pointwise nat_eq) items.old q))) }
     ensures err { OnErr result ((q : List ℕ) → get (pointwise nat_eq) items.new q ≡ get (pointwise nat_eq) items.old q) }
     ensures spare { spare items.old ≤ spare items.new + 1 }
 {
-    let effect = effect_of(alloc, site, versions, None, command, moment, given, copies)?;
+    let effect = effect_of(alloc, site, versions, None, command, moment, room, copies)?;
     change_absent(alloc, items, command.key(), effect.change)?;
     Ok(effect.answered)
 }

@@ -1,5 +1,5 @@
 //! What becomes of the chunks of a command's key.
-ghost use Rattle.std.specs.Prelude.{◌≡◌, ℕ, List, []};
+ghost use Rattle.std.specs.Prelude.{◌≡◌, ◌&&◌, not, ℕ, List, []};
 ghost use Rattle.std.specs.Option.{option_copied};
 ghost use Rattle.mc_item.specs.Answer as answers;
 ghost use Rattle.mc_item.specs.Item as items;
@@ -64,6 +64,14 @@ pub(crate) fn gone_fate(found: Option<&Item>) -> Fate
     }
 }
 
+/// Whether a hit leaves the mark ACTIVE at an item that doesn't have it.
+#[inline(always)]
+pub(crate) fn wakes(item: &Item) -> bool
+    ensures { result ≡ ((items.hit_marks item.now.marks).active && not item.now.marks.active) }
+{
+    item.marks.hit().active && !item.marks.active
+}
+
 /// What becomes of the chunk of an item that is hit once more, where there is one.
 pub(crate) fn hit_fate(found: Option<&Item>) -> Fate
     ensures get { result ≡ fate_of [] (option_copied found.entry) ((answers.get_row (option_copied found.entry)).answer rooms.Keep).change }
@@ -73,7 +81,7 @@ pub(crate) fn hit_fate(found: Option<&Item>) -> Fate
     match found {
         None => Fate::Untouched,
         Some(item) => {
-            if item.marks.hit().active && !item.marks.active {
+            if wakes(item) {
                 Fate::Woken(item.link)
             } else {
                 Fate::Untouched

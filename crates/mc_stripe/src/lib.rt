@@ -1,6 +1,7 @@
 //! One stripe: its items, and the history that says how they came to be. Nothing here locks.
 #![tactic(auto)]
 
+mod alone;
 mod answering;
 mod applying;
 mod changing;

@@ -38,8 +38,8 @@ pub(crate) fn plan_of_either(need: Need, fate: Fate) -> Plan
     }
 }
 
-// The plan of a command for the item of its key, which is alive or absent.
-fn plan_of(site: &Site, found: Option<&Item>, command: &Command, moment: u64) -> Plan
+/// The plan of a command for the item of its key, which is alive or absent.
+pub(crate) fn plan_of(site: &Site, found: Option<&Item>, command: &Command, moment: u64) -> Plan
     requires moment { moment ≤ 2 ^ 62 }
     requires small { All (λ size. size ≤ 2 ^ 20) site.now.sizes }
     ensures row { (n : ℕ) → Foresees (key_of command.now) (option_copied found.entry) (row_of site.now n (option_copied found.entry) command.now moment) result }

@@ -6,7 +6,7 @@ ghost use Rattle.mc_item.specs.Config.{IsBounded};
 ghost use Rattle.mc_item.specs.Measure as measure;
 ghost use Rattle.mc_item.specs.Stripe.{IsLegal};
 ghost use Rattle.mc_item.specs.declared.fault.Fault.TheVariants as faults;
-ghost use Rattle.mc_stripe.specs.StripeState.{HasBounds, cache_now, last_reply, reply_noted};
+ghost use Rattle.mc_stripe.specs.StripeState.{HasBounds, cache_now, reply_noted};
 ghost use Rattle.mc_stripe.specs.StripeCalls.{KeepsSite};
 
 use mc_item::{
@@ -104,18 +104,6 @@ impl StripeState {
         ensures bounds { HasBounds self.now.site self.now.limit }
     {
         self.history.as_slice()
-    }
-
-    /// The reply to the last command, where the last event is one.
-    pub fn last_reply(&self) -> Option<&Reply>
-        ensures { option_copied result ≡ last_reply self.now.history }
-    {
-        match self.history.as_slice().last() {
-            Some(StripeEvent::Did(did)) => Some(&did.reply),
-            Some(StripeEvent::Lost(_)) => None,
-            Some(StripeEvent::Cooled(_)) => None,
-            None => None,
-        }
     }
 
     /// The reply that the event at a place of the history notes, where it is there and a command's.

@@ -1,6 +1,7 @@
 use Rattle.std.proofs.Common.{refl}
 use Rattle.mc_stripe.proofs.changing.effect_of.Goals as goal
 
-pub returns-clause-ok : goal.returns-clause-ok
-returns-clause-ok c =
-    (c.in_ok-reply.field-0, c.in_ok-reply.ensures, refl, c.in_ok-copy.ensures, c.versions_of-added.ensures, refl)
+pub returns : goal.returns
+returns c = record {
+  ok = (c.in_ok-reply.field-0, c.in_ok-reply.ensures, refl, c.in_ok-copy.ensures, c.versions_of-added.ensures, refl);
+}

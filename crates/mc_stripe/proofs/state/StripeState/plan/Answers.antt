@@ -1,4 +1,4 @@
-use Rattle.std.proofs.Common.{ap, ◌∙◌, sym, subst}
+use Rattle.std.proofs.Common.{ap, ◌∙◌, subst}
 use Rattle.std.specs.Prelude.{Option}
 use Rattle.mc_item.specs.Answer.{row_of}
 use Rattle.mc_item.specs.Cache.{if_alive}
@@ -7,7 +7,7 @@ use Rattle.mc_item.specs.Stripe.{cache_of}
 use Rattle.mc_item.specs.declared.item.Item.{Item}
 use Rattle.mc_stripe.specs.declared.planning.Plan.{Plan}
 use Rattle.mc_stripe.specs.Plan.{Foresees, IsPlan, dead_link}
-use Rattle.mc_stripe.specs.StripeState.{Stripe, stripe}
+use Rattle.mc_stripe.specs.StripeState.{Stripe}
 use Rattle.mc_stripe.proofs.state.StripeState.plan.Goals as goal
 
 pub returns-clause-plan : goal.returns-clause-plan
