@@ -2,6 +2,7 @@
 ghost use Rattle.std.specs.Prelude.{◌≡◌, IfOk};
 ghost use Rattle.mc_item.specs.Config.{IsBounded};
 
+mod alone;
 mod calls;
 mod histories;
 mod items;

@@ -2,7 +2,6 @@
 ghost use Rattle.std.specs.Prelude.{◌≡◌, ◌≢◌, IfSome, IsSomeAnd, MatchBool, Some, true, false};
 ghost use Rattle.mc_item.specs.Stripe.{Fits, IsAlive, IsDead, IsUnnamed, link_named};
 ghost use Rattle.mc_stripe.specs.StripeState.{cache_now};
-ghost use Rattle.mc_stripe.specs.StripeCalls as calls;
 
 use super::plain::{item_text, plain, reply_text, version_count};
 use super::{Asked, WHO, b, command_of};
@@ -39,8 +38,7 @@ fn is_unnamed(events: &[StripeEvent], link: Link) -> bool
 
 // The room for a need: a link of this number, or a refusal.
 fn room_for(need: Need, events: &[StripeEvent], number: u64, full: bool) -> Option<Room>
-    ensures fits { IfSome result (λ room. Fits need room events.now) }
-    ensures given { full ≡ false → IfSome result (λ room. room ≡ calls.room_for need number) }
+    ensures { IfSome result (λ room. Fits need room events.now) }
 {
     match need {
         Need::Fresh(class) => {
@@ -159,8 +157,8 @@ pub fn cools_without_memory(alloc: Global, stripe: &mut StripeState) -> Result<b
     }
 }
 
-/// Answers a command, and copies no reply. Says whether it was answered, or given back since its key's item is dead.
-pub fn notes(
+/// Asks the stripe alone for an answer. Says whether it gave one, or gave the command back.
+pub fn is_answered(
     alloc: Global,
     stripe: &mut StripeState,
     asked: Asked,
@@ -170,14 +168,41 @@ pub fn notes(
     if moment > 1_000_000 || !stripe.owns(command.key()) {
         return Err(Fail::from("no call"));
     }
-    let events = stripe.history();
-    let number = events.len() as u64;
-    let need = stripe.need(&command, moment);
-    if room_for(need, events, number, false).is_none() {
-        return Err(Fail::from("no room"));
-    }
-    let back = stripe.answer(WHO, command, moment, number)?;
+    let back = stripe.answer(WHO, command, moment)?;
     Ok(back.is_none())
+}
+
+/// Whether the stripe alone refuses a get of the key `b` since the history is full.
+pub fn is_refused_alone(alloc: Global, stripe: &mut StripeState) -> Result<bool, Fail> {
+    let command = command_of(alloc, Asked::Get)?;
+    if !stripe.owns(command.key()) {
+        return Err(Fail::from("no call"));
+    }
+    match stripe.answer(WHO, command, 1000) {
+        Ok(_) => Ok(false),
+        Err(fault) => Ok(fault == Fault::HistoryFull),
+    }
+}
+
+/// Asserts the text of the reply that the last event notes.
+pub fn asserts_last<R: Abort>(
+    rt: &R,
+    alloc: Global,
+    stripe: &StripeState,
+    want: &str,
+) -> Result<(), Fail> {
+    let count = stripe.history().len() as u64;
+    let last = if count == 0 {
+        None
+    } else {
+        stripe.reply_at(count - 1)
+    };
+    let text = match last {
+        Some(reply) => reply_text(alloc, reply)?,
+        None => format!(in alloc; "none")?,
+    };
+    assert_eq!(rt; text.as_str(), want);
+    Ok(())
 }
 
 /// Asserts what is answered at the moment 1000, and that the stripe and the plain program of the table agree on the

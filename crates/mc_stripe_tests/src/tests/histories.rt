@@ -1,28 +1,9 @@
 //! What stands in a history, how many events it holds, and which keys are of a stripe.
-use super::calls::{asserts, is_refused, notes};
+use super::calls::{asserts, asserts_last, is_answered, is_refused};
 use super::items::cools;
-use super::plain::reply_text;
 use super::{Asked, stripe_one};
 use mc_item::{Fault, Key, Verb};
-use mc_stripe::StripeState;
-use std::alloc::Global;
-use std::process::Abort;
 use std::test::Fail;
-
-// Asserts the text of the reply that the last event notes.
-fn asserts_last<R: Abort>(
-    rt: &R,
-    alloc: Global,
-    stripe: &StripeState,
-    want: &str,
-) -> Result<(), Fail> {
-    let text = match stripe.last_reply() {
-        Some(reply) => reply_text(alloc, reply)?,
-        None => format!(in alloc; "none")?,
-    };
-    assert_eq!(rt; text.as_str(), want);
-    Ok(())
-}
 
 const FIVE: &str = "Value { flags: 7, value: Value { bytes: [53] }, cas: 2 }";
 
@@ -31,14 +12,16 @@ fn a_reply_stands_in_the_history(rt: HostRuntime) -> Result<(), Fail> {
     let alloc = rt.alloc();
     let mut stripe = stripe_one(&rt, alloc)?;
     asserts_last(&rt, alloc, &stripe, "none")?;
-    assert!(rt; notes(alloc, &mut stripe, Asked::Store(Verb::Set, "5"), 1000)?);
+    let five = Asked::Store(Verb::Set, "5");
+    asserts(&rt, alloc, &mut stripe, five, false, "Stored")?;
     asserts_last(&rt, alloc, &stripe, "Stored")?;
-    asserts(&rt, alloc, &mut stripe, Asked::Touch(100), false, "Touched")?;
+    assert!(rt; is_answered(alloc, &mut stripe, Asked::Touch(100), 1000)?);
     asserts_last(&rt, alloc, &stripe, "Touched")?;
-    assert!(rt; notes(alloc, &mut stripe, Asked::Get, 1000)?);
+    asserts(&rt, alloc, &mut stripe, Asked::Get, false, FIVE)?;
+    assert!(rt; is_answered(alloc, &mut stripe, Asked::Get, 1000)?);
     asserts_last(&rt, alloc, &stripe, FIVE)?;
-    assert!(rt; !notes(alloc, &mut stripe, Asked::Get, 1100)?);
-    assert_eq!(rt; stripe.history().len(), 3);
+    assert!(rt; !is_answered(alloc, &mut stripe, Asked::Get, 1100)?);
+    assert_eq!(rt; stripe.history().len(), 4);
     asserts_last(&rt, alloc, &stripe, FIVE)?;
     cools(&rt, alloc, &mut stripe)?;
     asserts_last(&rt, alloc, &stripe, "none")
