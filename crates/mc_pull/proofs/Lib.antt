@@ -13,3 +13,4 @@ mod PlacedLemmas
 mod CallLemmas
 mod ClassPartLemmas
 mod PerformedLemmas
+mod AloneLemmas

@@ -2,7 +2,9 @@
 //! rounds of walks make room in a class or juggle its lists. Nothing here locks.
 #![tactic(auto)]
 
+mod alone;
 mod certain;
+mod fate;
 mod judge;
 mod juggling;
 mod lent;
@@ -18,12 +20,14 @@ mod rounds;
 mod settling;
 mod verdict;
 
+pub use alone::answer_alone;
+pub use fate::{fate_for, perform, perform_with};
 pub use judge::{Ask, Done, Judge, Mode};
 pub use juggling::juggle;
 pub use lent::Lent;
 pub use lone::Lone;
 pub use looking::{Answer, Gate, Judged, Look};
-pub use performing::{fate_for, perform, perform_with};
+pub use performing::perform_fated;
 pub use pulled::Pulled;
 pub use pulling::pull_tail;
 pub use rounds::make_room;

@@ -2,10 +2,7 @@
 ghost use Rattle.std.specs.Prelude.{◌≡◌, ◌≤◌, ◌<◌, ◌+◌, ◌^◌, ◌++◌, ◌∷◌, ◌||◌, [], Some, None, true, if◌then◌else◌, length, IfOk, IfErr, OnOk, OnErr, IsSomeAnd};
 ghost use Rattle.mc_item.specs.Cache.{changed};
 ghost use Rattle.mc_item.specs.Command.{key_of};
-ghost use Rattle.mc_item.specs.Stripe.{IsAlive};
-ghost use Rattle.mc_item.specs.declared.item.Who.{Who};
 ghost use Rattle.mc_stripe.specs.Plan.{IsHeld};
-ghost use Rattle.mc_stripe.specs.StripeState.{cache_now};
 ghost use Rattle.mc_stripe.specs.StripeCalls.{KeepsSite};
 ghost use Rattle.mc_pull.specs.Agreeing.{KeepsAgreements};
 ghost use Rattle.mc_pull.specs.Lent.{lent_before, lent_after};
@@ -13,7 +10,6 @@ ghost use Rattle.mc_pull.specs.Parts.{is_warming};
 ghost use Rattle.mc_pull.specs.Perform as words;
 ghost use Rattle.mc_pull.specs.Perform.{call, answer_to, item_before, MayAnswer, MayPerform};
 ghost use Rattle.mc_pull.specs.Performed.{events_on_stripe, one_if, IsPerformed, IsUntouched, MayRefuseCall, MayRefuseStripe};
-ghost use Rattle.mc_pull.specs.Question.{IsStripeOf};
 
 use crate::certain;
 use crate::lent::Lent;
@@ -23,26 +19,6 @@ use mc_item::{Command, Config, Fault, Key, NoMemory, Reply, Room, Who};
 use mc_segment::ClassState;
 use mc_stripe::{Fate, StripeState};
 use std::alloc::Global;
-
-/// What becomes of the chunks of a command's key, whose item is alive or absent: the classes of their links are those
-/// that the command has to be lent. It takes no memory.
-pub fn fate_for(
-    stripe: &StripeState,
-    command: &Command,
-    moment: u64,
-    room: Room,
-    config: &Config,
-) -> Fate
-    requires moment { moment ≤ 2 ^ 62 }
-    requires alive { IsAlive ((cache_now stripe.now).items (key_of command.now)) moment }
-    requires made_with { IsStripeOf config.now stripe.now }
-    ensures fate { (who : Who) → result ≡ words.fate_for stripe.now (call who command.now moment room) }
-    ensures held { IsHeld config.now.sizes result }
-{
-    let _config = config;
-    let plan = stripe.plan(command, moment);
-    plan.fate(room)
-}
 
 // A copy of a key, where one is wanted.
 fn key_if(alloc: Global, key: &Key, wanted: bool) -> Result<Option<Key>, NoMemory>
@@ -62,8 +38,8 @@ fn events_of(cooling: bool) -> usize
     if cooling { 2 } else { 1 }
 }
 
-// Answers a command on its stripe, and clears its item's mark where a key is given: all growths come first.
-fn answer(
+/// Answers a command on its stripe, and clears its item's mark where a key is given: all growths come first.
+pub(crate) fn answer(
     stripe: &mut StripeState,
     who: Who,
     command: Command,
@@ -91,8 +67,8 @@ fn answer(
     Ok(copy)
 }
 
-// A command that is lent one class.
-fn perform_one(
+/// A command that is lent one class.
+pub(crate) fn perform_one(
     alloc: Global,
     stripe: &mut StripeState,
     class: &mut ClassState,
@@ -100,10 +76,13 @@ fn perform_one(
     command: Command,
     moment: u64,
     room: Room,
+    fate: Fate,
     config: &Config,
     copies: bool,
 ) -> Result<Option<Reply>, Fault>
-    requires { MayPerform config.now stripe.old (call who command moment room) (class.old ∷ []) }
+    requires may { MayPerform config.now stripe.old (call who command moment room) (class.old ∷ []) }
+    requires fate { fate ≡ words.fate_for stripe.old (call who command moment room) }
+    requires held { IsHeld config.now.sizes fate }
     ensures reply { IfOk result (λ copy. copy ≡ (if copies then Some (answer_to stripe.old (call who command moment room)).reply else None)) }
     ensures made { OnOk result (IsPerformed stripe.old stripe.new (call who command moment room) (class.old ∷ []) (class.new ∷ [])) }
     ensures err { OnErr result (IsUntouched stripe.old stripe.new (class.old ∷ []) (class.new ∷ [])) }
@@ -112,7 +91,6 @@ fn perform_one(
     ensures agreement { KeepsAgreements (call who command moment room) stripe.old stripe.new (class.old ∷ []) (class.new ∷ []) }
 {
     class.law();
-    let fate = fate_for(stripe, &command, moment, room, config);
     let part = prepare(alloc, class, command.key(), room, fate, config)?;
     let cooling = part.is_warming();
     let key = key_if(alloc, command.key(), cooling)?;
@@ -129,8 +107,8 @@ fn is_either_warming(first: &Part, second: &Part) -> bool
     first.is_warming() || second.is_warming()
 }
 
-// A command that is lent two classes.
-fn perform_two(
+/// A command that is lent two classes.
+pub(crate) fn perform_two(
     alloc: Global,
     stripe: &mut StripeState,
     low: &mut ClassState,
@@ -139,10 +117,13 @@ fn perform_two(
     command: Command,
     moment: u64,
     room: Room,
+    fate: Fate,
     config: &Config,
     copies: bool,
 ) -> Result<Option<Reply>, Fault>
-    requires { MayPerform config.now stripe.old (call who command moment room) (low.old ∷ high.old ∷ []) }
+    requires may { MayPerform config.now stripe.old (call who command moment room) (low.old ∷ high.old ∷ []) }
+    requires fate { fate ≡ words.fate_for stripe.old (call who command moment room) }
+    requires held { IsHeld config.now.sizes fate }
     ensures reply { IfOk result (λ copy. copy ≡ (if copies then Some (answer_to stripe.old (call who command moment room)).reply else None)) }
     ensures made { OnOk result (IsPerformed stripe.old stripe.new (call who command moment room) (low.old ∷ high.old ∷ []) (low.new ∷ high.new ∷ [])) }
     ensures err { OnErr result (IsUntouched stripe.old stripe.new (low.old ∷ high.old ∷ []) (low.new ∷ high.new ∷ [])) }
@@ -152,7 +133,6 @@ fn perform_two(
 {
     low.law();
     high.law();
-    let fate = fate_for(stripe, &command, moment, room, config);
     let first = prepare(alloc, low, command.key(), room, fate, config)?;
     let second = prepare(alloc, high, command.key(), room, fate, config)?;
     let cooling = is_either_warming(&first, &second);
@@ -164,12 +144,9 @@ fn perform_two(
     Ok(copy)
 }
 
-/// Makes one command on a stripe and the classes that it is lent, of which each makes its part: a new entry at the
-/// link of the room, then the end of the entry that goes or is replaced; or the move of an entry that a hit makes
-/// ACTIVE from COLD to WARM's head, whose mark is then cleared. All growths come first: after a fault nothing of it
-/// stands. `HistoryFull` is answered only where a history lacks a place that the command needs in it. Each class that
-/// agreed with the stripe agrees with it still.
-pub fn perform(
+/// Makes one command on a stripe and the classes that it is lent, as `perform_with` does, where its fate is known: that
+/// of its plan in this room. The key is looked up once, and once more where its item goes or is new, or is cooled.
+pub fn perform_fated(
     alloc: Global,
     stripe: &mut StripeState,
     lent: Lent<'_>,
@@ -177,51 +154,13 @@ pub fn perform(
     command: Command,
     moment: u64,
     room: Room,
-    config: &Config,
-) -> Result<Reply, Fault>
-    requires { MayPerform config.now stripe.old (call who command moment room) (lent_before lent) }
-    ensures reply { IfOk result (λ reply. reply ≡ (answer_to stripe.old (call who command moment room)).reply) }
-    ensures made { OnOk result (IsPerformed stripe.old stripe.new (call who command moment room) (lent_before lent.entry) (lent_after lent.exit)) }
-    ensures err { OnErr result (IsUntouched stripe.old stripe.new (lent_before lent.entry) (lent_after lent.exit)) }
-    ensures refusal { IfErr result (MayRefuseCall stripe.old (call who command moment room) (lent_before lent.entry)) }
-    ensures site { KeepsSite stripe.old stripe.new }
-    ensures agreement { KeepsAgreements (call who command moment room) stripe.old stripe.new (lent_before lent.entry) (lent_after lent.exit) }
-{
-    match lent {
-        Lent::Zero => {
-            stripe.history();
-            let copy = answer(stripe, who, command, moment, room, false, None, true)?;
-            Ok(copy.unwrap())
-        }
-        Lent::One(class) => {
-            let copy = perform_one(
-                alloc, stripe, class, who, command, moment, room, config, true,
-            )?;
-            Ok(copy.unwrap())
-        }
-        Lent::Two(low, high) => {
-            let copy = perform_two(
-                alloc, stripe, low, high, who, command, moment, room, config, true,
-            )?;
-            Ok(copy.unwrap())
-        }
-    }
-}
-
-/// Makes one command as `perform` does. A copy of the reply is made where one is asked for; the reply stands in the
-/// stripe's history, at the place that was its end.
-pub fn perform_with(
-    alloc: Global,
-    stripe: &mut StripeState,
-    lent: Lent<'_>,
-    who: Who,
-    command: Command,
-    moment: u64,
-    room: Room,
+    fate: Fate,
     config: &Config,
     copies: bool,
 ) -> Result<Option<Reply>, Fault>
-    requires { MayPerform config.now stripe.old (call who command moment room) (lent_before lent) }
+    requires may { MayPerform config.now stripe.old (call who command moment room) (lent_before lent) }
+    requires fate { fate ≡ words.fate_for stripe.old (call who command moment room) }
+    requires held { IsHeld config.now.sizes fate }
     ensures reply { IfOk result (λ copy. copy ≡ (if copies then Some (answer_to stripe.old (call who command moment room)).reply else None)) }
     ensures made { OnOk result (IsPerformed stripe.old stripe.new (call who command moment room) (lent_before lent.entry) (lent_after lent.exit)) }
     ensures err { OnErr result (IsUntouched stripe.old stripe.new (lent_before lent.entry) (lent_after lent.exit)) }
@@ -235,10 +174,10 @@ pub fn perform_with(
             answer(stripe, who, command, moment, room, false, None, copies)
         }
         Lent::One(class) => perform_one(
-            alloc, stripe, class, who, command, moment, room, config, copies,
+            alloc, stripe, class, who, command, moment, room, fate, config, copies,
         ),
         Lent::Two(low, high) => perform_two(
-            alloc, stripe, low, high, who, command, moment, room, config, copies,
+            alloc, stripe, low, high, who, command, moment, room, fate, config, copies,
         ),
     }
 }

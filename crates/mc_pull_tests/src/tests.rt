@@ -1,4 +1,5 @@
 //! What the tests share: the one who calls.
+mod alone;
 mod bounds;
 mod by_list;
 mod judgements;

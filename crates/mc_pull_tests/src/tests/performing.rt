@@ -17,7 +17,7 @@ use mc_item::{
     ClassEvent, ClassNo, Command, Config, Fault, Key, Link, Need, Reply, Room, Seg, Value, Verb,
     Who,
 };
-use mc_pull::{Lent, fate_for, perform};
+use mc_pull::{Lent, fate_for, perform, perform_fated};
 use mc_segment::ClassState;
 use mc_stripe::{Fate, StripeState};
 use std::process::Abort;
@@ -189,6 +189,31 @@ fn make<R: Abort>(
     perform(alloc, stripe, lent, WHO, command, moment, room, config)
 }
 
+// Makes a command whose fate is handed in, and copies no reply.
+fn make_fated<R: Abort>(
+    rt: &R,
+    world: &mut World,
+    command: Command,
+    moment: u64,
+    room: Room,
+) -> Result<(), Fault>
+    requires world { IsWorld world.old.config world.old.class world.old.stripe }
+    ensures world { IsWorld world.new.config world.new.class world.new.stripe }
+{
+    let alloc = world.alloc;
+    let stripe = &mut world.stripe;
+    let class = &mut world.class;
+    let config = &world.config;
+    assert!(rt; may(class, stripe, WHO, &command, moment, room, config));
+    let fate = fate_for(stripe, &command, moment, room, config);
+    let lent = Lent::One(class);
+    let copy = perform_fated(
+        alloc, stripe, lent, WHO, command, moment, room, fate, config, false,
+    )?;
+    assert!(rt; copy.is_none());
+    Ok(())
+}
+
 // The chunk of this entry of class 1.
 fn at(number: u64) -> Room {
     Room::At(Link {
@@ -255,6 +280,18 @@ fn a_set_over_an_item_links_and_then_unlinks(rt: HostRuntime) -> Result<(), Fail
     asserts_lengths(&rt, &world, 3, 2);
     assert!(rt; is_linked(&world, 0, 0) && is_linked(&world, 1, 1) && is_unlinked(&world, 2, 0));
     asserts_list(&rt, &world, Seg::Hot, &[1]);
+    Ok(())
+}
+
+#[test]
+fn a_delete_of_a_known_fate_ends_the_entry(rt: HostRuntime) -> Result<(), Fail> {
+    let alloc = rt.alloc();
+    let mut world = opened(&rt, alloc, usual(alloc, 4)?)?;
+    assert_eq!(rt; set(&rt, &mut world, b'a', at(0)).as_str(), "Stored");
+    let gone = Command::Delete(key(&rt, alloc, b'a'));
+    make_fated(&rt, &mut world, gone, 1000, Room::Keep)?;
+    asserts_lengths(&rt, &world, 2, 2);
+    assert!(rt; is_unlinked(&world, 1, 0));
     Ok(())
 }
 

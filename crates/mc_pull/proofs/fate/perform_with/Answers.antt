@@ -3,7 +3,7 @@ use Rattle.mc_pull.specs.declared.lent.Lent.{Lent}
 use Rattle.mc_pull.specs.Lent.{lent_before}
 use Rattle.mc_pull.specs.Perform.{MayPerform, call}
 use Rattle.mc_pull.proofs.PerformedLemmas.{alone_kept}
-use Rattle.mc_pull.proofs.performing.perform_with.Goals as goal
+use Rattle.mc_pull.proofs.fate.perform_with.Goals as goal
 
 pub returns-in-One-clause-made : goal.returns-in-One-clause-made
 returns-in-One-clause-made c = rw c.in-One.is c.perform_one.ensures.made
@@ -29,3 +29,9 @@ returns-in-One-clause-agreement c = rw c.in-One.is c.perform_one.ensures.agreeme
 
 pub returns-in-Two-clause-agreement : goal.returns-in-Two-clause-agreement
 returns-in-Two-clause-agreement c = rw c.in-Two.is c.perform_two.ensures.agreement
+
+pub perform_one-requires-clause-fate : goal.perform_one-requires-clause-fate
+perform_one-requires-clause-fate c = c.fate_for-fate.ensures.fate c.args.who
+
+pub perform_two-requires-clause-fate : goal.perform_two-requires-clause-fate
+perform_two-requires-clause-fate c = c.fate_for-fate-in-Two.ensures.fate c.args.who

@@ -7,7 +7,7 @@ use Rattle.mc_item.specs.declared.item.Item.{Item}
 use Rattle.mc_stripe.specs.Plan.{IsHeld, fate_of, visible_row}
 use Rattle.mc_stripe.specs.StripeState.{cache_now}
 use Rattle.mc_pull.proofs.PerformLemmas.{visible_alive}
-use Rattle.mc_pull.proofs.performing.fate_for.Goals as goal
+use Rattle.mc_pull.proofs.fate.fate_for.Goals as goal
 
 pub returns-clause-fate : goal.returns-clause-fate
 returns-clause-fate c = λ who.

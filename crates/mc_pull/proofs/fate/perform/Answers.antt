@@ -4,7 +4,7 @@ use Rattle.mc_pull.specs.Lent.{lent_before}
 use Rattle.mc_pull.specs.Perform.{MayPerform, call}
 use Rattle.mc_pull.proofs.PerformedLemmas.{alone_kept}
 use Rattle.mc_pull.proofs.PerformLemmas.{holds_on_err}
-use Rattle.mc_pull.proofs.performing.perform.Goals as goal
+use Rattle.mc_pull.proofs.fate.perform.Goals as goal
 
 pub returns-in_err-copy-in-One-clause-err : goal.returns-in_err-copy-in-One-clause-err
 returns-in_err-copy-in-One-clause-err c = rw c.in-One.is (holds_on_err _ c.from_residual-in_err-copy-in-One.result c.in_err-copy-in-One.ensures.err)
@@ -36,3 +36,9 @@ returns-in_ok-copy-in-One-clause-agreement c = rw c.in-One.is c.perform_one.ensu
 
 pub returns-in_ok-copy-in-Two-clause-agreement : goal.returns-in_ok-copy-in-Two-clause-agreement
 returns-in_ok-copy-in-Two-clause-agreement c = rw c.in-Two.is c.perform_two.ensures.agreement
+
+pub perform_one-requires-clause-fate : goal.perform_one-requires-clause-fate
+perform_one-requires-clause-fate c = c.fate_for-fate.ensures.fate c.args.who
+
+pub perform_two-requires-clause-fate : goal.perform_two-requires-clause-fate
+perform_two-requires-clause-fate c = c.fate_for-fate-in-Two.ensures.fate c.args.who

@@ -1,0 +1,72 @@
+-- A command that its stripe answers alone keeps agreement with each class.
+use Rattle.std.proofs.Common.{◌≡◌, ◌≤◌, ◌^◌, ℕ, List, Result, Ok, Err, refl, sym, subst}
+use Rattle.std.specs.Prelude.{Option, Some, None, IfOk, IfSome, IfNone, OnErr}
+use Rattle.mc_item.specs.Answer.{row_of}
+use Rattle.mc_item.specs.Cache.{changed, counted, marked, touched}
+use Rattle.mc_item.specs.Command.{key_of}
+use Rattle.mc_item.specs.Item.{link_of_item}
+use Rattle.mc_item.specs.Measure.{stripe_of}
+use Rattle.mc_item.specs.Stripe.{IsLegal}
+use Rattle.mc_item.specs.declared.answer.Change.{Change}
+use Rattle.mc_item.specs.declared.answer.Change.TheVariants as changes
+use Rattle.mc_item.specs.declared.class_event.ClassEvent.{ClassEvent}
+use Rattle.mc_item.specs.declared.command.Command.{Command}
+use Rattle.mc_item.specs.declared.fault.Fault.{Fault}
+use Rattle.mc_item.specs.declared.item.ClassNo.{ClassNo}
+use Rattle.mc_item.specs.declared.item.Item.{Item}
+use Rattle.mc_item.specs.declared.item.Who.{Who}
+use Rattle.mc_item.specs.declared.reply.Room.TheVariants as rooms
+use Rattle.mc_item.specs.declared.stripe_event.StripeEvent.{StripeEvent}
+use Rattle.mc_rule.specs.Agreement.{Agree}
+use Rattle.mc_evidence.proofs.AgreeLemmas.{agree_neither}
+use Rattle.mc_stripe.specs.Alone.{TouchesNoChunk}
+use Rattle.mc_stripe.specs.Plan.{fate_of}
+use Rattle.mc_stripe.specs.StripeCalls.{Notes}
+use Rattle.mc_stripe.specs.StripeState.{Stripe, cache_now}
+use Rattle.mc_stripe.specs.declared.fate.Fate.TheVariants as fates
+use Rattle.mc_stripe.proofs.StateLemmas.{chunkless_fits}
+use Rattle.mc_pull.specs.Agreeing.{HasRefusal, KeepsEachAgreement}
+use Rattle.mc_pull.specs.Perform.{Call, MayAnswer, answer_to, call, item_before}
+use Rattle.mc_pull.proofs.CallLemmas.{did, given_none, kept_link, refused_there, spared_if_kept}
+
+-- an item keeps its link where nothing becomes of its chunk
+untouched_link : (key : List ℕ) (found : Option Item) (change : Change) → fate_of key found change ≡ fates.Untouched → link_of_item (changed found change) ≡ link_of_item found
+untouched_link key found changes.Stays fate = refl
+untouched_link key None changes.Goes fate = refl
+untouched_link key (Some item) changes.Goes fate = cc
+untouched_link key found (changes.Hit marks) fate = kept_link found (marked marks) (λ i. refl)
+untouched_link key found (changes.Touched expiry marks) fate = kept_link found (touched expiry marks) (λ i. refl)
+untouched_link key found (changes.Counted value cas) fate = kept_link found (counted value cas) (λ i. refl)
+untouched_link key found (changes.Renewed item) fate = cc
+
+-- a command that needs no room names no refusal
+no_refusal : (who : Who) (n : ClassNo) (history : List ClassEvent) → HasRefusal who rooms.Keep n history
+no_refusal who n history = λ place is. cc
+
+module _ (s s_new : Stripe) (who : Who) (command : Command) (moment : ℕ) (legal : IsLegal s.site s.history)
+    (stripe : stripe_of (key_of command) s.site.stripes ≡ record { 0 = s.site.stripe }) (early : moment ≤ 2 ^ 62) where
+  -- one that touches no chunk
+  noted_agrees : TouchesNoChunk s command moment → Notes s s_new who command moment rooms.Keep → KeepsEachAgreement s s_new
+  noted_agrees none noted = λ other rule history agree.
+      let c : Call = call who command moment rooms.Keep in
+      let may : MayAnswer s c = record {
+        stripe = stripe;
+        moment = early;
+        alive = none.alive;
+        fits = chunkless_fits (row_of s.site (cache_now s).versions ((cache_now s).items (key_of command)) command moment).need s.history none.need;
+      } in
+      subst (λ (h : List StripeEvent). Agree s.site rule other h history) (sym noted)
+      (agree_neither s.site rule other s.history history agree (did s c)
+      (given_none s c legal may other history tt)
+      (spared_if_kept s c legal may other history (untouched_link (key_of command) (item_before s c) (answer_to s c).change none.fate))
+      (refused_there s c legal may other history (no_refusal who other history)))
+
+  same_agrees : s_new.history ≡ s.history → KeepsEachAgreement s s_new
+  same_agrees same = λ other rule history agree. subst (λ (h : List StripeEvent). Agree s.site rule other h history) (sym same) agree
+
+  -- whichever way the call ends
+  pub each_agrees : (result : Result (Option Command) Fault) → IfOk result (λ back. IfNone back (Notes s s_new who command moment rooms.Keep)) → IfOk result (λ back. IfNone back (TouchesNoChunk s command moment))
+      → IfOk result (λ back. IfSome back (λ c. (c ≡ command) × (s_new.history ≡ s.history))) → OnErr result (s_new.history ≡ s.history) → KeepsEachAgreement s s_new
+  each_agrees (Ok None) noted none back err = noted_agrees none noted
+  each_agrees (Ok (Some c)) noted none back err = same_agrees back.1
+  each_agrees (Err fault) noted none back err = same_agrees err
