@@ -1,4 +1,4 @@
--- A command that its stripe answers alone keeps agreement with each class.
+-- A command that its stripe answers alone keeps agreement with each class, and what is seen of each.
 use Rattle.std.proofs.Common.{◌≡◌, ◌≤◌, ◌^◌, ℕ, List, Result, Ok, Err, refl, sym, subst}
 use Rattle.std.specs.Prelude.{Option, Some, None, IfOk, IfSome, IfNone, OnErr}
 use Rattle.mc_item.specs.Answer.{row_of}
@@ -18,6 +18,9 @@ use Rattle.mc_item.specs.declared.item.Who.{Who}
 use Rattle.mc_item.specs.declared.reply.Room.TheVariants as rooms
 use Rattle.mc_item.specs.declared.stripe_event.StripeEvent.{StripeEvent}
 use Rattle.mc_rule.specs.Agreement.{Agree}
+use Rattle.mc_rule.specs.Evidence.{IsTold}
+use Rattle.mc_rule.specs.Places.{Each}
+use Rattle.mc_evidence.specs.Made.{LetsNoneGo}
 use Rattle.mc_evidence.proofs.AgreeLemmas.{agree_neither}
 use Rattle.mc_stripe.specs.Alone.{TouchesNoChunk}
 use Rattle.mc_stripe.specs.Plan.{fate_of}
@@ -27,7 +30,8 @@ use Rattle.mc_stripe.specs.declared.fate.Fate.TheVariants as fates
 use Rattle.mc_stripe.proofs.StateLemmas.{chunkless_fits}
 use Rattle.mc_pull.specs.Agreeing.{HasRefusal, KeepsEachAgreement}
 use Rattle.mc_pull.specs.Perform.{Call, MayAnswer, answer_to, call, item_before}
-use Rattle.mc_pull.proofs.CallLemmas.{did, given_none, kept_link, refused_there, spared_if_kept}
+use Rattle.mc_pull.specs.Sight.{KeepsEachSight}
+use Rattle.mc_pull.proofs.CallLemmas.{did, given_none, kept_link, neither_told, refused_there, spared_if_kept}
 
 -- an item keeps its link where nothing becomes of its chunk
 untouched_link : (key : List ℕ) (found : Option Item) (change : Change) → fate_of key found change ≡ fates.Untouched → link_of_item (changed found change) ≡ link_of_item found
@@ -45,24 +49,40 @@ no_refusal who n history = λ place is. cc
 
 module _ (s s_new : Stripe) (who : Who) (command : Command) (moment : ℕ) (legal : IsLegal s.site s.history)
     (stripe : stripe_of (key_of command) s.site.stripes ≡ record { 0 = s.site.stripe }) (early : moment ≤ 2 ^ 62) where
-  -- one that touches no chunk
+  -- one that touches no chunk is a call without a room
+  abbrev one : Call
+  one = call who command moment rooms.Keep
+
+  may_be : TouchesNoChunk s command moment → MayAnswer s one
+  may_be none = record {
+    stripe = stripe;
+    moment = early;
+    alive = none.alive;
+    fits = chunkless_fits (row_of s.site (cache_now s).versions ((cache_now s).items (key_of command)) command moment).need s.history none.need;
+  }
+
+  spares : (none : TouchesNoChunk s command moment) (other : ClassNo) (history : List ClassEvent) → LetsNoneGo s.site other s.history (did s one)
+  spares none other history = spared_if_kept s one legal (may_be none) other history (untouched_link (key_of command) (item_before s one) (answer_to s one).change none.fate)
+
   noted_agrees : TouchesNoChunk s command moment → Notes s s_new who command moment rooms.Keep → KeepsEachAgreement s s_new
   noted_agrees none noted = λ other rule history agree.
-      let c : Call = call who command moment rooms.Keep in
-      let may : MayAnswer s c = record {
-        stripe = stripe;
-        moment = early;
-        alive = none.alive;
-        fits = chunkless_fits (row_of s.site (cache_now s).versions ((cache_now s).items (key_of command)) command moment).need s.history none.need;
-      } in
       subst (λ (h : List StripeEvent). Agree s.site rule other h history) (sym noted)
-      (agree_neither s.site rule other s.history history agree (did s c)
-      (given_none s c legal may other history tt)
-      (spared_if_kept s c legal may other history (untouched_link (key_of command) (item_before s c) (answer_to s c).change none.fate))
-      (refused_there s c legal may other history (no_refusal who other history)))
+      (agree_neither s.site rule other s.history history agree (did s one) (given_none s one legal (may_be none) other history tt) (spares none other history)
+      (refused_there s one legal (may_be none) other history (no_refusal who other history)))
+
+  noted_seen : TouchesNoChunk s command moment → Notes s s_new who command moment rooms.Keep → KeepsEachSight s s_new
+  noted_seen none noted = record {
+    told = λ other rule seen each.
+        subst (Each (IsTold s.site rule other seen)) (sym noted)
+        (neither_told s one rule other seen (given_none s one legal (may_be none) other seen tt) (spares none other seen)
+        (refused_there s one legal (may_be none) other seen (no_refusal who other seen)) each);
+  }
 
   same_agrees : s_new.history ≡ s.history → KeepsEachAgreement s s_new
   same_agrees same = λ other rule history agree. subst (λ (h : List StripeEvent). Agree s.site rule other h history) (sym same) agree
+
+  same_seen : s_new.history ≡ s.history → KeepsEachSight s s_new
+  same_seen same = record { told = λ other rule seen each. subst (Each (IsTold s.site rule other seen)) (sym same) each }
 
   -- whichever way the call ends
   pub each_agrees : (result : Result (Option Command) Fault) → IfOk result (λ back. IfNone back (Notes s s_new who command moment rooms.Keep)) → IfOk result (λ back. IfNone back (TouchesNoChunk s command moment))
@@ -70,3 +90,9 @@ module _ (s s_new : Stripe) (who : Who) (command : Command) (moment : ℕ) (lega
   each_agrees (Ok None) noted none back err = noted_agrees none noted
   each_agrees (Ok (Some c)) noted none back err = same_agrees back.1
   each_agrees (Err fault) noted none back err = same_agrees err
+
+  pub each_seen : (result : Result (Option Command) Fault) → IfOk result (λ back. IfNone back (Notes s s_new who command moment rooms.Keep)) → IfOk result (λ back. IfNone back (TouchesNoChunk s command moment))
+      → IfOk result (λ back. IfSome back (λ c. (c ≡ command) × (s_new.history ≡ s.history))) → OnErr result (s_new.history ≡ s.history) → KeepsEachSight s s_new
+  each_seen (Ok None) noted none back err = noted_seen none noted
+  each_seen (Ok (Some c)) noted none back err = same_seen back.1
+  each_seen (Err fault) noted none back err = same_seen err

@@ -25,10 +25,11 @@ use Rattle.mc_rule.specs.Evidence.{IsTold}
 use Rattle.mc_rule.specs.Lawful.{IsLawfulHistoryByLists}
 use Rattle.mc_rule.specs.Lists.{found, lists_of}
 use Rattle.mc_rule.specs.Pairs.{LetsGo, item_after, link_to}
+use Rattle.mc_rule.specs.Places.{Each}
 use Rattle.mc_rule.specs.Segment.{Rule}
 use Rattle.mc_rule.proofs.HistoryLemmas.{lists_of-push}
 use Rattle.mc_rule.proofs.ListLemmas.{other_stays}
-use Rattle.mc_rule.proofs.PlaceLemmas.{stands_at}
+use Rattle.mc_rule.proofs.PlaceLemmas.{each_push, stands_at}
 use Rattle.mc_rule.proofs.TestLemmas.{by_eq, none_some, not_equal, some_same}
 use Rattle.mc_evidence.specs.Made.{IsGivenNone, IsRefusedThere, LetsNoneGo, cooled_as}
 use Rattle.mc_evidence.proofs.CitedLemmas.{all_suited_later}
@@ -88,6 +89,21 @@ module _ (s : Stripe) (c : Call) where
         suited = all_suited_later s.site n noted (cooled_as c.who key ∷ []) history agree.suited;
         once = agree.once;
       }
+
+  -- a class that gives and loses no chunk by a command tells it
+  pub neither_told : (rule : Rule) (n : ClassNo) (seen : List ClassEvent) → IsGivenNone n did → LetsNoneGo s.site n s.history did → IsRefusedThere n did seen
+      → Each (IsTold s.site rule n seen) s.history → Each (IsTold s.site rule n seen) noted
+  neither_told rule n seen none spared refused each =
+      each_push (IsTold s.site rule n seen) s.history (did_event s c) each record { linked = λ m room. absurd (none m room); unlinked = λ m goes. absurd (spared m goes); refused = refused }
+
+  -- a class of which no entry moves tells a mark that is cleared too
+  pub still_told : (rule : Rule) (n : ClassNo) (seen : List ClassEvent) → Each (IsTold s.site rule n seen) noted
+      → (cooling : Bool) → (cooling ≡ true → (m : ℕ) → link_of_item (item_after s.site noted key) ≡ Some (link_to n m) → ⊥)
+      → Each (IsTold s.site rule n seen) (s.history ++ did_event s c ∷ cooled_if c.who key cooling)
+  still_told rule n seen each false other = each
+  still_told rule n seen each true other =
+      subst (Each (IsTold s.site rule n seen)) (append_assoc s.history (did_event s c ∷ []) (cooled_as c.who key ∷ []))
+      (each_push (IsTold s.site rule n seen) noted (cooled_as c.who key) each (λ m is. absurd (other refl m is)))
 
 module _ (s : Stripe) (c : Call) (legal : IsLegal s.site s.history) (may : MayAnswer s c) where
   pub may_do : MayDo s.site (cache_now s) s.history (did s c)

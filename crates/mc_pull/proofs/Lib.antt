@@ -1,4 +1,5 @@
 pub mod OutcomeLemmas
+pub mod SightLemmas
 mod SettledLemmas
 mod KeepLemmas
 pub mod TailLemmas
@@ -12,5 +13,6 @@ mod PerformLemmas
 mod PlacedLemmas
 mod CallLemmas
 mod ClassPartLemmas
+mod FarPartLemmas
 mod PerformedLemmas
 mod AloneLemmas

@@ -1,4 +1,4 @@
--- A call keeps agreement: that of each class that it is lent with its stripe, and that of each other class.
+-- A call keeps agreement, that of each class that it is lent with its stripe and that of each other class, and what is seen elsewhere.
 use Rattle.std.proofs.Common.{◌≡◌, ◌≢◌, ◌<◌, ◌&&◌, ◌++◌, ℕ, List, [], ◌∷◌, Bool, true, false, not, Result, Ok, Err, refl, sym, ap, ◌∙◌, subst, inl, inr, ◌⊎◌, arith}
 use Rattle.std.specs.Prelude.{Option, Some, None, OnOk, OnErr, if◌then◌else◌, ◌||◌}
 use Rattle.std.proofs.lemmas.Bool.{false≢true}
@@ -17,9 +17,12 @@ use Rattle.mc_item.specs.declared.item.Link.{Link}
 use Rattle.mc_item.specs.declared.reply.Room.{Room}
 use Rattle.mc_item.specs.declared.stripe_event.StripeEvent.{StripeEvent}
 use Rattle.mc_rule.specs.Agreement.{Agree}
+use Rattle.mc_rule.specs.Cited.{IsSuited}
+use Rattle.mc_rule.specs.Evidence.{IsBacked, IsTold}
 use Rattle.mc_rule.specs.Lawful.{IsLawfulHistoryByLists}
 use Rattle.mc_rule.specs.Lists.{lists_of}
 use Rattle.mc_rule.specs.Pairs.{item_after, link_to}
+use Rattle.mc_rule.specs.Places.{Each as EachEvent}
 use Rattle.mc_rule.specs.Segment.{Rule}
 use Rattle.mc_rule.proofs.TestLemmas.{by_eq, none_some, some_same}
 use Rattle.mc_evidence.specs.Made.{IsGivenNone, LetsNoneGo}
@@ -35,10 +38,13 @@ use Rattle.mc_pull.specs.Lent.{AreRising, Each, EachPair, IsLent, IsLentIf}
 use Rattle.mc_pull.specs.Parts.{hit_part, is_for, is_here, is_warming, number_in, part_for}
 use Rattle.mc_pull.specs.Perform.{AreLent, Call, GivesRoom, MayPerform, answer_to, item_before}
 use Rattle.mc_pull.specs.Performed.{GainsPart, IsPerformed, IsUntouched, Stays, events_in, events_on_stripe, is_cooling, part_in}
-use Rattle.mc_pull.proofs.CallLemmas.{AgreesWith, after_is, did, given_none, kept_link, key, noted, placed, refused_there, spared_if_apart, spared_if_kept, still_agrees}
+use Rattle.mc_pull.proofs.CallLemmas.{AgreesWith, after_is, did, given_none, kept_link, key, neither_told, noted, placed, refused_there, spared_if_apart, spared_if_kept, still_agrees, still_told}
 use Rattle.mc_pull.proofs.ClassPartLemmas.{part_agrees}
+use Rattle.mc_pull.specs.Sight.{BacksStill, KeepsSights, SuitsStill}
+use Rattle.mc_pull.proofs.FarPartLemmas.{IsNumbered, part_far}
 use Rattle.mc_pull.proofs.PerformLemmas.{not_gone, not_new}
 use Rattle.mc_pull.proofs.PlacedLemmas.{IsPlaced}
+use Rattle.mc_pull.proofs.SightLemmas.{backed_on, suited_on}
 
 -- ---- the classes of a list
 abbrev IsOf : ClassView → List ClassView → Type 0
@@ -190,11 +196,23 @@ module _ (config : Config) (s : Stripe) (c : Call) (vs : List ClassView) (may : 
     apart_at : (vs : List ClassView) → IsApart other vs → (v : ClassView) → IsOf v vs → other ≢ v.number
     apart_at vs none v there = each_at (λ (x : ClassView). other ≢ x.number) vs none v there
 
+    -- it is given and loses nothing, and its entry isn't moved
+    other_spared : IsSpared
+    other_spared = spared_by (answer_to s c).change refl (placed s c legal may.answer) may.lent
+
+    other_stays : is_cooling s c vs ≡ true → (m : ℕ) → link_of_item (item_after s.site (noted s c) (key s c)) ≡ Some (link_to other m) → ⊥
+    other_stays on m has = let move = moves s c vs on in apart_at vs apart move.class move.there (of_mover move other m has)
+
     other_agrees : (rule : Rule) → HasRefusal c.who c.room other history → Agree s.site rule other s.history history → AgreesWith s c rule other (is_cooling s c vs) history
     other_agrees rule refusal agree =
-        let spared = spared_by (answer_to s c).change refl (placed s c legal may.answer) may.lent in
-        still_agrees s c rule other history (agree_neither s.site rule other s.history history agree (did s c) spared.0 spared.1 (refused_there s c legal may.answer other history refusal)) (is_cooling s c vs)
-        (λ on m has. let move = moves s c vs on in apart_at vs apart move.class move.there (of_mover move other m has))
+        still_agrees s c rule other history
+        (agree_neither s.site rule other s.history history agree (did s c) other_spared.0 other_spared.1 (refused_there s c legal may.answer other history refusal)) (is_cooling s c vs) other_stays
+
+    other_told : (rule : Rule) → HasRefusal c.who c.room other history → EachEvent (IsTold s.site rule other history) s.history
+        → EachEvent (IsTold s.site rule other history) (s.history ++ events_on_stripe s c (is_cooling s c vs))
+    other_told rule refusal each =
+        still_told s c rule other history
+        (neither_told s c rule other history other_spared.0 other_spared.1 (refused_there s c legal may.answer other history refusal) each) (is_cooling s c vs) other_stays
 
 -- ---- what a call leaves
 module _ (config : Config) (s s_new : Stripe) (c : Call) (vs ws : List ClassView) (site : KeepsSite s s_new) where
@@ -222,8 +240,39 @@ module _ (config : Config) (s s_new : Stripe) (c : Call) (vs ws : List ClassView
     others = λ other rule history apart refusal agree. subst (λ (x : List StripeEvent). Agree s.site rule other x history) (sym same.stripe) agree;
   }
 
+  -- what is seen elsewhere of a call that was made
+  pub performed_seen : MayPerform config s c vs → IsLegal s.site s.history → Each IsNumbered vs → IsPerformed s s_new c vs ws → KeepsSights c s s_new vs ws
+  performed_seen may legal numbered made = record {
+    told = λ other rule seen apart refusal each.
+        subst (EachEvent (IsTold s.site rule other seen)) (sym made.stripe) (other_told config s c vs may legal other apart seen rule refusal each);
+    backed = pairs_at (GainsPart s c) (BacksStill s.site) vs ws made.classes (λ v w there gains other seen same apart each.
+        subst (EachEvent (IsBacked other v.rule v.number seen)) (sym (ap (λ (x : ClassView). x.history) gains))
+        (part_far s c may.answer v (each_at IsNumbered vs numbered v there) other same apart (EachEvent (IsBacked other v.rule v.number seen)) each
+        (λ h x all away. backed_on other v.number seen v.rule h all x away)));
+    suited = pairs_at (GainsPart s c) (SuitsStill s.site) vs ws made.classes (λ v w there gains other seen same apart each.
+        subst (EachEvent (IsSuited other v.number seen)) (sym (ap (λ (x : ClassView). x.history) gains))
+        (part_far s c may.answer v (each_at IsNumbered vs numbered v there) other same apart (EachEvent (IsSuited other v.number seen)) each
+        (λ h x all away. suited_on other v.number seen h all x away)));
+  }
+
+  -- what is seen elsewhere of a call that made nothing
+  pub untouched_seen : IsUntouched s s_new vs ws → KeepsSights c s s_new vs ws
+  untouched_seen same = record {
+    told = λ other rule seen apart refusal each. subst (EachEvent (IsTold s.site rule other seen)) (sym same.stripe) each;
+    backed = pairs_at Stays (BacksStill s.site) vs ws same.classes (λ v w there stays other seen equal apart each.
+        subst (λ (x : ClassView). EachEvent (IsBacked other v.rule v.number seen) x.history) (sym stays) each);
+    suited = pairs_at Stays (SuitsStill s.site) vs ws same.classes (λ v w there stays other seen equal apart each.
+        subst (λ (x : ClassView). EachEvent (IsSuited other v.number seen) x.history) (sym stays) each);
+  }
+
 -- a call that is lent no class
 pub alone_kept : (config : Config) (s s_new : Stripe) (c : Call) → KeepsSite s s_new → {A : Type 0} (result : Result A Fault) → MayPerform config s c [] → IsLegal s.site s.history
     → OnOk result (s_new.history ≡ s.history ++ events_on_stripe s c false) → OnErr result (s_new.history ≡ s.history) → KeepsAgreements c s s_new [] []
 alone_kept config s s_new c site (Ok answer) may legal made err = performed_kept config s s_new c [] [] site may legal tt record { stripe = made; classes = tt }
 alone_kept config s s_new c site (Err fault) may legal made err = untouched_kept config s s_new c [] [] site record { stripe = err; classes = tt }
+
+-- what is seen elsewhere of it
+pub alone_seen : (config : Config) (s s_new : Stripe) (c : Call) → KeepsSite s s_new → {A : Type 0} (result : Result A Fault) → MayPerform config s c [] → IsLegal s.site s.history
+    → OnOk result (s_new.history ≡ s.history ++ events_on_stripe s c false) → OnErr result (s_new.history ≡ s.history) → KeepsSights c s s_new [] []
+alone_seen config s s_new c site (Ok answer) may legal made err = performed_seen config s s_new c [] [] site may legal tt record { stripe = made; classes = tt }
+alone_seen config s s_new c site (Err fault) may legal made err = untouched_seen config s s_new c [] [] site record { stripe = err; classes = tt }

@@ -1,4 +1,4 @@
--- What is done with an entry keeps a stripe's and its class's histories in agreement, and those of the other classes too.
+-- What is done with an entry keeps a stripe's and its class's histories in agreement, and is nothing to other classes and stripes.
 use Rattle.std.proofs.Common.{◌≡◌, ◌≢◌, ℕ, List, [], ◌∷◌, ◌++◌, Bool, true, false, Option, Some, None, refl, sym, ap, ◌∙◌, subst, length, arith}
 use Rattle.std.specs.Prelude.{◌==◌, ◌&&◌, if◌then◌else◌, IsSomeAnd}
 use Rattle.std.specs.Option.{option_map}
@@ -24,13 +24,11 @@ use Rattle.mc_rule.specs.Lawful.{IsLawfulHistoryByLists, SuitsMove}
 use Rattle.mc_rule.specs.Lists.{found, lists_of}
 use Rattle.mc_rule.specs.Pairs.{link_to, item_after, ClearsMark, IsKeyOf}
 use Rattle.mc_rule.specs.Segment.{Rule}
-use Rattle.mc_evidence.specs.Made.{lost_to, lost_at, cooled_as}
+use Rattle.mc_evidence.specs.Made.{IsOfOthers, lost_to, lost_at, cooled_as}
 use Rattle.mc_evidence.proofs.AgreeLemmas.{agree_evicted, agree_reclaimed, agree_cooled, agree_moved}
-use Rattle.mc_evidence.proofs.CitedLemmas.{all_suited_later}
-use Rattle.mc_evidence.proofs.GrowLemmas.{stripe_push}
 use Rattle.mc_evidence.proofs.RowLemmas.{held}
 use Rattle.mc_evidence.proofs.SizedLemmas.{key_of_stripe}
-use Rattle.mc_segment.specs.ClassCalls.{shifted_event}
+use Rattle.mc_segment.specs.ClassCalls.{evicted_event, reclaimed_event, shifted_event}
 use Rattle.mc_segment.specs.ClassState.{ClassView}
 use Rattle.mc_segment.specs.Entries.{entry_of}
 use Rattle.mc_pull.specs.declared.judge.Done.{Done}
@@ -44,6 +42,7 @@ use Rattle.mc_pull.specs.Outcome.{cold_why, is_due, is_over}
 use Rattle.mc_pull.specs.Question.{Question}
 use Rattle.mc_pull.specs.Settled.{class_events, stripe_events, events_with, passed_of, warm_events, cold_events}
 use Rattle.mc_pull.proofs.OutcomeLemmas.{Means, outcome_means}
+use Rattle.mc_pull.proofs.SightLemmas.{IsElsewhere, entry_of_others, of_one_stripe}
 
 some_same : {A : Type 0} (a b : A) → Some a ≡ Some b → a ≡ b
 some_same a b h = cc
@@ -200,52 +199,87 @@ module _ (site : Site) (c : ClassView) (stripe : List StripeEvent) (q : Question
     pub settled_agrees : (d : Done) → done_of c (cache_of site stripe) q ≡ d → Agree site c.rule c.number (stripe ++ stripe_events c q d) (c.history ++ class_events c q (length stripe) d)
     settled_agrees d is = entry_agrees (found q.number (lists_of c.history)) refl d is
 
-  -- ---- the other classes
-  module _ (other : ClassNo) (apart : other ≢ c.number) (rule : Rule) (history : List ClassEvent) (agree : Agree site rule other stripe history) where
+  -- ---- the other classes: what holds after the events that are told there, holds
+  module _ (other : ClassNo) (apart : other ≢ c.number) (rule : Rule) (seen : List ClassEvent) (P : List StripeEvent → Type 0) (now : P stripe)
+      (push : (e : StripeEvent) → IsTold site rule other seen stripe e → P (stripe ++ e ∷ [])) where
     told_nothing : (key : List ℕ) → link_of_item (item_after site stripe key) ≡ Some (link_to c.number q.number) → (number : ℕ)
         → link_of_item (item_after site stripe key) ≡ Some (link_to other number) → ⊥
     told_nothing key has number is =
         let same : link_to other number ≡ link_to c.number q.number = some_same _ _ (sym is ∙ has) in
         apart (ap (λ (l : Link). l.class) same)
 
-    spared_push : (e : StripeEvent) → IsTold site rule other history stripe e → Agree site rule other (stripe ++ e ∷ []) history
-    spared_push e told = record {
-      evidence = stripe_push site rule other stripe history agree.evidence e told;
-      suited = all_suited_later site other stripe (e ∷ []) history agree.suited;
-      once = agree.once;
-    }
-
-    untouched : Agree site rule other (stripe ++ []) history
-    untouched = subst (λ (es : List StripeEvent). Agree site rule other es history) (sym (stays stripe)) agree
+    untouched : P (stripe ++ [])
+    untouched = subst P (sym (stays stripe)) now
 
     module _ (e : Entry) (item : Item) (under : item_after site stripe e.key ≡ Some item) (link : has_link c.number q.number item ≡ true) where
       has_here : link_of_item (item_after site stripe e.key) ≡ Some (link_to c.number q.number)
       has_here = ap link_of_item under ∙ ap (λ (l : Link). Some l) (link_is c.number q.number item link)
 
-      item_spared : (d : Done) → Agree site rule other (stripe ++ events_with c q (Some e) d) history
-      item_spared done.Reclaimed = spared_push (lost_at q.who e.key q.moment) (λ number is. absurd (told_nothing e.key has_here number is))
-      item_spared done.ToWarm = spared_push (cooled_as q.who e.key) (λ number is. absurd (told_nothing e.key has_here number is))
-      item_spared done.WithinWarm = spared_push (cooled_as q.who e.key) (λ number is. absurd (told_nothing e.key has_here number is))
+      item_spared : (d : Done) → P (stripe ++ events_with c q (Some e) d)
+      item_spared done.Reclaimed = push (lost_at q.who e.key q.moment) (λ number is. absurd (told_nothing e.key has_here number is))
+      item_spared done.ToWarm = push (cooled_as q.who e.key) (λ number is. absurd (told_nothing e.key has_here number is))
+      item_spared done.WithinWarm = push (cooled_as q.who e.key) (λ number is. absurd (told_nothing e.key has_here number is))
       item_spared done.ToCold = untouched
-      item_spared done.Evicted = spared_push (lost_to c.number q.who e.key (length c.history)) (λ number is. absurd (told_nothing e.key has_here number is))
+      item_spared done.Evicted = push (lost_to c.number q.who e.key (length c.history)) (λ number is. absurd (told_nothing e.key has_here number is))
       item_spared done.Stayed = untouched
       item_spared (done.Alive expiry) = untouched
       item_spared done.Stranger = untouched
 
     key_spared : (e : Entry) (o : Option Item) → item_after site stripe e.key ≡ o → (d : Done) → done_if c.number q.number o (done_by c.rule (lists_of c.history) q.moment q.judge e) ≡ d
-        → Agree site rule other (stripe ++ events_with c q (Some e) d) history
-    key_spared e None under d is = subst (λ (x : Done). Agree site rule other (stripe ++ events_with c q (Some e) x) history) is untouched
+        → P (stripe ++ events_with c q (Some e) d)
+    key_spared e None under d is = subst (λ (x : Done). P (stripe ++ events_with c q (Some e) x)) is untouched
     key_spared e (Some item) under d is = by (has_link c.number q.number item) refl is
       where
         by : (b : Bool) → has_link c.number q.number item ≡ b → (if b then done_by c.rule (lists_of c.history) q.moment q.judge e item else done.Stranger) ≡ d
-            → Agree site rule other (stripe ++ events_with c q (Some e) d) history
+            → P (stripe ++ events_with c q (Some e) d)
         by true link is = item_spared e item under link d
-        by false link is = subst (λ (x : Done). Agree site rule other (stripe ++ events_with c q (Some e) x) history) is untouched
+        by false link is = subst (λ (x : Done). P (stripe ++ events_with c q (Some e) x)) is untouched
 
-    entry_spared : (o : Option Entry) (d : Done) → done_with c (cache_of site stripe) q o ≡ d → Agree site rule other (stripe ++ events_with c q o d) history
-    entry_spared None d is = subst (λ (x : Done). Agree site rule other (stripe ++ events_with c q None x) history) is untouched
+    entry_spared : (o : Option Entry) (d : Done) → done_with c (cache_of site stripe) q o ≡ d → P (stripe ++ events_with c q o d)
+    entry_spared None d is = subst (λ (x : Done). P (stripe ++ events_with c q None x)) is untouched
     entry_spared (Some e) d is = key_spared e (item_after site stripe e.key) refl d is
 
-    -- it keeps each other class in agreement with the stripe
-    pub settled_spares : (d : Done) → done_of c (cache_of site stripe) q ≡ d → Agree site rule other (stripe ++ stripe_events c q d) history
+    -- what each other class tells nothing of stays so
+    pub settled_spares : (d : Done) → done_of c (cache_of site stripe) q ≡ d → P (stripe ++ stripe_events c q d)
     settled_spares d is = entry_spared (entry_of q.number (lists_of c.history)) d is
+
+  -- ---- the other stripes: what holds after the events that are for none of their entries, holds
+  module _ (other : Site) (same : other.stripes ≡ site.stripes) (apart : other.stripe ≢ site.stripe) (P : List ClassEvent → Type 0) (now : P c.history)
+      (push : (x : ClassEvent) → IsElsewhere other c.history x → P (c.history ++ x ∷ [])) (at : ℕ) where
+    unmoved : P (c.history ++ [])
+    unmoved = subst P (sym (stays c.history)) now
+
+    module _ (away : IsOfOthers other c.history q.number) where
+      warm_far : (judge : Judge) → P (c.history ++ warm_events q at judge)
+      warm_far (Walk s mode passed) = push (shifted_event q.who q.number Warm whys.Active q.moment passed at s) away
+      warm_far Dead = unmoved
+
+      cold_far : (judge : Judge) → P (c.history ++ cold_events c q at judge)
+      cold_far (Walk s mode passed) = push (shifted_event q.who q.number Cold (cold_why c.rule (lists_of c.history) s mode) q.moment passed at s) away
+      cold_far Dead = unmoved
+
+      item_far : (d : Done) → P (c.history ++ class_events c q at d)
+      item_far done.Reclaimed = push (reclaimed_event q.who q.number q.moment at) away
+      item_far done.ToWarm = warm_far q.judge
+      item_far done.WithinWarm = warm_far q.judge
+      item_far done.ToCold = cold_far q.judge
+      item_far done.Evicted = push (evicted_event q.who q.number (passed_of q.judge) at) away
+      item_far done.Stayed = unmoved
+      item_far (done.Alive expiry) = unmoved
+      item_far done.Stranger = unmoved
+
+    key_far : (seg : Seg) (e : Entry) → found q.number (lists_of c.history) ≡ Some (seg, e) → (o : Option Item) → item_after site stripe e.key ≡ o
+        → (d : Done) → done_if c.number q.number o (done_by c.rule (lists_of c.history) q.moment q.judge e) ≡ d → P (c.history ++ class_events c q at d)
+    key_far seg e there None under d is = subst (λ (x : Done). P (c.history ++ class_events c q at x)) is unmoved
+    key_far seg e there (Some item) under d is =
+        let of = key_of_stripe site stripe e.key item.link (cost_of e.key item.value) legal (ap (held e.key) under) in
+        item_far (entry_of_others other c.history q.number seg e there (of_one_stripe site other same apart e.key of)) d
+
+    entry_far : (o : Option (Seg × Entry)) → found q.number (lists_of c.history) ≡ o → (d : Done)
+        → done_with c (cache_of site stripe) q (option_map (λ (p : Seg × Entry). p.1) o) ≡ d → P (c.history ++ class_events c q at d)
+    entry_far None there d is = subst (λ (x : Done). P (c.history ++ class_events c q at x)) is unmoved
+    entry_far (Some (seg, e)) there d is = key_far seg e there (item_after site stripe e.key) refl d is
+
+    -- what each other stripe is asked nothing for stays so
+    pub settled_far : (d : Done) → done_of c (cache_of site stripe) q ≡ d → P (c.history ++ class_events c q at d)
+    settled_far d is = entry_far (found q.number (lists_of c.history)) refl d is

@@ -15,4 +15,5 @@ pub mod Lent
 pub mod Parts
 pub mod Perform
 pub mod Agreeing
+pub mod Sight
 pub mod Performed

@@ -7,6 +7,7 @@ ghost use Rattle.mc_item.specs.declared.reply.Room.TheVariants as rooms;
 ghost use Rattle.mc_stripe.specs.Alone.{IsStorage, TouchesNoChunk};
 ghost use Rattle.mc_stripe.specs.StripeCalls.{KeepsSite, Notes};
 ghost use Rattle.mc_pull.specs.Agreeing.{KeepsEachAgreement};
+ghost use Rattle.mc_pull.specs.Sight.{KeepsEachSight};
 
 use mc_item::{Command, Fault, Who};
 use mc_stripe::StripeState;
@@ -32,6 +33,7 @@ pub fn answer_alone(
     ensures err { OnErr result (stripe.new.history ≡ stripe.old.history) }
     ensures site { KeepsSite stripe.old stripe.new }
     ensures agreement { KeepsEachAgreement stripe.old stripe.new }
+    ensures sight { KeepsEachSight stripe.old stripe.new }
 {
     stripe.history();
     stripe.answer(who, command, moment)

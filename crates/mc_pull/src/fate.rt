@@ -12,6 +12,7 @@ ghost use Rattle.mc_pull.specs.Perform as words;
 ghost use Rattle.mc_pull.specs.Perform.{call, answer_to, MayPerform};
 ghost use Rattle.mc_pull.specs.Performed.{IsPerformed, IsUntouched, MayRefuseCall};
 ghost use Rattle.mc_pull.specs.Question.{IsStripeOf};
+ghost use Rattle.mc_pull.specs.Sight.{KeepsSights};
 
 use crate::lent::Lent;
 use crate::performing::{answer, perform_one, perform_two};
@@ -61,6 +62,7 @@ pub fn perform(
     ensures refusal { IfErr result (MayRefuseCall stripe.old (call who command moment room) (lent_before lent.entry)) }
     ensures site { KeepsSite stripe.old stripe.new }
     ensures agreement { KeepsAgreements (call who command moment room) stripe.old stripe.new (lent_before lent.entry) (lent_after lent.exit) }
+    ensures sight { KeepsSights (call who command moment room) stripe.old stripe.new (lent_before lent.entry) (lent_after lent.exit) }
 {
     match lent {
         Lent::Zero => {
@@ -105,6 +107,7 @@ pub fn perform_with(
     ensures refusal { IfErr result (MayRefuseCall stripe.old (call who command moment room) (lent_before lent.entry)) }
     ensures site { KeepsSite stripe.old stripe.new }
     ensures agreement { KeepsAgreements (call who command moment room) stripe.old stripe.new (lent_before lent.entry) (lent_after lent.exit) }
+    ensures sight { KeepsSights (call who command moment room) stripe.old stripe.new (lent_before lent.entry) (lent_after lent.exit) }
 {
     match lent {
         Lent::Zero => {

@@ -11,6 +11,7 @@ ghost use Rattle.mc_pull.specs.Looks.{answer, judgement, events_if, IsJudged, Is
 ghost use Rattle.mc_pull.specs.Question.{question, question_of, IsAsked, IsClassOf, MayJudge};
 ghost use Rattle.mc_pull.specs.Refusal.{MayFail, MayRefuseFor};
 ghost use Rattle.mc_pull.specs.Settled.{class_with, IsSettled};
+ghost use Rattle.mc_pull.specs.Sight.{KeepsSight};
 ghost use Rattle.mc_pull.specs.Walker.{walker_of};
 
 use crate::judge::{Ask, Done, Judge};
@@ -83,6 +84,7 @@ impl<'a> Look<'a> {
         ensures done { IfOk result (λ made. (made ≡ done_of self.old.class.now (cache_now stripe.old) (question_of self.old.ask)) × (self.new.judged ≡ Some (judgement made (length stripe.old.history)))) }
         ensures settled { IfOk result (λ made. IsSettled self.old.class.now self.new.class.now stripe.old stripe.new (question_of self.old.ask) made) }
         ensures agreement { KeepsAgreement self.old.class.now self.new.class.now stripe.old stripe.new }
+        ensures sight { KeepsSight self.old.class.now self.new.class.now stripe.old stripe.new }
         ensures judged { IfOk result (λ made. IsJudged self.old.ask.config.now (record { 0 = stripe.old.site.stripe }) self.old.class.now (question_of self.old.ask) (judgement made (length stripe.old.history))) }
         ensures err { OnErr result ((self.new.class.now ≡ with_room self.old.class.now self.new.class.now.room) × (stripe.new.history ≡ stripe.old.history)) }
         ensures site { KeepsSite stripe.old stripe.new }

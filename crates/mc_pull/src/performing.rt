@@ -10,6 +10,7 @@ ghost use Rattle.mc_pull.specs.Parts.{is_warming};
 ghost use Rattle.mc_pull.specs.Perform as words;
 ghost use Rattle.mc_pull.specs.Perform.{call, answer_to, item_before, MayAnswer, MayPerform};
 ghost use Rattle.mc_pull.specs.Performed.{events_on_stripe, one_if, IsPerformed, IsUntouched, MayRefuseCall, MayRefuseStripe};
+ghost use Rattle.mc_pull.specs.Sight.{KeepsSights};
 
 use crate::certain;
 use crate::lent::Lent;
@@ -89,6 +90,7 @@ pub(crate) fn perform_one(
     ensures refusal { IfErr result (MayRefuseCall stripe.old (call who command moment room) (class.old ∷ [])) }
     ensures site { KeepsSite stripe.old stripe.new }
     ensures agreement { KeepsAgreements (call who command moment room) stripe.old stripe.new (class.old ∷ []) (class.new ∷ []) }
+    ensures sight { KeepsSights (call who command moment room) stripe.old stripe.new (class.old ∷ []) (class.new ∷ []) }
 {
     class.law();
     let part = prepare(alloc, class, command.key(), room, fate, config)?;
@@ -130,6 +132,7 @@ pub(crate) fn perform_two(
     ensures refusal { IfErr result (MayRefuseCall stripe.old (call who command moment room) (low.old ∷ high.old ∷ [])) }
     ensures site { KeepsSite stripe.old stripe.new }
     ensures agreement { KeepsAgreements (call who command moment room) stripe.old stripe.new (low.old ∷ high.old ∷ []) (low.new ∷ high.new ∷ []) }
+    ensures sight { KeepsSights (call who command moment room) stripe.old stripe.new (low.old ∷ high.old ∷ []) (low.new ∷ high.new ∷ []) }
 {
     low.law();
     high.law();
@@ -167,6 +170,7 @@ pub fn perform_fated(
     ensures refusal { IfErr result (MayRefuseCall stripe.old (call who command moment room) (lent_before lent.entry)) }
     ensures site { KeepsSite stripe.old stripe.new }
     ensures agreement { KeepsAgreements (call who command moment room) stripe.old stripe.new (lent_before lent.entry) (lent_after lent.exit) }
+    ensures sight { KeepsSights (call who command moment room) stripe.old stripe.new (lent_before lent.entry) (lent_after lent.exit) }
 {
     match lent {
         Lent::Zero => {

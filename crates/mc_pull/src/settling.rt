@@ -13,6 +13,7 @@ ghost use Rattle.mc_pull.specs.Question.{question, question_of, IsAsked, IsClass
 ghost use Rattle.mc_pull.specs.Refusal.{HavePlaces, MayFail, MayRefuseBoth, MayRefuseFor};
 ghost use Rattle.mc_pull.specs.Settled as words;
 ghost use Rattle.mc_pull.specs.Settled.{class_events, class_with, IsSettled};
+ghost use Rattle.mc_pull.specs.Sight.{KeepsSight};
 ghost use Rattle.mc_pull.specs.Outcome as table;
 ghost use Rattle.mc_pull.specs.declared.judge.Done.TheVariants as done;
 ghost use Rattle.mc_pull.specs.declared.judge.Judge.TheVariants as judges;
@@ -234,6 +235,7 @@ pub(crate) fn settle_ask(
     ensures done { IfOk result (λ made. made ≡ done_of class.old (cache_now stripe.old) (question_of ask.now)) }
     ensures settled { IfOk result (λ made. IsSettled class.old class.new stripe.old stripe.new (question_of ask.now) made) }
     ensures agreement { KeepsAgreement class.old class.new stripe.old stripe.new }
+    ensures sight { KeepsSight class.old class.new stripe.old stripe.new }
     ensures err { OnErr result ((class.new ≡ with_room class.old class.new.room) × (stripe.new.history ≡ stripe.old.history)) }
     ensures site { KeepsSite stripe.old stripe.new }
     ensures refusal { IfErr result (MayRefuseFor class.old stripe.old (done_of class.old (cache_now stripe.old) (question_of ask.now))) }
@@ -263,6 +265,7 @@ pub fn settle(
     ensures done { IfOk result (λ made. made ≡ done_of class.old (cache_now stripe.old) (question who number judge.now moment)) }
     ensures settled { IfOk result (λ made. IsSettled class.old class.new stripe.old stripe.new (question who number judge.now moment) made) }
     ensures agreement { KeepsAgreement class.old class.new stripe.old stripe.new }
+    ensures sight { KeepsSight class.old class.new stripe.old stripe.new }
     ensures err { OnErr result ((class.new ≡ with_room class.old class.new.room) × (stripe.new.history ≡ stripe.old.history)) }
     ensures site { KeepsSite stripe.old stripe.new }
     ensures full { IfErr result (MayFail class.new stripe.new) }

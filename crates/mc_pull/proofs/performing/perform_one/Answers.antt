@@ -4,7 +4,7 @@ use Rattle.mc_item.specs.declared.stripe_event.StripeEvent.{StripeEvent}
 use Rattle.mc_pull.specs.Perform.{call}
 use Rattle.mc_pull.specs.Performed.{part_in, events_on_stripe, MayRefuseCall}
 use Rattle.mc_pull.proofs.PerformLemmas.{handed_on, warms_active, part_is, refused_first, refused_stripe, any_one, made_in}
-use Rattle.mc_pull.proofs.PerformedLemmas.{performed_kept}
+use Rattle.mc_pull.proofs.PerformedLemmas.{performed_kept, performed_seen}
 use Rattle.mc_pull.proofs.performing.perform_one.Goals as goal
 
 pub answer-requires-clause-active : goal.answer-requires-clause-active
@@ -46,3 +46,10 @@ returns-clause-agreement c =
     let cl = call c.args.who c.args.command c.args.moment c.args.room in
     let v = c.args.class.now in
     performed_kept c.args.config.now s _ cl (v ∷ []) _ c.in_ok-copy.ensures.site c.requires.may c.history.ensures.legal (c.law.ensures.lawful, tt) (returns-clause-made c)
+
+pub returns-clause-sight : goal.returns-clause-sight
+returns-clause-sight c =
+    let s = c.args.stripe.now in
+    let cl = call c.args.who c.args.command c.args.moment c.args.room in
+    let v = c.args.class.now in
+    performed_seen c.args.config.now s _ cl (v ∷ []) _ c.in_ok-copy.ensures.site c.requires.may c.history.ensures.legal (c.law.ensures.below, tt) (returns-clause-made c)

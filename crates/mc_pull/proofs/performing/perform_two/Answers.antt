@@ -6,7 +6,7 @@ use Rattle.mc_pull.proofs.PerformLemmas.{handed_on, warms_either, part_is, any_t
 use Rattle.mc_pull.specs.Parts.{part_for}
 use Rattle.mc_pull.specs.Performed.{MayRefuseCall}
 use Rattle.mc_pull.proofs.PerformLemmas.{refused_first, refused_second, refused_stripe}
-use Rattle.mc_pull.proofs.PerformedLemmas.{performed_kept}
+use Rattle.mc_pull.proofs.PerformedLemmas.{performed_kept, performed_seen}
 use Rattle.mc_pull.proofs.performing.perform_two.Goals as goal
 
 pub answer-requires-clause-active : goal.answer-requires-clause-active
@@ -75,3 +75,10 @@ returns-clause-agreement c =
     let cl = call c.args.who c.args.command c.args.moment c.args.room in
     performed_kept c.args.config.now s _ cl (c.args.low.now ∷ c.args.high.now ∷ []) _ c.in_ok-copy.ensures.site c.requires.may c.history.ensures.legal
     (c.law.ensures.lawful, (c.law-2.ensures.lawful, tt)) (returns-clause-made c)
+
+pub returns-clause-sight : goal.returns-clause-sight
+returns-clause-sight c =
+    let s = c.args.stripe.now in
+    let cl = call c.args.who c.args.command c.args.moment c.args.room in
+    performed_seen c.args.config.now s _ cl (c.args.low.now ∷ c.args.high.now ∷ []) _ c.in_ok-copy.ensures.site c.requires.may c.history.ensures.legal
+    (c.law.ensures.below, (c.law-2.ensures.below, tt)) (returns-clause-made c)
