@@ -1,2 +1,3 @@
 pub mod LoneStore
 pub mod LoneSteps
+pub mod Commands

@@ -1,6 +1,7 @@
 //! One stripe with all its slab classes, on one thread: commands and juggling, by the rule of the segments.
 #![tactic(auto)]
 
+mod commands;
 mod steps;
 mod store;
 mod walks;

@@ -1,7 +1,8 @@
 //! A store on one thread: a configuration, its only stripe, and all its classes.
-ghost use Rattle.std.specs.Prelude.{◌≡◌, ◌≤◌, ◌+◌, ℕ, List, Some, length, IfOk};
+ghost use Rattle.std.specs.Prelude.{◌≡◌, ◌≤◌, ◌+◌, ℕ, List, Some, length, IfOk, IsErrOf};
 ghost use Rattle.mc_item.specs.Config.{IsBounded, IsSound};
 ghost use Rattle.mc_item.specs.Stripe.{IsLegal};
+ghost use Rattle.mc_item.specs.declared.fault.Fault.TheVariants.{HistoryFull};
 ghost use Rattle.mc_item.specs.declared.item.Item.{Item};
 ghost use Rattle.mc_item.specs.declared.lists.Entry.{Entry};
 ghost use Rattle.mc_item.specs.declared.lists.Seg.{Seg};
@@ -14,6 +15,7 @@ ghost use Rattle.mc_pull.specs.Juggle.{IsJuggle};
 ghost use Rattle.mc_pull.specs.Lone.{StripeGrows};
 ghost use Rattle.mc_pull.specs.Rounds.{rounds};
 ghost use Rattle.mc_pull.specs.declared.looking.Answer.{Answer};
+ghost use Rattle.mc_lone.specs.Commands.{AllGrow, IsShort};
 ghost use Rattle.mc_lone.specs.LoneStore.{AreOpened, AreTogether, IsNew, walker_in};
 ghost use Rattle.mc_lone.specs.LoneSteps.{class_in, KeepsOthers};
 
@@ -127,8 +129,9 @@ impl LoneStore {
         class.law();
     }
 
-    /// Juggles one of the classes: how many entries were reclaimed, and how many moved. After a fault what happened so
-    /// far stands: `HistoryFull` where a history has no place left, `NoMemory` where memory is wanting.
+    /// Juggles one of the classes: how many entries were reclaimed, and how many moved, at most 10000 of both. After a
+    /// fault what happened so far stands: `HistoryFull` where a history has less than two places left, `NoMemory` where
+    /// memory is wanting.
     pub fn juggle(
         &mut self,
         alloc: Global,
@@ -142,6 +145,9 @@ impl LoneStore {
         ensures others { KeepsOthers number self.old.classes self.new.classes }
         ensures juggle { IfOk result (λ moves. (d : ClassView) → (xs : List Answer)
             × IsJuggle (rounds (class_in self.old.classes number d) who moment self.old.config) (class_in self.old.classes number d).history xs (class_in self.new.classes number d).history moves) }
+        ensures few { IfOk result (λ moves. moves.reclaimed + moves.moved ≤ 10000) }
+        ensures grows { AllGrow self.old.classes self.new.classes }
+        ensures full { IsErrOf result HistoryFull → IsShort self.new.stripe self.new.classes }
     {
         let stripe = &mut self.stripe;
         let classes = self.classes.as_mut_slice();
