@@ -97,6 +97,7 @@ fn juggle_rounds<G: Gate>(
     requires config { IsClassOf config.now class.old }
     requires gate { G.serves gate.old config.now }
     ensures juggled { IfOk result (λ sum. (xs : List Answer) × (G.answers gate.new ≡ G.answers gate.old ++ xs) × IsJuggled (IsJuggleRound (rounds class.old who moment config.now) survey) (juggling class.old.history total) xs (juggling class.new.history sum)) }
+    ensures few { IfOk result (λ sum. sum_of sum ≤ 10000) }
     ensures grows { Grows class.old class.new }
     ensures fault { IfErr result (G.faults gate.new class.new) }
     ensures holds { G.reference gate.new ≡ G.reference gate.old }
@@ -205,6 +206,7 @@ fn juggle_rest<G: Gate>(
     requires gate { G.serves gate.old config.now }
     requires surveys { KeepsSurveys (G.keeps (walker_of class.old who moment)) }
     ensures rest { IfOk result (λ sum. (xs : List Answer) × (G.answers gate.new ≡ G.answers gate.old ++ xs) × JugglesRounds (rounds class.old who moment config.now) (juggling class.old.history total) xs (juggling class.new.history sum)) }
+    ensures few { IfOk result (λ sum. sum_of sum ≤ 10000) }
     ensures grows { Grows class.old class.new }
     ensures fault { IfErr result (λ fault. G.faults gate.new class.new fault ⊎ MayFailAlone class.new fault) }
     ensures holds { G.reference gate.new ≡ G.reference gate.old }
@@ -217,8 +219,8 @@ fn juggle_rest<G: Gate>(
 
 /// Juggles a class: where TEMP is in use, walks along it by a survey, until one did nothing; then rounds by a new survey,
 /// each of which pulls HOT, or else WARM, and COLD, until one did nothing; at most 500 of each. It answers how many
-/// entries were reclaimed and moved. What a gate keeps of a class's history, it must keep of one with a survey more. The
-/// faults are the gate's and those of `ClassState::survey`; the events so far then stand.
+/// entries were reclaimed and moved, at most 10000 of both. What a gate keeps of a class's history, it must keep of one
+/// with a survey more. The faults are the gate's and those of `ClassState::survey`; the events so far then stand.
 pub fn juggle<G: Gate>(
     alloc: Global,
     class: &mut ClassState,
@@ -231,6 +233,7 @@ pub fn juggle<G: Gate>(
     requires gate { G.serves gate.old config.now }
     requires surveys { KeepsSurveys (G.keeps (walker_of class.old who moment)) }
     ensures juggle { IfOk result (λ moves. (xs : List Answer) × (G.answers gate.new ≡ G.answers gate.old ++ xs) × IsJuggle (rounds class.old who moment config.now) class.old.history xs class.new.history moves) }
+    ensures few { IfOk result (λ moves. moves.reclaimed + moves.moved ≤ 10000) }
     ensures grows { Grows class.old class.new }
     ensures fault { IfErr result (λ fault. G.faults gate.new class.new fault ⊎ MayFailAlone class.new fault) }
     ensures holds { G.reference gate.new ≡ G.reference gate.old }

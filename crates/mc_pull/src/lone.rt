@@ -1,5 +1,5 @@
 //! A gate that is lent one stripe, and has no other.
-ghost use Rattle.std.specs.Prelude.{◌≡◌, ◌++◌, List, IfOk, IfErr};
+ghost use Rattle.std.specs.Prelude.{◌≡◌, ◌≤◌, ◌+◌, ◌++◌, List, IfOk, IfErr};
 ghost use Rattle.mc_pull.specs.Growth.{Grows};
 ghost use Rattle.mc_pull.specs.Juggle.{IsJuggle};
 ghost use Rattle.mc_pull.specs.Lone.{Serves, Walked};
@@ -93,6 +93,7 @@ impl<'a> Lone<'a> {
         requires config { IsClassOf config.now class.old }
         requires gate { Serves self.old.number.0 self.old.stripe.now config.now }
         ensures juggle { IfOk result (λ moves. (xs : List Answer) × (self.new.answers.now.items ≡ self.old.answers.now.items ++ xs) × IsJuggle (rounds class.old who moment config.now) class.old.history xs class.new.history moves) }
+        ensures few { IfOk result (λ moves. moves.reclaimed + moves.moved ≤ 10000) }
         ensures fault { IfErr result (MayFail class.new self.new.stripe.now) }
         ensures grows { Grows class.old class.new }
         ensures same_reference { self.new.stripe.ghost_name ≡ self.old.stripe.ghost_name }
