@@ -36,7 +36,8 @@ class_no n = record { 0 = n }
 pub same_number : (a b : ℕ) → (a ≢ b) ⊎ (a ≡ b)
 same_number a b = elim (eqb_tells a b) as (λ (t : _). (a ≢ b) ⊎ (a ≡ b)) [ inl p ↦ inr p.1 | inr p ↦ inl p.1 ]
 
-place_of : (a b : ℕ) → ◌≡◌ {A = ClassNo} (record { 0 = a + 1 }) (record { 0 = b + 1 }) → a ≡ b
+-- the place of a class is told by its number
+pub place_of : (a b : ℕ) → ◌≡◌ {A = ClassNo} (record { 0 = a + 1 }) (record { 0 = b + 1 }) → a ≡ b
 place_of a b h = let numbers : a + 1 ≡ b + 1 = ap (λ (n : ClassNo). n.0) h in omega (arith, numbers)
 
 -- a stripe that was made with a configuration is still, whatever it gained

@@ -1,3 +1,4 @@
 pub mod LoneStore
 pub mod LoneSteps
 pub mod Commands
+pub mod Needed

@@ -1,9 +1,11 @@
 //! Steps on the stripe and one of its classes.
-ghost use Rattle.std.specs.Prelude.{◌≡◌, ◌≤◌, ◌+◌, ◌<◌, ◌-◌, ◌++◌, ◌∷◌, [], ℕ, List, Some, length, IfOk, OnOk, OnErr, slice_index_or};
+ghost use Rattle.std.specs.Prelude.{◌≡◌, ◌≤◌, ◌+◌, ◌<◌, ◌-◌, ◌++◌, ◌∷◌, [], ℕ, List, Some, length, IfOk, OnOk, OnErr, IsErrOf, slice_index_or};
+ghost use Rattle.mc_item.specs.declared.fault.Fault.TheVariants.{HistoryFull};
 ghost use Rattle.mc_item.specs.declared.stripe_event.Cause.TheVariants.{Expired};
 ghost use Rattle.mc_rule.specs.Lists.{IsFull, lists_of};
 ghost use Rattle.mc_segment.specs.ClassCalls.{Makes, Stays, MayEnd, reclaimed_event, refused_event};
 ghost use Rattle.mc_segment.specs.ClassState.{ClassView};
+ghost use Rattle.mc_lone.specs.Commands.{AllGrow, IsShort};
 ghost use Rattle.mc_lone.specs.LoneStore.{AreTogether};
 ghost use Rattle.mc_lone.specs.LoneSteps.{class_in, KeepsOthers};
 ghost use Rattle.mc_stripe.specs.Plan.{dead_link};
@@ -39,6 +41,8 @@ pub fn bury(
     ensures err { OnErr result (stripe.new.history ≡ stripe.old.history) }
     ensures kept { OnErr result ((d : ClassView) → (class_in classes.new link.class d).history ≡ (class_in classes.old link.class d).history) }
     ensures site { KeepsSite stripe.old stripe.new }
+    ensures grows { AllGrow classes.old classes.new }
+    ensures full { IsErrOf result HistoryFull → IsShort stripe.new classes.new }
 {
     let _key = key;
     stripe.history();
@@ -76,6 +80,8 @@ pub fn refuse_in(
     ensures others { KeepsOthers number classes.old classes.new }
     ensures err { OnErr result ((d : ClassView) → Stays (class_in classes.old number d) (class_in classes.new number d)) }
     ensures refusal { (d : ClassView) → MayEnd (class_in classes.old number d) result }
+    ensures grows { AllGrow classes.old classes.new }
+    ensures full { IsErrOf result HistoryFull → IsShort stripe.now classes.new }
 {
     let _stripe = stripe;
     let _config = config;

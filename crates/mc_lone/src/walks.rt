@@ -1,13 +1,16 @@
 //! Walks along the lists of one class, with the one stripe that there is.
-ghost use Rattle.std.specs.Prelude.{◌≡◌, ◌≤◌, ◌-◌, ◌<◌, List, length, IfOk};
+ghost use Rattle.std.specs.Prelude.{◌≡◌, ◌≤◌, ◌+◌, ◌-◌, ◌<◌, List, length, IfOk, IfErr, IsErrOf};
+ghost use Rattle.mc_item.specs.declared.fault.Fault.TheVariants.{HistoryFull};
 ghost use Rattle.mc_segment.specs.ClassState.{ClassView};
 ghost use Rattle.mc_pull.specs.Growth.{Grows};
 ghost use Rattle.mc_pull.specs.Juggle.{IsJuggle};
 ghost use Rattle.mc_pull.specs.Lone.{Serves, StripeGrows, Walked};
 ghost use Rattle.mc_pull.specs.Question.{IsClassOf};
+ghost use Rattle.mc_pull.specs.Refusal.{MayFail};
 ghost use Rattle.mc_pull.specs.Rounds.{rounds, IsRoom};
 ghost use Rattle.mc_pull.specs.Walker.{walker_of};
 ghost use Rattle.mc_pull.specs.declared.looking.Answer.{Answer};
+ghost use Rattle.mc_lone.specs.Commands.{AllGrow, IsShort};
 ghost use Rattle.mc_lone.specs.LoneStore.{AreTogether, walker_in};
 ghost use Rattle.mc_lone.specs.LoneSteps.{class_in, KeepsOthers};
 
@@ -28,6 +31,7 @@ fn make_room_with(
 ) -> Result<bool, Fault>
     requires config { IsClassOf config.now class.old }
     requires stripe { Serves 0 stripe.old config.now }
+    ensures fault { IfErr result (MayFail class.new stripe.new) }
     ensures grows { Grows class.old class.new }
     ensures walked { Walked (walker_of class.old who moment) stripe.old class.old.history stripe.new class.new.history }
     ensures room { IfOk result (λ found. (xs : List Answer) × IsRoom (rounds class.old who moment config.now) class.old.history xs class.new.history found) }
@@ -52,6 +56,8 @@ fn juggle_with(
 ) -> Result<Moves, Fault>
     requires config { IsClassOf config.now class.old }
     requires stripe { Serves 0 stripe.old config.now }
+    ensures fault { IfErr result (MayFail class.new stripe.new) }
+    ensures few { IfOk result (λ moves. moves.reclaimed + moves.moved ≤ 10000) }
     ensures grows { Grows class.old class.new }
     ensures walked { Walked (walker_of class.old who moment) stripe.old class.old.history stripe.new class.new.history }
     ensures juggle { IfOk result (λ moves. (xs : List Answer) × IsJuggle (rounds class.old who moment config.now) class.old.history xs class.new.history moves) }
@@ -83,14 +89,17 @@ pub fn make_room_in(
     ensures others { KeepsOthers number classes.old classes.new }
     ensures room { IfOk result (λ found. (d : ClassView) → (xs : List Answer)
         × IsRoom (rounds (class_in classes.old number d) who moment config.now) (class_in classes.old number d).history xs (class_in classes.new number d).history found) }
+    ensures grows { AllGrow classes.old classes.new }
+    ensures refusal { IfErr result (λ fault. (d : ClassView) → MayFail (class_in classes.new number d) stripe.new fault) }
+    ensures full { IsErrOf result HistoryFull → IsShort stripe.new classes.new }
 {
     let place = number.0 as usize - 1;
     let class = &mut classes[place];
     make_room_with(alloc, stripe, class, who, moment, config)
 }
 
-/// Juggles one of the classes: how many entries were reclaimed, and how many moved. After a fault what happened so far
-/// stands: `HistoryFull` where a history has no place left, `NoMemory` where memory is wanting.
+/// Juggles one of the classes: how many entries were reclaimed, and how many moved, at most 10000 of both. After a fault
+/// what happened so far stands: `HistoryFull` where a history has no place left, `NoMemory` where memory is wanting.
 pub fn juggle_in(
     alloc: Global,
     stripe: &mut StripeState,
@@ -107,6 +116,10 @@ pub fn juggle_in(
     ensures others { KeepsOthers number classes.old classes.new }
     ensures juggle { IfOk result (λ moves. (d : ClassView) → (xs : List Answer)
         × IsJuggle (rounds (class_in classes.old number d) who moment config.now) (class_in classes.old number d).history xs (class_in classes.new number d).history moves) }
+    ensures few { IfOk result (λ moves. moves.reclaimed + moves.moved ≤ 10000) }
+    ensures grows { AllGrow classes.old classes.new }
+    ensures refusal { IfErr result (λ fault. (d : ClassView) → MayFail (class_in classes.new number d) stripe.new fault) }
+    ensures full { IsErrOf result HistoryFull → IsShort stripe.new classes.new }
 {
     let place = number.0 as usize - 1;
     let class = &mut classes[place];

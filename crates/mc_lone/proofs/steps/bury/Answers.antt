@@ -7,6 +7,7 @@ use Rattle.mc_pull.specs.declared.judge.Done.{Done}
 use Rattle.mc_pull.specs.declared.judge.Judge.TheVariants.{Dead}
 use Rattle.mc_lone.proofs.DeadLemmas.{told_dead, dead_first, dead_within, dead_class, dead_listed, dead_reclaimed}
 use Rattle.mc_lone.proofs.TogetherLemmas.{in_place, put_grown, settled_grows}
+use Rattle.mc_lone.proofs.GrowLemmas.{all_grow_put, err_is, short_fault}
 use Rattle.mc_lone.proofs.steps.bury.Goals as goal
 
 pub overflow_sub-place : goal.overflow_sub-place
@@ -71,3 +72,23 @@ returns-clause-reclaimed c =
     let new = c.settle.new.class in
     in_place c.args.classes.now k given new (λ a b. Makes a b (reclaimed_event c.args.who c.args.link.number c.args.moment at)) within
     (c.in_ok-settle.ensures.settled.class ∙ ap (λ (d : Done). class_with class (class_events class q at d) new.room) (c.in_ok-settle.ensures.done ∙ made.0))
+
+pub returns-in_err-settle-clause-grows : goal.returns-in_err-settle-clause-grows
+returns-in_err-settle-clause-grows c =
+    let dead = told_dead c.args.key.now c.args.stripe.now c.args.moment c.args.link c.requires.dead in
+    let within = dead_within c.args.config.now c.args.stripe.now c.args.classes.now c.args.key.now c.args.moment c.args.link c.requires.together c.history.ensures.legal dead in
+    let grows = settled_grows _ _ _ _ (question c.args.who c.args.link.number Dead c.args.moment) c.settle.result c.settle.ensures.settled c.settle.ensures.err in
+    all_grow_put c.args.classes.now (c.args.link.class.0 - 1) c.index-classes-place.result c.settle.new.class within grows
+
+pub returns-clause-grows : goal.returns-clause-grows
+returns-clause-grows c =
+    let dead = told_dead c.args.key.now c.args.stripe.now c.args.moment c.args.link c.requires.dead in
+    let within = dead_within c.args.config.now c.args.stripe.now c.args.classes.now c.args.key.now c.args.moment c.args.link c.requires.together c.history.ensures.legal dead in
+    let grows = settled_grows _ _ _ _ (question c.args.who c.args.link.number Dead c.args.moment) c.settle.result c.settle.ensures.settled c.settle.ensures.err in
+    all_grow_put c.args.classes.now (c.args.link.class.0 - 1) c.index-classes-place.result c.settle.new.class within grows
+
+pub returns-in_err-settle-clause-full : goal.returns-in_err-settle-clause-full
+returns-in_err-settle-clause-full c = λ is.
+    let dead = told_dead c.args.key.now c.args.stripe.now c.args.moment c.args.link c.requires.dead in
+    let within = dead_within c.args.config.now c.args.stripe.now c.args.classes.now c.args.key.now c.args.moment c.args.link c.requires.together c.history.ensures.legal dead in
+    short_fault c.settle.new.stripe c.args.classes.now (c.args.link.class.0 - 1) c.settle.new.class within c.in_err-settle.field-0.0 c.in_err-settle.ensures.full (err_is c.in_err-settle.field-0.0 _ c.from_residual.ensures.1 is)
