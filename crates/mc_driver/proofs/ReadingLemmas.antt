@@ -1,24 +1,28 @@
--- What is read of the words: no fault, the sizes' text, the number of events.
-use Rattle.std.proofs.Common.{◌≡◌, ◌∙◌, ◌<◌, ◌^◌, ℕ, true, List, [], Option, Some, None, ap, arith, codes, length, refl, rules, subst, sym}
+-- What is read of the words: no fault, the sizes' text, what the other options say.
+use Rattle.std.proofs.Common.{◌≡◌, ◌∙◌, ◌<◌, ◌^◌, ℕ, Bool, true, false, List, [], Option, Some, None, ap, arith, codes, length, refl, rules, subst, sym}
 use Rattle.std.proofs.lemmas.Bool.Decides.{nat_tests}
 use Rattle.std.proofs.lemmas.Str.Parse.{IsNumeralModel, numerals_by_fold}
+use Rattle.std.proofs.lemmas.Slice.Eq.{bytes_eq-Decides}
 use Rattle.std.specs.Borrow.{Bor}
 use Rattle.std.specs.List.{list_all}
 use Rattle.std.specs.Option.{option_copied, option_map}
-use Rattle.std.specs.Prelude.{IsErrAnd, IsSomeAnd, MatchOption, Result, Ok, Err}
+use Rattle.std.specs.Prelude.{IsErrAnd, IsSomeAnd, MatchOption, Result, Err}
+use Rattle.std.specs.Str.{bytes_eq}
 use Rattle.std.specs.Str.Parse.{ExplainsUnsignedError, HasUnsignedDigitsIfOk, IsNumeral, ParsesUnsigned, digits_value, without_leading_plus}
 use Rattle.std.specs.declared.num.ParseIntError.{ParseIntError}
 use Rattle.clap.proofs.WalkLemmas.{one_text-rows}
-use Rattle.clap.specs.Words.{App, HasKind, HasMatchesOf, IsParsedFrom, IsUnsignedIn, ReadsOne, Text, app_of, fault_of, found_of, is_simple_and_free, one_of, one_text}
+use Rattle.clap.specs.Words.{App, HasKind, HasMatchesOf, IsParsedFrom, ReadsOne, Text, app_of, fault_of, found_of, is_simple_and_free, one_of, one_text}
 use Rattle.clap.specs.declared.builder.command.Command.{Command}
 use Rattle.clap.specs.declared.error.Error.{Error}
 use Rattle.clap.specs.declared.parser.matches.ArgMatches.{ArgMatches}
 use Rattle.mc_item.specs.Measure.{is_digit, number_from, number_of, number_in}
-use Rattle.mc_driver.specs.Words.{IsLimit, events_in, mcseg, refusals, words_fault_of}
-use Rattle.mc_driver.specs.declared.words.PlanFault.{PlanFault}
-use Rattle.mc_driver.specs.declared.words.PlanFault.TheVariants as plan_faults
+use Rattle.mc_driver.specs.Asked.{AreFound, AreGiven, IsNumberOf, IsNumberRead, IsYesRead, words_fault_of}
+use Rattle.mc_driver.specs.Words.{is_yes, mcseg, refusals, text_in}
+use Rattle.mc_driver.specs.declared.plans.Options.{Options}
+use Rattle.mc_driver.specs.declared.plans.PlanFault.{PlanFault}
+use Rattle.mc_driver.specs.declared.plans.PlanFault.TheVariants as plan_faults
 use Rattle.mc_driver.specs.declared.words.WordsFault.TheVariants as words_faults
-use Rattle.mc_driver.proofs.OptionLemmas.{events_pass, is_free, most, rows_are}
+use Rattle.mc_driver.proofs.OptionLemmas.{chunks_option, events_option, is_free, option_passes, rows_are, temp_option, temp_ttl_option}
 
 -- std's numerals are read as these digits are
 reads_digits : IsNumeralModel (λ (digits : List ℕ). list_all is_digit digits ≡ true) (number_from 0)
@@ -34,16 +38,32 @@ numeral_read digits is small =
     let number : number_in digits ≡ Some (number_of digits) = grind (arith, nat_tests) in
     number ∙ ap Some same
 
+-- what the reader of a number promises of a text
+abbrev pub ReadsNumber : List ℕ → Result ℕ ParseIntError → Type 0
+ReadsNumber t r = ParsesUnsigned 64 10 t r × ExplainsUnsignedError 10 t r × HasUnsignedDigitsIfOk t r
+
 -- what is read of a text that passed is its number
-pub limit_read : {E : Type 0} (G : List ℕ → Result ℕ E → Type 0) → ((t : List ℕ) (r : Result ℕ E) → G t r → ParsesUnsigned 64 10 t r)
-    → (text : Option Text) (r : Option ℕ) → ((t : Text) → text ≡ Some t → IsUnsignedIn 0 most t) → (text ≡ None → r ≡ None) → ((t : Text) → text ≡ Some t → ReadsOne G t r)
-    → IsLimit text r
-limit_read G parses None r passes none value = rw (none refl) tt
-limit_read {E} G parses (Some t) r passes none value = go r (value t refl)
+pub number_read : (text : Option Text) (r : Option ℕ) → (text ≡ None → r ≡ None) → ((t : Text) → text ≡ Some t → ReadsOne ReadsNumber t r)
+    → IsNumberRead text r
+number_read None r none value passes = rw (none refl) tt
+number_read (Some t) r none value passes = go r (value t refl)
   where
-    go : (o : Option ℕ) → ReadsOne G t o → IsLimit (Some t) o
-    go (Some v) reads = let parsed = parses t (Ok v) reads in numeral_read (without_leading_plus t) parsed.0.0 parsed.0.1 ∙ ap Some (sym parsed.1)
-    go None reads = let passed = passes t refl in parses t (Err reads.0) reads.1 (passed.0, passed.1)
+    go : (o : Option ℕ) → ReadsOne ReadsNumber t o → IsNumberOf (Some t) o
+    go (Some v) reads = let parsed = reads.0 in numeral_read (without_leading_plus t) parsed.0.0 parsed.0.1 ∙ ap Some (sym parsed.1)
+    go None reads = let passed = (passes t refl).1 in reads.1.0 (passed.0, passed.1)
+
+-- what is read of a text that says yes or no
+pub yes_read : (text : Option Text) (r : Bool) → (text ≡ None → r ≡ false) → (text ≡ Some (codes "true") → r ≡ true) → (text ≡ Some (codes "false") → r ≡ false)
+    → IsYesRead text r
+yes_read None r none is_true is_false passes = none refl
+yes_read (Some t) r none is_true is_false passes = go (bytes_eq t (codes "true")) refl
+  where
+    go : (b : Bool) → bytes_eq t (codes "true") ≡ b → r ≡ is_yes (Some t)
+    go true is = is_true (ap Some ((bytes_eq-Decides t (codes "true")).0 is)) ∙ sym is
+    go false is =
+        let either = (passes t refl).1 in
+        let other : bytes_eq t (codes "false") ≡ true = rw is at either in
+        is_false (ap Some ((bytes_eq-Decides t (codes "false")).0 other)) ∙ sym is
 
 -- the bytes of a text that may be absent are its bytes
 pub copied : (text : Option (Bor Text)) (bytes : Option (Bor Text)) (P : Bor Text → Bor Text → Type 0) → MatchOption text (bytes ≡ None) (λ t. IsSomeAnd bytes (P t))
@@ -60,17 +80,17 @@ taken_by app words is taken = ap (λ (a : App). fault_of a words) (sym is) ∙ t
 pub refused_by : (app : App) (words : List Text) (error : Error) → app ≡ mcseg → (is_simple_and_free app ≡ true → HasKind (fault_of app words) error) → HasKind (refusals words) error
 refused_by app words error is refused = subst (λ (a : App). HasKind (fault_of a words) error) is (refused (ap is_simple_and_free is ∙ is_free))
 
--- what was read of the events is the limit that the words ask for
-pub limit_is : {E : Type 0} (G : List ℕ → Result ℕ E → Type 0) → ((t : List ℕ) (r : Result ℕ E) → G t r → ParsesUnsigned 64 10 t r)
-    → (old : Command) (words : List Text) (m : ArgMatches) (r : Option ℕ) → app_of old ≡ mcseg → IsParsedFrom old m → HasMatchesOf (app_of old) words m
-    → (one_text (found_of m) (codes "events") ≡ None → r ≡ None) → ((t : Text) → one_text (found_of m) (codes "events") ≡ Some t → ReadsOne G t r) → IsLimit (events_in words) r
-limit_is G parses old words m r is parsed has none value =
-    subst (λ t. IsLimit t r) (one_text-rows (found_of m) (codes "events") ∙ ap (one_of (codes "events")) (rows_are (app_of old) words m is has))
-    (limit_read G parses (one_text (found_of m) (codes "events")) r (events_pass old m parsed is) none value)
-
--- what the reader of a number promises of a text
-abbrev pub ReadsLimit : List ℕ → Result ℕ ParseIntError → Type 0
-ReadsLimit t r = ParsesUnsigned 64 10 t r × ExplainsUnsignedError 10 t r × HasUnsignedDigitsIfOk t r
+-- what was found of the options is what the words ask for
+pub given_by : (old : Command) (words : List Text) (m : ArgMatches) (options : Options) → app_of old ≡ mcseg → IsParsedFrom old m → HasMatchesOf (app_of old) words m
+    → AreFound (found_of m) options → AreGiven words options
+given_by old words m options is parsed has found =
+    let text_is : (name : Text) → one_text (found_of m) name ≡ text_in name words = λ name. one_text-rows (found_of m) name ∙ ap (one_of name) (rows_are (app_of old) words m is has) in
+    record {
+      chunks = subst (λ t. IsNumberOf t options.chunks) (text_is (codes "chunks")) (found.chunks (option_passes old m parsed is chunks_option));
+      temp = found.temp (option_passes old m parsed is temp_option) ∙ ap is_yes (text_is (codes "temp"));
+      temp_ttl = subst (λ t. IsNumberOf t options.temp_ttl) (text_is (codes "temp-ttl")) (found.temp_ttl (option_passes old m parsed is temp_ttl_option));
+      events = subst (λ t. IsNumberOf t options.events) (text_is (codes "events")) (found.events (option_passes old m parsed is events_option));
+    }
 
 -- what an error that is known fulfils
 pub err_is : {A E : Type 0} (P : E → Type 0) (r : Result A E) (e : E) → IsErrAnd r P → r ≡ Err e → P e

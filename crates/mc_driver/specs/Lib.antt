@@ -3,3 +3,4 @@ pub mod Stand
 pub mod Session
 pub mod Run
 pub mod Words
+pub mod Asked

@@ -5,6 +5,7 @@ mod fault;
 mod help;
 mod lone;
 mod memory;
+mod plans;
 mod program;
 mod running;
 mod session;
@@ -12,6 +13,7 @@ mod words;
 
 pub use fault::RunFault;
 pub use mc_script::{Outcome, Source, SourceFault};
+pub use plans::{Options, Plan, PlanFault, plan_for};
 pub use program::run_words;
 pub use running::{Final, Run, run_scripts};
-pub use words::{Plan, PlanFault, WordsFault, plan_for, read_words};
+pub use words::{WordsFault, read_words};

@@ -3,8 +3,9 @@ ghost use Rattle.std.specs.Prelude.{◌≡◌, ◌<◌};
 
 use crate::fault::RunFault;
 use crate::memory::{Kept, Pieces};
+use crate::plans::Plan;
 use crate::running::run_scripts;
-use crate::words::{Plan, WordsFault, read_words};
+use crate::words::{WordsFault, read_words};
 use clap::Error;
 use clap::error::ErrorKind;
 use mc_script::Outcome;

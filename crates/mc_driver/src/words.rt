@@ -1,45 +1,18 @@
 //! The words of the command line.
-ghost use Rattle.std.specs.Prelude.{◌≡◌, ℕ, List, [], IfOk, Err, Option, None, MatchOption};
-ghost use Rattle.std.specs.Option.{option_copied, option_map};
+ghost use Rattle.std.specs.Prelude.{◌≡◌, ℕ, List, [], IfOk, Err, Option, codes, false};
 ghost use Rattle.mc_item.specs.Config.{fault_of};
 ghost use Rattle.clap.specs.Walk.{texts};
-ghost use Rattle.clap.specs.Words.{HasKind, app_of};
+ghost use Rattle.clap.specs.Words.{HasKind, app_of, found_of, one_text, rule_of};
 ghost use Rattle.clap.specs.declared.error.Error.{Error as Refusal};
-ghost use Rattle.mc_driver.specs.Words.{AreAsked, AreNamed, IsFault, IsListOf, IsNoList, NamesNone, asked, fault_number, mcseg, refusals, sizes_in, words_fault_of};
-ghost use Rattle.mc_driver.specs.declared.words.PlanFault.TheVariants as faults;
+ghost use Rattle.mc_driver.specs.Asked.{AreAsked, AreFound, IsFault, IsNumberRead, IsYesRead, NamesNone, asked, words_fault_of};
+ghost use Rattle.mc_driver.specs.Words.{mcseg, number_rule, refusals, sizes_in, sizes_rule, temp_rule};
+ghost use Rattle.mc_driver.specs.declared.plans.Options.{Options};
 ghost use Rattle.mc_driver.specs.declared.words.WordsFault.TheVariants as words_faults;
 
 use crate::help::{ABOUT, AFTER, VERSION};
-use clap::{Arg, ArgAction, Command, Error};
-use mc_item::{Config, ConfigFault, NoMemory, Numbers, number_of};
+use crate::plans::{Options, Plan, PlanFault, plan_for};
+use clap::{Arg, ArgAction, ArgMatches, Command, Error};
 use std::alloc::{AllocError, Global};
-
-/// What the words ask for: a store's configuration, and the moments of upkeep.
-#[derive(Drop)]
-pub struct Plan {
-    pub config: Config,
-    pub upkeep: Numbers,
-}
-
-/// Why there is no plan.
-#[derive(Clone, Copy, Debug, PartialEq, Eq)]
-pub enum PlanFault {
-    /// A list isn't one of numbers below 2^64 with one comma between two.
-    List,
-    /// The configuration has the fault of this number: 1 for its stripes, 2 sizes, 3 chunks, 4 percents, 5 factors,
-    /// 6 callers, 7 events.
-    Configuration(u8),
-    /// A growth was refused.
-    NoMemory,
-}
-
-impl From<NoMemory> for PlanFault {
-    ghost from_gives = { λ _ e. e ≡ faults.NoMemory };
-
-    fn from(_e: NoMemory) -> PlanFault {
-        PlanFault::NoMemory
-    }
-}
 
 /// What is wrong with the words.
 #[derive(Drop)]
@@ -82,170 +55,111 @@ impl From<PlanFault> for WordsFault {
     }
 }
 
-// The numbers of a list with one comma between two.
-fn list_in(alloc: Global, text: &[u8]) -> Result<Option<Vec<u64>>, NoMemory>
-    ensures { IfOk result (λ list. MatchOption list (IsNoList text.now) (λ numbers. IsListOf text.now numbers.items)) }
+// The option of the slab classes' sizes.
+fn sizes_option<'a>(alloc: Global) -> Arg<'a>
+    ensures rule { rule_of result ≡ sizes_rule }
+    ensures local { result.global ≡ false }
 {
-    let mut numbers = Vec::new(alloc);
-    for digits in text.split(|byte| *byte == b',') {
-        match number_of(digits) {
-            Some(number) => numbers.push(number)?,
-            None => {
-                return Ok(None);
-            }
-        }
-    }
-    Ok(Some(numbers))
+    Arg::new(alloc, "sizes")
+        .long("sizes")
+        .action(ArgAction::Set)
+        .value_name("n,n,..")
+        .help(
+            "the sizes of the slab classes in bytes, rising, each from 65{n}to 1,048,576 [default: 43 sizes from 96 to 1,048,576]",
+        )
 }
 
-// The fault's number, in the order in which faults are looked at.
-fn fault_number(fault: ConfigFault) -> u8
-    ensures { result ≡ fault_number fault }
+// An option of one number.
+fn number_option<'a>(alloc: Global, name: &'a str, help: &'a str) -> Arg<'a>
+    ensures rule { rule_of result ≡ number_rule name.now }
+    ensures local { result.global ≡ false }
 {
-    match fault {
-        ConfigFault::Stripes => 1,
-        ConfigFault::Sizes => 2,
-        ConfigFault::Chunks => 3,
-        ConfigFault::Percent => 4,
-        ConfigFault::Factor => 5,
-        ConfigFault::Callers => 6,
-        ConfigFault::Events => 7,
-    }
+    Arg::new(alloc, name)
+        .long(name)
+        .action(ArgAction::Set)
+        .value_parser(clap::value_parser!(u64))
+        .value_name("n")
+        .help(help)
+}
+
+// The option that turns TEMP on.
+fn temp_option<'a>(alloc: Global) -> Arg<'a>
+    ensures rule { rule_of result ≡ temp_rule }
+    ensures local { result.global ≡ false }
+{
+    Arg::new(alloc, "temp")
+        .long("temp")
+        .action(ArgAction::SetTrue)
+        .value_parser(clap::value_parser!(bool))
+        .help("items that expire within the seconds of --temp-ttl begin in TEMP,{n}and not in HOT")
 }
 
 // What the command line may have.
 fn command_of<'a>(alloc: Global) -> Result<Command<'a>, AllocError>
     ensures { IfOk result (λ command. app_of command ≡ mcseg) }
 {
-    let sizes = Arg::new(alloc, "sizes")
-        .long("sizes")
-        .action(ArgAction::Set)
-        .value_name("n,n,..")
-        .help(
-            "the sizes of the slab classes in bytes, rising, each from 65{n}to 1,048,576 [default: 43 sizes from 96 to 1,048,576]",
-        );
-    let events = Arg::new(alloc, "events")
-        .long("events")
-        .action(ArgAction::Set)
-        .value_parser(clap::value_parser!(u64))
-        .value_name("n")
-        .help(
-            "how many events a history may hold, from 16 to{n}4,294,967,296 [default: 1,048,576]",
-        );
+    let chunks = "how many chunks every class has, from 1 to 1,048,576{n}[default: 1,024]";
+    let temp_ttl =
+        "within how many seconds an item of TEMP expires, from 1 to{n}2,592,000 [default: 61]";
+    let events =
+        "how many events a history may hold, from 16 to{n}4,294,967,296 [default: 1,048,576]";
     Command::new(alloc, "mcseg")
         .version(VERSION)
         .about(ABOUT)
         .after_help(AFTER)
-        .arg(sizes)?
-        .arg(events)
+        .arg(sizes_option(alloc))?
+        .arg(number_option(alloc, "chunks", chunks))?
+        .arg(temp_option(alloc))?
+        .arg(number_option(alloc, "temp-ttl", temp_ttl))?
+        .arg(number_option(alloc, "events", events))
 }
 
-// The numbers that an option names, where it is given.
-fn named(alloc: Global, text: Option<&[u8]>) -> Result<Option<Vec<u64>>, PlanFault>
-    ensures ok { IfOk result (λ numbers. AreNamed (option_copied text.entry) (option_map (λ v. v.items) numbers)) }
-    ensures list { result ≡ Err faults.List → NamesNone (option_copied text.entry) }
-    ensures sound { (n : ℕ) → result ≡ Err (faults.Configuration n) → ⊥ }
+// The number that an option was given.
+fn number_at(matches: &ArgMatches, name: &str) -> Option<u64>
+    ensures { IsNumberRead (one_text (found_of matches.now) name.now) result }
 {
-    let Some(text) = text else {
-        return Ok(None);
-    };
-    match list_in(alloc, text)? {
-        Some(numbers) => Ok(Some(numbers)),
-        None => Err(PlanFault::List),
+    matches.get_one::<u64>(name)
+}
+
+// Whether TEMP was turned on.
+fn temp_at(matches: &ArgMatches) -> bool
+    ensures { IsYesRead (one_text (found_of matches.now) (codes "temp")) result }
+{
+    matches.get_flag("temp")
+}
+
+// What the options say.
+fn options_of(matches: &ArgMatches) -> Options
+    ensures { AreFound (found_of matches.now) result }
+{
+    Options {
+        chunks: number_at(matches, "chunks"),
+        temp: temp_at(matches),
+        temp_ttl: number_at(matches, "temp-ttl"),
+        events: number_at(matches, "events"),
     }
 }
 
-// The configuration with these sizes and 1,024 chunks for each, where sizes are given.
-fn with_sizes(alloc: Global, given: Config, sizes: Option<Vec<u64>>) -> Result<Config, NoMemory>
-    ensures { IfOk result (λ config. config ≡ Rattle.mc_driver.specs.Words.with_sizes (option_map (λ v. v.items) sizes) given) }
-{
-    let Some(sizes) = sizes else {
-        return Ok(given);
-    };
-    let mut config = given;
-    config.chunks = Numbers::from_vec(vec![in alloc; 1024; sizes.len()]?);
-    config.sizes = Numbers::from_vec(sizes);
-    Ok(config)
-}
-
-// The configuration with this limit of events, where one is given.
-fn with_events(given: Config, events: Option<u64>) -> Config
-    ensures { result ≡ Rattle.mc_driver.specs.Words.with_events events given }
-{
-    let Some(events) = events else {
-        return given;
-    };
-    let mut config = given;
-    config.max_events = events;
-    config
-}
-
-// The configuration that is asked for.
-fn config_of(
-    alloc: Global,
-    sizes: Option<Vec<u64>>,
-    events: Option<u64>,
-) -> Result<Config, NoMemory>
-    ensures { IfOk result (λ config. config ≡ asked (option_map (λ v. v.items) sizes) events) }
-{
-    let config = with_sizes(alloc, Config::usual(alloc, 3)?, sizes)?;
-    Ok(with_events(config, events))
-}
-
-// The plan of a configuration, where it is sound.
-fn plan_of(alloc: Global, config: Config) -> Result<Plan, PlanFault>
-    ensures config { IfOk result (λ plan. (plan.config ≡ config) × (fault_of config ≡ None)) }
-    ensures upkeep { IfOk result (λ plan. plan.upkeep ≡ []) }
-    ensures list { result ≡ Err faults.List → ⊥ }
-    ensures fault { (n : ℕ) → result ≡ Err (faults.Configuration n) → IsFault n config }
-{
-    match config.check() {
-        Ok(config) => Ok(Plan {
-            config,
-            upkeep: Numbers::from_vec(Vec::new(alloc)),
-        }),
-        Err(fault) => Err(PlanFault::Configuration(fault_number(fault))),
-    }
-}
-
-/// The plan of two options, each of which may be absent: the usual configuration of one stripe and 3 callers, and no
-/// upkeep. `sizes` is the text of the slab classes' sizes in bytes, as "96,1024": decimal numbers with one comma
-/// between two and nothing else, instead of the usual 43; each class has 1,024 chunks. `events` is how many events a
-/// history may hold, instead of 1,048,576.
-///
-/// The error is `List` where the text is no such list, whatever `events` is; else `Configuration` where the sizes or
-/// the limit of events are out of their range; and `NoMemory` where a growth was refused.
-pub fn plan_for(alloc: Global, sizes: Option<&[u8]>, events: Option<u64>) -> Result<Plan, PlanFault>
-    ensures ok { IfOk result (λ plan. (numbers : Option (List ℕ)) × AreNamed (option_copied sizes.entry) numbers × (plan.config ≡ asked numbers events) × (fault_of plan.config ≡ None) × (plan.upkeep ≡ [])) }
-    ensures list { result ≡ Err faults.List → NamesNone (option_copied sizes.entry) }
-    ensures configuration { (n : ℕ) → result ≡ Err (faults.Configuration n)
-        → (numbers : Option (List ℕ)) × AreNamed (option_copied sizes.entry) numbers × IsFault n (asked numbers events) }
-{
-    let numbers = named(alloc, sizes)?;
-    let config = config_of(alloc, numbers, events)?;
-    plan_of(alloc, config)
-}
-
-/// The plan that the words ask for, of which the first is the program's name: the usual configuration with the sizes
-/// and the limit of events that they name. A bad list comes before a bad configuration.
+/// The plan that the words ask for, of which the first is the program's name: the usual configuration, but for what
+/// the options say. A bad list comes before a bad configuration.
 ///
 /// The error is `Words` where the command line's reader refuses the words or has its help or version to show, or where
-/// it lacks memory; else `List` where the text of the sizes is no list; else `Configuration` where the sizes or the
-/// limit of events are out of their range; and `NoMemory` where a growth was refused.
+/// it lacks memory; else `List` where the text of the sizes is no list; else `Configuration` where the sizes or a
+/// number are out of their range; and `NoMemory` where a growth was refused.
 pub fn read_words(alloc: Global, words: &[&str]) -> Result<Plan, WordsFault>
     ensures config { IfOk result (λ plan. fault_of plan.config ≡ None) }
     ensures taken { IfOk result (λ plan. refusals (texts words.now) ≡ []) }
-    ensures asked { IfOk result (λ plan. (sizes : Option (List ℕ)) × (events : Option ℕ)
-        × AreAsked (texts words.now) sizes events × (plan.config ≡ asked sizes events)) }
+    ensures asked { IfOk result (λ plan. (sizes : Option (List ℕ)) × (options : Options)
+        × AreAsked (texts words.now) sizes options × (plan.config ≡ asked sizes options)) }
     ensures upkeep { IfOk result (λ plan. plan.upkeep ≡ []) }
     ensures words { (error : Refusal) → result ≡ Err (words_faults.Words error) → HasKind (refusals (texts words.now)) error }
     ensures list { result ≡ Err words_faults.List
         → (refusals (texts words.now) ≡ []) × NamesNone (sizes_in (texts words.now)) }
     ensures configuration { (n : ℕ) → result ≡ Err (words_faults.Configuration n) → (refusals (texts words.now) ≡ [])
-        × ((sizes : Option (List ℕ)) × (events : Option ℕ) × AreAsked (texts words.now) sizes events × IsFault n (asked sizes events)) }
+        × ((sizes : Option (List ℕ)) × (options : Options) × AreAsked (texts words.now) sizes options × IsFault n (asked sizes options)) }
 {
     let matches = command_of(alloc)?.try_get_matches_from(words)?;
     let sizes = matches.get_str("sizes").map(|text| text.as_bytes());
-    let events = matches.get_one::<u64>("events");
-    Ok(plan_for(alloc, sizes, events)?)
+    let options = options_of(&matches);
+    Ok(plan_for(alloc, sizes, options)?)
 }

@@ -1,16 +1,25 @@
 //! Plans of options and words, where there is memory enough.
-use mc_driver::{Plan, PlanFault, WordsFault, plan_for, read_words};
+use mc_driver::{Options, Plan, PlanFault, WordsFault, plan_for, read_words};
 use std::alloc::Global;
 use std::process::Abort;
 
-// Options, the words that give them, and the plan's sizes and limit of events that they ask for, each class with 1,024
-// chunks.
+// What a plan has beside the usual: sizes, chunks of every class, TEMP, its life in seconds, and the limit of events.
+type Shape = (&'static [u64], u64, bool, u64, u64);
+
+// Options, the words that give them, and the plan that they ask for.
 struct Wanted {
     sizes: Option<&'static [u8]>,
-    events: Option<u64>,
+    options: Options,
     words: &'static [&'static str],
-    plan: Result<(&'static [u64], u64), PlanFault>,
+    plan: Result<Shape, PlanFault>,
 }
+
+const NONE: Options = Options {
+    chunks: None,
+    temp: false,
+    temp_ttl: None,
+    events: None,
+};
 
 const USUAL: [u64; 43] = [
     96, 120, 152, 192, 240, 304, 384, 480, 600, 752, 944, 1184, 1480, 1856, 2320, 2904, 3632, 4544,
@@ -18,77 +27,185 @@ const USUAL: [u64; 43] = [
     129376, 161720, 202152, 252696, 315872, 394840, 493552, 616944, 771184, 963984, 1048576,
 ];
 
-static WANTED: [Wanted; 8] = [
+static WANTED: [Wanted; 15] = [
     Wanted {
         sizes: None,
-        events: None,
+        options: NONE,
         words: &["mcseg"],
-        plan: Ok((&USUAL, 1_048_576)),
+        plan: Ok((&USUAL, 1024, false, 61, 1_048_576)),
     },
     Wanted {
         sizes: Some(b"96,1024"),
-        events: Some(20),
+        options: Options {
+            chunks: None,
+            temp: false,
+            temp_ttl: None,
+            events: Some(20),
+        },
         words: &["mcseg", "--events", "20", "--sizes", "96,1024"],
-        plan: Ok((&[96, 1024], 20)),
+        plan: Ok((&[96, 1024], 1024, false, 61, 20)),
     },
     Wanted {
         sizes: Some(b"0065"),
-        events: None,
+        options: NONE,
         words: &["mcseg", "--sizes=0065"],
-        plan: Ok((&[65], 1_048_576)),
+        plan: Ok((&[65], 1024, false, 61, 1_048_576)),
     },
     Wanted {
         sizes: None,
-        events: Some(16),
+        options: Options {
+            chunks: None,
+            temp: false,
+            temp_ttl: None,
+            events: Some(16),
+        },
         words: &["mcseg", "--events", "+16"],
-        plan: Ok((&USUAL, 16)),
+        plan: Ok((&USUAL, 1024, false, 61, 16)),
+    },
+    Wanted {
+        sizes: Some(b"96,1024,2048"),
+        options: Options {
+            chunks: Some(3),
+            temp: true,
+            temp_ttl: Some(2_592_000),
+            events: None,
+        },
+        words: &["mcseg", "--temp", "--chunks", "3", "--temp-ttl", "2592000", "--sizes", "96,1024,2048"],
+        plan: Ok((&[96, 1024, 2048], 3, true, 2_592_000, 1_048_576)),
+    },
+    Wanted {
+        sizes: None,
+        options: Options {
+            chunks: Some(1_048_576),
+            temp: false,
+            temp_ttl: Some(1),
+            events: None,
+        },
+        words: &["mcseg", "--chunks=+1048576", "--temp-ttl=1"],
+        plan: Ok((&USUAL, 1_048_576, false, 1, 1_048_576)),
+    },
+    Wanted {
+        sizes: None,
+        options: Options {
+            chunks: None,
+            temp: true,
+            temp_ttl: None,
+            events: None,
+        },
+        words: &["mcseg", "--temp"],
+        plan: Ok((&USUAL, 1024, true, 61, 1_048_576)),
     },
     Wanted {
         sizes: Some(b"96,"),
-        events: Some(15),
+        options: Options {
+            chunks: None,
+            temp: false,
+            temp_ttl: None,
+            events: Some(15),
+        },
         words: &["mcseg", "--sizes", "96,", "--events", "15"],
         plan: Err(PlanFault::List),
     },
     Wanted {
         sizes: Some(b"96,80"),
-        events: Some(15),
+        options: Options {
+            chunks: None,
+            temp: false,
+            temp_ttl: None,
+            events: Some(15),
+        },
         words: &["mcseg", "--sizes", "96,80", "--events", "15"],
         plan: Err(PlanFault::Configuration(2)),
     },
     Wanted {
         sizes: Some(b"96"),
-        events: Some(15),
+        options: Options {
+            chunks: None,
+            temp: false,
+            temp_ttl: None,
+            events: Some(15),
+        },
         words: &["mcseg", "--sizes", "96", "--events", "15"],
         plan: Err(PlanFault::Configuration(7)),
     },
     Wanted {
         sizes: None,
-        events: Some(4_294_967_297),
+        options: Options {
+            chunks: None,
+            temp: false,
+            temp_ttl: None,
+            events: Some(4_294_967_297),
+        },
         words: &["mcseg", "--events", "4294967297"],
         plan: Err(PlanFault::Configuration(7)),
     },
+    Wanted {
+        sizes: None,
+        options: Options {
+            chunks: Some(0),
+            temp: false,
+            temp_ttl: Some(0),
+            events: None,
+        },
+        words: &["mcseg", "--chunks", "0", "--temp-ttl", "0"],
+        plan: Err(PlanFault::Configuration(3)),
+    },
+    Wanted {
+        sizes: None,
+        options: Options {
+            chunks: Some(1_048_577),
+            temp: false,
+            temp_ttl: None,
+            events: None,
+        },
+        words: &["mcseg", "--chunks", "1048577"],
+        plan: Err(PlanFault::Configuration(3)),
+    },
+    Wanted {
+        sizes: None,
+        options: Options {
+            chunks: None,
+            temp: true,
+            temp_ttl: Some(0),
+            events: Some(15),
+        },
+        words: &["mcseg", "--temp-ttl", "0", "--temp", "--events", "15"],
+        plan: Err(PlanFault::Configuration(5)),
+    },
+    Wanted {
+        sizes: None,
+        options: Options {
+            chunks: None,
+            temp: false,
+            temp_ttl: Some(2_592_001),
+            events: None,
+        },
+        words: &["mcseg", "--temp-ttl", "2592001"],
+        plan: Err(PlanFault::Configuration(5)),
+    },
 ];
 
-// Asserts that a plan is of these sizes and this limit of events, and in all else the usual one.
-fn asserts_plan(rt: &impl Abort, plan: Plan, sizes: &[u64], events: u64) {
+// Asserts that a plan is of this shape, and in all else the usual one.
+fn asserts_plan(rt: &impl Abort, plan: Plan, shape: Shape) {
     let config = plan.config;
+    let (sizes, limit, temp, temp_ttl, events) = shape;
     assert_eq!(rt; config.sizes.as_slice(), sizes);
     assert_eq!(rt; config.chunks.as_slice().len(), sizes.len());
     for chunks in config.chunks.as_slice() {
-        assert_eq!(rt; *chunks, 1024);
+        assert_eq!(rt; *chunks, limit);
     }
     assert_eq!(rt; (config.stripes, config.callers), (1, 3));
     assert_eq!(rt; config.max_events, events);
     assert_eq!(rt; (config.hot_percent, config.warm_percent), (20, 40));
     assert_eq!(rt; (config.hot_factor, config.warm_factor), (20, 200));
-    assert_eq!(rt; (config.temp, config.temp_ttl), (false, 61));
+    assert_eq!(rt; (config.temp, config.temp_ttl), (temp, temp_ttl));
     assert!(rt; plan.upkeep.as_slice().is_empty());
 }
 
 // Asserts that options give a plan, or the fault that is wanted.
 fn asserts_options(rt: &impl Abort, alloc: Global, wanted: &Wanted) {
-    match (plan_for(alloc, wanted.sizes, wanted.events), wanted.plan) {
-        (Ok(plan), Ok((sizes, events))) => asserts_plan(rt, plan, sizes, events),
+    match (plan_for(alloc, wanted.sizes, wanted.options), wanted.plan) {
+        (Ok(plan), Ok(shape)) => asserts_plan(rt, plan, shape),
         (Err(fault), Err(other)) => assert_eq!(rt; fault, other),
         _ => panic!(rt; "another plan"),
     }
@@ -97,8 +214,8 @@ fn asserts_options(rt: &impl Abort, alloc: Global, wanted: &Wanted) {
 // Asserts that words give a plan, or the fault that is wanted.
 fn asserts_words(rt: &impl Abort, alloc: Global, wanted: &Wanted) {
     let fault = match (read_words(alloc, wanted.words), wanted.plan) {
-        (Ok(plan), Ok((sizes, events))) => {
-            asserts_plan(rt, plan, sizes, events);
+        (Ok(plan), Ok(shape)) => {
+            asserts_plan(rt, plan, shape);
             return;
         }
         (Err(WordsFault::List), Err(fault)) => (PlanFault::List, fault),
@@ -122,6 +239,10 @@ fn words_that_no_option_takes_are_the_readers(rt: HostRuntime) {
         ["mcseg", "--color"].as_slice(),
         ["mcseg", "--version"].as_slice(),
         ["mcseg", "--events", "18446744073709551616"].as_slice(),
+        ["mcseg", "--chunks", "-1"].as_slice(),
+        ["mcseg", "--temp-ttl", "x"].as_slice(),
+        ["mcseg", "--temp=yes"].as_slice(),
+        ["mcseg", "--temp", "--temp"].as_slice(),
     ] {
         assert!(rt; matches!(read_words(rt.alloc(), words), Err(WordsFault::Words(_))));
     }

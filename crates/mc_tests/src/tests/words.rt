@@ -117,8 +117,14 @@ fn words_that_are_no_options_are_refused(rt: HostRuntime) {
 }
 
 // What a person has to find in the help: each line on standard error, each number, each limit.
-static HELP: [&str; 20] = [
+static HELP: [&str; 26] = [
     "--sizes",
+    "--chunks",
+    "from 1 to 1,048,576",
+    "[default: 1,024]",
+    "--temp ",
+    "--temp-ttl",
+    "[default: 61]",
     "--events",
     "--version",
     "mcseg: out of memory\n",

@@ -1,9 +1,9 @@
 use Rattle.std.proofs.Common.{◌≡◌, ◌∙◌, ap, rules, subst}
 use Rattle.std.specs.Prelude.{Err}
-use Rattle.mc_driver.specs.Words.{AreNamed, NamesNone}
+use Rattle.mc_driver.specs.Asked.{AreNamed, NamesNone}
 use Rattle.mc_driver.specs.declared.words.WordsFault.TheVariants as words_faults
 use Rattle.mc_driver.proofs.OptionLemmas.{sizes_are}
-use Rattle.mc_driver.proofs.ReadingLemmas.{ReadsLimit, copied, err_is, from_configuration, from_list, limit_is, refused_by, taken_by}
+use Rattle.mc_driver.proofs.ReadingLemmas.{copied, err_is, from_configuration, from_list, given_by, refused_by, taken_by}
 use Rattle.mc_driver.proofs.words.read_words.Goals as goal
 
 pub returns-in_err-matches-clause-words : goal.returns-in_err-matches-clause-words
@@ -23,10 +23,10 @@ pub returns-in_err-plan_for-clause-configuration : goal.returns-in_err-plan_for-
 returns-in_err-plan_for-clause-configuration c = λ n is.
     let given = copied c.get_str.result c.map-sizes.result _ c.map-sizes.ensures.cases (λ t b is. search rules) in
     let sizes = given ∙ c.get_str.ensures ∙ sizes_are _ _ c.in_ok-matches.matches c.in_ok-command_of.ensures c.in_ok-matches.ensures.matches in
-    let limit = limit_is ReadsLimit (λ t r g. g.0) _ _ c.in_ok-matches.matches c.get_one-events.result c.in_ok-command_of.ensures c.in_ok-matches.ensures.parsed c.in_ok-matches.ensures.matches c.get_one-events.ensures.none c.get_one-events.ensures.value in
+    let options = given_by _ _ c.in_ok-matches.matches c.options_of-options.result c.in_ok-command_of.ensures c.in_ok-matches.ensures.parsed c.in_ok-matches.ensures.matches c.options_of-options.ensures in
     let fault = from_configuration c.in_err-plan_for.field-0.0 n (err_is _ _ _ c.from_residual-in_err-plan_for.ensures.1 is) in
     let got = c.in_err-plan_for.ensures.configuration n (ap Err fault) in
-    (taken_by _ _ c.in_ok-command_of.ensures c.in_ok-matches.ensures.kinds, (got.0, c.get_one-events.result, (subst (λ t. AreNamed t got.0) sizes got.1, limit), got.2))
+    (taken_by _ _ c.in_ok-command_of.ensures c.in_ok-matches.ensures.kinds, (got.0, c.options_of-options.result, (subst (λ t. AreNamed t got.0) sizes got.1, options), got.2))
 
 pub returns-clause-taken : goal.returns-clause-taken
 returns-clause-taken c = taken_by _ _ c.in_ok-command_of.ensures c.in_ok-matches.ensures.kinds
@@ -35,6 +35,6 @@ pub returns-clause-asked : goal.returns-clause-asked
 returns-clause-asked c =
     let given = copied c.get_str.result c.map-sizes.result _ c.map-sizes.ensures.cases (λ t b is. search rules) in
     let sizes = given ∙ c.get_str.ensures ∙ sizes_are _ _ c.in_ok-matches.matches c.in_ok-command_of.ensures c.in_ok-matches.ensures.matches in
-    let limit = limit_is ReadsLimit (λ t r g. g.0) _ _ c.in_ok-matches.matches c.get_one-events.result c.in_ok-command_of.ensures c.in_ok-matches.ensures.parsed c.in_ok-matches.ensures.matches c.get_one-events.ensures.none c.get_one-events.ensures.value in
+    let options = given_by _ _ c.in_ok-matches.matches c.options_of-options.result c.in_ok-command_of.ensures c.in_ok-matches.ensures.parsed c.in_ok-matches.ensures.matches c.options_of-options.ensures in
     let got = c.in_ok-plan_for.ensures.ok in
-    (got.0, c.get_one-events.result, (subst (λ t. AreNamed t got.0) sizes got.1, limit), got.2)
+    (got.0, c.options_of-options.result, (subst (λ t. AreNamed t got.0) sizes got.1, options), got.2)

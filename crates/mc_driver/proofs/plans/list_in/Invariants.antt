@@ -1,7 +1,7 @@
 use Rattle.std.proofs.Common.{◌≡◌, ◌++◌, eqb, drop, length, map, Some}
 use Rattle.std.specs.List.{slice_split}
 use Rattle.mc_item.specs.Measure.{number_in}
-use Rattle.mc_driver.proofs.words.list_in.Given as goal
+use Rattle.mc_driver.proofs.plans.list_in.Given as goal
 
 -- the numbers so far are those of the parts so far
 abbrev pub invariant-loop-digits : goal.invariant-loop-digits

@@ -1,7 +1,7 @@
 use Rattle.mc_item.specs.Config.{fault_of}
 use Rattle.mc_driver.proofs.StartLemmas.{check_passed}
 use Rattle.mc_driver.proofs.WordLemmas.{check_failed}
-use Rattle.mc_driver.proofs.words.plan_of.Goals as goal
+use Rattle.mc_driver.proofs.plans.plan_of.Goals as goal
 
 pub returns-in-Ok-clause-config : goal.returns-in-Ok-clause-config
 returns-in-Ok-clause-config c =

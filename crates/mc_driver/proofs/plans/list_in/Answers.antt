@@ -4,7 +4,7 @@ use Rattle.std.proofs.lemmas.Iterator.Consumers.{YieldsList-at, YieldsList-turn,
 use Rattle.std.proofs.lemmas.Iterator.Splits.{YieldsList-from_slice_split}
 use Rattle.std.specs.List.{slice_split}
 use Rattle.mc_driver.proofs.WordLemmas.{part_read, part_refused, parts_read}
-use Rattle.mc_driver.proofs.words.list_in.Goals as goal
+use Rattle.mc_driver.proofs.plans.list_in.Goals as goal
 
 pub loop-digits-preserved : goal.loop-digits-preserved
 loop-digits-preserved c =
