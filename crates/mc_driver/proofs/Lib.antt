@@ -1,8 +1,9 @@
 pub mod NoteLemmas
-pub mod TurnLemmas
-pub mod NameLemmas
-pub mod StartLemmas
-pub mod WordLemmas
 pub mod StandLemmas
+pub mod CallLemmas
+pub mod JuggleLemmas
+pub mod StartLemmas
+pub mod LeftLemmas
+pub mod WordLemmas
 pub mod OptionLemmas
 pub mod ReadingLemmas

@@ -1,6 +1,7 @@
 pub mod Noted
 pub mod Stand
-pub mod Session
+pub mod Called
+pub mod Caller
 pub mod Run
 pub mod Words
 pub mod Asked

@@ -1,81 +1,70 @@
--- What a history notes: exchanges, each in the event of its answer, and what else stands there where one caller is alone.
+-- What the histories of a store note: exchanges, each where it was answered, and whose all other events are (own).
 use Rattle.std.specs.Prelude.{ℕ, ◌≡◌, List, [], ◌∷◌, ◌++◌}
 use Rattle.std.specs.List.{flat_map}
-use Rattle.mc_item.specs.Command.{key_of}
+use Rattle.mc_item.specs.declared.class_event.ClassEvent.{ClassEvent}
+use Rattle.mc_item.specs.declared.command.Command.{Command}
+use Rattle.mc_item.specs.declared.config.Config.{Config}
+use Rattle.mc_item.specs.declared.counts.Moves.{Moves}
+use Rattle.mc_item.specs.declared.item.ClassNo.{ClassNo}
+use Rattle.mc_item.specs.declared.item.Who.{Who}
+use Rattle.mc_item.specs.declared.reply.Reply.{Reply}
 use Rattle.mc_item.specs.declared.reply.Room.{Room}
-use Rattle.mc_item.specs.declared.reply.Room.TheVariants as rooms
-use Rattle.mc_item.specs.declared.stripe_event.Cause.TheVariants.{Expired}
 use Rattle.mc_item.specs.declared.stripe_event.Did.{Did}
-use Rattle.mc_item.specs.declared.stripe_event.Lost.{Lost}
 use Rattle.mc_item.specs.declared.stripe_event.StripeEvent.{StripeEvent}
 use Rattle.mc_item.specs.declared.stripe_event.StripeEvent.TheVariants as events
-use Rattle.mc_script.specs.Script.{Exchange}
+use Rattle.mc_proto.specs.Answers.{Replied}
+use Rattle.mc_pull.specs.Juggle.{IsJuggle}
+use Rattle.mc_pull.specs.Rounds.{rounds}
+use Rattle.mc_pull.specs.declared.looking.Answer.{Answer as GateAnswer}
+use Rattle.mc_script.specs.Exchanges.{Asks, Exchange}
+use Rattle.mc_segment.specs.ClassState.{opened}
 
 -- the exchange that an answered command is, whatever its room
 abbrev pub exchange_of : Did → Exchange
-exchange_of did = record { who = did.who; command = did.command; moment = did.moment; reply = did.reply }
+exchange_of did = record { who = did.who; call = Asks did.command; moment = did.moment; answer = Replied did.reply }
 
--- the exchanges that an event notes
+-- the exchanges that an event of a stripe notes
 abbrev pub exchanges_noted : StripeEvent → List Exchange
 exchanges_noted (events.Did did) = exchange_of did ∷ []
 exchanges_noted (events.Lost lost) = []
 exchanges_noted (events.Cooled cooled) = []
 
--- the exchanges that a history notes, oldest first
+-- the exchanges that a stripe's history notes, oldest first
 abbrev pub exchanges_in : List StripeEvent → List Exchange
 exchanges_in history = flat_map exchanges_noted history
 
--- room wasn't refused
-abbrev pub IsGranted : Room → Type 0
-IsGranted rooms.Keep = Unit {0}
-IsGranted (rooms.At link) = Unit {0}
-IsGranted (rooms.Refused class place) = ⊥
+-- who made an event
+abbrev pub who_of : StripeEvent → Who
+who_of (events.Did did) = did.who
+who_of (events.Lost lost) = lost.who
+who_of (events.Cooled cooled) = cooled.who
 
--- the item that went is that of a command's key, which its caller found dead at the command's moment
-pub record IsFoundBy (lost : Lost) (did : Did) : Type 0 where
-  pub who : lost.who ≡ did.who
-  pub key : lost.key ≡ key_of did.command
-  pub cause : lost.cause ≡ Expired did.moment
+-- one caller made each of these events
+abbrev pub AreBy : ℕ → List StripeEvent → Type 0
+AreBy caller [] = Unit {0}
+AreBy caller (e ∷ es) = ((who_of e).caller ≡ caller) × AreBy caller es
 
--- each event is an answer whose room wasn't refused, or goes just before the answer that finds its item dead
-abbrev pub AreTurns : List StripeEvent → Type 0
-AreTurns [] = Unit {0}
-AreTurns (events.Did did ∷ es) = IsGranted did.room × AreTurns es
-AreTurns (events.Lost lost ∷ events.Did did ∷ es) = IsFoundBy lost did × IsGranted did.room × AreTurns es
-AreTurns (events.Lost lost ∷ []) = ⊥
-AreTurns (events.Lost lost ∷ events.Lost other ∷ es) = ⊥
-AreTurns (events.Lost lost ∷ events.Cooled cooled ∷ es) = ⊥
-AreTurns (events.Cooled cooled ∷ es) = ⊥
-
--- nothing, or a dead item that went without the answer that found it
-abbrev pub IsTorn : List StripeEvent → Type 0
-IsTorn [] = Unit {0}
-IsTorn (events.Lost lost ∷ []) = (moment : ℕ) × (lost.cause ≡ Expired moment)
-IsTorn (events.Lost lost ∷ e ∷ es) = ⊥
-IsTorn (events.Did did ∷ es) = ⊥
-IsTorn (events.Cooled cooled ∷ es) = ⊥
-
--- whole turns, and at the end what a turn left that failed
-pub record IsPlain (history : List StripeEvent) : Type 0 where
-  pub turns : List StripeEvent
-  pub torn : List StripeEvent
-  pub split : history ≡ turns ++ torn
-  pub are_turns : AreTurns turns
-  pub is_torn : IsTorn torn
-
--- a history gained whole turns
-pub record GainsTurns (old new : List StripeEvent) : Type 0 where
-  pub more : List StripeEvent
-  pub is : new ≡ old ++ more
-  pub are_turns : AreTurns more
-
--- a history gained no more than a turn leaves that failed
-pub record GainsTorn (old new : List StripeEvent) : Type 0 where
-  pub more : List StripeEvent
-  pub is : new ≡ old ++ more
-  pub is_torn : IsTorn more
-
--- the history notes just these calls, and nothing but their turns
-pub record IsOf (history : List StripeEvent) (calls : List Exchange) : Type 0 where
+-- a stripe's history notes just these exchanges, and one caller made all that stands there
+pub record IsOf (caller : ℕ) (history : List StripeEvent) (calls : List Exchange) : Type 0 where
   pub noted : exchanges_in history ≡ calls
-  pub plain : IsPlain history
+  pub by : AreBy caller history
+
+-- the event of a command that was answered
+abbrev pub answered_event : Who → Command → ℕ → Reply → Room → StripeEvent
+answered_event who command moment reply room = events.Did (record { who = who; command = command; moment = moment; reply = reply; room = room })
+
+-- a stripe's history has this answered command
+pub record NotesCommand (history : List StripeEvent) (who : Who) (command : Command) (moment : ℕ) (reply : Reply) : Type 0 where
+  pub before : List StripeEvent
+  pub room : Room
+  pub behind : List StripeEvent
+  pub split : history ≡ before ++ answered_event who command moment reply room ∷ behind
+
+-- a class's history has a call's juggling, with these moves: its surveys and the events of its walks stand together
+pub record NotesJuggling (config : Config) (history : List ClassEvent) (who : Who) (class : ClassNo) (moment : ℕ) (moves : Moves) : Type 0 where
+  pub before : List ClassEvent
+  pub own : List ClassEvent
+  pub behind : List ClassEvent
+  pub split : history ≡ (before ++ own) ++ behind
+  pub answers : List GateAnswer
+  pub juggled : IsJuggle (rounds (opened config class) who moment config) before answers (before ++ own) moves

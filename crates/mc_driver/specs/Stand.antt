@@ -1,68 +1,90 @@
--- A caller's calls in the histories of a store's stripes: each stands there, and what it is to be alone with them.
-use Rattle.std.specs.Prelude.{ℕ, ◌≡◌, ◌<◌, List, [], ◌∷◌, ◌++◌, Option, Some, None, nat_eq}
+-- A caller's calls in the histories of a store: each stands there, and what it is to be alone with them (own).
+use Rattle.std.specs.Prelude.{ℕ, zero, suc, ◌≡◌, ◌<◌, Bool, false, List, [], ◌∷◌, Option, Some, None, nat_eq}
 use Rattle.std.specs.List.{filter, slice_get}
 use Rattle.mc_item.specs.Command.{key_of}
 use Rattle.mc_item.specs.Measure.{stripe_of}
-use Rattle.mc_item.specs.declared.reply.Room.{Room}
-use Rattle.mc_item.specs.declared.stripe_event.Did.{Did}
+use Rattle.mc_item.specs.declared.class_event.ClassEvent.{ClassEvent}
+use Rattle.mc_item.specs.declared.command.Command.{Command}
+use Rattle.mc_item.specs.declared.config.Config.{Config}
+use Rattle.mc_item.specs.declared.item.ClassNo.{ClassNo}
+use Rattle.mc_item.specs.declared.item.Who.{Who}
 use Rattle.mc_item.specs.declared.stripe_event.StripeEvent.{StripeEvent}
-use Rattle.mc_item.specs.declared.stripe_event.StripeEvent.TheVariants as events
-use Rattle.mc_script.specs.Script.{Exchange}
-use Rattle.mc_driver.specs.Noted.{IsOf, exchanges_in}
+use Rattle.mc_proto.specs.Answers.{Answer, Moved, Replied}
+use Rattle.mc_script.specs.Exchanges.{Asks, Call, Exchange, Juggles}
+use Rattle.mc_segment.specs.ClassState.{ClassView}
+use Rattle.mc_driver.specs.Noted.{IsOf, NotesCommand, NotesJuggling, exchanges_in}
 use Rattle.mc_stripe.specs.StripeState.{Stripe}
 
--- the histories of a store, by the numbers of its stripes
-abbrev pub Histories : Type 0
-Histories = ℕ → List StripeEvent
+-- the histories of a store: of its stripes, by their numbers from 0, and of its classes, by theirs from 1
+pub record Histories : Type 0 where
+  pub stripes : ℕ → List StripeEvent
+  pub classes : ClassNo → List ClassEvent
 
 -- the history of a stripe, where it is there
 abbrev pub history_of : Option Stripe → List StripeEvent
 history_of None = []
 history_of (Some stripe) = stripe.history
 
--- the histories of these stripes, which are numbered from 0
-abbrev pub histories_of : List Stripe → Histories
-histories_of stripes number = history_of (slice_get stripes number)
+-- the history of a class, where it is there
+abbrev pub class_history_of : Option ClassView → List ClassEvent
+class_history_of None = []
+class_history_of (Some class) = class.history
 
--- the answered command of an exchange, with this room
-abbrev pub did_of : Exchange → Room → Did
-did_of call room = record { who = call.who; command = call.command; moment = call.moment; reply = call.reply; room = room }
+-- the history of the class of this number, of classes that are numbered from 1
+abbrev pub class_history_in : List ClassView → ℕ → List ClassEvent
+class_history_in classes zero = []
+class_history_in classes (suc place) = class_history_of (slice_get classes place)
 
--- the history has an answered command of this exchange
-pub record Notes (history : List StripeEvent) (call : Exchange) : Type 0 where
-  pub before : List StripeEvent
-  pub room : Room
-  pub behind : List StripeEvent
-  pub split : history ≡ before ++ events.Did (did_of call room) ∷ behind
+-- the histories of these stripes and classes
+abbrev pub histories_of : List Stripe → List ClassView → Histories
+histories_of stripes classes =
+    record { stripes = λ number. history_of (slice_get stripes number); classes = λ number. class_history_in classes number.0 }
 
--- the number of a call's stripe, of so many: that of its key
-abbrev pub stripe_number : ℕ → Exchange → ℕ
-stripe_number stripes call = (stripe_of (key_of call.command) stripes).0
+-- the number of a command's stripe, of so many: that of its key
+abbrev pub stripe_number : ℕ → Command → ℕ
+stripe_number stripes command = (stripe_of (key_of command) stripes).0
 
--- each of these calls stands in the history of its stripe, with who made it, its command, its moment and its reply
-abbrev pub Stand : ℕ → Histories → List Exchange → Type 0
-Stand stripes histories [] = Unit {0}
-Stand stripes histories (call ∷ calls) = Notes (histories (stripe_number stripes call)) call × Stand stripes histories calls
+-- a call with its answer stands in the histories: a command in its stripe's, juggling in its class's
+abbrev pub StandsAs : Config → Histories → Who → ℕ → Call → Answer → Type 0
+StandsAs config histories who moment (Asks command) (Replied reply) =
+    NotesCommand (histories.stripes (stripe_number config.stripes command)) who command moment reply
+StandsAs config histories who moment (Juggles class) (Moved moves) = NotesJuggling config (histories.classes class) who class moment moves
+StandsAs config histories who moment (Asks command) (Moved moves) = ⊥
+StandsAs config histories who moment (Juggles class) (Replied reply) = ⊥
 
--- those of these calls that are of one stripe, of so many, in order
+-- an exchange stands in the histories, with who made it, its call, its moment and its answer
+abbrev pub Stands : Config → Histories → Exchange → Type 0
+Stands config histories call = StandsAs config histories call.who call.moment call.call call.answer
+
+-- each of these does
+abbrev pub Stand : Config → Histories → List Exchange → Type 0
+Stand config histories [] = Unit {0}
+Stand config histories (call ∷ calls) = Stands config histories call × Stand config histories calls
+
+-- whether a call is a command of this stripe, of so many
+abbrev pub is_command_at : ℕ → ℕ → Call → Bool
+is_command_at stripes number (Asks command) = nat_eq (stripe_number stripes command) number
+is_command_at stripes number (Juggles class) = false
+
+-- those of these calls that are commands of one stripe, of so many, in order
 abbrev pub calls_at : ℕ → ℕ → List Exchange → List Exchange
-calls_at stripes number calls = filter (λ call. nat_eq (stripe_number stripes call) number) calls
+calls_at stripes number calls = filter (λ call. is_command_at stripes number call.call) calls
 
--- the calls of one caller that a history notes, oldest first
+-- the calls of one caller that a stripe's history notes, oldest first
 abbrev pub calls_by : ℕ → List StripeEvent → List Exchange
 calls_by caller history = filter (λ call. nat_eq call.who.caller caller) (exchanges_in history)
 
--- of this caller the history of each stripe notes just those of these calls that are of the stripe
+-- of this caller the history of each stripe notes just those of these calls that are the stripe's commands
 pub record AreOnly (stripes caller : ℕ) (histories : Histories) (calls : List Exchange) : Type 0 where
-  pub at : (number : ℕ) → number < stripes → calls_by caller (histories number) ≡ calls_at stripes number calls
+  pub at : (number : ℕ) → number < stripes → calls_by caller (histories.stripes number) ≡ calls_at stripes number calls
 
--- the history of each stripe is that of those of these calls that are of the stripe, and of nothing else
-pub record AreAll (stripes : ℕ) (histories : Histories) (calls : List Exchange) : Type 0 where
-  pub at : (number : ℕ) → number < stripes → IsOf (histories number) (calls_at stripes number calls)
+-- the history of each stripe notes just those of these calls that are the stripe's commands, and all there is the caller's
+pub record AreAll (stripes caller : ℕ) (histories : Histories) (calls : List Exchange) : Type 0 where
+  pub at : (number : ℕ) → number < stripes → IsOf caller (histories.stripes number) (calls_at stripes number calls)
 
 -- what is known of a caller's calls where nobody else makes any: they stand, of the caller there are only these, and
 -- of anyone there are only these
-pub record AreAlone (stripes caller : ℕ) (histories : Histories) (calls : List Exchange) : Type 0 where
-  pub stand : Stand stripes histories calls
-  pub only : AreOnly stripes caller histories calls
-  pub all : AreAll stripes histories calls
+pub record AreAlone (config : Config) (caller : ℕ) (histories : Histories) (calls : List Exchange) : Type 0 where
+  pub stand : Stand config histories calls
+  pub only : AreOnly config.stripes caller histories calls
+  pub all : AreAll config.stripes caller histories calls

@@ -2,6 +2,7 @@
 ghost use Rattle.std.specs.Prelude.{◌≡◌};
 ghost use Rattle.mc_driver.specs.declared.fault.RunFault.TheVariants as faults;
 
+use mc_item::NoMemory;
 use std::alloc::AllocError;
 
 /// Why no script was run.
@@ -19,6 +20,14 @@ impl From<AllocError> for RunFault {
     ghost from_gives = { λ _ e. e ≡ faults.NoMemory };
 
     fn from(_e: AllocError) -> RunFault {
+        RunFault::NoMemory
+    }
+}
+
+impl From<NoMemory> for RunFault {
+    ghost from_gives = { λ _ e. e ≡ faults.NoMemory };
+
+    fn from(_e: NoMemory) -> RunFault {
         RunFault::NoMemory
     }
 }

@@ -20,8 +20,11 @@ Each line but those of get, gets, quit and directives may have the word noreply 
 then nothing is printed for it, not even what is wrong with it.
 
 Directives stand in the place of a command:
-  %at <second>  sets the moment, at first 1000, for the commands that follow; it has no reply
-  %next         ends the script, as quit does
+  %at <second>      sets the moment, at first 1000, for what follows; it has no reply
+  %juggle <class>   works on the lists of a slab class, and prints JUGGLED, how many entries it
+  %juggle all       reclaimed, and how many it moved; of all classes it prints the sums
+  %next             ends the script, as quit does
+Slab classes are numbered from 1, in the order of their sizes.
 
 Limits:
   key           1 to 250 bytes, none of them NUL, LF, CR or space
@@ -33,8 +36,14 @@ Limits:
   delta         below 2^64, as a cas number
   moment        0 to 2^62
 
-The history keeps an event for each command that is answered, one for each key of a get, and an
-event for each item that is found dead. It is full when it has as many as --events allows.
+An item has a chunk of the smallest slab class that holds 64 bytes, its key and its value. Where
+that class has no free chunk, one is taken from an item near the tail of the class's lists; where
+none can be taken, the reply is SERVER_ERROR out of memory storing object.
+
+There is a history of all commands, and one of each slab class. The first keeps an event for each
+command that is answered, one for each key of a get, for each item that goes since it is dead or its
+chunk is taken, and for each mark that is cleared; that of a class for each entry that comes, moves
+or goes, and one or two for each %juggle. Each may have as many events as --events allows.
 
 Exit statuses, and the lines on standard error:
   0  all went well, or help or the version was printed

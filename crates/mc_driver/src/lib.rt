@@ -8,7 +8,6 @@ mod memory;
 mod plans;
 mod program;
 mod running;
-mod session;
 mod words;
 
 pub use fault::RunFault;

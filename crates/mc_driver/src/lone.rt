@@ -1,81 +1,105 @@
-//! A caller that is alone with one stripe, as what answers its commands.
-ghost use Rattle.std.specs.Prelude.{◌≡◌, ◌^◌, ◌≤◌, length};
-ghost use Rattle.mc_driver.specs.Session.{IsReadyAt};
+//! A caller that is alone with a store, as what answers its calls.
+ghost use Rattle.std.specs.Prelude.{◌≡◌, ◌<◌, ◌-◌, ◌^◌, IfOk, OnOk, IsErrOf};
+ghost use Rattle.mc_item.specs.declared.fault.Fault.TheVariants.{HistoryFull};
 
-use crate::session::Session;
-use mc_item::{Command, Fault, Reply};
+use mc_item::{ClassNo, Command, Fault, Moves, Reply, Who};
+use mc_lone::LoneStore;
 use mc_script::Calls;
-use mc_stripe::StripeState;
 use std::alloc::Global;
-use std::marker::Model;
 use std::sync::Wait;
 
-/// A caller that is alone with one stripe.
+/// A caller that is alone with a store. Its turns are counted from 0, and the place of its last command's answer in the
+/// stripe's history is kept.
 #[derive(Drop)]
 pub(crate) struct Lone {
-    session: Session,
-}
-
-impl Model for Lone {
-    ghost use Rattle.mc_driver.specs.Session.{IsReady};
-    ghost use Rattle.mc_driver.specs.declared.session.Session.{Session};
-
-    ghost Value = { Session };
-
-    ghost view = { λ l. l.session };
-
-    ghost invariant = { λ l. IsReady l.session };
+    alloc: Global,
+    store: LoneStore,
+    caller: u32,
+    turn: u64,
+    last: u64,
 }
 
 impl Lone {
-    /// A caller before its first turn at a stripe that is the only one.
-    pub fn new(alloc: Global, stripe: StripeState, caller: u32) -> Lone
-        requires { IsReadyAt stripe 0 0 }
-        ensures { (result.stripe ≡ stripe) × (result.caller ≡ caller) × (result.turn ≡ 0) }
+    /// A caller before its first turn.
+    pub fn new(alloc: Global, store: LoneStore, caller: u32) -> Lone
+        ensures store { result.store ≡ store }
+        ensures caller { (result.caller ≡ caller) × (result.turn ≡ 0) }
     {
         Lone {
-            session: Session::new(alloc, stripe, caller),
+            alloc,
+            store,
+            caller,
+            turn: 0,
+            last: 0,
         }
     }
 
-    /// The stripe, as the caller leaves it.
-    pub fn into_stripe(self) -> StripeState
-        ensures { result ≡ self.stripe }
+    /// The store, as the caller leaves it.
+    pub fn into_store(self) -> LoneStore
+        ensures { result ≡ self.store }
     {
-        self.session.into_stripe()
+        self.store
+    }
+
+    // The caller's turn. Nobody has had 2^64 - 1 turns; who had would find no memory for one more.
+    fn who(&self) -> Result<Who, Fault>
+        ensures who { IfOk result (λ who. who ≡ record { caller = self.now.caller; turn = self.now.turn }) }
+        ensures left { OnOk result (self.now.turn < 2 ^ 64 - 1) }
+        ensures full { IsErrOf result HistoryFull → ⊥ }
+    {
+        if self.turn == u64::MAX {
+            return Err(Fault::NoMemory);
+        }
+        Ok(Who {
+            caller: self.caller,
+            turn: self.turn,
+        })
     }
 }
 
 impl Calls for Lone {
-    ghost use Rattle.std.specs.Prelude.{◌≤◌, ◌∷◌, [], ℕ, length};
-    ghost use Rattle.mc_item.specs.declared.answer.Site.{Site};
-    ghost use Rattle.mc_driver.specs.Noted.{AreTurns};
-    ghost use Rattle.mc_driver.specs.Stand.{AreAlone, histories_of};
-    ghost use Rattle.mc_stripe.specs.StripeState.{last_reply};
+    ghost use Rattle.std.specs.List.{slice_get};
+    ghost use Rattle.mc_driver.specs.Caller.{HasClass, IsCallable, Place, lone_histories, place_of};
+    ghost use Rattle.mc_driver.specs.Stand.{AreAlone};
+    ghost use Rattle.mc_lone.specs.Commands.{IsShort};
+    ghost use Rattle.mc_stripe.specs.StripeState.{reply_noted};
 
-    ghost Place = { Site × ℕ };
+    ghost Place = { Place };
 
-    ghost place = { λ s. (s.stripe.site, s.stripe.limit) };
+    ghost place = { λ s. place_of s.store };
+
+    ghost has_class = { HasClass };
 
     ghost caller = { λ s. s.caller };
 
     ghost turn = { λ s. s.turn };
 
-    ghost notes = { λ s calls. AreAlone 1 s.caller (histories_of (s.stripe ∷ [])) calls };
+    ghost notes = { λ s calls. AreAlone s.store.config s.caller (lone_histories s.store) calls };
 
-    ghost last = { λ s. last_reply s.stripe.history };
+    ghost last = { λ s. reply_noted (slice_get s.store.stripe.history s.last) };
 
-    ghost is_full = { λ s. s.stripe.limit ≤ length s.stripe.history };
+    ghost is_full = { λ s. IsShort s.store.stripe s.store.classes };
 
-    ghost may_call = { λ s. AreTurns s.stripe.history };
+    ghost may_call = { λ s. IsCallable s.store };
 
     #[inline(always)]
     fn command(&mut self, _rt: &impl Wait, command: Command, moment: u64) -> Result<(), Fault> {
-        self.session.call(command, moment)
+        let who = self.who()?;
+        self.last = self.store.command(self.alloc, who, command, moment)?;
+        self.turn += 1;
+        Ok(())
+    }
+
+    fn juggle(&mut self, _rt: &impl Wait, class: ClassNo, moment: u64) -> Result<Moves, Fault> {
+        let who = self.who()?;
+        self.store.law(class);
+        let moves = self.store.juggle(self.alloc, who, class, moment)?;
+        self.turn += 1;
+        Ok(moves)
     }
 
     #[inline(always)]
     fn reply(&self) -> &Reply {
-        self.session.reply()
+        self.store.stripe().reply_at(self.last).unwrap()
     }
 }
