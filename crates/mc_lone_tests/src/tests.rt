@@ -2,6 +2,8 @@
 ghost use Rattle.std.specs.Prelude.{◌≡◌, IfOk};
 ghost use Rattle.mc_item.specs.Config.{IsBounded, IsSound};
 
+mod commands;
+
 use mc_item::{ClassEvent, ClassNo, Config, Moves, Numbers, Who};
 use mc_lone::LoneStore;
 use std::alloc::Global;
