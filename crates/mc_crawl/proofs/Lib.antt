@@ -1,0 +1,3 @@
+pub mod SnapshotLemmas
+pub mod CrawlLemmas
+pub mod CrawlCountLemmas

@@ -1,0 +1,4 @@
+pub mod CrawlKind
+pub mod CrawlCount
+pub mod Crawl
+pub mod Snapshot

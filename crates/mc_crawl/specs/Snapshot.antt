@@ -1,0 +1,25 @@
+-- The links of a class's lists, as a crawl takes them down (own).
+use Rattle.std.specs.Prelude.{ℕ, ◌++◌, List, map, reverse}
+use Rattle.mc_item.specs.declared.item.ClassNo.{ClassNo}
+use Rattle.mc_item.specs.declared.item.Link.{Link}
+use Rattle.mc_item.specs.declared.lists.Entry.{Entry}
+use Rattle.mc_item.specs.declared.lists.Seg.{Seg}
+use Rattle.mc_item.specs.declared.lists.Seg.TheVariants.{Hot, Warm, Cold, Temp}
+use Rattle.mc_rule.specs.Lists.{list_of, lists_of}
+use Rattle.mc_segment.specs.ClassState.{ClassView}
+
+-- the link of an entry of a class
+abbrev pub link_of : ClassNo → Entry → Link
+link_of class e = record { class = class; number = e.number }
+
+-- the links of a list's entries, from its tail
+abbrev pub links_from_tail : ClassNo → List Entry → List Link
+links_from_tail class es = map (link_of class) (reverse es)
+
+-- the links of a segment of a class, from its tail
+abbrev pub links_in : ClassView → Seg → List Link
+links_in c s = links_from_tail c.number (list_of (lists_of c.history) s)
+
+-- the links of all entries of a class: those of HOT, of WARM, of COLD and of TEMP
+abbrev pub links_of : ClassView → List Link
+links_of c = ((links_in c Hot ++ links_in c Warm) ++ links_in c Cold) ++ links_in c Temp

@@ -1,0 +1,112 @@
+//! The crawl of one link.
+ghost use Rattle.std.specs.Prelude.{◌≡◌, ◌+◌, ◌++◌, ◌∷◌, [], ℕ, IfOk, IfErr, OnOk, OnErr};
+ghost use Rattle.mc_rule.specs.Lists.{lists_of};
+ghost use Rattle.mc_rule.specs.Lawful.{IsListed};
+ghost use Rattle.mc_segment.specs.ClassState.{with_room};
+ghost use Rattle.mc_pull.specs.Growth.{Grows, Kept};
+ghost use Rattle.mc_pull.specs.Looks.{answer, events_if, IsJudgedIf};
+ghost use Rattle.mc_pull.specs.Question.{IsClassOf};
+ghost use Rattle.mc_pull.specs.Settled.{class_with};
+ghost use Rattle.mc_pull.specs.Walker.{walker_of};
+ghost use Rattle.mc_crawl.specs.Crawl.{crawl, asked_by, IsCrawled, Reclaims};
+ghost use Rattle.mc_crawl.specs.CrawlCount.{counted, count_of, IsBalanced, MayCount};
+ghost use Rattle.mc_crawl.specs.CrawlKind.{IsCounted};
+ghost use Rattle.mc_crawl.specs.declared.kind.Kind.{Kind};
+ghost use Rattle.mc_crawl.specs.declared.kind.Kind.TheVariants as kinds;
+
+use crate::kind::{Kind, count, kind_of};
+use mc_item::{Config, Fault, Histogram, Link, StripeNo, Who, stripe_of};
+use mc_pull::{Gate, Judge, Judged, Look};
+use mc_segment::ClassState;
+use std::alloc::Global;
+
+// One entry is looked at, and asked only whether its item is dead.
+fn look_at<G: Gate>(
+    alloc: Global,
+    class: &mut ClassState,
+    stripe: StripeNo,
+    number: u64,
+    who: Who,
+    moment: u64,
+    config: &Config,
+    gate: &mut G,
+) -> Result<Option<Judged>, Fault>
+    requires listed { IsListed number (lists_of class.old.history) }
+    requires config { IsClassOf config.now class.old }
+    requires gate { G.serves gate.old config.now }
+    ensures answer { IfOk result (λ judged. G.answers gate.new ≡ G.answers gate.old ++ answer stripe judged ∷ []) }
+    ensures class { IfOk result (λ judged. class.new ≡ class_with class.old (events_if class.old (asked_by (crawl who number moment config.now)) judged) class.new.room) }
+    ensures judged { IfOk result (λ judged. IsJudgedIf config.now stripe class.old (asked_by (crawl who number moment config.now)) judged) }
+    ensures err { OnErr result ((class.new ≡ with_room class.old class.new.room) × (G.answers gate.new ≡ G.answers gate.old)) }
+    ensures fault { IfErr result (G.faults gate.new class.new) }
+    ensures holds { G.reference gate.new ≡ G.reference gate.old }
+    ensures serves { G.serves gate.new config.now }
+    ensures kept { Kept (G.keeps (walker_of class.old who moment)) gate.old class.old.history gate.new class.new.history }
+{
+    let judge = Judge::Dead;
+    let mut look = Look::new(alloc, class, who, number, &judge, moment, config);
+    gate.visit(stripe, &mut look)?;
+    let judged = look.judged;
+    Ok(judged)
+}
+
+// What one link counts as: its entry, where it is in a list, is looked at.
+fn kind_at<G: Gate>(
+    alloc: Global,
+    class: &mut ClassState,
+    number: u64,
+    who: Who,
+    moment: u64,
+    config: &Config,
+    gate: &mut G,
+) -> Result<Kind, Fault>
+    requires config { IsClassOf config.now class.old }
+    requires gate { G.serves gate.old config.now }
+    ensures crawled { IfOk result (IsCrawled (crawl who number moment config.now) class.old class.new (G.answers gate.old) (G.answers gate.new)) }
+    ensures counted { IfOk result IsCounted }
+    ensures err { OnErr result ((class.new ≡ with_room class.old class.new.room) × (G.answers gate.new ≡ G.answers gate.old)) }
+    ensures fault { IfErr result (G.faults gate.new class.new) }
+    ensures holds { G.reference gate.new ≡ G.reference gate.old }
+    ensures serves { G.serves gate.new config.now }
+    ensures kept { Kept (G.keeps (walker_of class.old who moment)) gate.old class.old.history gate.new class.new.history }
+{
+    let Some(entry) = class.entry(number) else {
+        return Ok(Kind::Gone);
+    };
+    let stripe = stripe_of(&entry.key, config.stripes);
+    let judged = look_at(alloc, class, stripe, number, who, moment, config, gate)?;
+    Ok(kind_of(judged, moment))
+}
+
+/// Crawls one link of a class's snapshot. Where its number is in a list still, the stripe of the entry's key is asked for
+/// once, and an item that is dead at the moment goes with its entry. The histogram counts the link as seen and as one
+/// kind more: gone, passed, reclaimed, or by the seconds that its item has to live. No count may pass 2^64 - 1. The
+/// faults are the gate's; the histogram and both histories are then as they were.
+pub fn crawl_one<G: Gate>(
+    alloc: Global,
+    class: &mut ClassState,
+    link: Link,
+    who: Who,
+    moment: u64,
+    histogram: &mut Histogram,
+    config: &Config,
+    gate: &mut G,
+) -> Result<(), Fault>
+    requires config { IsClassOf config.now class.old }
+    requires gate { G.serves gate.old config.now }
+    requires counts { MayCount histogram.old }
+    ensures crawled { OnOk result ((k : Kind) × IsCrawled (crawl who link.number moment config.now) class.old class.new (G.answers gate.old) (G.answers gate.new) k × (histogram.new ≡ counted k histogram.old)) }
+    ensures seen { OnOk result (histogram.new.seen ≡ histogram.old.seen + 1) }
+    ensures balanced { IsBalanced histogram.old → IsBalanced histogram.new }
+    ensures reclaims { OnOk result (Reclaims who moment class.old.history class.new.history histogram.old.reclaimed histogram.new.reclaimed) }
+    ensures err { OnErr result ((class.new ≡ with_room class.old class.new.room) × (G.answers gate.new ≡ G.answers gate.old) × (histogram.new ≡ histogram.old)) }
+    ensures grows { Grows class.old class.new }
+    ensures fault { IfErr result (G.faults gate.new class.new) }
+    ensures holds { G.reference gate.new ≡ G.reference gate.old }
+    ensures serves { G.serves gate.new config.now }
+    ensures kept { Kept (G.keeps (walker_of class.old who moment)) gate.old class.old.history gate.new class.new.history }
+{
+    let kind = kind_at(alloc, class, link.number, who, moment, config, gate)?;
+    count(histogram, kind);
+    Ok(())
+}

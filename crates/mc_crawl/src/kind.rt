@@ -1,0 +1,90 @@
+//! What a crawl counts a link as.
+ghost use Rattle.std.specs.Prelude.{◌≡◌};
+ghost use Rattle.mc_crawl.specs.CrawlCount.{counted, IsBalanced, MayCount};
+ghost use Rattle.mc_crawl.specs.CrawlKind as words;
+ghost use Rattle.mc_crawl.specs.CrawlKind.{kind_told, IsCounted};
+
+use mc_item::{Expiry, Histogram};
+use mc_pull::{Done, Judged};
+
+/// What a crawl counts a link as.
+#[derive(Clone, Copy, Debug, PartialEq, Eq)]
+pub enum Kind {
+    /// Its number is in no list of the class.
+    Gone,
+    /// Its stripe was not had, or holds no item of this chunk.
+    Passed,
+    /// Its item was dead, and went.
+    Reclaimed,
+    /// Its item never dies.
+    NoExpiry,
+    /// Its item has an hour or more to live.
+    HourPlus,
+    /// Its item has this many whole minutes to live, fewer than 60.
+    Minute(u64),
+}
+
+// The seconds of the longest life that isn't an hour (crawler.c).
+const BELOW_AN_HOUR: u64 = 3599;
+
+// The kind of an item that is alive, by its expiry.
+fn kind_alive(expiry: Expiry, moment: u64) -> Kind
+    ensures value { result ≡ words.kind_alive moment expiry }
+    ensures counted { IsCounted result }
+{
+    let Expiry::At(end) = expiry else {
+        return Kind::NoExpiry;
+    };
+    let left = end.saturating_sub(moment);
+    if left > BELOW_AN_HOUR {
+        Kind::HourPlus
+    } else {
+        Kind::Minute(left / 60)
+    }
+}
+
+// The kind of an entry, by what was done with it.
+fn kind_done(done: Done, moment: u64) -> Kind
+    ensures value { result ≡ words.kind_done moment done }
+    ensures counted { IsCounted result }
+{
+    match done {
+        Done::Reclaimed => Kind::Reclaimed,
+        Done::Alive(expiry) => kind_alive(expiry, moment),
+        Done::Stranger => Kind::Passed,
+        Done::ToWarm => Kind::Passed,
+        Done::WithinWarm => Kind::Passed,
+        Done::ToCold => Kind::Passed,
+        Done::Evicted => Kind::Passed,
+        Done::Stayed => Kind::Passed,
+    }
+}
+
+// The kind of an entry, by what a gate has told.
+pub(crate) fn kind_of(judged: Option<Judged>, moment: u64) -> Kind
+    ensures value { result ≡ kind_told moment judged }
+    ensures counted { IsCounted result }
+{
+    match judged {
+        None => Kind::Passed,
+        Some(judged) => kind_done(judged.done, moment),
+    }
+}
+
+// Counts one more link that was seen, as this kind.
+pub(crate) fn count(histogram: &mut Histogram, kind: Kind)
+    requires may { MayCount histogram.old }
+    requires counted { IsCounted kind }
+    ensures value { histogram.new ≡ counted kind histogram.old }
+    ensures balanced { IsBalanced histogram.old → IsBalanced histogram.new }
+{
+    histogram.seen += 1;
+    match kind {
+        Kind::Gone => histogram.gone += 1,
+        Kind::Passed => histogram.passed += 1,
+        Kind::Reclaimed => histogram.reclaimed += 1,
+        Kind::NoExpiry => histogram.no_expiry += 1,
+        Kind::HourPlus => histogram.hour_plus += 1,
+        Kind::Minute(minute) => histogram.minutes[minute as usize] += 1,
+    }
+}
