@@ -1,3 +1,4 @@
 pub mod SnapshotLemmas
 pub mod CrawlLemmas
 pub mod CrawlCountLemmas
+pub mod CrawlKindLemmas

@@ -4,8 +4,12 @@
 
 mod crawling;
 mod kind;
+mod laws;
+mod lone;
 mod snapping;
 
 pub use crawling::crawl_one;
+pub use laws::{kinds_add_up, kinds_go_by_minutes};
+pub use lone::crawl_lone;
 pub use mc_item::Histogram;
 pub use snapping::snapshot;

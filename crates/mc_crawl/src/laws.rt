@@ -1,0 +1,30 @@
+//! Laws of what a crawl counts: contracts alone.
+ghost use Rattle.std.specs.Prelude.{◌≡◌, ◌+◌, ◌-◌, ◌*◌, ◌<◌, ◌≤◌, ◌^◌, ◌↔◌, ℕ, true, length};
+ghost use Rattle.mc_item.specs.Counts.{FitsTogether, added, no_counts};
+ghost use Rattle.mc_item.specs.Item.{is_dead};
+ghost use Rattle.mc_item.specs.declared.counts.Histogram.{Histogram};
+ghost use Rattle.mc_item.specs.declared.item.Item.{Item};
+ghost use Rattle.mc_crawl.specs.CrawlCount.{counted, count_of, IsBalanced, MayCount};
+ghost use Rattle.mc_crawl.specs.CrawlKind.{kind_left, kind_of_item, IsCounted};
+ghost use Rattle.mc_crawl.specs.declared.kind.Kind.{Kind};
+ghost use Rattle.mc_crawl.specs.declared.kind.Kind.TheVariants as kinds;
+
+/// What was seen is the sum of the counts of all kinds: in a histogram of nothing, with one link more, and in the sum of
+/// two, where each kind is counted as often as in both. Where it is, one link more fits as soon as one more fits into
+/// what was seen, and the sum of two fits as soon as their sums of what was seen do.
+pub fn kinds_add_up()
+    ensures none { IsBalanced no_counts }
+    ensures more { (k : Kind) (h : Histogram) → IsCounted k → length h.minutes ≡ 60 → IsBalanced h → IsBalanced (counted k h) }
+    ensures sum { (a b : Histogram) → length a.minutes ≡ length b.minutes → IsBalanced a → IsBalanced b → IsBalanced (added a b) }
+    ensures each { (k : Kind) (a b : Histogram) → length a.minutes ≡ length b.minutes → count_of k (added a b) ≡ count_of k a + count_of k b }
+    ensures few { (h : Histogram) → IsBalanced h → h.seen + 1 < 2 ^ 64 → MayCount h }
+    ensures fits { (a b : Histogram) → IsBalanced a → IsBalanced b → a.seen + b.seen < 2 ^ 64 → FitsTogether a b }
+{}
+
+/// An item counts as reclaimed just where it is dead, and else by the whole minutes that it has to live, or as one with
+/// an hour or more.
+pub fn kinds_go_by_minutes()
+    ensures dead { (moment : ℕ) (item : Item) → (kind_of_item moment item ≡ kinds.Reclaimed) ↔ (is_dead item moment ≡ true) }
+    ensures minute { (left minute : ℕ) → minute < 60 → 60 * minute ≤ left → left < 60 * (minute + 1) → kind_left left ≡ kinds.Minute minute }
+    ensures hour { (left : ℕ) → 60 * 60 ≤ left → kind_left left ≡ kinds.HourPlus }
+{}

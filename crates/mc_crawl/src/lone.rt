@@ -1,0 +1,46 @@
+//! The crawl of one link with a gate that is lent one stripe.
+ghost use Rattle.std.specs.Prelude.{◌≡◌, ◌+◌, IfErr, OnOk, OnErr};
+ghost use Rattle.mc_segment.specs.ClassState.{with_room};
+ghost use Rattle.mc_pull.specs.Growth.{Grows};
+ghost use Rattle.mc_pull.specs.Lone.{Serves, Walked};
+ghost use Rattle.mc_pull.specs.Question.{IsClassOf};
+ghost use Rattle.mc_pull.specs.Refusal.{MayFail};
+ghost use Rattle.mc_pull.specs.Walker.{walker_of};
+ghost use Rattle.mc_crawl.specs.Crawl.{crawl, IsCrawled, Reclaims};
+ghost use Rattle.mc_crawl.specs.CrawlCount.{counted, IsBalanced, MayCount};
+ghost use Rattle.mc_crawl.specs.declared.kind.Kind.{Kind};
+
+use crate::crawling::crawl_one;
+use mc_item::{Config, Fault, Histogram, Link, Who};
+use mc_pull::Lone;
+use mc_segment::ClassState;
+use std::alloc::Global;
+
+/// Crawls one link, as `crawl_one` does. It says of this gate what the call for any gate can't: that it holds the same
+/// stripe, which has only events of this crawl more, and what agreed with it agrees still.
+pub fn crawl_lone(
+    alloc: Global,
+    class: &mut ClassState,
+    link: Link,
+    who: Who,
+    moment: u64,
+    histogram: &mut Histogram,
+    config: &Config,
+    gate: &mut Lone<'_>,
+) -> Result<(), Fault>
+    requires config { IsClassOf config.now class.old }
+    requires gate { Serves gate.old.number.0 gate.old.stripe.now config.now }
+    requires counts { MayCount histogram.old }
+    ensures crawled { OnOk result ((k : Kind) × IsCrawled (crawl who link.number moment config.now) class.old class.new gate.old.answers.now.items gate.new.answers.now.items k × (histogram.new ≡ counted k histogram.old)) }
+    ensures seen { OnOk result (histogram.new.seen ≡ histogram.old.seen + 1) }
+    ensures balanced { IsBalanced histogram.old → IsBalanced histogram.new }
+    ensures reclaims { OnOk result (Reclaims who moment class.old.history class.new.history histogram.old.reclaimed histogram.new.reclaimed) }
+    ensures err { OnErr result ((class.new ≡ with_room class.old class.new.room) × (gate.new.answers.now.items ≡ gate.old.answers.now.items) × (histogram.new ≡ histogram.old)) }
+    ensures grows { Grows class.old class.new }
+    ensures fault { IfErr result (MayFail class.new gate.new.stripe.now) }
+    ensures same_reference { gate.new.stripe.ghost_name ≡ gate.old.stripe.ghost_name }
+    ensures walked { Walked (walker_of class.old who moment) gate.old.stripe.now class.old.history gate.new.stripe.now class.new.history }
+    ensures serves { Serves gate.new.number.0 gate.new.stripe.now config.now }
+{
+    crawl_one(alloc, class, link, who, moment, histogram, config, gate)
+}
