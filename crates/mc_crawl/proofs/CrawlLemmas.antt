@@ -14,7 +14,7 @@ use Rattle.mc_item.specs.Item.{is_dead}
 use Rattle.mc_item.specs.Measure.{stripe_of}
 use Rattle.mc_rule.specs.Lists.{Lists, lists_of}
 use Rattle.mc_rule.specs.Segment.{Rule}
-use Rattle.mc_segment.specs.ClassState.{ClassView, with_room}
+use Rattle.mc_segment.specs.ClassState.{ClassView}
 use Rattle.mc_segment.specs.Entries.{entry_of}
 use Rattle.mc_stripe.specs.StripeState.{cache_now}
 use Rattle.mc_pull.specs.declared.judge.Done.{Done}
@@ -29,7 +29,7 @@ use Rattle.mc_pull.specs.Looks.{IsJudgedIf, answer, events_if}
 use Rattle.mc_pull.specs.Settled.{class_events, class_with}
 use Rattle.mc_crawl.specs.declared.kind.Kind.{Kind}
 use Rattle.mc_crawl.specs.declared.kind.Kind.TheVariants as kinds
-use Rattle.mc_crawl.specs.Crawl.{AreReclaims, Crawl, IsCrawled, IsGone, IsKindIf, IsLook, IsLookIf, Reclaims, asked_by}
+use Rattle.mc_crawl.specs.Crawl.{AreReclaims, Crawl, IsCrawled, IsKindIf, IsLookIf, Reclaims, asked_by}
 use Rattle.mc_crawl.specs.CrawlCount.{counted}
 use Rattle.mc_crawl.specs.CrawlKind.{kind_alive, kind_done, kind_if, kind_told, kind_with}
 

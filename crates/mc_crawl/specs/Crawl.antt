@@ -36,7 +36,7 @@ crawl who number moment config = record { who = who; number = number; moment = m
 abbrev pub asked_by : Crawl → Question
 asked_by q = question q.who q.number Dead q.moment
 
--- an entry counts as this kind by a stripe that was had: by the item that a state of this stripe holds, of which the answer was told
+-- an entry counts as this kind by a stripe that was had: by the item that the state holds from which the answer was told
 pub record IsKindBy (q : Crawl) (stripe : StripeNo) (c : ClassView) (j : Judged) (k : Kind) : Type 0 where
   pub judged : IsJudged q.config stripe c (asked_by q) j
   pub kind_is : k ≡ kind_of c (cache_now judged.stripe) q.number q.moment
@@ -64,7 +64,7 @@ abbrev pub IsLookIf : Crawl → ClassView → ClassView → List Answer → List
 IsLookIf q c c_new xs ys k None = IsGone c c_new xs ys k
 IsLookIf q c c_new xs ys k (Some e) = IsLook q c c_new xs ys k e
 
--- a link was crawled: the class was such and is such now, a gate's answers likewise, and the link counts as this kind
+-- a link was crawled: what the class was and is now, what a gate's answers were and are, and as which kind it counts
 abbrev pub IsCrawled : Crawl → ClassView → ClassView → List Answer → List Answer → Kind → Type 0
 IsCrawled q c c_new xs ys k = IsLookIf q c c_new xs ys k (entry_of q.number (lists_of c.history))
 
@@ -83,7 +83,8 @@ abbrev pub AreReclaims : Who → ℕ → List ClassEvent → Type 0
 AreReclaims who moment [] = Unit {0}
 AreReclaims who moment (e ∷ es) = IsReclaim who moment e × AreReclaims who moment es
 
--- a class's history has just as many events more as the count of what was reclaimed has risen, each a `Reclaimed` of this call and moment
+-- a class's history has just as many events more as the count of what was reclaimed has risen, each a `Reclaimed` by
+-- this call and of this moment
 pub record Reclaims (who : Who) (moment : ℕ) (old new : List ClassEvent) (before after : ℕ) : Type 0 where
   pub events : List ClassEvent
   pub each : AreReclaims who moment events

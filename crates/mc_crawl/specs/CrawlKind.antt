@@ -30,7 +30,8 @@ kind_alive moment (At end) = kind_left (end - moment)
 abbrev pub kind_of_item : ℕ → Item → Kind
 kind_of_item moment item = if is_dead item moment then kinds.Reclaimed else kind_alive moment item.expiry
 
--- the kind of an entry by the item under its key, where there is one: an entry whose item is absent, or has another chunk, is passed
+-- the kind of an entry by the item under its key, where there is one: an entry whose item is absent, or has another
+-- chunk, is passed
 abbrev pub kind_if : ClassNo → ℕ → ℕ → Option Item → Kind
 kind_if class number moment None = kinds.Passed
 kind_if class number moment (Some item) = if has_link class number item then kind_of_item moment item else kinds.Passed
@@ -44,7 +45,7 @@ kind_with class cache number moment (Some e) = kind_if class number moment (cach
 abbrev pub kind_of : ClassView → Cache → ℕ → ℕ → Kind
 kind_of c cache number moment = kind_with c.number cache number moment (entry_of number (lists_of c.history))
 
--- the kind of an entry by what was done with it; who asks only whether an item is dead meets reclaimed, alive and stranger alone
+-- the kind of an entry by what was done with it; who asks only whether an item is dead meets the first three alone
 abbrev pub kind_done : ℕ → Done → Kind
 kind_done moment done.Reclaimed = kinds.Reclaimed
 kind_done moment (done.Alive expiry) = kind_alive moment expiry

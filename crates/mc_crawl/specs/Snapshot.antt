@@ -1,5 +1,5 @@
 -- The links of a class's lists, as a crawl takes them down (own).
-use Rattle.std.specs.Prelude.{ℕ, ◌++◌, List, map, reverse}
+use Rattle.std.specs.Prelude.{◌++◌, List, map, reverse}
 use Rattle.mc_item.specs.declared.item.ClassNo.{ClassNo}
 use Rattle.mc_item.specs.declared.item.Link.{Link}
 use Rattle.mc_item.specs.declared.lists.Entry.{Entry}

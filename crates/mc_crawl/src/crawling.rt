@@ -1,5 +1,5 @@
 //! The crawl of one link.
-ghost use Rattle.std.specs.Prelude.{◌≡◌, ◌+◌, ◌++◌, ◌∷◌, [], ℕ, IfOk, IfErr, OnOk, OnErr};
+ghost use Rattle.std.specs.Prelude.{◌≡◌, ◌+◌, ◌++◌, ◌∷◌, [], IfOk, IfErr, OnOk, OnErr};
 ghost use Rattle.mc_rule.specs.Lists.{lists_of};
 ghost use Rattle.mc_rule.specs.Lawful.{IsListed};
 ghost use Rattle.mc_segment.specs.ClassState.{with_room};
@@ -9,10 +9,9 @@ ghost use Rattle.mc_pull.specs.Question.{IsClassOf};
 ghost use Rattle.mc_pull.specs.Settled.{class_with};
 ghost use Rattle.mc_pull.specs.Walker.{walker_of};
 ghost use Rattle.mc_crawl.specs.Crawl.{crawl, asked_by, IsCrawled, Reclaims};
-ghost use Rattle.mc_crawl.specs.CrawlCount.{counted, count_of, IsBalanced, MayCount};
+ghost use Rattle.mc_crawl.specs.CrawlCount.{counted, IsBalanced, MayCount};
 ghost use Rattle.mc_crawl.specs.CrawlKind.{IsCounted};
 ghost use Rattle.mc_crawl.specs.declared.kind.Kind.{Kind};
-ghost use Rattle.mc_crawl.specs.declared.kind.Kind.TheVariants as kinds;
 
 use crate::kind::{Kind, count, kind_of};
 use mc_item::{Config, Fault, Histogram, Link, StripeNo, Who, stripe_of};

@@ -1,5 +1,5 @@
 //! Laws of what a crawl counts: contracts alone.
-ghost use Rattle.std.specs.Prelude.{◌≡◌, ◌+◌, ◌-◌, ◌*◌, ◌<◌, ◌≤◌, ◌^◌, ◌↔◌, ℕ, true, length};
+ghost use Rattle.std.specs.Prelude.{◌≡◌, ◌+◌, ◌*◌, ◌<◌, ◌≤◌, ◌^◌, ◌↔◌, ℕ, true, length};
 ghost use Rattle.mc_item.specs.Counts.{FitsTogether, added, no_counts};
 ghost use Rattle.mc_item.specs.Item.{is_dead};
 ghost use Rattle.mc_item.specs.declared.counts.Histogram.{Histogram};
