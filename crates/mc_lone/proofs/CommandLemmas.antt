@@ -164,26 +164,27 @@ need_sized config s cs need class together of is =
     (first, omega (arith, last, sizes, long))
 
 -- an item that is alive is visible
-visible_alive : (moment : ℕ) (found : Option Item) → IsAlive found moment → if_alive moment found ≡ found
+pub visible_alive : (moment : ℕ) (found : Option Item) → IsAlive found moment → if_alive moment found ≡ found
 visible_alive moment None alive = refl
 visible_alive moment (Some item) alive = ap (λ (b : Bool). if b then None else Some item) alive
+
+-- a stripe that is alone owns every key
+of_one : (n : ℕ) → n % 1 ≡ 0
+of_one n = omega arith
+
+pub owned_alone : (config : Config) (s : Stripe) (cs : List ClassView) → AreTogether config s cs → (key : List ℕ) → stripe_of key s.site.stripes ≡ record { 0 = s.site.stripe }
+owned_alone config s cs together key =
+    let one = together.made_with.stripes ∙ together.only in
+    ap (λ (n : ℕ). stripe_of key n) one ∙ (ap (λ (n : ℕ). record { 0 = n }) (of_one _) ∙ sym (ap (λ (n : ℕ). record { 0 = n }) together.first))
 
 -- a command on a stripe that is alone may be answered with a room that fits its plan's need
 module _ (config : Config) (s : Stripe) (cs : List ClassView) (who : Who) (command : Command) (moment : ℕ) (need : Need) (together : AreTogether config s cs) (early : moment ≤ 2 ^ 62)
     (alive : IsAlive ((cache_now s).items (key_of command)) moment) (of : need ≡ (visible_row s command moment).need) where
-  of_one : (n : ℕ) → n % 1 ≡ 0
-  of_one n = omega arith
-
-  owned : stripe_of (key_of command) s.site.stripes ≡ record { 0 = s.site.stripe }
-  owned =
-      let one = together.made_with.stripes ∙ together.only in
-      ap (λ (n : ℕ). stripe_of (key_of command) n) one ∙ (ap (λ (n : ℕ). record { 0 = n }) (of_one _) ∙ sym (ap (λ (n : ℕ). record { 0 = n }) together.first))
-
   row_is : (visible_row s command moment).need ≡ (row_of s.site (cache_now s).versions ((cache_now s).items (key_of command)) command moment).need
   row_is = ap (λ (o : Option Item). (row_of s.site (cache_now s).versions o command moment).need) (visible_alive moment ((cache_now s).items (key_of command)) alive)
 
   pub may_answer : (room : Room) → Fits need room s.history → MayAnswer s (call who command moment room)
-  may_answer room fits = record { stripe = owned; moment = early; alive = alive; fits = subst (λ (n : Need). Fits n room s.history) (of ∙ row_is) fits }
+  may_answer room fits = record { stripe = owned_alone config s cs together (key_of command); moment = early; alive = alive; fits = subst (λ (n : Need). Fits n room s.history) (of ∙ row_is) fits }
 
 -- burial and search lead up to an answer
 pub leads_up : (config : Config) (who : Who) (command : Command) (moment : ℕ) (s mid : Stripe) (walked : List StripeEvent) → KeepsSite s mid
@@ -196,7 +197,11 @@ leads_up config who command moment s mid walked site buried_is search = record {
   search = subst (λ (r : Row). IsSearch config who moment r.need walked) (buried_row s mid who command moment site buried_is) search;
 }
 
--- what a command left once it was looked for: burial and search, and what came behind
+-- that a stripe's new events lead up to a command
+abbrev pub LedUp : Config → Who → Command → ℕ → Stripe → Stripe → Type 0
+LedUp config who command moment s s_new = (before : List StripeEvent) × LeadsUp config who command moment s before × (s_new.history ≡ s.history ++ before)
+
+-- what a command left once it was looked for: burial and search
 module _ (config : Config) (who : Who) (command : Command) (moment : ℕ) (s mid last : Stripe) (site : KeepsSite s mid)
     (buried_is : mid.history ≡ s.history ++ burial who (key_of command) moment (dead_link ((cache_now s).items (key_of command)) moment)) (searched : Searched config who moment command mid last) where
   abbrev before : List StripeEvent
@@ -205,19 +210,24 @@ module _ (config : Config) (who : Who) (command : Command) (moment : ℕ) (s mid
   joined : last.history ≡ s.history ++ before
   joined = searched.2 ∙ (ap (λ (h : List StripeEvent). h ++ searched.0) buried_is ∙ append_assoc s.history (burial who (key_of command) moment (dead_link ((cache_now s).items (key_of command)) moment)) searched.0)
 
+  pub led_behind : LedUp config who command moment s last
+  led_behind = (before, leads_up config who command moment s mid searched.0 site buried_is searched.1, joined)
+
+-- a command was broken off, or answered, behind what leads up to it
+module _ (config : Config) (who : Who) (command : Command) (moment : ℕ) (s last : Stripe) (led : LedUp config who command moment s last) where
   pub cut_behind : (end : Stripe) → end.history ≡ last.history → IsCut config who command moment s end
-  cut_behind end same = record { before = before; led_up = inr (leads_up config who command moment s mid searched.0 site buried_is searched.1); history_is = same ∙ joined }
+  cut_behind end same = record { before = led.0; led_up = inr led.1; history_is = same ∙ led.2 }
 
   pub answered_behind : (end : Stripe) (room : Room) (place : ℕ) → ((cooling : Bool) × (end.history ≡ last.history ++ events_on_stripe last (call who command moment room) cooling)) → place ≡ length last.history
       → IsAnswered config who command moment s end place
   answered_behind end room place made place_is = record {
-    before = before;
-    led_up = leads_up config who command moment s mid searched.0 site buried_is searched.1;
+    before = led.0;
+    led_up = led.1;
     reply = (answer_to last (call who command moment room)).reply;
     room = room;
     cooled = made.0;
-    history_is = made.1 ∙ ap (λ (h : List StripeEvent). h ++ events_on_stripe last (call who command moment room) made.0) joined;
-    place_is = place_is ∙ ap (λ (h : List StripeEvent). length h) joined;
+    history_is = made.1 ∙ ap (λ (h : List StripeEvent). h ++ events_on_stripe last (call who command moment room) made.0) led.2;
+    place_is = place_is ∙ ap (λ (h : List StripeEvent). length h) led.2;
   }
 
 -- a command that was broken off before anything happened

@@ -4,5 +4,6 @@ pub mod StoreLemmas
 pub mod GrowLemmas
 pub mod PerformLemmas
 pub mod CommandLemmas
+pub mod ReadyLemmas
 pub mod NeededLemmas
 pub mod RoomLemmas

@@ -1,17 +1,19 @@
 -- Which of all classes a command needs, and when it may be made on them (own).
 use Rattle.std.specs.Prelude.{ℕ, ◌≡◌, ◌<◌, ◌≤◌, List, [], ◌∷◌, Option, Some, None, length, slice_index_or}
 use Rattle.mc_item.specs.Stripe.{link_of}
+use Rattle.mc_item.specs.declared.command.Command.{Command}
 use Rattle.mc_item.specs.declared.config.Config.{Config}
 use Rattle.mc_item.specs.declared.item.ClassNo.{ClassNo}
 use Rattle.mc_item.specs.declared.item.Link.{Link}
 use Rattle.mc_item.specs.declared.item.Who.{Who}
 use Rattle.mc_item.specs.declared.reply.Room.{Room}
 use Rattle.mc_segment.specs.ClassState.{ClassView}
+use Rattle.mc_stripe.specs.Plan.{IsHeld}
 use Rattle.mc_stripe.specs.StripeCalls.{KeepsSite}
 use Rattle.mc_stripe.specs.StripeState.{Stripe}
 use Rattle.mc_stripe.specs.declared.fate.Fate.{Fate}
 use Rattle.mc_stripe.specs.declared.fate.Fate.TheVariants as fates
-use Rattle.mc_pull.specs.Perform.{GivesRoom}
+use Rattle.mc_pull.specs.Perform.{GivesRoom, MayAnswer, call, fate_for}
 use Rattle.mc_lone.specs.Commands.{AllGrow}
 use Rattle.mc_lone.specs.LoneStore.{AreTogether}
 use Rattle.mc_lone.specs.declared.needed.Needed.{Needed}
@@ -60,3 +62,12 @@ pub record KeepsAll (config : Config) (s s_new : Stripe) (cs cs_new : List Class
   pub together : AreTogether config s_new cs_new
   pub site : KeepsSite s s_new
   pub grows : AllGrow cs cs_new
+
+-- a room and a fate are those of a command on stripe and classes: it may be answered so, the classes give the room, and the
+-- fate is what becomes of its key's chunks in it
+pub record IsReady (config : Config) (s : Stripe) (cs : List ClassView) (who : Who) (command : Command) (moment : ℕ) (room : Room) (fate : Fate) : Type 0 where
+  pub answer : MayAnswer s (call who command moment room)
+  pub sized : HasClassIf (length cs) (link_of room)
+  pub given : AllGive who room cs
+  pub fate_is : fate ≡ fate_for s (call who command moment room)
+  pub held : IsHeld config.sizes fate

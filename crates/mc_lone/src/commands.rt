@@ -1,27 +1,25 @@
-//! One command on a store: its key's dead item goes first, then a chunk is looked for where one is needed, then it is
-//! answered.
-ghost use Rattle.std.specs.Prelude.{◌≡◌, ◌≤◌, ◌^◌, ◌++◌, List, IfOk, OnOk, OnErr, IsErrOf, length};
+//! One command on a store. It is answered at once where it can be; else its key's dead item goes first, then a chunk is
+//! looked for where one is needed, then it is answered.
+ghost use Rattle.std.specs.Prelude.{◌≡◌, ◌≤◌, ◌^◌, ◌++◌, List, IfOk, OnOk, OnErr, IsErrOf};
 ghost use Rattle.mc_item.specs.Command.{key_of};
-ghost use Rattle.mc_item.specs.Stripe.{Fits, IsAlive, link_of};
-ghost use Rattle.mc_item.specs.declared.answer.Need.TheVariants as needs;
 ghost use Rattle.mc_item.specs.declared.fault.Fault.TheVariants.{HistoryFull};
 ghost use Rattle.mc_item.specs.declared.stripe_event.StripeEvent.{StripeEvent};
 ghost use Rattle.mc_stripe.specs.Plan.{dead_link, visible_row};
 ghost use Rattle.mc_stripe.specs.StripeCalls.{KeepsSite};
 ghost use Rattle.mc_stripe.specs.StripeState.{cache_now};
-ghost use Rattle.mc_pull.specs.Perform.{call, MayAnswer};
-ghost use Rattle.mc_lone.specs.Commands.{AllGrow, IsAnswered, IsCut, IsSearch, IsShort, burial};
+ghost use Rattle.mc_lone.specs.Commands.{AllGrow, IsAnswered, IsCut, IsSearch, IsShort, LeadsUp, burial};
 ghost use Rattle.mc_lone.specs.LoneStore.{AreTogether};
-ghost use Rattle.mc_lone.specs.Needed.{AllGive, HasClassIf, IsNumberOf, KeepsAll};
+ghost use Rattle.mc_lone.specs.Needed.{IsReady, KeepsAll};
 
 use crate::performing::perform_in;
-use crate::steps::{bury, refuse_in};
+use crate::rooms::{ready_at_once, room_for};
+use crate::steps::bury;
 use crate::store::LoneStore;
 use crate::walks::make_room_in;
-use mc_evidence::new_numbers_are_unnamed;
-use mc_item::{ClassNo, Command, Config, Fault, Link, Need, Room, Who};
+use mc_item::{Command, Config, Fault, Need, Room, Who};
+use mc_pull::{answer_alone, fate_for};
 use mc_segment::ClassState;
-use mc_stripe::StripeState;
+use mc_stripe::{Fate, StripeState};
 use std::alloc::Global;
 
 // The dead item of a command's key goes, where there is one.
@@ -85,63 +83,59 @@ fn search(
     }
 }
 
-// The room that a class gives: its next link, where a chunk is free, and else a refusal that it notes.
-fn room_of(
-    stripe: &StripeState,
-    classes: &mut [ClassState],
-    who: Who,
-    class: ClassNo,
-    config: &Config,
-) -> Result<Room, Fault>
-    requires together { AreTogether config.now stripe.now classes.old }
-    requires sized { IsNumberOf (length classes.old) class }
-    ensures keeps { KeepsAll config.now stripe.now stripe.now classes.old classes.new }
-    ensures fits { IfOk result (λ room. Fits (needs.Fresh class) room stripe.now.history) }
-    ensures sized { IfOk result (λ room. HasClassIf (length classes.new) (link_of room)) }
-    ensures given { IfOk result (λ room. AllGive who room classes.new) }
-    ensures full { IsErrOf result HistoryFull → IsShort stripe.now classes.new }
-{
-    let here = &classes[class.0 as usize - 1];
-    if here.is_full() {
-        let place = refuse_in(stripe, classes, who, class, config)?;
-        return Ok(Room::Refused { class, place });
-    }
-    here.law();
-    new_numbers_are_unnamed();
-    Ok(Room::At(Link {
-        class,
-        number: here.next_number(),
-    }))
-}
-
-// The room that a command is given, whose key has no dead item.
-fn room_for(
-    stripe: &StripeState,
+// What leads up to a command, one step after the other: its key's dead item goes, a chunk is looked for, and the room
+// is given.
+#[inline(never)]
+fn lead_up(
+    alloc: Global,
+    stripe: &mut StripeState,
     classes: &mut [ClassState],
     who: Who,
     command: &Command,
     moment: u64,
     config: &Config,
-) -> Result<Room, Fault>
-    requires together { AreTogether config.now stripe.now classes.old }
+) -> Result<(Room, Fate), Fault>
+    requires together { AreTogether config.now stripe.old classes.old }
     requires early { moment ≤ 2 ^ 62 }
-    requires alive { IsAlive ((cache_now stripe.now).items (key_of command.now)) moment }
-    ensures keeps { KeepsAll config.now stripe.now stripe.now classes.old classes.new }
-    ensures answer { IfOk result (λ room. MayAnswer stripe.now (call who command.now moment room)) }
-    ensures sized { IfOk result (λ room. HasClassIf (length classes.new) (link_of room)) }
-    ensures given { IfOk result (λ room. AllGive who room classes.new) }
-    ensures full { IsErrOf result HistoryFull → IsShort stripe.now classes.new }
+    ensures keeps { KeepsAll config.now stripe.old stripe.new classes.old classes.new }
+    ensures led_up { OnOk result ((before : List StripeEvent) × LeadsUp config.now who command.now moment stripe.old before × (stripe.new.history ≡ stripe.old.history ++ before)) }
+    ensures cut { OnErr result (IsCut config.now who command.now moment stripe.old stripe.new) }
+    ensures ready { IfOk result (λ ready. IsReady config.now stripe.new classes.new who command.now moment ready.0 ready.1) }
+    ensures full { IsErrOf result HistoryFull → IsShort stripe.new classes.new }
 {
-    let plan = stripe.plan(command, moment);
-    match plan.need {
-        Need::Fresh(class) => room_of(stripe, classes, who, class, config),
-        Need::Nothing => Ok(Room::Keep),
-        Need::Same => Ok(Room::Keep),
-        Need::TooLarge => Ok(Room::Keep),
+    bury_if_dead(alloc, stripe, classes, who, command, moment, config)?;
+    search(alloc, stripe, classes, who, command, moment, config)?;
+    let room = room_for(stripe, classes, who, command, moment, config)?;
+    let fate = fate_for(stripe, command, moment, room, config);
+    Ok((room, fate))
+}
+
+// The room and the fate of a command: at once, where nothing has to be done first, and else behind what leads up to it.
+fn ready_for(
+    alloc: Global,
+    stripe: &mut StripeState,
+    classes: &mut [ClassState],
+    who: Who,
+    command: &Command,
+    moment: u64,
+    config: &Config,
+) -> Result<(Room, Fate), Fault>
+    requires together { AreTogether config.now stripe.old classes.old }
+    requires early { moment ≤ 2 ^ 62 }
+    ensures keeps { KeepsAll config.now stripe.old stripe.new classes.old classes.new }
+    ensures led_up { OnOk result ((before : List StripeEvent) × LeadsUp config.now who command.now moment stripe.old before × (stripe.new.history ≡ stripe.old.history ++ before)) }
+    ensures cut { OnErr result (IsCut config.now who command.now moment stripe.old stripe.new) }
+    ensures ready { IfOk result (λ ready. IsReady config.now stripe.new classes.new who command.now moment ready.0 ready.1) }
+    ensures full { IsErrOf result HistoryFull → IsShort stripe.new classes.new }
+{
+    match ready_at_once(stripe, classes, who, command, moment, config) {
+        Some(ready) => Ok(ready),
+        None => lead_up(alloc, stripe, classes, who, command, moment, config),
     }
 }
 
-// One command on the stripe and all classes; `LoneStore::command` tells of it.
+// One command by its plan, whatever it touches.
+#[inline(never)]
 fn command_in(
     alloc: Global,
     stripe: &mut StripeState,
@@ -158,12 +152,53 @@ fn command_in(
     ensures cut { OnErr result (IsCut config.now who command moment stripe.old stripe.new) }
     ensures full { IsErrOf result HistoryFull → IsShort stripe.new classes.new }
 {
-    bury_if_dead(alloc, stripe, classes, who, &command, moment, config)?;
-    search(alloc, stripe, classes, who, &command, moment, config)?;
-    let room = room_for(stripe, classes, who, &command, moment, config)?;
+    let ready = ready_for(alloc, stripe, classes, who, &command, moment, config)?;
     let place = stripe.history().len() as u64;
-    perform_in(alloc, stripe, classes, who, command, moment, room, config)?;
+    perform_in(
+        alloc, stripe, classes, who, command, moment, ready.0, ready.1, config,
+    )?;
     Ok(place)
+}
+
+// A storage command, which takes or may take a chunk.
+fn is_storage(command: &Command) -> bool {
+    match command {
+        Command::Store { .. } | Command::Huge { .. } => true,
+        Command::Get(_)
+        | Command::Incr(_, _)
+        | Command::Decr(_, _)
+        | Command::Touch(_, _)
+        | Command::Delete(_) => false,
+    }
+}
+
+// One command on the stripe and all classes; `LoneStore::command` tells of it. One that touches no chunk is answered on
+// the stripe alone.
+#[inline(always)]
+fn command_with(
+    alloc: Global,
+    stripe: &mut StripeState,
+    classes: &mut [ClassState],
+    who: Who,
+    command: Command,
+    moment: u64,
+    config: &Config,
+) -> Result<u64, Fault>
+    requires together { AreTogether config.now stripe.old classes.old }
+    requires early { moment ≤ 2 ^ 62 }
+    ensures keeps { KeepsAll config.now stripe.old stripe.new classes.old classes.new }
+    ensures answered { IfOk result (IsAnswered config.now who command moment stripe.old stripe.new) }
+    ensures cut { OnErr result (IsCut config.now who command moment stripe.old stripe.new) }
+    ensures full { IsErrOf result HistoryFull → IsShort stripe.new classes.new }
+{
+    if is_storage(&command) {
+        return command_in(alloc, stripe, classes, who, command, moment, config);
+    }
+    let place = stripe.history().len() as u64;
+    match answer_alone(stripe, who, command, moment)? {
+        None => Ok(place),
+        Some(given) => command_in(alloc, stripe, classes, who, given, moment, config),
+    }
 }
 
 impl LoneStore {
@@ -189,6 +224,6 @@ impl LoneStore {
     {
         let stripe = &mut self.stripe;
         let classes = self.classes.as_mut_slice();
-        command_in(alloc, stripe, classes, who, command, moment, &self.config)
+        command_with(alloc, stripe, classes, who, command, moment, &self.config)
     }
 }

@@ -4,11 +4,11 @@
 mod commands;
 mod needed;
 mod performing;
+mod rooms;
 mod steps;
 mod store;
 mod walks;
 
-pub use performing::perform_in;
 pub use steps::{bury, refuse_in};
 pub use store::LoneStore;
 pub use walks::{juggle_in, make_room_in};

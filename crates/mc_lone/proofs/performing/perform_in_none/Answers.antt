@@ -4,8 +4,8 @@ use Rattle.mc_lone.proofs.NeededLemmas.{may_none}
 use Rattle.mc_lone.proofs.PerformLemmas.{all_keep, all_rest, all_short, back_none}
 use Rattle.mc_lone.proofs.performing.perform_in_none.Goals as goal
 
-pub perform_none-requires : goal.perform_none-requires
-perform_none-requires c =
+pub perform_none-requires-clause-may : goal.perform_none-requires-clause-may
+perform_none-requires-clause-may c =
     may_none c.args.config.now c.args.stripe.now c.args.classes.now (call c.args.who c.args.command c.args.moment c.args.room) c.requires.together c.requires.answer c.requires.given c.requires.lent
 
 pub returns-clause-keeps : goal.returns-clause-keeps

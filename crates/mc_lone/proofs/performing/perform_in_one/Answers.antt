@@ -4,8 +4,8 @@ use Rattle.mc_lone.proofs.NeededLemmas.{below_of, may_one}
 use Rattle.mc_lone.proofs.PerformLemmas.{all_keep, all_rest, all_short, back_one}
 use Rattle.mc_lone.proofs.performing.perform_in_one.Goals as goal
 
-pub perform_one-requires : goal.perform_one-requires
-perform_one-requires c =
+pub perform_one-requires-clause-may : goal.perform_one-requires-clause-may
+perform_one-requires-clause-may c =
     may_one c.args.config.now c.args.stripe.now c.args.classes.now (call c.args.who c.args.command c.args.moment c.args.room) c.requires.together c.requires.answer c.requires.given
     c.args.number c.index-classes-place.result c.requires.sized c.requires.lent
 

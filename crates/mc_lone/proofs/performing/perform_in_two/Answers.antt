@@ -4,8 +4,8 @@ use Rattle.mc_lone.proofs.NeededLemmas.{back_parts, may_parts}
 use Rattle.mc_lone.proofs.PerformLemmas.{all_keep, all_rest, all_short}
 use Rattle.mc_lone.proofs.performing.perform_in_two.Goals as goal
 
-pub perform_two-requires : goal.perform_two-requires
-perform_two-requires c =
+pub perform_two-requires-clause-may : goal.perform_two-requires-clause-may
+perform_two-requires-clause-may c =
     may_parts c.args.config.now c.args.stripe.now c.args.classes.now (call c.args.who c.args.command c.args.moment c.args.room) c.requires.together c.requires.answer c.requires.given
     c.split_at_mut-front.result.0.now c.split_at_mut-front.result.1.now c.args.low c.args.high c.requires.sized.0 c.requires.sized.1 c.requires.rising c.split_at_mut-front.ensures.value c.split_at_mut-front.ensures.front_len
     c.index-front-first.result c.index-back-0.result c.requires.lent
