@@ -1,8 +1,10 @@
 //! What the tests run: the program over bytes in memory, and a script over pieces.
 mod asking;
+mod classes;
 mod examples;
 mod failures;
 mod histories;
+mod moves;
 mod pieces;
 mod places;
 mod plans;

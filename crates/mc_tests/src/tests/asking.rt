@@ -3,7 +3,7 @@ ghost use Rattle.std.specs.Prelude.{◌≡◌, ◌<◌};
 
 use super::supplies::{Pieces, Slow};
 use mc_driver::Outcome;
-use mc_item::{Command, Fault, Reply};
+use mc_item::{ClassNo, Command, Fault, Moves, Reply};
 use mc_proto::{Limits, Sink, SinkFault};
 use mc_script::{Calls, Ends, Source, SourceFault, run_script};
 use std::alloc::Global;
@@ -80,6 +80,8 @@ impl Calls for Misses {
 
     ghost place = { λ m. tt };
 
+    ghost has_class = { λ p class. Unit {0} };
+
     ghost caller = { λ m. 0 };
 
     ghost turn = { λ m. m.made };
@@ -98,6 +100,17 @@ impl Calls for Misses {
         }
         self.made += 1;
         Ok(())
+    }
+
+    fn juggle(&mut self, _rt: &impl Wait, _class: ClassNo, _moment: u64) -> Result<Moves, Fault> {
+        if self.made >= MOST {
+            return Err(Fault::HistoryFull);
+        }
+        self.made += 1;
+        Ok(Moves {
+            reclaimed: 0,
+            moved: 0,
+        })
     }
 
     fn reply(&self) -> &Reply {

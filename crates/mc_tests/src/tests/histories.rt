@@ -17,7 +17,7 @@ static SCRIPT: &str =
     "set a 7 10 1|x|bogus|incr a 1|gets a b|%at 1010|touch a 0 noreply|set bb 0 0 2 noreply|19|incr bb 1|quit|get a|";
 
 // The item of `a` costs 64 and 2 bytes, that of `bb` 64 and 4: both are of class 1, whose items have at most 96. Each
-// call has the next turn and, where it may need room, the link of that number. `a` dies ten seconds behind moment 1000.
+// call has the next turn, and each new item the next link of its class. `a` dies ten seconds behind moment 1000.
 static HISTORY: [&str; 8] = [
     "caller 0, turn 0, moment 1000: Store { verb: Set, key: Key { bytes: [97] }, flags: 7, exptime: 10, value: Value { bytes: [120] } }; Stored; At(Link { class: ClassNo(1), number: 0 })",
     "caller 0, turn 1, moment 1000: Incr(Key { bytes: [97] }, 1); NonNumeric; Keep",
@@ -25,7 +25,7 @@ static HISTORY: [&str; 8] = [
     "caller 0, turn 3, moment 1000: Get(Key { bytes: [98] }); Miss; Keep",
     "caller 0, turn 4: Key { bytes: [97] } lost, Expired(1010)",
     "caller 0, turn 4, moment 1010: Touch(Key { bytes: [97] }, 0); NotFound; Keep",
-    "caller 0, turn 5, moment 1010: Store { verb: Set, key: Key { bytes: [98, 98] }, flags: 0, exptime: 0, value: Value { bytes: [49, 57] } }; Stored; At(Link { class: ClassNo(1), number: 5 })",
+    "caller 0, turn 5, moment 1010: Store { verb: Set, key: Key { bytes: [98, 98] }, flags: 0, exptime: 0, value: Value { bytes: [49, 57] } }; Stored; At(Link { class: ClassNo(1), number: 1 })",
     "caller 0, turn 6, moment 1010: Incr(Key { bytes: [98, 98] }, 1); Number(20); Keep",
 ];
 

@@ -1,6 +1,6 @@
 -- A call that misses is one more.
 use Rattle.std.proofs.Common.{◌∷◌, [], List, arith, length, length-append, refl}
-use Rattle.mc_script.specs.Script.{Exchange}
+use Rattle.mc_script.specs.Exchanges.{Exchange}
 use Rattle.mc_tests.proofs.tests.asking.MissesCalls.command.Goals as goal
 
 pub returns-clause-ok : goal.returns-clause-ok
