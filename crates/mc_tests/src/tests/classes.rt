@@ -109,7 +109,16 @@ static EXAMPLES: [Example; 20] = [
     },
     Example {
         name: "an item begins in TEMP where it expires within the seconds of the option",
-        words: &["mcseg", "--sizes", "96", "--chunks", "1", "--temp", "--temp-ttl", "30"],
+        words: &[
+            "mcseg",
+            "--sizes",
+            "96",
+            "--chunks",
+            "1",
+            "--temp",
+            "--temp-ttl",
+            "30",
+        ],
         input: "set a 0 30 1|1|set b 0 0 1|2|get a b|",
         output: "STORED|SERVER_ERROR out of memory storing object|VALUE a 0 1|1|END|",
         status: 0,
@@ -117,7 +126,16 @@ static EXAMPLES: [Example; 20] = [
     },
     Example {
         name: "an item that expires later begins in HOT",
-        words: &["mcseg", "--sizes", "96", "--chunks", "1", "--temp", "--temp-ttl", "29"],
+        words: &[
+            "mcseg",
+            "--sizes",
+            "96",
+            "--chunks",
+            "1",
+            "--temp",
+            "--temp-ttl",
+            "29",
+        ],
         input: "set a 0 30 1|1|set b 0 0 1|2|get a b|",
         output: "STORED|STORED|VALUE b 0 1|2|END|",
         status: 0,
@@ -182,12 +200,16 @@ fn juggling_stops_after_500_rounds(rt: HostRuntime) {
     let mut input = Vec::new(alloc);
     let mut output = Vec::new(alloc);
     for n in 0..MANY {
-        let set = format!(in alloc; "set k{}{}{} 0 0 1|1|", n / 100, n / 10 % 10, n % 10).expect(&rt, "memory");
+        let set = format!(in alloc; "set k{}{}{} 0 0 1|1|", n / 100, n / 10 % 10, n % 10).expect(
+            &rt, "memory",
+        );
         let line = lines(&rt, alloc, set.as_str());
         input
             .extend_from_slice(line.as_slice())
             .expect(&rt, "memory");
-        output.extend_from_slice(b"STORED\r\n").expect(&rt, "memory");
+        output
+            .extend_from_slice(b"STORED\r\n")
+            .expect(&rt, "memory");
     }
     input
         .extend_from_slice(b"%juggle 1\r\n%juggle 1\r\n")

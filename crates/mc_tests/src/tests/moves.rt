@@ -29,12 +29,30 @@ static CLASS: [&str; 6] = [
 // An event of a class in short.
 fn event_text(alloc: Global, event: &ClassEvent) -> Result<String, Fail> {
     match event {
-        ClassEvent::Linked(e) => Ok(format!(in alloc; "turn {}: {} linked in {:?}", e.who.turn, e.number, e.seg)?),
-        ClassEvent::Shifted(e) => Ok(format!(in alloc; "turn {}: {} to {:?}, {:?}", e.who.turn, e.number, e.to_seg, e.why)?),
-        ClassEvent::Evicted(e) => Ok(format!(in alloc; "turn {}: {} evicted", e.who.turn, e.number)?),
-        ClassEvent::Surveyed(e) => Ok(format!(in alloc; "turn {}: {} bytes surveyed", e.who.turn, e.total)?),
-        ClassEvent::Unlinked(e) => Ok(format!(in alloc; "turn {}: {} unlinked", e.who.turn, e.number)?),
-        ClassEvent::Reclaimed(e) => Ok(format!(in alloc; "turn {}: {} reclaimed", e.who.turn, e.number)?),
+        ClassEvent::Linked(e) => Ok(format!(in alloc;
+            "turn {}: {} linked in {:?}",
+            e.who.turn, e.number, e.seg
+        )?),
+        ClassEvent::Shifted(e) => Ok(format!(in alloc;
+            "turn {}: {} to {:?}, {:?}",
+            e.who.turn, e.number, e.to_seg, e.why
+        )?),
+        ClassEvent::Evicted(e) => Ok(format!(in alloc;
+            "turn {}: {} evicted",
+            e.who.turn, e.number
+        )?),
+        ClassEvent::Surveyed(e) => Ok(format!(in alloc;
+            "turn {}: {} bytes surveyed",
+            e.who.turn, e.total
+        )?),
+        ClassEvent::Unlinked(e) => Ok(format!(in alloc;
+            "turn {}: {} unlinked",
+            e.who.turn, e.number
+        )?),
+        ClassEvent::Reclaimed(e) => Ok(format!(in alloc;
+            "turn {}: {} reclaimed",
+            e.who.turn, e.number
+        )?),
         ClassEvent::Refused(e) => Ok(format!(in alloc; "turn {}: refused", e.who.turn)?),
     }
 }
@@ -76,7 +94,13 @@ fn asserts_histories<L: Ledger, R: Abort + Wait + RandomSource>(
     assert_eq!(rt; run.outcomes.as_slice(), [Outcome::Done; 3].as_slice());
     let stripe = run.ledger.stripe(StripeNo(0)).history();
     assert_eq!(rt; stripe.len(), 3);
-    assert_eq!(rt; cause_at(stripe, 1), Some(Cause::Taken { class: ClassNo(1), place: 2 }));
+    assert_eq!(rt;
+        cause_at(stripe, 1),
+        Some(Cause::Taken {
+            class: ClassNo(1),
+            place: 2
+        })
+    );
     let history = run.ledger.class(ClassNo(1)).history();
     assert_eq!(rt; history.len(), CLASS.len());
     for (event, want) in history.iter().zip(CLASS.as_slice()) {

@@ -70,7 +70,16 @@ static WANTED: [Wanted; 15] = [
             temp_ttl: Some(2_592_000),
             events: None,
         },
-        words: &["mcseg", "--temp", "--chunks", "3", "--temp-ttl", "2592000", "--sizes", "96,1024,2048"],
+        words: &[
+            "mcseg",
+            "--temp",
+            "--chunks",
+            "3",
+            "--temp-ttl",
+            "2592000",
+            "--sizes",
+            "96,1024,2048",
+        ],
         plan: Ok((&[96, 1024, 2048], 3, true, 2_592_000, 1_048_576)),
     },
     Wanted {
