@@ -1,8 +1,8 @@
 //! A store of one stripe and one class, filled by hand, and crawls of it.
-ghost use Rattle.std.specs.Prelude.{◌≡◌, ◌≢◌, IfOk, Some, true, false};
+ghost use Rattle.std.specs.Prelude.{◌≡◌, ◌≢◌, IfOk, IfSome, MatchBool, Some, true, false};
 ghost use Rattle.mc_item.specs.Config.{IsSound, IsBounded};
-ghost use Rattle.mc_item.specs.Stripe.{Fits, IsUnnamed, link_named};
-ghost use Rattle.mc_stripe.specs.StripeCalls.{room_for};
+ghost use Rattle.mc_item.specs.Stripe.{Fits, IsAlive, IsDead, IsUnnamed, link_named};
+ghost use Rattle.mc_stripe.specs.StripeState.{cache_now};
 ghost use Rattle.mc_crawl.specs.CrawlCount.{IsBalanced, MayCount};
 ghost use Rattle.mc_crawl_tests.specs.Lending.{IsLending};
 
@@ -90,15 +90,32 @@ fn is_unnamed(events: &[StripeEvent], link: Link) -> bool
     }
 }
 
-// Whether a need is met by the link of this number.
-fn is_met(need: Need, events: &[StripeEvent], number: u64) -> bool
-    ensures { result ≡ true → Fits need (room_for need number) events.now }
+// The room for a need: where a chunk is needed, the link of this number.
+fn room_for(need: Need, events: &[StripeEvent], number: u64) -> Option<Room>
+    ensures { IfSome result (λ room. Fits need room events.now) }
 {
     match need {
-        Need::Fresh(class) => is_unnamed(events, Link { class, number }),
-        Need::Nothing => true,
-        Need::Same => true,
-        Need::TooLarge => true,
+        Need::Fresh(class) => {
+            let link = Link { class, number };
+            if is_unnamed(events, link) {
+                Some(Room::At(link))
+            } else {
+                None
+            }
+        }
+        Need::Nothing => Some(Room::Keep),
+        Need::Same => Some(Room::Keep),
+        Need::TooLarge => Some(Room::Keep),
+    }
+}
+
+// Whether the key's item is dead at a moment.
+fn is_dead(stripe: &StripeState, key: &Key, moment: u64) -> bool
+    ensures { MatchBool result (IsDead ((cache_now stripe.now).items key.now) moment) (IsAlive ((cache_now stripe.now).items key.now) moment) }
+{
+    match stripe.find(key) {
+        Some(item) => item.dead(moment),
+        None => false,
     }
 }
 
@@ -111,12 +128,12 @@ pub fn ask<R: Abort>(rt: &R, world: &mut World, command: Command, moment: u64)
     let number = world.class.next_number();
     assert!(rt; moment <= 1 << 62);
     assert!(rt; stripe.owns(command.key()));
+    assert!(rt; !is_dead(stripe, command.key(), moment));
     let need = stripe.need(&command, moment);
-    assert!(rt; is_met(need, stripe.history(), number));
-    let back = stripe
-        .answer(WHO, command, moment, number)
+    let room = room_for(need, stripe.history(), number).expect(rt, "room");
+    stripe
+        .apply_with(WHO, command, moment, room, false)
         .expect(rt, "an answer");
-    assert!(rt; back.is_none());
 }
 
 /// The key of one letter.
