@@ -18,7 +18,7 @@ use Rattle.mc_board.proofs.SeenLemmas.{IsBehind-with_noted}
 use Rattle.mc_board.proofs.RuleLemmas.{Law, ledger, known_set}
 
 -- the words stand as they were, and one view is changed
-viewed : (counts : Counts) (s : State Unit View) (k : Law counts s) (id word : ℕ) (w : View)
+pub viewed : (counts : Counts) (s : State Unit View) (k : Law counts s) (id word : ℕ) (w : View)
     → Knows (ledger counts s.words k.history k.owner) id w
     → IsGrowing counts (set s.words word (slice_index s.words word)) (set s.views id w)
 viewed counts s k id word w mine =
@@ -72,7 +72,7 @@ meets counts slots id word known s k homes at fits =
       keeps,
       tt,
       viewed counts s k id word (views.Seen known) mine,
-      (refl, λ lock. prefix_either (list_at known.sight.seen lock) (list_at known.told.seen lock) (k.history lock) (mine.0.seen lock) (mine.1.seen lock)),
+      (refl, record { at = λ lock. prefix_either (list_at known.sight.seen lock) (list_at known.told.seen lock) (k.history lock) (mine.0.seen lock) (mine.1.seen lock) }),
     )
 
 -- the same at a view and a word that are known to be these

@@ -4,3 +4,4 @@ pub mod RuleLemmas
 pub mod AppendKeeps
 pub mod CountKeeps
 pub mod ShareKeeps
+pub mod LearnKeeps

@@ -1,5 +1,5 @@
 -- Beginnings of lists, and lists by their places.
-use Rattle.std.proofs.Common.{◌≡◌, ◌≢◌, ◌⊎◌, ◌≤◌, ℕ, zero, suc, set, List, [], ◌∷◌, ◌++◌, length, refl, ap, sym, ◌∙◌, inl, inr, ⊎_elim, arith, append_assoc, length-append}
+use Rattle.std.proofs.Common.{◌≡◌, ◌≢◌, ◌⊎◌, ◌≤◌, ◌<◌, ℕ, zero, suc, set, List, [], ◌∷◌, ◌++◌, length, map, get_or, refl, ap, sym, subst, ◌∙◌, inl, inr, ⊎_elim, arith, append_assoc, length-append}
 use Rattle.std.specs.Prelude.{slice_index}
 use mathlib.Core.List.{IsPrefix}
 use mathlib.Core.Option.{some, some-injective, some-ne-none}
@@ -17,6 +17,30 @@ prefix_self (x ∷ xs) = let r = prefix_self xs in (r.0, ap (λ ys. x ∷ ys) r.
 -- a beginning of a list begins the longer list
 pub prefix_more : {A : Type 0} (xs ys zs : List A) → IsPrefix xs ys → IsPrefix xs (ys ++ zs)
 prefix_more xs ys zs p = (p.0 ++ zs, sym (append_assoc xs p.0 zs) ∙ ap (λ w. w ++ zs) p.1)
+
+-- a beginning of a beginning is a beginning
+pub prefix_trans : {A : Type 0} (xs ys zs : List A) → IsPrefix xs ys → IsPrefix ys zs → IsPrefix xs zs
+prefix_trans xs ys zs p q = subst (IsPrefix xs) q.1 (prefix_more xs ys q.0 p)
+
+-- the next element of a list makes a beginning of it longer
+pub prefix_next : {A B : Type 0} (f : A → B) (xs : List B) (ys : List A) (y : A) → IsPrefix xs (map f ys) → length xs < length ys → y ≡ get_or ys (length xs) y → IsPrefix (xs ++ f y ∷ []) (map f ys)
+prefix_next f [] [] y p lt e = absurd (omega (arith, lt))
+prefix_next f [] (z ∷ ys) y p lt e = (map f ys, ap (λ v. f v ∷ map f ys) e)
+prefix_next f (x ∷ xs) [] y p lt e = absurd (omega (arith, lt))
+prefix_next f (x ∷ xs) (z ∷ ys) y p lt e =
+    let heads : x ≡ f z = cc (p.1) in
+    let r = prefix_next f xs ys y (p.0, cc (p.1)) (omega (arith, lt)) e in
+    (r.0, cc (heads, r.1))
+
+-- a beginning that is as long is the whole list
+pub prefix_whole : {A : Type 0} (xs ys : List A) → IsPrefix xs ys → length ys ≤ length xs → xs ≡ ys
+prefix_whole [] [] p le = refl
+prefix_whole [] (y ∷ ys) p le = absurd (omega (arith, le))
+prefix_whole (x ∷ xs) [] p le = absurd (cc (p.1))
+prefix_whole (x ∷ xs) (y ∷ ys) p le =
+    let heads : x ≡ y = cc (p.1) in
+    let tails : xs ≡ ys = prefix_whole xs ys (p.0, cc (p.1)) (omega (arith, le)) in
+    cc (heads, tails)
 
 pub prefix_length : {A : Type 0} (xs ys : List A) → IsPrefix xs ys → length xs ≤ length ys
 prefix_length xs ys p = omega (arith, sym (ap length p.1) ∙ length-append xs p.0)

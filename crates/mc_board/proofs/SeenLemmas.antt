@@ -3,8 +3,8 @@ use Rattle.std.proofs.Common.{◌≡◌, ◌≢◌, ◌≤◌, ℕ, zero, suc, L
 use mathlib.Core.List.{IsPrefix}
 use Rattle.mc_item.specs.declared.event.Event.{Event}
 use Rattle.mc_board.specs.declared.rule.Sight.{Sight}
-use Rattle.mc_board.specs.Histories.{list_at, number_at, with_list, with_number, blind, with_seen, with_noted, IsBehind}
-use Rattle.mc_board.proofs.PrefixLemmas.{same_or_not, prefix_nil, prefix_self}
+use Rattle.mc_board.specs.Histories.{list_at, number_at, with_list, with_number, blind, with_seen, with_noted, Grows, IsBehind}
+use Rattle.mc_board.proofs.PrefixLemmas.{same_or_not, prefix_nil, prefix_self, prefix_trans}
 
 pub list_at_same : (lists : List (List Event)) (k : ℕ) (x : List Event) → list_at (with_list lists k x) k ≡ x
 list_at_same [] zero x = refl
@@ -63,3 +63,23 @@ IsBehind-with_seen h s lock xs b is =
           (same_or_not j lock);
       noted = b.noted;
     }
+
+-- one list of a lock that grows leaves all lists no shorter
+list_at_grows : (lists : List (List Event)) (lock : ℕ) (xs : List Event) → IsPrefix (list_at lists lock) xs → (j : ℕ) → IsPrefix (list_at lists j) (list_at (with_list lists lock xs) j)
+list_at_grows lists lock xs p j =
+    ⊎_elim
+    (λ (same : j ≡ lock). subst (λ (k : ℕ). IsPrefix (list_at lists k) (list_at (with_list lists lock xs) k)) (sym same) (subst (IsPrefix (list_at lists lock)) (sym (list_at_same lists lock xs)) p))
+    (λ (apart : j ≢ lock). subst (IsPrefix (list_at lists j)) (sym (list_at_other lists lock j xs apart)) (prefix_self (list_at lists j)))
+    (same_or_not j lock)
+
+-- who is told a whole history has seen no less than before
+pub Grows-with_seen : (s : Sight) (lock : ℕ) (xs : List Event) → IsPrefix (list_at s.seen lock) xs → Grows s (with_seen s lock xs)
+Grows-with_seen s lock xs p = record { at = list_at_grows s.seen lock xs p }
+
+-- who has seen the same has seen no less
+pub Grows-same : (old new : Sight) → new ≡ old → Grows old new
+Grows-same old new same = subst (Grows old) (sym same) (record { at = λ lock. prefix_self (list_at old.seen lock) })
+
+-- what was seen grows and grows
+pub Grows-trans : (a b c : Sight) → Grows a b → Grows b c → Grows a c
+Grows-trans a b c p q = record { at = λ lock. prefix_trans (list_at a.seen lock) (list_at b.seen lock) (list_at c.seen lock) (p.at lock) (q.at lock) }

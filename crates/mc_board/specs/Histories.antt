@@ -53,7 +53,9 @@ pub record IsBehind (histories : ℕ → List Event) (sight : Sight) : Type 0 wh
   pub noted : (lock : ℕ) → HasNoted (histories lock) sight lock
 
 -- of each lock one of two seen lists is a beginning of the other
-abbrev pub AreInLine : Sight → Sight → Type 0
-AreInLine a b =
-    (lock : ℕ) → IsPrefix (list_at a.seen lock) (list_at b.seen lock)
-    ⊎ IsPrefix (list_at b.seen lock) (list_at a.seen lock)
+pub record AreInLine (a b : Sight) : Type 0 where
+  pub at : (lock : ℕ) → IsPrefix (list_at a.seen lock) (list_at b.seen lock) ⊎ IsPrefix (list_at b.seen lock) (list_at a.seen lock)
+
+-- what was seen has only grown: of each lock the old list is a beginning of the new one
+pub record Grows (old new : Sight) : Type 0 where
+  pub at : (lock : ℕ) → IsPrefix (list_at old.seen lock) (list_at new.seen lock)

@@ -2,3 +2,4 @@ pub mod Histories
 pub mod Views
 pub mod Board
 pub mod Steps
+pub mod Learning

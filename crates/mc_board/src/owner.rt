@@ -1,6 +1,7 @@
 //! The owner of a lock's history.
-ghost use Rattle.std.specs.Prelude.{◌≡◌, ◌<◌, ◌^◌, ◌++◌, ◌∷◌, [], length};
-ghost use Rattle.mc_board.specs.Histories.{with_seen, HasSeen, HasNoted};
+ghost use Rattle.std.specs.Prelude.{◌≡◌, ◌<◌, ◌≤◌, ◌^◌, ◌++◌, ◌∷◌, [], length, map};
+ghost use mathlib.Core.List.{IsPrefix};
+ghost use Rattle.mc_board.specs.Histories.{with_seen, Grows, HasSeen, HasNoted};
 ghost use Rattle.mc_board.specs.Steps.{owned_of, owned_with, owned_told};
 ghost use Rattle.mc_board.specs.declared.rule.View.TheVariants as views;
 
@@ -16,11 +17,12 @@ use std::marker::{Brand, Model};
 #[derive(Drop)]
 pub struct Owner {
     word: usize,
+    events: usize,
     place: Place,
 }
 
 impl Model for Owner {
-    ghost use Rattle.std.specs.Prelude.{◌≡◌, ◌<◌, []};
+    ghost use Rattle.std.specs.Prelude.{◌≡◌, ◌<◌, [], length};
     ghost use Rattle.mc_board.specs.Views.{OwnerView};
     ghost use Rattle.mc_board.specs.Steps.{owned_of};
     ghost use Rattle.mc_board.specs.declared.rule.View.TheVariants as views;
@@ -36,21 +38,27 @@ impl Model for Owner {
     ghost invariant = { λ o.
         (o.place.me ≡ (views.Owner (owned_of o.place.me.0), []))
         × ((owned_of o.place.me.0).word ≡ o.word)
+        × (length (owned_of o.place.me.0).history ≡ o.events)
         × (o.word < o.place.table_id.words) };
 }
 
 impl Owner {
-    // The owner that the place is.
+    // The owner that the place is. It has no event yet.
     pub(crate) fn at(word: usize, place: Place) -> Owner
         requires owner { place.me ≡ (views.Owner (owned_of place.me.0), []) }
         requires word { ((owned_of place.me.0).word ≡ word) × (word < place.table_id.words) }
+        requires empty { (owned_of place.me.0).history ≡ [] }
         ensures { result ≡ record {
           board = place.table_id;
           lock = (owned_of place.me.0).lock;
           history = (owned_of place.me.0).history;
         } }
     {
-        Owner { word, place }
+        Owner {
+            word,
+            events: 0,
+            place,
+        }
     }
 
     /// Adds the event at the end of the history, in one atomic step. The history has fewer than 2^32 events before.
@@ -63,6 +71,27 @@ impl Owner {
         } }
     {
         add::<Brand, E>(board, self.word, &mut self.place, event);
+        self.events += 1;
+    }
+
+    // How many events the history has.
+    fn len(&self) -> usize
+        ensures { result ≡ length self.now.history }
+    {
+        self.events
+    }
+
+    /// Adds each event of the list, in order, that stands behind those that the history has: the history, which is a
+    /// beginning of the list, then is the list. It has at most 2^32 events. It takes no memory and waits for nobody.
+    pub fn catch_up<E: Logged>(&mut self, board: &Board, events: &[E])
+        requires board { self.old.board ≡ board.now.table }
+        requires behind { IsPrefix self.old.history (map E.entry events.now) }
+        requires room { length events.now ≤ 2 ^ 32 }
+        ensures history { self.new ≡ record self.old { history = map E.entry events.now } }
+    {
+        for place in self.len()..events.len() {
+            self.append(board, &events[place]);
+        }
     }
 
     /// Compares the history with a token: what the token has seen of this lock begins the history, and what it has
@@ -85,6 +114,7 @@ impl Owner {
           sight = with_seen seen.old.sight self.old.lock self.old.history;
         } }
         ensures grown { HasSeen self.old.history seen.old.sight self.old.lock }
+        ensures grows { Grows seen.old.sight seen.new.sight }
         ensures noted { HasNoted self.old.history seen.old.sight self.old.lock }
     {
         let place = &mut self.place;

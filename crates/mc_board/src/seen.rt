@@ -1,6 +1,7 @@
 //! The tokens that have seen.
 ghost use Rattle.std.specs.Prelude.{◌≡◌, ◌<◌, ◌≤◌, [], length};
-ghost use Rattle.mc_board.specs.Histories.{list_at, number_at, with_noted, AreInLine};
+ghost use Rattle.mc_board.specs.Histories.{list_at, number_at, with_noted, Grows, AreInLine};
+ghost use Rattle.mc_board.specs.Learning.{known_learned, with_learned};
 ghost use Rattle.mc_board.specs.Views.{locks_of, first_word};
 ghost use Rattle.mc_board.specs.Steps.{known_of, known_with, known_told, seeing};
 ghost use Rattle.mc_board.specs.declared.rule.View.TheVariants as views;
@@ -8,7 +9,7 @@ ghost use Rattle.mc_board.specs.declared.rule.View.TheVariants as views;
 use crate::board::Board;
 use crate::naming::NamesLock;
 use crate::rule::Place;
-use crate::steps::{Copies, CountsOne, Hears, Meets};
+use crate::steps::{Copies, CountsOne, Hears, Learns, Meets};
 use std::marker::{Brand, Model};
 
 /// A token that has seen a beginning of each lock's history, and noted numbers that their lengths have reached.
@@ -70,6 +71,20 @@ impl Seen {
         read::<Brand>(board, lock, word, &mut self.place)
     }
 
+    /// Learns what another token has seen: of each lock this one has then seen all that either had. What it has noted
+    /// stays. It takes no memory and waits for nobody.
+    pub fn learn(&mut self, board: &Board, other: &mut Seen)
+        requires board { (self.old.board ≡ board.now.table) × (other.old.board ≡ board.now.table) }
+        ensures other { other.new ≡ other.old }
+        ensures board { self.new.board ≡ self.old.board }
+        ensures learned { self.new.sight ≡ with_learned self.old.sight other.old.sight }
+        ensures mine { Grows self.old.sight self.new.sight }
+        ensures theirs { Grows other.old.sight self.new.sight }
+    {
+        let theirs = other.copy(board);
+        take_in(board, &mut self.place, theirs);
+    }
+
     /// Compares two tokens: of each lock what one has seen is a beginning of what the other has. Nothing changes.
     pub fn meet(&mut self, board: &Board, other: &mut Seen)
         requires board { (self.old.board ≡ board.now.table) × (other.old.board ≡ board.now.table) }
@@ -79,6 +94,21 @@ impl Seen {
         let copy = other.copy(board);
         line_up(board, &mut self.place, copy);
     }
+}
+
+// A token is told what another's copy knows, and has then seen that too.
+fn take_in(board: &Board, place: &mut Place, copy: Place)
+    requires board { (place.old.table_id ≡ board.now.table) × (copy.table_id ≡ board.now.table) }
+    requires token { place.old.me ≡ (views.Seen (known_of place.old.me.0), []) }
+    requires copy { copy.me ≡ (views.Seen (known_of copy.me.0), []) }
+    ensures place { (place.new.table_id ≡ place.old.table_id) × (place.new.id ≡ place.old.id) }
+    ensures learned { place.new.me
+        ≡ (views.Seen (known_learned (known_told (known_of place.old.me.0) (known_of copy.me.0).sight)), []) }
+    ensures mine { Grows (known_of place.old.me.0).sight (known_of place.new.me.0).sight }
+    ensures theirs { Grows (known_of copy.me.0).sight (known_of place.new.me.0).sight }
+{
+    board.table.shared.join_seat::<Hears>(place, copy);
+    board.table.shared.load::<Learns>(place, 0);
 }
 
 // The step that reads the first word of the lock that N names.

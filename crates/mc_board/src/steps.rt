@@ -44,6 +44,15 @@ impl Play<(), View> for Meets {
     ghost then = { Met };
 }
 
+/// A token has seen what it was told that another has seen.
+pub(crate) struct Learns;
+
+impl Play<(), View> for Learns {
+    ghost use Rattle.mc_board.specs.Learning.{Learned};
+
+    ghost then = { Learned };
+}
+
 /// The root gives out a token that has seen nothing.
 pub(crate) struct Opens;
 
