@@ -1,0 +1,52 @@
+-- Stripes and classes in the order of their numbers, with one more at the end.
+use Rattle.std.proofs.Common.{◌≡◌, ◌⊎◌, ◌+◌, ◌<◌, ℕ, zero, suc, List, [], ◌∷◌, ◌++◌, length, Some, slice_get, refl, ap, ◌∙◌, inl, inr, ⊎_elim, subst, arith}
+use Rattle.atomic_table.specs.Seated.{TableId}
+use Rattle.mc_item.specs.declared.config.Config.{Config}
+use Rattle.mc_store.specs.Finals.{AreClasses, AreStripes}
+use Rattle.mc_store.specs.Locked.{IsClassUnder, IsLockedClass, IsLockedStripe, IsStripeUnder}
+use Rattle.mc_store.specs.Sides.{AreClassesOn, AreStripesOn, ClassSide, StripeSide}
+
+-- what stands at a place of a list with one more at its end stood there before, or is that one
+pub get_push : {A : Type 0} (xs : List A) (x y : A) (k : ℕ) → slice_get (xs ++ x ∷ []) k ≡ Some y → (slice_get xs k ≡ Some y) ⊎ ((x ≡ y) × (length xs ≡ k))
+get_push [] x y zero e = inr (cc e, refl)
+get_push [] x y (suc k) e = absurd (cc e)
+get_push (z ∷ xs) x y zero e = inl e
+get_push (z ∷ xs) x y (suc k) e = ⊎_elim (λ t. inl t) (λ t. inr (t.0, ap suc t.1)) (get_push xs x y k e)
+
+-- something stands at each place below the length
+pub get_some : {A : Type 0} (xs : List A) (k : ℕ) → k < length xs → (x : A) × (slice_get xs k ≡ Some x)
+get_some [] k lt = absurd (omega (arith, lt))
+get_some (x ∷ xs) zero lt = (x, refl)
+get_some (x ∷ xs) (suc k) lt = get_some xs k (omega (arith, lt))
+
+-- these stripes are each the one of its place, counted from 0
+abbrev pub AreStripesSoFar : TableId → Config → List StripeSide → Type 0
+AreStripesSoFar table config stripes = (k : ℕ) (s : StripeSide) → slice_get stripes k ≡ Some s → IsStripeUnder table config k s
+
+-- these classes are each the one of its place, counted from 1
+abbrev pub AreClassesSoFar : TableId → Config → List ClassSide → Type 0
+AreClassesSoFar table config classes = (k : ℕ) (s : ClassSide) → slice_get classes k ≡ Some s → IsClassUnder table config (k + 1) s
+
+pub stripes_push : (table : TableId) (config : Config) (xs : List StripeSide) (x : StripeSide) → AreStripesSoFar table config xs → IsLockedStripe table config x → x.stripe.site.stripe ≡ length xs
+    → AreStripesSoFar table config (xs ++ x ∷ [])
+stripes_push table config xs x all kept is k s e =
+    ⊎_elim
+    (λ was. all k s was)
+    (λ (t : (x ≡ s) × (length xs ≡ k)). subst (IsStripeUnder table config k) t.0 (record { kept = kept; number_is = is ∙ t.1 }))
+    (get_push xs x s k e)
+
+pub classes_push : (table : TableId) (config : Config) (xs : List ClassSide) (x : ClassSide) → AreClassesSoFar table config xs → IsLockedClass table config x → x.class.number.0 ≡ length xs + 1
+    → AreClassesSoFar table config (xs ++ x ∷ [])
+classes_push table config xs x all kept is k s e =
+    ⊎_elim
+    (λ was. all k s was)
+    (λ (t : (x ≡ s) × (length xs ≡ k)). subst (IsClassUnder table config (k + 1)) t.0 (record { kept = kept; number_is = is ∙ ap (λ (n : ℕ). n + 1) t.1 }))
+    (get_push xs x s k e)
+
+-- stripes as their locks kept them are all of one board
+pub stripes_on : (table : TableId) (config : Config) (xs : List StripeSide) → AreStripes table config xs → AreStripesOn table xs
+stripes_on table config xs all = record { each = λ k s e. (all.each k s e).kept.board_is }
+
+-- and so are classes
+pub classes_on : (table : TableId) (config : Config) (xs : List ClassSide) → AreClasses table config xs → AreClassesOn table xs
+classes_on table config xs all = record { each = λ k s e. (all.each k s e).kept.board_is }

@@ -1,0 +1,27 @@
+use Rattle.std.proofs.Common.{◌≡◌, length, slice_get, set, ap, ◌∙◌, subst, below_more, arith}
+use Rattle.std.proofs.lemmas.List.{set-get_or}
+use Rattle.std.proofs.lemmas.Option.{get_or_from_slice_get, slice_get_within}
+use Rattle.mc_board.specs.Views.{SeenView}
+use Rattle.mc_store.specs.Finals.{IsBehindAt}
+use Rattle.mc_store.specs.Sides.{StripeSide, stripe_told}
+use Rattle.mc_store.proofs.comparing.compare_stripes.Goals as goal
+
+pub loop-i-preserved : goal.loop-i-preserved
+loop-i-preserved c =
+    let i = c.loop-i.invariant in
+    let x = c.index_mut.result.now in
+    let items = c.loop-i.stripes.items in (
+      ap (λ (y : StripeSide). set items c.loop-i.i y) (c.compare.ensures.same.0 ∙ c.index_mut.ensures.value) ∙ (set-get_or items c.loop-i.i x ∙ i.0),
+      c.compare.ensures.same.1 ∙ i.1,
+      below_more _ _ i.2
+          (λ s e.
+          let is : x ≡ s = c.index_mut.ensures.value ∙ get_or_from_slice_get items c.loop-i.i s x (ap (λ ys. slice_get ys c.loop-i.i) i.0 ∙ e) in
+          subst (λ (t : SeenView). IsBehindAt t.sight s.lock (stripe_told s.stripe.history)) i.1
+          (subst (λ (y : StripeSide). IsBehindAt c.loop-i.seen.sight y.lock (stripe_told y.stripe.history)) is c.compare.ensures.behind)),
+    )
+
+pub returns-clause-behind : goal.returns-clause-behind
+returns-clause-behind c =
+    record {
+      each = λ k s e. let within = slice_get_within c.args.stripes.now.items k s e in c.loop-i.invariant.2 k (omega (arith, within, ap length c.loop-i.invariant.0)) s e;
+    }

@@ -1,0 +1,9 @@
+use Rattle.std.proofs.Common.{◌≡◌, ◌+◌, ◌-◌, length, min}
+use Rattle.std.specs.Prelude.{vec_len}
+use Rattle.mc_store.proofs.store.Store.open.Given as goal
+
+abbrev pub invariant-loop-owner : goal.invariant-loop-owner
+invariant-loop-owner g l =
+    (goal.iterator-loop-owner g).can_next l.owner-iterator × (goal.iterator-loop-owner g).is_finite l.owner-iterator
+    × (l.seen ≡ l.fn.seen) × (vec_len l.stripes ≡ min (length l.yielded) g.N.Named.config.stripes) × (vec_len l.classes ≡ length l.yielded - g.N.Named.config.stripes)
+    × (vec_len l.stripes + vec_len l.classes ≡ length l.yielded)

@@ -1,0 +1,77 @@
+-- A closed store: its stripes and its classes, and what was seen of them before (own).
+use Rattle.std.specs.Prelude.{◌≡◌, ℕ, ◌+◌, ◌-◌, ◌<◌, ◌≤◌, List, [], Option, Some, None, length, slice_get}
+use Rattle.atomic_table.specs.Seated.{TableId}
+use Rattle.mc_item.specs.declared.class_event.ClassEvent.{ClassEvent}
+use Rattle.mc_item.specs.declared.config.Config.{Config}
+use Rattle.mc_item.specs.declared.event.Event.{Event}
+use Rattle.mc_item.specs.Measure.{stripe_of}
+use Rattle.mc_item.specs.declared.item.ClassNo.{ClassNo}
+use Rattle.mc_item.specs.declared.item.Item.{Item}
+use Rattle.mc_item.specs.declared.lists.Entry.{Entry}
+use Rattle.mc_item.specs.declared.lists.Seg.{Seg}
+use Rattle.mc_item.specs.declared.stripe_event.StripeEvent.{StripeEvent}
+use Rattle.mc_board.specs.Histories.{HasNoted, HasSeen}
+use Rattle.mc_board.specs.declared.rule.Sight.{Sight}
+use Rattle.mc_evidence.specs.Setting.{IsClass, Setting, site_in}
+use Rattle.mc_rule.specs.Belonging.{HasEntry, HasItem}
+use Rattle.mc_rule.specs.Lists.{found, lists_of, times_in}
+use Rattle.mc_rule.specs.Pairs.{item_after}
+use Rattle.mc_store.specs.Locked.{IsClassUnder, IsStripeUnder}
+use Rattle.mc_store.specs.Sides.{ClassSide, StripeSide, class_told, stripe_told}
+
+-- a closed store: its board, and all stripes and all classes in the order of their numbers
+pub record FinalView : Type 0 where
+  pub board : TableId
+  pub stripes : List StripeSide
+  pub classes : List ClassSide
+
+-- all stripes of a configuration, each as its lock kept it
+pub record AreStripes (board : TableId) (config : Config) (stripes : List StripeSide) : Type 0 where
+  pub many : length stripes ≡ config.stripes
+  pub each : (k : ℕ) (s : StripeSide) → slice_get stripes k ≡ Some s → IsStripeUnder board config k s
+
+-- all classes of a configuration, each as its lock kept it; they are numbered from 1
+pub record AreClasses (board : TableId) (config : Config) (classes : List ClassSide) : Type 0 where
+  pub many : length classes ≡ length config.sizes
+  pub each : (k : ℕ) (s : ClassSide) → slice_get classes k ≡ Some s → IsClassUnder board config (k + 1) s
+
+-- the history of a stripe that is there
+abbrev pub stripe_history : Option StripeSide → List StripeEvent
+stripe_history None = []
+stripe_history (Some s) = s.stripe.history
+
+-- the history of a class that is there
+abbrev pub class_history : Option ClassSide → List ClassEvent
+class_history None = []
+class_history (Some s) = s.class.history
+
+-- the history of each stripe
+abbrev pub stripe_histories : List StripeSide → ℕ → List StripeEvent
+stripe_histories stripes number = stripe_history (slice_get stripes number)
+
+-- the history of each class
+abbrev pub class_histories : List ClassSide → ClassNo → List ClassEvent
+class_histories classes number = class_history (slice_get classes (number.0 - 1))
+
+-- the items are exactly the entries: an item has its entry in the class of its link, which is one of the store's; an entry
+-- has its item in its key's stripe; and each number stands in its class once at the most
+pub record AreExactlyEntries (setting : Setting) (stripes : ℕ → List StripeEvent) (classes : ClassNo → List ClassEvent) : Type 0 where
+  pub items : (s : ℕ) (key : List ℕ) (item : Item) → s < setting.stripes → item_after (site_in setting s) (stripes s) key ≡ Some item
+      → IsClass setting item.link.class × HasEntry (classes item.link.class) key item
+  pub entries : (class : ClassNo) (number : ℕ) (seg : Seg) (entry : Entry) → IsClass setting class → found number (lists_of (classes class)) ≡ Some (seg, entry)
+      → let s = (stripe_of entry.key setting.stripes).0 in
+      (s < setting.stripes) × HasItem (site_in setting s) class (stripes s) number entry
+  pub once : (class : ClassNo) (number : ℕ) → IsClass setting class → times_in number (lists_of (classes class)) ≤ 1
+
+-- what was seen of a lock is a beginning of its final history, and what was noted of it is at most that one's length
+pub record IsBehindAt (sight : Sight) (lock : ℕ) (history : List Event) : Type 0 where
+  pub seen : HasSeen history sight lock
+  pub noted : HasNoted history sight lock
+
+-- what was seen and noted is behind each stripe's final history
+pub record IsBehindStripes (sight : Sight) (stripes : List StripeSide) : Type 0 where
+  pub each : (k : ℕ) (s : StripeSide) → slice_get stripes k ≡ Some s → IsBehindAt sight s.lock (stripe_told s.stripe.history)
+
+-- what was seen and noted is behind each class's final history
+pub record IsBehindClasses (sight : Sight) (classes : List ClassSide) : Type 0 where
+  pub each : (k : ℕ) (s : ClassSide) → slice_get classes k ≡ Some s → IsBehindAt sight s.lock (class_told s.class.history)

@@ -1,0 +1,5 @@
+pub mod Naming
+pub mod Sides
+pub mod Locked
+pub mod Passes
+pub mod Finals

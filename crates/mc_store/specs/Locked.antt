@@ -1,0 +1,67 @@
+-- What lies under the locks of a store: each state is one of the store's, and its history is sound by all that it has seen (own).
+use Rattle.std.specs.Prelude.{◌≡◌, ℕ, ◌+◌, ◌-◌, ◌<◌, length}
+use Rattle.atomic_table.specs.Seated.{TableId}
+use Rattle.mc_item.specs.Config.{IsSound}
+use Rattle.mc_item.specs.declared.config.Config.{Config}
+use Rattle.mc_item.specs.declared.item.ClassNo.{ClassNo}
+use Rattle.mc_rule.specs.Segment.{rule_of}
+use Rattle.mc_board.specs.Histories.{list_at}
+use Rattle.mc_segment.specs.ClassState.{chunks_for}
+use Rattle.mc_pull.specs.Question as made
+use Rattle.mc_evidence.specs.Locks.{ClassKeeps, StripeKeeps}
+use Rattle.mc_evidence.specs.Seen.{classes_seen, stripes_seen}
+use Rattle.mc_evidence.specs.Setting.{IsClass, Setting}
+use Rattle.mc_store.specs.declared.lock_no.LockNo.{LockNo}
+use Rattle.mc_store.specs.declared.lock_no.LockNo.TheVariants as locks
+use Rattle.mc_store.specs.Sides.{ClassSide, StripeSide}
+
+-- what is fixed for a store of a configuration
+abbrev pub setting_of : Config → Setting
+setting_of config = record { stripes = config.stripes; sizes = config.sizes; rule = rule_of config; chunks = chunks_for config }
+
+-- how many locks there are: one for each stripe, and one for each class
+abbrev pub locks_for : Config → ℕ
+locks_for config = config.stripes + length config.sizes
+
+-- the lock of a class: those of the stripes come first, and classes are numbered from 1
+abbrev pub class_lock : Config → ClassNo → ℕ
+class_lock config class = config.stripes + (class.0 - 1)
+
+-- the lock that a number of a stripe or of a class names
+abbrev pub lock_of : Config → LockNo → ℕ
+lock_of config (locks.Stripe number) = number.0
+lock_of config (locks.Class number) = class_lock config number
+
+-- a number of a stripe or of a class that the store has
+abbrev pub IsLock : Config → LockNo → Type 0
+IsLock config (locks.Stripe number) = number.0 < config.stripes
+IsLock config (locks.Class number) = IsClass (setting_of config) number
+
+-- a stripe's lock keeps: the stripe is of this board, under the lock of its number, made with this configuration, which was
+-- checked; its history is legal, and each of its events has found its partner in what was seen of the classes
+pub record IsLockedStripe (board : TableId) (config : Config) (s : StripeSide) : Type 0 where
+  pub board_is : s.board ≡ board
+  pub lock_is : s.lock ≡ s.stripe.site.stripe
+  pub of : s.stripe.site.stripe < config.stripes
+  pub sound : IsSound config
+  pub made_with : made.IsStripeOf config s.stripe
+  pub keeps : StripeKeeps (setting_of config) s.stripe.site.stripe s.stripe.history (classes_seen config.stripes (list_at s.sight.seen))
+
+-- a class's lock keeps: the class is of this board, under the lock of its number, made with this configuration; its history is
+-- lawful, and each of its events has found its partner and the item that it cites in what was seen of the stripes
+pub record IsLockedClass (board : TableId) (config : Config) (s : ClassSide) : Type 0 where
+  pub board_is : s.board ≡ board
+  pub lock_is : s.lock ≡ class_lock config s.class.number
+  pub is : IsClass (setting_of config) s.class.number
+  pub made_with : made.IsClassOf config s.class
+  pub keeps : ClassKeeps (setting_of config) s.class.number s.class.history (stripes_seen (list_at s.sight.seen))
+
+-- what lies under the lock of a stripe's number
+pub record IsStripeUnder (board : TableId) (config : Config) (number : ℕ) (s : StripeSide) : Type 0 where
+  pub kept : IsLockedStripe board config s
+  pub number_is : s.stripe.site.stripe ≡ number
+
+-- what lies under the lock of a class's number
+pub record IsClassUnder (board : TableId) (config : Config) (number : ℕ) (s : ClassSide) : Type 0 where
+  pub kept : IsLockedClass board config s
+  pub number_is : s.class.number.0 ≡ number

@@ -1,0 +1,17 @@
+-- Some board and some configuration, where a name has none.
+use Rattle.std.specs.Prelude.{[]}
+use Rattle.mc_item.specs.Config.{usual_config}
+use Rattle.mc_item.specs.declared.config.Config.{Config}
+use Rattle.mc_board.specs.Views.{BoardView}
+
+-- a board of no lock
+abbrev pub some_board : BoardView
+some_board =
+    record {
+      table = record { words = 0; slots = 0; views_name = 0; atom = 0; block = 0; offset = 0; slot_names = [] };
+      counts = record { stripes = 0; classes = 0; callers = 0 };
+    }
+
+-- the usual configuration
+abbrev pub some_config : Config
+some_config = usual_config 0

@@ -1,0 +1,96 @@
+//! How a store is closed.
+ghost use Rattle.std.specs.Prelude.{◌≡◌, ◌≤◌, [], length, vec_len, vec_capacity};
+ghost use Rattle.mc_evidence.specs.Sound.{IsSoundStore};
+ghost use Rattle.mc_store.specs.Finals.{AreClasses, AreExactlyEntries, AreStripes, class_histories, stripe_histories};
+ghost use Rattle.mc_store.specs.Locked.{setting_of};
+
+use crate::comparing::judge;
+use crate::final_store::Final;
+use crate::locked::{LockedClass, LockedStripe};
+use crate::named::Named;
+use crate::owned_class::OwnedClass;
+use crate::owned_stripe::OwnedStripe;
+use crate::shelf::Shelf;
+use crate::store::Store;
+use std::sync::{Mutex, Wait};
+
+// Waits, and never returns.
+fn wait_for_ever(rt: &impl Wait) -> ! {
+    for _ in rt.forever() {}
+    unreachable!()
+}
+
+// The stripes, out of their locks, onto the shelf. One of another number than its place's, of which there is none, would be
+// waited for.
+fn take_stripes<N: Named>(
+    rt: &impl Wait,
+    stripes: Vec<Mutex<LockedStripe<N>>>,
+    shelf: &mut Vec<OwnedStripe>,
+)
+    requires all { vec_len stripes ≡ N.config.stripes }
+    requires empty { shelf.old.items ≡ [] }
+    requires room { N.config.stripes ≤ vec_capacity shelf.old }
+    ensures { AreStripes N.board.table N.config shelf.new.items }
+{
+    for stripe in stripes {
+        let side = stripe.into_inner().into_side();
+        let number = side.number().0 as usize;
+        let place = shelf.len();
+        if number != place {
+            wait_for_ever(rt);
+        }
+        shelf.push_reserved(side);
+    }
+}
+
+// The classes, out of their locks, onto the shelf; the same.
+fn take_classes<N: Named>(
+    rt: &impl Wait,
+    classes: Vec<Mutex<LockedClass<N>>>,
+    shelf: &mut Vec<OwnedClass>,
+)
+    requires all { vec_len classes ≡ length N.config.sizes }
+    requires empty { shelf.old.items ≡ [] }
+    requires room { length N.config.sizes ≤ vec_capacity shelf.old }
+    ensures { AreClasses N.board.table N.config shelf.new.items }
+{
+    for class in classes {
+        let side = class.into_inner().into_side();
+        let number = side.number().0 as usize;
+        let place = shelf.len();
+        if number != place + 1 {
+            wait_for_ever(rt);
+        }
+        shelf.push_reserved(side);
+    }
+}
+
+impl<N: Named> Store<N> {
+    /// All stripes and classes of the store, each as its lock kept it. Together they are sound: each history is legal or
+    /// lawful, each two are evidence of each other, and the items are exactly the entries. It takes no memory.
+    pub fn close(self, rt: &impl Wait) -> Final
+        ensures board { result.board ≡ N.board.table }
+        ensures stripes { AreStripes N.board.table N.config result.stripes }
+        ensures classes { AreClasses N.board.table N.config result.classes }
+        ensures sound { IsSoundStore (setting_of N.config) (stripe_histories result.stripes) (class_histories result.classes) }
+        ensures entries { AreExactlyEntries (setting_of N.config) (stripe_histories result.stripes) (class_histories result.classes) }
+    {
+        let Store {
+            board,
+            config: _,
+            stripes,
+            classes,
+            shelf,
+            of: _,
+        } = self;
+        let Shelf {
+            stripes: mut stripe_shelf,
+            classes: mut class_shelf,
+            of: _,
+        } = shelf.into_inner();
+        take_stripes(rt, stripes, &mut stripe_shelf);
+        take_classes(rt, classes, &mut class_shelf);
+        judge::<N>(&board, &mut stripe_shelf, &mut class_shelf);
+        Final::new(board, stripe_shelf, class_shelf)
+    }
+}

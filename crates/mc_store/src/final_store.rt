@@ -1,0 +1,79 @@
+//! A closed store.
+ghost use Rattle.std.specs.Prelude.{◌≡◌, ◌<◌, ◌≤◌, ◌-◌, length, slice_index_or};
+ghost use Rattle.mc_store.specs.Finals.{IsBehindClasses, IsBehindStripes};
+ghost use Rattle.mc_store.specs.Sides.{AreClassesOn, AreStripesOn, ClassSide, StripeSide};
+
+use crate::comparing::{compare_classes, compare_stripes};
+use crate::named::Named;
+use crate::owned_class::OwnedClass;
+use crate::owned_stripe::OwnedStripe;
+use crate::pass::Pass;
+use mc_board::Board;
+use mc_item::{ClassNo, StripeNo};
+use mc_segment::ClassState;
+use mc_stripe::StripeState;
+use std::marker::Model;
+
+/// All stripes and all classes of a closed store, in the order of their numbers. It has no name, so that it outlives the
+/// function that opened the store.
+#[derive(Drop)]
+pub struct Final {
+    board: Board,
+    stripes: Vec<OwnedStripe>,
+    classes: Vec<OwnedClass>,
+}
+
+impl Model for Final {
+    ghost use Rattle.mc_store.specs.Finals.{FinalView};
+    ghost use Rattle.mc_store.specs.Sides.{AreClassesOn, AreStripesOn};
+
+    ghost Value = { FinalView };
+
+    ghost view = { λ f. record { board = f.board.table; stripes = f.stripes.items; classes = f.classes.items } };
+
+    ghost invariant = { λ f. AreStripesOn f.board.table f.stripes.items × AreClassesOn f.board.table f.classes.items };
+}
+
+impl Final {
+    // These stripes and classes of one board.
+    pub(crate) fn new(board: Board, stripes: Vec<OwnedStripe>, classes: Vec<OwnedClass>) -> Final
+        requires stripes { AreStripesOn board.table stripes.items }
+        requires classes { AreClassesOn board.table classes.items }
+        ensures { result ≡ record { board = board.table; stripes = stripes.items; classes = classes.items } }
+    {
+        Final {
+            board,
+            stripes,
+            classes,
+        }
+    }
+
+    /// The stripe of a number.
+    pub fn stripe(&self, number: StripeNo) -> &StripeState
+        requires number { number.0 < length self.now.stripes }
+        ensures { (d : StripeSide) → result.now ≡ (slice_index_or self.now.stripes number.0 d).stripe }
+    {
+        self.stripes[number.0 as usize].state()
+    }
+
+    /// The class of a number; they are numbered from 1.
+    pub fn class(&self, number: ClassNo) -> &ClassState
+        requires number { (1 ≤ number.0) × (number.0 ≤ length self.now.classes) }
+        ensures { (d : ClassSide) → result.now ≡ (slice_index_or self.now.classes (number.0 - 1) d).class }
+    {
+        self.classes[number.0 as usize - 1].state()
+    }
+
+    /// Compares a pass of the store with it: what the pass has seen of each lock is a beginning of that one's final
+    /// history, and what it has noted is at most its length. Nothing changes. It takes no memory and waits for nobody.
+    pub fn compare<N: Named>(&mut self, pass: &mut Pass<N>)
+        requires board { self.old.board ≡ N.board.table }
+        ensures same { (self.new ≡ self.old) × (pass.new ≡ pass.old) }
+        ensures stripes { IsBehindStripes pass.old.sight self.old.stripes }
+        ensures classes { IsBehindClasses pass.old.sight self.old.classes }
+    {
+        let seen = &mut pass.seen;
+        compare_stripes(&self.board, &mut self.stripes, seen);
+        compare_classes(&self.board, &mut self.classes, seen);
+    }
+}

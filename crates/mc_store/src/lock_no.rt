@@ -1,0 +1,9 @@
+//! Which lock of a store is meant.
+use mc_item::{ClassNo, StripeNo};
+
+/// The lock of a stripe or of a class, by its number.
+#[derive(Clone, Copy)]
+pub enum LockNo {
+    Stripe(StripeNo),
+    Class(ClassNo),
+}

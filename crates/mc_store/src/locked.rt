@@ -1,0 +1,97 @@
+//! What lies under the locks. Each is of the board and the configuration that N names, and its history is sound by what it
+//! has seen of the others.
+ghost use Rattle.std.specs.Prelude.{◌≡◌};
+ghost use Rattle.mc_store.specs.Locked.{IsLockedClass, IsLockedStripe};
+
+use crate::named::Named;
+use crate::owned_class::OwnedClass;
+use crate::owned_stripe::OwnedStripe;
+use std::marker::{Model, PhantomData};
+
+/// A stripe under its lock.
+#[derive(Drop)]
+pub(crate) struct LockedStripe<N: Named> {
+    pub(crate) side: OwnedStripe,
+    of: PhantomData<N>,
+}
+
+impl<N: Named> Model for LockedStripe<N> {
+    ghost use Rattle.mc_store.specs.Sides.{StripeSide};
+    ghost use Rattle.mc_store.specs.Locked.{IsLockedStripe};
+
+    ghost Value = { StripeSide };
+
+    ghost view = { λ l. l.side };
+
+    ghost invariant = { λ l. IsLockedStripe N.board.table N.config l.side };
+}
+
+impl<N: Named> LockedStripe<N> {
+    // Under a lock from now on.
+    pub(crate) fn new(side: OwnedStripe) -> LockedStripe<N>
+        requires { IsLockedStripe N.board.table N.config side }
+        ensures { result ≡ side }
+    {
+        LockedStripe {
+            side,
+            of: PhantomData,
+        }
+    }
+
+    // The stripe, for reading.
+    pub(crate) fn side(&self) -> &OwnedStripe
+        ensures value { result.now ≡ self.now }
+        ensures kept { IsLockedStripe N.board.table N.config self.now }
+    {
+        &self.side
+    }
+
+    // Out of its lock.
+    pub(crate) fn into_side(self) -> OwnedStripe
+        ensures value { result ≡ self }
+        ensures kept { IsLockedStripe N.board.table N.config result }
+    {
+        let LockedStripe { side, of: _ } = self;
+        side
+    }
+}
+
+/// A class under its lock.
+#[derive(Drop)]
+pub(crate) struct LockedClass<N: Named> {
+    pub(crate) side: OwnedClass,
+    of: PhantomData<N>,
+}
+
+impl<N: Named> Model for LockedClass<N> {
+    ghost use Rattle.mc_store.specs.Sides.{ClassSide};
+    ghost use Rattle.mc_store.specs.Locked.{IsLockedClass};
+
+    ghost Value = { ClassSide };
+
+    ghost view = { λ l. l.side };
+
+    ghost invariant = { λ l. IsLockedClass N.board.table N.config l.side };
+}
+
+impl<N: Named> LockedClass<N> {
+    // Under a lock from now on.
+    pub(crate) fn new(side: OwnedClass) -> LockedClass<N>
+        requires { IsLockedClass N.board.table N.config side }
+        ensures { result ≡ side }
+    {
+        LockedClass {
+            side,
+            of: PhantomData,
+        }
+    }
+
+    // Out of its lock.
+    pub(crate) fn into_side(self) -> OwnedClass
+        ensures value { result ≡ self }
+        ensures kept { IsLockedClass N.board.table N.config result }
+    {
+        let LockedClass { side, of: _ } = self;
+        side
+    }
+}

@@ -1,0 +1,66 @@
+//! Calls that change nothing but what a pass has noted: visits, counts and meetings.
+ghost use Rattle.std.specs.Prelude.{◌≡◌, ◌<◌, ◌≤◌, length};
+ghost use Rattle.std.specs.Fn.{FnOnceReturnsAt, FnOnceTakesAt};
+ghost use Rattle.mc_board.specs.Histories.{list_at, number_at, with_noted, AreInLine};
+ghost use Rattle.mc_board.specs.Views.{locks_of};
+ghost use Rattle.mc_store.specs.Locked.{lock_of, IsLock, IsStripeUnder};
+ghost use Rattle.mc_store.specs.Sides.{StripeSide};
+
+use crate::lock_no::LockNo;
+use crate::named::Named;
+use crate::pass::Pass;
+use crate::store::Store;
+use mc_item::StripeNo;
+use mc_stripe::StripeState;
+use std::sync::Wait;
+
+impl<N: Named> Store<N> {
+    /// Lends a stripe of the store to the job, for reading, while its lock is held: it is as its lock keeps it. It waits
+    /// for the lock.
+    pub fn visit_stripe<T, J: FnOnce(&StripeState) -> T>(
+        &self,
+        rt: &impl Wait,
+        stripe: StripeNo,
+        job: J,
+    ) -> T
+        requires number { stripe.0 < N.config.stripes }
+        requires job { (s : StripeSide) → IsStripeUnder N.board.table N.config stripe.0 s → FnOnceTakesAt J.FnOnce job s.stripe }
+        ensures visited { (s : StripeSide) × IsStripeUnder N.board.table N.config stripe.0 s × FnOnceReturnsAt J.FnOnce job s.stripe result }
+    {
+        let guard = self.lock_stripe(rt, stripe);
+        job(guard.side().state())
+    }
+
+    // The lock of a number.
+    fn lock_of(&self, lock: LockNo) -> usize
+        requires { IsLock N.config lock }
+        ensures place { result ≡ lock_of N.config lock }
+        ensures within { result < locks_of N.board.counts }
+    {
+        match lock {
+            LockNo::Stripe(number) => number.0 as usize,
+            LockNo::Class(number) => self.config.stripes as usize + (number.0 as usize - 1),
+        }
+    }
+
+    /// How many events the history of a lock has at one atomic step: no fewer than the pass has seen of it, and than each
+    /// answer that it had before. The pass notes it. It takes no memory and waits for nobody.
+    pub fn events(&self, pass: &mut Pass<N>, lock: LockNo) -> u64
+        requires { IsLock N.config lock }
+        ensures noted { pass.new ≡ record pass.old { sight = with_noted pass.old.sight (lock_of N.config lock) result } }
+        ensures seen { length (list_at pass.old.sight.seen (lock_of N.config lock)) ≤ result }
+        ensures later { number_at pass.old.sight.noted (lock_of N.config lock) ≤ result }
+    {
+        let place = self.lock_of(lock);
+        pass.seen.count(&self.board, place)
+    }
+
+    /// Compares two passes: of each lock what one has seen is a beginning of what the other has. Nothing changes. It takes
+    /// no memory and waits for nobody.
+    pub fn meet(&self, pass: &mut Pass<N>, other: &mut Pass<N>)
+        ensures same { (pass.new ≡ pass.old) × (other.new ≡ other.old) }
+        ensures in_line { AreInLine pass.old.sight other.old.sight }
+    {
+        pass.seen.meet(&self.board, &mut other.seen);
+    }
+}

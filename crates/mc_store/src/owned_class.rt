@@ -1,0 +1,99 @@
+//! A slab class with its tokens of the board.
+ghost use Rattle.std.specs.Prelude.{◌≡◌, []};
+ghost use mathlib.Core.List.{IsPrefix};
+ghost use Rattle.mc_board.specs.Histories.{with_seen, Grows};
+ghost use Rattle.mc_store.specs.Finals.{IsBehindAt};
+ghost use Rattle.mc_store.specs.Sides.{class_told, stripe_told};
+
+use crate::owned_stripe::OwnedStripe;
+use mc_board::{Board, Owner, Seen};
+use mc_item::ClassNo;
+use mc_segment::ClassState;
+use std::marker::Model;
+
+/// A class, the token that tells its history to the board, and what it has seen of all locks. The board has its whole
+/// history. Its parts can be lent apart: the class to a walk, the tokens to the gate of that walk; behind it the owner
+/// catches up.
+#[derive(Drop)]
+pub(crate) struct OwnedClass {
+    pub(crate) state: ClassState,
+    pub(crate) owner: Owner,
+    pub(crate) seen: Seen,
+}
+
+impl Model for OwnedClass {
+    ghost use Rattle.std.specs.Prelude.{◌≡◌};
+    ghost use Rattle.mc_store.specs.Sides.{ClassSide, class_told};
+
+    ghost Value = { ClassSide };
+
+    ghost view = { λ s. record { board = s.owner.board; lock = s.owner.lock; class = s.state; sight = s.seen.sight } };
+
+    ghost invariant = { λ s.
+        (s.owner.history ≡ class_told s.state.history)
+        × (s.seen.board ≡ s.owner.board) };
+}
+
+// Adds to the board each event of the class that it doesn't have yet.
+pub(crate) fn catch_up_class(state: &ClassState, owner: &mut Owner, board: &Board)
+    requires board { owner.old.board ≡ board.now.table }
+    requires behind { IsPrefix owner.old.history (class_told state.now.history) }
+    ensures { owner.new ≡ record owner.old { history = class_told state.now.history } }
+{
+    state.law();
+    owner.catch_up(board, state.history());
+}
+
+impl OwnedClass {
+    // A class without events, its owner and its token.
+    pub(crate) fn new(state: ClassState, owner: Owner, seen: Seen) -> OwnedClass
+        requires empty { (state.history ≡ []) × (owner.history ≡ []) }
+        requires board { seen.board ≡ owner.board }
+        ensures { result ≡ record { board = owner.board; lock = owner.lock; class = state; sight = seen.sight } }
+    {
+        OwnedClass { state, owner, seen }
+    }
+
+    // The number of the class.
+    pub(crate) fn number(&self) -> ClassNo
+        ensures { result ≡ self.now.class.number }
+    {
+        self.state.number()
+    }
+
+    // The class, for reading.
+    pub(crate) fn state(&self) -> &ClassState
+        ensures { result.now ≡ self.now.class }
+    {
+        &self.state
+    }
+
+    // Compares the history with a token: what the token has seen and noted is behind it. Nothing changes.
+    pub(crate) fn compare(&mut self, board: &Board, seen: &mut Seen)
+        requires board { (self.old.board ≡ board.now.table) × (seen.old.board ≡ board.now.table) }
+        ensures same { (self.new ≡ self.old) × (seen.new ≡ seen.old) }
+        ensures behind { IsBehindAt seen.old.sight self.old.lock (class_told self.old.class.history) }
+    {
+        self.owner.compare(board, seen);
+    }
+
+    // Tells a token the whole history.
+    pub(crate) fn tell(&mut self, board: &Board, seen: &mut Seen)
+        requires board { (self.old.board ≡ board.now.table) × (seen.old.board ≡ board.now.table) }
+        ensures same { self.new ≡ self.old }
+        ensures told { seen.new ≡ record seen.old { sight = with_seen seen.old.sight self.old.lock (class_told self.old.class.history) } }
+        ensures grows { Grows seen.old.sight seen.new.sight }
+    {
+        self.owner.tell(board, seen);
+    }
+
+    // The class is told a stripe's whole history.
+    pub(crate) fn hear(&mut self, board: &Board, stripe: &mut OwnedStripe)
+        requires board { (self.old.board ≡ board.now.table) × (stripe.old.board ≡ board.now.table) }
+        ensures stripe { stripe.new ≡ stripe.old }
+        ensures told { self.new ≡ record self.old { sight = with_seen self.old.sight stripe.old.lock (stripe_told stripe.old.stripe.history) } }
+        ensures grows { Grows self.old.sight self.new.sight }
+    {
+        stripe.tell(board, &mut self.seen);
+    }
+}

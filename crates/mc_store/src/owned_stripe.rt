@@ -1,0 +1,98 @@
+//! A stripe with its tokens of the board.
+ghost use Rattle.std.specs.Prelude.{◌≡◌, []};
+ghost use mathlib.Core.List.{IsPrefix};
+ghost use Rattle.mc_board.specs.Histories.{with_seen, Grows};
+ghost use Rattle.mc_store.specs.Finals.{IsBehindAt};
+ghost use Rattle.mc_store.specs.Sides.{class_told, stripe_told};
+
+use crate::owned_class::OwnedClass;
+use mc_board::{Board, Owner, Seen};
+use mc_item::StripeNo;
+use mc_stripe::StripeState;
+use std::marker::Model;
+
+/// A stripe, the token that tells its history to the board, and what it has seen of all locks. The board has its whole
+/// history. Its parts can be lent apart: the stripe to a walk, the tokens to the gate of that walk; behind it the owner
+/// catches up.
+#[derive(Drop)]
+pub(crate) struct OwnedStripe {
+    pub(crate) state: StripeState,
+    pub(crate) owner: Owner,
+    pub(crate) seen: Seen,
+}
+
+impl Model for OwnedStripe {
+    ghost use Rattle.std.specs.Prelude.{◌≡◌};
+    ghost use Rattle.mc_store.specs.Sides.{StripeSide, stripe_told};
+
+    ghost Value = { StripeSide };
+
+    ghost view = { λ s. record { board = s.owner.board; lock = s.owner.lock; stripe = s.state; sight = s.seen.sight } };
+
+    ghost invariant = { λ s.
+        (s.owner.history ≡ stripe_told s.state.history)
+        × (s.seen.board ≡ s.owner.board) };
+}
+
+// Adds to the board each event of the stripe that it doesn't have yet.
+pub(crate) fn catch_up_stripe(state: &StripeState, owner: &mut Owner, board: &Board)
+    requires board { owner.old.board ≡ board.now.table }
+    requires behind { IsPrefix owner.old.history (stripe_told state.now.history) }
+    ensures { owner.new ≡ record owner.old { history = stripe_told state.now.history } }
+{
+    owner.catch_up(board, state.history());
+}
+
+impl OwnedStripe {
+    // A stripe without events, its owner and its token.
+    pub(crate) fn new(state: StripeState, owner: Owner, seen: Seen) -> OwnedStripe
+        requires empty { (state.history ≡ []) × (owner.history ≡ []) }
+        requires board { seen.board ≡ owner.board }
+        ensures { result ≡ record { board = owner.board; lock = owner.lock; stripe = state; sight = seen.sight } }
+    {
+        OwnedStripe { state, owner, seen }
+    }
+
+    // The number of the stripe.
+    pub(crate) fn number(&self) -> StripeNo
+        ensures { result.0 ≡ self.now.stripe.site.stripe }
+    {
+        self.state.number()
+    }
+
+    // The stripe, for reading.
+    pub(crate) fn state(&self) -> &StripeState
+        ensures { result.now ≡ self.now.stripe }
+    {
+        &self.state
+    }
+
+    // Compares the history with a token: what the token has seen and noted is behind it. Nothing changes.
+    pub(crate) fn compare(&mut self, board: &Board, seen: &mut Seen)
+        requires board { (self.old.board ≡ board.now.table) × (seen.old.board ≡ board.now.table) }
+        ensures same { (self.new ≡ self.old) × (seen.new ≡ seen.old) }
+        ensures behind { IsBehindAt seen.old.sight self.old.lock (stripe_told self.old.stripe.history) }
+    {
+        self.owner.compare(board, seen);
+    }
+
+    // Tells a token the whole history.
+    pub(crate) fn tell(&mut self, board: &Board, seen: &mut Seen)
+        requires board { (self.old.board ≡ board.now.table) × (seen.old.board ≡ board.now.table) }
+        ensures same { self.new ≡ self.old }
+        ensures told { seen.new ≡ record seen.old { sight = with_seen seen.old.sight self.old.lock (stripe_told self.old.stripe.history) } }
+        ensures grows { Grows seen.old.sight seen.new.sight }
+    {
+        self.owner.tell(board, seen);
+    }
+
+    // The stripe is told a class's whole history.
+    pub(crate) fn hear(&mut self, board: &Board, class: &mut OwnedClass)
+        requires board { (self.old.board ≡ board.now.table) × (class.old.board ≡ board.now.table) }
+        ensures class { class.new ≡ class.old }
+        ensures told { self.new ≡ record self.old { sight = with_seen self.old.sight class.old.lock (class_told class.old.class.history) } }
+        ensures grows { Grows self.old.sight self.new.sight }
+    {
+        class.tell(board, &mut self.seen);
+    }
+}

@@ -1,0 +1,68 @@
+//! The shared store: stripes and slab classes, each behind a lock of its own.
+ghost use Rattle.std.specs.Prelude.{◌≡◌, ◌<◌};
+ghost use Rattle.std.specs.Sync.Mutex.{mutex_guard_value};
+ghost use Rattle.mc_store.specs.Locked.{IsStripeUnder};
+
+use crate::locked::{LockedClass, LockedStripe};
+use crate::named::Named;
+use crate::shelf::Shelf;
+use crossbeam_utils::Backoff;
+use mc_board::Board;
+use mc_item::{Config, StripeNo};
+use std::marker::{Model, PhantomData};
+use std::sync::{Mutex, MutexGuard, Wait};
+
+/// A store that threads share: its stripes and its classes, each behind a lock of its own. Contracts see the
+/// configuration that it was made with.
+#[derive(Drop)]
+pub struct Store<N: Named> {
+    pub(crate) board: Board,
+    pub(crate) config: Config,
+    pub(crate) stripes: Vec<Mutex<LockedStripe<N>>>,
+    pub(crate) classes: Vec<Mutex<LockedClass<N>>>,
+    pub(crate) shelf: Mutex<Shelf<N>>,
+    pub(crate) of: PhantomData<N>,
+}
+
+impl<N: Named> Model for Store<N> {
+    ghost use Rattle.std.specs.Prelude.{◌≡◌, length, vec_len};
+    ghost use Rattle.mc_item.specs.Config.{IsBounded};
+    ghost use Rattle.mc_item.specs.declared.config.Config.{Config};
+    ghost use Rattle.mc_board.specs.Views.{locks_of};
+    ghost use Rattle.mc_store.specs.Locked.{locks_for};
+
+    ghost Value = { Config };
+
+    ghost view = { λ s. s.config };
+
+    ghost invariant = { λ s.
+        (s.board ≡ N.board)
+        × (s.config ≡ N.config)
+        × IsBounded N.config
+        × (locks_of N.board.counts ≡ locks_for N.config)
+        × (vec_len s.stripes ≡ N.config.stripes)
+        × (vec_len s.classes ≡ length N.config.sizes) };
+}
+
+impl<N: Named> Store<N> {
+    // Locks a stripe. A state of another number than its place's, of which there is none, would be let go and tried again.
+    pub(crate) fn lock_stripe<'a>(
+        &'a self,
+        rt: &impl Wait,
+        stripe: StripeNo,
+    ) -> MutexGuard<'a, LockedStripe<N>>
+        requires { stripe.0 < N.config.stripes }
+        ensures { (mutex_guard_value result).stripe.site.stripe ≡ stripe.0 }
+    {
+        let pause = Backoff::new();
+        for _ in rt.forever() {
+            let guard = self.stripes[stripe.0 as usize].lock(rt);
+            if guard.side().number() == stripe {
+                return guard;
+            }
+            drop(guard);
+            pause.snooze();
+        }
+        unreachable!()
+    }
+}
