@@ -1,0 +1,5 @@
+//! Tests of the shared store.
+#![tactic(auto)]
+
+#[cfg(test)]
+mod tests;
