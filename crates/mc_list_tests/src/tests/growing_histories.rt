@@ -50,6 +50,57 @@ fn three_appended_events_are_counted(rt: HostRuntime) -> Result<(), Fail> {
     Ok(())
 }
 
+// Lets an owner without events catch up with a list, and once more.
+fn catch_up_twice<E: Logged>(board: &Board, owner: &mut Owner, events: &[E])
+    requires board { owner.old.board ≡ board.now.table }
+    requires empty { owner.old.history ≡ [] }
+    requires few { length events.now ≤ 2 ^ 32 }
+    ensures { (owner.new.board ≡ owner.old.board) × (owner.new.lock ≡ owner.old.lock) }
+{
+    owner.catch_up(board, events);
+    owner.catch_up(board, events);
+}
+
+// An owner without events catches up with two, each of which is added once.
+#[test]
+fn an_owner_catches_up_with_a_list(rt: HostRuntime) -> Result<(), Fail> {
+    let first = ClassEvent::Unlinked(Unlinked {
+        who: WHO,
+        number: 1,
+    });
+    let second = ClassEvent::Unlinked(Unlinked {
+        who: WHO,
+        number: 2,
+    });
+    let events = vec![in rt.alloc(); first, second]?;
+    let (board, mut owners, mut token) = Board::open(rt.alloc(), 3)?;
+    assert_eq!(rt; owners.len(), 3);
+    catch_up_twice(&board, &mut owners[2], events.as_slice());
+    assert_eq!(rt; three_counts(&board, &mut token), [0, 0, 2]);
+    Ok(())
+}
+
+// One token was told of lock 0, another of lock 1. Once the second has learnt what the first has seen, it counts both.
+#[test]
+fn a_token_learns_what_another_has_seen(rt: HostRuntime) -> Result<(), Fail> {
+    let event = ClassEvent::Unlinked(Unlinked {
+        who: WHO,
+        number: 1,
+    });
+    let (board, mut owners, mut first) = Board::open(rt.alloc(), 3)?;
+    let mut second = first.split(&board);
+    assert_eq!(rt; owners.len(), 3);
+    append_many(&board, &mut owners[0], &event, 2);
+    append_many(&board, &mut owners[1], &event, 1);
+    owners[0].tell(&board, &mut first);
+    owners[1].tell(&board, &mut second);
+    second.learn(&board, &mut first);
+    owners[0].compare(&board, &mut second);
+    owners[1].compare(&board, &mut second);
+    assert_eq!(rt; three_counts(&board, &mut second), [2, 1, 0]);
+    Ok(())
+}
+
 #[test]
 fn a_board_without_locks_opens(rt: HostRuntime) -> Result<(), Fail> {
     let (board, owners, mut root) = Board::open(rt.alloc(), 0)?;
