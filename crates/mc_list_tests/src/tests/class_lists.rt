@@ -3,8 +3,11 @@
 ghost use Rattle.std.specs.Prelude.{◌≡◌, ◌≤◌, ◌^◌, IfOk};
 ghost use Rattle.mc_item.specs.Config.{IsSound};
 
-use super::WHO;
-use mc_item::{ClassNo, Config, Entry, Expiry, Fault, Key, KeyBuffer, Numbers, Passed, Seg, Why};
+use super::{
+    WHO, asserts_bytes, asserts_count, asserts_events, asserts_gone, asserts_key, asserts_number,
+    asserts_time,
+};
+use mc_item::{ClassNo, Config, Expiry, Fault, Key, KeyBuffer, Numbers, Passed, Seg, Why};
 use mc_segment::{ClassState, Survey};
 use std::alloc::Global;
 use std::process::Abort;
@@ -68,6 +71,21 @@ pub(super) fn link(
     requires { cost ≤ 2 ^ 20 }
 {
     try_link(rt, class, key, cost, moment, expiry).expect(rt, "a link")
+}
+
+// A new entry of this key, and this is its number.
+fn links(
+    rt: &impl Abort,
+    class: &mut ClassState,
+    key: Key,
+    cost: u64,
+    moment: u64,
+    expiry: Expiry,
+    number: u64,
+)
+    requires { cost ≤ 2 ^ 20 }
+{
+    assert_eq!(rt; link(rt, class, key, cost, moment, expiry), number);
 }
 
 // The key of these bytes.
@@ -150,20 +168,20 @@ fn reclaim(rt: &impl Abort, class: &mut ClassState, number: u64, moment: u64) {
         .expect(rt, "a removal");
 }
 
-// A full class has no chunk; the place of the event.
-fn refuse(rt: &impl Abort, class: &mut ClassState) -> u64 {
+// A full class has no chunk, and its event stands at this place.
+fn refuses(rt: &impl Abort, class: &mut ClassState, place: u64) {
     assert!(rt; class.chunks() <= class.count());
-    class.refuse(WHO).expect(rt, "a refusal")
+    assert_eq!(rt; class.refuse(WHO).expect(rt, "a refusal"), place);
 }
 
-// The survey at a moment.
-fn survey(rt: &impl Abort, class: &mut ClassState, moment: u64) -> Survey {
-    class.survey(WHO, moment).expect(rt, "a survey")
-}
-
-// The j-th entry from a segment's tail.
-fn entry_at<'a>(rt: &impl Abort, class: &'a ClassState, seg: Seg, j: u64) -> &'a Entry {
-    class.from_tail(seg, j).expect(rt, "an entry")
+// The survey at a moment: its place, its total and COLD's age.
+fn surveys(rt: &impl Abort, class: &mut ClassState, moment: u64, wanted: [u64; 3]) {
+    let Survey {
+        place,
+        total,
+        cold_age,
+    } = class.survey(WHO, moment).expect(rt, "a survey");
+    assert_eq!(rt; [place, total, cold_age], wanted);
 }
 
 // A worked example: two entries, a forced move, an eviction, a third entry and two surveys.
@@ -171,59 +189,26 @@ fn entry_at<'a>(rt: &impl Abort, class: &'a ClassState, seg: Seg, j: u64) -> &'a
 fn the_oldest_is_forced_out(rt: HostRuntime) -> Result<(), Fail> {
     let alloc = rt.alloc();
     let mut class = class_with(alloc, 2, false)?;
-    let number = link(
-        &rt,
-        &mut class,
+    let (a, b, c) = (
         key(&rt, alloc, b"a"),
-        66,
-        1000,
-        Expiry::Never,
-    );
-    assert_eq!(rt; number, 0);
-    let number = link(
-        &rt,
-        &mut class,
         key(&rt, alloc, b"b"),
-        66,
-        1000,
-        Expiry::Never,
-    );
-    assert_eq!(rt; number, 1);
-    assert_eq!(rt; class.bytes(Seg::Hot), 132);
-    assert_eq!(rt; class.count(), 2);
-    force(&rt, &mut class, 0, 1000);
-    assert_eq!(rt; class.bytes(Seg::Hot), 66);
-    assert_eq!(rt; class.bytes(Seg::Cold), 66);
-    assert_eq!(rt;
-        survey(&rt, &mut class, 1003),
-        Survey {
-            place: 3,
-            total: 132,
-            cold_age: 3
-        }
-    );
-    evict(&rt, &mut class, 0);
-    assert_eq!(rt; class.count(), 1);
-    let number = link(
-        &rt,
-        &mut class,
         key(&rt, alloc, b"c"),
-        66,
-        1004,
-        Expiry::Never,
     );
-    assert_eq!(rt; number, 2);
+    links(&rt, &mut class, a, 66, 1000, Expiry::Never, 0);
+    links(&rt, &mut class, b, 66, 1000, Expiry::Never, 1);
+    asserts_bytes(&rt, &class, Seg::Hot, 132);
+    asserts_count(&rt, &class, 2);
+    force(&rt, &mut class, 0, 1000);
+    asserts_bytes(&rt, &class, Seg::Hot, 66);
+    asserts_bytes(&rt, &class, Seg::Cold, 66);
+    surveys(&rt, &mut class, 1003, [3, 132, 3]);
+    evict(&rt, &mut class, 0);
+    asserts_count(&rt, &class, 1);
+    links(&rt, &mut class, c, 66, 1004, Expiry::Never, 2);
     unlink(&rt, &mut class, 1);
-    assert_eq!(rt; class.segment_of(1), None);
-    assert_eq!(rt;
-        survey(&rt, &mut class, 1005),
-        Survey {
-            place: 7,
-            total: 66,
-            cold_age: 0
-        }
-    );
-    assert_eq!(rt; class.history().len(), 8);
+    asserts_gone(&rt, &class, 1);
+    surveys(&rt, &mut class, 1005, [7, 66, 0]);
+    asserts_events(&rt, &class, 8);
     Ok(())
 }
 
@@ -231,20 +216,21 @@ fn the_oldest_is_forced_out(rt: HostRuntime) -> Result<(), Fail> {
 fn hits_set_the_time_and_forced_moves_keep_it(rt: HostRuntime) -> Result<(), Fail> {
     let alloc = rt.alloc();
     let mut class = class_with(alloc, 1, false)?;
-    link(
+    links(
         &rt,
         &mut class,
         key(&rt, alloc, b"a"),
         66,
         1000,
         Expiry::Never,
+        0,
     );
     force(&rt, &mut class, 0, 1010);
-    assert_eq!(rt; entry_at(&rt, &class, Seg::Cold, 0).time, 1000);
+    asserts_time(&rt, &class, Seg::Cold, 1000);
     hit(&rt, &mut class, 0, 1020);
-    assert_eq!(rt; entry_at(&rt, &class, Seg::Warm, 0).time, 1020);
+    asserts_time(&rt, &class, Seg::Warm, 1020);
     keep_active(&rt, &mut class, 0, 1030);
-    assert_eq!(rt; entry_at(&rt, &class, Seg::Warm, 0).time, 1030);
+    asserts_time(&rt, &class, Seg::Warm, 1030);
     assert_eq!(rt; class.segment_of(0), Some(Seg::Warm));
     Ok(())
 }
@@ -253,50 +239,47 @@ fn hits_set_the_time_and_forced_moves_keep_it(rt: HostRuntime) -> Result<(), Fai
 fn what_dies_soon_goes_to_temp(rt: HostRuntime) -> Result<(), Fail> {
     let alloc = rt.alloc();
     let mut class = class_with(alloc, 4, true)?;
-    link(
+    links(
         &rt,
         &mut class,
         key(&rt, alloc, b"a"),
         66,
         1000,
         Expiry::At(1061),
+        0,
     );
-    link(
+    links(
         &rt,
         &mut class,
         key(&rt, alloc, b"b"),
         67,
         1000,
         Expiry::At(1062),
+        1,
     );
-    link(
+    links(
         &rt,
         &mut class,
         key(&rt, alloc, b"c"),
         68,
         1000,
         Expiry::At(1000),
+        2,
     );
-    link(
+    links(
         &rt,
         &mut class,
         key(&rt, alloc, b"d"),
         69,
         1000,
         Expiry::Never,
+        3,
     );
-    assert_eq!(rt; class.bytes(Seg::Temp), 66);
-    assert_eq!(rt; class.bytes(Seg::Hot), 204);
+    asserts_bytes(&rt, &class, Seg::Temp, 66);
+    asserts_bytes(&rt, &class, Seg::Hot, 204);
     assert_eq!(rt; class.next_number(), 4);
-    assert_eq!(rt;
-        survey(&rt, &mut class, 1000),
-        Survey {
-            place: 4,
-            total: 204,
-            cold_age: 0
-        },
-        "TEMP isn't counted"
-    );
+    // TEMP isn't counted.
+    surveys(&rt, &mut class, 1000, [4, 204, 0]);
     Ok(())
 }
 
@@ -304,42 +287,67 @@ fn what_dies_soon_goes_to_temp(rt: HostRuntime) -> Result<(), Fail> {
 fn lists_are_read_from_their_tails(rt: HostRuntime) -> Result<(), Fail> {
     let alloc = rt.alloc();
     let mut class = class_with(alloc, 3, false)?;
-    link(
+    links(
         &rt,
         &mut class,
         key(&rt, alloc, b"a"),
         66,
         1000,
         Expiry::Never,
+        0,
     );
-    link(
+    links(
         &rt,
         &mut class,
         key(&rt, alloc, b"b"),
         66,
         1001,
         Expiry::Never,
+        1,
     );
-    link(
+    links(
         &rt,
         &mut class,
         key(&rt, alloc, b"c"),
         66,
         1002,
         Expiry::Never,
+        2,
     );
     assert_eq!(rt; class.number(), ClassNo(1));
     assert_eq!(rt; class.chunks(), 3);
-    assert_eq!(rt; refuse(&rt, &mut class), 3);
+    refuses(&rt, &mut class, 3);
     reclaim(&rt, &mut class, 1, 1003);
-    assert_eq!(rt; entry_at(&rt, &class, Seg::Hot, 0).number, 0);
-    assert_eq!(rt; entry_at(&rt, &class, Seg::Hot, 1).number, 2);
-    assert_eq!(rt;
-        entry_at(&rt, &class, Seg::Hot, 1).key.bytes(),
-        b"c".as_slice()
-    );
-    assert!(rt; class.from_tail(Seg::Hot, 2).is_none());
+    asserts_number(&rt, &class, Seg::Hot, 0, Some(0));
+    asserts_number(&rt, &class, Seg::Hot, 1, Some(2));
+    asserts_key(&rt, &class, Seg::Hot, 1, b"c");
+    asserts_number(&rt, &class, Seg::Hot, 2, None);
     Ok(())
+}
+
+// A class without an entry or an event.
+fn asserts_new(rt: &impl Abort, class: &ClassState) {
+    asserts_events(rt, class, 0);
+    asserts_count(rt, class, 0);
+    assert_eq!(rt; class.next_number(), 0);
+}
+
+// A class whose only event is its entry in HOT.
+fn asserts_linked(rt: &impl Abort, class: &ClassState) {
+    asserts_events(rt, class, 1);
+    asserts_bytes(rt, class, Seg::Hot, 66);
+    asserts_bytes(rt, class, Seg::Cold, 0);
+}
+
+// An entry is linked and forced to COLD: a refused growth leaves the class as it was.
+fn link_and_force(rt: &impl Abort, class: &mut ClassState, key: Key) {
+    if try_link(rt, class, key, 66, 1000, Expiry::Never).is_err() {
+        asserts_new(rt, class);
+    } else if try_force(rt, class, 0, 1000).is_err() {
+        asserts_linked(rt, class);
+    } else {
+        asserts_bytes(rt, class, Seg::Cold, 66);
+    }
 }
 
 // Run with `rt try --test --fail-alloc N` it has each growth of the two calls refused in turn.
@@ -347,20 +355,15 @@ fn lists_are_read_from_their_tails(rt: HostRuntime) -> Result<(), Fail> {
 fn a_refused_growth_changes_nothing(rt: HostRuntime) -> Result<(), Fail> {
     let key = Key::of(rt.alloc(), b"a")?;
     let mut class = class_with(rt.alloc(), 1, false)?;
-    if try_link(&rt, &mut class, key, 66, 1000, Expiry::Never).is_err() {
-        assert_eq!(rt; class.history().len(), 0);
-        assert_eq!(rt; class.count(), 0);
-        assert_eq!(rt; class.next_number(), 0);
-        return Ok(());
-    }
-    if try_force(&rt, &mut class, 0, 1000).is_err() {
-        assert_eq!(rt; class.history().len(), 1);
-        assert_eq!(rt; class.bytes(Seg::Hot), 66);
-        assert_eq!(rt; class.bytes(Seg::Cold), 0);
-        return Ok(());
-    }
-    assert_eq!(rt; class.bytes(Seg::Cold), 66);
+    link_and_force(&rt, &mut class, key);
     Ok(())
+}
+
+// Sixteen surveys at one moment, the first at place 0.
+fn survey_16_times(rt: &impl Abort, class: &mut ClassState) {
+    for place in 0..16 {
+        surveys(rt, class, 1000, [place, 0, 0]);
+    }
 }
 
 #[test]
@@ -368,11 +371,9 @@ fn a_full_history_refuses(rt: HostRuntime) -> Result<(), Fail> {
     let mut class = class_with(rt.alloc(), 1, false)?;
     assert_eq!(rt; class.reserve(17), Err(Fault::HistoryFull));
     assert_eq!(rt; class.reserve(16), Ok(()));
-    for place in 0..16 {
-        assert_eq!(rt; survey(&rt, &mut class, 1000).place, place);
-    }
+    survey_16_times(&rt, &mut class);
     assert_eq!(rt; class.survey(WHO, 1000), Err(Fault::HistoryFull));
-    assert_eq!(rt; class.history().len(), 16);
+    asserts_events(&rt, &class, 16);
     Ok(())
 }
 

@@ -5,6 +5,7 @@ ghost use Rattle.mc_board.specs.Views.{locks_of};
 use super::WHO;
 use mc_board::{Board, Owner, Seen};
 use mc_item::{ClassEvent, Cooled, Key, Logged, StripeEvent, Unlinked};
+use std::process::Abort;
 use std::test::Fail;
 use std::thread;
 use std::thread::Threads;
@@ -20,6 +21,33 @@ fn append_many<E: Logged>(board: &Board, owner: &mut Owner, event: &E, times: u6
     }
 }
 
+// The owner appends the event this many times, and tells a token its history.
+fn append_and_tell<E: Logged>(
+    board: &Board,
+    owner: &mut Owner,
+    event: &E,
+    times: u64,
+    token: &mut Seen,
+)
+    requires board { (owner.old.board ≡ board.now.table) × (token.old.board ≡ board.now.table) }
+    requires room { length owner.old.history + times ≤ 2 ^ 32 }
+    ensures owner { (owner.new.board ≡ owner.old.board) × (owner.new.lock ≡ owner.old.lock) }
+    ensures token { token.new.board ≡ token.old.board }
+{
+    append_many(board, owner, event, times);
+    owner.tell(board, token);
+}
+
+// The owner tells one token its history, and is compared with another.
+fn tell_and_compare(board: &Board, owner: &mut Owner, told: &mut Seen, other: &mut Seen)
+    requires board { owner.old.board ≡ board.now.table }
+    requires tokens { (told.old.board ≡ board.now.table) × (other.old.board ≡ board.now.table) }
+    ensures tokens { (told.new.board ≡ told.old.board) × (other.new.board ≡ other.old.board) }
+{
+    owner.tell(board, told);
+    owner.compare(board, other);
+}
+
 // The counts of the locks 0, 1 and 2.
 fn three_counts(board: &Board, token: &mut Seen) -> [u64; 3]
     requires board { token.old.board ≡ board.now.table }
@@ -33,6 +61,15 @@ fn three_counts(board: &Board, token: &mut Seen) -> [u64; 3]
     ]
 }
 
+// Asserts the counts of the locks 0, 1 and 2.
+fn asserts_counts(rt: &impl Abort, board: &Board, token: &mut Seen, wanted: [u64; 3])
+    requires board { token.old.board ≡ board.now.table }
+    requires locks { locks_of board.now.counts ≡ 3 }
+    ensures { token.new.board ≡ token.old.board }
+{
+    assert_eq!(rt; three_counts(board, token), wanted);
+}
+
 #[test]
 fn three_appended_events_are_counted(rt: HostRuntime) -> Result<(), Fail> {
     let key = Key::of(rt.alloc(), b"a")?;
@@ -40,13 +77,12 @@ fn three_appended_events_are_counted(rt: HostRuntime) -> Result<(), Fail> {
     let (board, mut owners, mut root) = Board::open(rt.alloc(), 3)?;
     let mut token = root.split(&board);
     assert_eq!(rt; owners.len(), 3);
-    assert_eq!(rt; three_counts(&board, &mut root), [0, 0, 0]);
+    asserts_counts(&rt, &board, &mut root, [0, 0, 0]);
     append_many(&board, &mut owners[1], &event, 3);
-    assert_eq!(rt; three_counts(&board, &mut token), [0, 3, 0]);
-    owners[1].tell(&board, &mut root);
-    owners[1].compare(&board, &mut token);
+    asserts_counts(&rt, &board, &mut token, [0, 3, 0]);
+    tell_and_compare(&board, &mut owners[1], &mut root, &mut token);
     token.meet(&board, &mut root);
-    assert_eq!(rt; three_counts(&board, &mut root), [0, 3, 0]);
+    asserts_counts(&rt, &board, &mut root, [0, 3, 0]);
     Ok(())
 }
 
@@ -76,7 +112,7 @@ fn an_owner_catches_up_with_a_list(rt: HostRuntime) -> Result<(), Fail> {
     let (board, mut owners, mut token) = Board::open(rt.alloc(), 3)?;
     assert_eq!(rt; owners.len(), 3);
     catch_up_twice(&board, &mut owners[2], events.as_slice());
-    assert_eq!(rt; three_counts(&board, &mut token), [0, 0, 2]);
+    asserts_counts(&rt, &board, &mut token, [0, 0, 2]);
     Ok(())
 }
 
@@ -90,14 +126,12 @@ fn a_token_learns_what_another_has_seen(rt: HostRuntime) -> Result<(), Fail> {
     let (board, mut owners, mut first) = Board::open(rt.alloc(), 3)?;
     let mut second = first.split(&board);
     assert_eq!(rt; owners.len(), 3);
-    append_many(&board, &mut owners[0], &event, 2);
-    append_many(&board, &mut owners[1], &event, 1);
-    owners[0].tell(&board, &mut first);
-    owners[1].tell(&board, &mut second);
+    append_and_tell(&board, &mut owners[0], &event, 2, &mut first);
+    append_and_tell(&board, &mut owners[1], &event, 1, &mut second);
     second.learn(&board, &mut first);
     owners[0].compare(&board, &mut second);
     owners[1].compare(&board, &mut second);
-    assert_eq!(rt; three_counts(&board, &mut second), [2, 1, 0]);
+    asserts_counts(&rt, &board, &mut second, [2, 1, 0]);
     Ok(())
 }
 

@@ -1,8 +1,8 @@
 //! Calls of a class where room was made, one after the other: lists, places and surveys were worked out by hand.
 ghost use Rattle.std.specs.Prelude.{◌≤◌, ◌^◌};
 
-use super::WHO;
 use super::class_lists::{class_of, key};
+use super::{WHO, asserts_bytes, asserts_count, asserts_events};
 use mc_item::{Expiry, Key, Passed, Seg, Why};
 use mc_segment::{ClassState, Survey};
 use std::process::Abort;
@@ -59,17 +59,22 @@ fn reclaim(rt: &impl Abort, class: &mut ClassState, number: u64) {
     class.reclaim_reserved(WHO, number, 1005, 0);
 }
 
-// The survey at a moment.
-fn survey(rt: &impl Abort, class: &mut ClassState, moment: u64) -> Survey {
+// The survey at a moment: its place, its total and COLD's age.
+fn surveys(rt: &impl Abort, class: &mut ClassState, moment: u64, wanted: [u64; 3]) {
     class.reserve(1).expect(rt, "room");
-    class.survey_reserved(WHO, moment)
+    let Survey {
+        place,
+        total,
+        cold_age,
+    } = class.survey_reserved(WHO, moment);
+    assert_eq!(rt; [place, total, cold_age], wanted);
 }
 
-// A full class has no chunk; the place of the event.
-fn refuse(rt: &impl Abort, class: &mut ClassState) -> u64 {
+// A full class has no chunk, and its event stands at this place.
+fn refuses(rt: &impl Abort, class: &mut ClassState, place: u64) {
     class.reserve(1).expect(rt, "room");
     assert!(rt; class.is_full());
-    class.refuse_reserved(WHO)
+    assert_eq!(rt; class.refuse_reserved(WHO), place);
 }
 
 // Two entries fill the class, the older one is forced to COLD and taken, and the others go.
@@ -79,22 +84,17 @@ fn calls_after_a_reservation_make_their_events(rt: HostRuntime) -> Result<(), Fa
     let mut class = class_of(alloc, 2, false, 16)?;
     let (a, b) = (key(&rt, alloc, b"a"), key(&rt, alloc, b"b"));
     assert_eq!(rt; link_two(&rt, &mut class, a, b), 1);
-    assert_eq!(rt; refuse(&rt, &mut class), 2);
+    refuses(&rt, &mut class, 2);
     force(&rt, &mut class, 0);
-    assert_eq!(rt; class.bytes(Seg::Cold), 66);
-    let first = Survey {
-        place: 4,
-        total: 132,
-        cold_age: 3,
-    };
-    assert_eq!(rt; survey(&rt, &mut class, 1003), first);
+    asserts_bytes(&rt, &class, Seg::Cold, 66);
+    surveys(&rt, &mut class, 1003, [4, 132, 3]);
     evict(&rt, &mut class, 0);
     assert!(rt; !class.is_full());
     let c = key(&rt, alloc, b"c");
     assert_eq!(rt; link(&rt, &mut class, c, 70, 1004), 2);
     unlink(&rt, &mut class, 1);
     reclaim(&rt, &mut class, 2);
-    assert_eq!(rt; class.count(), 0);
-    assert_eq!(rt; class.history().len(), 9);
+    asserts_count(&rt, &class, 0);
+    asserts_events(&rt, &class, 9);
     Ok(())
 }

@@ -2,7 +2,8 @@
 ghost use Rattle.std.specs.Prelude.{◌≡◌, ◌≤◌};
 
 use super::class_lists::{class_of, key, link, unlink};
-use mc_item::{Expiry, Key, Passed, Seg};
+use super::{asserts_count, asserts_gone, asserts_len};
+use mc_item::{Expiry, Seg};
 use mc_segment::ClassState;
 use std::alloc::Global;
 use std::process::Abort;
@@ -17,10 +18,10 @@ fn link_until(rt: &impl Abort, alloc: Global, class: &mut ClassState, count: u64
 }
 
 // The numbers of the j entries nearest HOT's tail.
-fn passed(rt: &impl Abort, class: &ClassState, j: u64) -> Passed {
+fn asserts_passed(rt: &impl Abort, class: &ClassState, j: u64, wanted: &[u64]) {
     assert!(rt; j <= 4);
     assert!(rt; j <= class.len(Seg::Hot));
-    class.passed(Seg::Hot, j)
+    assert_eq!(rt; class.passed(Seg::Hot, j).as_slice(), wanted);
 }
 
 // The number of the next newer entry.
@@ -28,10 +29,26 @@ fn newer(class: &ClassState, number: u64) -> Option<u64> {
     Some(class.next_newer(number)?.number)
 }
 
-// A copy of the key of an entry.
-fn key_of(rt: &impl Abort, class: &ClassState, number: u64) -> Key {
+// The number of the next newer entry, where one is there.
+fn asserts_newer(rt: &impl Abort, class: &ClassState, number: u64, wanted: Option<u64>) {
+    assert_eq!(rt; newer(class, number), wanted);
+}
+
+// The cost of an entry, and a copy of its key.
+fn asserts_entry(rt: &impl Abort, class: &ClassState, number: u64, cost: u64, key: &[u8]) {
+    assert_eq!(rt; class.entry(number).expect(rt, "an entry").cost, cost);
     assert!(rt; class.segment_of(number).is_some());
-    class.key(number).expect(rt, "a key")
+    let copy = class.key(number).expect(rt, "a key");
+    assert_eq!(rt; copy.bytes(), key);
+}
+
+// Entries that came with one key go again, but for one.
+fn unlink_but(rt: &impl Abort, class: &mut ClassState, until: u64, kept: u64) {
+    for number in 0..until {
+        if number != kept {
+            unlink(rt, class, number);
+        }
+    }
 }
 
 #[test]
@@ -39,15 +56,15 @@ fn a_walk_goes_on_to_newer_entries(rt: HostRuntime) -> Result<(), Fail> {
     let alloc = rt.alloc();
     let mut class = class_of(alloc, 5, false, 16)?;
     link_until(&rt, alloc, &mut class, 5);
-    assert_eq!(rt; passed(&rt, &class, 0).as_slice().len(), 0);
-    assert_eq!(rt; passed(&rt, &class, 4).as_slice(), [0, 1, 2, 3].as_slice());
-    assert_eq!(rt; newer(&class, 0), Some(1));
-    assert_eq!(rt; newer(&class, 4), None);
-    assert_eq!(rt; newer(&class, 5), None);
+    asserts_passed(&rt, &class, 0, &[]);
+    asserts_passed(&rt, &class, 4, &[0, 1, 2, 3]);
+    asserts_newer(&rt, &class, 0, Some(1));
+    asserts_newer(&rt, &class, 4, None);
+    asserts_newer(&rt, &class, 5, None);
     unlink(&rt, &mut class, 1);
-    assert_eq!(rt; newer(&class, 0), Some(2));
-    assert_eq!(rt; newer(&class, 1), None);
-    assert_eq!(rt; passed(&rt, &class, 2).as_slice(), [0, 2].as_slice());
+    asserts_newer(&rt, &class, 0, Some(2));
+    asserts_newer(&rt, &class, 1, None);
+    asserts_passed(&rt, &class, 2, &[0, 2]);
     Ok(())
 }
 
@@ -60,10 +77,9 @@ fn an_entry_is_told_by_its_number(rt: HostRuntime) -> Result<(), Fail> {
     assert!(rt; !class.is_full());
     link(&rt, &mut class, b, 67, 1001, Expiry::Never);
     assert!(rt; class.is_full());
-    assert_eq!(rt; class.len(Seg::Hot), 2);
-    assert_eq!(rt; class.len(Seg::Cold), 0);
-    assert_eq!(rt; class.entry(1).expect(&rt, "an entry").cost, 67);
-    assert_eq!(rt; key_of(&rt, &class, 1).bytes(), b"b".as_slice());
+    asserts_len(&rt, &class, Seg::Hot, 2);
+    asserts_len(&rt, &class, Seg::Cold, 0);
+    asserts_entry(&rt, &class, 1, 67, b"b");
     assert!(rt; class.entry(2).is_none());
     Ok(())
 }
@@ -74,22 +90,15 @@ fn few_entries_stay_of_many(rt: HostRuntime) -> Result<(), Fail> {
     let alloc = rt.alloc();
     let mut class = class_of(alloc, 200, false, 1000)?;
     link_until(&rt, alloc, &mut class, 131);
-    for number in 0..129 {
-        if number != 70 {
-            unlink(&rt, &mut class, number);
-        }
-    }
-    assert_eq!(rt; class.count(), 3);
-    assert_eq!(rt;
-        passed(&rt, &class, 3).as_slice(),
-        [70, 129, 130].as_slice()
-    );
-    assert_eq!(rt; newer(&class, 70), Some(129));
+    unlink_but(&rt, &mut class, 129, 70);
+    asserts_count(&rt, &class, 3);
+    asserts_passed(&rt, &class, 3, &[70, 129, 130]);
+    asserts_newer(&rt, &class, 70, Some(129));
     unlink(&rt, &mut class, 70);
-    assert_eq!(rt; class.segment_of(70), None);
-    assert_eq!(rt; class.segment_of(0), None);
+    asserts_gone(&rt, &class, 70);
+    asserts_gone(&rt, &class, 0);
     link_until(&rt, alloc, &mut class, 200);
-    assert_eq!(rt; class.count(), 71);
-    assert_eq!(rt; newer(&class, 191), Some(192));
+    asserts_count(&rt, &class, 71);
+    asserts_newer(&rt, &class, 191, Some(192));
     Ok(())
 }
