@@ -32,14 +32,14 @@ fn look_at<G: Gate>(
 ) -> Result<Option<Judged>, Fault>
     requires listed { IsListed number (lists_of class.old.history) }
     requires config { IsClassOf config.now class.old }
-    requires gate { G.serves gate.old config.now }
+    requires gate { G.serves gate.old config.now class.old }
     ensures answer { IfOk result (λ judged. G.answers gate.new ≡ G.answers gate.old ++ answer stripe judged ∷ []) }
     ensures class { IfOk result (λ judged. class.new ≡ class_with class.old (events_if class.old (asked_by (crawl who number moment config.now)) judged) class.new.room) }
     ensures judged { IfOk result (λ judged. IsJudgedIf config.now stripe class.old (asked_by (crawl who number moment config.now)) judged) }
     ensures err { OnErr result ((class.new ≡ with_room class.old class.new.room) × (G.answers gate.new ≡ G.answers gate.old)) }
     ensures fault { IfErr result (G.faults gate.new class.new) }
-    ensures holds { G.reference gate.new ≡ G.reference gate.old }
-    ensures serves { G.serves gate.new config.now }
+    ensures holds { G.references gate.new ≡ G.references gate.old }
+    ensures serves { G.serves gate.new config.now class.new }
     ensures kept { Kept (G.keeps (walker_of class.old who moment)) gate.old class.old.history gate.new class.new.history }
 {
     let judge = Judge::Dead;
@@ -60,13 +60,13 @@ fn kind_at<G: Gate>(
     gate: &mut G,
 ) -> Result<Kind, Fault>
     requires config { IsClassOf config.now class.old }
-    requires gate { G.serves gate.old config.now }
+    requires gate { G.serves gate.old config.now class.old }
     ensures crawled { IfOk result (IsCrawled (crawl who number moment config.now) class.old class.new (G.answers gate.old) (G.answers gate.new)) }
     ensures counted { IfOk result IsCounted }
     ensures err { OnErr result ((class.new ≡ with_room class.old class.new.room) × (G.answers gate.new ≡ G.answers gate.old)) }
     ensures fault { IfErr result (G.faults gate.new class.new) }
-    ensures holds { G.reference gate.new ≡ G.reference gate.old }
-    ensures serves { G.serves gate.new config.now }
+    ensures holds { G.references gate.new ≡ G.references gate.old }
+    ensures serves { G.serves gate.new config.now class.new }
     ensures kept { Kept (G.keeps (walker_of class.old who moment)) gate.old class.old.history gate.new class.new.history }
 {
     let Some(entry) = class.entry(number) else {
@@ -92,7 +92,7 @@ pub fn crawl_one<G: Gate>(
     gate: &mut G,
 ) -> Result<(), Fault>
     requires config { IsClassOf config.now class.old }
-    requires gate { G.serves gate.old config.now }
+    requires gate { G.serves gate.old config.now class.old }
     requires counts { MayCount histogram.old }
     ensures crawled { OnOk result ((k : Kind) × IsCrawled (crawl who link.number moment config.now) class.old class.new (G.answers gate.old) (G.answers gate.new) k × (histogram.new ≡ counted k histogram.old)) }
     ensures seen { OnOk result (histogram.new.seen ≡ histogram.old.seen + 1) }
@@ -101,8 +101,8 @@ pub fn crawl_one<G: Gate>(
     ensures err { OnErr result ((class.new ≡ with_room class.old class.new.room) × (G.answers gate.new ≡ G.answers gate.old) × (histogram.new ≡ histogram.old)) }
     ensures grows { Grows class.old class.new }
     ensures fault { IfErr result (G.faults gate.new class.new) }
-    ensures holds { G.reference gate.new ≡ G.reference gate.old }
-    ensures serves { G.serves gate.new config.now }
+    ensures holds { G.references gate.new ≡ G.references gate.old }
+    ensures serves { G.serves gate.new config.now class.new }
     ensures kept { Kept (G.keeps (walker_of class.old who moment)) gate.old class.old.history gate.new class.new.history }
 {
     let kind = kind_at(alloc, class, link.number, who, moment, config, gate)?;

@@ -3,21 +3,29 @@ use Rattle.std.specs.Prelude.{ℕ, ◌≡◌, ◌<◌, ◌++◌, ◌⊎◌, List
 use Rattle.mc_item.specs.declared.class_event.ClassEvent.{ClassEvent}
 use Rattle.mc_item.specs.declared.class_event.ClassEvent.TheVariants as events
 use Rattle.mc_item.specs.declared.class_event.Surveyed.{Surveyed}
+use Rattle.mc_item.specs.declared.config.Config.{Config}
 use Rattle.mc_item.specs.declared.counts.Moves.{Moves}
 use Rattle.mc_item.specs.declared.lists.Seg.TheVariants.{Hot, Warm, Cold, Temp}
 use Rattle.mc_segment.specs.declared.surveying.Survey.{Survey}
 use Rattle.mc_segment.specs.ClassCalls.{survey_of, surveyed_event}
+use Rattle.mc_segment.specs.ClassState.{ClassView, with_room}
 use Rattle.mc_pull.specs.declared.judge.Mode.TheVariants.{Plain}
 use Rattle.mc_pull.specs.declared.looking.Answer.{Answer}
 use Rattle.mc_pull.specs.declared.pulled.Pulled.{Pulled}
 use Rattle.mc_pull.specs.Pulled.{none_pulled, did_something, plus}
 use Rattle.mc_pull.specs.Rounds.{Rounds, Walks, Repeats}
+use Rattle.mc_pull.specs.Settled.{class_with}
 use Rattle.mc_pull.specs.Walk.{class_at}
 
 -- what was kept since any earlier gate and history is kept by a survey too
 abbrev pub KeepsSurveys : {S : Type 0} → (S → List ClassEvent → S → List ClassEvent → Type 0) → Type 0
 KeepsSurveys {S} keeps =
     (first : S) (begun : List ClassEvent) (gate : S) (history : List ClassEvent) (survey : Surveyed) → keeps first begun gate history → keeps first begun gate (history ++ events.Surveyed survey ∷ [])
+
+-- a gate serves a class still when it has one survey more, and whatever its room is
+pub record OutlastsSurveys {S : Type 0} (serves : S → Config → ClassView → Type 0) : Type 0 where
+  pub survey : (gate : S) (config : Config) (c : ClassView) (e : Surveyed) (room : ℕ) → serves gate config c → serves gate config (class_with c (events.Surveyed e ∷ []) room)
+  pub room : (gate : S) (config : Config) (c : ClassView) (room : ℕ) → serves gate config c → serves gate config (with_room c room)
 
 -- the survey of a class with this history
 abbrev pub survey_at : Rounds → List ClassEvent → Survey

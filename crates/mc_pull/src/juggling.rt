@@ -1,14 +1,17 @@
 //! Juggling: rounds of walks by one survey.
-ghost use Rattle.std.specs.Prelude.{◌≡◌, ◌≤◌, ◌+◌, ◌++◌, ◌⊎◌, List, IfOk, IfErr, OnOk, OnErr};
+ghost use Rattle.std.specs.Prelude.{◌≡◌, ◌≤◌, ◌+◌, ◌++◌, ◌∷◌, [], ◌⊎◌, List, IfOk, IfErr, OnOk, OnErr};
 ghost use Rattle.mc_item.specs.declared.config.Config.{Config};
 ghost use Rattle.mc_item.specs.declared.lists.Seg.TheVariants.{Temp};
+ghost use Rattle.mc_segment.specs.ClassCalls.{surveyed_event};
+ghost use Rattle.mc_segment.specs.ClassState.{with_room};
 ghost use Rattle.mc_pull.specs.declared.judge.Mode.TheVariants.{Plain};
 ghost use Rattle.mc_pull.specs.Growth.{Grows, Kept};
-ghost use Rattle.mc_pull.specs.Juggle.{juggling, survey_at, history_surveyed, KeepsSurveys, PullsWarm, IsJuggleRound, IsJuggled, JugglesTemp, JugglesRounds, IsJuggle};
+ghost use Rattle.mc_pull.specs.Juggle.{juggling, survey_at, history_surveyed, KeepsSurveys, OutlastsSurveys, PullsWarm, IsJuggleRound, IsJuggled, JugglesTemp, JugglesRounds, IsJuggle};
 ghost use Rattle.mc_pull.specs.Pulled.{none_pulled, sum_of};
 ghost use Rattle.mc_pull.specs.Question.{IsClassOf, IsSurveyIn};
 ghost use Rattle.mc_pull.specs.Refusal.{MayFailAlone};
 ghost use Rattle.mc_pull.specs.Rounds.{rounds, Walks};
+ghost use Rattle.mc_pull.specs.Settled.{class_with};
 ghost use Rattle.mc_pull.specs.Walker.{walker_of};
 ghost use Rattle.mc_pull.specs.declared.looking.Answer.{Answer};
 
@@ -36,13 +39,13 @@ fn pull_warm<G: Gate>(
 ) -> Result<Pulled, Fault>
     requires survey { IsSurveyIn class.old.history who moment survey }
     requires config { IsClassOf config.now class.old }
-    requires gate { G.serves gate.old config.now }
+    requires gate { G.serves gate.old config.now class.old }
     ensures walk { IfOk result (λ pulled. (xs : List Answer) × (G.answers gate.new ≡ G.answers gate.old ++ xs) × PullsWarm (rounds class.old who moment config.now) survey did class.old.history xs class.new.history pulled) }
     ensures few { IfOk result (λ pulled. sum_of pulled ≤ 5) }
     ensures grows { Grows class.old class.new }
     ensures fault { IfErr result (G.faults gate.new class.new) }
-    ensures holds { G.reference gate.new ≡ G.reference gate.old }
-    ensures serves { G.serves gate.new config.now }
+    ensures holds { G.references gate.new ≡ G.references gate.old }
+    ensures serves { G.serves gate.new config.now class.new }
     ensures kept { Kept (G.keeps (walker_of class.old who moment)) gate.old class.old.history gate.new class.new.history }
 {
     if did {
@@ -64,13 +67,13 @@ fn juggle_round<G: Gate>(
 ) -> Result<Pulled, Fault>
     requires survey { IsSurveyIn class.old.history who moment survey }
     requires config { IsClassOf config.now class.old }
-    requires gate { G.serves gate.old config.now }
+    requires gate { G.serves gate.old config.now class.old }
     ensures round { IfOk result (λ sum. (xs : List Answer) × (G.answers gate.new ≡ G.answers gate.old ++ xs) × IsJuggleRound (rounds class.old who moment config.now) survey class.old.history xs class.new.history sum) }
     ensures few { IfOk result (λ sum. sum_of sum ≤ 15) }
     ensures grows { Grows class.old class.new }
     ensures fault { IfErr result (G.faults gate.new class.new) }
-    ensures holds { G.reference gate.new ≡ G.reference gate.old }
-    ensures serves { G.serves gate.new config.now }
+    ensures holds { G.references gate.new ≡ G.references gate.old }
+    ensures serves { G.serves gate.new config.now class.new }
     ensures kept { Kept (G.keeps (walker_of class.old who moment)) gate.old class.old.history gate.new class.new.history }
 {
     let mode = Mode::Plain(survey);
@@ -95,13 +98,13 @@ fn juggle_rounds<G: Gate>(
     requires small { sum_of total ≤ 2500 }
     requires survey { IsSurveyIn class.old.history who moment survey }
     requires config { IsClassOf config.now class.old }
-    requires gate { G.serves gate.old config.now }
+    requires gate { G.serves gate.old config.now class.old }
     ensures juggled { IfOk result (λ sum. (xs : List Answer) × (G.answers gate.new ≡ G.answers gate.old ++ xs) × IsJuggled (IsJuggleRound (rounds class.old who moment config.now) survey) (juggling class.old.history total) xs (juggling class.new.history sum)) }
     ensures few { IfOk result (λ sum. sum_of sum ≤ 10000) }
     ensures grows { Grows class.old class.new }
     ensures fault { IfErr result (G.faults gate.new class.new) }
-    ensures holds { G.reference gate.new ≡ G.reference gate.old }
-    ensures serves { G.serves gate.new config.now }
+    ensures holds { G.references gate.new ≡ G.references gate.old }
+    ensures serves { G.serves gate.new config.now class.new }
     ensures kept { Kept (G.keeps (walker_of class.old who moment)) gate.old class.old.history gate.new class.new.history }
 {
     let mut sum = total;
@@ -129,13 +132,13 @@ fn temp_rounds<G: Gate>(
 ) -> Result<Pulled, Fault>
     requires survey { IsSurveyIn class.old.history who moment survey }
     requires config { IsClassOf config.now class.old }
-    requires gate { G.serves gate.old config.now }
+    requires gate { G.serves gate.old config.now class.old }
     ensures juggled { IfOk result (λ sum. (xs : List Answer) × (G.answers gate.new ≡ G.answers gate.old ++ xs) × IsJuggled (Walks (rounds class.old who moment config.now) Temp (Plain survey)) (juggling class.old.history none_pulled) xs (juggling class.new.history sum)) }
     ensures few { IfOk result (λ sum. sum_of sum ≤ 2500) }
     ensures grows { Grows class.old class.new }
     ensures fault { IfErr result (G.faults gate.new class.new) }
-    ensures holds { G.reference gate.new ≡ G.reference gate.old }
-    ensures serves { G.serves gate.new config.now }
+    ensures holds { G.references gate.new ≡ G.references gate.old }
+    ensures serves { G.serves gate.new config.now class.new }
     ensures kept { Kept (G.keeps (walker_of class.old who moment)) gate.old class.old.history gate.new class.new.history }
 {
     let mut sum = Pulled::none();
@@ -157,7 +160,8 @@ fn survey_class(class: &mut ClassState, who: Who, moment: u64) -> Result<Survey,
     ensures survey { (config : Config) → IfOk result (λ survey. survey ≡ survey_at (rounds class.old who moment config) class.old.history) }
     ensures noted { IfOk result (λ survey. IsSurveyIn class.new.history who moment survey) }
     ensures history { (config : Config) → OnOk result (class.new.history ≡ history_surveyed (rounds class.old who moment config) class.old.history) }
-    ensures err { OnErr result (class.new.history ≡ class.old.history) }
+    ensures event { OnOk result (class.new ≡ class_with class.old (surveyed_event class.old who moment ∷ []) class.new.room) }
+    ensures err { OnErr result (class.new ≡ with_room class.old class.new.room) }
     ensures fault { IfErr result (MayFailAlone class.new) }
     ensures grows { Grows class.old class.new }
 {
@@ -174,14 +178,15 @@ fn juggle_temp<G: Gate>(
     gate: &mut G,
 ) -> Result<Pulled, Fault>
     requires config { IsClassOf config.now class.old }
-    requires gate { G.serves gate.old config.now }
+    requires gate { G.serves gate.old config.now class.old }
     requires surveys { KeepsSurveys (G.keeps (walker_of class.old who moment)) }
+    requires outlasts { OutlastsSurveys G.serves }
     ensures temp { IfOk result (λ sum. (xs : List Answer) × (G.answers gate.new ≡ G.answers gate.old ++ xs) × JugglesTemp (rounds class.old who moment config.now) config.now.temp class.old.history xs (juggling class.new.history sum)) }
     ensures few { IfOk result (λ sum. sum_of sum ≤ 2500) }
     ensures grows { Grows class.old class.new }
     ensures fault { IfErr result (λ fault. G.faults gate.new class.new fault ⊎ MayFailAlone class.new fault) }
-    ensures holds { G.reference gate.new ≡ G.reference gate.old }
-    ensures serves { G.serves gate.new config.now }
+    ensures holds { G.references gate.new ≡ G.references gate.old }
+    ensures serves { G.serves gate.new config.now class.new }
     ensures kept { Kept (G.keeps (walker_of class.old who moment)) gate.old class.old.history gate.new class.new.history }
 {
     if !config.temp {
@@ -203,14 +208,15 @@ fn juggle_rest<G: Gate>(
 ) -> Result<Pulled, Fault>
     requires small { sum_of total ≤ 2500 }
     requires config { IsClassOf config.now class.old }
-    requires gate { G.serves gate.old config.now }
+    requires gate { G.serves gate.old config.now class.old }
     requires surveys { KeepsSurveys (G.keeps (walker_of class.old who moment)) }
+    requires outlasts { OutlastsSurveys G.serves }
     ensures rest { IfOk result (λ sum. (xs : List Answer) × (G.answers gate.new ≡ G.answers gate.old ++ xs) × JugglesRounds (rounds class.old who moment config.now) (juggling class.old.history total) xs (juggling class.new.history sum)) }
     ensures few { IfOk result (λ sum. sum_of sum ≤ 10000) }
     ensures grows { Grows class.old class.new }
     ensures fault { IfErr result (λ fault. G.faults gate.new class.new fault ⊎ MayFailAlone class.new fault) }
-    ensures holds { G.reference gate.new ≡ G.reference gate.old }
-    ensures serves { G.serves gate.new config.now }
+    ensures holds { G.references gate.new ≡ G.references gate.old }
+    ensures serves { G.serves gate.new config.now class.new }
     ensures kept { Kept (G.keeps (walker_of class.old who moment)) gate.old class.old.history gate.new class.new.history }
 {
     let survey = survey_class(class, who, moment)?;
@@ -220,7 +226,8 @@ fn juggle_rest<G: Gate>(
 /// Juggles a class: where TEMP is in use, walks along it by a survey, until one did nothing; then rounds by a new survey,
 /// each of which pulls HOT, or else WARM, and COLD, until one did nothing; at most 500 of each. It answers how many
 /// entries were reclaimed and moved, at most 10000 of both. What a gate keeps of a class's history, it must keep of one
-/// with a survey more. The faults are the gate's and those of `ClassState::survey`; the events so far then stand.
+/// with a survey more, and a class that it serves it must serve with a survey more, and with any room. The faults are
+/// the gate's and those of `ClassState::survey`; the events so far then stand.
 pub fn juggle<G: Gate>(
     alloc: Global,
     class: &mut ClassState,
@@ -230,14 +237,15 @@ pub fn juggle<G: Gate>(
     gate: &mut G,
 ) -> Result<Moves, Fault>
     requires config { IsClassOf config.now class.old }
-    requires gate { G.serves gate.old config.now }
+    requires gate { G.serves gate.old config.now class.old }
     requires surveys { KeepsSurveys (G.keeps (walker_of class.old who moment)) }
+    requires outlasts { OutlastsSurveys G.serves }
     ensures juggle { IfOk result (λ moves. (xs : List Answer) × (G.answers gate.new ≡ G.answers gate.old ++ xs) × IsJuggle (rounds class.old who moment config.now) class.old.history xs class.new.history moves) }
     ensures few { IfOk result (λ moves. moves.reclaimed + moves.moved ≤ 10000) }
     ensures grows { Grows class.old class.new }
     ensures fault { IfErr result (λ fault. G.faults gate.new class.new fault ⊎ MayFailAlone class.new fault) }
-    ensures holds { G.reference gate.new ≡ G.reference gate.old }
-    ensures serves { G.serves gate.new config.now }
+    ensures holds { G.references gate.new ≡ G.references gate.old }
+    ensures serves { G.serves gate.new config.now class.new }
     ensures kept { Kept (G.keeps (walker_of class.old who moment)) gate.old class.old.history gate.new class.new.history }
 {
     let before = juggle_temp(alloc, class, who, moment, config, gate)?;

@@ -112,11 +112,11 @@ pub trait Gate {
     /// The answers so far.
     ghost answers: { Self → List Answer };
 
-    /// The stripes that it reaches were made with this configuration.
-    ghost serves: { Self → Config → Type 0 };
+    /// It can judge entries of this class, and the stripes that it reaches were made with this configuration.
+    ghost serves: { Self → Config → ClassView → Type 0 };
 
-    /// The mutable reference that it holds, by its ghost name: a visit keeps it.
-    ghost reference: { Self → ℕ };
+    /// The mutable references that it holds, by their ghost names: a visit keeps them.
+    ghost references: { Self → List ℕ };
 
     /// The faults that a visit may answer: it tells that it had to, by how it leaves the gate and the class.
     ghost faults: { Self → ClassView → Fault → Type 0 };
@@ -127,18 +127,18 @@ pub trait Gate {
     /// Lends the state of a stripe to a look, which judges its entry. False: the stripe was not had, and nothing
     /// changed.
     fn visit(&mut self, stripe: StripeNo, look: &mut Look<'_>) -> Result<bool, Fault>
-        requires gate { serves self.old look.old.ask.config.now }
+        requires gate { serves self.old look.old.ask.config.now look.old.class.now }
         requires class { IsClassOf look.old.ask.config.now look.old.class.now }
         requires judge { MayJudge look.old.class.now (question_of look.old.ask) }
         requires once { look.old.judged ≡ None }
         ensures same_reference { look.new.class.ghost_name ≡ look.old.class.ghost_name }
-        ensures holds { reference self.new ≡ reference self.old }
+        ensures holds { references self.new ≡ references self.old }
         ensures answer { IfOk result (λ had. (is_some look.new.judged ≡ had) × (answers self.new ≡ answers self.old ++ answer stripe look.new.judged ∷ [])) }
         ensures class { OnOk result (look.new.class.now ≡ class_with look.old.class.now (events_if look.old.class.now (question_of look.old.ask) look.new.judged) look.new.class.now.room) }
         ensures judged { OnOk result (IsJudgedIf look.old.ask.config.now stripe look.old.class.now (question_of look.old.ask) look.new.judged) }
         ensures err { OnErr result ((look.new.class.now ≡ with_room look.old.class.now look.new.class.now.room) × (answers self.new ≡ answers self.old)) }
         ensures fault { IfErr result (faults self.new look.new.class.now) }
-        ensures serves { serves self.new look.old.ask.config.now }
+        ensures serves { serves self.new look.old.ask.config.now look.new.class.now }
         ensures kept { (g : Self) (h : List ClassEvent) → keeps (walker_of look.old.class.now look.old.ask.who look.old.ask.moment) g h self.old look.old.class.now.history
             → keeps (walker_of look.old.class.now look.old.ask.who look.old.ask.moment) g h self.new look.new.class.now.history };
 }

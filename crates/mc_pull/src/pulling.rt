@@ -62,14 +62,14 @@ fn look_at<G: Gate>(
 ) -> Result<Option<Judged>, Fault>
     requires config { IsClassOf config.now class.old }
     requires judge { MayJudge class.old (question who number judge.now moment) }
-    requires gate { G.serves gate.old config.now }
+    requires gate { G.serves gate.old config.now class.old }
     ensures answer { IfOk result (λ judged. G.answers gate.new ≡ G.answers gate.old ++ answer stripe judged ∷ []) }
     ensures class { IfOk result (λ judged. class.new ≡ class_with class.old (events_if class.old (question who number judge.now moment) judged) class.new.room) }
     ensures judged { IfOk result (λ judged. IsJudgedIf config.now stripe class.old (question who number judge.now moment) judged) }
     ensures err { OnErr result ((class.new ≡ with_room class.old class.new.room) × (G.answers gate.new ≡ G.answers gate.old)) }
     ensures fault { IfErr result (G.faults gate.new class.new) }
-    ensures holds { G.reference gate.new ≡ G.reference gate.old }
-    ensures serves { G.serves gate.new config.now }
+    ensures holds { G.references gate.new ≡ G.references gate.old }
+    ensures serves { G.serves gate.new config.now class.new }
     ensures kept { Kept (G.keeps (walker_of class.old who moment)) gate.old class.old.history gate.new class.new.history }
 {
     let mut look = Look::new(alloc, class, who, number, judge, moment, config);
@@ -97,14 +97,14 @@ fn look_next<G: Gate>(
     requires there { pulled.passed < length (list_of (lists_of class.old.history) seg) }
     requires walk { MayWalk class.old seg mode who moment }
     requires config { IsClassOf config.now class.old }
-    requires gate { G.serves gate.old config.now }
+    requires gate { G.serves gate.old config.now class.old }
     ensures answer { IfOk result (λ a. IsAnswer (pull class.old seg mode who moment config.now) (way class.old.history left pulled false) a × (G.answers gate.new ≡ G.answers gate.old ++ a ∷ [])) }
     ensures class { IfOk result (λ a. class.new.history ≡ (step (pull class.old seg mode who moment config.now) (way class.old.history left pulled false) a).history) }
     ensures grows { Grows class.old class.new }
     ensures err { OnErr result ((class.new.history ≡ class.old.history) × (G.answers gate.new ≡ G.answers gate.old)) }
     ensures fault { IfErr result (G.faults gate.new class.new) }
-    ensures holds { G.reference gate.new ≡ G.reference gate.old }
-    ensures serves { G.serves gate.new config.now }
+    ensures holds { G.references gate.new ≡ G.references gate.old }
+    ensures serves { G.serves gate.new config.now class.new }
     ensures kept { Kept (G.keeps (walker_of class.old who moment)) gate.old class.old.history gate.new class.new.history }
 {
     let _left = left;
@@ -139,14 +139,14 @@ pub fn pull_tail<G: Gate>(
 ) -> Result<Pulled, Fault>
     requires walk { MayWalk class.old seg mode who moment }
     requires config { IsClassOf config.now class.old }
-    requires gate { G.serves gate.old config.now }
+    requires gate { G.serves gate.old config.now class.old }
     ensures walk { IfOk result (λ pulled. (xs : List Answer) × (G.answers gate.new ≡ G.answers gate.old ++ xs) × IsWalk (pull class.old seg mode who moment config.now) xs class.new.history pulled) }
     ensures err { OnErr result ((xs : List Answer) × (G.answers gate.new ≡ G.answers gate.old ++ xs) × IsBeginning (pull class.old seg mode who moment config.now) xs class.new.history) }
     ensures grows { Grows class.old class.new }
     ensures few { IfOk result (λ pulled. sum_of pulled ≤ 5) }
     ensures fault { IfErr result (G.faults gate.new class.new) }
-    ensures holds { G.reference gate.new ≡ G.reference gate.old }
-    ensures serves { G.serves gate.new config.now }
+    ensures holds { G.references gate.new ≡ G.references gate.old }
+    ensures serves { G.serves gate.new config.now class.new }
     ensures kept { Kept (G.keeps (walker_of class.old who moment)) gate.old class.old.history gate.new class.new.history }
 {
     let mut left = class.len(seg).min(MOST_LOOKS);

@@ -35,12 +35,12 @@ fn room_round<G: Gate>(
 ) -> Result<(), Fault>
     requires full { words.is_free class.old class.old.history ≡ false }
     requires config { IsClassOf config.now class.old }
-    requires gate { G.serves gate.old config.now }
+    requires gate { G.serves gate.old config.now class.old }
     ensures round { IfOk result (λ _. (xs : List Answer) × (G.answers gate.new ≡ G.answers gate.old ++ xs) × IsRoomRound (rounds class.old who moment config.now) class.old.history xs class.new.history) }
     ensures grows { Grows class.old class.new }
     ensures fault { IfErr result (G.faults gate.new class.new) }
-    ensures holds { G.reference gate.new ≡ G.reference gate.old }
-    ensures serves { G.serves gate.new config.now }
+    ensures holds { G.references gate.new ≡ G.references gate.old }
+    ensures serves { G.serves gate.new config.now class.new }
     ensures kept { Kept (G.keeps (walker_of class.old who moment)) gate.old class.old.history gate.new class.new.history }
 {
     let pulled = pull_tail(
@@ -81,12 +81,12 @@ pub fn make_room<G: Gate>(
     gate: &mut G,
 ) -> Result<bool, Fault>
     requires config { IsClassOf config.now class.old }
-    requires gate { G.serves gate.old config.now }
+    requires gate { G.serves gate.old config.now class.old }
     ensures room { IfOk result (λ found. (xs : List Answer) × (G.answers gate.new ≡ G.answers gate.old ++ xs) × IsRoom (rounds class.old who moment config.now) class.old.history xs class.new.history found) }
     ensures grows { Grows class.old class.new }
     ensures fault { IfErr result (G.faults gate.new class.new) }
-    ensures holds { G.reference gate.new ≡ G.reference gate.old }
-    ensures serves { G.serves gate.new config.now }
+    ensures holds { G.references gate.new ≡ G.references gate.old }
+    ensures serves { G.serves gate.new config.now class.new }
     ensures kept { Kept (G.keeps (walker_of class.old who moment)) gate.old class.old.history gate.new class.new.history }
 {
     let mut left: u64 = MOST_ROUNDS;

@@ -9,13 +9,14 @@ pub struct Refusing {
 }
 
 impl Gate for Refusing {
+    ghost use Rattle.std.specs.Prelude.{[]};
     ghost use Rattle.mc_pull.specs.Refusal.{MayFailAlone};
 
     ghost answers = { λ g. g.answers.items };
 
-    ghost serves = { λ g config. Unit {0} };
+    ghost serves = { λ g config c. Unit {0} };
 
-    ghost reference = { λ g. 0 };
+    ghost references = { λ g. [] };
 
     ghost faults = { λ g c. MayFailAlone c };
 

@@ -18,14 +18,15 @@ pub struct ByList<'a> {
 }
 
 impl<'a> Gate for ByList<'a> {
+    ghost use Rattle.std.specs.Prelude.{◌∷◌, []};
     ghost use Rattle.mc_pull.specs.Lone.{Serves};
     ghost use Rattle.mc_pull.specs.Refusal.{MayFail};
 
     ghost answers = { λ g. g.answers.now.items };
 
-    ghost serves = { λ g config. Serves g.number.0 g.stripe.now config };
+    ghost serves = { λ g config c. Serves g.number.0 g.stripe.now config };
 
-    ghost reference = { λ g. g.stripe.ghost_name };
+    ghost references = { λ g. g.stripe.ghost_name ∷ [] };
 
     ghost faults = { λ g c. MayFail c g.stripe.now };
 

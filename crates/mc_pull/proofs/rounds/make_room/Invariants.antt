@@ -11,8 +11,8 @@ abbrev pub invariant-rounds : goal.invariant-rounds
 invariant-rounds g l =
     OnRounds (IsRoomRound (rounds l.fn.class l.who l.moment l.config)) (g.G.Gate.answers l.fn.gate) (g.G.Gate.answers l.gate) l.fn.class.history l.class.history (10 - l.left)
     × (l.left ≤ 10) × Grows l.fn.class l.class
-    × IsClassOf l.config l.class × g.G.Gate.serves l.gate l.config
-    × (g.G.Gate.reference l.gate ≡ g.G.Gate.reference l.fn.gate)
+    × IsClassOf l.config l.class × g.G.Gate.serves l.gate l.config l.class
+    × (g.G.Gate.references l.gate ≡ g.G.Gate.references l.fn.gate)
     × ((first : g.row.G.Denot) (begun : List ClassEvent) → g.G.Gate.keeps (walker_of l.fn.class l.who l.moment) first begun l.fn.gate l.fn.class.history → g.G.Gate.keeps (walker_of l.fn.class l.who l.moment) first begun l.gate l.class.history)
 
 abbrev pub decreases-rounds : goal.decreases-rounds
