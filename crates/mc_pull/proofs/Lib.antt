@@ -7,6 +7,7 @@ pub mod LengthLemmas
 pub mod GrowthLemmas
 pub mod WayLemmas
 pub mod RoundLemmas
+pub mod TriedLemmas
 pub mod LoneLemmas
 mod PartLemmas
 mod PerformLemmas

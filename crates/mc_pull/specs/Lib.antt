@@ -9,6 +9,7 @@ pub mod Growth
 pub mod Pulled
 pub mod Walk
 pub mod Rounds
+pub mod Tried
 pub mod Juggle
 pub mod Lone
 pub mod Lent

@@ -18,6 +18,7 @@ mod pulled;
 mod pulling;
 mod rounds;
 mod settling;
+mod trying;
 mod verdict;
 
 pub use alone::answer_alone;
@@ -32,3 +33,4 @@ pub use pulled::Pulled;
 pub use pulling::pull_tail;
 pub use rounds::make_room;
 pub use settling::settle;
+pub use trying::a_search_in_vain_has_tried;
