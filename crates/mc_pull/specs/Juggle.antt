@@ -5,6 +5,7 @@ use Rattle.mc_item.specs.declared.class_event.ClassEvent.TheVariants as events
 use Rattle.mc_item.specs.declared.class_event.Surveyed.{Surveyed}
 use Rattle.mc_item.specs.declared.config.Config.{Config}
 use Rattle.mc_item.specs.declared.counts.Moves.{Moves}
+use Rattle.mc_item.specs.declared.item.Who.{Who}
 use Rattle.mc_item.specs.declared.lists.Seg.TheVariants.{Hot, Warm, Cold, Temp}
 use Rattle.mc_segment.specs.declared.surveying.Survey.{Survey}
 use Rattle.mc_segment.specs.ClassCalls.{survey_of, surveyed_event}
@@ -22,9 +23,9 @@ abbrev pub KeepsSurveys : {S : Type 0} → (S → List ClassEvent → S → List
 KeepsSurveys {S} keeps =
     (first : S) (begun : List ClassEvent) (gate : S) (history : List ClassEvent) (survey : Surveyed) → keeps first begun gate history → keeps first begun gate (history ++ events.Surveyed survey ∷ [])
 
--- a gate serves a class still when it has one survey more, and whatever its room is
+-- a gate serves a class still when it has a survey of it more, and whatever its room is
 pub record OutlastsSurveys {S : Type 0} (serves : S → Config → ClassView → Type 0) : Type 0 where
-  pub survey : (gate : S) (config : Config) (c : ClassView) (e : Surveyed) (room : ℕ) → serves gate config c → serves gate config (class_with c (events.Surveyed e ∷ []) room)
+  pub survey : (gate : S) (config : Config) (c : ClassView) (who : Who) (moment room : ℕ) → serves gate config c → serves gate config (class_with c (surveyed_event c who moment ∷ []) room)
   pub room : (gate : S) (config : Config) (c : ClassView) (room : ℕ) → serves gate config c → serves gate config (with_room c room)
 
 -- the survey of a class with this history
