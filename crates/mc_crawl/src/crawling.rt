@@ -5,7 +5,7 @@ ghost use Rattle.mc_rule.specs.Lawful.{IsListed};
 ghost use Rattle.mc_segment.specs.ClassState.{with_room};
 ghost use Rattle.mc_pull.specs.Growth.{Grows, Kept};
 ghost use Rattle.mc_pull.specs.Looks.{answer, events_if, IsJudgedIf};
-ghost use Rattle.mc_pull.specs.Question.{IsClassOf};
+ghost use Rattle.mc_pull.specs.Question.{HasKeyOf, IsClassOf};
 ghost use Rattle.mc_pull.specs.Settled.{class_with};
 ghost use Rattle.mc_pull.specs.Walker.{walker_of};
 ghost use Rattle.mc_crawl.specs.Crawl.{crawl, asked_by, IsCrawled, Reclaims};
@@ -31,6 +31,7 @@ fn look_at<G: Gate>(
     gate: &mut G,
 ) -> Result<Option<Judged>, Fault>
     requires listed { IsListed number (lists_of class.old.history) }
+    requires key { HasKeyOf stripe config.now class.old (asked_by (crawl who number moment config.now)) }
     requires config { IsClassOf config.now class.old }
     requires gate { G.serves gate.old config.now class.old }
     ensures answer { IfOk result (λ judged. G.answers gate.new ≡ G.answers gate.old ++ answer stripe judged ∷ []) }

@@ -8,6 +8,7 @@ pub mod GrowthLemmas
 pub mod WayLemmas
 pub mod RoundLemmas
 pub mod TriedLemmas
+pub mod KnownLemmas
 pub mod LoneLemmas
 mod PartLemmas
 mod PerformLemmas

@@ -3,15 +3,19 @@ use Rattle.std.specs.Prelude.{ℕ, ◌≡◌, List, Some, slice_get}
 use Rattle.mc_item.specs.declared.class_event.ClassEvent.{ClassEvent}
 use Rattle.mc_item.specs.declared.class_event.ClassEvent.TheVariants as events
 use Rattle.mc_item.specs.declared.config.Config.{Config}
+use Rattle.mc_item.specs.declared.item.StripeNo.{StripeNo}
 use Rattle.mc_item.specs.declared.item.Who.{Who}
+use Rattle.mc_item.specs.declared.lists.Entry.{Entry}
 use Rattle.mc_item.specs.declared.lists.Seg.{Seg}
 use Rattle.mc_item.specs.declared.lists.Seg.TheVariants.{Hot, Cold}
 use Rattle.mc_item.specs.Config.{IsBounded}
+use Rattle.mc_item.specs.Measure.{stripe_of}
 use Rattle.mc_rule.specs.Lists.{list_of, lists_of, IsFull}
 use Rattle.mc_rule.specs.Segment.{rule_of, IsNearTail}
 use Rattle.mc_rule.specs.Lawful.{IsIn, IsListed}
 use Rattle.mc_segment.specs.declared.surveying.Survey.{Survey}
 use Rattle.mc_segment.specs.ClassState.{ClassView, chunks_for}
+use Rattle.mc_segment.specs.Entries.{entry_of}
 use Rattle.mc_stripe.specs.StripeState.{Stripe}
 use Rattle.mc_pull.specs.declared.judge.Ask.{Ask}
 use Rattle.mc_pull.specs.declared.judge.Mode.{Mode}
@@ -85,3 +89,7 @@ pub record IsAsked (c : ClassView) (s : Stripe) (ask : Ask) : Type 0 where
   pub class : IsClassOf ask.config.now c
   pub stripe : IsStripeOf ask.config.now s
   pub judge : MayJudge c (question_of ask)
+
+-- the entry that a question names has a key of this stripe
+pub record HasKeyOf (stripe : StripeNo) (config : Config) (c : ClassView) (q : Question) : Type 0 where
+  pub key : (e : Entry) → entry_of q.number (lists_of c.history) ≡ Some e → stripe_of e.key config.stripes ≡ stripe

@@ -8,7 +8,7 @@ ghost use Rattle.mc_stripe.specs.StripeCalls.{KeepsSite};
 ghost use Rattle.mc_pull.specs.Agreeing.{KeepsAgreement};
 ghost use Rattle.mc_pull.specs.Judgement.{done_of};
 ghost use Rattle.mc_pull.specs.Looks.{answer, judgement, events_if, IsJudged, IsJudgedIf};
-ghost use Rattle.mc_pull.specs.Question.{question, question_of, IsAsked, IsClassOf, MayJudge};
+ghost use Rattle.mc_pull.specs.Question.{question, question_of, HasKeyOf, IsAsked, IsClassOf, MayJudge};
 ghost use Rattle.mc_pull.specs.Refusal.{MayFail, MayRefuseFor};
 ghost use Rattle.mc_pull.specs.Settled.{class_with, IsSettled};
 ghost use Rattle.mc_pull.specs.Sight.{KeepsSight};
@@ -124,12 +124,13 @@ pub trait Gate {
     /// What each visit of a walker keeps of the gate and the class's history since any earlier state of both.
     ghost keeps: { Walker → Self → List ClassEvent → Self → List ClassEvent → Type 0 };
 
-    /// Lends the state of a stripe to a look, which judges its entry. False: the stripe was not had, and nothing
-    /// changed.
+    /// Lends the state of a stripe to a look, which judges its entry: one of a key of that stripe. False: the stripe
+    /// was not had, and nothing changed.
     fn visit(&mut self, stripe: StripeNo, look: &mut Look<'_>) -> Result<bool, Fault>
         requires gate { serves self.old look.old.ask.config.now look.old.class.now }
         requires class { IsClassOf look.old.ask.config.now look.old.class.now }
         requires judge { MayJudge look.old.class.now (question_of look.old.ask) }
+        requires key { HasKeyOf stripe look.old.ask.config.now look.old.class.now (question_of look.old.ask) }
         requires once { look.old.judged ≡ None }
         ensures same_reference { look.new.class.ghost_name ≡ look.old.class.ghost_name }
         ensures holds { references self.new ≡ references self.old }

@@ -6,7 +6,7 @@ ghost use Rattle.mc_segment.specs.ClassState.{with_room};
 ghost use Rattle.mc_pull.specs.Growth.{Grows, Kept};
 ghost use Rattle.mc_pull.specs.Looks.{answer, events_if, IsJudgedIf};
 ghost use Rattle.mc_pull.specs.Pulled.{sum_of};
-ghost use Rattle.mc_pull.specs.Question.{question, IsClassOf, MayJudge, MayWalk};
+ghost use Rattle.mc_pull.specs.Question.{question, HasKeyOf, IsClassOf, MayJudge, MayWalk};
 ghost use Rattle.mc_pull.specs.Settled.{class_with};
 ghost use Rattle.mc_pull.specs.Walk as words;
 ghost use Rattle.mc_pull.specs.Walk.{pull, way, step, IsAnswer, IsWalk, IsBeginning};
@@ -62,6 +62,7 @@ fn look_at<G: Gate>(
 ) -> Result<Option<Judged>, Fault>
     requires config { IsClassOf config.now class.old }
     requires judge { MayJudge class.old (question who number judge.now moment) }
+    requires key { HasKeyOf stripe config.now class.old (question who number judge.now moment) }
     requires gate { G.serves gate.old config.now class.old }
     ensures answer { IfOk result (λ judged. G.answers gate.new ≡ G.answers gate.old ++ answer stripe judged ∷ []) }
     ensures class { IfOk result (λ judged. class.new ≡ class_with class.old (events_if class.old (question who number judge.now moment) judged) class.new.room) }
