@@ -1,5 +1,5 @@
 -- An entry is no stranger to its key's stripe, where the histories agree.
-use Rattle.std.proofs.Common.{◌≡◌, ◌≢◌, ℕ, List, Bool, true, false, Some, None, Option, refl, sym, ap, ◌∙◌, subst, arith}
+use Rattle.std.proofs.Common.{◌≡◌, ◌≢◌, ℕ, Bool, true, false, Some, None, Option, refl, sym, ap, ◌∙◌, subst, arith}
 use Rattle.std.specs.Prelude.{IsSome, IsSomeAnd, if◌then◌else◌, option_map, ◌==◌, ◌&&◌}
 use Rattle.std.proofs.lemmas.Bool.Decides.{nat_tests}
 use Rattle.mc_item.specs.Item.{is_dead}
@@ -9,14 +9,13 @@ use Rattle.mc_item.specs.declared.config.Config.{Config}
 use Rattle.mc_item.specs.declared.item.ClassNo.{ClassNo}
 use Rattle.mc_item.specs.declared.item.Item.{Item}
 use Rattle.mc_item.specs.declared.item.Link.{Link}
-use Rattle.mc_item.specs.declared.item.StripeNo.{StripeNo}
 use Rattle.mc_item.specs.declared.lists.Entry.{Entry}
 use Rattle.mc_item.specs.declared.lists.Seg.{Seg}
 use Rattle.mc_item.specs.declared.lists.Seg.TheVariants as segs
-use Rattle.mc_rule.specs.Belonging.{HasItem, IsItemFor}
+use Rattle.mc_rule.specs.Belonging.{IsItemFor}
 use Rattle.mc_rule.specs.Lawful.{IsLawfulHistoryByLists, IsListed}
 use Rattle.mc_rule.specs.Lists.{Lists, found, lists_of}
-use Rattle.mc_rule.specs.Pairs.{IsKeyOf, item_after, link_to}
+use Rattle.mc_rule.specs.Pairs.{IsKeyOf, link_to}
 use Rattle.mc_rule.specs.Segment.{Rule}
 use Rattle.mc_evidence.proofs.ExactLemmas.{item_of_entry}
 use Rattle.mc_segment.specs.ClassState.{ClassView}

@@ -1,6 +1,6 @@
 -- A search for a chunk that found none has tried: its walks took, moved or reclaimed an entry, or passed all that they looked at.
-use Rattle.std.proofs.Common.{length, ◌≡◌, ◌≢◌, ℕ, zero, suc, ◌+◌, ◌-◌, ◌<◌, ◌≤◌, ◌&&◌, ◌⊎◌, if◌then◌else◌, List, [], ◌∷◌, ◌++◌, Bool, true, false, Some, None, Option, inl, inr, refl, sym, ap, ◌∙◌, subst, arith, append_assoc, min, reverse, nat_eq}
-use Rattle.std.specs.Prelude.{IsSomeAnd, nat_lt, nat_le, not, slice_get}
+use Rattle.std.proofs.Common.{length, ◌≡◌, ◌≢◌, ℕ, zero, suc, ◌+◌, ◌<◌, ◌≤◌, ◌&&◌, ◌⊎◌, if◌then◌else◌, List, [], ◌∷◌, ◌++◌, Bool, true, false, Some, None, Option, inl, inr, refl, sym, ap, ◌∙◌, subst, arith, append_assoc, reverse, nat_eq}
+use Rattle.std.specs.Prelude.{IsSomeAnd, nat_lt, nat_le, not}
 use Rattle.std.proofs.lemmas.Bool.Decides.{nat_tests}
 use Rattle.std.proofs.lemmas.List.{append-nil, length-append, length-reverse}
 use Rattle.std.proofs.lemmas.Option.{slice_get_within}
@@ -8,7 +8,6 @@ use Rattle.mc_item.specs.Cache.{Cache}
 use Rattle.mc_item.specs.Item.{is_dead}
 use Rattle.mc_item.specs.Measure.{stripe_of}
 use Rattle.mc_item.specs.declared.class_event.ClassEvent.{ClassEvent}
-use Rattle.mc_item.specs.declared.class_event.ClassEvent.TheVariants as events
 use Rattle.mc_item.specs.declared.item.Item.{Item}
 use Rattle.mc_item.specs.declared.item.StripeNo.{StripeNo}
 use Rattle.mc_item.specs.declared.item.Who.{Who}
@@ -29,14 +28,14 @@ use Rattle.mc_pull.specs.declared.looking.Answer.{Answer}
 use Rattle.mc_pull.specs.declared.looking.Judged.{Judged}
 use Rattle.mc_pull.specs.declared.pulled.Pulled.{Pulled}
 use Rattle.mc_pull.specs.Judgement.{done_by, done_if, done_of, done_with, has_link}
-use Rattle.mc_pull.specs.Looks.{IsJudged, IsJudgedIf, events_if}
+use Rattle.mc_pull.specs.Looks.{IsJudgedIf}
 use Rattle.mc_pull.specs.Outcome.{is_due, outcome_of}
-use Rattle.mc_pull.specs.Pulled.{counts_if, did_something, is_end_if, none_pulled}
-use Rattle.mc_pull.specs.Question.{Question, question}
-use Rattle.mc_pull.specs.Rounds.{ForcesHot, IsRoom, IsRoomRound, Repeats, Rounds, Walks, is_free, rounds}
+use Rattle.mc_pull.specs.Pulled.{counts_if, did_something, is_end_if}
+use Rattle.mc_pull.specs.Question.{question}
+use Rattle.mc_pull.specs.Rounds.{ForcesHot, IsRoom, IsRoomRound, Repeats, Rounds, Walks}
 use Rattle.mc_pull.specs.Settled.{class_events}
-use Rattle.mc_pull.specs.Tried.{AreHad, AreTries, IsNoneNear, IsTried, IsTry}
-use Rattle.mc_pull.specs.Walk.{IsAlong, IsAnswer, IsWalk, Pull, Way, class_at, events_at, is_going, is_wanted, next_entry, numbers_passed, pull, question_at, run, start_of, step, way}
+use Rattle.mc_pull.specs.Tried.{AreHad, AreTries, IsNoneNear, IsTried}
+use Rattle.mc_pull.specs.Walk.{IsAlong, IsAnswer, Pull, Way, class_at, events_at, is_going, is_wanted, next_entry, numbers_passed, pull, question_at, run, start_of, step}
 
 -- ---- events of walks are tries
 tries_both : (who : Who) (xs ys : List ClassEvent) → AreTries who xs → AreTries who ys → AreTries who (xs ++ ys)
