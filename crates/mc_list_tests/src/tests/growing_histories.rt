@@ -5,6 +5,7 @@ ghost use Rattle.mc_board.specs.Views.{locks_of};
 use super::WHO;
 use mc_board::{Board, Owner, Seen};
 use mc_item::{ClassEvent, Cooled, Key, Logged, StripeEvent, Unlinked};
+use std::alloc::Global;
 use std::process::Abort;
 use std::test::Fail;
 use std::thread;
@@ -19,6 +20,17 @@ fn append_many<E: Logged>(board: &Board, owner: &mut Owner, event: &E, times: u6
     for _i in 0..times {
         owner.append(board, event);
     }
+}
+
+// The owner appends an event of a stripe three times.
+fn append_cooled(rt: &impl Abort, alloc: Global, board: &Board, owner: &mut Owner)
+    requires board { owner.old.board ≡ board.now.table }
+    requires room { length owner.old.history + 3 ≤ 2 ^ 32 }
+    ensures same { (owner.new.board ≡ owner.old.board) × (owner.new.lock ≡ owner.old.lock) }
+{
+    let key = Key::of(alloc, b"a").expect(rt, "a key");
+    let event = StripeEvent::Cooled(Cooled { who: WHO, key });
+    append_many(board, owner, &event, 3);
 }
 
 // The owner appends the event this many times, and tells a token its history.
@@ -72,13 +84,11 @@ fn asserts_counts(rt: &impl Abort, board: &Board, token: &mut Seen, wanted: [u64
 
 #[test]
 fn three_appended_events_are_counted(rt: HostRuntime) -> Result<(), Fail> {
-    let key = Key::of(rt.alloc(), b"a")?;
-    let event = StripeEvent::Cooled(Cooled { who: WHO, key });
     let (board, mut owners, mut root) = Board::open(rt.alloc(), 3)?;
     let mut token = root.split(&board);
     assert_eq!(rt; owners.len(), 3);
     asserts_counts(&rt, &board, &mut root, [0, 0, 0]);
-    append_many(&board, &mut owners[1], &event, 3);
+    append_cooled(&rt, rt.alloc(), &board, &mut owners[1]);
     asserts_counts(&rt, &board, &mut token, [0, 3, 0]);
     tell_and_compare(&board, &mut owners[1], &mut root, &mut token);
     token.meet(&board, &mut root);
