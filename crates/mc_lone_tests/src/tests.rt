@@ -3,6 +3,9 @@ ghost use Rattle.std.specs.Prelude.{◌≡◌, IfOk};
 ghost use Rattle.mc_item.specs.Config.{IsBounded, IsSound};
 
 mod commands;
+mod full_classes;
+mod full_neighbours;
+mod full_store;
 
 use mc_item::{ClassEvent, ClassNo, Config, Moves, Numbers, Who};
 use mc_lone::LoneStore;
