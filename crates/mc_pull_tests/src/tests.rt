@@ -4,6 +4,10 @@ mod bounds;
 mod by_list;
 mod judgements;
 mod performing;
+mod plain_lists;
+mod plain_table;
+mod random_classes;
+mod table_compared;
 mod walks;
 mod world;
 
