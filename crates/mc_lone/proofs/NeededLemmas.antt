@@ -39,7 +39,7 @@ module _ (many : ℕ) (room : Room) where
   gone_have None have = tt
   gone_have (Some item) have = have
 
-  fate_have : (key : List ℕ) (found : Option Item) (change : Change) → HasClassIf many (link_of room) → HasClassIf many (link_of_item found) → HaveClasses many room (fate_of key found change)
+  pub fate_have : (key : List ℕ) (found : Option Item) (change : Change) → HasClassIf many (link_of room) → HasClassIf many (link_of_item found) → HaveClasses many room (fate_of key found change)
   fate_have key found changes.Stays fresh have = tt
   fate_have key found changes.Goes fresh have = gone_have found have
   fate_have key found (changes.Hit marks) fresh have = hit_have marks.active found have

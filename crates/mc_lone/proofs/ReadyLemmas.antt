@@ -41,12 +41,12 @@ alive_of (Some item) moment is = by (is_dead item moment) refl
     by false living = living
     by true dead = absurd (some_none item.link (sym (ap (λ (b : Bool). if b then Some item.link else None) dead) ∙ is))
 
-not_dead : (found : Option Item) (moment : ℕ) → IsAlive found moment → dead_link found moment ≡ None
+pub not_dead : (found : Option Item) (moment : ℕ) → IsAlive found moment → dead_link found moment ≡ None
 not_dead None moment alive = refl
 not_dead (Some item) moment alive = ap (λ (b : Bool). if b then Some item.link else None) alive
 
 -- whatever is needed, none may be looked for
-searches_none : (config : Config) (who : Who) (moment : ℕ) (need : Need) → IsSearch config who moment need []
+pub searches_none : (config : Config) (who : Who) (moment : ℕ) (need : Need) → IsSearch config who moment need []
 searches_none config who moment (needs.Fresh class) = tt
 searches_none config who moment needs.Nothing = refl
 searches_none config who moment needs.Same = refl

@@ -60,7 +60,7 @@ fn needed_for_new(fresh: Option<Link>, old: Option<Link>) -> Needed
 }
 
 /// The classes that a command of this fate needs, where it is given this room.
-pub(crate) fn needed_for(fate: Fate, room: Room) -> Needed
+pub fn needed_for(fate: Fate, room: Room) -> Needed
     ensures lent { HoldsOf result (λ vs. AreLent vs room fate) }
     ensures among { (many : ℕ) → HaveClasses many room fate → AreAmong many result }
 {

@@ -2,4 +2,9 @@ pub mod Naming
 pub mod Sides
 pub mod Locked
 pub mod Passes
+pub mod Serving
+pub mod Performing
+pub mod Planned
+pub mod Calls
+pub mod Crawls
 pub mod Finals

@@ -12,13 +12,8 @@ use crate::owned_class::OwnedClass;
 use crate::owned_stripe::OwnedStripe;
 use crate::shelf::Shelf;
 use crate::store::Store;
+use crate::waiting::wait_for_ever;
 use std::sync::{Mutex, Wait};
-
-// Waits, and never returns.
-fn wait_for_ever(rt: &impl Wait) -> ! {
-    for _ in rt.forever() {}
-    unreachable!()
-}
 
 // The stripes, out of their locks, onto the shelf. One of another number than its place's, of which there is none, would be
 // waited for.

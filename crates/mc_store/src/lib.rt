@@ -2,9 +2,15 @@
 //! one.
 #![tactic(auto)]
 
+mod answering;
 mod closing;
+mod commands;
 mod comparing;
+mod crawling;
 mod final_store;
+mod gates;
+mod judging;
+mod juggling;
 mod lock_no;
 mod locked;
 mod looking;
@@ -12,9 +18,15 @@ mod named;
 mod opening;
 mod owned_class;
 mod owned_stripe;
+mod pairing;
 mod pass;
+mod performing;
+mod planning;
+mod readying;
 mod shelf;
 mod store;
+mod waiting;
+mod walking;
 
 pub use final_store::Final;
 pub use lock_no::LockNo;

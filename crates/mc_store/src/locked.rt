@@ -46,6 +46,13 @@ impl<N: Named> LockedStripe<N> {
         &self.side
     }
 
+    // What its lock keeps.
+    pub(crate) fn law(&self)
+        ensures { IsLockedStripe N.board.table N.config self.now }
+    {
+        let _side = &self.side;
+    }
+
     // Out of its lock.
     pub(crate) fn into_side(self) -> OwnedStripe
         ensures value { result ≡ self }
@@ -84,6 +91,14 @@ impl<N: Named> LockedClass<N> {
             side,
             of: PhantomData,
         }
+    }
+
+    // The class, for reading.
+    pub(crate) fn side(&self) -> &OwnedClass
+        ensures value { result.now ≡ self.now }
+        ensures kept { IsLockedClass N.board.table N.config self.now }
+    {
+        &self.side
     }
 
     // Out of its lock.

@@ -1,9 +1,10 @@
 //! A slab class with its tokens of the board.
 ghost use Rattle.std.specs.Prelude.{◌≡◌, []};
 ghost use mathlib.Core.List.{IsPrefix};
-ghost use Rattle.mc_board.specs.Histories.{with_seen, Grows};
+ghost use Rattle.mc_board.specs.Histories.{list_at, with_seen, Grows};
 ghost use Rattle.mc_store.specs.Finals.{IsBehindAt};
 ghost use Rattle.mc_store.specs.Sides.{class_told, stripe_told};
+ghost use Rattle.mc_store.specs.Serving.{GrowsBut};
 
 use crate::owned_stripe::OwnedStripe;
 use mc_board::{Board, Owner, Seen};
@@ -95,5 +96,19 @@ impl OwnedClass {
         ensures grows { Grows self.old.sight self.new.sight }
     {
         stripe.tell(board, &mut self.seen);
+    }
+
+    // Tells a token the whole history, and all that the class has seen of other locks.
+    pub(crate) fn share(&mut self, board: &Board, seen: &mut Seen)
+        requires board { (self.old.board ≡ board.now.table) × (seen.old.board ≡ board.now.table) }
+        ensures same { self.new ≡ self.old }
+        ensures board { seen.new.board ≡ seen.old.board }
+        ensures told { list_at seen.new.sight.seen self.old.lock ≡ class_told self.old.class.history }
+        ensures grows { Grows seen.old.sight seen.new.sight }
+        ensures theirs { GrowsBut self.old.lock self.old.sight seen.new.sight }
+        ensures all { Grows self.old.sight seen.new.sight }
+    {
+        seen.learn(board, &mut self.seen);
+        self.owner.tell(board, seen);
     }
 }

@@ -1,14 +1,15 @@
 //! The shared store: stripes and slab classes, each behind a lock of its own.
 ghost use Rattle.std.specs.Prelude.{◌≡◌, ◌<◌};
 ghost use Rattle.std.specs.Sync.Mutex.{mutex_guard_value};
-ghost use Rattle.mc_store.specs.Locked.{IsStripeUnder};
+ghost use Rattle.mc_evidence.specs.Setting.{IsClass};
+ghost use Rattle.mc_store.specs.Locked.{setting_of};
 
 use crate::locked::{LockedClass, LockedStripe};
 use crate::named::Named;
 use crate::shelf::Shelf;
 use crossbeam_utils::Backoff;
 use mc_board::Board;
-use mc_item::{Config, StripeNo};
+use mc_item::{ClassNo, Config, StripeNo};
 use std::marker::{Model, PhantomData};
 use std::sync::{Mutex, MutexGuard, Wait};
 
@@ -58,6 +59,27 @@ impl<N: Named> Store<N> {
         for _ in rt.forever() {
             let guard = self.stripes[stripe.0 as usize].lock(rt);
             if guard.side().number() == stripe {
+                return guard;
+            }
+            drop(guard);
+            pause.snooze();
+        }
+        unreachable!()
+    }
+
+    // Locks a class. A state of another number than its place's, of which there is none, would be let go and tried again.
+    pub(crate) fn lock_class<'a>(
+        &'a self,
+        rt: &impl Wait,
+        class: ClassNo,
+    ) -> MutexGuard<'a, LockedClass<N>>
+        requires { IsClass (setting_of N.config) class }
+        ensures { (mutex_guard_value result).class.number ≡ class }
+    {
+        let pause = Backoff::new();
+        for _ in rt.forever() {
+            let guard = self.classes[class.0 as usize - 1].lock(rt);
+            if guard.side().number() == class {
                 return guard;
             }
             drop(guard);

@@ -5,6 +5,9 @@ ghost use Rattle.mc_board.specs.Histories.{blind};
 ghost use Rattle.mc_board.specs.Views.{locks_of, AreOwners};
 ghost use Rattle.mc_store.specs.Locked.{locks_for};
 
+mod commands;
+mod threads;
+
 use mc_board::{Board, Owner, Seen};
 use mc_item::{ClassNo, Config, Numbers, StripeNo, Who};
 use mc_store::{Final, LockNo, Named, Pass, Store};

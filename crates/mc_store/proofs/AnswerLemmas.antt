@@ -1,0 +1,70 @@
+-- How a command under the lock of its stripe ends, by how its steps end.
+use Rattle.std.proofs.Common.{◌≡◌, ◌⊎◌, ◌++◌, ◌∙◌, ℕ, List, Result, Ok, Err, refl, ap, sym, subst}
+use Rattle.std.specs.Prelude.{Option, IfOk, OnErr}
+use Rattle.mc_item.specs.Command.{key_of}
+use Rattle.mc_item.specs.Stripe.{Fits, IsAlive}
+use Rattle.mc_item.specs.declared.command.Command.{Command}
+use Rattle.mc_item.specs.declared.config.Config.{Config}
+use Rattle.mc_item.specs.declared.fault.Fault.{Fault}
+use Rattle.mc_item.specs.declared.item.Item.{Item}
+use Rattle.mc_item.specs.declared.item.Who.{Who}
+use Rattle.mc_item.specs.declared.reply.Reply.{Reply}
+use Rattle.mc_item.specs.declared.reply.Room.{Room}
+use Rattle.mc_item.specs.declared.stripe_event.StripeEvent.{StripeEvent}
+use Rattle.mc_item.specs.Answer.{Row}
+use Rattle.mc_segment.specs.ClassState.{ClassView}
+use Rattle.mc_stripe.specs.Plan.{AreHeld, Foresees, IsHeld, dead_link, fate_of}
+use Rattle.mc_stripe.specs.StripeCalls.{KeepsSite}
+use Rattle.mc_stripe.specs.StripeState.{Stripe, cache_now}
+use Rattle.mc_stripe.specs.declared.fate.Fate.{Fate}
+use Rattle.mc_stripe.specs.declared.planning.Plan.{Plan}
+use Rattle.mc_pull.specs.Perform.{call}
+use Rattle.mc_lone.specs.Commands.{IsCut, burial}
+use Rattle.mc_lone.proofs.CommandLemmas.{cut_first}
+use Rattle.mc_lone.proofs.ReadyLemmas.{plan_fate}
+use Rattle.mc_store.specs.Calls.{IsReplied}
+use Rattle.mc_store.specs.Performing.{IsMade}
+use Rattle.mc_store.specs.Planned.{GoesBy, IsGiven, IsReadyOn, IsSearched}
+use Rattle.mc_store.proofs.PlanLemmas.{may_answer_in}
+use Rattle.mc_store.proofs.UnderLemmas.{cut_after, cut_behind, cut_from, replied_behind, replied_from}
+
+-- a plan's room and fate are ready, where a class gives the room
+pub ready_in : (config : Config) (who : Who) (command : Command) (moment : ℕ) (s s_new : Stripe) (v : ClassView) (plan : Plan) (room : Room) (fate : Fate) → GoesBy config s command moment plan → s_new ≡ s → Fits plan.need room s.history
+    → ((key : List ℕ) (found : Option Item) (row : Row) → Foresees key found row plan → fate ≡ fate_of key found (row.answer room).change) → ((sizes : List ℕ) → AreHeld sizes plan → IsHeld sizes fate) → IsGiven who room v
+    → IsReadyOn config s_new v who command moment room fate
+ready_in config who command moment s s_new v plan room fate goes same fits of held given =
+    subst (λ (t : Stripe). IsReadyOn config t v who command moment room fate) (sym same) (record {
+      answer = may_answer_in config s who command moment plan goes room fits;
+      fate_is = plan_fate s who command moment room plan fate goes.planned.is goes.alive of;
+      held = held config.sizes goes.planned.held;
+      given = given;
+    })
+
+-- a stripe that has only seen more was searched as before
+pub searched_seen : (config : Config) (who : Who) (command : Command) (moment : ℕ) (s mid s_new : Stripe) → s_new ≡ mid → IsSearched config who command moment s mid → IsSearched config who command moment s s_new
+searched_seen config who command moment s mid s_new same searched = subst (λ (t : Stripe). IsSearched config who command moment s t) (sym same) searched
+
+module _ (config : Config) (who : Who) (command : Command) (moment : ℕ) where
+  module _ (s last : Stripe) (alive : IsAlive ((cache_now s).items (key_of command)) moment) (searched : IsSearched config who command moment s last) (end : Stripe) where
+    pub replied_ok : (room : Room) (r : Result Reply Fault) → IfOk r (IsMade last end (call who command moment room)) → IfOk r (IsReplied config who command moment s end)
+    replied_ok room (Ok reply) made = replied_behind config who command moment s last alive searched end room reply made
+    replied_ok room (Err fault) made = tt
+
+    pub cut_err : {T : Type 0} (r : Result T Fault) → OnErr r (end.history ≡ last.history) → OnErr r (IsCut config who command moment s end)
+    cut_err (Ok reply) same = tt
+    cut_err (Err fault) same = cut_behind config who command moment s last alive searched end same
+
+    -- broken off on the search
+    pub cut_there : {T : Type 0} (r : Result T Fault) → end ≡ last → OnErr r (IsCut config who command moment s end)
+    cut_there (Ok reply) same = tt
+    cut_there (Err fault) same = cut_behind config who command moment s last alive searched end (ap (λ (t : Stripe). t.history) same)
+
+  -- the same where the key's dead item went before
+  module _ (s mid : Stripe) (site : KeepsSite s mid) (buried_is : mid.history ≡ s.history ++ burial who (key_of command) moment (dead_link ((cache_now s).items (key_of command)) moment)) (end : Stripe) where
+    pub replied_ok_from : (r : Result Reply Fault) → IfOk r (IsReplied config who command moment mid end) → IfOk r (IsReplied config who command moment s end)
+    replied_ok_from (Ok reply) replied = replied_from config who command moment s mid site buried_is end reply replied
+    replied_ok_from (Err fault) replied = tt
+
+    pub cut_err_from : {T : Type 0} (r : Result T Fault) → OnErr r (IsCut config who command moment mid end) → OnErr r (IsCut config who command moment s end)
+    cut_err_from (Ok reply) cut = tt
+    cut_err_from (Err fault) cut = cut_from config who command moment s mid site buried_is end cut

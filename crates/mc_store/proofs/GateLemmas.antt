@@ -1,0 +1,116 @@
+-- What a gate under locks serves, it serves after a survey too; and what its stripes gain adds up.
+use Rattle.std.proofs.Common.{◌≡◌, ◌<◌, ◌+◌, ◌-◌, ℕ, List, [], ◌∷◌, ◌++◌, refl, sym, ap, ◌∙◌, subst, inl, inr, arith, length, append_assoc, Result, Ok, Err}
+use Rattle.std.specs.Prelude.{IfErr, IfOk}
+use Rattle.std.proofs.lemmas.List.{append-nil}
+use mathlib.Core.List.{IsPrefix}
+use Rattle.atomic_table.specs.Seated.{TableId}
+use Rattle.mc_item.specs.declared.class_event.ClassEvent.{ClassEvent}
+use Rattle.mc_item.specs.declared.config.Config.{Config}
+use Rattle.mc_item.specs.declared.event.Event.{Event}
+use Rattle.mc_item.specs.declared.fault.Fault.{Fault}
+use Rattle.mc_item.specs.declared.fault.Fault.TheVariants.{HistoryFull}
+use Rattle.mc_item.specs.declared.item.Who.{Who}
+use Rattle.mc_item.specs.declared.stripe_event.StripeEvent.{StripeEvent}
+use Rattle.mc_evidence.proofs.EntryLemmas.{survey_step}
+use Rattle.mc_evidence.specs.Seen.{stripes_seen}
+use Rattle.mc_segment.specs.ClassCalls.{surveyed_event}
+use Rattle.mc_segment.specs.ClassState.{ClassView, with_room}
+use Rattle.mc_stripe.specs.StripeState.{Stripe}
+use Rattle.mc_board.specs.Histories.{Grows, list_at}
+use Rattle.mc_board.specs.Views.{OwnerView, SeenView}
+use Rattle.mc_board.specs.declared.rule.Sight.{Sight}
+use Rattle.mc_board.proofs.PrefixLemmas.{prefix_length, prefix_more, prefix_self}
+use Rattle.mc_pull.specs.Lone.{AreMadeBy, StripeGrows}
+use Rattle.mc_pull.specs.Question.{IsClassOf}
+use Rattle.mc_pull.specs.Settled.{class_with}
+use Rattle.mc_pull.specs.Walker.{Walker}
+use Rattle.mc_store.specs.Locked.{setting_of}
+use Rattle.mc_store.specs.Serving.{HasSeenShort, IsServed, MayFailSeen}
+use Rattle.mc_store.specs.Sides.{class_told}
+use Rattle.mc_store.proofs.ServedLemmas.{map_append, short_of}
+
+-- ---- stripes that grow
+
+-- a stripe to which nothing was done
+pub grew_itself : (w : Walker) (s : Stripe) → StripeGrows w s s
+grew_itself w s = record { site = record { site = refl; limit = refl }; events = []; each = tt; history_is = sym (append-nil s.history) }
+
+made_both : (w : Walker) (xs ys : List StripeEvent) → AreMadeBy w xs → AreMadeBy w ys → AreMadeBy w (xs ++ ys)
+made_both w [] ys first more = more
+made_both w (x ∷ xs) ys first more = (first.0, made_both w xs ys first.1 more)
+
+-- one walk after another
+pub grew_on : (w : Walker) (a b c : Stripe) → StripeGrows w a b → StripeGrows w b c → StripeGrows w a c
+grew_on w a b c first more = record {
+  site = record { site = more.site.site ∙ first.site.site; limit = more.site.limit ∙ first.site.limit };
+  events = first.events ++ more.events;
+  each = made_both w first.events more.events first.each more.each;
+  history_is = more.history_is ∙ (ap (λ (h : List StripeEvent). h ++ more.events) first.history_is ∙ append_assoc a.history first.events more.events);
+}
+
+-- ---- classes that are served
+
+-- a class with another room
+room_of : (config : Config) (c : ClassView) (room : ℕ) → IsClassOf config c → IsClassOf config (with_room c room)
+room_of config c room of = record { bounded = of.bounded; chunks = of.chunks; max_events = of.max_events; rule = of.rule }
+
+-- and with more events
+more_of : (config : Config) (c : ClassView) (es : List ClassEvent) (room : ℕ) → IsClassOf config c → IsClassOf config (class_with c es room)
+more_of config c es room of = record { bounded = of.bounded; chunks = of.chunks; max_events = of.max_events; rule = of.rule }
+
+-- a class is served whatever its room is
+pub served_room : (table : TableId) (config : Config) (owner : OwnerView) (seen : SeenView) (c : ClassView) (room : ℕ) → IsServed table config owner seen c → IsServed table config owner seen (with_room c room)
+served_room table config owner seen c room served = record {
+  kept = record {
+    board_is = served.kept.board_is;
+    lock_is = served.kept.lock_is;
+    is = served.kept.is;
+    made_with = room_of config c room served.kept.made_with;
+    keeps = served.kept.keeps;
+  };
+  behind = served.behind;
+  board_is = served.board_is;
+}
+
+-- and with a survey more, which its owner hasn't told yet
+pub served_survey : (table : TableId) (config : Config) (owner : OwnerView) (seen : SeenView) (c : ClassView) (who : Who) (moment room : ℕ) → IsServed table config owner seen c
+    → IsServed table config owner seen (class_with c (surveyed_event c who moment ∷ []) room)
+served_survey table config owner seen c who moment room served =
+    let kept = served.kept in
+    let seen_of = stripes_seen (list_at seen.sight.seen) in
+    record {
+      kept = record {
+        board_is = kept.board_is;
+        lock_is = kept.lock_is;
+        is = kept.is;
+        made_with = more_of config c (surveyed_event c who moment ∷ []) room kept.made_with;
+        keeps = survey_step (setting_of config) c.number c.history seen_of seen_of kept.keeps (λ s. prefix_self (seen_of s)) _ (refl, refl);
+      };
+      behind = subst (IsPrefix owner.history) (sym (map_append Rattle.mc_item.specs.declared.event.Event.TheVariants.Class c.history (surveyed_event c who moment ∷ [])))
+          (prefix_more owner.history (class_told c.history) (class_told (surveyed_event c who moment ∷ [])) served.behind);
+      board_is = served.board_is;
+    }
+
+-- ---- full histories
+
+-- a history that was seen to be short is seen by whoever has seen more
+pub short_seen : (config : Config) (a b : Sight) → Grows a b → HasSeenShort config a → HasSeenShort config b
+short_seen config a b more short =
+    let long = prefix_length (list_at a.seen short.lock) (list_at b.seen short.lock) (more.at short.lock) in
+    let lack = short.short in
+    record { lock = short.lock; of = short.of; short = omega (arith, long, lack) }
+
+-- what an answer is told to be, in other words
+pub ok_more : {T : Type 0} (r : Result T Fault) (P Q : T → Type 0) → ((x : T) → P x → Q x) → IfOk r P → IfOk r Q
+ok_more (Ok x) P Q more p = more x p
+ok_more (Err f) P Q more p = tt
+
+-- a walk that failed for a full history: who was told of the class, and of all that it has seen, has seen it
+pub room_full : {T : Type 0} (table : TableId) (config : Config) (owner : OwnerView) (seen : SeenView) (c : ClassView) → IsServed table config owner seen c → (sight : Sight) (lock : ℕ) → lock ≡ owner.lock
+    → list_at sight.seen lock ≡ class_told c.history → Grows seen.sight sight → (r : Result T Fault) → IfErr r (MayFailSeen config seen.sight c) → r ≡ Err HistoryFull → HasSeenShort config sight
+room_full table config owner seen c served sight lock at list more r may is = by (subst (λ (x : Result _ Fault). IfErr x (MayFailSeen config seen.sight c)) is may)
+  where
+    by : MayFailSeen config seen.sight c HistoryFull → HasSeenShort config sight
+    by (inl lack) =
+        short_of config sight lock c.number c.history (at ∙ served.kept.lock_is) served.kept.is list (subst (λ (n : ℕ). n < length c.history + 2) served.kept.made_with.max_events lack)
+    by (inr short) = short_seen config seen.sight sight more short

@@ -1,0 +1,165 @@
+-- A command under the lock of its stripe: what is seen behind it, and what stands before its answer.
+use Rattle.std.proofs.Common.{◌≡◌, ◌⊎◌, ◌≤◌, ◌<◌, ◌+◌, ◌-◌, ◌^◌, ◌++◌, ◌∷◌, [], ℕ, List, Bool, inl, inr, length, arith, refl, ap, sym, ◌∙◌, subst, append_assoc, append-nil}
+use Rattle.std.specs.Prelude.{Option, Some, None}
+use mathlib.Core.List.{IsPrefix}
+use Rattle.mc_item.specs.Answer.{Row}
+use Rattle.mc_item.specs.Command.{key_of}
+use Rattle.mc_item.specs.Measure.{stripe_of}
+use Rattle.mc_item.specs.Stripe.{IsAlive}
+use Rattle.mc_item.specs.declared.answer.Need.{Need}
+use Rattle.mc_item.specs.declared.answer.Need.TheVariants as needs
+use Rattle.mc_item.specs.declared.answer.Site.{Site}
+use Rattle.mc_item.specs.declared.command.Command.{Command}
+use Rattle.mc_item.specs.declared.config.Config.{Config}
+use Rattle.mc_item.specs.declared.event.Event.{Event}
+use Rattle.mc_item.specs.declared.item.ClassNo.{ClassNo}
+use Rattle.mc_item.specs.declared.item.Item.{Item}
+use Rattle.mc_item.specs.declared.item.Link.{Link}
+use Rattle.mc_item.specs.declared.item.Who.{Who}
+use Rattle.mc_item.specs.declared.reply.Reply.{Reply}
+use Rattle.mc_item.specs.declared.reply.Room.{Room}
+use Rattle.mc_item.specs.declared.stripe_event.StripeEvent.{StripeEvent}
+use Rattle.mc_item.specs.declared.stripe_event.StripeEvent.TheVariants as events
+use Rattle.mc_board.specs.Histories.{Grows, list_at, with_seen}
+use Rattle.mc_board.specs.declared.rule.Sight.{Sight}
+use Rattle.mc_board.proofs.SeenLemmas.{list_at_same}
+use Rattle.mc_rule.specs.Segment.{Rule}
+use Rattle.mc_segment.specs.ClassState.{ClassView}
+use Rattle.mc_stripe.specs.Plan.{dead_link, visible_row}
+use Rattle.mc_stripe.specs.StripeCalls.{KeepsSite}
+use Rattle.mc_stripe.specs.StripeState.{Stripe, cache_now}
+use Rattle.mc_stripe.specs.declared.planning.Plan.{Plan}
+use Rattle.mc_pull.specs.Lone.{AreMadeBy, StripeGrows}
+use Rattle.mc_pull.specs.Perform.{answer_to, call}
+use Rattle.mc_pull.specs.Performed.{cooled_if, events_on_stripe}
+use Rattle.mc_pull.specs.Question.{IsClassOf}
+use Rattle.mc_pull.specs.Walker.{Walker, walker_of}
+use Rattle.mc_lone.specs.Commands.{IsAnswered, IsCut, IsSearch, LeadsUp, burial}
+use Rattle.mc_lone.specs.LoneStore.{walker_in}
+use Rattle.mc_lone.proofs.CommandLemmas.{buried_alive, buried_row, searched_alive}
+use Rattle.mc_lone.proofs.ReadyLemmas.{not_dead, searches_none}
+use Rattle.mc_store.specs.Calls.{IsReplied}
+use Rattle.mc_store.specs.Performing.{IsMade}
+use Rattle.mc_store.specs.Planned.{GoesBy, IsPlanIn, IsSearched}
+use Rattle.mc_store.specs.Serving.{GrowsBut}
+use Rattle.mc_store.proofs.PlanLemmas.{goes_by}
+
+-- of a lock whose history was told, that is what was seen
+pub told_at : (sight : Sight) (lock : ℕ) (list : List Event) (new : Sight) (other : ℕ) (is : List Event) → new ≡ with_seen sight lock list → other ≡ lock → list ≡ is → list_at new.seen other ≡ is
+told_at sight lock list new other is told same whole =
+    ap (λ (k : ℕ). list_at new.seen k) same ∙ (ap (λ (s : Sight). list_at s.seen lock) told ∙ (list_at_same sight.seen lock list ∙ whole))
+
+-- what has grown for all locks has grown for all but one
+pub grows_but : (but : ℕ) (old new : Sight) → Grows old new → GrowsBut but old new
+grows_but but old new grows = record { at = λ lock apart. grows.at lock }
+
+-- what is fixed stays, over no step and over two
+pub site_itself : (s : Stripe) → KeepsSite s s
+site_itself s = record { site = refl; limit = refl }
+
+pub site_both : (a b c : Stripe) → KeepsSite a b → KeepsSite b c → KeepsSite a c
+site_both a b c first more = record { site = more.site ∙ first.site; limit = more.limit ∙ first.limit }
+
+-- a walk in the class that is needed is a search
+pub searched_walk : (config : Config) (who : Who) (command : Command) (moment : ℕ) (s s_new : Stripe) (v : ClassView) (class : ClassNo) (plan : Plan) → GoesBy config s command moment plan → plan.need ≡ needs.Fresh class → v.number ≡ class
+    → IsClassOf config v → StripeGrows (walker_of v who moment) s s_new → IsSearched config who command moment s s_new
+searched_walk config who command moment s s_new v class plan goes fresh at made grows =
+    let walker : walker_of v who moment ≡ walker_in config who moment class =
+        ap (λ (n : ClassNo). record { who = who; moment = moment; class = n; rule = v.rule }) at ∙ ap (λ (r : Rule). record { who = who; moment = moment; class = class; rule = r }) made.rule in
+    (grows.events, subst (λ (n : Need). IsSearch config who moment n grows.events) (sym fresh ∙ goes.planned.is.row.need) (subst (λ (w : Walker). AreMadeBy w grows.events) walker grows.each), grows.history_is)
+
+-- a command that is planned again behind a search goes by its new plan
+pub goes_again : (config : Config) (who : Who) (command : Command) (moment : ℕ) (s s_new : Stripe) (plan plan_new : Plan) → GoesBy config s command moment plan → IsSearched config who command moment s s_new → KeepsSite s s_new
+    → IsPlanIn config s_new command moment plan_new → GoesBy config s_new command moment plan_new
+goes_again config who command moment s s_new plan plan_new goes searched site planned = record {
+  owned = subst (λ (t : Site). stripe_of (key_of command) t.stripes ≡ record { 0 = t.stripe }) (sym site.site) goes.owned;
+  early = goes.early;
+  alive = searched_alive config who moment (visible_row s command moment).need s s_new (key_of command) searched.0 site searched.1 searched.2 goes.alive;
+  planned = planned;
+}
+
+-- a command that is planned again where its key's dead item went goes by its new plan
+pub goes_buried : (config : Config) (who : Who) (command : Command) (moment : ℕ) (s s_new : Stripe) (link : Link) (plan plan_new : Plan) → IsPlanIn config s command moment plan → plan.dead ≡ Some link → KeepsSite s s_new
+    → s_new.history ≡ s.history ++ burial who (key_of command) moment (Some link) → stripe_of (key_of command) config.stripes ≡ record { 0 = s.site.stripe } → moment ≤ 2 ^ 62 → IsPlanIn config s_new command moment plan_new
+    → GoesBy config s_new command moment plan_new
+goes_buried config who command moment s s_new link plan plan_new was dead site lost own early planned =
+    let history = lost ∙ ap (λ (o : Option Link). s.history ++ burial who (key_of command) moment o) (sym dead ∙ was.is.dead) in
+    goes_by config s_new command moment plan_new planned (own ∙ ap (λ (t : Site). record { 0 = t.stripe }) (sym site.site)) early (buried_alive s s_new who command moment site history)
+
+-- nothing is looked for
+pub searched_itself : (config : Config) (who : Who) (command : Command) (moment : ℕ) (s s_new : Stripe) → s_new.history ≡ s.history → IsSearched config who command moment s s_new
+searched_itself config who command moment s s_new same = ([], searches_none config who moment (visible_row s command moment).need, same ∙ sym (append-nil s.history))
+
+module _ (config : Config) (who : Who) (command : Command) (moment : ℕ) where
+  -- a command whose key has no dead item is led up to by a search alone
+  module _ (s last : Stripe) (alive : IsAlive ((cache_now s).items (key_of command)) moment) (searched : IsSearched config who command moment s last) where
+    leads : LeadsUp config who command moment s searched.0
+    leads = record {
+      walked = searched.0;
+      split = sym (ap (λ (o : Option Link). burial who (key_of command) moment o ++ searched.0) (not_dead ((cache_now s).items (key_of command)) moment alive));
+      search = searched.1;
+    }
+
+    pub replied_behind : (end : Stripe) (room : Room) (reply : Reply) → IsMade last end (call who command moment room) reply → IsReplied config who command moment s end reply
+    replied_behind end room reply made = record {
+      place = length last.history;
+      answered = record {
+        before = searched.0;
+        led_up = leads;
+        reply = (answer_to last (call who command moment room)).reply;
+        room = room;
+        cooled = made.cooling;
+        history_is = made.history_is ∙ ap (λ (h : List StripeEvent). h ++ events_on_stripe last (call who command moment room) made.cooling) searched.2;
+        place_is = ap (λ (h : List StripeEvent). length h) searched.2;
+      };
+      reply_is = sym made.reply_is;
+    }
+
+    pub cut_behind : (end : Stripe) → end.history ≡ last.history → IsCut config who command moment s end
+    cut_behind end same = record { before = searched.0; led_up = inr leads; history_is = same ∙ searched.2 }
+
+  -- a command that was answered, or broken off, where its key's dead item went before
+  module _ (s mid : Stripe) (site : KeepsSite s mid) (buried_is : mid.history ≡ s.history ++ burial who (key_of command) moment (dead_link ((cache_now s).items (key_of command)) moment)) where
+    abbrev gone : List StripeEvent
+    gone = burial who (key_of command) moment (dead_link ((cache_now s).items (key_of command)) moment)
+
+    none : dead_link ((cache_now mid).items (key_of command)) moment ≡ None
+    none = not_dead ((cache_now mid).items (key_of command)) moment (buried_alive s mid who command moment site buried_is)
+
+    led_from : (before : List StripeEvent) → LeadsUp config who command moment mid before → LeadsUp config who command moment s (gone ++ before)
+    led_from before led = record {
+      walked = led.walked;
+      split = ap (λ (h : List StripeEvent). gone ++ h) (led.split ∙ ap (λ (o : Option Link). burial who (key_of command) moment o ++ led.walked) none);
+      search = subst (λ (r : Row). IsSearch config who moment r.need led.walked) (buried_row s mid who command moment site buried_is) led.search;
+    }
+
+    joined : (before : List StripeEvent) → mid.history ++ before ≡ s.history ++ (gone ++ before)
+    joined before = ap (λ (h : List StripeEvent). h ++ before) buried_is ∙ append_assoc s.history gone before
+
+    pub replied_from : (end : Stripe) (reply : Reply) → IsReplied config who command moment mid end reply → IsReplied config who command moment s end reply
+    replied_from end reply r =
+        let a = r.answered in
+        record {
+          place = r.place;
+          answered = record {
+            before = gone ++ a.before;
+            led_up = led_from a.before a.led_up;
+            reply = a.reply;
+            room = a.room;
+            cooled = a.cooled;
+            history_is = subst (λ (h : List StripeEvent). end.history ≡ h
+                ++ events.Did (record { who = who; command = command; moment = moment; reply = a.reply; room = a.room }) ∷ cooled_if who (key_of command) a.cooled) (joined a.before) a.history_is;
+            place_is = a.place_is ∙ ap (λ (h : List StripeEvent). length h) (joined a.before);
+          };
+          reply_is = r.reply_is;
+        }
+
+    pub cut_from : (end : Stripe) → IsCut config who command moment mid end → IsCut config who command moment s end
+    cut_from end cut = record { before = gone ++ cut.before; led_up = inr (by cut.led_up); history_is = cut.history_is ∙ joined cut.before }
+      where
+        by : (cut.before ≡ []) ⊎ LeadsUp config who command moment mid cut.before → LeadsUp config who command moment s (gone ++ cut.before)
+        by (inl nothing) = record { walked = []; split = ap (λ (h : List StripeEvent). gone ++ h) nothing; search = searches_none config who moment (visible_row s command moment).need }
+        by (inr led) = led_from cut.before led
+
+    pub cut_after : (end : Stripe) → end.history ≡ mid.history → IsCut config who command moment s end
+    cut_after end same = cut_from end (record { before = []; led_up = inl refl; history_is = same ∙ sym (append-nil mid.history) })

@@ -1,0 +1,12 @@
+use Rattle.mc_store.proofs.AnswerLemmas.{replied_ok}
+use Rattle.mc_store.proofs.answering.answer_on_two.Goals as goal
+
+pub returns-in_ok-ready-clause-replied : goal.returns-in_ok-ready-clause-replied
+returns-in_ok-ready-clause-replied g c =
+    replied_ok g.N.Named.config c.args.who c.args.command c.args.moment c.args.own.now.stripe c.ready_on.new.own.stripe c.requires.goes.alive c.ready_on.ensures.searched c.finish_two.new.own.stripe c.in_ok-ready.ready.0 c.finish_two.result
+    c.finish_two.ensures.made
+
+pub returns-in_ok-ready-2-clause-replied : goal.returns-in_ok-ready-2-clause-replied
+returns-in_ok-ready-2-clause-replied g c =
+    replied_ok g.N.Named.config c.args.who c.args.command c.args.moment c.args.own.now.stripe c.ready_on-else-eq.new.own.stripe c.requires.goes.alive c.ready_on-else-eq.ensures.searched c.finish_two-else-eq.new.own.stripe c.in_ok-ready-2.ready.0
+    c.finish_two-else-eq.result c.finish_two-else-eq.ensures.made

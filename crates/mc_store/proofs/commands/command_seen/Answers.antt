@@ -1,0 +1,58 @@
+use Rattle.std.proofs.Common.{◌≡◌, ◌∙◌, ap, subst}
+use Rattle.std.specs.Prelude.{IfOk, OnErr}
+use Rattle.mc_board.specs.Histories.{Grows, HasSeen, list_at}
+use Rattle.mc_board.specs.declared.rule.Sight.{Sight}
+use Rattle.mc_stripe.specs.StripeCalls.{KeepsSite}
+use Rattle.mc_lone.specs.Commands.{IsCut}
+use Rattle.mc_store.specs.Calls.{IsReplied}
+use Rattle.mc_store.specs.Passes.{PassView}
+use Rattle.mc_store.specs.Sides.{StripeSide, stripe_told}
+use Rattle.mc_store.proofs.CallLemmas.{cut_by_err, replied_by_ok, short_shared}
+use Rattle.mc_store.proofs.commands.command_seen.Goals as goal
+
+pub returns-clause-replied : goal.returns-clause-replied
+returns-clause-replied g c =
+    let config = g.N.Named.config in
+    let old = c.args.own.now in
+    let new = c.command_under-reply.new.own in
+    let before = c.args.pass.now.sight in
+    let after = c.share.new.seen.sight in
+    let same : c.compare.new.self ≡ old = c.compare.ensures.same.0 ∙ c.own.view_is in
+    let site = subst (λ (s : StripeSide). KeepsSite s.stripe new.stripe) same c.command_under-reply.ensures.site in
+    let seen = subst (λ (s : StripeSide). HasSeen (stripe_told s.stripe.history) before s.lock) c.own.view_is
+        (subst (λ (x : Sight). HasSeen (stripe_told c.own.inside.side.stripe.history) x c.own.inside.side.lock) (ap (λ (p : PassView). p.sight) c.pass.view_is) c.compare.ensures.behind.seen) in
+    let told = subst (λ (s : StripeSide). list_at after.seen s.lock ≡ stripe_told s.stripe.history) c.own-2.view_is c.share.ensures.told in
+    let grows = subst (λ (s : StripeSide). Grows s.sight after) c.own-2.view_is c.share.ensures.all in
+    replied_by_ok g.N.Named.board.table config old new before after c.law.ensures c.law-2.ensures site seen told grows c.args.who c.args.command c.args.moment c.command_under-reply.result
+    (subst (λ (s : StripeSide). IfOk c.command_under-reply.result (IsReplied config c.args.who c.args.command c.args.moment s.stripe new.stripe)) same c.command_under-reply.ensures.replied)
+
+pub returns-clause-cut : goal.returns-clause-cut
+returns-clause-cut g c =
+    let config = g.N.Named.config in
+    let old = c.args.own.now in
+    let new = c.command_under-reply.new.own in
+    let before = c.args.pass.now.sight in
+    let after = c.share.new.seen.sight in
+    let same : c.compare.new.self ≡ old = c.compare.ensures.same.0 ∙ c.own.view_is in
+    let site = subst (λ (s : StripeSide). KeepsSite s.stripe new.stripe) same c.command_under-reply.ensures.site in
+    let seen = subst (λ (s : StripeSide). HasSeen (stripe_told s.stripe.history) before s.lock) c.own.view_is
+        (subst (λ (x : Sight). HasSeen (stripe_told c.own.inside.side.stripe.history) x c.own.inside.side.lock) (ap (λ (p : PassView). p.sight) c.pass.view_is) c.compare.ensures.behind.seen) in
+    let told = subst (λ (s : StripeSide). list_at after.seen s.lock ≡ stripe_told s.stripe.history) c.own-2.view_is c.share.ensures.told in
+    let grows = subst (λ (s : StripeSide). Grows s.sight after) c.own-2.view_is c.share.ensures.all in
+    cut_by_err g.N.Named.board.table config old new before after c.law.ensures c.law-2.ensures site seen told grows c.args.who c.args.command c.args.moment c.command_under-reply.result
+    (subst (λ (s : StripeSide). OnErr c.command_under-reply.result (IsCut config c.args.who c.args.command c.args.moment s.stripe new.stripe)) same c.command_under-reply.ensures.cut)
+
+pub returns-clause-full : goal.returns-clause-full
+returns-clause-full g c =
+    let config = g.N.Named.config in
+    let old = c.args.own.now in
+    let new = c.command_under-reply.new.own in
+    let before = c.args.pass.now.sight in
+    let after = c.share.new.seen.sight in
+    let same : c.compare.new.self ≡ old = c.compare.ensures.same.0 ∙ c.own.view_is in
+    let site = subst (λ (s : StripeSide). KeepsSite s.stripe new.stripe) same c.command_under-reply.ensures.site in
+    let seen = subst (λ (s : StripeSide). HasSeen (stripe_told s.stripe.history) before s.lock) c.own.view_is
+        (subst (λ (x : Sight). HasSeen (stripe_told c.own.inside.side.stripe.history) x c.own.inside.side.lock) (ap (λ (p : PassView). p.sight) c.pass.view_is) c.compare.ensures.behind.seen) in
+    let told = subst (λ (s : StripeSide). list_at after.seen s.lock ≡ stripe_told s.stripe.history) c.own-2.view_is c.share.ensures.told in
+    let grows = subst (λ (s : StripeSide). Grows s.sight after) c.own-2.view_is c.share.ensures.all in
+    λ e. short_shared g.N.Named.board.table config old new before after c.law.ensures c.law-2.ensures site seen told grows (c.command_under-reply.ensures.full e)

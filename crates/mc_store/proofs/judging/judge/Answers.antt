@@ -1,0 +1,109 @@
+use Rattle.std.proofs.Common.{rules, ◌≡◌, ap, sym, subst, ◌∙◌}
+use Rattle.mc_pull.specs.Lone.{StripeGrows}
+use Rattle.mc_pull.specs.Question.{question_of}
+use Rattle.mc_pull.specs.Walker.{walker_of}
+use Rattle.mc_pull.proofs.LoneLemmas.{settle_walked}
+use Rattle.mc_board.specs.Views.{OwnerView}
+use Rattle.mc_stripe.specs.StripeState.{Stripe}
+use Rattle.mc_store.specs.Serving.{MayFailSeen}
+use Rattle.mc_store.specs.Sides.{StripeSide}
+use Rattle.mc_store.specs.declared.locked.LockedStripe.TheInside.{Inside}
+use Rattle.mc_store.proofs.JudgedLemmas.{class_judged, fault_judged, stripe_judged}
+use Rattle.mc_store.proofs.ServedLemmas.{class_told_more, handed_on, settled_grows, settled_told}
+use Rattle.mc_store.proofs.judging.judge.Goals as goal
+
+pub catch_up_stripe-requires-clause-behind : goal.catch_up_stripe-requires-clause-behind
+catch_up_stripe-requires-clause-behind g c =
+    settled_told _ _ _ _ (question_of c.args.look.now.ask) c.settle-done.result c.settle-done.ensures.settled c.settle-done.ensures.err c.stripe-inside-2.inside.0.0.owner.history c.stripe-inside-2.invariant.0
+
+pub catch_up_class-requires-2-clause-behind : goal.catch_up_class-requires-2-clause-behind
+catch_up_class-requires-2-clause-behind g c =
+    let grows = settled_grows _ _ _ _ (question_of c.args.look.now.ask) c.settle-done.result c.settle-done.ensures.settled c.settle-done.ensures.err in
+    class_told_more _ _ c.tell.new.self.history grows (ap (λ (o : OwnerView). o.history) (c.tell.ensures.same ∙ c.catch_up_class.ensures))
+
+pub invariant_of-stripe : goal.invariant_of-stripe
+invariant_of-stripe g c =
+    let own = c.stripe-inside.inside.0.0 in
+    let lent = c.stripe-inside-2.inside.0.0 in
+    let own_is = ap (λ (l : Inside g.row.N.Denot). l.side) c.stripe-inside.view_is in
+    let lent_is = ap (λ (l : Inside g.row.N.Denot). l.side) c.stripe-inside-2.view_is in
+    let grows = settled_grows _ _ _ _ (question_of c.args.look.now.ask) c.settle-done.result c.settle-done.ensures.settled c.settle-done.ensures.err in
+    stripe_judged g.N.Named.board.table g.N.Named.config c.stripe.inside.side c.stripe.invariant own.state own.owner own.seen own_is
+    c.args.owner.now c.args.seen.now c.args.look.now.class.now c.requires.served c.catch_up_class.new.owner c.tell.new.self c.catch_up_class.ensures c.tell.ensures.same
+    c.tell.new.seen c.tell.ensures.whole c.tell.ensures.grows c.tell-2.new.self c.tell-2.new.seen c.tell-2.ensures.same c.tell-2.ensures.told c.tell-2.ensures.grows
+    lent.state lent.owner lent.seen lent_is
+    c.settle-done.new.stripe c.settle-done.new.self.class.now c.settle-done.ensures.site grows c.history.ensures.legal c.law.ensures.lawful c.settle-done.ensures.agreement c.settle-done.ensures.sight
+    c.catch_up_stripe.new.owner c.catch_up_stripe.ensures c.catch_up_class-2.new.owner c.tell-3.new.self c.catch_up_class-2.ensures c.tell-3.ensures.same
+    c.tell-3.new.seen c.tell-3.ensures.whole c.tell-3.ensures.grows c.tell-4.new.self c.tell-4.new.seen c.tell-4.ensures.same c.tell-4.ensures.told c.tell-4.ensures.grows
+
+pub returns-in_err-done-clause-served : goal.returns-in_err-done-clause-served
+returns-in_err-done-clause-served g c =
+    let own = c.stripe-inside.inside.0.0 in
+    let lent = c.stripe-inside-2.inside.0.0 in
+    let own_is = ap (λ (l : Inside g.row.N.Denot). l.side) c.stripe-inside.view_is in
+    let lent_is = ap (λ (l : Inside g.row.N.Denot). l.side) c.stripe-inside-2.view_is in
+    let grows = settled_grows _ _ _ _ (question_of c.args.look.now.ask) c.settle-done.result c.settle-done.ensures.settled c.settle-done.ensures.err in
+    class_judged g.N.Named.board.table g.N.Named.config c.stripe.inside.side c.stripe.invariant own.state own.owner own.seen own_is
+    c.args.owner.now c.args.seen.now c.args.look.now.class.now c.requires.served c.catch_up_class.new.owner c.tell.new.self c.catch_up_class.ensures c.tell.ensures.same
+    c.tell.new.seen c.tell.ensures.whole c.tell.ensures.grows c.tell-2.new.self c.tell-2.new.seen c.tell-2.ensures.same c.tell-2.ensures.told c.tell-2.ensures.grows
+    lent.state lent.owner lent.seen lent_is
+    c.settle-done.new.stripe c.settle-done.new.self.class.now c.settle-done.ensures.site grows c.history.ensures.legal c.law.ensures.lawful c.settle-done.ensures.agreement c.settle-done.ensures.sight
+    c.catch_up_stripe.new.owner c.catch_up_stripe.ensures c.catch_up_class-2.new.owner c.tell-3.new.self c.catch_up_class-2.ensures c.tell-3.ensures.same
+    c.tell-3.new.seen c.tell-3.ensures.whole c.tell-3.ensures.grows c.tell-4.new.self c.tell-4.new.seen c.tell-4.ensures.same c.tell-4.ensures.told c.tell-4.ensures.grows
+
+pub invariant_of-stripe-2 : goal.invariant_of-stripe-2
+invariant_of-stripe-2 g c =
+    let own = c.stripe-inside.inside.0.0 in
+    let lent = c.stripe-inside-2.inside.0.0 in
+    let own_is = ap (λ (l : Inside g.row.N.Denot). l.side) c.stripe-inside.view_is in
+    let lent_is = ap (λ (l : Inside g.row.N.Denot). l.side) c.stripe-inside-2.view_is in
+    let grows = settled_grows _ _ _ _ (question_of c.args.look.now.ask) c.settle-done.result c.settle-done.ensures.settled c.settle-done.ensures.err in
+    stripe_judged g.N.Named.board.table g.N.Named.config c.stripe.inside.side c.stripe.invariant own.state own.owner own.seen own_is
+    c.args.owner.now c.args.seen.now c.args.look.now.class.now c.requires.served c.catch_up_class.new.owner c.tell.new.self c.catch_up_class.ensures c.tell.ensures.same
+    c.tell.new.seen c.tell.ensures.whole c.tell.ensures.grows c.tell-2.new.self c.tell-2.new.seen c.tell-2.ensures.same c.tell-2.ensures.told c.tell-2.ensures.grows
+    lent.state lent.owner lent.seen lent_is
+    c.settle-done.new.stripe c.settle-done.new.self.class.now c.settle-done.ensures.site grows c.history.ensures.legal c.law.ensures.lawful c.settle-done.ensures.agreement c.settle-done.ensures.sight
+    c.catch_up_stripe.new.owner c.catch_up_stripe.ensures c.catch_up_class-2.new.owner c.tell-3.new.self c.catch_up_class-2.ensures c.tell-3.ensures.same
+    c.tell-3.new.seen c.tell-3.ensures.whole c.tell-3.ensures.grows c.tell-4.new.self c.tell-4.new.seen c.tell-4.ensures.same c.tell-4.ensures.told c.tell-4.ensures.grows
+
+pub returns-clause-served : goal.returns-clause-served
+returns-clause-served g c =
+    let own = c.stripe-inside.inside.0.0 in
+    let lent = c.stripe-inside-2.inside.0.0 in
+    let own_is = ap (λ (l : Inside g.row.N.Denot). l.side) c.stripe-inside.view_is in
+    let lent_is = ap (λ (l : Inside g.row.N.Denot). l.side) c.stripe-inside-2.view_is in
+    let grows = settled_grows _ _ _ _ (question_of c.args.look.now.ask) c.settle-done.result c.settle-done.ensures.settled c.settle-done.ensures.err in
+    class_judged g.N.Named.board.table g.N.Named.config c.stripe.inside.side c.stripe.invariant own.state own.owner own.seen own_is
+    c.args.owner.now c.args.seen.now c.args.look.now.class.now c.requires.served c.catch_up_class.new.owner c.tell.new.self c.catch_up_class.ensures c.tell.ensures.same
+    c.tell.new.seen c.tell.ensures.whole c.tell.ensures.grows c.tell-2.new.self c.tell-2.new.seen c.tell-2.ensures.same c.tell-2.ensures.told c.tell-2.ensures.grows
+    lent.state lent.owner lent.seen lent_is
+    c.settle-done.new.stripe c.settle-done.new.self.class.now c.settle-done.ensures.site grows c.history.ensures.legal c.law.ensures.lawful c.settle-done.ensures.agreement c.settle-done.ensures.sight
+    c.catch_up_stripe.new.owner c.catch_up_stripe.ensures c.catch_up_class-2.new.owner c.tell-3.new.self c.catch_up_class-2.ensures c.tell-3.ensures.same
+    c.tell-3.new.seen c.tell-3.ensures.whole c.tell-3.ensures.grows c.tell-4.new.self c.tell-4.new.seen c.tell-4.ensures.same c.tell-4.ensures.told c.tell-4.ensures.grows
+
+pub returns-in_err-done-clause-fault : goal.returns-in_err-done-clause-fault
+returns-in_err-done-clause-fault g c =
+    let own = c.stripe-inside.inside.0.0 in
+    let lent = c.stripe-inside-2.inside.0.0 in
+    let own_is = ap (λ (l : Inside g.row.N.Denot). l.side) c.stripe-inside.view_is in
+    let lent_is = ap (λ (l : Inside g.row.N.Denot). l.side) c.stripe-inside-2.view_is in
+    let grows = settled_grows _ _ _ _ (question_of c.args.look.now.ask) c.settle-done.result c.settle-done.ensures.settled c.settle-done.ensures.err in
+    handed_on (MayFailSeen g.N.Named.config c.tell-4.new.seen.sight c.settle-done.new.self.class.now) c.in_err-done.field-0.0 c.from_residual.result c.from_residual.ensures.1
+    (fault_judged g.N.Named.board.table g.N.Named.config c.stripe.inside.side c.stripe.invariant own.state own.owner own.seen own_is
+    c.args.owner.now c.args.seen.now c.args.look.now.class.now c.requires.served c.catch_up_class.new.owner c.tell.new.self c.catch_up_class.ensures c.tell.ensures.same
+    c.tell.new.seen c.tell.ensures.whole c.tell.ensures.grows c.tell-2.new.self c.tell-2.new.seen c.tell-2.ensures.same c.tell-2.ensures.told c.tell-2.ensures.grows
+    lent.state lent.owner lent.seen lent_is
+    c.settle-done.new.stripe c.settle-done.new.self.class.now c.settle-done.ensures.site grows c.history.ensures.legal c.law.ensures.lawful c.settle-done.ensures.agreement c.settle-done.ensures.sight
+    c.catch_up_stripe.new.owner c.catch_up_stripe.ensures c.catch_up_class-2.new.owner c.tell-3.new.self c.catch_up_class-2.ensures c.tell-3.ensures.same
+    c.tell-3.new.seen c.tell-3.ensures.whole c.tell-3.ensures.grows c.tell-4.new.self c.tell-4.new.seen c.tell-4.ensures.same c.tell-4.ensures.told c.tell-4.ensures.grows
+    c.in_err-done.field-0.0 c.in_err-done.ensures.full)
+
+pub returns-clause-stripe : goal.returns-clause-stripe
+returns-clause-stripe g c =
+    let own_is = ap (λ (l : Inside g.row.N.Denot). l.side) c.stripe-inside.view_is in
+    let lent_is = ap (λ (l : Inside g.row.N.Denot). l.side) c.stripe-inside-2.view_is in
+    let first : c.stripe-inside-2.inside.0.0.state ≡ c.args.stripe.now.stripe = ap (λ (x : StripeSide). x.stripe) (lent_is ∙ (c.tell-2.ensures.same ∙ ap (λ (x : StripeSide). record x { sight = c.tell.new.seen.sight }) own_is)) ∙ ap (λ (x : StripeSide). x.stripe) c.stripe.view_is in
+    let last : c.tell-4.new.self.stripe ≡ c.settle-done.new.stripe = ap (λ (x : StripeSide). x.stripe) c.tell-4.ensures.same in
+    let w = walker_of c.args.look.now.class.now c.args.look.now.ask.who c.args.look.now.ask.moment in
+    let walked = settle_walked _ _ _ _ (question_of c.args.look.now.ask) c.settle-done.ensures.site c.settle-done.ensures.agreement c.settle-done.result c.settle-done.ensures.settled c.settle-done.ensures.err in
+    subst (λ (x : Stripe). StripeGrows w c.args.stripe.now.stripe x) (sym last) (subst (λ (x : Stripe). StripeGrows w x c.settle-done.new.stripe) first walked.grows)

@@ -1,0 +1,150 @@
+use Rattle.std.proofs.Common.{◌≡◌, ◌++◌, ◌∷◌, [], List, Some, ap, sym, subst, ◌∙◌}
+use Rattle.mc_item.specs.declared.fault.Fault.TheVariants.{HistoryFull}
+use Rattle.mc_item.specs.declared.stripe_event.Cause.TheVariants.{Expired}
+use Rattle.mc_item.specs.declared.stripe_event.StripeEvent.{StripeEvent}
+use Rattle.mc_segment.specs.ClassState.{ClassView}
+use Rattle.mc_stripe.specs.Plan.{dead_link}
+use Rattle.mc_stripe.specs.StripeState.{Stripe, cache_now}
+use Rattle.mc_board.specs.Views.{OwnerView}
+use Rattle.mc_pull.specs.Agreeing.{AgreeNow}
+use Rattle.mc_pull.specs.Question.{question}
+use Rattle.mc_pull.specs.Refusal.{MayFail}
+use Rattle.mc_pull.specs.Settled.{lost_event, stripe_events}
+use Rattle.mc_pull.specs.declared.judge.Done.{Done}
+use Rattle.mc_pull.specs.declared.judge.Judge.TheVariants.{Dead}
+use Rattle.mc_lone.proofs.DeadLemmas.{dead_listed, dead_reclaimed, told_dead}
+use Rattle.mc_lone.proofs.GrowLemmas.{err_is}
+use Rattle.mc_store.specs.Sides.{ClassSide, StripeSide}
+use Rattle.mc_store.specs.declared.locked.LockedStripe.TheInside as stripes
+use Rattle.mc_store.specs.declared.locked.LockedClass.TheInside as classes
+use Rattle.mc_store.proofs.ServedLemmas.{class_paired, class_told_more, settled_grows, settled_told, short_paired, stripe_paired}
+use Rattle.mc_store.proofs.walking.bury_under.Goals as goal
+
+pub settle-done-requires-clause-judge : goal.settle-done-requires-clause-judge
+settle-done-requires-clause-judge g c =
+    let own_is = ap (λ (l : stripes.Inside g.row.N.Denot). l.side) c.own-inside.view_is in
+    let lent_is = ap (λ (l : classes.Inside g.row.N.Denot). l.side) c.class-inside.view_is in
+    let own = c.own-inside.inside.0.0 in
+    let lent = c.class-inside.inside.0.0 in
+    let s_is : own.state ≡ c.meet.new.own.stripe = ap (λ (x : StripeSide). x.stripe) (own_is ∙ c.own.view_is) in
+    let c_is : lent.state ≡ c.meet.new.lent.class = ap (λ (x : ClassSide). x.class) (lent_is ∙ c.class.view_is) in
+    let agree : AgreeNow lent.state own.state = subst (λ (s : Stripe). AgreeNow lent.state s) (sym s_is) (subst (λ (v : ClassView). AgreeNow v c.meet.new.own.stripe) (sym c_is) c.meet.ensures.met) in
+    let under : dead_link ((cache_now own.state).items c.args.key.now) c.args.moment ≡ Some c.args.link =
+    subst (λ (s : Stripe). dead_link ((cache_now s).items c.args.key.now) c.args.moment ≡ Some c.args.link) (sym (s_is ∙ ap (λ (x : StripeSide). x.stripe) c.meet.ensures.own)) c.requires.dead in
+    let dead = told_dead c.args.key.now own.state c.args.moment c.args.link under in
+    let of : c.args.link.class ≡ lent.state.number = sym c.requires.class ∙ sym (ap (λ (v : ClassView). v.number) (c_is ∙ ap (λ (x : ClassSide). x.class) c.meet.ensures.lent)) in
+    dead_listed lent.state own.state c.args.key.now c.args.moment c.args.link dead of c.history.ensures.legal c.law.ensures.lawful agree
+
+pub catch_up_stripe-requires-clause-behind : goal.catch_up_stripe-requires-clause-behind
+catch_up_stripe-requires-clause-behind g c =
+    let q = question c.args.who c.args.link.number Dead c.args.moment in
+    settled_told _ _ _ _ q c.settle-done.result c.settle-done.ensures.settled c.settle-done.ensures.err c.own-inside.inside.0.0.owner.history c.own-inside.invariant.0
+
+pub catch_up_class-requires-clause-behind : goal.catch_up_class-requires-clause-behind
+catch_up_class-requires-clause-behind g c =
+    let q = question c.args.who c.args.link.number Dead c.args.moment in
+    let grows = settled_grows _ _ _ _ q c.settle-done.result c.settle-done.ensures.settled c.settle-done.ensures.err in
+    class_told_more _ _ c.class-inside.inside.0.0.owner.history grows c.class-inside.invariant.0
+
+pub invariant_of-own : goal.invariant_of-own
+invariant_of-own g c =
+    let own_is = ap (λ (l : stripes.Inside g.row.N.Denot). l.side) c.own-inside.view_is in
+    let lent_is = ap (λ (l : classes.Inside g.row.N.Denot). l.side) c.class-inside.view_is in
+    let own = c.own-inside.inside.0.0 in
+    let lent = c.class-inside.inside.0.0 in
+    let s_is : own.state ≡ c.meet.new.own.stripe = ap (λ (x : StripeSide). x.stripe) (own_is ∙ c.own.view_is) in
+    let c_is : lent.state ≡ c.meet.new.lent.class = ap (λ (x : ClassSide). x.class) (lent_is ∙ c.class.view_is) in
+    let agree : AgreeNow lent.state own.state = subst (λ (s : Stripe). AgreeNow lent.state s) (sym s_is) (subst (λ (v : ClassView). AgreeNow v c.meet.new.own.stripe) (sym c_is) c.meet.ensures.met) in
+    let q = question c.args.who c.args.link.number Dead c.args.moment in
+    let grows = settled_grows _ _ _ _ q c.settle-done.result c.settle-done.ensures.settled c.settle-done.ensures.err in
+    stripe_paired g.N.Named.board.table g.N.Named.config c.own.inside.side c.class.inside.side c.own.invariant c.class.invariant own.state own.owner own.seen own_is lent.state lent.owner lent.seen lent_is
+    agree c.settle-done.new.stripe c.settle-done.new.class c.settle-done.ensures.site grows c.history-2.ensures.legal c.law-2.ensures.lawful c.settle-done.ensures.agreement c.settle-done.ensures.sight
+    c.catch_up_stripe.new.owner c.catch_up_stripe.ensures c.catch_up_class.new.owner c.catch_up_class.ensures c.hear.new.self c.hear-2.new.stripe c.hear.new.class c.hear-2.new.self
+    c.hear.ensures.class c.hear.ensures.told c.hear.ensures.grows c.hear-2.ensures.stripe c.hear-2.ensures.told c.hear-2.ensures.grows
+
+pub invariant_of-class : goal.invariant_of-class
+invariant_of-class g c =
+    let own_is = ap (λ (l : stripes.Inside g.row.N.Denot). l.side) c.own-inside.view_is in
+    let lent_is = ap (λ (l : classes.Inside g.row.N.Denot). l.side) c.class-inside.view_is in
+    let own = c.own-inside.inside.0.0 in
+    let lent = c.class-inside.inside.0.0 in
+    let s_is : own.state ≡ c.meet.new.own.stripe = ap (λ (x : StripeSide). x.stripe) (own_is ∙ c.own.view_is) in
+    let c_is : lent.state ≡ c.meet.new.lent.class = ap (λ (x : ClassSide). x.class) (lent_is ∙ c.class.view_is) in
+    let agree : AgreeNow lent.state own.state = subst (λ (s : Stripe). AgreeNow lent.state s) (sym s_is) (subst (λ (v : ClassView). AgreeNow v c.meet.new.own.stripe) (sym c_is) c.meet.ensures.met) in
+    let q = question c.args.who c.args.link.number Dead c.args.moment in
+    let grows = settled_grows _ _ _ _ q c.settle-done.result c.settle-done.ensures.settled c.settle-done.ensures.err in
+    class_paired g.N.Named.board.table g.N.Named.config c.own.inside.side c.class.inside.side c.own.invariant c.class.invariant own.state own.owner own.seen own_is lent.state lent.owner lent.seen lent_is
+    agree c.settle-done.new.stripe c.settle-done.new.class c.settle-done.ensures.site grows c.history-2.ensures.legal c.law-2.ensures.lawful c.settle-done.ensures.agreement c.settle-done.ensures.sight
+    c.catch_up_stripe.new.owner c.catch_up_stripe.ensures c.catch_up_class.new.owner c.catch_up_class.ensures c.hear.new.self c.hear-2.new.stripe c.hear.new.class c.hear-2.new.self
+    c.hear.ensures.class c.hear.ensures.told c.hear.ensures.grows c.hear-2.ensures.stripe c.hear-2.ensures.told c.hear-2.ensures.grows
+
+pub invariant_of-own-2 : goal.invariant_of-own-2
+invariant_of-own-2 g c =
+    let own_is = ap (λ (l : stripes.Inside g.row.N.Denot). l.side) c.own-inside.view_is in
+    let lent_is = ap (λ (l : classes.Inside g.row.N.Denot). l.side) c.class-inside.view_is in
+    let own = c.own-inside.inside.0.0 in
+    let lent = c.class-inside.inside.0.0 in
+    let s_is : own.state ≡ c.meet.new.own.stripe = ap (λ (x : StripeSide). x.stripe) (own_is ∙ c.own.view_is) in
+    let c_is : lent.state ≡ c.meet.new.lent.class = ap (λ (x : ClassSide). x.class) (lent_is ∙ c.class.view_is) in
+    let agree : AgreeNow lent.state own.state = subst (λ (s : Stripe). AgreeNow lent.state s) (sym s_is) (subst (λ (v : ClassView). AgreeNow v c.meet.new.own.stripe) (sym c_is) c.meet.ensures.met) in
+    let q = question c.args.who c.args.link.number Dead c.args.moment in
+    let grows = settled_grows _ _ _ _ q c.settle-done.result c.settle-done.ensures.settled c.settle-done.ensures.err in
+    stripe_paired g.N.Named.board.table g.N.Named.config c.own.inside.side c.class.inside.side c.own.invariant c.class.invariant own.state own.owner own.seen own_is lent.state lent.owner lent.seen lent_is
+    agree c.settle-done.new.stripe c.settle-done.new.class c.settle-done.ensures.site grows c.history-2.ensures.legal c.law-2.ensures.lawful c.settle-done.ensures.agreement c.settle-done.ensures.sight
+    c.catch_up_stripe.new.owner c.catch_up_stripe.ensures c.catch_up_class.new.owner c.catch_up_class.ensures c.hear.new.self c.hear-2.new.stripe c.hear.new.class c.hear-2.new.self
+    c.hear.ensures.class c.hear.ensures.told c.hear.ensures.grows c.hear-2.ensures.stripe c.hear-2.ensures.told c.hear-2.ensures.grows
+
+pub invariant_of-class-2 : goal.invariant_of-class-2
+invariant_of-class-2 g c =
+    let own_is = ap (λ (l : stripes.Inside g.row.N.Denot). l.side) c.own-inside.view_is in
+    let lent_is = ap (λ (l : classes.Inside g.row.N.Denot). l.side) c.class-inside.view_is in
+    let own = c.own-inside.inside.0.0 in
+    let lent = c.class-inside.inside.0.0 in
+    let s_is : own.state ≡ c.meet.new.own.stripe = ap (λ (x : StripeSide). x.stripe) (own_is ∙ c.own.view_is) in
+    let c_is : lent.state ≡ c.meet.new.lent.class = ap (λ (x : ClassSide). x.class) (lent_is ∙ c.class.view_is) in
+    let agree : AgreeNow lent.state own.state = subst (λ (s : Stripe). AgreeNow lent.state s) (sym s_is) (subst (λ (v : ClassView). AgreeNow v c.meet.new.own.stripe) (sym c_is) c.meet.ensures.met) in
+    let q = question c.args.who c.args.link.number Dead c.args.moment in
+    let grows = settled_grows _ _ _ _ q c.settle-done.result c.settle-done.ensures.settled c.settle-done.ensures.err in
+    class_paired g.N.Named.board.table g.N.Named.config c.own.inside.side c.class.inside.side c.own.invariant c.class.invariant own.state own.owner own.seen own_is lent.state lent.owner lent.seen lent_is
+    agree c.settle-done.new.stripe c.settle-done.new.class c.settle-done.ensures.site grows c.history-2.ensures.legal c.law-2.ensures.lawful c.settle-done.ensures.agreement c.settle-done.ensures.sight
+    c.catch_up_stripe.new.owner c.catch_up_stripe.ensures c.catch_up_class.new.owner c.catch_up_class.ensures c.hear.new.self c.hear-2.new.stripe c.hear.new.class c.hear-2.new.self
+    c.hear.ensures.class c.hear.ensures.told c.hear.ensures.grows c.hear-2.ensures.stripe c.hear-2.ensures.told c.hear-2.ensures.grows
+
+pub returns-in_err-done-clause-full : goal.returns-in_err-done-clause-full
+returns-in_err-done-clause-full g c = λ is.
+    let own_is = ap (λ (l : stripes.Inside g.row.N.Denot). l.side) c.own-inside.view_is in
+    let lent_is = ap (λ (l : classes.Inside g.row.N.Denot). l.side) c.class-inside.view_is in
+    let own = c.own-inside.inside.0.0 in
+    let lent = c.class-inside.inside.0.0 in
+    let s_is : own.state ≡ c.meet.new.own.stripe = ap (λ (x : StripeSide). x.stripe) (own_is ∙ c.own.view_is) in
+    let c_is : lent.state ≡ c.meet.new.lent.class = ap (λ (x : ClassSide). x.class) (lent_is ∙ c.class.view_is) in
+    let agree : AgreeNow lent.state own.state = subst (λ (s : Stripe). AgreeNow lent.state s) (sym s_is) (subst (λ (v : ClassView). AgreeNow v c.meet.new.own.stripe) (sym c_is) c.meet.ensures.met) in
+    let q = question c.args.who c.args.link.number Dead c.args.moment in
+    let grows = settled_grows _ _ _ _ q c.settle-done.result c.settle-done.ensures.settled c.settle-done.ensures.err in
+    let same : c.in_err-done.field-0.0 ≡ HistoryFull = err_is c.in_err-done.field-0.0 _ c.from_residual.ensures.1 is in
+    short_paired g.N.Named.board.table g.N.Named.config c.own.inside.side c.class.inside.side c.own.invariant c.class.invariant own.state own.owner own.seen own_is lent.state lent.owner lent.seen lent_is
+    agree c.settle-done.new.stripe c.settle-done.new.class c.settle-done.ensures.site grows c.history-2.ensures.legal c.law-2.ensures.lawful c.settle-done.ensures.agreement c.settle-done.ensures.sight
+    c.catch_up_stripe.new.owner c.catch_up_stripe.ensures c.catch_up_class.new.owner c.catch_up_class.ensures c.hear.new.self c.hear-2.new.stripe c.hear.new.class c.hear-2.new.self
+    c.hear.ensures.class c.hear.ensures.told c.hear.ensures.grows c.hear-2.ensures.stripe c.hear-2.ensures.told c.hear-2.ensures.grows
+    (subst (MayFail c.settle-done.new.class c.settle-done.new.stripe) same c.in_err-done.ensures.full)
+
+pub returns-clause-lost : goal.returns-clause-lost
+returns-clause-lost g c =
+    let own_is = ap (λ (l : stripes.Inside g.row.N.Denot). l.side) c.own-inside.view_is in
+    let lent_is = ap (λ (l : classes.Inside g.row.N.Denot). l.side) c.class-inside.view_is in
+    let own = c.own-inside.inside.0.0 in
+    let lent = c.class-inside.inside.0.0 in
+    let s_is : own.state ≡ c.meet.new.own.stripe = ap (λ (x : StripeSide). x.stripe) (own_is ∙ c.own.view_is) in
+    let c_is : lent.state ≡ c.meet.new.lent.class = ap (λ (x : ClassSide). x.class) (lent_is ∙ c.class.view_is) in
+    let agree : AgreeNow lent.state own.state = subst (λ (s : Stripe). AgreeNow lent.state s) (sym s_is) (subst (λ (v : ClassView). AgreeNow v c.meet.new.own.stripe) (sym c_is) c.meet.ensures.met) in
+    let under : dead_link ((cache_now own.state).items c.args.key.now) c.args.moment ≡ Some c.args.link =
+    subst (λ (s : Stripe). dead_link ((cache_now s).items c.args.key.now) c.args.moment ≡ Some c.args.link) (sym (s_is ∙ ap (λ (x : StripeSide). x.stripe) c.meet.ensures.own)) c.requires.dead in
+    let dead = told_dead c.args.key.now own.state c.args.moment c.args.link under in
+    let of : c.args.link.class ≡ lent.state.number = sym c.requires.class ∙ sym (ap (λ (v : ClassView). v.number) (c_is ∙ ap (λ (x : ClassSide). x.class) c.meet.ensures.lent)) in
+    let q = question c.args.who c.args.link.number Dead c.args.moment in
+    let made = dead_reclaimed lent.state own.state c.args.key.now c.args.moment c.args.link dead of c.history.ensures.legal c.law.ensures.lawful agree c.args.who in
+    let last : c.hear-2.new.stripe.stripe ≡ c.settle-done.new.stripe = ap (λ (x : StripeSide). x.stripe) (c.hear-2.ensures.stripe ∙ c.hear.ensures.told) in
+    ap (λ (s : Stripe). s.history) last
+    ∙ (c.in_ok-done.ensures.settled.stripe
+    ∙ (ap (λ (es : List StripeEvent). own.state.history ++ es) (ap (λ (d : Done). stripe_events lent.state q d) (c.in_ok-done.ensures.done ∙ made.0) ∙ made.1)
+    ∙ ap (λ (s : Stripe). s.history ++ lost_event c.args.who c.args.key.now (Expired c.args.moment) ∷ []) (s_is ∙ ap (λ (x : StripeSide). x.stripe) c.meet.ensures.own)))

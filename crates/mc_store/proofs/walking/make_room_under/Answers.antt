@@ -1,0 +1,51 @@
+use Rattle.std.proofs.Common.{Bool, ◌≡◌, List, ap, ◌∙◌, inr, subst, sym}
+use Rattle.mc_segment.specs.ClassState.{ClassView}
+use Rattle.mc_stripe.specs.StripeState.{Stripe}
+use Rattle.mc_board.proofs.SeenLemmas.{list_at_same}
+use Rattle.mc_board.specs.Histories.{list_at}
+use Rattle.mc_board.specs.Views.{OwnerView}
+use Rattle.mc_board.specs.declared.rule.Sight.{Sight}
+use Rattle.mc_pull.specs.Lone.{StripeGrows}
+use Rattle.mc_pull.specs.Rounds.{IsRoom, rounds}
+use Rattle.mc_pull.specs.Walker.{walker_of}
+use Rattle.mc_pull.specs.declared.looking.Answer.{Answer}
+use Rattle.mc_store.specs.Sides.{ClassSide, StripeSide, class_told}
+use Rattle.mc_store.specs.declared.locked.LockedStripe.TheInside.{Inside}
+use Rattle.mc_store.proofs.GateLemmas.{ok_more, room_full}
+use Rattle.mc_store.proofs.PairLemmas.{grows_trans}
+use Rattle.mc_store.proofs.ServedLemmas.{stripe_heard}
+use Rattle.mc_store.proofs.walking.make_room_under.Goals as goal
+
+pub invariant_of-own : goal.invariant_of-own
+invariant_of-own g c =
+    let own = c.own-inside.inside.0.0 in
+    stripe_heard g.N.Named.board.table g.N.Named.config c.own.inside.side c.own.invariant own.state own.owner own.seen c.learn.new.self (ap (λ (l : Inside g.row.N.Denot). l.side) c.own-inside.view_is)
+    c.hear.new.self _ c.hear.ensures.told (grows_trans own.seen.sight c.learn.new.self.sight c.hear.new.self.sight c.learn.ensures.mine c.hear.ensures.grows)
+
+pub returns-clause-room : goal.returns-clause-room
+returns-clause-room g c =
+    let of : c.side.inside.state ≡ c.args.class.now.class = ap (λ (x : ClassSide). x.class) (c.side.view_is ∙ c.class.view_is) in
+    let last : c.hear.new.class.class ≡ c.make_room_with-found.new.class = ap (λ (x : ClassSide). x.class) c.hear.ensures.class in
+    let P : ClassView → ClassView → Bool → Type 0 = λ v w found. (xs : List Answer) × IsRoom (rounds v c.args.who c.args.moment g.N.Named.config) v.history xs w.history found in
+    ok_more c.make_room_with-found.result _ (P c.args.class.now.class c.hear.new.class.class)
+    (λ found made. subst (λ (w : ClassView). P c.args.class.now.class w found) (sym last) (subst (λ (v : ClassView). P v c.make_room_with-found.new.class found) of made))
+    c.make_room_with-found.ensures.room
+
+pub returns-clause-stripe : goal.returns-clause-stripe
+returns-clause-stripe g c =
+    let of : c.side.inside.state ≡ c.args.class.now.class = ap (λ (x : ClassSide). x.class) (c.side.view_is ∙ c.class.view_is) in
+    let walked = c.make_room_with-found.new.own.stripe in
+    let own_is = ap (λ (l : Inside g.row.N.Denot). l.side) c.own-inside.view_is in
+    let last : c.hear.new.self.stripe ≡ walked = ap (λ (x : StripeSide). x.stripe) c.hear.ensures.told ∙ ap (λ (x : StripeSide). x.stripe) (own_is ∙ c.own.view_is) in
+    subst (λ (s : Stripe). StripeGrows (walker_of c.args.class.now.class c.args.who c.args.moment) c.args.own.now.stripe s) (sym last)
+    (subst (λ (v : ClassView). StripeGrows (walker_of v c.args.who c.args.moment) c.args.own.now.stripe walked) of c.make_room_with-found.ensures.stripe)
+
+pub returns-clause-full : goal.returns-clause-full
+returns-clause-full g c = λ is.
+    let new = c.make_room_with-found.new in
+    let told : list_at c.hear.new.self.sight.seen c.catch_up_class.new.owner.lock ≡ class_told new.class.history =
+    ap (λ (t : Sight). list_at t.seen c.catch_up_class.new.owner.lock) (ap (λ (x : StripeSide). x.sight) c.hear.ensures.told)
+    ∙ list_at_same c.learn.new.self.sight.seen c.catch_up_class.new.owner.lock (class_told new.class.history) in
+    inr (room_full g.N.Named.board.table g.N.Named.config new.owner new.seen new.class c.make_room_with-found.ensures.served c.hear.new.self.sight c.catch_up_class.new.owner.lock
+    (ap (λ (o : OwnerView). o.lock) c.catch_up_class.ensures) told (grows_trans new.seen.sight c.learn.new.self.sight c.hear.new.self.sight c.learn.ensures.theirs c.hear.ensures.grows)
+    c.make_room_with-found.result c.make_room_with-found.ensures.fault is)

@@ -1,0 +1,71 @@
+-- What a call on a store leaves, by what its pass had seen before and has seen after (own).
+use Rattle.std.specs.Prelude.{◌≡◌, ℕ, List}
+use mathlib.Core.List.{IsPrefix}
+use Rattle.mc_item.specs.declared.class_event.ClassEvent.{ClassEvent}
+use Rattle.mc_item.specs.declared.command.Command.{Command}
+use Rattle.mc_item.specs.declared.config.Config.{Config}
+use Rattle.mc_item.specs.declared.item.ClassNo.{ClassNo}
+use Rattle.mc_item.specs.declared.item.Who.{Who}
+use Rattle.mc_item.specs.declared.counts.Moves.{Moves}
+use Rattle.mc_item.specs.declared.reply.Reply.{Reply}
+use Rattle.mc_evidence.specs.Locks.{ClassKeeps, StripeKeeps}
+use Rattle.mc_evidence.specs.Seen.{classes_seen, stripes_seen}
+use Rattle.mc_board.specs.Histories.{list_at}
+use Rattle.mc_board.specs.declared.rule.Sight.{Sight}
+use Rattle.mc_segment.specs.ClassState.{ClassView}
+use Rattle.mc_stripe.specs.StripeState.{Stripe}
+use Rattle.mc_stripe.specs.StripeCalls.{KeepsSite}
+use Rattle.mc_pull.specs.Juggle.{IsJuggle}
+use Rattle.mc_pull.specs.Question.{IsClassOf, IsStripeOf}
+use Rattle.mc_pull.specs.Rounds.{rounds}
+use Rattle.mc_pull.specs.declared.looking.Answer.{Answer}
+use Rattle.mc_lone.specs.Commands.{IsAnswered, IsCut}
+use Rattle.mc_store.specs.Locked.{class_lock, setting_of}
+use Rattle.mc_store.specs.Sides.{class_told, stripe_told}
+
+-- a command was answered with this reply
+pub record IsReplied (config : Config) (who : Who) (command : Command) (moment : ℕ) (s s_new : Stripe) (reply : Reply) : Type 0 where
+  pub place : ℕ
+  pub answered : IsAnswered config who command moment s s_new place
+  pub reply_is : answered.reply ≡ reply
+
+-- a stripe's history grew in a call: what the pass had seen of it is a beginning of what it was when its lock was had, and
+-- the pass has seen all of it now; it is legal, and of each of its events the partner stands in what the pass has seen of the
+-- classes
+pub record IsSeenGrow (config : Config) (number : ℕ) (before after : Sight) (s s_new : Stripe) : Type 0 where
+  pub made_with : IsStripeOf config s
+  pub number_is : s.site.stripe ≡ number
+  pub site : KeepsSite s s_new
+  pub seen : IsPrefix (list_at before.seen number) (stripe_told s.history)
+  pub now : list_at after.seen number ≡ stripe_told s_new.history
+  pub sound : StripeKeeps (setting_of config) number s_new.history (classes_seen config.stripes (list_at after.seen))
+
+-- a command was answered with this reply at one point of its stripe's growing history, after all that the pass had seen
+pub record IsRepliedBy (config : Config) (number : ℕ) (before after : Sight) (who : Who) (command : Command) (moment : ℕ) (reply : Reply) : Type 0 where
+  pub old : Stripe
+  pub new : Stripe
+  pub grew : IsSeenGrow config number before after old new
+  pub replied : IsReplied config who command moment old new reply
+
+-- a command was broken off: nothing of it stands in its stripe's history but what leads up to it
+pub record IsCutBy (config : Config) (number : ℕ) (before after : Sight) (who : Who) (command : Command) (moment : ℕ) : Type 0 where
+  pub old : Stripe
+  pub new : Stripe
+  pub grew : IsSeenGrow config number before after old new
+  pub cut : IsCut config who command moment old new
+
+-- a class's history grew in a call, from one list to another: the same of a class
+pub record IsSeenGrowOf (config : Config) (class : ClassNo) (before after : Sight) (c : ClassView) (history : List ClassEvent) : Type 0 where
+  pub made_with : IsClassOf config c
+  pub number_is : c.number ≡ class
+  pub seen : IsPrefix (list_at before.seen (class_lock config class)) (class_told c.history)
+  pub now : list_at after.seen (class_lock config class) ≡ class_told history
+  pub sound : ClassKeeps (setting_of config) class history (stripes_seen (list_at after.seen))
+
+-- a class was juggled, after all that the pass had seen of it
+pub record IsJuggledBy (config : Config) (class : ClassNo) (before after : Sight) (who : Who) (moment : ℕ) (moves : Moves) : Type 0 where
+  pub old : ClassView
+  pub history : List ClassEvent
+  pub answers : List Answer
+  pub grew : IsSeenGrowOf config class before after old history
+  pub juggle : IsJuggle (rounds old who moment config) old.history answers history moves

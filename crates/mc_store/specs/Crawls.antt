@@ -1,0 +1,45 @@
+-- What a crawl of a class leaves, by what its pass had seen before and has seen after (own).
+use Rattle.std.specs.Prelude.{◌≡◌, ◌+◌, ◌++◌, ◌⊎◌, ℕ, List, [], ◌∷◌}
+use mathlib.Core.List.{IsPrefix}
+use Rattle.mc_item.specs.declared.class_event.ClassEvent.{ClassEvent}
+use Rattle.mc_item.specs.declared.config.Config.{Config}
+use Rattle.mc_item.specs.declared.counts.Histogram.{Histogram}
+use Rattle.mc_item.specs.declared.event.Event.{Event}
+use Rattle.mc_item.specs.declared.event.Event.TheVariants.{Class, Stripe}
+use Rattle.mc_item.specs.declared.item.ClassNo.{ClassNo}
+use Rattle.mc_item.specs.declared.item.Who.{Who}
+use Rattle.mc_rule.specs.Lists.{count_of, lists_of}
+use Rattle.mc_board.specs.Histories.{list_at}
+use Rattle.mc_board.specs.declared.rule.Sight.{Sight}
+use Rattle.mc_crawl.specs.Crawl.{IsReclaim}
+use Rattle.mc_crawl.specs.CrawlCount.{IsBalanced}
+use Rattle.mc_store.specs.Locked.{class_lock}
+use Rattle.mc_store.specs.Sides.{class_told}
+
+-- among these events at least so many are a `Reclaimed` by this caller's call and of this moment
+abbrev pub HasReclaims : Who → ℕ → ℕ → List Event → Type 0
+HasReclaims who moment many [] = many ≡ 0
+HasReclaims who moment many (Stripe e ∷ es) = HasReclaims who moment many es
+HasReclaims who moment many (Class e ∷ es) = HasReclaims who moment many es ⊎ (IsReclaim who moment e × ((fewer : ℕ) × (many ≡ fewer + 1) × HasReclaims who moment fewer es))
+
+-- past what a pass had seen of a class it has seen as many such events as a count has risen
+pub record ShowsReclaims (config : Config) (class : ClassNo) (before after : Sight) (who : Who) (moment count_before count_after : ℕ) : Type 0 where
+  pub events : List Event
+  pub events_are : list_at before.seen (class_lock config class) ++ events ≡ list_at after.seen (class_lock config class)
+  pub many : ℕ
+  pub count_is : count_after ≡ count_before + many
+  pub reclaims : HasReclaims who moment many events
+
+-- the pass has seen a class as it was at one point, after all that it had seen of it before, with so many entries
+pub record IsSnapshot (config : Config) (class : ClassNo) (before after : Sight) (count : ℕ) : Type 0 where
+  pub history : List ClassEvent
+  pub begins : IsPrefix (list_at before.seen (class_lock config class)) (class_told history)
+  pub now : IsPrefix (class_told history) (list_at after.seen (class_lock config class))
+  pub count_is : count ≡ count_of (lists_of history)
+
+-- a class was crawled: the entries that it had at one point were seen, each counts as one kind, and what was reclaimed the
+-- pass has seen
+pub record IsCrawledBy (config : Config) (class : ClassNo) (before after : Sight) (who : Who) (moment : ℕ) (histogram : Histogram) : Type 0 where
+  pub snapshot : IsSnapshot config class before after histogram.seen
+  pub balanced : IsBalanced histogram
+  pub reclaims : ShowsReclaims config class before after who moment 0 histogram.reclaimed

@@ -1,0 +1,156 @@
+//! One command on a store, under the lock of its key's stripe.
+ghost use Rattle.std.specs.Prelude.{◌≡◌, ◌≤◌, ◌⊎◌, ◌+◌, ◌++◌, ◌-◌, ◌^◌, Some, IfOk, OnOk, OnErr, IsErrOf, length};
+ghost use Rattle.mc_item.specs.Command.{key_of};
+ghost use Rattle.mc_item.specs.Measure.{stripe_of};
+ghost use Rattle.mc_item.specs.declared.fault.Fault.TheVariants.{HistoryFull};
+ghost use Rattle.mc_stripe.specs.Plan.{dead_link};
+ghost use Rattle.mc_stripe.specs.StripeCalls.{KeepsSite};
+ghost use Rattle.mc_stripe.specs.StripeState.{cache_now};
+ghost use Rattle.mc_board.specs.Histories.{Grows};
+ghost use Rattle.mc_lone.specs.Commands.{IsCut, burial};
+ghost use Rattle.mc_lone.specs.Needed.{IsNumberOf};
+ghost use Rattle.mc_store.specs.Calls.{IsCutBy, IsReplied, IsRepliedBy};
+ghost use Rattle.mc_store.specs.Passes.{next_who};
+ghost use Rattle.mc_store.specs.Planned.{GoesBy};
+ghost use Rattle.mc_store.specs.Serving.{HasSeenShort, IsShort};
+
+use crate::answering::answer_by_plan;
+use crate::locked::LockedStripe;
+use crate::named::Named;
+use crate::pass::Pass;
+use crate::planning::plan_under;
+use crate::store::Store;
+use crate::walking::bury_under;
+use mc_item::{Command, Fault, Link, Reply, Who, stripe_of};
+use mc_stripe::Plan;
+use std::alloc::Global;
+use std::sync::Wait;
+
+// The dead item of a command's key goes, under the lock of its link's class too; `link` is the item's.
+fn bury_locked<N: Named>(
+    alloc: Global,
+    store: &Store<N>,
+    rt: &impl Wait,
+    own: &mut LockedStripe<N>,
+    who: Who,
+    command: &Command,
+    link: Link,
+    moment: u64,
+) -> Result<(), Fault>
+    requires dead { dead_link ((cache_now own.old.stripe).items (key_of command.now)) moment ≡ Some link }
+    requires class { IsNumberOf (length N.config.sizes) link.class }
+    ensures lost { OnOk result (own.new.stripe.history ≡ own.old.stripe.history ++ burial who (key_of command.now) moment (Some link)) }
+    ensures err { OnErr result (own.new.stripe.history ≡ own.old.stripe.history) }
+    ensures site { KeepsSite own.old.stripe own.new.stripe }
+    ensures full { IsErrOf result HistoryFull → IsShort N.config own.new }
+{
+    let mut guard = store.lock_class(rt, link.class);
+    let class = &mut *guard;
+    bury_under(alloc, store, own, class, who, command.key(), link, moment)
+}
+
+// The dead item of a command's key goes, where there is one, and the command is planned behind that.
+fn plan_alive<N: Named>(
+    alloc: Global,
+    store: &Store<N>,
+    rt: &impl Wait,
+    own: &mut LockedStripe<N>,
+    who: Who,
+    command: &Command,
+    moment: u64,
+) -> Result<Plan, Fault>
+    requires own { stripe_of (key_of command.now) N.config.stripes ≡ record { 0 = own.old.stripe.site.stripe } }
+    requires early { moment ≤ 2 ^ 62 }
+    ensures goes { IfOk result (GoesBy N.config own.new.stripe command.now moment) }
+    ensures buried { OnOk result (own.new.stripe.history ≡ own.old.stripe.history ++ burial who (key_of command.now) moment (dead_link ((cache_now own.old.stripe).items (key_of command.now)) moment)) }
+    ensures err { OnErr result (own.new.stripe.history ≡ own.old.stripe.history) }
+    ensures site { KeepsSite own.old.stripe own.new.stripe }
+    ensures full { IsErrOf result HistoryFull → IsShort N.config own.new }
+{
+    let plan = plan_under(own, command, moment);
+    match plan.dead {
+        None => Ok(plan),
+        Some(link) => {
+            bury_locked(alloc, store, rt, own, who, command, link, moment)?;
+            Ok(plan_under(own, command, moment))
+        }
+    }
+}
+
+// One command on the stripe of its key, which is under its lock.
+fn command_under<N: Named>(
+    alloc: Global,
+    store: &Store<N>,
+    rt: &impl Wait,
+    own: &mut LockedStripe<N>,
+    who: Who,
+    command: Command,
+    moment: u64,
+) -> Result<Reply, Fault>
+    requires own { stripe_of (key_of command) N.config.stripes ≡ record { 0 = own.old.stripe.site.stripe } }
+    requires early { moment ≤ 2 ^ 62 }
+    ensures replied { IfOk result (IsReplied N.config who command moment own.old.stripe own.new.stripe) }
+    ensures cut { OnErr result (IsCut N.config who command moment own.old.stripe own.new.stripe) }
+    ensures site { KeepsSite own.old.stripe own.new.stripe }
+    ensures full { IsErrOf result HistoryFull → IsShort N.config own.new }
+{
+    let plan = plan_alive(alloc, store, rt, own, who, &command, moment)?;
+    answer_by_plan(alloc, store, rt, own, who, command, moment, plan)
+}
+
+// One command on the stripe of its key, which is under its lock, after all that a pass has seen; the pass is told of all.
+fn command_seen<N: Named>(
+    alloc: Global,
+    store: &Store<N>,
+    rt: &impl Wait,
+    own: &mut LockedStripe<N>,
+    pass: &mut Pass<N>,
+    who: Who,
+    command: Command,
+    moment: u64,
+) -> Result<Reply, Fault>
+    requires own { stripe_of (key_of command) N.config.stripes ≡ record { 0 = own.old.stripe.site.stripe } }
+    requires early { moment ≤ 2 ^ 62 }
+    ensures replied { IfOk result (IsRepliedBy N.config own.old.stripe.site.stripe pass.old.sight pass.new.sight who command moment) }
+    ensures cut { OnErr result (IsCutBy N.config own.old.stripe.site.stripe pass.old.sight pass.new.sight who command moment) }
+    ensures grows { Grows pass.old.sight pass.new.sight }
+    ensures same { pass.new ≡ record pass.old { sight = pass.new.sight } }
+    ensures full { IsErrOf result HistoryFull → HasSeenShort N.config pass.new.sight }
+{
+    own.law();
+    own.side.compare(&store.board, &mut pass.seen);
+    let reply = command_under(alloc, store, rt, own, who, command, moment);
+    own.law();
+    own.side.share(&store.board, &mut pass.seen);
+    reply
+}
+
+impl<N: Named> Store<N> {
+    /// Makes one command under the lock of its key's stripe, for which it waits, and of at most two classes, the lower
+    /// first. The reply is what a sequential memcached gives at one point of the stripe's history, after all that the pass
+    /// had seen. `moment` is in whole seconds, at most 2^62. After a fault nothing of the command stands but what leads up
+    /// to it: `HistoryFull` only where a history has less than two places left, or the pass has had 2^64 - 1 turns;
+    /// `NoMemory` where memory is wanting.
+    pub fn command(
+        &self,
+        alloc: Global,
+        rt: &impl Wait,
+        pass: &mut Pass<N>,
+        command: Command,
+        moment: u64,
+    ) -> Result<Reply, Fault>
+        requires early { moment ≤ 2 ^ 62 }
+        ensures replied { IfOk result (IsRepliedBy N.config (stripe_of (key_of command) N.config.stripes).0 pass.old.sight pass.new.sight (next_who pass.old) command moment) }
+        ensures cut { OnErr result ((pass.new ≡ pass.old) ⊎ IsCutBy N.config (stripe_of (key_of command) N.config.stripes).0 pass.old.sight pass.new.sight (next_who pass.old) command moment) }
+        ensures grows { Grows pass.old.sight pass.new.sight }
+        ensures caller { pass.new.caller ≡ pass.old.caller }
+        ensures turn { OnOk result (pass.new.turn ≡ pass.old.turn + 1) }
+        ensures full { IsErrOf result HistoryFull → HasSeenShort N.config pass.new.sight ⊎ (pass.old.turn ≡ 2 ^ 64 - 1) }
+    {
+        let who = pass.take_turn()?;
+        let number = stripe_of(command.key(), self.config.stripes);
+        let mut guard = self.lock_stripe(rt, number);
+        let own = &mut *guard;
+        command_seen(alloc, self, rt, own, pass, who, command, moment)
+    }
+}

@@ -1,0 +1,153 @@
+//! The crawl of a class that threads share: a snapshot of its links under its lock, and then each link under the lock again.
+ghost use Rattle.std.specs.Prelude.{◌≡◌, ◌⊎◌, ◌+◌, ◌-◌, ◌^◌, length, IfErr, IfOk, OnOk, IsErrOf};
+ghost use Rattle.mc_item.specs.declared.fault.Fault.TheVariants.{HistoryFull, NoMemory};
+ghost use Rattle.mc_evidence.specs.Setting.{IsClass};
+ghost use Rattle.mc_board.specs.Histories.{Grows};
+ghost use Rattle.mc_pull.specs.Growth as classes;
+ghost use Rattle.mc_crawl.specs.Crawl.{Reclaims};
+ghost use Rattle.mc_crawl.specs.CrawlCount.{IsBalanced, MayCount};
+ghost use Rattle.mc_store.specs.Crawls.{IsCrawledBy, IsSnapshot, ShowsReclaims};
+ghost use Rattle.mc_store.specs.Locked.{setting_of};
+ghost use Rattle.mc_store.specs.Passes.{next_who};
+ghost use Rattle.mc_store.specs.Serving.{HasSeenShort, MayFailSeen};
+
+use crate::gates::Trying;
+use crate::locked::LockedClass;
+use crate::named::Named;
+use crate::owned_class::catch_up_class;
+use crate::pass::Pass;
+use crate::store::Store;
+use mc_crawl::{crawl_one, snapshot};
+use mc_item::{ClassNo, Fault, Histogram, Link, Who};
+use std::alloc::Global;
+use std::sync::Wait;
+
+// Crawls one link of a class under its lock: the stripe of its entry is only tried.
+fn crawl_under<N: Named>(
+    alloc: Global,
+    store: &Store<N>,
+    class: &mut LockedClass<N>,
+    link: Link,
+    who: Who,
+    moment: u64,
+    histogram: &mut Histogram,
+) -> Result<(), Fault>
+    requires counts { MayCount histogram.old }
+    ensures seen { OnOk result (histogram.new.seen ≡ histogram.old.seen + 1) }
+    ensures balanced { IsBalanced histogram.old → IsBalanced histogram.new }
+    ensures reclaims { OnOk result (Reclaims who moment class.old.class.history class.new.class.history histogram.old.reclaimed histogram.new.reclaimed) }
+    ensures class { classes.Grows class.old.class class.new.class }
+    ensures fault { IfErr result (MayFailSeen N.config class.new.sight class.new.class) }
+{
+    let mut answers = Vec::new(alloc);
+    let side = &mut class.side;
+    let mut gate = Trying {
+        store,
+        owner: &mut side.owner,
+        seen: &mut side.seen,
+        answers: &mut answers,
+    };
+    let done = crawl_one(
+        alloc,
+        &mut side.state,
+        link,
+        who,
+        moment,
+        histogram,
+        &store.config,
+        &mut gate,
+    );
+    catch_up_class(&side.state, &mut side.owner, &store.board);
+    done
+}
+
+impl<N: Named> Store<N> {
+    // The links of a class, as they are while its lock is held.
+    fn snapshot_of(
+        &self,
+        alloc: Global,
+        rt: &impl Wait,
+        pass: &mut Pass<N>,
+        class: ClassNo,
+    ) -> Result<Vec<Link>, Fault>
+        requires class { IsClass (setting_of N.config) class }
+        ensures links { IfOk result (λ links. IsSnapshot N.config class pass.old.sight pass.new.sight (length links.items)) }
+        ensures grows { Grows pass.old.sight pass.new.sight }
+        ensures same { pass.new ≡ record pass.old { sight = pass.new.sight } }
+        ensures memory { IfErr result (λ fault. fault ≡ NoMemory) }
+    {
+        let mut guard = self.lock_class(rt, class);
+        let own = &mut *guard;
+        own.side.compare(&self.board, &mut pass.seen);
+        own.side.share(&self.board, &mut pass.seen);
+        let links = snapshot(alloc, own.side.state())?;
+        Ok(links)
+    }
+
+    // Crawls one link of a class under its lock, for which it waits.
+    fn crawl_link(
+        &self,
+        alloc: Global,
+        rt: &impl Wait,
+        pass: &mut Pass<N>,
+        class: ClassNo,
+        link: Link,
+        who: Who,
+        moment: u64,
+        histogram: &mut Histogram,
+    ) -> Result<(), Fault>
+        requires class { IsClass (setting_of N.config) class }
+        requires counts { MayCount histogram.old }
+        ensures seen { OnOk result (histogram.new.seen ≡ histogram.old.seen + 1) }
+        ensures balanced { IsBalanced histogram.old → IsBalanced histogram.new }
+        ensures reclaims { OnOk result (ShowsReclaims N.config class pass.old.sight pass.new.sight who moment histogram.old.reclaimed histogram.new.reclaimed) }
+        ensures grows { Grows pass.old.sight pass.new.sight }
+        ensures same { pass.new ≡ record pass.old { sight = pass.new.sight } }
+        ensures full { IsErrOf result HistoryFull → HasSeenShort N.config pass.new.sight }
+    {
+        let mut guard = self.lock_class(rt, class);
+        let own = &mut *guard;
+        own.side.compare(&self.board, &mut pass.seen);
+        let done = crawl_under(alloc, self, own, link, who, moment, histogram);
+        own.side.share(&self.board, &mut pass.seen);
+        done
+    }
+
+    /// Crawls a class: the links of its entries are taken down under its lock, for which it waits, and then each is looked
+    /// at under the lock again; stripes are only tried. An item that is dead at the moment goes with its entry, and the
+    /// histogram counts each link as one kind. `moment` is in whole seconds. After a fault what happened so far stands:
+    /// `HistoryFull` only where a history has less than two places left, or the pass has had 2^64 - 1 turns; `NoMemory`
+    /// where memory is wanting.
+    pub fn crawl(
+        &self,
+        alloc: Global,
+        rt: &impl Wait,
+        pass: &mut Pass<N>,
+        class: ClassNo,
+        moment: u64,
+    ) -> Result<Histogram, Fault>
+        requires class { IsClass (setting_of N.config) class }
+        ensures crawled { IfOk result (IsCrawledBy N.config class pass.old.sight pass.new.sight (next_who pass.old) moment) }
+        ensures grows { Grows pass.old.sight pass.new.sight }
+        ensures caller { pass.new.caller ≡ pass.old.caller }
+        ensures turn { OnOk result (pass.new.turn ≡ pass.old.turn + 1) }
+        ensures full { IsErrOf result HistoryFull → HasSeenShort N.config pass.new.sight ⊎ (pass.old.turn ≡ 2 ^ 64 - 1) }
+    {
+        let who = pass.take_turn()?;
+        let links = self.snapshot_of(alloc, rt, pass, class)?;
+        let mut histogram = Histogram::new();
+        for i in 0..links.len() {
+            self.crawl_link(
+                alloc,
+                rt,
+                pass,
+                class,
+                links[i],
+                who,
+                moment,
+                &mut histogram,
+            )?;
+        }
+        Ok(histogram)
+    }
+}

@@ -1,0 +1,154 @@
+//! Gates of walks under the locks of a store: other stripes are only tried.
+ghost use Rattle.std.specs.Prelude.{◌≡◌, ◌++◌, List, IfErr, IfOk};
+ghost use Rattle.mc_pull.specs.Growth.{Grows};
+ghost use Rattle.mc_pull.specs.Lone.{StripeGrows};
+ghost use Rattle.mc_pull.specs.Question.{IsClassOf};
+ghost use Rattle.mc_pull.specs.Rounds.{IsRoom, rounds};
+ghost use Rattle.mc_pull.specs.Walker.{walker_of};
+ghost use Rattle.mc_pull.specs.declared.looking.Answer.{Answer};
+ghost use Rattle.mc_store.specs.Serving.{IsServed, MayFailSeen};
+
+use crate::judging::judge;
+use crate::locked::LockedStripe;
+use crate::named::Named;
+use crate::store::Store;
+use mc_board::{Owner, Seen};
+use mc_item::{Config, Fault, StripeNo, Who};
+use mc_pull::{Answer, Gate, Look, make_room};
+use mc_segment::ClassState;
+use std::alloc::Global;
+
+/// A gate that tries every stripe of a store. It holds the tokens of the class that is walked, and a list for its
+/// answers. A stripe whose lock isn't had at once is passed.
+#[derive(Drop)]
+pub(crate) struct Trying<'a, N: Named> {
+    pub(crate) store: &'a Store<N>,
+    pub(crate) owner: &'a mut Owner,
+    pub(crate) seen: &'a mut Seen,
+    pub(crate) answers: &'a mut Vec<Answer>,
+}
+
+impl<'a, N: Named> Gate for Trying<'a, N> {
+    ghost use Rattle.std.specs.Prelude.{◌≡◌, ◌∷◌, []};
+    ghost use Rattle.mc_store.specs.Serving.{IsServed, MayFailSeen};
+
+    ghost answers = { λ g. g.answers.now.items };
+
+    ghost serves = { λ g config c. (config ≡ N.config) × IsServed N.board.table N.config g.owner.now g.seen.now c };
+
+    ghost references = { λ g. g.owner.ghost_name ∷ g.seen.ghost_name ∷ [] };
+
+    ghost faults = { λ g c. MayFailSeen N.config g.seen.now.sight c };
+
+    ghost keeps = { λ w g begun h history. Unit {0} };
+
+    fn visit(&mut self, stripe: StripeNo, look: &mut Look<'_>) -> Result<bool, Fault> {
+        self.answers.reserve(1)?;
+        let store = self.store;
+        let Some(lock) = store.stripes.get(stripe.0 as usize) else {
+            self.answers.push_reserved(Answer {
+                stripe,
+                judged: None,
+            });
+            return Ok(false);
+        };
+        let Some(mut guard) = lock.try_lock() else {
+            self.answers.push_reserved(Answer {
+                stripe,
+                judged: None,
+            });
+            return Ok(false);
+        };
+        if guard.side().number() != stripe {
+            self.answers.push_reserved(Answer {
+                stripe,
+                judged: None,
+            });
+            return Ok(false);
+        }
+        judge(
+            &store.board,
+            &mut guard,
+            &mut *self.owner,
+            &mut *self.seen,
+            look,
+        )?;
+        self.answers.push_reserved(Answer {
+            stripe,
+            judged: look.judged,
+        });
+        Ok(true)
+    }
+}
+
+/// A gate that is lent one stripe, which is under its lock already, and tries the others.
+#[derive(Drop)]
+pub(crate) struct Holding<'a, 'b, N: Named> {
+    pub(crate) own: &'a mut LockedStripe<N>,
+    pub(crate) others: Trying<'b, N>,
+}
+
+impl<'a, 'b, N: Named> Gate for Holding<'a, 'b, N> {
+    ghost use Rattle.std.specs.Prelude.{◌≡◌, ◌∷◌, []};
+    ghost use Rattle.mc_pull.specs.Lone.{StripeGrows};
+    ghost use Rattle.mc_store.specs.Serving.{IsServed, MayFailSeen};
+
+    ghost answers = { λ g. g.others.answers.now.items };
+
+    ghost serves = { λ g config c. (config ≡ N.config) × IsServed N.board.table N.config g.others.owner.now g.others.seen.now c };
+
+    ghost references = { λ g. g.own.ghost_name ∷ g.others.owner.ghost_name ∷ g.others.seen.ghost_name ∷ [] };
+
+    ghost faults = { λ g c. MayFailSeen N.config g.others.seen.now.sight c };
+
+    ghost keeps = { λ w g begun h history. StripeGrows w g.own.now.stripe h.own.now.stripe };
+
+    fn visit(&mut self, stripe: StripeNo, look: &mut Look<'_>) -> Result<bool, Fault> {
+        let own = &mut *self.own;
+        if own.side().number() != stripe {
+            return self.others.visit(stripe, look);
+        }
+        let others = &mut self.others;
+        others.answers.reserve(1)?;
+        let store = others.store;
+        judge(
+            &store.board,
+            own,
+            &mut *others.owner,
+            &mut *others.seen,
+            look,
+        )?;
+        others.answers.push_reserved(Answer {
+            stripe,
+            judged: look.judged,
+        });
+        Ok(true)
+    }
+}
+
+impl<'a, 'b, N: Named> Holding<'a, 'b, N> {
+    // Makes room in a class, as `make_room` does. It says of this gate what the call for any gate can't: that it holds the
+    // same references, and that its own stripe has only events of this walker more.
+    pub(crate) fn make_room(
+        &mut self,
+        alloc: Global,
+        class: &mut ClassState,
+        who: Who,
+        moment: u64,
+        config: &Config,
+    ) -> Result<bool, Fault>
+        requires config { IsClassOf config.now class.old }
+        requires names { config.now ≡ N.config }
+        requires served { IsServed N.board.table N.config self.old.others.owner.now self.old.others.seen.now class.old }
+        ensures room { IfOk result (λ found. (xs : List Answer) × IsRoom (rounds class.old who moment config.now) class.old.history xs class.new.history found) }
+        ensures grows { Grows class.old class.new }
+        ensures fault { IfErr result (MayFailSeen N.config self.new.others.seen.now.sight class.new) }
+        ensures own_reference { self.new.own.ghost_name ≡ self.old.own.ghost_name }
+        ensures owner_reference { self.new.others.owner.ghost_name ≡ self.old.others.owner.ghost_name }
+        ensures seen_reference { self.new.others.seen.ghost_name ≡ self.old.others.seen.ghost_name }
+        ensures served { IsServed N.board.table N.config self.new.others.owner.now self.new.others.seen.now class.new }
+        ensures stripe { StripeGrows (walker_of class.old who moment) self.old.own.now.stripe self.new.own.now.stripe }
+    {
+        make_room(alloc, class, who, moment, config, self)
+    }
+}

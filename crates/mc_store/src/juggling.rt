@@ -1,0 +1,48 @@
+//! Juggling of a class that threads share.
+ghost use Rattle.std.specs.Prelude.{◌≡◌, ◌≤◌, ◌⊎◌, ◌+◌, ◌-◌, ◌^◌, IfOk, OnOk, IsErrOf};
+ghost use Rattle.mc_item.specs.declared.fault.Fault.TheVariants.{HistoryFull};
+ghost use Rattle.mc_evidence.specs.Setting.{IsClass};
+ghost use Rattle.mc_board.specs.Histories.{Grows};
+ghost use Rattle.mc_store.specs.Calls.{IsJuggledBy};
+ghost use Rattle.mc_store.specs.Locked.{setting_of};
+ghost use Rattle.mc_store.specs.Passes.{next_who};
+ghost use Rattle.mc_store.specs.Serving.{HasSeenShort};
+
+use crate::named::Named;
+use crate::pass::Pass;
+use crate::store::Store;
+use crate::walking::juggle_under;
+use mc_item::{ClassNo, Fault, Moves};
+use std::alloc::Global;
+use std::sync::Wait;
+
+impl<N: Named> Store<N> {
+    /// Juggles a class under its lock, for which it waits; the stripes of the entries that it looks at are only tried,
+    /// and one that isn't had at once is passed. It answers how many entries were reclaimed and moved, at most 10000 of
+    /// both. `moment` is in whole seconds. After a fault what happened so far stands: `HistoryFull` only where a history
+    /// has less than two places left, or the pass has had 2^64 - 1 turns; `NoMemory` where memory is wanting.
+    pub fn juggle(
+        &self,
+        alloc: Global,
+        rt: &impl Wait,
+        pass: &mut Pass<N>,
+        class: ClassNo,
+        moment: u64,
+    ) -> Result<Moves, Fault>
+        requires class { IsClass (setting_of N.config) class }
+        ensures juggled { IfOk result (IsJuggledBy N.config class pass.old.sight pass.new.sight (next_who pass.old) moment) }
+        ensures few { IfOk result (λ moves. moves.reclaimed + moves.moved ≤ 10000) }
+        ensures grows { Grows pass.old.sight pass.new.sight }
+        ensures caller { pass.new.caller ≡ pass.old.caller }
+        ensures turn { OnOk result (pass.new.turn ≡ pass.old.turn + 1) }
+        ensures full { IsErrOf result HistoryFull → HasSeenShort N.config pass.new.sight ⊎ (pass.old.turn ≡ 2 ^ 64 - 1) }
+    {
+        let who = pass.take_turn()?;
+        let mut guard = self.lock_class(rt, class);
+        let own = &mut *guard;
+        own.side.compare(&self.board, &mut pass.seen);
+        let moves = juggle_under(alloc, self, own, who, moment);
+        own.side.share(&self.board, &mut pass.seen);
+        moves
+    }
+}

@@ -1,0 +1,203 @@
+//! Steps on a stripe and classes under their locks: before each step they are told of each other, behind it the board
+//! has the new events, and they are told of each other again.
+ghost use Rattle.std.specs.Prelude.{◌≡◌, ◌≤◌, ◌<◌, ◌∷◌, [], Bool, ◌++◌, IfOk, OnOk, OnErr, IsErrOf, length};
+ghost use Rattle.mc_item.specs.declared.fault.Fault.TheVariants.{HistoryFull};
+ghost use Rattle.mc_rule.specs.Lists.{IsFull, lists_of};
+ghost use Rattle.mc_segment.specs.ClassCalls.{Makes, Stays, refused_event};
+ghost use Rattle.mc_stripe.specs.Plan.{IsHeld};
+ghost use Rattle.mc_stripe.specs.StripeCalls.{KeepsSite};
+ghost use Rattle.mc_board.specs.Histories.{Grows, list_at};
+ghost use Rattle.mc_pull.specs.Agreeing.{AgreeNow};
+ghost use Rattle.mc_pull.specs.Growth as classes;
+ghost use Rattle.mc_pull.specs.Perform as words;
+ghost use Rattle.mc_pull.specs.Perform.{AreLent, GivesRoom, MayAnswer, call};
+ghost use Rattle.mc_store.specs.Performing.{IsMade, IsRefusedIn};
+ghost use Rattle.mc_store.specs.Serving.{IsShort};
+ghost use Rattle.mc_store.specs.Sides.{class_told};
+
+use crate::locked::{LockedClass, LockedStripe};
+use crate::named::Named;
+use crate::owned_class::catch_up_class;
+use crate::owned_stripe::catch_up_stripe;
+use mc_board::Board;
+use mc_item::{Command, Config, Fault, Reply, Room, Who};
+use mc_pull::{Lent, perform_fated};
+use mc_stripe::Fate;
+use std::alloc::Global;
+
+// A stripe and a class are told of each other: each has then seen the other's whole history, and the histories agree.
+pub(crate) fn meet<N: Named>(board: &Board, own: &mut LockedStripe<N>, lent: &mut LockedClass<N>)
+    requires board { board.now ≡ N.board }
+    ensures own { own.new ≡ record own.old { sight = own.new.sight } }
+    ensures lent { lent.new ≡ record lent.old { sight = lent.new.sight } }
+    ensures met { AgreeNow lent.new.class own.new.stripe }
+    ensures grows { Grows own.old.sight own.new.sight }
+    ensures told { list_at own.new.sight.seen lent.old.lock ≡ class_told lent.old.class.history }
+{
+    own.side.hear(board, &mut lent.side);
+    lent.side.hear(board, &mut own.side);
+}
+
+// Notes in a full class that no chunk was found, and answers the place of that event in its history.
+pub(crate) fn refuse<N: Named>(
+    board: &Board,
+    lent: &mut LockedClass<N>,
+    who: Who,
+) -> Result<u64, Fault>
+    requires board { board.now ≡ N.board }
+    requires full { IsFull lent.old.class.chunks (lists_of lent.old.class.history) }
+    ensures place { IfOk result (λ place. place ≡ length lent.old.class.history) }
+    ensures refused { OnOk result (Makes lent.old.class lent.new.class (refused_event who)) }
+    ensures err { OnErr result (Stays lent.old.class lent.new.class) }
+    ensures full { IsErrOf result HistoryFull → lent.new.class.max_events ≤ length lent.new.class.history }
+{
+    let place = lent.side.state.refuse(who);
+    lent.side.state.law();
+    catch_up_class(&lent.side.state, &mut lent.side.owner, board);
+    place
+}
+
+// Makes one command, whose key has no dead item, on its stripe alone.
+pub(crate) fn perform_alone<N: Named>(
+    alloc: Global,
+    board: &Board,
+    own: &mut LockedStripe<N>,
+    who: Who,
+    command: Command,
+    moment: u64,
+    room: Room,
+    fate: Fate,
+    config: &Config,
+) -> Result<Reply, Fault>
+    requires names { (board.now ≡ N.board) × (config.now ≡ N.config) }
+    requires answer { MayAnswer own.old.stripe (call who command moment room) }
+    requires fate { fate ≡ words.fate_for own.old.stripe (call who command moment room) }
+    requires held { IsHeld N.config.sizes fate }
+    requires lent { AreLent [] room fate }
+    requires unrefused { IsRefusedIn room [] }
+    ensures made { IfOk result (IsMade own.old.stripe own.new.stripe (call who command moment room)) }
+    ensures err { OnErr result (own.new.stripe.history ≡ own.old.stripe.history) }
+    ensures site { KeepsSite own.old.stripe own.new.stripe }
+    ensures full { IsErrOf result HistoryFull → IsShort N.config own.new }
+{
+    let lent = Lent::Zero;
+    let copy = perform_fated(
+        alloc,
+        &mut own.side.state,
+        lent,
+        who,
+        command,
+        moment,
+        room,
+        fate,
+        config,
+        true,
+    );
+    own.side.state.history();
+    catch_up_stripe(&own.side.state, &mut own.side.owner, board);
+    Ok(copy?.unwrap())
+}
+
+// Makes one command, whose key has no dead item, on its stripe and the class that it needs, which gives the room.
+pub(crate) fn perform_on_one<N: Named>(
+    alloc: Global,
+    board: &Board,
+    own: &mut LockedStripe<N>,
+    class: &mut LockedClass<N>,
+    who: Who,
+    command: Command,
+    moment: u64,
+    room: Room,
+    fate: Fate,
+    config: &Config,
+) -> Result<Reply, Fault>
+    requires names { (board.now ≡ N.board) × (config.now ≡ N.config) }
+    requires answer { MayAnswer own.old.stripe (call who command moment room) }
+    requires fate { fate ≡ words.fate_for own.old.stripe (call who command moment room) }
+    requires held { IsHeld N.config.sizes fate }
+    requires gives { GivesRoom who room class.old.class }
+    requires lent { AreLent (class.old.class ∷ []) room fate }
+    requires refused { IsRefusedIn room (class.old.class ∷ []) }
+    ensures made { IfOk result (IsMade own.old.stripe own.new.stripe (call who command moment room)) }
+    ensures err { OnErr result (own.new.stripe.history ≡ own.old.stripe.history) }
+    ensures site { KeepsSite own.old.stripe own.new.stripe }
+    ensures full { IsErrOf result HistoryFull → IsShort N.config own.new }
+{
+    meet(board, own, class);
+    let lent = Lent::One(&mut class.side.state);
+    let copy = perform_fated(
+        alloc,
+        &mut own.side.state,
+        lent,
+        who,
+        command,
+        moment,
+        room,
+        fate,
+        config,
+        true,
+    );
+    own.side.state.history();
+    catch_up_stripe(&own.side.state, &mut own.side.owner, board);
+    class.side.state.law();
+    catch_up_class(&class.side.state, &mut class.side.owner, board);
+    own.side.hear(board, &mut class.side);
+    class.side.hear(board, &mut own.side);
+    Ok(copy?.unwrap())
+}
+
+// Makes one command, whose key has no dead item, on its stripe and the two classes that it needs, the lower first, which
+// give the room.
+pub(crate) fn perform_on_two<N: Named>(
+    alloc: Global,
+    board: &Board,
+    own: &mut LockedStripe<N>,
+    low: &mut LockedClass<N>,
+    high: &mut LockedClass<N>,
+    who: Who,
+    command: Command,
+    moment: u64,
+    room: Room,
+    fate: Fate,
+    config: &Config,
+) -> Result<Reply, Fault>
+    requires names { (board.now ≡ N.board) × (config.now ≡ N.config) }
+    requires answer { MayAnswer own.old.stripe (call who command moment room) }
+    requires fate { fate ≡ words.fate_for own.old.stripe (call who command moment room) }
+    requires held { IsHeld N.config.sizes fate }
+    requires rising { low.old.class.number.0 < high.old.class.number.0 }
+    requires gives { GivesRoom who room low.old.class × GivesRoom who room high.old.class }
+    requires lent { AreLent (low.old.class ∷ high.old.class ∷ []) room fate }
+    requires refused { IsRefusedIn room (low.old.class ∷ high.old.class ∷ []) }
+    ensures made { IfOk result (IsMade own.old.stripe own.new.stripe (call who command moment room)) }
+    ensures err { OnErr result (own.new.stripe.history ≡ own.old.stripe.history) }
+    ensures site { KeepsSite own.old.stripe own.new.stripe }
+    ensures full { IsErrOf result HistoryFull → IsShort N.config own.new }
+{
+    meet(board, own, low);
+    meet(board, own, high);
+    let lent = Lent::Two(&mut low.side.state, &mut high.side.state);
+    let copy = perform_fated(
+        alloc,
+        &mut own.side.state,
+        lent,
+        who,
+        command,
+        moment,
+        room,
+        fate,
+        config,
+        true,
+    );
+    own.side.state.history();
+    catch_up_stripe(&own.side.state, &mut own.side.owner, board);
+    low.side.state.law();
+    catch_up_class(&low.side.state, &mut low.side.owner, board);
+    high.side.state.law();
+    catch_up_class(&high.side.state, &mut high.side.owner, board);
+    own.side.hear(board, &mut low.side);
+    own.side.hear(board, &mut high.side);
+    low.side.hear(board, &mut own.side);
+    high.side.hear(board, &mut own.side);
+    Ok(copy?.unwrap())
+}

@@ -1,0 +1,69 @@
+//! What a command needs on a stripe that is under its lock.
+ghost use Rattle.std.specs.Prelude.{◌≡◌, ◌≤◌, ◌^◌, ◌⊎◌, ◌∷◌, [], IsTrue};
+ghost use Rattle.mc_segment.specs.ClassState.{ClassView};
+ghost use Rattle.mc_pull.specs.Perform.{AreLent};
+ghost use Rattle.mc_store.specs.Planned.{IsPlanIn};
+
+use crate::locked::LockedStripe;
+use crate::named::Named;
+use mc_item::{ClassNo, Command, Room};
+use mc_lone::{Needed, needed_for};
+use mc_stripe::{Fate, Plan};
+
+// What a command will need and do at a moment, by one look-up of its key.
+pub(crate) fn plan_under<N: Named>(
+    own: &LockedStripe<N>,
+    command: &Command,
+    moment: u64,
+) -> Plan
+    requires early { moment ≤ 2 ^ 62 }
+    ensures { IsPlanIn N.config own.now.stripe command.now moment result }
+{
+    let side = own.side();
+    let stripe = side.state();
+    stripe.history();
+    stripe.plan(command, moment)
+}
+
+// Whether a number is one of two.
+fn is_either(number: ClassNo, low: ClassNo, high: ClassNo) -> bool
+    ensures { IsTrue result → (number ≡ low) ⊎ (number ≡ high) }
+{
+    number == low || number == high
+}
+
+// Whether two numbers are these.
+fn are_both(first: ClassNo, second: ClassNo, low: ClassNo, high: ClassNo) -> bool
+    ensures { IsTrue result → (first ≡ low) × (second ≡ high) }
+{
+    first == low && second == high
+}
+
+// Whether a number is this.
+fn is_same(number: ClassNo, class: ClassNo) -> bool
+    ensures { IsTrue result → number ≡ class }
+{
+    number == class
+}
+
+// Whether a command of this fate, where it is given this room, needs no class but this one.
+pub(crate) fn suffices_one(class: ClassNo, room: Room, fate: Fate) -> bool
+    ensures { IsTrue result → (v : ClassView) → v.number ≡ class → AreLent (v ∷ []) room fate }
+{
+    match needed_for(fate, room) {
+        Needed::Zero => true,
+        Needed::One(number) => is_same(number, class),
+        Needed::Two(_, _) => false,
+    }
+}
+
+// Whether a command of this fate, where it is given this room, needs no class but these two.
+pub(crate) fn suffice_two(low: ClassNo, high: ClassNo, room: Room, fate: Fate) -> bool
+    ensures { IsTrue result → (v w : ClassView) → v.number ≡ low → w.number ≡ high → AreLent (v ∷ w ∷ []) room fate }
+{
+    match needed_for(fate, room) {
+        Needed::Zero => true,
+        Needed::One(number) => is_either(number, low, high),
+        Needed::Two(first, second) => are_both(first, second, low, high),
+    }
+}

@@ -1,0 +1,158 @@
+//! The room that a command is given by a class under its lock.
+ghost use Rattle.std.specs.Prelude.{◌≡◌, IfOk, OnOk, IsErrOf};
+ghost use Rattle.mc_item.specs.Stripe.{Fits};
+ghost use Rattle.mc_item.specs.declared.answer.Need.TheVariants as needs;
+ghost use Rattle.mc_item.specs.declared.fault.Fault.TheVariants.{HistoryFull};
+ghost use Rattle.mc_stripe.specs.StripeCalls.{KeepsSite};
+ghost use Rattle.mc_pull.specs.Agreeing.{AgreeNow};
+ghost use Rattle.mc_rule.specs.Lists.{IsFull, lists_of};
+ghost use Rattle.mc_store.specs.Locked.{IsLockedClass};
+ghost use Rattle.mc_store.specs.Planned.{GoesBy, IsGiven, IsReadyOn, IsSearched};
+ghost use Rattle.mc_store.specs.Serving.{IsShort};
+
+use crate::locked::{LockedClass, LockedStripe};
+use crate::named::Named;
+use crate::pairing::{meet, refuse};
+use crate::planning::plan_under;
+use crate::store::Store;
+use crate::waiting::wait_for_ever;
+use crate::walking::make_room_under;
+use mc_evidence::new_numbers_are_unnamed;
+use mc_item::{ClassNo, Command, Fault, Link, Need, Room, Who};
+use mc_stripe::{Fate, Plan};
+use std::alloc::Global;
+use std::sync::Wait;
+
+// Goes on where a class has this number, and else waits for ever.
+fn expect<N: Named>(rt: &impl Wait, lent: &LockedClass<N>, class: ClassNo)
+    ensures number { lent.now.class.number ≡ class }
+    ensures kept { IsLockedClass N.board.table N.config lent.now }
+{
+    if lent.side().number() != class {
+        wait_for_ever(rt);
+    }
+}
+
+// A chunk is looked for in a class, where none is free, and the command is planned again behind that. A class of another
+// number, of which there is none here, would be waited for.
+fn search_on<N: Named>(
+    alloc: Global,
+    store: &Store<N>,
+    rt: &impl Wait,
+    own: &mut LockedStripe<N>,
+    lent: &mut LockedClass<N>,
+    who: Who,
+    command: &Command,
+    moment: u64,
+    plan: Plan,
+    class: ClassNo,
+) -> Result<Plan, Fault>
+    requires goes { GoesBy N.config own.old.stripe command.now moment plan }
+    requires fresh { plan.need ≡ needs.Fresh class }
+    ensures goes { IfOk result (GoesBy N.config own.new.stripe command.now moment) }
+    ensures searched { IsSearched N.config who command.now moment own.old.stripe own.new.stripe }
+    ensures number { lent.new.class.number ≡ lent.old.class.number }
+    ensures site { KeepsSite own.old.stripe own.new.stripe }
+    ensures full { IsErrOf result HistoryFull → IsShort N.config own.new }
+{
+    expect(rt, lent, class);
+    if !lent.side().state().is_full() {
+        return Ok(plan);
+    }
+    make_room_under(alloc, store, own, lent, who, moment)?;
+    Ok(plan_under(own, command, moment))
+}
+
+// The next link of a class that has a chunk free, and that was told of the stripe.
+fn next_on<N: Named>(own: &LockedStripe<N>, lent: &LockedClass<N>, who: Who) -> Room
+    requires met { AgreeNow lent.now.class own.now.stripe }
+    requires free { IsFull lent.now.class.chunks (lists_of lent.now.class.history) → ⊥ }
+    ensures fits { Fits (needs.Fresh lent.now.class.number) result own.now.stripe.history }
+    ensures given { IsGiven who result lent.now.class }
+{
+    let _own = own;
+    let _who = who;
+    let side = lent.side();
+    let class = side.state();
+    class.law();
+    new_numbers_are_unnamed();
+    Room::At(Link {
+        class: class.number(),
+        number: class.next_number(),
+    })
+}
+
+// The room that a class gives: its next link, where a chunk is free, and else a refusal that it notes. A class of another
+// number, of which there is none here, would be waited for.
+fn fresh_room<N: Named>(
+    store: &Store<N>,
+    rt: &impl Wait,
+    own: &mut LockedStripe<N>,
+    lent: &mut LockedClass<N>,
+    who: Who,
+    class: ClassNo,
+) -> Result<Room, Fault>
+    ensures same { own.new.stripe ≡ own.old.stripe }
+    ensures fits { IfOk result (λ room. Fits (needs.Fresh class) room own.old.stripe.history) }
+    ensures given { IfOk result (λ room. IsGiven who room lent.new.class) }
+    ensures number { lent.new.class.number ≡ lent.old.class.number }
+    ensures full { IsErrOf result HistoryFull → IsShort N.config own.new }
+{
+    expect(rt, lent, class);
+    meet(&store.board, own, lent);
+    if !lent.side().state().is_full() {
+        return Ok(next_on(own, lent, who));
+    }
+    let place = refuse(&store.board, lent, who)?;
+    Ok(Room::Refused { class, place })
+}
+
+// The room that a need is given.
+fn room_on<N: Named>(
+    store: &Store<N>,
+    rt: &impl Wait,
+    own: &mut LockedStripe<N>,
+    lent: &mut LockedClass<N>,
+    who: Who,
+    need: Need,
+) -> Result<Room, Fault>
+    ensures same { own.new.stripe ≡ own.old.stripe }
+    ensures fits { IfOk result (λ room. Fits need room own.old.stripe.history) }
+    ensures given { IfOk result (λ room. IsGiven who room lent.new.class) }
+    ensures number { lent.new.class.number ≡ lent.old.class.number }
+    ensures full { IsErrOf result HistoryFull → IsShort N.config own.new }
+{
+    match need {
+        Need::Fresh(class) => fresh_room(store, rt, own, lent, who, class),
+        Need::Nothing => Ok(Room::Keep),
+        Need::Same => Ok(Room::Keep),
+        Need::TooLarge => Ok(Room::Keep),
+    }
+}
+
+// The room and the fate of a command that needs a chunk of a class under its lock: one is looked for where none is free,
+// and then the class gives the room.
+pub(crate) fn ready_on<N: Named>(
+    alloc: Global,
+    store: &Store<N>,
+    rt: &impl Wait,
+    own: &mut LockedStripe<N>,
+    lent: &mut LockedClass<N>,
+    who: Who,
+    command: &Command,
+    moment: u64,
+    plan: Plan,
+    class: ClassNo,
+) -> Result<(Room, Fate), Fault>
+    requires goes { GoesBy N.config own.old.stripe command.now moment plan }
+    requires fresh { plan.need ≡ needs.Fresh class }
+    ensures ready { IfOk result (λ ready. IsReadyOn N.config own.new.stripe lent.new.class who command.now moment ready.0 ready.1) }
+    ensures searched { IsSearched N.config who command.now moment own.old.stripe own.new.stripe }
+    ensures number { lent.new.class.number ≡ lent.old.class.number }
+    ensures site { KeepsSite own.old.stripe own.new.stripe }
+    ensures full { IsErrOf result HistoryFull → IsShort N.config own.new }
+{
+    let found = search_on(alloc, store, rt, own, lent, who, command, moment, plan, class)?;
+    let room = room_on(store, rt, own, lent, who, found.need)?;
+    Ok((room, found.fate(room)))
+}

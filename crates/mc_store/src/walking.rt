@@ -1,0 +1,169 @@
+//! Walks under the locks of a store: room is made in a class, a class is juggled, a dead item goes.
+ghost use Rattle.std.specs.Prelude.{◌≡◌, ◌≤◌, ◌+◌, ◌++◌, ◌∷◌, [], ◌^◌, List, Some, IfOk, IfErr, OnOk, OnErr, IsErrOf};
+ghost use Rattle.mc_item.specs.declared.fault.Fault.TheVariants.{HistoryFull};
+ghost use Rattle.mc_item.specs.declared.stripe_event.Cause.TheVariants.{Expired};
+ghost use Rattle.mc_stripe.specs.Plan.{dead_link};
+ghost use Rattle.mc_stripe.specs.StripeCalls.{KeepsSite};
+ghost use Rattle.mc_stripe.specs.StripeState.{cache_now};
+ghost use Rattle.mc_pull.specs.Growth as classes;
+ghost use Rattle.mc_pull.specs.Juggle.{IsJuggle};
+ghost use Rattle.mc_pull.specs.Lone.{StripeGrows};
+ghost use Rattle.mc_pull.specs.Rounds.{IsRoom, rounds};
+ghost use Rattle.mc_pull.specs.Settled.{lost_event};
+ghost use Rattle.mc_pull.specs.Walker.{walker_of};
+ghost use Rattle.mc_pull.specs.declared.looking.Answer.{Answer};
+ghost use Rattle.mc_store.specs.Serving.{IsServed, IsShort, MayFailSeen};
+
+use crate::gates::{Holding, Trying};
+use crate::locked::{LockedClass, LockedStripe};
+use crate::named::Named;
+use crate::owned_class::catch_up_class;
+use crate::owned_stripe::catch_up_stripe;
+use crate::pairing::meet;
+use crate::store::Store;
+use mc_board::{Owner, Seen};
+use mc_item::{Fault, Key, Link, Moves, Who};
+use mc_pull::{Judge, juggle, settle};
+use mc_segment::ClassState;
+use std::alloc::Global;
+
+// Makes room in a class whose tokens are apart from it, for a caller that holds one stripe: the others are only tried.
+fn make_room_with<N: Named>(
+    alloc: Global,
+    store: &Store<N>,
+    own: &mut LockedStripe<N>,
+    class: &mut ClassState,
+    owner: &mut Owner,
+    seen: &mut Seen,
+    who: Who,
+    moment: u64,
+) -> Result<bool, Fault>
+    requires served { IsServed N.board.table N.config owner.old seen.old class.old }
+    ensures room { IfOk result (λ found. (xs : List Answer) × IsRoom (rounds class.old who moment N.config) class.old.history xs class.new.history found) }
+    ensures class { classes.Grows class.old class.new }
+    ensures served { IsServed N.board.table N.config owner.new seen.new class.new }
+    ensures stripe { StripeGrows (walker_of class.old who moment) own.old.stripe own.new.stripe }
+    ensures fault { IfErr result (MayFailSeen N.config seen.new.sight class.new) }
+{
+    let mut answers = Vec::new(alloc);
+    let mut gate = Holding {
+        own: &mut *own,
+        others: Trying {
+            store,
+            owner: &mut *owner,
+            seen: &mut *seen,
+            answers: &mut answers,
+        },
+    };
+    gate.make_room(alloc, class, who, moment, &store.config)
+}
+
+// Makes room in a class under its lock, for a caller that holds one stripe: the others are only tried. Whether a chunk is
+// free then. After a fault what happened so far stands. The stripe is told of all that the class was told.
+pub(crate) fn make_room_under<N: Named>(
+    alloc: Global,
+    store: &Store<N>,
+    own: &mut LockedStripe<N>,
+    class: &mut LockedClass<N>,
+    who: Who,
+    moment: u64,
+) -> Result<bool, Fault>
+    ensures room { IfOk result (λ found. (xs : List Answer) × IsRoom (rounds class.old.class who moment N.config) class.old.class.history xs class.new.class.history found) }
+    ensures class { classes.Grows class.old.class class.new.class }
+    ensures stripe { StripeGrows (walker_of class.old.class who moment) own.old.stripe own.new.stripe }
+    ensures full { IsErrOf result HistoryFull → IsShort N.config own.new }
+{
+    let board = &store.board;
+    let side = &mut class.side;
+    let found = make_room_with(
+        alloc,
+        store,
+        own,
+        &mut side.state,
+        &mut side.owner,
+        &mut side.seen,
+        who,
+        moment,
+    );
+    catch_up_class(&side.state, &mut side.owner, board);
+    own.side.seen.learn(board, &mut side.seen);
+    own.side.hear(board, side);
+    found
+}
+
+// Juggles a class under its lock: stripes are only tried.
+pub(crate) fn juggle_under<N: Named>(
+    alloc: Global,
+    store: &Store<N>,
+    class: &mut LockedClass<N>,
+    who: Who,
+    moment: u64,
+) -> Result<Moves, Fault>
+    ensures juggle { IfOk result (λ moves. (xs : List Answer) × IsJuggle (rounds class.old.class who moment N.config) class.old.class.history xs class.new.class.history moves) }
+    ensures few { IfOk result (λ moves. moves.reclaimed + moves.moved ≤ 10000) }
+    ensures class { classes.Grows class.old.class class.new.class }
+    ensures fault { IfErr result (MayFailSeen N.config class.new.sight class.new.class) }
+{
+    let mut answers = Vec::new(alloc);
+    let side = &mut class.side;
+    let mut gate = Trying {
+        store,
+        owner: &mut side.owner,
+        seen: &mut side.seen,
+        answers: &mut answers,
+    };
+    let moves = juggle(
+        alloc,
+        &mut side.state,
+        who,
+        moment,
+        &store.config,
+        &mut gate,
+    );
+    catch_up_class(&side.state, &mut side.owner, &store.board);
+    moves
+}
+
+// The dead item of a key goes, and its entry with it; `link` is the item's, and the class is its link's. After a fault both
+// histories are as they were.
+pub(crate) fn bury_under<N: Named>(
+    alloc: Global,
+    store: &Store<N>,
+    own: &mut LockedStripe<N>,
+    class: &mut LockedClass<N>,
+    who: Who,
+    key: &Key,
+    link: Link,
+    moment: u64,
+) -> Result<(), Fault>
+    requires dead { dead_link ((cache_now own.old.stripe).items key.now) moment ≡ Some link }
+    requires class { class.old.class.number ≡ link.class }
+    ensures lost { OnOk result (own.new.stripe.history ≡ own.old.stripe.history ++ lost_event who key.now (Expired moment) ∷ []) }
+    ensures err { OnErr result (own.new.stripe.history ≡ own.old.stripe.history) }
+    ensures site { KeepsSite own.old.stripe own.new.stripe }
+    ensures full { IsErrOf result HistoryFull → IsShort N.config own.new }
+{
+    let _key = key;
+    let board = &store.board;
+    meet(board, own, class);
+    class.side.state.law();
+    own.side.state.history();
+    let done = settle(
+        alloc,
+        &mut class.side.state,
+        &mut own.side.state,
+        who,
+        link.number,
+        &Judge::Dead,
+        moment,
+        &store.config,
+    );
+    class.side.state.law();
+    own.side.state.history();
+    catch_up_stripe(&own.side.state, &mut own.side.owner, board);
+    catch_up_class(&class.side.state, &mut class.side.owner, board);
+    own.side.hear(board, &mut class.side);
+    class.side.hear(board, &mut own.side);
+    done?;
+    Ok(())
+}
