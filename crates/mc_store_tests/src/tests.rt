@@ -7,6 +7,7 @@ ghost use Rattle.mc_store.specs.Locked.{locks_for};
 
 mod commands;
 mod threads;
+mod upkeep;
 
 use mc_board::{Board, Owner, Seen};
 use mc_item::{ClassNo, Config, Numbers, StripeNo, Who};

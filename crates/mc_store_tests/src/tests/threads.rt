@@ -5,10 +5,9 @@ ghost use Rattle.mc_board.specs.Histories.{blind};
 ghost use Rattle.mc_board.specs.Views.{locks_of, AreOwners};
 ghost use Rattle.mc_store.specs.Locked.{locks_for};
 
-use super::commands::{key, said, store_of};
 use super::{board_for, checked, four_stripes};
 use mc_board::{Board, Owner, Seen};
-use mc_item::{ClassNo, Command, Config, Verb};
+use mc_item::{ClassNo, Command, Config, Key, Reply, Value, Verb};
 use mc_store::{Named, Pass, Store};
 use std::alloc::Global;
 use std::hash::RandomState;
@@ -19,7 +18,12 @@ use std::test::Fail;
 use std::thread;
 use std::thread::Threads;
 
-// Adds one to a counter so many times.
+// The key of the counter.
+fn counter<R: Abort>(rt: &R, alloc: Global) -> Key {
+    Key::of(alloc, b"n").expect(rt, "a key")
+}
+
+// Adds one to the counter so many times.
 fn count<N: Named, R: Abort + Wait>(
     rt: &R,
     alloc: Global,
@@ -28,12 +32,34 @@ fn count<N: Named, R: Abort + Wait>(
     times: u32,
 ) {
     for _ in 0..times {
-        let add = Command::Incr(key(rt, alloc, b'n'), 1);
-        let _word = said(rt, alloc, store, pass, add, 1000);
+        let add = Command::Incr(counter(rt, alloc), 1);
+        store
+            .command(alloc, rt, pass, add, 1000)
+            .expect(rt, "a number");
     }
 }
 
-// Two threads count on one counter, and its class is juggled: what the counter says then.
+// The counter, set to 0.
+fn zero<R: Abort>(rt: &R, alloc: Global) -> Command {
+    let text = Vec::from_slice(alloc, b"0").expect(rt, "a value");
+    Command::Store {
+        verb: Verb::Set,
+        key: counter(rt, alloc),
+        flags: 7,
+        exptime: 0,
+        value: Value::from_vec(text),
+    }
+}
+
+// The number that one more makes.
+fn number_of(reply: Reply) -> u64 {
+    match reply {
+        Reply::Number(number) => number,
+        _ => 0,
+    }
+}
+
+// Two threads count on one counter, and its class is juggled: what one more makes then.
 fn counted<N: Named + Send + Sync, R: Threads + Abort + Wait + Sync>(
     rt: &R,
     alloc: Global,
@@ -42,7 +68,7 @@ fn counted<N: Named + Send + Sync, R: Threads + Abort + Wait + Sync>(
     owners: Vec<Owner>,
     seen: Seen,
     seed: RandomState,
-) -> Result<String, Fail>
+) -> Result<u64, Fail>
     requires board { board ≡ N.board }
     requires config { (config ≡ N.config) × IsBounded N.config × IsSound N.config }
     requires parts { (N.config.stripes ≡ 4) × (length N.config.sizes ≡ 2) × (N.config.callers ≡ 3) }
@@ -54,31 +80,37 @@ fn counted<N: Named + Send + Sync, R: Threads + Abort + Wait + Sync>(
     let mut first = passes.pop().unwrap();
     let mut second = passes.pop().unwrap();
     let mut third = passes.pop().unwrap();
-    let set = store_of(rt, alloc, Verb::Set, b'n', 0, b"0");
-    let _stored = said(rt, alloc, &store, &mut first, set, 1000);
+    let set = zero(rt, alloc);
+    store
+        .command(alloc, rt, &mut first, set, 1000)
+        .expect(rt, "stored");
     thread::join(
         rt,
         || count(rt, alloc, &store, &mut first, 500),
         || count(rt, alloc, &store, &mut second, 500),
     );
-    store.juggle(alloc, rt, &mut third, ClassNo(1), 1000).expect(rt, "moves");
-    let get = Command::Get(key(rt, alloc, b'n'));
-    let word = said(rt, alloc, &store, &mut third, get, 1000);
+    store
+        .juggle(alloc, rt, &mut third, ClassNo(1), 1000)
+        .expect(rt, "moves");
+    let add = Command::Incr(counter(rt, alloc), 1);
+    let reply = store
+        .command(alloc, rt, &mut third, add, 1000)
+        .expect(rt, "a number");
     store.meet(&mut first, &mut second);
     let mut ledger = store.close(rt);
     ledger.compare(&mut first);
     ledger.compare(&mut second);
     ledger.compare(&mut third);
-    Ok(word)
+    Ok(number_of(reply))
 }
 
-// No count is lost: 500 by each of two threads are 1000.
+// No count is lost: 500 by each of two threads, and one more, are 1001.
 #[test]
 fn counters_of_two_threads_add_up(rt: HostRuntime) -> Result<(), Fail> {
     let config = checked(four_stripes(rt.alloc())?)?;
     let (board, owners, seen) = board_for(rt.alloc(), &config)?;
     let seed = RandomState::new(&rt)?;
-    let word = counted::<Brand, HostRuntime>(
+    let number = counted::<Brand, HostRuntime>(
         &rt,
         rt.alloc(),
         config,
@@ -87,6 +119,6 @@ fn counters_of_two_threads_add_up(rt: HostRuntime) -> Result<(), Fail> {
         seen,
         seed,
     )?;
-    assert_eq!(rt; word.as_str(), "7 [49, 48, 48, 48]");
+    assert_eq!(rt; number, 1001);
     Ok(())
 }
