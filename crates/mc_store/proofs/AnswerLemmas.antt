@@ -1,5 +1,5 @@
 -- How a command under the lock of its stripe ends, by how its steps end.
-use Rattle.std.proofs.Common.{◌≡◌, ◌⊎◌, ◌++◌, ◌∙◌, ℕ, List, Result, Ok, Err, refl, ap, sym, subst}
+use Rattle.std.proofs.Common.{◌≡◌, ◌++◌, ℕ, List, Result, Ok, Err, ap, sym, subst}
 use Rattle.std.specs.Prelude.{Option, IfOk, OnErr}
 use Rattle.mc_item.specs.Command.{key_of}
 use Rattle.mc_item.specs.Stripe.{Fits, IsAlive}
@@ -10,7 +10,6 @@ use Rattle.mc_item.specs.declared.item.Item.{Item}
 use Rattle.mc_item.specs.declared.item.Who.{Who}
 use Rattle.mc_item.specs.declared.reply.Reply.{Reply}
 use Rattle.mc_item.specs.declared.reply.Room.{Room}
-use Rattle.mc_item.specs.declared.stripe_event.StripeEvent.{StripeEvent}
 use Rattle.mc_item.specs.Answer.{Row}
 use Rattle.mc_segment.specs.ClassState.{ClassView}
 use Rattle.mc_stripe.specs.Plan.{AreHeld, Foresees, IsHeld, dead_link, fate_of}
@@ -20,13 +19,12 @@ use Rattle.mc_stripe.specs.declared.fate.Fate.{Fate}
 use Rattle.mc_stripe.specs.declared.planning.Plan.{Plan}
 use Rattle.mc_pull.specs.Perform.{call}
 use Rattle.mc_lone.specs.Commands.{IsCut, burial}
-use Rattle.mc_lone.proofs.CommandLemmas.{cut_first}
 use Rattle.mc_lone.proofs.ReadyLemmas.{plan_fate}
 use Rattle.mc_store.specs.Calls.{IsReplied}
 use Rattle.mc_store.specs.Performing.{IsMade}
 use Rattle.mc_store.specs.Planned.{GoesBy, IsGiven, IsReadyOn, IsSearched}
 use Rattle.mc_store.proofs.PlanLemmas.{may_answer_in}
-use Rattle.mc_store.proofs.UnderLemmas.{cut_after, cut_behind, cut_from, replied_behind, replied_from}
+use Rattle.mc_store.proofs.UnderLemmas.{cut_behind, cut_from, replied_behind, replied_from}
 
 -- a plan's room and fate are ready, where a class gives the room
 pub ready_in : (config : Config) (who : Who) (command : Command) (moment : ℕ) (s s_new : Stripe) (v : ClassView) (plan : Plan) (room : Room) (fate : Fate) → GoesBy config s command moment plan → s_new ≡ s → Fits plan.need room s.history

@@ -1,5 +1,5 @@
 -- What a pass has seen of a stripe behind a call.
-use Rattle.std.proofs.Common.{◌≡◌, ◌⊎◌, ◌<◌, ◌+◌, ℕ, List, inl, inr, arith, Result, Ok, Err, refl, sym, ap, ◌∙◌, subst}
+use Rattle.std.proofs.Common.{◌≡◌, ◌<◌, ℕ, inl, inr, arith, Result, Ok, Err, refl, sym, ap, ◌∙◌, subst}
 use Rattle.std.specs.Prelude.{IfOk, OnErr}
 use mathlib.Core.List.{IsPrefix}
 use Rattle.atomic_table.specs.Seated.{TableId}
@@ -18,7 +18,7 @@ use Rattle.mc_evidence.proofs.SeenLemmas.{classes_grow}
 use Rattle.mc_stripe.specs.StripeCalls.{KeepsSite}
 use Rattle.mc_lone.specs.Commands.{IsCut}
 use Rattle.mc_store.specs.Calls.{IsCutBy, IsReplied, IsRepliedBy, IsSeenGrow}
-use Rattle.mc_store.specs.Locked.{IsLockedStripe, locks_for, setting_of}
+use Rattle.mc_store.specs.Locked.{IsLockedStripe, setting_of}
 use Rattle.mc_store.specs.Serving.{HasSeenShort, IsShort}
 use Rattle.mc_store.specs.Sides.{StripeSide, stripe_told}
 use Rattle.mc_store.proofs.GivenLemmas.{short_grows, short_stripe}

@@ -1,5 +1,5 @@
 -- The room that a class gives, and which history is short where none is noted.
-use Rattle.std.proofs.Common.{◌≡◌, ◌≢◌, ◌⊎◌, ◌≤◌, ◌<◌, ◌+◌, ◌-◌, ◌++◌, ◌∷◌, [], ℕ, suc, List, true, false, inl, inr, length, map, arith, refl, sym, ap, ◌∙◌, subst}
+use Rattle.std.proofs.Common.{◌≡◌, ◌≢◌, ◌≤◌, ◌<◌, ◌+◌, ◌∷◌, [], ℕ, suc, List, true, inl, inr, length, arith, refl, sym, ap, ◌∙◌, subst}
 use Rattle.std.specs.Prelude.{◌==◌, slice_get, Some}
 use Rattle.std.proofs.lemmas.Bool.{false≢true}
 use Rattle.std.proofs.lemmas.Bool.Decides.{nat_tests}
@@ -7,7 +7,6 @@ use Rattle.atomic_table.specs.Seated.{TableId}
 use Rattle.mc_item.specs.declared.class_event.ClassEvent.{ClassEvent}
 use Rattle.mc_item.specs.declared.config.Config.{Config}
 use Rattle.mc_item.specs.declared.event.Event.{Event}
-use Rattle.mc_item.specs.declared.event.Event.TheVariants.{Class, Stripe}
 use Rattle.mc_item.specs.declared.item.ClassNo.{ClassNo}
 use Rattle.mc_item.specs.declared.item.Who.{Who}
 use Rattle.mc_item.specs.declared.reply.Room.{Room}
@@ -18,11 +17,10 @@ use Rattle.mc_board.specs.declared.rule.Sight.{Sight}
 use Rattle.mc_board.proofs.PrefixLemmas.{prefix_length}
 use Rattle.mc_rule.specs.Lists.{IsFull, count_of, links_of, lists_of}
 use Rattle.mc_rule.specs.Pairs.{link_to}
-use Rattle.mc_segment.specs.ClassCalls.{Makes, Stays, refused_event}
+use Rattle.mc_segment.specs.ClassCalls.{Makes, refused_event}
 use Rattle.mc_segment.specs.ClassState.{ClassView}
-use Rattle.mc_pull.specs.Perform.{GivesRoom}
 use Rattle.mc_lone.proofs.RoomLemmas.{noted_at}
-use Rattle.mc_store.specs.Locked.{IsLockedClass, class_lock, locks_for}
+use Rattle.mc_store.specs.Locked.{IsLockedClass, locks_for}
 use Rattle.mc_store.specs.Performing.{IsRefusedIn}
 use Rattle.mc_store.specs.Planned.{IsGiven}
 use Rattle.mc_store.specs.Serving.{HasSeenShort}

@@ -1,5 +1,5 @@
 -- A judgement of a class's entry with its key's stripe, where the class's tokens are apart from it: each call that tells.
-use Rattle.std.proofs.Common.{◌≡◌, ◌-◌, sym, ap, ◌∙◌, subst}
+use Rattle.std.proofs.Common.{◌≡◌, sym, ap, ◌∙◌, subst}
 use mathlib.Core.List.{IsPrefix}
 use Rattle.atomic_table.specs.Seated.{TableId}
 use Rattle.mc_item.specs.Stripe.{IsLegal}

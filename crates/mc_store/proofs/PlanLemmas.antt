@@ -1,7 +1,7 @@
 -- A command's plan on a stripe of a store, and the classes that suffice for a fate.
 use Rattle.std.proofs.Common.{◌≡◌, ◌⊎◌, ◌≤◌, ◌<◌, ◌^◌, ◌∷◌, [], ℕ, List, Bool, true, false, inl, inr, ⊎_elim, length, arith, refl, sym, ap, ◌∙◌, subst, if◌then◌else◌}
 use Rattle.std.specs.Prelude.{Option, Some, None}
-use Rattle.mc_item.specs.Answer.{Row, row_of}
+use Rattle.mc_item.specs.Answer.{row_of}
 use Rattle.mc_item.specs.Cache.{if_alive}
 use Rattle.mc_item.specs.Command.{key_of}
 use Rattle.mc_item.specs.Item.{is_dead, link_of_item}
@@ -21,8 +21,7 @@ use Rattle.mc_evidence.proofs.RowLemmas.{held}
 use Rattle.mc_evidence.proofs.SizedLemmas.{link_sized}
 use Rattle.mc_evidence.specs.Setting.{IsClass}
 use Rattle.mc_segment.specs.ClassState.{ClassView}
-use Rattle.mc_stripe.specs.Plan.{AreHeld, IsHeld, IsPlan, dead_link, fate_of, visible_row}
-use Rattle.mc_stripe.specs.StripeCalls.{KeepsSite}
+use Rattle.mc_stripe.specs.Plan.{AreHeld, IsHeld, IsPlan, dead_link, visible_row}
 use Rattle.mc_stripe.specs.StripeState.{Stripe, cache_now}
 use Rattle.mc_stripe.specs.declared.fate.Fate.{Fate}
 use Rattle.mc_stripe.specs.declared.fate.Fate.TheVariants as fates
@@ -32,10 +31,10 @@ use Rattle.mc_pull.specs.Perform.{AreLent, MayAnswer, call, fate_for}
 use Rattle.mc_pull.specs.Question.{IsStripeOf}
 use Rattle.mc_lone.specs.Needed.{HasClassIf, HaveClasses, HoldsOf, IsNumberOf}
 use Rattle.mc_lone.specs.declared.needed.Needed.{Needed}
-use Rattle.mc_lone.specs.declared.needed.Needed.TheVariants.{Zero, One, Two}
+use Rattle.mc_lone.specs.declared.needed.Needed.TheVariants.{One, Two}
 use Rattle.mc_lone.proofs.CommandLemmas.{visible_alive}
 use Rattle.mc_lone.proofs.NeededLemmas.{fate_have}
-use Rattle.mc_lone.proofs.ReadyLemmas.{alive_of, plan_fate}
+use Rattle.mc_lone.proofs.ReadyLemmas.{plan_fate}
 use Rattle.mc_store.specs.Locked.{setting_of}
 use Rattle.mc_store.specs.Planned.{GoesBy, IsPlanIn}
 

@@ -1,7 +1,6 @@
 -- A command under the lock of its stripe: what is seen behind it, and what stands before its answer.
-use Rattle.std.proofs.Common.{◌≡◌, ◌⊎◌, ◌≤◌, ◌<◌, ◌+◌, ◌-◌, ◌^◌, ◌++◌, ◌∷◌, [], ℕ, List, Bool, inl, inr, length, arith, refl, ap, sym, ◌∙◌, subst, append_assoc, append-nil}
+use Rattle.std.proofs.Common.{◌≡◌, ◌⊎◌, ◌≤◌, ◌^◌, ◌++◌, ◌∷◌, [], ℕ, List, inl, inr, length, refl, ap, sym, ◌∙◌, subst, append_assoc, append-nil}
 use Rattle.std.specs.Prelude.{Option, Some, None}
-use mathlib.Core.List.{IsPrefix}
 use Rattle.mc_item.specs.Answer.{Row}
 use Rattle.mc_item.specs.Command.{key_of}
 use Rattle.mc_item.specs.Measure.{stripe_of}
@@ -13,7 +12,6 @@ use Rattle.mc_item.specs.declared.command.Command.{Command}
 use Rattle.mc_item.specs.declared.config.Config.{Config}
 use Rattle.mc_item.specs.declared.event.Event.{Event}
 use Rattle.mc_item.specs.declared.item.ClassNo.{ClassNo}
-use Rattle.mc_item.specs.declared.item.Item.{Item}
 use Rattle.mc_item.specs.declared.item.Link.{Link}
 use Rattle.mc_item.specs.declared.item.Who.{Who}
 use Rattle.mc_item.specs.declared.reply.Reply.{Reply}
@@ -34,7 +32,7 @@ use Rattle.mc_pull.specs.Perform.{answer_to, call}
 use Rattle.mc_pull.specs.Performed.{cooled_if, events_on_stripe}
 use Rattle.mc_pull.specs.Question.{IsClassOf}
 use Rattle.mc_pull.specs.Walker.{Walker, walker_of}
-use Rattle.mc_lone.specs.Commands.{IsAnswered, IsCut, IsSearch, LeadsUp, burial}
+use Rattle.mc_lone.specs.Commands.{IsCut, IsSearch, LeadsUp, burial}
 use Rattle.mc_lone.specs.LoneStore.{walker_in}
 use Rattle.mc_lone.proofs.CommandLemmas.{buried_alive, buried_row, searched_alive}
 use Rattle.mc_lone.proofs.ReadyLemmas.{not_dead, searches_none}
@@ -65,7 +63,7 @@ pub searched_walk : (config : Config) (who : Who) (command : Command) (moment : 
     → IsClassOf config v → StripeGrows (walker_of v who moment) s s_new → IsSearched config who command moment s s_new
 searched_walk config who command moment s s_new v class plan goes fresh at made grows =
     let walker : walker_of v who moment ≡ walker_in config who moment class =
-        ap (λ (n : ClassNo). record { who = who; moment = moment; class = n; rule = v.rule }) at ∙ ap (λ (r : Rule). record { who = who; moment = moment; class = class; rule = r }) made.rule in
+    ap (λ (n : ClassNo). record { who = who; moment = moment; class = n; rule = v.rule }) at ∙ ap (λ (r : Rule). record { who = who; moment = moment; class = class; rule = r }) made.rule in
     (grows.events, subst (λ (n : Need). IsSearch config who moment n grows.events) (sym fresh ∙ goes.planned.is.row.need) (subst (λ (w : Walker). AreMadeBy w grows.events) walker grows.each), grows.history_is)
 
 -- a command that is planned again behind a search goes by its new plan

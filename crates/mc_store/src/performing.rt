@@ -46,9 +46,7 @@ pub(crate) fn perform_kept<N: Named>(
     let config = &store.config;
     let room = Room::Keep;
     match needed_for(fate, room) {
-        Needed::Zero => perform_alone(
-            alloc, board, own, who, command, moment, room, fate, config,
-        ),
+        Needed::Zero => perform_alone(alloc, board, own, who, command, moment, room, fate, config),
         Needed::One(number) => {
             let mut guard = store.lock_class(rt, number);
             let class = &mut *guard;

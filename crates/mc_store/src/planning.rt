@@ -11,11 +11,7 @@ use mc_lone::{Needed, needed_for};
 use mc_stripe::{Fate, Plan};
 
 // What a command will need and do at a moment, by one look-up of its key.
-pub(crate) fn plan_under<N: Named>(
-    own: &LockedStripe<N>,
-    command: &Command,
-    moment: u64,
-) -> Plan
+pub(crate) fn plan_under<N: Named>(own: &LockedStripe<N>, command: &Command, moment: u64) -> Plan
     requires early { moment ≤ 2 ^ 62 }
     ensures { IsPlanIn N.config own.now.stripe command.now moment result }
 {

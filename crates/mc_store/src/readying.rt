@@ -152,7 +152,9 @@ pub(crate) fn ready_on<N: Named>(
     ensures site { KeepsSite own.old.stripe own.new.stripe }
     ensures full { IsErrOf result HistoryFull → IsShort N.config own.new }
 {
-    let found = search_on(alloc, store, rt, own, lent, who, command, moment, plan, class)?;
+    let found = search_on(
+        alloc, store, rt, own, lent, who, command, moment, plan, class,
+    )?;
     let room = room_on(store, rt, own, lent, who, found.need)?;
     Ok((room, found.fate(room)))
 }

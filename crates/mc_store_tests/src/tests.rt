@@ -6,6 +6,7 @@ ghost use Rattle.mc_board.specs.Views.{locks_of, AreOwners};
 ghost use Rattle.mc_store.specs.Locked.{locks_for};
 
 mod commands;
+mod running;
 mod threads;
 mod upkeep;
 

@@ -20,7 +20,7 @@ returns-clause-replied g c =
     let same : c.compare.new.self ≡ old = c.compare.ensures.same.0 ∙ c.own.view_is in
     let site = subst (λ (s : StripeSide). KeepsSite s.stripe new.stripe) same c.command_under-reply.ensures.site in
     let seen = subst (λ (s : StripeSide). HasSeen (stripe_told s.stripe.history) before s.lock) c.own.view_is
-        (subst (λ (x : Sight). HasSeen (stripe_told c.own.inside.side.stripe.history) x c.own.inside.side.lock) (ap (λ (p : PassView). p.sight) c.pass.view_is) c.compare.ensures.behind.seen) in
+    (subst (λ (x : Sight). HasSeen (stripe_told c.own.inside.side.stripe.history) x c.own.inside.side.lock) (ap (λ (p : PassView). p.sight) c.pass.view_is) c.compare.ensures.behind.seen) in
     let told = subst (λ (s : StripeSide). list_at after.seen s.lock ≡ stripe_told s.stripe.history) c.own-2.view_is c.share.ensures.told in
     let grows = subst (λ (s : StripeSide). Grows s.sight after) c.own-2.view_is c.share.ensures.all in
     replied_by_ok g.N.Named.board.table config old new before after c.law.ensures c.law-2.ensures site seen told grows c.args.who c.args.command c.args.moment c.command_under-reply.result
@@ -36,7 +36,7 @@ returns-clause-cut g c =
     let same : c.compare.new.self ≡ old = c.compare.ensures.same.0 ∙ c.own.view_is in
     let site = subst (λ (s : StripeSide). KeepsSite s.stripe new.stripe) same c.command_under-reply.ensures.site in
     let seen = subst (λ (s : StripeSide). HasSeen (stripe_told s.stripe.history) before s.lock) c.own.view_is
-        (subst (λ (x : Sight). HasSeen (stripe_told c.own.inside.side.stripe.history) x c.own.inside.side.lock) (ap (λ (p : PassView). p.sight) c.pass.view_is) c.compare.ensures.behind.seen) in
+    (subst (λ (x : Sight). HasSeen (stripe_told c.own.inside.side.stripe.history) x c.own.inside.side.lock) (ap (λ (p : PassView). p.sight) c.pass.view_is) c.compare.ensures.behind.seen) in
     let told = subst (λ (s : StripeSide). list_at after.seen s.lock ≡ stripe_told s.stripe.history) c.own-2.view_is c.share.ensures.told in
     let grows = subst (λ (s : StripeSide). Grows s.sight after) c.own-2.view_is c.share.ensures.all in
     cut_by_err g.N.Named.board.table config old new before after c.law.ensures c.law-2.ensures site seen told grows c.args.who c.args.command c.args.moment c.command_under-reply.result
@@ -52,7 +52,7 @@ returns-clause-full g c =
     let same : c.compare.new.self ≡ old = c.compare.ensures.same.0 ∙ c.own.view_is in
     let site = subst (λ (s : StripeSide). KeepsSite s.stripe new.stripe) same c.command_under-reply.ensures.site in
     let seen = subst (λ (s : StripeSide). HasSeen (stripe_told s.stripe.history) before s.lock) c.own.view_is
-        (subst (λ (x : Sight). HasSeen (stripe_told c.own.inside.side.stripe.history) x c.own.inside.side.lock) (ap (λ (p : PassView). p.sight) c.pass.view_is) c.compare.ensures.behind.seen) in
+    (subst (λ (x : Sight). HasSeen (stripe_told c.own.inside.side.stripe.history) x c.own.inside.side.lock) (ap (λ (p : PassView). p.sight) c.pass.view_is) c.compare.ensures.behind.seen) in
     let told = subst (λ (s : StripeSide). list_at after.seen s.lock ≡ stripe_told s.stripe.history) c.own-2.view_is c.share.ensures.told in
     let grows = subst (λ (s : StripeSide). Grows s.sight after) c.own-2.view_is c.share.ensures.all in
     λ e. short_shared g.N.Named.board.table config old new before after c.law.ensures c.law-2.ensures site seen told grows (c.command_under-reply.ensures.full e)

@@ -16,6 +16,6 @@ pub lock_class-higher-requires : goal.lock_class-higher-requires
 lock_class-higher-requires g c = is_class g.N.Named.config c.in-Two.second (c.in-Two.ensures.among (length g.N.Named.config.sizes) c.requires.classes).1
 
 pub perform_on_two-requires-clause-lent : goal.perform_on_two-requires-clause-lent
-perform_on_two-requires-clause-lent g c = 
+perform_on_two-requires-clause-lent g c =
     c.in-Two.ensures.lent.1 c.deref_mut-low.result.now.class c.deref_mut-high.result.now.class (ap (λ (x : ClassSide). x.class.number) c.deref_mut-low.ensures.value ∙ c.lock_class-lower.ensures)
     (ap (λ (x : ClassSide). x.class.number) c.deref_mut-high.ensures.value ∙ c.lock_class-higher.ensures)

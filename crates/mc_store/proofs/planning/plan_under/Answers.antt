@@ -1,5 +1,4 @@
-use Rattle.std.proofs.Common.{ap, ◌∙◌, ◌≡◌, sym, subst, List}
-use Rattle.mc_item.specs.Stripe.{IsLegal}
+use Rattle.std.proofs.Common.{ap, ◌∙◌, ◌≡◌, sym, subst}
 use Rattle.mc_stripe.specs.StripeState.{Stripe}
 use Rattle.mc_pull.specs.Question.{IsStripeOf}
 use Rattle.mc_store.specs.Planned.{IsPlanIn}

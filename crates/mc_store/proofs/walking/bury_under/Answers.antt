@@ -5,7 +5,6 @@ use Rattle.mc_item.specs.declared.stripe_event.StripeEvent.{StripeEvent}
 use Rattle.mc_segment.specs.ClassState.{ClassView}
 use Rattle.mc_stripe.specs.Plan.{dead_link}
 use Rattle.mc_stripe.specs.StripeState.{Stripe, cache_now}
-use Rattle.mc_board.specs.Views.{OwnerView}
 use Rattle.mc_pull.specs.Agreeing.{AgreeNow}
 use Rattle.mc_pull.specs.Question.{question}
 use Rattle.mc_pull.specs.Refusal.{MayFail}

@@ -1,5 +1,5 @@
 use Rattle.std.proofs.Common.{ap, ◌∙◌, sym, subst}
-use Rattle.mc_board.specs.Views.{OwnerView, SeenView}
+use Rattle.mc_board.specs.Views.{SeenView}
 use Rattle.mc_board.proofs.SeenLemmas.{Grows-trans}
 use Rattle.mc_board.specs.declared.rule.Sight.{Sight}
 use Rattle.mc_board.specs.Histories.{Grows}
