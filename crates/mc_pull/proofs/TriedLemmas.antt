@@ -199,7 +199,7 @@ module _ (p : Pull) (w : Way) (number : StripeNo) (wanting : IsWanting p.seg p.m
   by_judged stripe e0 (Some j) is of judged knows none =
       let so = subst IsDoneSo (sym judged.done_is) (done_so p.seg p.mode wanting (class_at p.class w.history) (cache_now judged.stripe) p.who e0.number (numbers_passed p w) p.moment) in
       elim so [
-        inl made ↦ absurd (omega (arith, none, event_there (class_at p.class w.history) p.who e0.number p.seg p.mode (numbers_passed p w) p.moment j.at j.done made))
+        | inl made ↦ absurd (omega (arith, none, event_there (class_at p.class w.history) p.who e0.number p.seg p.mode (numbers_passed p w) p.moment j.at j.done made))
         | inr is_stranger ↦ stranger stripe e0 j.at j.done is of knows is_stranger
       ]
 
@@ -360,8 +360,7 @@ tried_in_vain r before after xs number room had =
           each = both.2;
           none = λ no_try.
               let idle = none_both first.0 last.0 no_try in
-              let same : after ≡ mid = last.1 ∙ (ap (λ (es : List ClassEvent). mid ++ es) idle ∙ append-nil mid) in
-              (
+              let same : after ≡ mid = last.1 ∙ (ap (λ (es : List ClassEvent). mid ++ es) idle ∙ append-nil mid) in (
                 subst (IsNoneNear r.config.stripes number Cold) (sym same) (cold_none r number mid after each.2 each.4 rest.1 same),
                 subst (IsNoneNear r.config.stripes number Hot) (sym same) (hot_none r number mid after each.2 each.4 rest.1 same),
               );

@@ -110,15 +110,7 @@ fn counters_of_two_threads_add_up(rt: HostRuntime) -> Result<(), Fail> {
     let config = checked(four_stripes(rt.alloc())?)?;
     let (board, owners, seen) = board_for(rt.alloc(), &config)?;
     let seed = RandomState::new(&rt)?;
-    let number = counted::<Brand, HostRuntime>(
-        &rt,
-        rt.alloc(),
-        config,
-        board,
-        owners,
-        seen,
-        seed,
-    )?;
+    let number = counted::<Brand, HostRuntime>(&rt, rt.alloc(), config, board, owners, seen, seed)?;
     assert_eq!(rt; number, 1001);
     Ok(())
 }
