@@ -40,7 +40,7 @@ pub const GROWN: &str =
     "Number(10); Renewed(Item { flags: 5, value: Value { bytes: [49, 48] }, expiry: Never, cas: 22, link: Link { class: ClassNo(1), number: 9 }, marks: Marks { fetched: false, active: false } })";
 
 /// The answer has this reply and this change.
-pub fn shows(rt: &impl Abort, alloc: Global, answer: &Answer, want: &str) {
+pub(super) fn shows(rt: &impl Abort, alloc: Global, answer: &Answer, want: &str) {
     let reply = &answer.reply;
     let change = &answer.change;
     let text = format!(in alloc; "{reply:?}; {change:?}").expect(rt, "memory");
@@ -48,7 +48,7 @@ pub fn shows(rt: &impl Abort, alloc: Global, answer: &Answer, want: &str) {
 }
 
 /// Stripe 1 of 4, with classes of 96 and 120 bytes.
-pub fn site() -> Site
+pub(super) fn site() -> Site
     ensures stripe { result.stripe ≡ 1 }
     ensures stripes { result.stripes ≡ 4 }
 {
@@ -60,17 +60,17 @@ pub fn site() -> Site
 }
 
 /// A key of these bytes.
-pub fn key(rt: &impl Abort, alloc: Global, bytes: &[u8]) -> Key {
+pub(super) fn key(rt: &impl Abort, alloc: Global, bytes: &[u8]) -> Key {
     Key::of(alloc, bytes).expect(rt, "a key")
 }
 
 /// A value of these bytes.
-pub fn value(rt: &impl Abort, alloc: Global, bytes: &[u8]) -> Value {
+pub(super) fn value(rt: &impl Abort, alloc: Global, bytes: &[u8]) -> Value {
     Value::from_vec(Vec::from_slice(alloc, bytes).expect(rt, "memory"))
 }
 
 /// A storage command of the key `k`, of flags 7 and ten seconds.
-pub fn store(rt: &impl Abort, alloc: Global, verb: Verb, bytes: &[u8]) -> Command {
+pub(super) fn store(rt: &impl Abort, alloc: Global, verb: Verb, bytes: &[u8]) -> Command {
     Command::Store {
         verb,
         key: key(rt, alloc, b"k"),
@@ -81,7 +81,7 @@ pub fn store(rt: &impl Abort, alloc: Global, verb: Verb, bytes: &[u8]) -> Comman
 }
 
 /// An item of flags 5, cas number 6 and the link 3 of class 1.
-pub fn item(rt: &impl Abort, alloc: Global, bytes: &[u8], marks: Marks) -> Item {
+pub(super) fn item(rt: &impl Abort, alloc: Global, bytes: &[u8], marks: Marks) -> Item {
     Item {
         flags: 5,
         value: value(rt, alloc, bytes),

@@ -38,7 +38,7 @@ fn checked(config: Config) -> Result<Config, Fail>
 }
 
 /// The usual configuration with one slab class of ten chunks of 96 bytes.
-pub fn usual(alloc: Global) -> Result<Config, Fail> {
+pub(super) fn usual(alloc: Global) -> Result<Config, Fail> {
     let sizes = Numbers::from_vec(Vec::from_slice(alloc, &[96])?);
     let chunks = Numbers::from_vec(Vec::from_slice(alloc, &[10])?);
     let usual = Config::usual(alloc, 1)?;
@@ -50,7 +50,11 @@ pub fn usual(alloc: Global) -> Result<Config, Fail> {
 }
 
 /// A store of this configuration, which has one stripe.
-pub fn opened<R: Abort + RandomSource>(rt: &R, alloc: Global, config: Config) -> Result<World, Fail>
+pub(super) fn opened<R: Abort + RandomSource>(
+    rt: &R,
+    alloc: Global,
+    config: Config,
+) -> Result<World, Fail>
     ensures { IfOk result (λ w. IsLending w.config w.class w.stripe) }
 {
     let config = checked(config)?;
@@ -120,7 +124,7 @@ fn is_dead(stripe: &StripeState, key: &Key, moment: u64) -> bool
 }
 
 /// Answers a command on the stripe; a new version gets the next number of the class.
-pub fn ask<R: Abort>(rt: &R, world: &mut World, command: Command, moment: u64)
+pub(super) fn ask<R: Abort>(rt: &R, world: &mut World, command: Command, moment: u64)
     requires world { IsLending world.old.config world.old.class world.old.stripe }
     ensures world { IsLending world.new.config world.new.class world.new.stripe }
 {
@@ -137,12 +141,12 @@ pub fn ask<R: Abort>(rt: &R, world: &mut World, command: Command, moment: u64)
 }
 
 /// The key of one letter.
-pub fn key<R: Abort>(rt: &R, alloc: Global, letter: u8) -> Key {
+pub(super) fn key<R: Abort>(rt: &R, alloc: Global, letter: u8) -> Key {
     Key::of(alloc, &[letter]).expect(rt, "a key")
 }
 
 /// Stores an item of 66 bytes under the key of one letter, and links its entry.
-pub fn store<R: Abort>(rt: &R, world: &mut World, letter: u8, exptime: i64, moment: u64)
+pub(super) fn store<R: Abort>(rt: &R, world: &mut World, letter: u8, exptime: i64, moment: u64)
     requires world { IsLending world.old.config world.old.class world.old.stripe }
     ensures world { IsLending world.new.config world.new.class world.new.stripe }
 {
@@ -166,7 +170,7 @@ pub fn store<R: Abort>(rt: &R, world: &mut World, letter: u8, exptime: i64, mome
 }
 
 /// Takes the entry of a number out of its list.
-pub fn unlink<R: Abort>(rt: &R, world: &mut World, number: u64)
+pub(super) fn unlink<R: Abort>(rt: &R, world: &mut World, number: u64)
     requires world { IsLending world.old.config world.old.class world.old.stripe }
     ensures world { IsLending world.new.config world.new.class world.new.stripe }
 {
@@ -176,7 +180,7 @@ pub fn unlink<R: Abort>(rt: &R, world: &mut World, number: u64)
 }
 
 /// Juggles the class, through a gate that is lent the stripe.
-pub fn juggle<R: Abort>(rt: &R, world: &mut World, moment: u64) -> Moves
+pub(super) fn juggle<R: Abort>(rt: &R, world: &mut World, moment: u64) -> Moves
     requires world { IsLending world.old.config world.old.class world.old.stripe }
     ensures world { IsLending world.new.config world.new.class world.new.stripe }
 {
@@ -193,7 +197,7 @@ pub fn juggle<R: Abort>(rt: &R, world: &mut World, moment: u64) -> Moves
 }
 
 /// A histogram of nothing, which has room for one link.
-pub fn empty() -> Histogram
+pub(super) fn empty() -> Histogram
     ensures may { MayCount result }
     ensures balanced { IsBalanced result }
 {
@@ -202,7 +206,7 @@ pub fn empty() -> Histogram
 }
 
 /// Crawls one link into a histogram, through a gate that is lent the stripe.
-pub fn crawl_into<R: Abort>(
+pub(super) fn crawl_into<R: Abort>(
     rt: &R,
     world: &mut World,
     link: Link,
@@ -238,7 +242,7 @@ pub fn crawl_into<R: Abort>(
 }
 
 /// Crawls these links, and tells what was counted.
-pub fn crawl<R: Abort>(rt: &R, world: &mut World, links: &[Link], moment: u64) -> Histogram
+pub(super) fn crawl<R: Abort>(rt: &R, world: &mut World, links: &[Link], moment: u64) -> Histogram
     requires world { IsLending world.old.config world.old.class world.old.stripe }
     ensures world { IsLending world.new.config world.new.class world.new.stripe }
     ensures balanced { IsBalanced result }
@@ -251,7 +255,7 @@ pub fn crawl<R: Abort>(rt: &R, world: &mut World, links: &[Link], moment: u64) -
 }
 
 /// Asserts what was seen, reclaimed, passed, gone, without expiry, and with an hour or more to live.
-pub fn asserts_counts<R: Abort>(rt: &R, histogram: &Histogram, wanted: &[u64]) {
+pub(super) fn asserts_counts<R: Abort>(rt: &R, histogram: &Histogram, wanted: &[u64]) {
     let told = [
         histogram.seen,
         histogram.reclaimed,
@@ -264,7 +268,12 @@ pub fn asserts_counts<R: Abort>(rt: &R, histogram: &Histogram, wanted: &[u64]) {
 }
 
 /// Asserts the minutes that were counted: each with its count behind it.
-pub fn asserts_minutes<R: Abort>(rt: &R, alloc: Global, histogram: &Histogram, wanted: &[u64]) {
+pub(super) fn asserts_minutes<R: Abort>(
+    rt: &R,
+    alloc: Global,
+    histogram: &Histogram,
+    wanted: &[u64],
+) {
     let mut told = Vec::new(alloc);
     for (minute, count) in histogram.minutes.iter().enumerate() {
         if *count > 0 {

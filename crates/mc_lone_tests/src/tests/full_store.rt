@@ -205,7 +205,7 @@ fn asserts_entries<R: Abort>(rt: &R, store: &LoneStore, row: &Row) {
 }
 
 /// Asserts what a command answers and leaves in such a store, for each row: of the own key, and of this other key.
-pub fn asserts_rows<R: Abort + RandomSource>(
+pub(super) fn asserts_rows<R: Abort + RandomSource>(
     rt: &R,
     alloc: Global,
     before: &Before,

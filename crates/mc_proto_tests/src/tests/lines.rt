@@ -4,7 +4,7 @@ use std::alloc::Global;
 use std::process::Abort;
 
 // Reads each input whole, and byte by byte, and compares what is shown.
-pub fn compare(rt: &impl Abort, alloc: Global, cases: &[(&[u8], &[u8])]) {
+pub(super) fn compare(rt: &impl Abort, alloc: Global, cases: &[(&[u8], &[u8])]) {
     for (input, want) in cases {
         let (whole, _) = read(rt, alloc, *input, 4096);
         assert_eq!(rt; whole.as_slice(), *want);

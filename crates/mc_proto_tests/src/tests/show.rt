@@ -8,7 +8,7 @@ use std::alloc::Global;
 use std::process::Abort;
 
 /// The limits of the tests: items of at most 100 bytes, and 43 classes.
-pub fn limits() -> Limits {
+pub(super) fn limits() -> Limits {
     Limits {
         largest: 100,
         classes: 43,
@@ -114,7 +114,7 @@ fn mark(rt: &impl Abort, out: &mut Vec<u8>, quiet: bool) {
 }
 
 /// Adds a request in short.
-pub fn show(rt: &impl Abort, out: &mut Vec<u8>, request: Request) {
+pub(super) fn show(rt: &impl Abort, out: &mut Vec<u8>, request: Request) {
     match request {
         Request::Get { keys, with_cas } => {
             if with_cas {
@@ -158,7 +158,7 @@ pub fn show(rt: &impl Abort, out: &mut Vec<u8>, request: Request) {
 }
 
 /// The requests of an input that comes in pieces of a size, in short, and what it ends in.
-pub fn read(rt: &impl Abort, alloc: Global, input: &[u8], size: usize) -> (Vec<u8>, Rest)
+pub(super) fn read(rt: &impl Abort, alloc: Global, input: &[u8], size: usize) -> (Vec<u8>, Rest)
     requires { 0 < size }
 {
     let mut reader = Reader::new(alloc, limits());

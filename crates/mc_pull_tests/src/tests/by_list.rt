@@ -54,7 +54,7 @@ impl<'a> Gate for ByList<'a> {
 }
 
 /// Pulls COLD for an entry to take.
-pub fn evict<R: Abort>(rt: &R, world: &mut World, moment: u64, yes: &[bool]) -> Pulled
+pub(super) fn evict<R: Abort>(rt: &R, world: &mut World, moment: u64, yes: &[bool]) -> Pulled
     requires world { IsWorld world.old.config world.old.class world.old.stripe }
 {
     let alloc = world.alloc;
@@ -79,7 +79,7 @@ pub fn evict<R: Abort>(rt: &R, world: &mut World, moment: u64, yes: &[bool]) -> 
 }
 
 /// Pulls HOT for an entry to force to COLD.
-pub fn force<R: Abort>(rt: &R, world: &mut World, moment: u64, yes: &[bool]) -> Pulled
+pub(super) fn force<R: Abort>(rt: &R, world: &mut World, moment: u64, yes: &[bool]) -> Pulled
     requires world { IsWorld world.old.config world.old.class world.old.stripe }
 {
     let alloc = world.alloc;
@@ -104,7 +104,13 @@ pub fn force<R: Abort>(rt: &R, world: &mut World, moment: u64, yes: &[bool]) -> 
 }
 
 /// Pulls a list by a survey that is made first.
-pub fn pull<R: Abort>(rt: &R, world: &mut World, seg: Seg, moment: u64, yes: &[bool]) -> Pulled
+pub(super) fn pull<R: Abort>(
+    rt: &R,
+    world: &mut World,
+    seg: Seg,
+    moment: u64,
+    yes: &[bool],
+) -> Pulled
     requires world { IsWorld world.old.config world.old.class world.old.stripe }
 {
     let alloc = world.alloc;
@@ -131,7 +137,7 @@ pub fn pull<R: Abort>(rt: &R, world: &mut World, seg: Seg, moment: u64, yes: &[b
 }
 
 /// Makes room, by these answers. It says whether a chunk was found, and after how many looks.
-pub fn room<R: Abort>(rt: &R, world: &mut World, moment: u64, yes: &[bool]) -> (bool, usize)
+pub(super) fn room<R: Abort>(rt: &R, world: &mut World, moment: u64, yes: &[bool]) -> (bool, usize)
     requires world { IsWorld world.old.config world.old.class world.old.stripe }
 {
     let alloc = world.alloc;

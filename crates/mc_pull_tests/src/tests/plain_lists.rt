@@ -18,7 +18,7 @@ pub struct Piece {
 
 impl Piece {
     /// Whether the item is dead at a moment.
-    pub fn is_dead(self, moment: u64) -> bool {
+    pub(super) fn is_dead(self, moment: u64) -> bool {
         match self.dies {
             Some(dies) => dies <= moment,
             None => false,
@@ -68,7 +68,7 @@ fn moved<R: Abort>(rt: &R, alloc: Global, list: &[u64], number: u64, head: bool)
 
 impl Lists {
     /// Four empty lists.
-    pub fn new(alloc: Global) -> Lists {
+    pub(super) fn new(alloc: Global) -> Lists {
         Lists {
             hot: Vec::new(alloc),
             warm: Vec::new(alloc),
@@ -79,7 +79,7 @@ impl Lists {
     }
 
     /// A segment's list.
-    pub fn list(&self, seg: Seg) -> &[u64] {
+    pub(super) fn list(&self, seg: Seg) -> &[u64] {
         match seg {
             Seg::Hot => self.hot.as_slice(),
             Seg::Warm => self.warm.as_slice(),
@@ -89,12 +89,12 @@ impl Lists {
     }
 
     /// What is known of an entry.
-    pub fn piece<R: Abort>(&self, rt: &R, number: u64) -> Piece {
+    pub(super) fn piece<R: Abort>(&self, rt: &R, number: u64) -> Piece {
         *self.pieces.get(number as usize).expect(rt, "an entry")
     }
 
     /// Puts a number to a list's head, or to none, and takes it from where it was.
-    pub fn put<R: Abort>(&mut self, rt: &R, alloc: Global, number: u64, seg: Option<Seg>) {
+    pub(super) fn put<R: Abort>(&mut self, rt: &R, alloc: Global, number: u64, seg: Option<Seg>) {
         let hot = moved(
             rt,
             alloc,
@@ -139,7 +139,7 @@ impl Lists {
     }
 
     /// A survey at a moment.
-    pub fn sums<R: Abort>(&self, rt: &R, moment: u64) -> Sums {
+    pub(super) fn sums<R: Abort>(&self, rt: &R, moment: u64) -> Sums {
         let hot = self.bytes(rt, Seg::Hot);
         let warm = self.bytes(rt, Seg::Warm);
         let cold = self.bytes(rt, Seg::Cold);
@@ -154,7 +154,7 @@ impl Lists {
     }
 
     /// The row of an entry of a segment at a moment.
-    pub fn row<R: Abort>(
+    pub(super) fn row<R: Abort>(
         &self,
         rt: &R,
         number: u64,
@@ -182,7 +182,14 @@ impl Lists {
 
     /// Does what a row says to an entry: it goes with its item, moves to WARM with the moment as its time and its mark
     /// cleared, moves to COLD, or stays.
-    pub fn perform<R: Abort>(&mut self, rt: &R, alloc: Global, number: u64, row: Row, moment: u64) {
+    pub(super) fn perform<R: Abort>(
+        &mut self,
+        rt: &R,
+        alloc: Global,
+        number: u64,
+        row: Row,
+        moment: u64,
+    ) {
         match done_of(row) {
             Done::Reclaimed | Done::Evicted => {
                 self.put(rt, alloc, number, None);
@@ -198,7 +205,7 @@ impl Lists {
     }
 
     /// The item of an entry is in the stripe, or no longer.
-    pub fn set_held(&mut self, number: u64, held: bool) {
+    pub(super) fn set_held(&mut self, number: u64, held: bool) {
         if let Some(piece) = self.pieces.get_mut(number as usize) {
             piece.held = held;
         }
@@ -213,7 +220,7 @@ impl Lists {
     }
 
     /// One more hit of an item; past the second none changes anything.
-    pub fn hit(&mut self, number: u64) {
+    pub(super) fn hit(&mut self, number: u64) {
         if let Some(piece) = self.pieces.get_mut(number as usize) {
             if piece.hits < 2 {
                 piece.hits += 1;

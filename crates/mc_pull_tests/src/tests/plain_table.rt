@@ -31,7 +31,7 @@ pub enum Row {
 }
 
 /// The row of an entry of HOT or WARM that is alive and not active, by a survey.
-pub fn due_row(bytes: u128, limit: u128, age: u128, greatest_age: u128) -> Row {
+pub(super) fn due_row(bytes: u128, limit: u128, age: u128, greatest_age: u128) -> Row {
     if bytes > limit {
         Row::Over
     } else if age > greatest_age {
@@ -47,7 +47,7 @@ pub fn due_row(bytes: u128, limit: u128, age: u128, greatest_age: u128) -> Row {
 
 /// The first row that fits an entry whose item is there, if a list is judged in this way at all. What becomes of an
 /// entry of HOT or WARM that is not active is told by a survey.
-pub fn row_of(seg: Seg, way: Way, dead: bool, active: bool, due: Row) -> Option<Row> {
+pub(super) fn row_of(seg: Seg, way: Way, dead: bool, active: bool, due: Row) -> Option<Row> {
     match (seg, way, dead, active) {
         (_, _, true, _) => Some(Row::Dead),
         (Seg::Hot, _, _, true) => Some(Row::HotActive),
@@ -63,7 +63,7 @@ pub fn row_of(seg: Seg, way: Way, dead: bool, active: bool, due: Row) -> Option<
 }
 
 /// The outcome that a row names.
-pub fn done_of(row: Row) -> Done {
+pub(super) fn done_of(row: Row) -> Done {
     match row {
         Row::Stranger => Done::Stranger,
         Row::Dead => Done::Reclaimed,

@@ -74,7 +74,7 @@ pub struct Game {
 }
 
 /// The next of the numbers below a limit (a linear congruence).
-pub fn roll(dice: &mut u64, many: u64) -> u64
+pub(super) fn roll(dice: &mut u64, many: u64) -> u64
     requires { 0 < many }
     ensures { result < many }
 {
@@ -85,7 +85,11 @@ pub fn roll(dice: &mut u64, many: u64) -> u64
 }
 
 /// A class of two to four chunks, without entries.
-pub fn begun<R: Abort + RandomSource>(rt: &R, alloc: Global, dice: &mut u64) -> Result<Game, Fail> {
+pub(super) fn begun<R: Abort + RandomSource>(
+    rt: &R,
+    alloc: Global,
+    dice: &mut u64,
+) -> Result<Game, Fail> {
     let chunks = 2 + roll(dice, 3);
     let shares = SHARES[roll(dice, 6) as usize];
     let mut config = usual(alloc, chunks)?;
@@ -105,7 +109,7 @@ pub fn begun<R: Abort + RandomSource>(rt: &R, alloc: Global, dice: &mut u64) -> 
 }
 
 /// The letter of the key of an entry.
-pub fn letter_of<R: Abort>(rt: &R, number: u64) -> u8 {
+pub(super) fn letter_of<R: Abort>(rt: &R, number: u64) -> u8 {
     assert!(rt; number < 26);
     b'a' + number as u8
 }
@@ -157,7 +161,7 @@ fn store<R: Abort>(rt: &R, world: &mut World, letter: u8, bytes: u64, exptime: i
 }
 
 /// A new item and its entry.
-pub fn link_one<R: Abort>(rt: &R, game: &mut Game, dice: &mut u64) {
+pub(super) fn link_one<R: Abort>(rt: &R, game: &mut Game, dice: &mut u64) {
     let number = game.world.class.next_number();
     let letter = letter_of(rt, number);
     let bytes = LENGTHS[roll(dice, 4) as usize];
@@ -179,7 +183,7 @@ pub fn link_one<R: Abort>(rt: &R, game: &mut Game, dice: &mut u64) {
 }
 
 /// A hit of some item, or seldom its removal, which leaves its entry alone. Those that are dead are spared.
-pub fn ask_one<R: Abort>(rt: &R, game: &mut Game, dice: &mut u64) {
+pub(super) fn ask_one<R: Abort>(rt: &R, game: &mut Game, dice: &mut u64) {
     let known = game.lists.pieces.len() as u64;
     if known == 0 {
         return;
@@ -228,7 +232,13 @@ fn may_walk(class: &ClassState, seg: Seg, mode: Mode, who: Who, moment: u64) -> 
 }
 
 /// Judges the tail of a list, and tells its number.
-pub fn judge<R: Abort>(rt: &R, world: &mut World, seg: Seg, mode: Mode, moment: u64) -> (u64, Done)
+pub(super) fn judge<R: Abort>(
+    rt: &R,
+    world: &mut World,
+    seg: Seg,
+    mode: Mode,
+    moment: u64,
+) -> (u64, Done)
     requires world { IsWorld world.old.config world.old.class world.old.stripe }
     ensures world { IsWorld world.new.config world.new.class world.new.stripe }
 {

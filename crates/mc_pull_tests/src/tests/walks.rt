@@ -15,7 +15,7 @@ use std::test::Fail;
 
 /// Six items of 66 bytes with these exptimes in a class of this configuration, which has six chunks, juggled at 1000.
 /// COLD has 0 to 4 from its tail, and HOT has 5: a fifth of the bytes is 79.
-pub fn six_of<R: Abort + RandomSource>(
+pub(super) fn six_of<R: Abort + RandomSource>(
     rt: &R,
     alloc: Global,
     config: Config,
@@ -40,7 +40,7 @@ pub fn six_of<R: Abort + RandomSource>(
 }
 
 /// The same with the usual numbers.
-pub fn six<R: Abort + RandomSource>(
+pub(super) fn six<R: Abort + RandomSource>(
     rt: &R,
     alloc: Global,
     exptimes: [i64; 6],
@@ -52,7 +52,7 @@ pub fn six<R: Abort + RandomSource>(
 }
 
 /// How many events the class and the stripe have.
-pub fn events(world: &World) -> (usize, usize) {
+pub(super) fn events(world: &World) -> (usize, usize) {
     (world.class.history().len(), world.stripe.history().len())
 }
 

@@ -36,7 +36,7 @@ fn checked(config: Config) -> Result<Config, Fail>
 }
 
 /// The usual configuration with one slab class of this many chunks of 96 bytes.
-pub fn usual(alloc: Global, chunks: u64) -> Result<Config, Fail> {
+pub(super) fn usual(alloc: Global, chunks: u64) -> Result<Config, Fail> {
     let sizes = Numbers::from_vec(Vec::from_slice(alloc, &[96])?);
     let chunks = Numbers::from_vec(Vec::from_slice(alloc, &[chunks])?);
     let usual = Config::usual(alloc, 1)?;
@@ -48,7 +48,11 @@ pub fn usual(alloc: Global, chunks: u64) -> Result<Config, Fail> {
 }
 
 /// A store of this configuration, which has one stripe.
-pub fn opened<R: Abort + RandomSource>(rt: &R, alloc: Global, config: Config) -> Result<World, Fail>
+pub(super) fn opened<R: Abort + RandomSource>(
+    rt: &R,
+    alloc: Global,
+    config: Config,
+) -> Result<World, Fail>
     ensures { IfOk result (λ w. IsWorld w.config w.class w.stripe) }
 {
     let config = checked(config)?;
@@ -79,7 +83,7 @@ fn gives(event: &StripeEvent, link: Link) -> bool
 }
 
 /// Whether no event gives the link.
-pub fn is_unnamed(events: &[StripeEvent], link: Link) -> bool
+pub(super) fn is_unnamed(events: &[StripeEvent], link: Link) -> bool
     ensures { result ≡ true → IsUnnamed link events.now }
 {
     match events {
@@ -118,7 +122,7 @@ fn is_alive(stripe: &StripeState, key: &Key, moment: u64) -> bool
 }
 
 /// Answers a command on the stripe; a new version gets the next number of the class.
-pub fn ask<R: Abort>(rt: &R, world: &mut World, command: Command, moment: u64)
+pub(super) fn ask<R: Abort>(rt: &R, world: &mut World, command: Command, moment: u64)
     requires world { IsWorld world.old.config world.old.class world.old.stripe }
     ensures world { IsWorld world.new.config world.new.class world.new.stripe }
 {
@@ -135,12 +139,12 @@ pub fn ask<R: Abort>(rt: &R, world: &mut World, command: Command, moment: u64)
 }
 
 /// The key of one letter.
-pub fn key<R: Abort>(rt: &R, alloc: Global, letter: u8) -> Key {
+pub(super) fn key<R: Abort>(rt: &R, alloc: Global, letter: u8) -> Key {
     Key::of(alloc, &[letter]).expect(rt, "a key")
 }
 
 /// Stores an item of 66 bytes under the key of one letter.
-pub fn set<R: Abort>(rt: &R, world: &mut World, letter: u8, exptime: i64, moment: u64)
+pub(super) fn set<R: Abort>(rt: &R, world: &mut World, letter: u8, exptime: i64, moment: u64)
     requires world { IsWorld world.old.config world.old.class world.old.stripe }
     ensures world { IsWorld world.new.config world.new.class world.new.stripe }
 {
@@ -157,7 +161,7 @@ pub fn set<R: Abort>(rt: &R, world: &mut World, letter: u8, exptime: i64, moment
 }
 
 /// Stores such an item and links its entry.
-pub fn store<R: Abort>(rt: &R, world: &mut World, letter: u8, exptime: i64, moment: u64)
+pub(super) fn store<R: Abort>(rt: &R, world: &mut World, letter: u8, exptime: i64, moment: u64)
     requires world { IsWorld world.old.config world.old.class world.old.stripe }
     ensures world { IsWorld world.new.config world.new.class world.new.stripe }
 {
@@ -172,7 +176,7 @@ pub fn store<R: Abort>(rt: &R, world: &mut World, letter: u8, exptime: i64, mome
 }
 
 /// Juggles the class, through a gate that is lent the stripe.
-pub fn juggle<R: Abort>(rt: &R, world: &mut World, moment: u64) -> Moves
+pub(super) fn juggle<R: Abort>(rt: &R, world: &mut World, moment: u64) -> Moves
     requires world { IsWorld world.old.config world.old.class world.old.stripe }
     ensures world { IsWorld world.new.config world.new.class world.new.stripe }
 {
@@ -189,7 +193,7 @@ pub fn juggle<R: Abort>(rt: &R, world: &mut World, moment: u64) -> Moves
 }
 
 /// Asserts the numbers of a list's entries, from its tail.
-pub fn asserts_list<R: Abort>(rt: &R, world: &World, seg: Seg, wanted: &[u64]) {
+pub(super) fn asserts_list<R: Abort>(rt: &R, world: &World, seg: Seg, wanted: &[u64]) {
     let mut numbers = Vec::new(world.alloc);
     for j in 0..world.class.len(seg) {
         let entry = world.class.from_tail(seg, j).expect(rt, "an entry");
@@ -199,7 +203,7 @@ pub fn asserts_list<R: Abort>(rt: &R, world: &World, seg: Seg, wanted: &[u64]) {
 }
 
 /// What a class's last event says.
-pub fn last_of_class(world: &World) -> Result<String, Fail> {
+pub(super) fn last_of_class(world: &World) -> Result<String, Fail> {
     let alloc = world.alloc;
     match world.class.history().last() {
         Some(ClassEvent::Evicted(e)) => {
@@ -231,7 +235,7 @@ pub fn last_of_class(world: &World) -> Result<String, Fail> {
 }
 
 /// What a stripe's last event says.
-pub fn last_of_stripe(world: &World) -> Result<String, Fail> {
+pub(super) fn last_of_stripe(world: &World) -> Result<String, Fail> {
     let alloc = world.alloc;
     match world.stripe.history().last() {
         Some(StripeEvent::Lost(e)) => match e.cause {

@@ -58,7 +58,7 @@ fn room_for(need: Need, events: &[StripeEvent], number: u64, full: bool) -> Opti
 }
 
 /// Whether the key's item is dead at a moment.
-pub fn is_dead(stripe: &StripeState, key: &Key, moment: u64) -> bool
+pub(super) fn is_dead(stripe: &StripeState, key: &Key, moment: u64) -> bool
     ensures { MatchBool result (IsDead ((cache_now stripe.now).items key.now) moment) (IsAlive ((cache_now stripe.now).items key.now) moment) }
 {
     match stripe.find(key) {
@@ -68,7 +68,7 @@ pub fn is_dead(stripe: &StripeState, key: &Key, moment: u64) -> bool
 }
 
 /// Whether the key's item has the mark ACTIVE.
-pub fn is_active(stripe: &StripeState, key: &Key) -> bool
+pub(super) fn is_active(stripe: &StripeState, key: &Key) -> bool
     ensures { result ≡ true → IsSomeAnd ((cache_now stripe.now).items key.now) (λ item. item.marks.active ≡ true) }
 {
     match stripe.find(key) {
@@ -78,7 +78,7 @@ pub fn is_active(stripe: &StripeState, key: &Key) -> bool
 }
 
 /// Whether the key's item has a chunk of class 1.
-pub fn is_of_first(stripe: &StripeState, key: &Key) -> bool
+pub(super) fn is_of_first(stripe: &StripeState, key: &Key) -> bool
     ensures { result ≡ true → IsSomeAnd ((cache_now stripe.now).items key.now) (λ item. item.link.class ≡ record { 0 = 1 }) }
 {
     match stripe.find(key) {
@@ -125,7 +125,7 @@ fn answered(
 }
 
 /// Whether a get of the key `b` is refused since the history is full.
-pub fn is_refused(alloc: Global, stripe: &mut StripeState) -> Result<bool, Fail> {
+pub(super) fn is_refused(alloc: Global, stripe: &mut StripeState) -> Result<bool, Fail> {
     let command = command_of(alloc, Asked::Get)?;
     match answered(alloc, stripe, command, 1000, false) {
         Ok(_) => Ok(false),
@@ -135,7 +135,7 @@ pub fn is_refused(alloc: Global, stripe: &mut StripeState) -> Result<bool, Fail>
 
 /// Answers a get of the key `b` and clears the mark that it leaves, with room that was made for both before: the
 /// second call can't be refused for want of memory.
-pub fn cools_without_memory(alloc: Global, stripe: &mut StripeState) -> Result<bool, Fail> {
+pub(super) fn cools_without_memory(alloc: Global, stripe: &mut StripeState) -> Result<bool, Fail> {
     let command = command_of(alloc, Asked::Get)?;
     let key = b(alloc)?;
     stripe.reserve(2)?;
@@ -158,7 +158,7 @@ pub fn cools_without_memory(alloc: Global, stripe: &mut StripeState) -> Result<b
 }
 
 /// Asks the stripe alone for an answer. Says whether it gave one, or gave the command back.
-pub fn is_answered(
+pub(super) fn is_answered(
     alloc: Global,
     stripe: &mut StripeState,
     asked: Asked,
@@ -173,7 +173,7 @@ pub fn is_answered(
 }
 
 /// Whether the stripe alone refuses a get of the key `b` since the history is full.
-pub fn is_refused_alone(alloc: Global, stripe: &mut StripeState) -> Result<bool, Fail> {
+pub(super) fn is_refused_alone(alloc: Global, stripe: &mut StripeState) -> Result<bool, Fail> {
     let command = command_of(alloc, Asked::Get)?;
     if !stripe.owns(command.key()) {
         return Err(Fail::from("no call"));
@@ -185,7 +185,7 @@ pub fn is_refused_alone(alloc: Global, stripe: &mut StripeState) -> Result<bool,
 }
 
 /// Asserts the text of the reply that the last event notes.
-pub fn asserts_last<R: Abort>(
+pub(super) fn asserts_last<R: Abort>(
     rt: &R,
     alloc: Global,
     stripe: &StripeState,
@@ -207,7 +207,7 @@ pub fn asserts_last<R: Abort>(
 
 /// Asserts what is answered at the moment 1000, and that the stripe and the plain program of the table agree on the
 /// reply and on the item that is left.
-pub fn asserts<R: Abort>(
+pub(super) fn asserts<R: Abort>(
     rt: &R,
     alloc: Global,
     stripe: &mut StripeState,
@@ -226,7 +226,7 @@ pub fn asserts<R: Abort>(
 }
 
 /// Asserts each row in turn: what is asked, whether the class is full, and the reply.
-pub fn asserts_rows<R: Abort>(
+pub(super) fn asserts_rows<R: Abort>(
     rt: &R,
     alloc: Global,
     stripe: &mut StripeState,
@@ -239,7 +239,7 @@ pub fn asserts_rows<R: Abort>(
 }
 
 /// Asserts the text of the item under the key `b`.
-pub fn asserts_item<R: Abort>(
+pub(super) fn asserts_item<R: Abort>(
     rt: &R,
     alloc: Global,
     stripe: &StripeState,

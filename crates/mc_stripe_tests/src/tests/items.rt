@@ -23,7 +23,7 @@ fn is_b_active(alloc: Global, stripe: &StripeState) -> Result<bool, Fail> {
 }
 
 /// Cools the item under the key `b`, which has the mark ACTIVE.
-pub fn cools<R: Abort>(rt: &R, alloc: Global, stripe: &mut StripeState) -> Result<(), Fail> {
+pub(super) fn cools<R: Abort>(rt: &R, alloc: Global, stripe: &mut StripeState) -> Result<(), Fail> {
     let key = b(alloc)?;
     assert!(rt; is_active(stripe, &key));
     stripe.cool(WHO, key)?;

@@ -8,7 +8,7 @@ use mc_item::{
 use std::alloc::Global;
 
 /// An item's text, where there is one.
-pub fn item_text(alloc: Global, found: Option<&Item>) -> Result<String, Fault> {
+pub(super) fn item_text(alloc: Global, found: Option<&Item>) -> Result<String, Fault> {
     match found {
         Some(item) => Ok(format!(in alloc; "{item:?}")?),
         None => Ok(format!(in alloc; "none")?),
@@ -16,7 +16,7 @@ pub fn item_text(alloc: Global, found: Option<&Item>) -> Result<String, Fault> {
 }
 
 /// A reply's text.
-pub fn reply_text(alloc: Global, reply: &Reply) -> Result<String, Fault> {
+pub(super) fn reply_text(alloc: Global, reply: &Reply) -> Result<String, Fault> {
     Ok(format!(in alloc; "{reply:?}")?)
 }
 
@@ -71,12 +71,12 @@ fn makes_version(event: &StripeEvent) -> bool {
 }
 
 /// How many new versions the events made.
-pub fn version_count(events: &[StripeEvent]) -> usize {
+pub(super) fn version_count(events: &[StripeEvent]) -> usize {
     events.iter().filter(|event| makes_version(event)).count()
 }
 
 /// The texts of the reply to a command and of the item that it leaves, after a number of versions.
-pub fn plain(
+pub(super) fn plain(
     alloc: Global,
     versions: u64,
     found: Option<&Item>,
