@@ -14,7 +14,7 @@ use Rattle.mc_board.specs.Steps.{owned_with, Added}
 use Rattle.mc_board.proofs.PrefixLemmas.{same_or_not}
 use Rattle.mc_board.proofs.RuleLemmas.{Law, ledger, word_within, words_apart, added, added_here, added_else, IsBehind-added, known_set, others_added}
 
-appends : (counts : Counts) (slots id : ℕ) (owned : Owned) (e : Event) → length owned.history < 2 ^ 32
+appends : (counts : Counts) (slots id : ℕ) (owned : Owned) (e : Event) → length owned.history + 1 < 2 ^ 64
     → Allows (Law counts) slots id (views.Owner owned, []) owned.word (λ n. (n + 1) % 2 ^ 64) (Added e (step slots owned.word 1 0 none) (views.Owner owned, []))
 appends counts slots id owned e room s k homes at fits =
     let mine : IsOwner (ledger counts s.words k.history k.owner) id owned = k.known id (views.Owner owned) at in
@@ -46,7 +46,7 @@ appends counts slots id owned e room s k homes at fits =
     )
 
 -- the same at a view and a word that are known to be these
-pub appends_as : (counts : Counts) (slots id word : ℕ) (me : Me Unit View) (owned : Owned) (e : Event) → me ≡ (views.Owner owned, []) → owned.word ≡ word → length owned.history < 2 ^ 32
+pub appends_as : (counts : Counts) (slots id word : ℕ) (me : Me Unit View) (owned : Owned) (e : Event) → me ≡ (views.Owner owned, []) → owned.word ≡ word → length owned.history + 1 < 2 ^ 64
     → Allows (Law counts) slots id me word (λ n. (n + 1) % 2 ^ 64) (Added e (step slots word 1 0 none) me)
 appends_as counts slots id word me owned e is there room =
     subst (λ (x : Me Unit View × ℕ). Allows (Law counts) slots id x.0 x.1 (λ n. (n + 1) % 2 ^ 64) (Added e (step slots x.1 1 0 none) x.0)) (λ i. (sym is i, there i)) (appends counts slots id owned e room)

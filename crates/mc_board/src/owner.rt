@@ -1,5 +1,5 @@
 //! The owner of a lock's history.
-ghost use Rattle.std.specs.Prelude.{◌≡◌, ◌<◌, ◌≤◌, ◌^◌, ◌++◌, ◌∷◌, [], length, map};
+ghost use Rattle.std.specs.Prelude.{◌≡◌, ◌<◌, ◌≤◌, ◌+◌, ◌^◌, ◌++◌, ◌∷◌, [], length, map};
 ghost use mathlib.Core.List.{IsPrefix};
 ghost use Rattle.mc_board.specs.Histories.{with_seen, Grows, HasSeen, HasNoted};
 ghost use Rattle.mc_board.specs.Steps.{owned_of, owned_with, owned_told};
@@ -61,11 +61,11 @@ impl Owner {
         }
     }
 
-    /// Adds the event at the end of the history, in one atomic step. The history has fewer than 2^32 events before.
+    /// Adds the event at the end of the history, in one atomic step. The history has fewer than 2^64 - 1 events before.
     /// It takes no memory and waits for nobody.
     pub fn append<E: Logged>(&mut self, board: &Board, event: &E)
         requires board { self.old.board ≡ board.now.table }
-        requires room { length self.old.history < 2 ^ 32 }
+        requires room { length self.old.history + 1 < 2 ^ 64 }
         ensures history { self.new ≡ record self.old {
           history = self.old.history ++ E.entry event.now ∷ [];
         } }
@@ -128,7 +128,7 @@ fn add<N: NamesEvent, E: Logged>(board: &Board, word: usize, place: &mut Place, 
     requires board { place.old.table_id ≡ board.now.table }
     requires owner { place.old.me ≡ (views.Owner (owned_of place.old.me.0), []) }
     requires word { ((owned_of place.old.me.0).word ≡ word) × (word < board.now.table.words) }
-    requires room { length (owned_of place.old.me.0).history < 2 ^ 32 }
+    requires room { length (owned_of place.old.me.0).history + 1 < 2 ^ 64 }
     requires event { N.entry ≡ E.entry event.now }
     ensures place { (place.new.table_id ≡ place.old.table_id) × (place.new.id ≡ place.old.id) }
     ensures added { place.new.me

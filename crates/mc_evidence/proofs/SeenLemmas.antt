@@ -3,7 +3,7 @@ use Rattle.std.proofs.Common.{◌≡◌, ℕ, ◌+◌, ◌-◌, List, [], ◌∷
 use mathlib.Core.List.{IsPrefix}
 use Rattle.mc_item.specs.declared.class_event.ClassEvent.{ClassEvent}
 use Rattle.mc_item.specs.declared.event.Event.{Event}
-use Rattle.mc_item.specs.declared.event.Event.TheVariants.{Stripe, Class}
+use Rattle.mc_item.specs.declared.event.Event.TheVariants.{Stripe, Class, Call}
 use Rattle.mc_item.specs.declared.stripe_event.StripeEvent.{StripeEvent}
 use Rattle.mc_evidence.specs.Locks.{SeesMore}
 use Rattle.mc_evidence.specs.Seen.{class_events, classes_seen, stripe_events, stripes_seen}
@@ -13,12 +13,14 @@ pub class_events-append : (xs ys : List Event) → class_events (xs ++ ys) ≡ c
 class_events-append [] ys = refl
 class_events-append (Stripe e ∷ xs) ys = class_events-append xs ys
 class_events-append (Class e ∷ xs) ys = ap (λ (t : List ClassEvent). e ∷ t) (class_events-append xs ys)
+class_events-append (Call e ∷ xs) ys = class_events-append xs ys
 
 -- and so are the stripe's
 pub stripe_events-append : (xs ys : List Event) → stripe_events (xs ++ ys) ≡ stripe_events xs ++ stripe_events ys
 stripe_events-append [] ys = refl
 stripe_events-append (Stripe e ∷ xs) ys = ap (λ (t : List StripeEvent). e ∷ t) (stripe_events-append xs ys)
 stripe_events-append (Class e ∷ xs) ys = stripe_events-append xs ys
+stripe_events-append (Call e ∷ xs) ys = stripe_events-append xs ys
 
 -- a class's own events are those that its lock was told
 pub class_events-map : (es : List ClassEvent) → class_events (map Class es) ≡ es

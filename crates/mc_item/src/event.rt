@@ -1,4 +1,5 @@
 //! What any history can hold.
+use crate::call_event::CallEvent;
 use crate::class_event::ClassEvent;
 use crate::stripe_event::StripeEvent;
 
@@ -7,6 +8,7 @@ use crate::stripe_event::StripeEvent;
 pub enum Event {
     Stripe(StripeEvent),
     Class(ClassEvent),
+    Call(CallEvent),
 }
 
 /// What can be told to a board of histories: a kind of event.
@@ -26,4 +28,10 @@ impl Logged for ClassEvent {
     ghost use Rattle.mc_item.specs.declared.event.Event.TheVariants.{Class};
 
     ghost entry = { Class };
+}
+
+impl Logged for CallEvent {
+    ghost use Rattle.mc_item.specs.declared.event.Event.TheVariants.{Call};
+
+    ghost entry = { Call };
 }

@@ -4,6 +4,7 @@
 
 mod answer;
 mod answering;
+mod call_event;
 mod class_event;
 mod command;
 mod config;
@@ -23,6 +24,7 @@ mod stripe_event;
 mod value;
 
 pub use answer::{Answer, Change, Need, Site};
+pub use call_event::{Answered, CallEvent};
 pub use class_event::{
     ClassEvent, Evicted, Linked, Reclaimed, Refused, Shifted, Surveyed, Unlinked, Why,
 };

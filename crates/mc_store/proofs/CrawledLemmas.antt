@@ -5,7 +5,7 @@ use mathlib.Core.List.{IsPrefix}
 use Rattle.mc_item.specs.declared.class_event.ClassEvent.{ClassEvent}
 use Rattle.mc_item.specs.declared.config.Config.{Config}
 use Rattle.mc_item.specs.declared.event.Event.{Event}
-use Rattle.mc_item.specs.declared.event.Event.TheVariants.{Class, Stripe}
+use Rattle.mc_item.specs.declared.event.Event.TheVariants.{Call, Class, Stripe}
 use Rattle.mc_item.specs.declared.fault.Fault.{Fault}
 use Rattle.mc_item.specs.declared.item.ClassNo.{ClassNo}
 use Rattle.mc_item.specs.declared.item.Who.{Who}
@@ -22,12 +22,14 @@ use Rattle.mc_store.proofs.ServedLemmas.{map_append}
 reclaims_none : (who : Who) (moment : ℕ) (es : List Event) → HasReclaims who moment 0 es
 reclaims_none who moment [] = refl
 reclaims_none who moment (Stripe e ∷ es) = reclaims_none who moment es
+reclaims_none who moment (Call e ∷ es) = reclaims_none who moment es
 reclaims_none who moment (Class e ∷ es) = inl (reclaims_none who moment es)
 
 -- those of two lists
 reclaims_both : (who : Who) (moment n m : ℕ) (xs ys : List Event) → HasReclaims who moment n xs → HasReclaims who moment m ys → HasReclaims who moment (n + m) (xs ++ ys)
 reclaims_both who moment n m [] ys none more = subst (λ (k : ℕ). HasReclaims who moment k ys) (omega (arith, none)) more
 reclaims_both who moment n m (Stripe e ∷ xs) ys some more = reclaims_both who moment n m xs ys some more
+reclaims_both who moment n m (Call e ∷ xs) ys some more = reclaims_both who moment n m xs ys some more
 reclaims_both who moment n m (Class e ∷ xs) ys (inl some) more = inl (reclaims_both who moment n m xs ys some more)
 reclaims_both who moment n m (Class e ∷ xs) ys (inr t) more =
     let count = t.1.1 in

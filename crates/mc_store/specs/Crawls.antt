@@ -5,7 +5,7 @@ use Rattle.mc_item.specs.declared.class_event.ClassEvent.{ClassEvent}
 use Rattle.mc_item.specs.declared.config.Config.{Config}
 use Rattle.mc_item.specs.declared.counts.Histogram.{Histogram}
 use Rattle.mc_item.specs.declared.event.Event.{Event}
-use Rattle.mc_item.specs.declared.event.Event.TheVariants.{Class, Stripe}
+use Rattle.mc_item.specs.declared.event.Event.TheVariants.{Call, Class, Stripe}
 use Rattle.mc_item.specs.declared.item.ClassNo.{ClassNo}
 use Rattle.mc_item.specs.declared.item.Who.{Who}
 use Rattle.mc_rule.specs.Lists.{count_of, lists_of}
@@ -20,6 +20,7 @@ use Rattle.mc_store.specs.Sides.{class_told}
 abbrev pub HasReclaims : Who → ℕ → ℕ → List Event → Type 0
 HasReclaims who moment many [] = many ≡ 0
 HasReclaims who moment many (Stripe e ∷ es) = HasReclaims who moment many es
+HasReclaims who moment many (Call e ∷ es) = HasReclaims who moment many es
 HasReclaims who moment many (Class e ∷ es) = HasReclaims who moment many es ⊎ (IsReclaim who moment e × ((fewer : ℕ) × (many ≡ fewer + 1) × HasReclaims who moment fewer es))
 
 -- past what a pass had seen of a class it has seen as many such events as a count has risen
