@@ -1,9 +1,6 @@
-pub mod NoteLemmas
 pub mod StandLemmas
 pub mod CallLemmas
-pub mod JuggleLemmas
 pub mod StartLemmas
-pub mod LeftLemmas
 pub mod WordLemmas
 pub mod OptionLemmas
 pub mod ReadingLemmas

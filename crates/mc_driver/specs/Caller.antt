@@ -1,29 +1,31 @@
--- A caller that is alone with a store: where it makes its calls, and what it has left so far.
-use Rattle.std.specs.Prelude.{ℕ, ◌≡◌, ◌≤◌, [], ◌∷◌, length}
+-- A caller of a store that threads share: what its pass knows of its calls so far.
+use Rattle.std.specs.Prelude.{ℕ, ◌<◌, List, [], ◌∷◌}
 use Rattle.mc_item.specs.declared.config.Config.{Config}
-use Rattle.mc_item.specs.declared.item.ClassNo.{ClassNo}
-use Rattle.mc_lone.specs.LoneStore.{Store}
-use Rattle.mc_driver.specs.Called.{AreCalled}
-use Rattle.mc_driver.specs.Stand.{Histories, histories_of}
+use Rattle.mc_board.specs.declared.rule.Sight.{Sight}
+use Rattle.mc_board.specs.Histories.{list_at}
+use Rattle.mc_evidence.specs.Seen.{classes_seen, stripes_seen}
+use Rattle.mc_evidence.specs.Setting.{IsClass}
+use Rattle.mc_script.specs.Exchanges.{Asks, Call, Exchange, Juggles}
+use Rattle.mc_store.specs.Locked.{setting_of}
+use Rattle.mc_store.specs.Passes.{PassView}
+use Rattle.mc_driver.specs.Stand.{Histories, Stand, stripe_number}
 
--- where calls are made: what the store was made with, and how many classes it has
-pub record Place : Type 0 where
-  pub config : Config
-  pub classes : ℕ
+-- the histories of a store as far as a token has seen them
+abbrev pub histories_seen : Config → Sight → Histories
+histories_seen config sight =
+    record { stripes = stripes_seen (list_at sight.seen); classes = classes_seen config.stripes (list_at sight.seen) }
 
--- where the calls on a store are made
-abbrev pub place_of : Store → Place
-place_of store = record { config = store.config; classes = length store.classes }
+-- a call's stripe or class is there
+abbrev pub IsPlaced : Config → Call → Type 0
+IsPlaced config (Asks command) = stripe_number config.stripes command < config.stripes
+IsPlaced config (Juggles class) = IsClass (setting_of config) class
 
--- there is a class of this number
-abbrev pub HasClass : Place → ClassNo → Type 0
-HasClass place class = (1 ≤ class.0) × (class.0 ≤ place.classes)
+-- each of these calls' is
+abbrev pub ArePlaced : Config → List Exchange → Type 0
+ArePlaced config [] = Unit {0}
+ArePlaced config (call ∷ calls) = IsPlaced config call.call × ArePlaced config calls
 
--- the histories of a store of one stripe
-abbrev pub lone_histories : Store → Histories
-lone_histories store = histories_of (store.stripe ∷ []) store.classes
-
--- a call may be made: the store has one stripe, and no call before was broken off
-pub record IsCallable (store : Store) : Type 0 where
-  pub one : store.config.stripes ≡ 1
-  pub whole : AreCalled store.config (lone_histories store) store.stripe.history
+-- these calls, with their answers, stand in what the caller's pass has seen
+pub record AreNoted (config : Config) (pass : PassView) (calls : List Exchange) : Type 0 where
+  pub placed : ArePlaced config calls
+  pub stand : Stand config (histories_seen config pass.sight) calls

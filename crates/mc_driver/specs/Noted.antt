@@ -1,4 +1,4 @@
--- What the histories of a store note: exchanges, each where it was answered, and whose all other events are (own).
+-- What the histories of a store note: exchanges, each where it was answered (own).
 use Rattle.std.specs.Prelude.{ℕ, ◌≡◌, List, [], ◌∷◌, ◌++◌}
 use Rattle.std.specs.List.{flat_map}
 use Rattle.mc_item.specs.declared.class_event.ClassEvent.{ClassEvent}
@@ -32,22 +32,6 @@ exchanges_noted (events.Cooled cooled) = []
 -- the exchanges that a stripe's history notes, oldest first
 abbrev pub exchanges_in : List StripeEvent → List Exchange
 exchanges_in history = flat_map exchanges_noted history
-
--- who made an event
-abbrev pub who_of : StripeEvent → Who
-who_of (events.Did did) = did.who
-who_of (events.Lost lost) = lost.who
-who_of (events.Cooled cooled) = cooled.who
-
--- one caller made each of these events
-abbrev pub AreBy : ℕ → List StripeEvent → Type 0
-AreBy caller [] = Unit {0}
-AreBy caller (e ∷ es) = ((who_of e).caller ≡ caller) × AreBy caller es
-
--- a stripe's history notes just these exchanges, and one caller made all that stands there
-pub record IsOf (caller : ℕ) (history : List StripeEvent) (calls : List Exchange) : Type 0 where
-  pub noted : exchanges_in history ≡ calls
-  pub by : AreBy caller history
 
 -- the event of a command that was answered
 abbrev pub answered_event : Who → Command → ℕ → Reply → Room → StripeEvent

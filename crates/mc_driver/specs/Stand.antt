@@ -1,6 +1,6 @@
--- A caller's calls in the histories of a store: each stands there, and what it is to be alone with them (own).
-use Rattle.std.specs.Prelude.{ℕ, zero, suc, ◌≡◌, ◌<◌, Bool, false, List, [], ◌∷◌, Option, Some, None, nat_eq}
-use Rattle.std.specs.List.{filter, slice_get}
+-- A caller's calls in the histories of a store: each stands there, and they are all that it made (own).
+use Rattle.std.specs.Prelude.{ℕ, ◌≡◌, ◌<◌, Bool, false, List, [], ◌∷◌, nat_eq}
+use Rattle.std.specs.List.{filter}
 use Rattle.mc_item.specs.Command.{key_of}
 use Rattle.mc_item.specs.Measure.{stripe_of}
 use Rattle.mc_item.specs.declared.class_event.ClassEvent.{ClassEvent}
@@ -11,34 +11,12 @@ use Rattle.mc_item.specs.declared.item.Who.{Who}
 use Rattle.mc_item.specs.declared.stripe_event.StripeEvent.{StripeEvent}
 use Rattle.mc_proto.specs.Answers.{Answer, Moved, Replied}
 use Rattle.mc_script.specs.Exchanges.{Asks, Call, Exchange, Juggles}
-use Rattle.mc_segment.specs.ClassState.{ClassView}
-use Rattle.mc_driver.specs.Noted.{IsOf, NotesCommand, NotesJuggling, exchanges_in}
-use Rattle.mc_stripe.specs.StripeState.{Stripe}
+use Rattle.mc_driver.specs.Noted.{NotesCommand, NotesJuggling, exchanges_in}
 
 -- the histories of a store: of its stripes, by their numbers from 0, and of its classes, by theirs from 1
 pub record Histories : Type 0 where
   pub stripes : ℕ → List StripeEvent
   pub classes : ClassNo → List ClassEvent
-
--- the history of a stripe, where it is there
-abbrev pub history_of : Option Stripe → List StripeEvent
-history_of None = []
-history_of (Some stripe) = stripe.history
-
--- the history of a class, where it is there
-abbrev pub class_history_of : Option ClassView → List ClassEvent
-class_history_of None = []
-class_history_of (Some class) = class.history
-
--- the history of the class of this number, of classes that are numbered from 1
-abbrev pub class_history_in : List ClassView → ℕ → List ClassEvent
-class_history_in classes zero = []
-class_history_in classes (suc place) = class_history_of (slice_get classes place)
-
--- the histories of these stripes and classes
-abbrev pub histories_of : List Stripe → List ClassView → Histories
-histories_of stripes classes =
-    record { stripes = λ number. history_of (slice_get stripes number); classes = λ number. class_history_in classes number.0 }
 
 -- the number of a command's stripe, of so many: that of its key
 abbrev pub stripe_number : ℕ → Command → ℕ
@@ -78,13 +56,7 @@ calls_by caller history = filter (λ call. nat_eq call.who.caller caller) (excha
 pub record AreOnly (stripes caller : ℕ) (histories : Histories) (calls : List Exchange) : Type 0 where
   pub at : (number : ℕ) → number < stripes → calls_by caller (histories.stripes number) ≡ calls_at stripes number calls
 
--- the history of each stripe notes just those of these calls that are the stripe's commands, and all there is the caller's
-pub record AreAll (stripes caller : ℕ) (histories : Histories) (calls : List Exchange) : Type 0 where
-  pub at : (number : ℕ) → number < stripes → IsOf caller (histories.stripes number) (calls_at stripes number calls)
-
--- what is known of a caller's calls where nobody else makes any: they stand, of the caller there are only these, and
--- of anyone there are only these
-pub record AreAlone (config : Config) (caller : ℕ) (histories : Histories) (calls : List Exchange) : Type 0 where
+-- what is known of a caller's calls, whoever else makes any: they stand, and of the caller there are only these
+pub record AreItsCalls (config : Config) (caller : ℕ) (histories : Histories) (calls : List Exchange) : Type 0 where
   pub stand : Stand config histories calls
   pub only : AreOnly config.stripes caller histories calls
-  pub all : AreAll config.stripes caller histories calls

@@ -1,9 +1,9 @@
 //! Scripts of requests from bytes to bytes, and the program round them.
 #![tactic(auto)]
 
+mod caller;
 mod fault;
 mod help;
-mod lone;
 mod memory;
 mod plans;
 mod program;
@@ -12,7 +12,8 @@ mod words;
 
 pub use fault::RunFault;
 pub use mc_script::{Outcome, Source, SourceFault};
+pub use mc_store::Final;
 pub use plans::{Options, Plan, PlanFault, plan_for};
 pub use program::run_words;
-pub use running::{Final, Run, run_scripts};
+pub use running::{Run, run_scripts};
 pub use words::{WordsFault, read_words};

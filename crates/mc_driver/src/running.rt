@@ -1,66 +1,27 @@
 //! Runs of scripts, and what they leave.
 ghost use Rattle.std.specs.Prelude.{◌≡◌, ◌≢◌, ◌<◌, ◌≤◌, List, ◌∷◌, ◌++◌, [], ℕ, IfOk, IfErr, Some, None, length, slice_index_or};
-ghost use Rattle.std.specs.List.{slice_get};
 ghost use Rattle.mc_item.specs.Config.{fault_of, IsBounded, IsSound};
-ghost use Rattle.mc_item.specs.Stripe.{IsLegal};
-ghost use Rattle.mc_lone.specs.LoneSteps.{class_in};
-ghost use Rattle.mc_lone.specs.LoneStore.{AreTogether, IsNew};
-ghost use Rattle.mc_segment.specs.ClassState.{ClassView};
-ghost use Rattle.mc_driver.specs.Called.{AreWholeTurns};
-ghost use Rattle.mc_driver.specs.Run.{HasFull, IsAccepted, IsClass, IsRefused, IsStore, histories_left, limits_of, with_callers};
-ghost use Rattle.mc_driver.specs.Stand.{AreAlone};
+ghost use Rattle.mc_board.specs.Histories.{blind};
+ghost use Rattle.mc_board.specs.Views.{AreOwners, locks_of};
+ghost use Rattle.mc_store.specs.Locked.{locks_for};
+ghost use Rattle.mc_driver.specs.Run.{HasFull, IsAccepted, IsRefused, IsStore, histories_left, limits_of, with_callers};
+ghost use Rattle.mc_driver.specs.Stand.{AreItsCalls};
 ghost use Rattle.mc_script.specs.Run.{AreCounted, Leaves};
 ghost use Rattle.mc_script.specs.declared.outcome.Outcome.{Outcome};
 ghost use Rattle.mc_script.specs.declared.outcome.Outcome.TheVariants as outcomes;
 ghost use Rattle.mc_driver.specs.declared.fault.RunFault.TheVariants as faults;
 
+use crate::caller::Caller;
 use crate::fault::RunFault;
-use crate::lone::Lone;
-use mc_item::{ClassNo, Config, NoMemory, StripeNo};
-use mc_lone::LoneStore;
+use mc_board::{Board, Owner, Seen};
+use mc_item::{Config, NoMemory};
 use mc_proto::{Limits, Sink};
 use mc_script::{Both, Outcome, Source, run_script};
-use mc_segment::ClassState;
-use mc_stripe::StripeState;
+use mc_store::{Final, Named, Store};
 use std::alloc::Global;
 use std::hash::RandomState;
-use std::marker::Model;
+use std::marker::Brand;
 use std::sync::Wait;
-
-/// What a run leaves of the store: its stripes, in the order of their numbers, and its slab classes, in the order of
-/// theirs.
-#[derive(Drop)]
-pub struct Final {
-    store: LoneStore,
-}
-
-impl Model for Final {
-    ghost use Rattle.mc_driver.specs.Run.{Remains, remains_of};
-
-    ghost Value = { Remains };
-
-    ghost view = { λ f. remains_of f.store };
-}
-
-impl Final {
-    /// The stripe of this number, as the run left it. There are as many as the run's configuration has, numbered from 0.
-    pub fn stripe(&self, number: StripeNo) -> &StripeState
-        requires { number.0 < length self.now.stripes }
-        ensures { slice_get self.now.stripes number.0 ≡ Some result.now }
-    {
-        let _ = number;
-        self.store.stripe()
-    }
-
-    /// The slab class of this number, as the run left it. There are as many as the run's configuration has sizes, numbered
-    /// from 1.
-    pub fn class(&self, number: ClassNo) -> &ClassState
-        requires { (1 ≤ number.0) × (number.0 ≤ length self.now.classes) }
-        ensures { (other : ClassView) → result.now ≡ class_in self.now.classes number other }
-    {
-        self.store.class(number)
-    }
-}
 
 /// What a run of scripts leaves: the store, how each script ended, then how the maintainer and the crawler did, and
 /// the sources and sinks in order.
@@ -69,18 +30,6 @@ pub struct Run<S: Drop, K: Drop> {
     pub ledger: Final,
     pub outcomes: Vec<Outcome>,
     pub ends: Vec<(S, K)>,
-}
-
-// The only script's calls: caller 0 at a new store, before its first turn.
-fn first_calls(alloc: Global, config: Config, seed: RandomState) -> Result<Lone, NoMemory>
-    requires sound { IsSound config }
-    requires bounded { IsBounded config }
-    requires stripes { config.stripes ≡ 1 }
-    ensures caller { IfOk result (λ calls. (calls.caller ≡ 0) × (calls.turn ≡ 0)) }
-    ensures store { IfOk result (λ calls. IsNew config calls.store) }
-{
-    let store = LoneStore::new(alloc, config, seed)?;
-    Ok(Lone::new(alloc, store, 0))
 }
 
 // The limits of a configuration's requests.
@@ -95,66 +44,77 @@ fn limits_for(config: &Config) -> Limits
     }
 }
 
-// The configuration for one script, where it is sound and has one stripe.
+// The configuration for one script, where it is sound.
 fn checked(config: Config) -> Result<Config, RunFault>
-    ensures ok { IfOk result (λ c. (c ≡ with_callers config) × (c.stripes ≡ 1) × (fault_of c ≡ None) × IsBounded c) }
-    ensures err { IfErr result (λ e. (e ≡ faults.Configuration) × (fault_of (with_callers config) ≡ None → config.stripes ≢ 1)) }
+    ensures ok { IfOk result (λ c. (c ≡ with_callers config) × (fault_of c ≡ None) × IsBounded c) }
+    ensures err { IfErr result (λ e. (e ≡ faults.Configuration) × (fault_of (with_callers config) ≢ None)) }
 {
     let mut config = config;
     config.callers = 3;
     match config.check() {
-        Ok(config) => {
-            if config.stripes == 1 {
-                Ok(config)
-            } else {
-                Err(RunFault::Configuration)
-            }
-        }
+        Ok(config) => Ok(config),
         Err(_) => Err(RunFault::Configuration),
     }
 }
 
-// One class of a store has a lawful history, and its entries are the items of it.
-fn class_holds(store: &LoneStore, number: ClassNo)
-    requires sized { (1 ≤ number.0) × (number.0 ≤ length store.now.classes) }
-    ensures { (other : ClassView) → IsClass number store.now.stripe (class_in store.now.classes number other) }
+// The board for a store of a configuration.
+fn board_for(alloc: Global, config: &Config) -> Result<(Board, Vec<Owner>, Seen), NoMemory>
+    requires { IsBounded config.now }
+    ensures locks { IfOk result (λ r. locks_of r.0.counts ≡ locks_for config.now) }
+    ensures owners { IfOk result (λ r. AreOwners r.0.table (locks_for config.now) r.1.items) }
+    ensures seen { IfOk result (λ r. r.2 ≡ record { board = r.0.table; sight = blind }) }
 {
-    store.law(number);
+    Board::open(
+        alloc,
+        config.stripes as usize + config.sizes.as_slice().len(),
+    )
 }
 
-// All classes of a store do, and stripe and classes are together.
-fn store_holds(store: &LoneStore)
-    requires some { 0 < length store.now.classes }
-    requires few { length store.now.classes ≤ 63 }
-    ensures together { AreTogether store.now.config store.now.stripe store.now.classes }
-    ensures legal { IsLegal store.now.stripe.site store.now.stripe.history }
-    ensures each { (number : ClassNo) (other : ClassView) → 1 ≤ number.0 → number.0 ≤ length store.now.classes
-        → IsClass number store.now.stripe (class_in store.now.classes number other) }
-{
-    store.law(ClassNo(1));
-    for place in 0..store.classes() {
-        class_holds(store, ClassNo(place as u32 + 1));
-    }
+// What one script leaves: the store, and how the script ended.
+#[derive(Drop)]
+struct Left {
+    ledger: Final,
+    outcome: Outcome,
 }
 
-// The store that a caller leaves.
-fn left(calls: Lone) -> LoneStore
-    requires some { 0 < length calls.store.classes }
-    requires few { length calls.store.classes ≤ 63 }
-    ensures same { result ≡ calls.store }
-    ensures together { AreTogether result.config result.stripe result.classes }
-    ensures legal { IsLegal result.stripe.site result.stripe.history }
-    ensures each { (number : ClassNo) (other : ClassView) → 1 ≤ number.0 → number.0 ≤ length result.classes
-        → IsClass number result.stripe (class_in result.classes number other) }
+// Runs one script as caller 0 of a new store, on a board and with a configuration that N names, and closes the store.
+fn run_named<N: Named, S: Source, K: Sink>(
+    rt: &impl Wait,
+    alloc: Global,
+    config: Config,
+    board: Board,
+    owners: Vec<Owner>,
+    seen: Seen,
+    seed: RandomState,
+    ends: &mut Both<S, K>,
+) -> Result<Left, NoMemory>
+    requires board { board ≡ N.board }
+    requires config { (config ≡ N.config) × IsBounded N.config × IsSound N.config }
+    requires locks { locks_of N.board.counts ≡ locks_for N.config }
+    requires owners { AreOwners N.board.table (locks_for N.config) owners.items }
+    requires seen { seen ≡ record { board = N.board.table; sight = blind } }
+    requires callers { 0 < N.config.callers }
+    ensures leaves { IfOk result (λ left. Leaves left.outcome (limits_of N.config) (S.coming ends.old.source) (S.coming ends.new.source)
+        (K.taken ends.old.sink) (K.taken ends.new.sink) (AreItsCalls N.config 0 (histories_left left.ledger)) 0) }
+    ensures counted { IfOk result (λ left. AreCounted left.outcome (S.failures ends.old.source) (S.failures ends.new.source)
+        (K.failures ends.old.sink) (K.failures ends.new.sink)) }
+    ensures full { IfOk result (λ left. left.outcome ≡ outcomes.HistoryFull → HasFull N.config (histories_left left.ledger)) }
+    ensures store { IfOk result (λ left. IsStore N.config left.ledger) }
 {
-    let store = calls.into_store();
-    store_holds(&store);
-    store
+    let limits = limits_for(&config);
+    let (store, mut passes) = Store::<N>::open(alloc, config, board, owners, seen, seed)?;
+    let pass = passes.remove(0);
+    let mut calls = Caller::new(alloc, &store, pass);
+    let outcome = run_script(rt, alloc, limits, &mut calls, ends);
+    let mut pass = calls.into_pass();
+    let mut ledger = store.close(rt);
+    ledger.compare(&mut pass);
+    Ok(Left { ledger, outcome })
 }
 
-/// Runs scripts against a store of this configuration, whose number of callers is set here: one script for now, one
-/// stripe with all slab classes, and no upkeep. Each script's bytes come from its source, and its replies go to its sink. `seed` is that of the
-/// store's hash; no reply depends on it.
+/// Runs scripts against a store of this configuration, whose number of callers is set here: one script for now, and no
+/// upkeep. Each script's bytes come from its source, and its replies go to its sink. `seed` is that of the store's hash;
+/// no reply depends on it.
 pub fn run_scripts<S: Source, K: Sink>(
     rt: &impl Wait,
     alloc: Global,
@@ -172,15 +132,13 @@ pub fn run_scripts<S: Source, K: Sink>(
     ensures leaves { IfOk result (λ run. (i : ℕ) (ends : S × K) (outcome : Outcome) → i < length scripts.items
         → Leaves (slice_index_or run.outcomes.items i outcome) (limits_of config)
         (S.coming (slice_index_or scripts.items i ends).0) (S.coming (slice_index_or run.ends.items i ends).0)
-        (K.taken (slice_index_or scripts.items i ends).1) (K.taken (slice_index_or run.ends.items i ends).1) (AreAlone (with_callers config) i (histories_left run.ledger)) i) }
+        (K.taken (slice_index_or scripts.items i ends).1) (K.taken (slice_index_or run.ends.items i ends).1) (AreItsCalls (with_callers config) i (histories_left run.ledger)) i) }
     ensures counted { IfOk result (λ run. (i : ℕ) (ends : S × K) (outcome : Outcome) → i < length scripts.items
         → AreCounted (slice_index_or run.outcomes.items i outcome)
         (S.failures (slice_index_or scripts.items i ends).0) (S.failures (slice_index_or run.ends.items i ends).0)
         (K.failures (slice_index_or scripts.items i ends).1) (K.failures (slice_index_or run.ends.items i ends).1)) }
     ensures full { IfOk result (λ run. (i : ℕ) (outcome : Outcome) → i < length scripts.items
         → slice_index_or run.outcomes.items i outcome ≡ outcomes.HistoryFull → HasFull config (histories_left run.ledger)) }
-    ensures whole { IfOk result (λ run. (i : ℕ) (outcome : Outcome) → i < length scripts.items
-        → slice_index_or run.outcomes.items i outcome ≡ outcomes.Done → AreWholeTurns (with_callers config) (histories_left run.ledger)) }
 
     // What else the run leaves: the outcomes of upkeep behind those of the scripts, and the store.
     ensures outcomes { IfOk result (λ run. (own : List Outcome) × (length own ≡ length scripts.items) × (run.outcomes.items ≡ own ++ outcomes.Done ∷ outcomes.Done ∷ [])) }
@@ -193,18 +151,18 @@ pub fn run_scripts<S: Source, K: Sink>(
     }
     let config = checked(config)?;
     let mut outcomes = Vec::with_capacity(alloc, 3)?;
+    let (board, owners, seen) = board_for(alloc, &config)?;
     let (source, sink) = scripts.pop().unwrap();
-    let limits = limits_for(&config);
-    let mut calls = first_calls(alloc, config, seed)?;
     let mut ends = Both { source, sink };
-    let outcome = run_script(rt, alloc, limits, &mut calls, &mut ends);
+    let left = run_named::<Brand, S, K>(
+        rt, alloc, config, board, owners, seen, seed, &mut ends,
+    )?;
     scripts.push_reserved((ends.source, ends.sink));
-    outcomes.push_reserved(outcome);
+    outcomes.push_reserved(left.outcome);
     outcomes.push_reserved(Outcome::Done);
     outcomes.push_reserved(Outcome::Done);
-    let store = left(calls);
     Ok(Run {
-        ledger: Final { store },
+        ledger: left.ledger,
         outcomes,
         ends: scripts,
     })

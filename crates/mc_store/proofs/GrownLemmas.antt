@@ -1,8 +1,9 @@
 -- A class whose history grew under its lock, as the pass sees it that made the call.
-use Rattle.std.proofs.Common.{◌≡◌, ◌<◌, ◌+◌, ℕ, List, Result, Ok, Err, sym, ap, ◌∙◌, subst, inl, inr, length}
+use Rattle.std.proofs.Common.{◌≡◌, ◌<◌, ◌+◌, ◌++◌, ℕ, List, Result, Ok, Err, sym, ap, ◌∙◌, subst, inl, inr, length}
 use Rattle.std.specs.Prelude.{IfErr, IfOk}
 use mathlib.Core.List.{IsPrefix}
 use Rattle.atomic_table.specs.Seated.{TableId}
+use Rattle.mc_item.specs.declared.class_event.ClassEvent.{ClassEvent}
 use Rattle.mc_item.specs.declared.config.Config.{Config}
 use Rattle.mc_item.specs.declared.counts.Moves.{Moves}
 use Rattle.mc_item.specs.declared.fault.Fault.{Fault}
@@ -62,5 +63,11 @@ module _ (table : TableId) (config : Config) (class : ClassNo) (before after : S
   -- the class was juggled
   pub juggled_so : (who : Who) (moment : ℕ) (r : Result Moves Fault)
       → IfOk r (λ moves. (xs : List Answer) × IsJuggle (rounds old.class who moment config) old.class.history xs new.class.history moves) → IfOk r (IsJuggledBy config class before after who moment)
-  juggled_so who moment (Ok moves) made = record { old = old.class; history = new.class.history; answers = made.0; grew = class_grew; juggle = made.1 }
+  juggled_so who moment (Ok moves) made = record {
+        old = old.class;
+        own = grows.events;
+        answers = made.0;
+        grew = subst (IsSeenGrowOf config class before after old.class) grows.history_is class_grew;
+        juggle = subst (λ (history : List ClassEvent). IsJuggle (rounds old.class who moment config) old.class.history made.0 history moves) grows.history_is made.1;
+      }
   juggled_so who moment (Err fault) made = tt

@@ -1,4 +1,3 @@
-pub mod Callers
 pub mod Naming
 pub mod Sides
 pub mod Locked

@@ -1,0 +1,95 @@
+//! A caller of a store that threads share, as what answers its calls.
+ghost use Rattle.std.specs.Prelude.{◌≡◌, ◌<◌, ◌-◌, ◌^◌, OnOk, IfErr};
+ghost use Rattle.mc_item.specs.declared.fault.Fault.TheVariants.{NoMemory};
+
+use mc_item::{ClassNo, Command, Fault, Moves, Reply};
+use mc_script::Calls;
+use mc_store::{Named, Pass, Store};
+use std::alloc::Global;
+use std::sync::Wait;
+
+/// A caller of a store, with its pass. The reply to its last command is kept.
+#[derive(Drop)]
+pub(crate) struct Caller<'a, N: Named> {
+    alloc: Global,
+    store: &'a Store<N>,
+    pass: Pass<N>,
+    last: Option<Reply>,
+}
+
+impl<'a, N: Named> Caller<'a, N> {
+    /// The caller of a pass.
+    pub fn new(alloc: Global, store: &'a Store<N>, pass: Pass<N>) -> Caller<'a, N>
+        ensures pass { result.pass ≡ pass }
+    {
+        Caller {
+            alloc,
+            store,
+            pass,
+            last: None,
+        }
+    }
+
+    /// The pass, as the caller leaves it.
+    pub fn into_pass(self) -> Pass<N>
+        ensures { result ≡ self.pass }
+    {
+        self.pass
+    }
+
+    // Goes on where the pass has a turn left. Nobody has had 2^64 - 1 turns; who had would find no memory for one more.
+    fn check_turn(&self) -> Result<(), Fault>
+        ensures left { OnOk result (self.now.pass.turn < 2 ^ 64 - 1) }
+        ensures full { IfErr result (λ fault. fault ≡ NoMemory) }
+    {
+        if self.pass.next_who().turn == u64::MAX {
+            return Err(Fault::NoMemory);
+        }
+        Ok(())
+    }
+}
+
+impl<'a, N: Named> Calls for Caller<'a, N> {
+    ghost use Rattle.mc_item.specs.declared.config.Config.{Config};
+    ghost use Rattle.mc_evidence.specs.Setting.{IsClass};
+    ghost use Rattle.mc_store.specs.Locked.{setting_of};
+    ghost use Rattle.mc_store.specs.Serving.{HasSeenShort};
+    ghost use Rattle.mc_driver.specs.Caller.{AreNoted};
+
+    ghost Place = { Config };
+
+    ghost place = { λ s. N.config };
+
+    ghost has_class = { λ config class. IsClass (setting_of config) class };
+
+    ghost caller = { λ s. s.pass.caller };
+
+    ghost turn = { λ s. s.pass.turn };
+
+    ghost notes = { λ s calls. AreNoted N.config s.pass calls };
+
+    ghost last = { λ s. s.last };
+
+    ghost is_full = { λ s. HasSeenShort N.config s.pass.sight };
+
+    ghost may_call = { λ s. Unit {0} };
+
+    fn command(&mut self, rt: &impl Wait, command: Command, moment: u64) -> Result<(), Fault> {
+        self.check_turn()?;
+        let reply = self
+            .store
+            .command(self.alloc, rt, &mut self.pass, command, moment)?;
+        self.last = Some(reply);
+        Ok(())
+    }
+
+    fn juggle(&mut self, rt: &impl Wait, class: ClassNo, moment: u64) -> Result<Moves, Fault> {
+        self.check_turn()?;
+        self.store
+            .juggle(self.alloc, rt, &mut self.pass, class, moment)
+    }
+
+    fn reply(&self) -> &Reply {
+        self.last.as_ref().unwrap()
+    }
+}
