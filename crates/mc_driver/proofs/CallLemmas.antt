@@ -1,7 +1,8 @@
 -- What a call on a store that threads share leaves of what its pass knows.
-use Rattle.std.proofs.Common.{◌≡◌, ◌<◌, ◌≤◌, ℕ, List, [], ◌∷◌, ◌++◌, sym, ap, ◌∙◌, append-nil, subst}
+use Rattle.std.proofs.Common.{◌≡◌, ◌<◌, ◌≤◌, ℕ, List, [], ◌∷◌, ◌++◌, Result, Ok, Err, refl, sym, ap, ◌∙◌, append-nil, subst}
+use Rattle.std.specs.Prelude.{IfOk, OnErr, Some}
 use mathlib.Core.List.{IsPrefix}
-use mathlib.Core.Nat.{mod-lt}
+use Rattle.std.proofs.Math.Nat.{mod-lt}
 use Rattle.mc_item.specs.Command.{key_of}
 use Rattle.mc_item.specs.Measure.{fnv1a}
 use Rattle.mc_item.specs.declared.class_event.ClassEvent.{ClassEvent}
@@ -9,6 +10,7 @@ use Rattle.mc_item.specs.declared.command.Command.{Command}
 use Rattle.mc_item.specs.declared.config.Config.{Config}
 use Rattle.mc_item.specs.declared.counts.Moves.{Moves}
 use Rattle.mc_item.specs.declared.event.Event.{Event}
+use Rattle.mc_item.specs.declared.fault.Fault.{Fault}
 use Rattle.mc_item.specs.declared.item.ClassNo.{ClassNo}
 use Rattle.mc_item.specs.declared.item.Who.{Who}
 use Rattle.mc_item.specs.declared.reply.Reply.{Reply}
@@ -115,3 +117,21 @@ none_adds config old new grows = record {
     stand = stand_later config _ _ calls (seen_grow config old.sight new.sight grows) noted.placed noted.stand;
   });
 }
+
+-- as a call answers it: a reply is noted
+pub replied_ok : (config : Config) (old new : PassView) (command : Command) (moment : ℕ) (reply : Reply) → 0 < config.stripes → Grows old.sight new.sight
+    → IsRepliedBy config (stripe_number config.stripes command) old.sight new.sight (record { caller = old.caller; turn = old.turn }) command moment reply
+    → (r : Reply) × (Some reply ≡ Some r) × Adds (AreNoted config old) (AreNoted config new) (exchange old.caller old.turn (Asks command) moment (Replied r) ∷ [])
+replied_ok config old new command moment reply some grows by = (reply, refl, replied_adds config old new command moment reply some grows by)
+
+-- juggling is noted where it was done
+pub juggled_ok : (config : Config) (old new : PassView) (class : ClassNo) (moment : ℕ) (r : Result Moves Fault) → IsClass (setting_of config) class → Grows old.sight new.sight
+    → IfOk r (IsJuggledBy config class old.sight new.sight (record { caller = old.caller; turn = old.turn }) moment)
+    → IfOk r (λ moves. Adds (AreNoted config old) (AreNoted config new) (exchange old.caller old.turn (Juggles class) moment (Moved moves) ∷ []))
+juggled_ok config old new class moment (Ok moves) is grows by = juggled_adds config old new class moment moves is grows by
+juggled_ok config old new class moment (Err fault) is grows by = tt
+
+-- and whatever went wrong adds none
+pub failed : {T : Type 0} (config : Config) (old new : PassView) (r : Result T Fault) → Grows old.sight new.sight → OnErr r (Adds (AreNoted config old) (AreNoted config new) [])
+failed config old new (Ok x) grows = tt
+failed config old new (Err fault) grows = none_adds config old new grows

@@ -1,6 +1,6 @@
 -- How a run starts, and what it leaves.
 use Rattle.std.proofs.Common.{◌≡◌, ◌<◌, ℕ, List, [], ◌∷◌, ◌++◌, refl, ap, ◌∙◌, arith}
-use Rattle.std.specs.Prelude.{Option, Some, None, Result, Ok, Err, MatchOption, option_to_list, slice_index_or, take}
+use Rattle.std.specs.Prelude.{Option, Some, None, Result, Ok, Err, MatchOption, option_to_list, slice_get, slice_index_or, take}
 use Rattle.mc_item.specs.declared.config.Config.{Config}
 use Rattle.mc_item.specs.declared.config.ConfigFault.{ConfigFault}
 use Rattle.mc_script.specs.declared.outcome.Outcome.{Outcome}
@@ -30,3 +30,8 @@ pub outcomes_are : (none own more all : List Outcome) (o : Outcome) → none ≡
     → all ≡ o ∷ outcomes.Done ∷ outcomes.Done ∷ []
 outcomes_are none own more all o is own_is more_is all_is =
     all_is ∙ ap (λ (xs : List Outcome). xs ++ outcomes.Done ∷ []) (more_is ∙ ap (λ (xs : List Outcome). xs ++ outcomes.Done ∷ []) (own_is ∙ ap (λ (xs : List Outcome). xs ++ o ∷ []) is))
+
+-- what is taken from the front of a list is what stands there first
+pub first_taken : {X : Type 0} (xs : List X) (x first : X) → x ≡ slice_index_or xs 0 x → slice_get xs 0 ≡ Some first → x ≡ first
+first_taken [] x first is none = absurd (cc)
+first_taken (y ∷ ys) x first is some = let same : y ≡ first = cc in is ∙ same

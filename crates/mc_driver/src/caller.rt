@@ -32,7 +32,7 @@ impl<'a, N: Named> Caller<'a, N> {
 
     /// The pass, as the caller leaves it.
     pub fn into_pass(self) -> Pass<N>
-        ensures { result ≡ self.pass }
+        ensures { result ≡ self.entry.pass }
     {
         self.pass
     }
@@ -50,6 +50,7 @@ impl<'a, N: Named> Caller<'a, N> {
 }
 
 impl<'a, N: Named> Calls for Caller<'a, N> {
+    ghost use Rattle.std.specs.Prelude.{◌<◌};
     ghost use Rattle.mc_item.specs.declared.config.Config.{Config};
     ghost use Rattle.mc_evidence.specs.Setting.{IsClass};
     ghost use Rattle.mc_store.specs.Locked.{setting_of};
@@ -72,7 +73,7 @@ impl<'a, N: Named> Calls for Caller<'a, N> {
 
     ghost is_full = { λ s. HasSeenShort N.config s.pass.sight };
 
-    ghost may_call = { λ s. Unit {0} };
+    ghost may_call = { λ s. 0 < N.config.stripes };
 
     fn command(&mut self, rt: &impl Wait, command: Command, moment: u64) -> Result<(), Fault> {
         self.check_turn()?;

@@ -93,7 +93,7 @@ fn run_named<N: Named, S: Source, K: Sink>(
     requires locks { locks_of N.board.counts ≡ locks_for N.config }
     requires owners { AreOwners N.board.table (locks_for N.config) owners.items }
     requires seen { seen ≡ record { board = N.board.table; sight = blind } }
-    requires callers { 0 < N.config.callers }
+    requires callers { with_callers N.config ≡ N.config }
     ensures leaves { IfOk result (λ left. Leaves left.outcome (limits_of N.config) (S.coming ends.old.source) (S.coming ends.new.source)
         (K.taken ends.old.sink) (K.taken ends.new.sink) (AreItsCalls N.config 0 (histories_left left.ledger)) 0) }
     ensures counted { IfOk result (λ left. AreCounted left.outcome (S.failures ends.old.source) (S.failures ends.new.source)

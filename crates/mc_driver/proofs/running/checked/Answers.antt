@@ -5,7 +5,7 @@ use Rattle.mc_driver.specs.Run.{with_callers}
 use Rattle.mc_driver.proofs.StartLemmas.{check_passed}
 use Rattle.mc_driver.proofs.running.checked.Goals as goal
 
-pub returns-clause-ok : goal.returns-clause-ok
-returns-clause-ok c =
+pub returns-in-Ok-clause-ok : goal.returns-in-Ok-clause-ok
+returns-in-Ok-clause-ok c =
     let passed = check_passed (with_callers c.args.config) c.in-Ok.config c.check.result (fault_of (with_callers c.args.config)) c.in-Ok.is c.check.ensures.fault in
-    (passed.1, c.if-config-eq1.true, subst (λ (d : Config). fault_of d ≡ None) (sym passed.1) passed.0, c.in-Ok.ensures.bounded)
+    (passed.1, subst (λ (d : Config). fault_of d ≡ None) (sym passed.1) passed.0, c.in-Ok.ensures.bounded)

@@ -1,0 +1,69 @@
+-- What is known of a script's calls may be said by another fact that follows.
+use Rattle.std.proofs.Common.{◌≡◌, ℕ, List, inl, inr, subst}
+use Rattle.mc_item.specs.declared.fault.Fault.{Fault}
+use Rattle.mc_proto.specs.declared.request.Limits.{Limits}
+use Rattle.mc_script.specs.Exchanges.{Exchange}
+use Rattle.mc_script.specs.Run.{HasBroken, HasRun, HasRunTo, HasStarved, HasStopped, Leaves}
+use Rattle.mc_script.specs.declared.outcome.Outcome.{Outcome}
+use Rattle.mc_script.specs.declared.outcome.Outcome.TheVariants.{Done, Memory, HistoryFull, Input, Output}
+
+module _ (limits : Limits) (start taken : List ℕ) (notes notes' : List Exchange → Type 0) (caller : ℕ) (follows : (calls : List Exchange) → notes calls → notes' calls) where
+  run_as : (bytes : List ℕ) → HasRun limits bytes start taken notes caller → HasRun limits bytes start taken notes' caller
+  run_as bytes run = record {
+    requests = run.requests;
+    rest = run.rest;
+    answered = run.answered;
+    reads = run.reads;
+    asked = run.asked;
+    whole = run.whole;
+    texts = run.texts;
+    calls = follows _ run.calls;
+  }
+
+  run_to_as : (bytes left : List ℕ) → HasRunTo limits bytes left start taken notes caller → HasRunTo limits bytes left start taken notes' caller
+  run_to_as bytes left to = record { came = to.came; split = to.split; run = run_as to.came to.run }
+
+  starved_as : (bytes left : List ℕ) → HasStarved limits bytes left start taken notes caller → HasStarved limits bytes left start taken notes' caller
+  starved_as bytes left starved = record { piece = starved.piece; run = run_to_as bytes _ starved.run }
+
+  stopped_as : (fault : Fault) (bytes left : List ℕ) → HasStopped fault limits bytes left start taken notes caller → HasStopped fault limits bytes left start taken notes' caller
+  stopped_as fault bytes left stopped = record {
+    answered = stopped.answered;
+    request = stopped.request;
+    back = stopped.back;
+    read = stopped.read;
+    whole = stopped.whole;
+    texts = stopped.texts;
+    answers = stopped.answers;
+    part = stopped.part;
+    kinds = stopped.kinds;
+    calls = follows _ stopped.calls;
+  }
+
+  broken_as : (bytes left : List ℕ) → HasBroken limits bytes left start taken notes caller → HasBroken limits bytes left start taken notes' caller
+  broken_as bytes left broken = record {
+    answered = broken.answered;
+    back = broken.back;
+    read = broken.read;
+    whole = broken.whole;
+    texts = broken.texts;
+    more = broken.more;
+    part = broken.part;
+    calls = follows _ broken.calls;
+  }
+
+  -- what a run leaves, by how it ended
+  leaves_as : (outcome : Outcome) (bytes left : List ℕ) → Leaves outcome limits bytes left start taken notes caller → Leaves outcome limits bytes left start taken notes' caller
+  leaves_as Done bytes left leaves = run_as bytes leaves
+  leaves_as Input bytes left leaves = run_to_as bytes left leaves
+  leaves_as Memory bytes left (inl stopped) = inl (stopped_as _ bytes left stopped)
+  leaves_as Memory bytes left (inr starved) = inr (starved_as bytes left starved)
+  leaves_as HistoryFull bytes left leaves = stopped_as _ bytes left leaves
+  leaves_as Output bytes left leaves = broken_as bytes left leaves
+
+-- the same for limits and a caller that are known to be these
+pub leaves_known : (limits limits' : Limits) (caller caller' : ℕ) (notes notes' : List Exchange → Type 0) (outcome : Outcome) (bytes left start taken : List ℕ) → limits' ≡ limits → caller' ≡ caller
+    → ((calls : List Exchange) → notes calls → notes' calls) → Leaves outcome limits' bytes left start taken notes caller' → Leaves outcome limits bytes left start taken notes' caller
+leaves_known limits limits' caller caller' notes notes' outcome bytes left start taken same_limits same_caller follows leaves =
+    leaves_as limits start taken notes notes' caller follows outcome bytes left
+    (subst (λ (k : ℕ). Leaves outcome limits bytes left start taken notes k) same_caller (subst (λ (l : Limits). Leaves outcome l bytes left start taken notes caller') same_limits leaves))

@@ -1,0 +1,145 @@
+-- What a run leaves: the closed store, and what the caller's pass has seen of it.
+use Rattle.std.proofs.Common.{◌≡◌, ◌<◌, ◌≤◌, ◌+◌, ◌-◌, ℕ, zero, suc, List, Option, Some, None, length, refl, sym, ap, ◌∙◌, subst, arith, inl, inr}
+use Rattle.std.proofs.lemmas.Bool.{cases_lt}
+use Rattle.std.specs.List.{slice_get}
+use mathlib.Core.List.{IsPrefix}
+use Rattle.mc_item.specs.declared.answer.Site.{Site}
+use Rattle.mc_item.specs.declared.class_event.ClassEvent.{ClassEvent}
+use Rattle.mc_item.specs.declared.config.Config.{Config}
+use Rattle.mc_item.specs.declared.event.Event.{Event}
+use Rattle.mc_item.specs.declared.item.ClassNo.{ClassNo}
+use Rattle.mc_item.specs.declared.stripe_event.StripeEvent.{StripeEvent}
+use Rattle.mc_board.specs.Histories.{list_at}
+use Rattle.mc_board.specs.declared.rule.Sight.{Sight}
+use Rattle.mc_board.proofs.PrefixLemmas.{prefix_length}
+use Rattle.mc_evidence.specs.Seen.{class_events, stripe_events}
+use Rattle.mc_evidence.specs.Setting.{IsClass}
+use Rattle.mc_evidence.specs.Sound.{IsSoundStore}
+use Rattle.mc_evidence.proofs.SeenLemmas.{class_events-map, classes_grow, stripe_events-map, stripes_grow}
+use Rattle.mc_item.specs.Stripe.{IsLegal}
+use Rattle.mc_pull.specs.Question.{IsClassOf}
+use Rattle.mc_script.specs.Exchanges.{Exchange}
+use Rattle.mc_store.specs.Finals.{AreClasses, AreExactlyEntries, AreStripes, FinalView, IsBehindClasses, IsBehindStripes, class_histories, class_history, stripe_histories, stripe_history}
+use Rattle.mc_store.specs.Locked.{class_lock, locks_for, setting_of}
+use Rattle.mc_store.specs.Passes.{PassView}
+use Rattle.mc_store.specs.Serving.{HasSeenShort}
+use Rattle.mc_store.specs.Sides.{ClassSide, StripeSide, class_told, stripe_told}
+use Rattle.mc_store.proofs.PlaceLemmas.{get_some}
+use Rattle.mc_store.proofs.ServedLemmas.{map_length}
+use Rattle.mc_driver.specs.Caller.{AreNoted, histories_seen}
+use Rattle.mc_driver.specs.Run.{HasFull, HasFullClass, HasFullStripe, IsClass as IsClassOfRun, IsStore, IsStripe, histories_left, with_callers}
+use Rattle.mc_driver.specs.Stand.{AreItsCalls, Histories, Stand}
+use Rattle.mc_driver.proofs.StandLemmas.{Grow, stand_later}
+
+-- what begins a stripe's history on the board shows a beginning of it
+stripe_begins : (list : List Event) (es : List StripeEvent) → IsPrefix list (stripe_told es) → IsPrefix (stripe_events list) es
+stripe_begins list es p = subst (IsPrefix (stripe_events list)) (stripe_events-map es) (stripes_grow (λ lock. list) (λ lock. stripe_told es) (λ lock. p) 0)
+
+-- and of a class's
+class_begins : (list : List Event) (es : List ClassEvent) → IsPrefix list (class_told es) → IsPrefix (class_events list) es
+class_begins list es p = subst (IsPrefix (class_events list)) (class_events-map es) (classes_grow 0 (λ lock. list) (λ lock. class_told es) (λ lock. p) (record { 0 = 0 }))
+
+-- a site by its parts
+site_is : (s : Site) (stripe stripes : ℕ) (sizes : List ℕ) → s.stripe ≡ stripe → s.stripes ≡ stripes → s.sizes ≡ sizes → s ≡ record { stripe = stripe; stripes = stripes; sizes = sizes }
+site_is s stripe stripes sizes a b c = site_parts s.stripe stripe s.stripes stripes s.sizes sizes a b c
+  where
+    site_of_parts : ℕ → ℕ → List ℕ → Site
+    site_of_parts x y z = record { stripe = x; stripes = y; sizes = z }
+
+    site_parts : (x x' y y' : ℕ) (z z' : List ℕ) → x ≡ x' → y ≡ y' → z ≡ z' → site_of_parts x y z ≡ site_of_parts x' y' z'
+    site_parts x x' y y' z z' xx yy zz = ap (λ q. site_of_parts q y z) xx ∙ ap (λ q. site_of_parts x' q z) yy ∙ ap (λ q. site_of_parts x' y' q) zz
+
+module _ (config : Config) (final : FinalView) (all : AreStripes final.board config final.stripes) (all_classes : AreClasses final.board config final.classes) where
+  -- the store is all of its stripes and classes
+  pub store_left : IsSoundStore (setting_of config) (stripe_histories final.stripes) (class_histories final.classes)
+      → AreExactlyEntries (setting_of config) (stripe_histories final.stripes) (class_histories final.classes) → with_callers config ≡ config → IsStore config final
+  store_left sound entries same = record {
+    count = all.many;
+    each = λ number s found.
+        let under = all.each number s found in
+        let site = site_is s.stripe.site number config.stripes config.sizes under.number_is under.kept.made_with.stripes under.kept.made_with.sizes in
+        record {
+          site = site;
+          limit = under.kept.made_with.limit;
+          legal = subst (λ (x : Site). IsLegal x s.stripe.history) (sym site)
+              (subst (λ (k : ℕ). IsLegal (record { stripe = k; stripes = config.stripes; sizes = config.sizes }) s.stripe.history) under.number_is under.kept.keeps.legal);
+        };
+    classes = all_classes.many;
+    each_class = λ place c found.
+        let under = all_classes.each place c found in
+        record { number_is = ap (λ (n : ℕ). record { 0 = n }) under.number_is; made_with = subst (λ (k : Config). IsClassOf k c.class) (sym same) under.kept.made_with };
+    sound = sound;
+    entries = entries;
+  }
+
+  module _ (sight : Sight) (behind : IsBehindStripes sight final.stripes) (behind_of : IsBehindClasses sight final.classes) where
+    stripe_seen : (number : ℕ) → number < config.stripes → IsPrefix (list_at sight.seen number) (stripe_told (stripe_histories final.stripes number))
+    stripe_seen number below =
+        let g = get_some final.stripes number (omega (arith, below, all.many)) in
+        let under = all.each number g.0 g.1 in
+        let lock : g.0.lock ≡ number = under.kept.lock_is ∙ under.number_is in
+        subst (λ (o : Option StripeSide). IsPrefix (list_at sight.seen number) (stripe_told (stripe_history o))) (sym g.1)
+        (subst (λ (k : ℕ). IsPrefix (list_at sight.seen k) (stripe_told g.0.stripe.history)) lock (behind.each number g.0 g.1).seen)
+
+    class_seen : (class : ClassNo) → IsClass (setting_of config) class → IsPrefix (list_at sight.seen (class_lock config class)) (class_told (class_histories final.classes class))
+    class_seen class is =
+        let g = get_some final.classes (class.0 - 1) (omega (arith, is.0, is.1, all_classes.many)) in
+        let under = all_classes.each (class.0 - 1) g.0 g.1 in
+        let same : g.0.class.number.0 ≡ class.0 = under.number_is ∙ omega (arith, is.0) in
+        let lock : g.0.lock ≡ class_lock config class = under.kept.lock_is ∙ ap (λ (n : ℕ). config.stripes + (n - 1)) same in
+        subst (λ (o : Option ClassSide). IsPrefix (list_at sight.seen (class_lock config class)) (class_told (class_history o))) (sym g.1)
+        (subst (λ (k : ℕ). IsPrefix (list_at sight.seen k) (class_told g.0.class.history)) lock (behind_of.each (class.0 - 1) g.0 g.1).seen)
+
+    -- what the pass has seen of it is a beginning
+    pub left_grows : Grow config (histories_seen config sight) (histories_left final)
+    left_grows = record {
+      stripes = λ number below. stripe_begins (list_at sight.seen number) (stripe_histories final.stripes number) (stripe_seen number below);
+      classes = λ class is. class_begins (list_at sight.seen (class_lock config class)) (class_histories final.classes class) (class_seen class is);
+    }
+
+    -- and where it has seen that a history is short of places, it is
+    pub left_full : HasSeenShort config sight → HasFull config (histories_left final)
+    left_full short = elim (cases_lt short.lock config.stripes) [
+      | inl below ↦
+          let long : length (list_at sight.seen short.lock) ≤ length (stripe_histories final.stripes short.lock) =
+          subst (λ (n : ℕ). length (list_at sight.seen short.lock) ≤ n) (map_length _ (stripe_histories final.stripes short.lock)) (prefix_length _ _ (stripe_seen short.lock below)) in
+          inl (record { number = short.lock; below = below; full = omega (arith, short.short, long) })
+      | inr past ↦
+          let class : ClassNo = record { 0 = suc (short.lock - config.stripes) } in
+          let first : 1 ≤ class.0 = omega arith in
+          let last : class.0 ≤ length config.sizes = omega (arith, short.of, past) in
+          let lock : class_lock config class ≡ short.lock = omega (arith, past) in
+          let seen = subst (λ (k : ℕ). IsPrefix (list_at sight.seen k) (class_told (class_histories final.classes class))) lock (class_seen class (first, last)) in
+          let long : length (list_at sight.seen short.lock) ≤ length (class_histories final.classes class) =
+          subst (λ (n : ℕ). length (list_at sight.seen short.lock) ≤ n) (map_length _ (class_histories final.classes class)) (prefix_length _ _ seen) in
+          inr (record { number = class; first = first; last = last; full = omega (arith, short.short, long) })
+    ]
+
+    -- the calls that the pass has noted stand in it
+    pub left_calls : (pass : PassView) → pass.sight ≡ sight → (calls : List Exchange) → AreNoted config pass calls → AreItsCalls config pass.caller (histories_left final) calls
+    left_calls pass is calls noted = record {
+      stand = stand_later config (histories_seen config sight) (histories_left final) calls left_grows noted.placed
+          (subst (λ (t : Sight). Stand config (histories_seen config t) calls) is noted.stand);
+    }
+
+-- a store of the configuration with its callers is one of the configuration
+pub store_as : (config used : Config) (final : FinalView) → used ≡ with_callers config → IsStore used final → IsStore config final
+store_as config used final is store =
+    let s : IsStore (with_callers config) final = subst (λ (k : Config). IsStore k final) is store in
+    record {
+      count = s.count;
+      each = λ number x found. let here = s.each number x found in record { site = here.site; limit = here.limit; legal = here.legal };
+      classes = s.classes;
+      each_class = λ place c found. let here = s.each_class place c found in record { number_is = here.number_is; made_with = here.made_with };
+      sound = s.sound;
+      entries = s.entries;
+    }
+
+-- and one of its histories is short of places where one of that one's is
+pub full_as : (config used : Config) (histories : Histories) → used ≡ with_callers config → HasFull used histories → HasFull config histories
+full_as config used histories is (inl stripe) =
+    let s : HasFullStripe (with_callers config) histories = subst (λ (k : Config). HasFullStripe k histories) is stripe in
+    inl (record { number = s.number; below = s.below; full = s.full })
+full_as config used histories is (inr class) =
+    let s : HasFullClass (with_callers config) histories = subst (λ (k : Config). HasFullClass k histories) is class in
+    inr (record { number = s.number; first = s.first; last = s.last; full = s.full })

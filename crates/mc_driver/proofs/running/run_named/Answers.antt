@@ -1,0 +1,76 @@
+use Rattle.std.proofs.Common.{◌≡◌, ◌<◌, ℕ, List, sym, ap, ◌∙◌, subst, arith}
+use Rattle.mc_item.specs.declared.config.Config.{Config}
+use Rattle.mc_board.specs.declared.rule.Sight.{Sight}
+use Rattle.mc_script.specs.Exchanges.{Exchange}
+use Rattle.mc_evidence.specs.Sound.{IsSoundStore}
+use Rattle.mc_store.specs.Finals.{AreClasses, AreExactlyEntries, AreStripes, FinalView, IsBehindClasses, IsBehindStripes, class_histories, stripe_histories}
+use Rattle.mc_store.specs.Locked.{setting_of}
+use Rattle.mc_store.specs.Passes.{PassView, new_pass}
+use Rattle.mc_store.specs.Serving.{HasSeenShort}
+use Rattle.mc_driver.specs.Caller.{AreNoted}
+use Rattle.mc_driver.specs.Run.{histories_left, limits_of}
+use Rattle.mc_driver.specs.Stand.{AreItsCalls}
+use Rattle.mc_driver.proofs.LeavesLemmas.{leaves_known}
+use Rattle.mc_driver.proofs.LeftLemmas.{left_calls, left_full, store_left}
+use Rattle.mc_driver.proofs.StartLemmas.{first_taken}
+use Rattle.mc_driver.proofs.running.run_named.Goals as goal
+
+pub returns-clause-store : goal.returns-clause-store
+returns-clause-store g c =
+    let config = g.N.Named.config in
+    let final = c.compare.new.self in
+    let closed : final ≡ c.close-ledger.result = c.compare.ensures.same.0 in
+    let table = ap (λ (f : FinalView). f.board) closed ∙ c.close-ledger.ensures.board in
+    let all : AreStripes final.board config final.stripes =
+    subst (λ (f : FinalView). AreStripes final.board config f.stripes) (sym closed) (subst (λ t. AreStripes t config c.close-ledger.result.stripes) (sym table) c.close-ledger.ensures.stripes) in
+    let all_classes : AreClasses final.board config final.classes =
+    subst (λ (f : FinalView). AreClasses final.board config f.classes) (sym closed) (subst (λ t. AreClasses t config c.close-ledger.result.classes) (sym table) c.close-ledger.ensures.classes) in
+    let parts : IsSoundStore (setting_of config) (stripe_histories final.stripes) (class_histories final.classes) × AreExactlyEntries (setting_of config) (stripe_histories final.stripes) (class_histories final.classes) =
+    subst (λ (f : FinalView). IsSoundStore (setting_of config) (stripe_histories f.stripes) (class_histories f.classes) × AreExactlyEntries (setting_of config) (stripe_histories f.stripes) (class_histories f.classes))
+    (sym closed) (c.close-ledger.ensures.sound, c.close-ledger.ensures.entries) in
+    store_left config final all all_classes parts.0 parts.1 c.requires.callers
+
+pub returns-clause-leaves : goal.returns-clause-leaves
+returns-clause-leaves g c =
+    let config = g.N.Named.config in
+    let final = c.compare.new.self in
+    let closed : final ≡ c.close-ledger.result = c.compare.ensures.same.0 in
+    let table = ap (λ (f : FinalView). f.board) closed ∙ c.close-ledger.ensures.board in
+    let all : AreStripes final.board config final.stripes =
+    subst (λ (f : FinalView). AreStripes final.board config f.stripes) (sym closed) (subst (λ t. AreStripes t config c.close-ledger.result.stripes) (sym table) c.close-ledger.ensures.stripes) in
+    let all_classes : AreClasses final.board config final.classes =
+    subst (λ (f : FinalView). AreClasses final.board config f.classes) (sym closed) (subst (λ t. AreClasses t config c.close-ledger.result.classes) (sym table) c.close-ledger.ensures.classes) in
+    let pass : PassView = c.run_script-outcome.new.calls.pass in
+    let left : c.into_pass-pass.result ≡ pass = c.into_pass-pass.ensures in
+    let sight : Sight = c.into_pass-pass.result.sight in
+    let behind : IsBehindStripes sight final.stripes = subst (λ (f : FinalView). IsBehindStripes sight f.stripes) (sym closed) c.compare.ensures.stripes in
+    let behind_of : IsBehindClasses sight final.classes = subst (λ (f : FinalView). IsBehindClasses sight f.classes) (sym closed) c.compare.ensures.classes in
+    let three : config.callers ≡ 3 = ap (λ (k : Config). k.callers) (sym c.requires.callers) in
+    let first : c.new-calls.result.pass ≡ new_pass 0 =
+    c.new-calls.ensures.pass ∙ first_taken c.in_ok-store.passes.items c.remove-pass.result (new_pass 0) c.remove-pass.ensures.value (c.in_ok-store.ensures.passes.each 0 (omega (arith, three))) in
+    let number : c.new-calls.result.pass.caller ≡ 0 = ap (λ (p : PassView). p.caller) first in
+    let same : pass.caller ≡ 0 = c.run_script-outcome.ensures.caller ∙ number in
+    let limits : c.limits_for-limits.result ≡ limits_of config = c.limits_for-limits.ensures ∙ ap limits_of c.requires.config.0 in
+    let follows : (calls : List Exchange) → AreNoted config pass calls → AreItsCalls config 0 (histories_left final) calls =
+    λ calls noted. subst (λ (k : ℕ). AreItsCalls config k (histories_left final) calls) same
+    (left_calls config final all all_classes sight behind behind_of pass (ap (λ (p : PassView). p.sight) (sym left)) calls noted) in
+    leaves_known (limits_of config) c.limits_for-limits.result 0 c.new-calls.result.pass.caller (AreNoted config pass) (AreItsCalls config 0 (histories_left final)) c.run_script-outcome.result
+    (g.S.Source.coming c.args.ends.now.source) (g.S.Source.coming c.run_script-outcome.new.ends.source) (g.K.Sink.taken c.args.ends.now.sink) (g.K.Sink.taken c.run_script-outcome.new.ends.sink)
+    limits number follows c.run_script-outcome.ensures.leaves
+
+pub returns-clause-full : goal.returns-clause-full
+returns-clause-full g c = λ is.
+    let config = g.N.Named.config in
+    let final = c.compare.new.self in
+    let closed : final ≡ c.close-ledger.result = c.compare.ensures.same.0 in
+    let table = ap (λ (f : FinalView). f.board) closed ∙ c.close-ledger.ensures.board in
+    let all : AreStripes final.board config final.stripes =
+    subst (λ (f : FinalView). AreStripes final.board config f.stripes) (sym closed) (subst (λ t. AreStripes t config c.close-ledger.result.stripes) (sym table) c.close-ledger.ensures.stripes) in
+    let all_classes : AreClasses final.board config final.classes =
+    subst (λ (f : FinalView). AreClasses final.board config f.classes) (sym closed) (subst (λ t. AreClasses t config c.close-ledger.result.classes) (sym table) c.close-ledger.ensures.classes) in
+    let pass : PassView = c.run_script-outcome.new.calls.pass in
+    let left : c.into_pass-pass.result ≡ pass = c.into_pass-pass.ensures in
+    let sight : Sight = c.into_pass-pass.result.sight in
+    let behind : IsBehindStripes sight final.stripes = subst (λ (f : FinalView). IsBehindStripes sight f.stripes) (sym closed) c.compare.ensures.stripes in
+    let behind_of : IsBehindClasses sight final.classes = subst (λ (f : FinalView). IsBehindClasses sight f.classes) (sym closed) c.compare.ensures.classes in
+    left_full config final all all_classes sight behind behind_of (subst (λ (p : PassView). HasSeenShort config p.sight) (sym left) (c.run_script-outcome.ensures.full is))
