@@ -1,5 +1,6 @@
 pub mod StandLemmas
 pub mod CallLemmas
+pub mod OnlyLemmas
 pub mod LeavesLemmas
 pub mod LeftLemmas
 pub mod StartLemmas

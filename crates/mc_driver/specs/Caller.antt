@@ -1,6 +1,9 @@
 -- A caller of a store that threads share: what its pass knows of its calls so far.
-use Rattle.std.specs.Prelude.{ℕ, ◌<◌, List, [], ◌∷◌}
+use Rattle.std.specs.Prelude.{ℕ, ◌≡◌, ◌<◌, ◌≤◌, ◌+◌, List, [], ◌∷◌, Some, slice_get}
 use Rattle.mc_item.specs.declared.config.Config.{Config}
+use Rattle.mc_item.specs.declared.stripe_event.Did.{Did}
+use Rattle.mc_item.specs.declared.stripe_event.StripeEvent.{StripeEvent}
+use Rattle.mc_item.specs.declared.stripe_event.StripeEvent.TheVariants as events
 use Rattle.mc_board.specs.declared.rule.Sight.{Sight}
 use Rattle.mc_board.specs.Histories.{list_at}
 use Rattle.mc_evidence.specs.Seen.{classes_seen, stripes_seen}
@@ -8,6 +11,7 @@ use Rattle.mc_evidence.specs.Setting.{IsClass}
 use Rattle.mc_script.specs.Exchanges.{Asks, Call, Exchange, Juggles}
 use Rattle.mc_store.specs.Locked.{setting_of}
 use Rattle.mc_store.specs.Passes.{PassView}
+use Rattle.mc_driver.specs.Noted.{exchange_of}
 use Rattle.mc_driver.specs.Stand.{Histories, Stand, stripe_number}
 
 -- the histories of a store as far as a token has seen them
@@ -24,6 +28,25 @@ IsPlaced config (Juggles class) = IsClass (setting_of config) class
 abbrev pub ArePlaced : Config → List Exchange → Type 0
 ArePlaced config [] = Unit {0}
 ArePlaced config (call ∷ calls) = IsPlaced config call.call × ArePlaced config calls
+
+-- at this place of a stripe's history stands the answer to a call of this caller
+pub record IsAt (history : List StripeEvent) (caller place : ℕ) (call : Exchange) : Type 0 where
+  pub did : Did
+  pub there : slice_get history place ≡ Some (events.Did did)
+  pub call_is : exchange_of did ≡ call
+  pub by : did.who.caller ≡ caller
+
+-- at these places, in order, stand the answers to these calls
+abbrev pub AreAt : List StripeEvent → ℕ → List ℕ → List Exchange → Type 0
+AreAt history caller [] [] = Unit {0}
+AreAt history caller (place ∷ places) (call ∷ calls) = IsAt history caller place call × AreAt history caller places calls
+AreAt history caller [] (call ∷ calls) = ⊥
+AreAt history caller (place ∷ places) [] = ⊥
+
+-- these numbers rise, from this one on
+abbrev pub AreRising : ℕ → List ℕ → Type 0
+AreRising from [] = Unit {0}
+AreRising from (number ∷ numbers) = (from ≤ number) × AreRising (number + 1) numbers
 
 -- these calls, with their answers, stand in what the caller's pass has seen
 pub record AreNoted (config : Config) (pass : PassView) (calls : List Exchange) : Type 0 where
