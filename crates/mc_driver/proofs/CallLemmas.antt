@@ -1,10 +1,13 @@
 -- What a call on a store that threads share leaves of what its pass knows.
-use Rattle.std.proofs.Common.{◌≡◌, ◌<◌, ◌≤◌, ℕ, List, [], ◌∷◌, ◌++◌, Result, Ok, Err, refl, sym, ap, ◌∙◌, append-nil, subst}
-use Rattle.std.specs.Prelude.{IfOk, OnErr, Some}
+use Rattle.std.proofs.Common.{◌≡◌, ◌<◌, ◌≤◌, ℕ, List, [], ◌∷◌, ◌++◌, Result, Ok, Err, refl, sym, ap, ◌∙◌, append-nil, subst, arith, length, length-append}
+use Rattle.std.specs.Prelude.{Bool, IfOk, OnErr, Some, cond, nat_eq, true}
+use Rattle.std.specs.List.{slice_get}
+use Rattle.std.proofs.lemmas.List.Elements.{filter-append}
 use mathlib.Core.List.{IsPrefix}
 use Rattle.std.proofs.Math.Nat.{mod-lt}
 use Rattle.mc_item.specs.Command.{key_of}
 use Rattle.mc_item.specs.Measure.{fnv1a}
+use Rattle.mc_item.specs.declared.call_event.CallEvent.{CallEvent}
 use Rattle.mc_item.specs.declared.class_event.ClassEvent.{ClassEvent}
 use Rattle.mc_item.specs.declared.command.Command.{Command}
 use Rattle.mc_item.specs.declared.config.Config.{Config}
@@ -14,9 +17,12 @@ use Rattle.mc_item.specs.declared.fault.Fault.{Fault}
 use Rattle.mc_item.specs.declared.item.ClassNo.{ClassNo}
 use Rattle.mc_item.specs.declared.item.Who.{Who}
 use Rattle.mc_item.specs.declared.reply.Reply.{Reply}
+use Rattle.mc_item.specs.declared.stripe_event.Did.{Did}
 use Rattle.mc_item.specs.declared.stripe_event.StripeEvent.{StripeEvent}
+use Rattle.mc_item.specs.declared.stripe_event.StripeEvent.TheVariants as events
 use Rattle.mc_board.specs.Histories.{Grows, list_at}
 use Rattle.mc_board.specs.declared.rule.Sight.{Sight}
+use Rattle.mc_board.proofs.PrefixLemmas.{prefix_length}
 use Rattle.mc_evidence.specs.Seen.{class_events, stripe_events}
 use Rattle.mc_evidence.specs.Setting.{IsClass}
 use Rattle.mc_evidence.proofs.SeenLemmas.{class_events-map, classes_grow, stripe_events-map, stripes_grow}
@@ -26,15 +32,18 @@ use Rattle.mc_pull.specs.Performed.{cooled_if}
 use Rattle.mc_pull.specs.Rounds.{Rounds, rounds}
 use Rattle.mc_rule.specs.Segment.{Rule}
 use Rattle.mc_script.specs.Calls.{Adds}
-use Rattle.mc_script.specs.Exchanges.{Asks, Juggles, exchange}
+use Rattle.mc_script.specs.Exchanges.{Asks, Exchange, Juggles, exchange}
 use Rattle.mc_segment.specs.ClassState.{ClassView, chunks_for, class_view, opened}
+use Rattle.mc_store.specs.Callers.{answered_at}
 use Rattle.mc_store.specs.Calls.{IsJuggledBy, IsRepliedBy}
 use Rattle.mc_store.specs.Locked.{setting_of}
 use Rattle.mc_store.specs.Passes.{PassView}
 use Rattle.mc_store.specs.Sides.{class_told, stripe_told}
-use Rattle.mc_driver.specs.Caller.{AreNoted, ArePlaced, histories_seen}
+use Rattle.mc_driver.specs.Caller.{AreAt, AreNoted, AreRising, IsAt, histories_seen, places_in}
 use Rattle.mc_driver.specs.Noted.{NotesCommand, NotesJuggling, answered_event}
-use Rattle.mc_driver.specs.Stand.{Stand, stripe_number}
+use Rattle.mc_driver.specs.Stand.{calls_at, is_command_at, stripe_number}
+use Rattle.mc_driver.proofs.NotedLemmas.{at_later, at_push_if, get_next, places_in-push, rising_push_if, stripe_begins}
+use Rattle.mc_driver.proofs.OnlyLemmas.{is_same}
 use Rattle.mc_driver.proofs.StandLemmas.{ArePlaced-append, Grow, Stand-append, stand_later}
 
 -- what a pass has seen grows
@@ -45,10 +54,10 @@ seen_grow config old new grows = record {
 }
 
 -- a command that was replied to stands in what the pass has seen
-replied_stands : (config : Config) (before after : Sight) (who : Who) (command : Command) (moment : ℕ) (reply : Reply)
-    → IsRepliedBy config (stripe_number config.stripes command) before after who command moment reply
+replied_stands : (config : Config) (before after : Sight) (calls calls_new : List CallEvent) (who : Who) (command : Command) (moment : ℕ) (reply : Reply)
+    → IsRepliedBy config (stripe_number config.stripes command) before after calls calls_new who command moment reply
     → NotesCommand ((histories_seen config after).stripes (stripe_number config.stripes command)) who command moment reply
-replied_stands config before after who command moment reply by =
+replied_stands config before after calls calls_new who command moment reply by =
     let answered = by.replied.answered in
     let seen : stripe_events (list_at after.seen (stripe_number config.stripes command)) ≡ by.new.history = ap stripe_events by.grew.now ∙ stripe_events-map by.new.history in
     record {
@@ -85,53 +94,147 @@ juggled_stands config class before after who moment moves by =
       juggled = subst (λ (r : Rounds). IsJuggle r c.history by.answers (c.history ++ by.own) moves) (ap (λ (v : ClassView). rounds v who moment config) same) by.juggle;
     }
 
+-- where a reply was noted, and what stands there
+module _ (config : Config) (old new : PassView) (command : Command) (moment : ℕ) (reply : Reply)
+    (by : IsRepliedBy config (stripe_number config.stripes command) old.sight new.sight old.calls new.calls (record { caller = old.caller; turn = old.turn }) command moment reply) where
+  number : ℕ
+  number = stripe_number config.stripes command
+
+  pub call : Exchange
+  call = exchange old.caller old.turn (Asks command) moment (Replied reply)
+
+  place : ℕ
+  place = by.replied.place
+
+  history : List StripeEvent
+  history = by.old.history ++ by.replied.answered.before
+
+  new_is : stripe_events (list_at new.sight.seen number) ≡ by.new.history
+  new_is = ap stripe_events by.grew.now ∙ stripe_events-map by.new.history
+
+  did : Did
+  did = record { who = record { caller = old.caller; turn = old.turn }; command = command; moment = moment; reply = by.replied.answered.reply; room = by.replied.answered.room }
+
+  there : slice_get (stripe_events (list_at new.sight.seen number)) place ≡ Some (events.Did did)
+  unfolding number place history did
+  there =
+      ap (λ (h : List StripeEvent). slice_get h by.replied.place) (new_is ∙ by.replied.answered.history_is)
+      ∙ (ap (slice_get (history ++ events.Did did ∷ cooled_if did.who (key_of command) by.replied.answered.cooled)) by.replied.answered.place_is
+      ∙ get_next history (cooled_if did.who (key_of command) by.replied.answered.cooled) (events.Did did))
+
+  here : IsAt (stripe_events (list_at new.sight.seen number)) old.caller place call
+  unfolding did call
+  here = record { did = did; there = there; call_is = ap (λ (r : Reply). exchange old.caller old.turn (Asks command) moment (Replied r)) by.replied.reply_is; by = refl }
+
+  noted_as : new.calls ≡ old.calls ++ answered_at number place ∷ []
+  unfolding number place
+  noted_as = by.replied.noted ∙ ap (λ (k : ℕ). old.calls ++ answered_at k by.replied.place ∷ []) by.grew.number_is
+
+  behind : length (stripe_events (list_at old.sight.seen number)) ≤ place
+  unfolding number place
+  behind =
+      let begins = stripe_begins (list_at old.sight.seen (stripe_number config.stripes command)) by.old.history by.grew.seen in
+      let long = prefix_length (stripe_events (list_at old.sight.seen (stripe_number config.stripes command))) by.old.history begins in
+      omega (arith, long, by.replied.answered.place_is, length-append by.old.history by.replied.answered.before)
+
+  module _ (calls : List Exchange) (noted : AreNoted config old calls) (grows : Grows old.sight new.sight) (n : ℕ) (below : n < config.stripes) where
+    places : places_in n new.calls ≡ places_in n old.calls ++ cond (nat_eq number n) (place ∷ []) []
+    places = ap (places_in n) noted_as ∙ places_in-push n old.calls number place
+
+    all : calls_at config.stripes n (calls ++ call ∷ []) ≡ calls_at config.stripes n calls ++ cond (nat_eq number n) (call ∷ []) []
+    unfolding number call
+    all = filter-append (λ (c : Exchange). is_command_at config.stripes n c.call) calls (call ∷ [])
+
+    later : AreAt (stripe_events (list_at new.sight.seen n)) old.caller (places_in n old.calls) (calls_at config.stripes n calls)
+    later = at_later _ _ old.caller _ _ ((seen_grow config old.sight new.sight grows).stripes n below) (noted.at n below)
+
+    next : nat_eq number n ≡ true → IsAt (stripe_events (list_at new.sight.seen n)) old.caller place call
+    next yes = subst (λ (k : ℕ). IsAt (stripe_events (list_at new.sight.seen k)) old.caller place call) (is_same number n yes) here
+
+    pub noted_at : AreAt (stripe_events (list_at new.sight.seen n)) old.caller (places_in n new.calls) (calls_at config.stripes n (calls ++ call ∷ []))
+    noted_at =
+        subst (λ (l : List ℕ). AreAt (stripe_events (list_at new.sight.seen n)) old.caller l (calls_at config.stripes n (calls ++ call ∷ []))) (sym places)
+        (subst (λ (l : List Exchange). AreAt (stripe_events (list_at new.sight.seen n)) old.caller (places_in n old.calls ++ cond (nat_eq number n) (place ∷ []) []) l) (sym all)
+        (at_push_if (nat_eq number n) _ old.caller _ _ place call later next))
+
+    pub noted_rising : AreRising 0 (places_in n new.calls)
+    noted_rising =
+        subst (AreRising 0) (sym places)
+        (rising_push_if (nat_eq number n) (stripe_events (list_at old.sight.seen n)) old.caller _ _ place (noted.at n below) (noted.rising n below)
+        (λ yes. subst (λ (k : ℕ). length (stripe_events (list_at old.sight.seen k)) ≤ place) (is_same number n yes) behind))
+
 -- so it is noted
-pub replied_adds : (config : Config) (old new : PassView) (command : Command) (moment : ℕ) (reply : Reply) → 0 < config.stripes → Grows old.sight new.sight
-    → IsRepliedBy config (stripe_number config.stripes command) old.sight new.sight (record { caller = old.caller; turn = old.turn }) command moment reply
+pub replied_adds : (config : Config) (old new : PassView) (command : Command) (moment : ℕ) (reply : Reply) → 0 < config.stripes → new.caller ≡ old.caller → Grows old.sight new.sight
+    → IsRepliedBy config (stripe_number config.stripes command) old.sight new.sight old.calls new.calls (record { caller = old.caller; turn = old.turn }) command moment reply
     → Adds (AreNoted config old) (AreNoted config new) (exchange old.caller old.turn (Asks command) moment (Replied reply) ∷ [])
-replied_adds config old new command moment reply some grows by = record {
+unfolding call
+replied_adds config old new command moment reply some same grows by = record {
   at = λ calls noted. record {
     placed = ArePlaced-append config calls _ noted.placed (mod-lt (fnv1a (key_of command)) some, tt);
     stand = Stand-append config (histories_seen config new.sight) calls _ (stand_later config _ _ calls (seen_grow config old.sight new.sight grows) noted.placed noted.stand)
-        (replied_stands config old.sight new.sight _ command moment reply by, tt);
+        (replied_stands config old.sight new.sight old.calls new.calls _ command moment reply by, tt);
+    at = λ n below.
+        subst (λ (k : ℕ). AreAt (stripe_events (list_at new.sight.seen n)) k (places_in n new.calls) (calls_at config.stripes n (calls ++ exchange old.caller old.turn (Asks command) moment (Replied reply) ∷ []))) (sym same)
+        (noted_at config old new command moment reply by calls noted grows n below);
+    rising = λ n below. noted_rising config old new command moment reply by calls noted grows n below;
   };
 }
 
--- and so is juggling
-pub juggled_adds : (config : Config) (old new : PassView) (class : ClassNo) (moment : ℕ) (moves : Moves) → IsClass (setting_of config) class → Grows old.sight new.sight
+-- calls of which none is a command leave the places as they are
+kept_at : (config : Config) (old new : PassView) (calls more : List Exchange) → new.caller ≡ old.caller → new.calls ≡ old.calls → Grows old.sight new.sight → AreNoted config old calls
+    → (n : ℕ) → n < config.stripes → calls_at config.stripes n more ≡ [] → AreAt (stripe_events (list_at new.sight.seen n)) new.caller (places_in n new.calls) (calls_at config.stripes n (calls ++ more))
+kept_at config old new calls more caller same grows noted n below none =
+    let all : calls_at config.stripes n (calls ++ more) ≡ calls_at config.stripes n calls =
+    filter-append (λ (c : Exchange). is_command_at config.stripes n c.call) calls more ∙ ap (λ (l : List Exchange). calls_at config.stripes n calls ++ l) none ∙ append-nil (calls_at config.stripes n calls) in
+    subst (λ (l : List Exchange). AreAt (stripe_events (list_at new.sight.seen n)) new.caller (places_in n new.calls) l) (sym all)
+    (subst (λ (l : List CallEvent). AreAt (stripe_events (list_at new.sight.seen n)) new.caller (places_in n l) (calls_at config.stripes n calls)) (sym same)
+    (subst (λ (k : ℕ). AreAt (stripe_events (list_at new.sight.seen n)) k (places_in n old.calls) (calls_at config.stripes n calls)) (sym caller)
+    (at_later _ _ old.caller _ _ ((seen_grow config old.sight new.sight grows).stripes n below) (noted.at n below))))
+
+-- juggling is noted too
+pub juggled_adds : (config : Config) (old new : PassView) (class : ClassNo) (moment : ℕ) (moves : Moves) → IsClass (setting_of config) class → new.caller ≡ old.caller → new.calls ≡ old.calls → Grows old.sight new.sight
     → IsJuggledBy config class old.sight new.sight (record { caller = old.caller; turn = old.turn }) moment moves
     → Adds (AreNoted config old) (AreNoted config new) (exchange old.caller old.turn (Juggles class) moment (Moved moves) ∷ [])
-juggled_adds config old new class moment moves is grows by = record {
+juggled_adds config old new class moment moves is caller same grows by = record {
   at = λ calls noted. record {
     placed = ArePlaced-append config calls _ noted.placed (is, tt);
     stand = Stand-append config (histories_seen config new.sight) calls _ (stand_later config _ _ calls (seen_grow config old.sight new.sight grows) noted.placed noted.stand)
         (juggled_stands config class old.sight new.sight _ moment moves by, tt);
+    at = λ n below. kept_at config old new calls _ caller same grows noted n below refl;
+    rising = λ n below. subst (λ (l : List CallEvent). AreRising 0 (places_in n l)) (sym same) (noted.rising n below);
   };
 }
 
 -- what went wrong adds none
-pub none_adds : (config : Config) (old new : PassView) → Grows old.sight new.sight → Adds (AreNoted config old) (AreNoted config new) []
-none_adds config old new grows = record {
-  at = λ calls noted. subst (AreNoted config new) (sym (append-nil calls)) (record {
-    placed = noted.placed;
-    stand = stand_later config _ _ calls (seen_grow config old.sight new.sight grows) noted.placed noted.stand;
-  });
+pub none_adds : (config : Config) (old new : PassView) → new.caller ≡ old.caller → new.calls ≡ old.calls → Grows old.sight new.sight → Adds (AreNoted config old) (AreNoted config new) []
+none_adds config old new caller same grows = record {
+  at = λ calls noted. record {
+    placed = ArePlaced-append config calls [] noted.placed tt;
+    stand = Stand-append config (histories_seen config new.sight) calls [] (stand_later config _ _ calls (seen_grow config old.sight new.sight grows) noted.placed noted.stand) tt;
+    at = λ n below. kept_at config old new calls [] caller same grows noted n below refl;
+    rising = λ n below. subst (λ (l : List CallEvent). AreRising 0 (places_in n l)) (sym same) (noted.rising n below);
+  };
 }
 
 -- as a call answers it: a reply is noted
-pub replied_ok : (config : Config) (old new : PassView) (command : Command) (moment : ℕ) (reply : Reply) → 0 < config.stripes → Grows old.sight new.sight
-    → IsRepliedBy config (stripe_number config.stripes command) old.sight new.sight (record { caller = old.caller; turn = old.turn }) command moment reply
+pub replied_ok : (config : Config) (old new : PassView) (command : Command) (moment : ℕ) (reply : Reply) → 0 < config.stripes → new.caller ≡ old.caller → Grows old.sight new.sight
+    → IsRepliedBy config (stripe_number config.stripes command) old.sight new.sight old.calls new.calls (record { caller = old.caller; turn = old.turn }) command moment reply
     → (r : Reply) × (Some reply ≡ Some r) × Adds (AreNoted config old) (AreNoted config new) (exchange old.caller old.turn (Asks command) moment (Replied r) ∷ [])
-replied_ok config old new command moment reply some grows by = (reply, refl, replied_adds config old new command moment reply some grows by)
+replied_ok config old new command moment reply some same grows by = (reply, refl, replied_adds config old new command moment reply some same grows by)
 
 -- juggling is noted where it was done
-pub juggled_ok : (config : Config) (old new : PassView) (class : ClassNo) (moment : ℕ) (r : Result Moves Fault) → IsClass (setting_of config) class → Grows old.sight new.sight
+pub juggled_ok : (config : Config) (old new : PassView) (class : ClassNo) (moment : ℕ) (r : Result Moves Fault) → IsClass (setting_of config) class → new.caller ≡ old.caller → new.calls ≡ old.calls → Grows old.sight new.sight
     → IfOk r (IsJuggledBy config class old.sight new.sight (record { caller = old.caller; turn = old.turn }) moment)
     → IfOk r (λ moves. Adds (AreNoted config old) (AreNoted config new) (exchange old.caller old.turn (Juggles class) moment (Moved moves) ∷ []))
-juggled_ok config old new class moment (Ok moves) is grows by = juggled_adds config old new class moment moves is grows by
-juggled_ok config old new class moment (Err fault) is grows by = tt
+juggled_ok config old new class moment (Ok moves) is caller same grows by = juggled_adds config old new class moment moves is caller same grows by
+juggled_ok config old new class moment (Err fault) is caller same grows by = tt
 
 -- and whatever went wrong adds none
-pub failed : {T : Type 0} (config : Config) (old new : PassView) (r : Result T Fault) → Grows old.sight new.sight → OnErr r (Adds (AreNoted config old) (AreNoted config new) [])
-failed config old new (Ok x) grows = tt
-failed config old new (Err fault) grows = none_adds config old new grows
+pub failed : {T : Type 0} (config : Config) (old new : PassView) (r : Result T Fault) → new.caller ≡ old.caller → OnErr r (new.calls ≡ old.calls) → Grows old.sight new.sight → OnErr r (Adds (AreNoted config old) (AreNoted config new) [])
+failed config old new (Ok x) caller same grows = tt
+failed config old new (Err fault) caller same grows = none_adds config old new caller same grows
+
+-- what holds whatever was answered holds of a failure
+pub on_err_always : {X E P : Type 0} (r : Result X E) → P → OnErr r P
+on_err_always (Ok x) holds = tt
+on_err_always (Err e) holds = holds

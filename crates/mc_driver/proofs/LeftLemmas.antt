@@ -15,27 +15,25 @@ use Rattle.mc_board.proofs.PrefixLemmas.{prefix_length}
 use Rattle.mc_evidence.specs.Seen.{class_events, stripe_events}
 use Rattle.mc_evidence.specs.Setting.{IsClass}
 use Rattle.mc_evidence.specs.Sound.{IsSoundStore}
-use Rattle.mc_evidence.proofs.SeenLemmas.{class_events-map, classes_grow, stripe_events-map, stripes_grow}
+use Rattle.mc_evidence.proofs.SeenLemmas.{class_events-map, classes_grow}
 use Rattle.mc_item.specs.Stripe.{IsLegal}
 use Rattle.mc_pull.specs.Question.{IsClassOf}
 use Rattle.mc_script.specs.Exchanges.{Exchange}
-use Rattle.mc_store.specs.Finals.{AreClasses, AreExactlyEntries, AreStripes, FinalView, IsBehindClasses, IsBehindStripes, class_histories, class_history, stripe_histories, stripe_history}
+use Rattle.mc_store.specs.Finals.{AreClasses, AreExactlyEntries, AreItsOwn, AreStripes, FinalView, IsBehindClasses, IsBehindStripes, class_histories, class_history, stripe_histories, stripe_history}
 use Rattle.mc_store.specs.Locked.{class_lock, locks_for, setting_of}
 use Rattle.mc_store.specs.Passes.{PassView}
 use Rattle.mc_store.specs.Serving.{HasSeenShort}
 use Rattle.mc_store.specs.Sides.{ClassSide, StripeSide, class_told, stripe_told}
 use Rattle.mc_store.proofs.PlaceLemmas.{get_some}
 use Rattle.mc_store.proofs.ServedLemmas.{map_length}
-use Rattle.mc_driver.specs.Caller.{AreNoted, histories_seen}
+use Rattle.mc_driver.specs.Caller.{AreAt, AreNoted, histories_seen, places_in}
 use Rattle.mc_driver.specs.Run.{HasFull, HasFullClass, HasFullStripe, IsClass as IsClassOfRun, IsStore, IsStripe, histories_left, with_callers}
-use Rattle.mc_driver.specs.Stand.{AreItsCalls, Histories, Stand}
+use Rattle.mc_driver.specs.Stand.{AreItsCalls, Histories, Stand, calls_at}
+use Rattle.mc_driver.proofs.NotedLemmas.{at_later, call_place, stripe_begins}
+use Rattle.mc_driver.proofs.OnlyLemmas.{only_these}
 use Rattle.mc_driver.proofs.StandLemmas.{Grow, stand_later}
 
--- what begins a stripe's history on the board shows a beginning of it
-stripe_begins : (list : List Event) (es : List StripeEvent) → IsPrefix list (stripe_told es) → IsPrefix (stripe_events list) es
-stripe_begins list es p = subst (IsPrefix (stripe_events list)) (stripe_events-map es) (stripes_grow (λ lock. list) (λ lock. stripe_told es) (λ lock. p) 0)
-
--- and of a class's
+-- what begins a class's history on the board shows a beginning of it
 class_begins : (list : List Event) (es : List ClassEvent) → IsPrefix list (class_told es) → IsPrefix (class_events list) es
 class_begins list es p = subst (IsPrefix (class_events list)) (class_events-map es) (classes_grow 0 (λ lock. list) (λ lock. class_told es) (λ lock. p) (record { 0 = 0 }))
 
@@ -115,11 +113,21 @@ module _ (config : Config) (final : FinalView) (all : AreStripes final.board con
           inr (record { number = class; first = first; last = last; full = omega (arith, short.short, long) })
     ]
 
-    -- the calls that the pass has noted stand in it
-    pub left_calls : (pass : PassView) → pass.sight ≡ sight → (calls : List Exchange) → AreNoted config pass calls → AreItsCalls config pass.caller (histories_left final) calls
-    left_calls pass is calls noted = record {
+    -- the calls that the pass has noted stand in it, and of the caller there are only these
+    pub left_calls : (pass : PassView) → pass.sight ≡ sight → AreItsOwn pass final.stripes → (calls : List Exchange) → AreNoted config pass calls → AreItsCalls config pass.caller (histories_left final) calls
+    left_calls pass is own calls noted = record {
       stand = stand_later config (histories_seen config sight) (histories_left final) calls left_grows noted.placed
           (subst (λ (t : Sight). Stand config (histories_seen config t) calls) is noted.stand);
+      only = record {
+        at = λ number below.
+            let g = get_some final.stripes number (omega (arith, below, all.many)) in
+            let there : stripe_histories final.stripes number ≡ g.0.stripe.history = ap stripe_history g.1 in
+            let at = at_later _ (stripe_histories final.stripes number) pass.caller _ _
+            (left_grows.stripes number below) (subst (λ (t : Sight). AreAt (stripe_events (list_at t.seen number)) pass.caller (places_in number pass.calls) (calls_at config.stripes number calls)) is (noted.at number below)) in
+            only_these pass.caller (stripe_histories final.stripes number) (places_in number pass.calls) (calls_at config.stripes number calls) (noted.rising number below) at
+            (λ place did found by. call_place number place pass.calls
+            (own.each number g.0 place did g.1 (ap (λ (h : List StripeEvent). slice_get h place) (sym there) ∙ found) by));
+      };
     }
 
 -- a store of the configuration with its callers is one of the configuration

@@ -1,6 +1,7 @@
 pub mod StandLemmas
 pub mod CallLemmas
 pub mod OnlyLemmas
+pub mod NotedLemmas
 pub mod LeavesLemmas
 pub mod LeftLemmas
 pub mod StartLemmas

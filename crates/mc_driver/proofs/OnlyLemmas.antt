@@ -52,10 +52,17 @@ drops_if false x xs is = refl
 drops_if true x xs is = absurd (cc)
 
 -- what is so is tested so
-is_yes : (a b : ℕ) → a ≡ b → nat_eq a b ≡ true
+pub is_yes : (a b : ℕ) → a ≡ b → nat_eq a b ≡ true
 is_yes a b same = elim (eqb_tells a b) [
   | inl same_are ↦ same_are.0
   | inr others ↦ absurd (others.1 same)
+]
+
+-- what is tested so is so
+pub is_same : (a b : ℕ) → nat_eq a b ≡ true → a ≡ b
+is_same a b yes_is = elim (eqb_tells a b) [
+  | inl same_are ↦ same_are.1
+  | inr others ↦ let no_is = others.0 in absurd (cc)
 ]
 
 -- and what isn't

@@ -1,6 +1,8 @@
 -- A caller of a store that threads share: what its pass knows of its calls so far.
-use Rattle.std.specs.Prelude.{ℕ, ◌≡◌, ◌<◌, ◌≤◌, ◌+◌, List, [], ◌∷◌, Some, slice_get}
+use Rattle.std.specs.Prelude.{ℕ, ◌≡◌, ◌<◌, ◌≤◌, ◌+◌, List, [], ◌∷◌, Some, if◌then◌else◌, nat_eq, slice_get}
 use Rattle.mc_item.specs.declared.config.Config.{Config}
+use Rattle.mc_item.specs.declared.call_event.CallEvent.{CallEvent}
+use Rattle.mc_item.specs.declared.call_event.CallEvent.TheVariants as calls
 use Rattle.mc_item.specs.declared.stripe_event.Did.{Did}
 use Rattle.mc_item.specs.declared.stripe_event.StripeEvent.{StripeEvent}
 use Rattle.mc_item.specs.declared.stripe_event.StripeEvent.TheVariants as events
@@ -12,7 +14,7 @@ use Rattle.mc_script.specs.Exchanges.{Asks, Call, Exchange, Juggles}
 use Rattle.mc_store.specs.Locked.{setting_of}
 use Rattle.mc_store.specs.Passes.{PassView}
 use Rattle.mc_driver.specs.Noted.{exchange_of}
-use Rattle.mc_driver.specs.Stand.{Histories, Stand, stripe_number}
+use Rattle.mc_driver.specs.Stand.{Histories, Stand, calls_at, stripe_number}
 
 -- the histories of a store as far as a token has seen them
 abbrev pub histories_seen : Config → Sight → Histories
@@ -48,7 +50,15 @@ abbrev pub AreRising : ℕ → List ℕ → Type 0
 AreRising from [] = Unit {0}
 AreRising from (number ∷ numbers) = (from ≤ number) × AreRising (number + 1) numbers
 
--- these calls, with their answers, stand in what the caller's pass has seen
+-- where a caller's history says that commands were answered: the places in the history of one stripe, in order
+abbrev pub places_in : ℕ → List CallEvent → List ℕ
+places_in number [] = []
+places_in number (calls.Answered answered ∷ more) = if nat_eq answered.stripe.0 number then answered.place ∷ places_in number more else places_in number more
+
+-- these calls, with their answers, stand in what the caller's pass has seen, and of each stripe the caller's history has the
+-- places of just those that are the stripe's commands
 pub record AreNoted (config : Config) (pass : PassView) (calls : List Exchange) : Type 0 where
   pub placed : ArePlaced config calls
   pub stand : Stand config (histories_seen config pass.sight) calls
+  pub at : (number : ℕ) → number < config.stripes → AreAt (stripes_seen (list_at pass.sight.seen) number) pass.caller (places_in number pass.calls) (calls_at config.stripes number calls)
+  pub rising : (number : ℕ) → number < config.stripes → AreRising 0 (places_in number pass.calls)

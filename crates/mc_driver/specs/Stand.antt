@@ -59,4 +59,4 @@ pub record AreOnly (stripes caller : ℕ) (histories : Histories) (calls : List 
 -- what is known of a caller's calls, whoever else makes any: they stand, and of the caller there are only these
 pub record AreItsCalls (config : Config) (caller : ℕ) (histories : Histories) (calls : List Exchange) : Type 0 where
   pub stand : Stand config histories calls
-  -- pub only : AreOnly config.stripes caller histories calls
+  pub only : AreOnly config.stripes caller histories calls

@@ -3,7 +3,7 @@ ghost use Rattle.std.specs.Prelude.{◌≡◌, ◌≢◌, ◌<◌, ◌≤◌, Li
 ghost use Rattle.mc_item.specs.Config.{fault_of, IsBounded, IsSound};
 ghost use Rattle.mc_board.specs.Histories.{blind};
 ghost use Rattle.mc_board.specs.Views.{AreOwners, locks_of};
-ghost use Rattle.mc_store.specs.Locked.{locks_for};
+ghost use Rattle.mc_store.specs.Locked.{histories_for};
 ghost use Rattle.mc_driver.specs.Run.{HasFull, IsAccepted, IsRefused, IsStore, histories_left, limits_of, with_callers};
 ghost use Rattle.mc_driver.specs.Stand.{AreItsCalls};
 ghost use Rattle.mc_script.specs.Run.{AreCounted, Leaves};
@@ -60,14 +60,12 @@ fn checked(config: Config) -> Result<Config, RunFault>
 // The board for a store of a configuration.
 fn board_for(alloc: Global, config: &Config) -> Result<(Board, Vec<Owner>, Seen), NoMemory>
     requires { IsBounded config.now }
-    ensures locks { IfOk result (λ r. locks_of r.0.counts ≡ locks_for config.now) }
-    ensures owners { IfOk result (λ r. AreOwners r.0.table (locks_for config.now) r.1.items) }
+    ensures histories { IfOk result (λ r. locks_of r.0.counts ≡ histories_for config.now) }
+    ensures owners { IfOk result (λ r. AreOwners r.0.table (histories_for config.now) r.1.items) }
     ensures seen { IfOk result (λ r. r.2 ≡ record { board = r.0.table; sight = blind }) }
 {
-    Board::open(
-        alloc,
-        config.stripes as usize + config.sizes.as_slice().len(),
-    )
+    let locks = config.stripes as usize + config.sizes.as_slice().len();
+    Board::open(alloc, locks + config.callers as usize)
 }
 
 // What one script leaves: the store, and how the script ended.
@@ -90,8 +88,8 @@ fn run_named<N: Named, S: Source, K: Sink>(
 ) -> Result<Left, NoMemory>
     requires board { board ≡ N.board }
     requires config { (config ≡ N.config) × IsBounded N.config × IsSound N.config }
-    requires locks { locks_of N.board.counts ≡ locks_for N.config }
-    requires owners { AreOwners N.board.table (locks_for N.config) owners.items }
+    requires locks { locks_of N.board.counts ≡ histories_for N.config }
+    requires owners { AreOwners N.board.table (histories_for N.config) owners.items }
     requires seen { seen ≡ record { board = N.board.table; sight = blind } }
     requires callers { with_callers N.config ≡ N.config }
     ensures leaves { IfOk result (λ left. Leaves left.outcome (limits_of N.config) (S.coming ends.old.source) (S.coming ends.new.source)

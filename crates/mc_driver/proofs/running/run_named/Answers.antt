@@ -3,7 +3,7 @@ use Rattle.mc_item.specs.declared.config.Config.{Config}
 use Rattle.mc_board.specs.declared.rule.Sight.{Sight}
 use Rattle.mc_script.specs.Exchanges.{Exchange}
 use Rattle.mc_evidence.specs.Sound.{IsSoundStore}
-use Rattle.mc_store.specs.Finals.{AreClasses, AreExactlyEntries, AreStripes, FinalView, IsBehindClasses, IsBehindStripes, class_histories, stripe_histories}
+use Rattle.mc_store.specs.Finals.{AreClasses, AreExactlyEntries, AreItsOwn, AreStripes, FinalView, IsBehindClasses, IsBehindStripes, class_histories, stripe_histories}
 use Rattle.mc_store.specs.Locked.{setting_of}
 use Rattle.mc_store.specs.Passes.{PassView, new_pass}
 use Rattle.mc_store.specs.Serving.{HasSeenShort}
@@ -45,6 +45,8 @@ returns-clause-leaves g c =
     let sight : Sight = c.into_pass-pass.result.sight in
     let behind : IsBehindStripes sight final.stripes = subst (λ (f : FinalView). IsBehindStripes sight f.stripes) (sym closed) c.compare.ensures.stripes in
     let behind_of : IsBehindClasses sight final.classes = subst (λ (f : FinalView). IsBehindClasses sight f.classes) (sym closed) c.compare.ensures.classes in
+    let own : AreItsOwn pass final.stripes =
+    subst (λ (f : FinalView). AreItsOwn pass f.stripes) (sym closed) (subst (λ (p : PassView). AreItsOwn p c.close-ledger.result.stripes) left (c.compare.ensures.own c.close-ledger.ensures.stripes)) in
     let three : config.callers ≡ 3 = ap (λ (k : Config). k.callers) (sym c.requires.callers) in
     let first : c.new-calls.result.pass ≡ new_pass 0 =
     c.new-calls.ensures.pass ∙ first_taken c.in_ok-store.passes.items c.remove-pass.result (new_pass 0) c.remove-pass.ensures.value (c.in_ok-store.ensures.passes.each 0 (omega (arith, three))) in
@@ -53,7 +55,7 @@ returns-clause-leaves g c =
     let limits : c.limits_for-limits.result ≡ limits_of config = c.limits_for-limits.ensures ∙ ap limits_of c.requires.config.0 in
     let follows : (calls : List Exchange) → AreNoted config pass calls → AreItsCalls config 0 (histories_left final) calls =
     λ calls noted. subst (λ (k : ℕ). AreItsCalls config k (histories_left final) calls) same
-    (left_calls config final all all_classes sight behind behind_of pass (ap (λ (p : PassView). p.sight) (sym left)) calls noted) in
+    (left_calls config final all all_classes sight behind behind_of pass (ap (λ (p : PassView). p.sight) (sym left)) own calls noted) in
     leaves_known (limits_of config) c.limits_for-limits.result 0 c.new-calls.result.pass.caller (AreNoted config pass) (AreItsCalls config 0 (histories_left final)) c.run_script-outcome.result
     (g.S.Source.coming c.args.ends.now.source) (g.S.Source.coming c.run_script-outcome.new.ends.source) (g.K.Sink.taken c.args.ends.now.sink) (g.K.Sink.taken c.run_script-outcome.new.ends.sink)
     limits number follows c.run_script-outcome.ensures.leaves
