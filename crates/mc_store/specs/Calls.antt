@@ -1,6 +1,7 @@
 -- What a call on a store leaves, by what its pass had seen before and has seen after (own).
-use Rattle.std.specs.Prelude.{◌≡◌, ◌++◌, ℕ, List}
+use Rattle.std.specs.Prelude.{◌≡◌, ◌++◌, ℕ, List, [], ◌∷◌}
 use mathlib.Core.List.{IsPrefix}
+use Rattle.mc_item.specs.declared.call_event.CallEvent.{CallEvent}
 use Rattle.mc_item.specs.declared.class_event.ClassEvent.{ClassEvent}
 use Rattle.mc_item.specs.declared.command.Command.{Command}
 use Rattle.mc_item.specs.declared.config.Config.{Config}
@@ -20,14 +21,16 @@ use Rattle.mc_pull.specs.Question.{IsClassOf, IsStripeOf}
 use Rattle.mc_pull.specs.Rounds.{rounds}
 use Rattle.mc_pull.specs.declared.looking.Answer.{Answer}
 use Rattle.mc_lone.specs.Commands.{IsAnswered, IsCut}
+use Rattle.mc_store.specs.Callers.{answered_at}
 use Rattle.mc_store.specs.Locked.{class_lock, setting_of}
 use Rattle.mc_store.specs.Sides.{class_told, stripe_told}
 
--- a command was answered with this reply
-pub record IsReplied (config : Config) (who : Who) (command : Command) (moment : ℕ) (s s_new : Stripe) (reply : Reply) : Type 0 where
+-- a command was answered with this reply, and its caller's history has one event more, which says where the answer stands
+pub record IsReplied (config : Config) (who : Who) (command : Command) (moment : ℕ) (s s_new : Stripe) (calls calls_new : List CallEvent) (reply : Reply) : Type 0 where
   pub place : ℕ
   pub answered : IsAnswered config who command moment s s_new place
   pub reply_is : answered.reply ≡ reply
+  pub noted : calls_new ≡ calls ++ answered_at s.site.stripe place ∷ []
 
 -- a stripe's history grew in a call: what the pass had seen of it is a beginning of what it was when its lock was had, and
 -- the pass has seen all of it now; it is legal, and of each of its events the partner stands in what the pass has seen of the
@@ -41,11 +44,11 @@ pub record IsSeenGrow (config : Config) (number : ℕ) (before after : Sight) (s
   pub sound : StripeKeeps (setting_of config) number s_new.history (classes_seen config.stripes (list_at after.seen))
 
 -- a command was answered with this reply at one point of its stripe's growing history, after all that the pass had seen
-pub record IsRepliedBy (config : Config) (number : ℕ) (before after : Sight) (who : Who) (command : Command) (moment : ℕ) (reply : Reply) : Type 0 where
+pub record IsRepliedBy (config : Config) (number : ℕ) (before after : Sight) (calls calls_new : List CallEvent) (who : Who) (command : Command) (moment : ℕ) (reply : Reply) : Type 0 where
   pub old : Stripe
   pub new : Stripe
   pub grew : IsSeenGrow config number before after old new
-  pub replied : IsReplied config who command moment old new reply
+  pub replied : IsReplied config who command moment old new calls calls_new reply
 
 -- a command was broken off: nothing of it stands in its stripe's history but what leads up to it
 pub record IsCutBy (config : Config) (number : ℕ) (before after : Sight) (who : Who) (command : Command) (moment : ℕ) : Type 0 where

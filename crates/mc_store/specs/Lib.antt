@@ -1,3 +1,4 @@
+pub mod Callers
 pub mod Naming
 pub mod Sides
 pub mod Locked

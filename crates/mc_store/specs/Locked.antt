@@ -13,6 +13,7 @@ use Rattle.mc_evidence.specs.Seen.{classes_seen, stripes_seen}
 use Rattle.mc_evidence.specs.Setting.{IsClass, Setting}
 use Rattle.mc_store.specs.declared.lock_no.LockNo.{LockNo}
 use Rattle.mc_store.specs.declared.lock_no.LockNo.TheVariants as locks
+use Rattle.mc_store.specs.Callers.{AreAnswered}
 use Rattle.mc_store.specs.Sides.{ClassSide, StripeSide}
 
 -- what is fixed for a store of a configuration
@@ -22,6 +23,14 @@ setting_of config = record { stripes = config.stripes; sizes = config.sizes; rul
 -- how many locks there are: one for each stripe, and one for each class
 abbrev pub locks_for : Config → ℕ
 locks_for config = config.stripes + length config.sizes
+
+-- how many histories the board has: one for each lock, and one for each caller
+abbrev pub histories_for : Config → ℕ
+histories_for config = locks_for config + config.callers
+
+-- the place of a caller's history on the board: those of the locks come first
+abbrev pub caller_place : Config → ℕ → ℕ
+caller_place config caller = locks_for config + caller
 
 -- the lock of a class: those of the stripes come first, and classes are numbered from 1
 abbrev pub class_lock : Config → ClassNo → ℕ
@@ -38,7 +47,8 @@ IsLock config (locks.Stripe number) = number.0 < config.stripes
 IsLock config (locks.Class number) = IsClass (setting_of config) number
 
 -- a stripe's lock keeps: the stripe is of this board, under the lock of its number, made with this configuration, which was
--- checked; its history is legal, and each of its events has found its partner in what was seen of the classes
+-- checked; its history is legal, each of its events has found its partner in what was seen of the classes, and each of its
+-- answered commands stands in what was seen of its caller's history
 pub record IsLockedStripe (board : TableId) (config : Config) (s : StripeSide) : Type 0 where
   pub board_is : s.board ≡ board
   pub lock_is : s.lock ≡ s.stripe.site.stripe
@@ -46,6 +56,7 @@ pub record IsLockedStripe (board : TableId) (config : Config) (s : StripeSide) :
   pub sound : IsSound config
   pub made_with : made.IsStripeOf config s.stripe
   pub keeps : StripeKeeps (setting_of config) s.stripe.site.stripe s.stripe.history (classes_seen config.stripes (list_at s.sight.seen))
+  pub answered : AreAnswered (locks_for config) s.stripe.site.stripe s.stripe.history (list_at s.sight.seen)
 
 -- a class's lock keeps: the class is of this board, under the lock of its number, made with this configuration; its history is
 -- lawful, and each of its events has found its partner and the item that it cites in what was seen of the stripes
