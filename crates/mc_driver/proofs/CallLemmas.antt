@@ -97,41 +97,37 @@ juggled_stands config class before after who moment moves by =
 -- where a reply was noted, and what stands there
 module _ (config : Config) (old new : PassView) (command : Command) (moment : ℕ) (reply : Reply)
     (by : IsRepliedBy config (stripe_number config.stripes command) old.sight new.sight old.calls new.calls (record { caller = old.caller; turn = old.turn }) command moment reply) where
-  number : ℕ
+  abbrev number : ℕ
   number = stripe_number config.stripes command
 
-  pub call : Exchange
+  abbrev pub call : Exchange
   call = exchange old.caller old.turn (Asks command) moment (Replied reply)
 
-  place : ℕ
+  abbrev place : ℕ
   place = by.replied.place
 
-  history : List StripeEvent
+  abbrev history : List StripeEvent
   history = by.old.history ++ by.replied.answered.before
 
   new_is : stripe_events (list_at new.sight.seen number) ≡ by.new.history
   new_is = ap stripe_events by.grew.now ∙ stripe_events-map by.new.history
 
-  did : Did
+  abbrev did : Did
   did = record { who = record { caller = old.caller; turn = old.turn }; command = command; moment = moment; reply = by.replied.answered.reply; room = by.replied.answered.room }
 
   there : slice_get (stripe_events (list_at new.sight.seen number)) place ≡ Some (events.Did did)
-  unfolding number place history did
   there =
       ap (λ (h : List StripeEvent). slice_get h by.replied.place) (new_is ∙ by.replied.answered.history_is)
       ∙ (ap (slice_get (history ++ events.Did did ∷ cooled_if did.who (key_of command) by.replied.answered.cooled)) by.replied.answered.place_is
       ∙ get_next history (cooled_if did.who (key_of command) by.replied.answered.cooled) (events.Did did))
 
   here : IsAt (stripe_events (list_at new.sight.seen number)) old.caller place call
-  unfolding did call
   here = record { did = did; there = there; call_is = ap (λ (r : Reply). exchange old.caller old.turn (Asks command) moment (Replied r)) by.replied.reply_is; by = refl }
 
   noted_as : new.calls ≡ old.calls ++ answered_at number place ∷ []
-  unfolding number place
   noted_as = by.replied.noted ∙ ap (λ (k : ℕ). old.calls ++ answered_at k by.replied.place ∷ []) by.grew.number_is
 
   behind : length (stripe_events (list_at old.sight.seen number)) ≤ place
-  unfolding number place
   behind =
       let begins = stripe_begins (list_at old.sight.seen (stripe_number config.stripes command)) by.old.history by.grew.seen in
       let long = prefix_length (stripe_events (list_at old.sight.seen (stripe_number config.stripes command))) by.old.history begins in
@@ -142,14 +138,13 @@ module _ (config : Config) (old new : PassView) (command : Command) (moment : �
     places = ap (places_in n) noted_as ∙ places_in-push n old.calls number place
 
     all : calls_at config.stripes n (calls ++ call ∷ []) ≡ calls_at config.stripes n calls ++ cond (nat_eq number n) (call ∷ []) []
-    unfolding number call
     all = filter-append (λ (c : Exchange). is_command_at config.stripes n c.call) calls (call ∷ [])
 
     later : AreAt (stripe_events (list_at new.sight.seen n)) old.caller (places_in n old.calls) (calls_at config.stripes n calls)
     later = at_later _ _ old.caller _ _ ((seen_grow config old.sight new.sight grows).stripes n below) (noted.at n below)
 
     next : nat_eq number n ≡ true → IsAt (stripe_events (list_at new.sight.seen n)) old.caller place call
-    next yes = subst (λ (k : ℕ). IsAt (stripe_events (list_at new.sight.seen k)) old.caller place call) (is_same number n yes) here
+    next passed = subst (λ (k : ℕ). IsAt (stripe_events (list_at new.sight.seen k)) old.caller place call) (is_same number n passed) here
 
     pub noted_at : AreAt (stripe_events (list_at new.sight.seen n)) old.caller (places_in n new.calls) (calls_at config.stripes n (calls ++ call ∷ []))
     noted_at =
@@ -161,13 +156,12 @@ module _ (config : Config) (old new : PassView) (command : Command) (moment : �
     noted_rising =
         subst (AreRising 0) (sym places)
         (rising_push_if (nat_eq number n) (stripe_events (list_at old.sight.seen n)) old.caller _ _ place (noted.at n below) (noted.rising n below)
-        (λ yes. subst (λ (k : ℕ). length (stripe_events (list_at old.sight.seen k)) ≤ place) (is_same number n yes) behind))
+        (λ passed. subst (λ (k : ℕ). length (stripe_events (list_at old.sight.seen k)) ≤ place) (is_same number n passed) behind))
 
 -- so it is noted
 pub replied_adds : (config : Config) (old new : PassView) (command : Command) (moment : ℕ) (reply : Reply) → 0 < config.stripes → new.caller ≡ old.caller → Grows old.sight new.sight
     → IsRepliedBy config (stripe_number config.stripes command) old.sight new.sight old.calls new.calls (record { caller = old.caller; turn = old.turn }) command moment reply
     → Adds (AreNoted config old) (AreNoted config new) (exchange old.caller old.turn (Asks command) moment (Replied reply) ∷ [])
-unfolding call
 replied_adds config old new command moment reply some same grows by = record {
   at = λ calls noted. record {
     placed = ArePlaced-append config calls _ noted.placed (mod-lt (fnv1a (key_of command)) some, tt);

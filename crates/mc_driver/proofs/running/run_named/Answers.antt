@@ -1,4 +1,4 @@
-use Rattle.std.proofs.Common.{◌≡◌, ◌<◌, ℕ, List, sym, ap, ◌∙◌, subst, arith}
+use Rattle.std.proofs.Common.{◌≡◌, ◌<◌, ℕ, List, [], sym, ap, ◌∙◌, subst, arith}
 use Rattle.mc_item.specs.declared.config.Config.{Config}
 use Rattle.mc_board.specs.declared.rule.Sight.{Sight}
 use Rattle.mc_script.specs.Exchanges.{Exchange}
@@ -14,6 +14,13 @@ use Rattle.mc_driver.proofs.LeavesLemmas.{leaves_known}
 use Rattle.mc_driver.proofs.LeftLemmas.{left_calls, left_full, store_left}
 use Rattle.mc_driver.proofs.StartLemmas.{first_taken}
 use Rattle.mc_driver.proofs.running.run_named.Goals as goal
+
+pub run_script-outcome-requires-clause-none : goal.run_script-outcome-requires-clause-none
+run_script-outcome-requires-clause-none g c =
+    let three : g.N.Named.config.callers ≡ 3 = ap (λ (k : Config). k.callers) (sym c.requires.callers) in
+    let first : c.new-calls.result.pass ≡ new_pass 0 =
+    c.new-calls.ensures.pass ∙ first_taken c.in_ok-store.passes.items c.remove-pass.result (new_pass 0) c.remove-pass.ensures.value (c.in_ok-store.ensures.passes.each 0 (omega (arith, three))) in
+    subst (λ (p : PassView). AreNoted g.N.Named.config p []) (sym first) (record { placed = tt; stand = tt; at = λ n below. tt; rising = λ n below. tt })
 
 pub returns-clause-store : goal.returns-clause-store
 returns-clause-store g c =
