@@ -35,7 +35,7 @@ class_begins : (list : List Event) (es : List ClassEvent) → IsPrefix list (cla
 class_begins list es p = subst (IsPrefix (class_events list)) (class_events-map es) (classes_grow 0 (λ lock. list) (λ lock. class_told es) (λ lock. p) (record { 0 = 0 }))
 
 -- and of a stripe's
-stripe_begins : (list : List Event) (es : List StripeEvent) → IsPrefix list (stripe_told es) → IsPrefix (stripe_events list) es
+pub stripe_begins : (list : List Event) (es : List StripeEvent) → IsPrefix list (stripe_told es) → IsPrefix (stripe_events list) es
 stripe_begins list es p = subst (IsPrefix (stripe_events list)) (stripe_events-map es) (stripes_grow (λ lock. list) (λ lock. stripe_told es) (λ lock. p) 0)
 
 module _ (table : TableId) (config : Config) (some : 0 < config.stripes) (stripes : List StripeSide) (classes : List ClassSide) (all : AreStripes table config stripes) (all_classes : AreClasses table config classes)

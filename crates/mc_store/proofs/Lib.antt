@@ -1,6 +1,7 @@
 pub mod PlaceLemmas
 pub mod CallerLemmas
 pub mod ClosedLemmas
+pub mod HeadlineLemmas
 pub mod FinalLemmas
 pub mod LentLemmas
 pub mod PairLemmas

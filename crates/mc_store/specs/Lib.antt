@@ -9,3 +9,4 @@ pub mod Planned
 pub mod Calls
 pub mod Crawls
 pub mod Finals
+pub mod Headline

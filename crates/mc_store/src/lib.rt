@@ -12,6 +12,7 @@ mod final_store;
 mod gates;
 mod judging;
 mod juggling;
+mod laws;
 mod lock_no;
 mod locked;
 mod looking;
@@ -30,6 +31,7 @@ mod waiting;
 mod walking;
 
 pub use final_store::Final;
+pub use laws::{a_closed_store_bears_out_each_reply, between_commands_a_closed_store_only_lost};
 pub use lock_no::LockNo;
 pub use named::Named;
 pub use pass::Pass;
