@@ -22,7 +22,7 @@ use Rattle.mc_script.specs.Exchanges.{Asks, Exchange, exchange}
 use Rattle.mc_stripe.specs.StripeState.{reply_noted}
 use Rattle.mc_driver.specs.Called.{AreCalled}
 use Rattle.mc_driver.specs.Caller.{IsCallable, lone_histories}
-use Rattle.mc_driver.specs.Noted.{AreBy, IsOf, NotesCommand, answered_event, exchanges_in}
+use Rattle.mc_driver.specs.Noted.{AreBy, IsOf, NotesCommand, answered_event, exchanges_in, key_noted}
 use Rattle.mc_driver.specs.Stand.{AreAlone, Histories, Stand, Stands, calls_at, calls_by, is_command_at, stripe_number}
 use Rattle.mc_driver.proofs.NoteLemmas.{AreBy-append, AreSide, before_side, cooled_side, exchanges_in-append, side_by, side_notes_none}
 use Rattle.mc_driver.proofs.StandLemmas.{Grow, Stand-append, stand_later, stands_later, store_grows}
@@ -124,6 +124,7 @@ at_end (x ∷ xs) ys e = at_end xs ys e
 pub record WasAnswered (caller turn : ℕ) (command : Command) (moment : ℕ) (old new : Store) (place : ℕ) : Type 0 where
   pub reply : Reply
   pub reply_is : reply_noted (slice_get new.stripe.history place) ≡ Some reply
+  pub key_is : key_noted (slice_get new.stripe.history place) ≡ key_of command
   pub gained : List StripeEvent
   pub history_is : new.stripe.history ≡ old.stripe.history ++ gained
   pub by : AreBy caller gained
@@ -151,6 +152,7 @@ was_answered caller turn command moment old new place one answered =
     record {
       reply = answered.reply;
       reply_is = ap reply_noted found;
+      key_is = ap key_noted found;
       gained = gained;
       history_is = answered.history_is ∙ append_assoc old.stripe.history answered.before (did ∷ cooled);
       by = AreBy-append caller answered.before (did ∷ cooled) (side_by who moment answered.before front) (refl, side_by who moment cooled back);
@@ -183,6 +185,13 @@ answered_adds caller turn command moment old new place config callable grow answ
         at = λ calls alone. alone_now caller old new was.gained calls (call ∷ []) config callable.one was.history_is grow was.by (was.noted ∙ sym all) own (was.stands, tt) alone;
       },
     )
+
+-- its key stands where its reply does
+pub answered_key : (caller turn : ℕ) (command : Command) (moment : ℕ) (old new : Store) (place : ℕ) → IsCallable old
+    → IsAnswered old.config (record { caller = caller; turn = turn }) command moment old.stripe new.stripe place → key_noted (slice_get new.stripe.history place) ≡ key_of command
+answered_key caller turn command moment old new place callable answered =
+    let was = was_answered caller turn command moment old new place callable.one answered in
+    was.key_is
 
 -- and a further call may be made
 pub answered_callable : (caller turn : ℕ) (command : Command) (moment : ℕ) (old new : Store) (place : ℕ) → new.config ≡ old.config → IsCallable old → AllGrow old.classes new.classes

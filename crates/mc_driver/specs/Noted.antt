@@ -1,6 +1,7 @@
 -- What the histories of a store note: exchanges, each where it was answered, and whose all other events are (own).
-use Rattle.std.specs.Prelude.{ℕ, ◌≡◌, List, [], ◌∷◌, ◌++◌}
+use Rattle.std.specs.Prelude.{ℕ, ◌≡◌, List, [], ◌∷◌, ◌++◌, Option, Some, None}
 use Rattle.std.specs.List.{flat_map}
+use Rattle.mc_item.specs.Command.{key_of}
 use Rattle.mc_item.specs.declared.class_event.ClassEvent.{ClassEvent}
 use Rattle.mc_item.specs.declared.command.Command.{Command}
 use Rattle.mc_item.specs.declared.config.Config.{Config}
@@ -22,6 +23,13 @@ use Rattle.mc_segment.specs.ClassState.{opened}
 -- the exchange that an answered command is, whatever its room
 abbrev pub exchange_of : Did → Exchange
 exchange_of did = record { who = did.who; call = Asks did.command; moment = did.moment; answer = Replied did.reply }
+
+-- the key of the command that an event notes, where it is there and a command's
+abbrev pub key_noted : Option StripeEvent → List ℕ
+key_noted None = []
+key_noted (Some (events.Did did)) = key_of did.command
+key_noted (Some (events.Lost lost)) = []
+key_noted (Some (events.Cooled cooled)) = []
 
 -- the exchanges that an event of a stripe notes
 abbrev pub exchanges_noted : StripeEvent → List Exchange

@@ -2,7 +2,7 @@
 ghost use Rattle.std.specs.Prelude.{◌≡◌, ◌<◌, ◌-◌, ◌^◌, IfOk, OnOk, IsErrOf};
 ghost use Rattle.mc_item.specs.declared.fault.Fault.TheVariants.{HistoryFull};
 
-use mc_item::{ClassNo, Command, Fault, Moves, Reply, Who};
+use mc_item::{ClassNo, Command, Fault, Moves, Reply, StripeEvent, Who};
 use mc_lone::LoneStore;
 use mc_script::Calls;
 use std::alloc::Global;
@@ -60,6 +60,7 @@ impl Lone {
 impl Calls for Lone {
     ghost use Rattle.std.specs.List.{slice_get};
     ghost use Rattle.mc_driver.specs.Caller.{HasClass, IsCallable, Place, lone_histories, place_of};
+    ghost use Rattle.mc_driver.specs.Noted.{key_noted};
     ghost use Rattle.mc_driver.specs.Stand.{AreAlone};
     ghost use Rattle.mc_lone.specs.Commands.{IsShort};
     ghost use Rattle.mc_stripe.specs.StripeState.{reply_noted};
@@ -77,6 +78,8 @@ impl Calls for Lone {
     ghost notes = { λ s calls. AreAlone s.store.config s.caller (lone_histories s.store) calls };
 
     ghost last = { λ s. reply_noted (slice_get s.store.stripe.history s.last) };
+
+    ghost asked = { λ s. key_noted (slice_get s.store.stripe.history s.last) };
 
     ghost is_full = { λ s. IsShort s.store.stripe s.store.classes };
 
@@ -101,5 +104,13 @@ impl Calls for Lone {
     #[inline(always)]
     fn reply(&self) -> &Reply {
         self.store.stripe().reply_at(self.last).unwrap()
+    }
+
+    #[inline(always)]
+    fn key(&self) -> &[u8] {
+        match self.store.stripe().history().get(self.last as usize) {
+            Some(StripeEvent::Did(did)) => did.command.key().bytes(),
+            _ => b"".as_slice(),
+        }
     }
 }
