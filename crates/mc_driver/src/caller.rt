@@ -8,12 +8,13 @@ use mc_store::{Named, Pass, Store};
 use std::alloc::Global;
 use std::sync::Wait;
 
-/// A caller of a store, with its pass. The reply to its last command is kept.
+/// A caller of a store, with its pass. The reply to its last command is kept, and that command's key.
 #[derive(Drop)]
 pub(crate) struct Caller<'a, N: Named> {
     alloc: Global,
     store: &'a Store<N>,
     pass: Pass<N>,
+    key: Vec<u8>,
     last: Option<Reply>,
 }
 
@@ -26,6 +27,7 @@ impl<'a, N: Named> Caller<'a, N> {
             alloc,
             store,
             pass,
+            key: Vec::new(alloc),
             last: None,
         }
     }
@@ -71,12 +73,16 @@ impl<'a, N: Named> Calls for Caller<'a, N> {
 
     ghost last = { λ s. s.last };
 
+    ghost asked = { λ s. s.key.items };
+
     ghost is_full = { λ s. HasSeenShort N.config s.pass.sight };
 
     ghost may_call = { λ s. 0 < N.config.stripes };
 
     fn command(&mut self, rt: &impl Wait, command: Command, moment: u64) -> Result<(), Fault> {
         self.check_turn()?;
+        self.key.clear();
+        self.key.extend_from_slice(command.key().bytes())?;
         let reply = self
             .store
             .command(self.alloc, rt, &mut self.pass, command, moment)?;
@@ -92,5 +98,9 @@ impl<'a, N: Named> Calls for Caller<'a, N> {
 
     fn reply(&self) -> &Reply {
         self.last.as_ref().unwrap()
+    }
+
+    fn key(&self) -> &[u8] {
+        self.key.as_slice()
     }
 }

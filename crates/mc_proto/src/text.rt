@@ -107,11 +107,11 @@ pub fn push_end(out: &mut Vec<u8>) -> Result<(), NoMemory>
 }
 
 /// Adds a value's text up to its key: `VALUE` and the key. After an `Err` nothing is added.
-pub fn push_value_head(out: &mut Vec<u8>, key: &Key) -> Result<(), NoMemory>
+pub fn push_value_head(out: &mut Vec<u8>, key: &[u8]) -> Result<(), NoMemory>
     ensures ok { OnOk result (out.new.items ≡ out.old.items ++ texts.value_head key.now) }
     ensures err { OnErr result (out.new.items ≡ out.old.items) }
 {
-    push_parts(out, &[b"VALUE ".as_slice(), key.bytes()])
+    push_parts(out, &[b"VALUE ".as_slice(), key])
 }
 
 // Adds a value's flags between two spaces; 0, which is usual, needs no digits.
@@ -233,7 +233,7 @@ pub fn value_text(
 {
     let mut out = Vec::new(alloc);
     if let Reply::Value { .. } = reply {
-        push_value_head(&mut out, key)?;
+        push_value_head(&mut out, key.bytes())?;
         push_value_tail(&mut out, reply, with_cas)?;
     }
     Ok(out)

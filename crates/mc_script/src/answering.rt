@@ -36,14 +36,11 @@ fn answer_key<C: Calls>(
     ensures front { Begins text.old.items text.new.items }
     ensures full { IsErrOf result faults.HistoryFull → C.is_full calls.new }
 {
-    let start = text.len();
-    push_value_head(text, &key)?;
     calls.command(rt, Command::Get(key), moment)?;
     let reply = calls.reply();
     if let Reply::Value { .. } = reply {
+        push_value_head(text, calls.key())?;
         push_value_tail(text, reply, with_cas)?;
-    } else {
-        text.truncate(start);
     }
     Ok(())
 }

@@ -1,5 +1,6 @@
 //! A caller's turns at whatever answers commands.
 ghost use Rattle.std.specs.Prelude.{Option, Some, IsSome, ◌≡◌, ◌≤◌, ◌<◌, ◌+◌, ◌^◌, ◌∷◌, ℕ, List, [], IfOk, OnErr, OnOk, IsErrOf};
+ghost use Rattle.mc_item.specs.Command.{key_of};
 ghost use Rattle.mc_item.specs.declared.fault.Fault.TheVariants as faults;
 ghost use Rattle.mc_item.specs.declared.item.ClassNo.{ClassNo};
 ghost use Rattle.mc_item.specs.declared.reply.Reply.{Reply};
@@ -28,6 +29,8 @@ pub trait Calls: Drop {
 
     ghost last: { Self → Option Reply };
 
+    ghost asked: { Self → List ℕ };
+
     ghost is_full: { Self → Type 0 };
 
     ghost may_call: { Self → Type 0 };
@@ -42,6 +45,7 @@ pub trait Calls: Drop {
         ensures turn { OnOk result (turn self.new ≡ turn self.old + 1) }
         ensures ok { OnOk result ((reply : Reply) × (last self.new ≡ Some reply)
             × Adds (notes self.old) (notes self.new) (exchange (caller self.old) (turn self.old) (Asks command) moment (Replied reply) ∷ [])) }
+        ensures key { OnOk result (asked self.new ≡ key_of command) }
         ensures err { OnErr result (Adds (notes self.old) (notes self.new) []) }
         ensures full { IsErrOf result faults.HistoryFull → is_full self.new };
 
@@ -63,4 +67,8 @@ pub trait Calls: Drop {
     fn reply(&self) -> &Reply
         requires { IsSome (last self.now) }
         ensures { last self.now ≡ Some result.now };
+
+    /// The key of the last command, where nothing was called since.
+    fn key(&self) -> &[u8]
+        ensures { result.now ≡ asked self.now };
 }

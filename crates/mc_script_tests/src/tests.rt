@@ -23,6 +23,7 @@ struct Noted<'a, R: Abort> {
     fails: Option<u64>,
     classes: Vec<u32>,
     moments: Vec<u64>,
+    key: Vec<u8>,
     reply: Reply,
 }
 
@@ -53,15 +54,21 @@ impl<R: Abort> Calls for Noted<'_, R> {
 
     ghost last = { λ m. Some m.reply };
 
+    ghost asked = { λ m. m.key.items };
+
     ghost is_full = { λ m. Unit {0} };
 
     ghost may_call = { λ m. Unit {0} };
 
-    fn command(&mut self, _rt: &impl Wait, _command: Command, _moment: u64) -> Result<(), Fault> {
+    fn command(&mut self, _rt: &impl Wait, command: Command, _moment: u64) -> Result<(), Fault> {
         if self.is_failing() {
             return Err(Fault::NoMemory);
         }
         assert!(self.rt; self.made < 99);
+        self.key.clear();
+        self.key
+            .extend_from_slice(command.key().bytes())
+            .expect(self.rt, "memory");
         self.made += 1;
         Ok(())
     }
@@ -84,6 +91,10 @@ impl<R: Abort> Calls for Noted<'_, R> {
 
     fn reply(&self) -> &Reply {
         &self.reply
+    }
+
+    fn key(&self) -> &[u8] {
+        self.key.as_slice()
     }
 }
 
@@ -159,6 +170,7 @@ fn run_noted<R: Abort + Wait>(rt: &R, alloc: Global, script: &[u8], fails: Optio
         fails,
         classes: Vec::new(alloc),
         moments: Vec::new(alloc),
+        key: Vec::new(alloc),
         reply: Reply::Miss,
     };
     let mut ends = Both {

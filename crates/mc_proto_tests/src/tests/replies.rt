@@ -135,7 +135,7 @@ fn values(rt: HostRuntime) {
     assert!(rt; alone.is_empty());
     let mut out = Vec::new(rt.alloc());
     push_reply(&mut out, &Reply::Number(7)).expect(&rt, "memory");
-    push_value_head(&mut out, &key).expect(&rt, "memory");
+    push_value_head(&mut out, key.bytes()).expect(&rt, "memory");
     push_value_tail(&mut out, &value(&rt, rt.alloc(), b""), false).expect(&rt, "memory");
     push_value_tail(&mut out, &Reply::Stored, true).expect(&rt, "memory");
     push_end(&mut out).expect(&rt, "memory");

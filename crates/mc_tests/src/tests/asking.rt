@@ -66,6 +66,7 @@ impl<L: Ledger> Ends for Watched<'_, L> {
 #[derive(Drop)]
 struct Misses {
     made: u64,
+    key: Vec<u8>,
     reply: Reply,
 }
 
@@ -90,14 +91,18 @@ impl Calls for Misses {
 
     ghost last = { λ m. Some m.reply };
 
+    ghost asked = { λ m. m.key.items };
+
     ghost is_full = { λ m. MOST ≤ m.made };
 
     ghost may_call = { λ m. Unit {0} };
 
-    fn command(&mut self, _rt: &impl Wait, _command: Command, _moment: u64) -> Result<(), Fault> {
+    fn command(&mut self, _rt: &impl Wait, command: Command, _moment: u64) -> Result<(), Fault> {
         if self.made >= MOST {
             return Err(Fault::HistoryFull);
         }
+        self.key.clear();
+        self.key.extend_from_slice(command.key().bytes())?;
         self.made += 1;
         Ok(())
     }
@@ -115,6 +120,10 @@ impl Calls for Misses {
 
     fn reply(&self) -> &Reply {
         &self.reply
+    }
+
+    fn key(&self) -> &[u8] {
+        self.key.as_slice()
     }
 }
 
@@ -140,6 +149,7 @@ fn run_watched<L: Ledger>(
 {
     let mut calls = Misses {
         made: 0,
+        key: Vec::new(alloc),
         reply: Reply::Miss,
     };
     let mut ends = Watched {
