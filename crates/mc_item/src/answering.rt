@@ -1,9 +1,10 @@
 //! The whole table: what any command needs, and its answer.
-ghost use Rattle.std.specs.Prelude.{◌≡◌, ◌+◌, ◌*◌, ◌<◌, ◌≤◌, ◌^◌, IfOk, IfSome, length, ℕ};
+ghost use Rattle.std.specs.Prelude.{◌≡◌, ◌+◌, ◌*◌, ◌<◌, ◌≤◌, ◌^◌, IfOk, IfSome, Some, length, ℕ};
 ghost use Rattle.std.specs.Option.{option_copied};
 ghost use Rattle.mc_item.specs.Answer as answers;
 ghost use Rattle.mc_item.specs.Measure as measure;
 ghost use Rattle.mc_item.specs.Measure.{IsClass, IsNeedOf};
+ghost use Rattle.mc_item.specs.declared.answer.Need.TheVariants as needs;
 ghost use Rattle.mc_item.specs.declared.reply.Room.{Room};
 ghost use Rattle.mc_item.specs.declared.reply.Reply.TheVariants as replies;
 
@@ -92,6 +93,18 @@ impl Site {
         self.class_of(cost(key.bytes().len() as u64, value.bytes().len() as u64))
     }
 
+    // The class of a cost: the one that is known, and else it is sought.
+    #[inline(always)]
+    pub(crate) fn class_for(&self, known: Option<ClassNo>, cost: u64) -> Option<ClassNo>
+        requires { IfSome known (λ class. measure.class_of self.now.sizes cost ≡ Some class) }
+        ensures { result ≡ measure.class_of self.now.sizes cost }
+    {
+        match known {
+            Some(class) => Some(class),
+            None => self.class_of(cost),
+        }
+    }
+
     /// What a command needs, where its key's item is `found`. It is the same at each moment, and after any number
     /// of versions. It takes no memory.
     #[inline(always)]
@@ -116,8 +129,8 @@ impl Site {
     }
 
     /// The answer to a command at a moment of at most 2^62, after a number of versions, where its key's item is
-    /// `found`, absent or alive, and the room fits what the command needs. The cas number of a new version is
-    /// below 2^64.
+    /// `found`, absent or alive, and the room fits what the command needs. Where the command is known to need a chunk
+    /// of a class, that class isn't sought. The cas number of a new version is below 2^64.
     #[inline(always)]
     pub fn answer(
         &self,
@@ -126,10 +139,12 @@ impl Site {
         found: Option<&Item>,
         command: &Command,
         moment: u64,
+        known: Option<ClassNo>,
         room: Room,
     ) -> Result<Answer, NoMemory>
         requires cas { answers.cas_of self.now versions < 2 ^ 64 }
         requires moment { moment ≤ 2 ^ 62 }
+        requires known { IfSome known (λ class. (answers.row_of self.now versions (option_copied found) command.now moment).need ≡ needs.Fresh class) }
         ensures { IfOk result (λ a. a ≡ (answers.row_of self.now versions (option_copied found.entry) command.now moment).answer room) }
     {
         match command {
@@ -146,15 +161,18 @@ impl Site {
                     value,
                     expiry: expiry_of(*exptime, moment),
                 };
-                let class = self.class_of_item(key, value);
+                let cost = cost(key.bytes().len() as u64, value.bytes().len() as u64);
+                let class = self.class_for(known, cost);
                 self.store_answer(alloc, versions, class, *verb, found, &content, room)
             }
             Command::Huge { verb, .. } => Ok(huge_answer(let_go(*verb))),
             Command::Incr(key, delta) => {
-                self.count_answer(alloc, versions, key, Step::Up(*delta), found, room)
+                let step = Step::Up(*delta);
+                self.count_answer(alloc, versions, key, step, found, known, room)
             }
             Command::Decr(key, delta) => {
-                self.count_answer(alloc, versions, key, Step::Down(*delta), found, room)
+                let step = Step::Down(*delta);
+                self.count_answer(alloc, versions, key, step, found, known, room)
             }
             Command::Touch(_, exptime) => Ok(touch_answer(expiry_of(*exptime, moment), found)),
             Command::Delete(_) => Ok(delete_answer(found)),

@@ -8,6 +8,7 @@ ghost use Rattle.mc_item.specs.Measure.{IsClass, IsNeedOf};
 ghost use Rattle.mc_item.specs.declared.item.Link.{Link};
 ghost use Rattle.mc_item.specs.declared.reply.Reply.TheVariants as replies;
 ghost use Rattle.mc_item.specs.declared.answer.Change.TheVariants as changes;
+ghost use Rattle.mc_item.specs.declared.answer.Need.TheVariants as needs;
 
 use crate::answer::{Answer, Change, Need, Site};
 use crate::fault::NoMemory;
@@ -196,9 +197,11 @@ impl Site {
         key: &Key,
         item: &Item,
         counted: Option<u64>,
+        known: Option<ClassNo>,
         room: Room,
     ) -> Result<Answer, NoMemory>
-        requires { answers.cas_of self.now versions < 2 ^ 64 }
+        requires cas { answers.cas_of self.now versions < 2 ^ 64 }
+        requires known { IfSome known (λ class. (answers.number_row self.now versions key.now item.now counted).need ≡ needs.Fresh class) }
         ensures { IfOk result (λ a. a ≡ (answers.number_row self.now versions key.now item.now counted).answer room) }
     {
         let Some(number) = counted else {
@@ -215,11 +218,12 @@ impl Site {
                 change: Change::Counted(padded_text(alloc, number, len)?, self.cas_of(versions)),
             });
         }
-        let class = self.class_of_digits(key, digits);
+        let class = self.class_for(known, cost(key.bytes().len() as u64, digits as u64));
         self.grown_answer(alloc, versions, item, number, class, room)
     }
 
-    /// The answer to `incr` or `decr`. The cas number of a new version is below 2^64.
+    /// The answer to `incr` or `decr`. Where it is known to need a chunk of a class, that class isn't sought. The cas
+    /// number of a new version is below 2^64.
     pub fn count_answer(
         &self,
         alloc: Global,
@@ -227,9 +231,11 @@ impl Site {
         key: &Key,
         step: Step,
         found: Option<&Item>,
+        known: Option<ClassNo>,
         room: Room,
     ) -> Result<Answer, NoMemory>
-        requires { answers.cas_of self.now versions < 2 ^ 64 }
+        requires cas { answers.cas_of self.now versions < 2 ^ 64 }
+        requires known { IfSome known (λ class. (answers.count_row self.now versions key.now (answers.stepped step) (option_copied found)).need ≡ needs.Fresh class) }
         ensures { IfOk result (λ a. a ≡ (answers.count_row self.now versions key.now (answers.stepped step) (option_copied found.entry)).answer room) }
     {
         match found {
@@ -239,7 +245,7 @@ impl Site {
             }),
             Some(item) => {
                 let counted = counted(item, step);
-                self.number_answer(alloc, versions, key, item, counted, room)
+                self.number_answer(alloc, versions, key, item, counted, known, room)
             }
         }
     }

@@ -24,6 +24,7 @@ use Rattle.mc_item.specs.declared.stripe_event.StripeEvent.{StripeEvent}
 use Rattle.mc_item.specs.declared.stripe_event.StripeEvent.TheVariants as events
 use Rattle.mc_item.proofs.StripeLemmas.{cache_of-push, IsLegal-push, versions_of-few}
 use Rattle.mc_stripe.specs.Alone.{IsChunkless}
+use Rattle.mc_stripe.specs.Rooms.{IsOfNeed}
 use Rattle.mc_stripe.specs.StripeState.{IsKept}
 
 -- an event that may happen, with the items and the count that it leaves
@@ -111,6 +112,21 @@ cooled_kept site limit history later versions items now cooled kept below may no
     kept_on site limit history later versions versions items now (events.Cooled cooled) kept may below
     (change_at items now (cache_of site history) cooled.key (cooled_change ((cache_of site history).items cooled.key)) kept.items_are same_change)
     (kept.versions_are ∙ cooled_adds ((cache_of site history).versions) ((cache_of site history).items cooled.key)) (omega arith) later_is
+
+-- a room that fits is of a class only where a chunk of that class is needed
+pub fits_class : (need : Need) (room : Room) (before : List StripeEvent) → Fits need room before → IsOfNeed need room
+fits_class (needs.Fresh class) (rooms.At link) before fits = ap needs.Fresh (sym fits.0)
+fits_class (needs.Fresh class) (rooms.Refused other place) before fits = ap needs.Fresh (sym fits)
+fits_class (needs.Fresh class) rooms.Keep before fits = tt
+fits_class needs.Nothing (rooms.At link) before fits = absurd fits
+fits_class needs.Nothing (rooms.Refused other place) before fits = absurd fits
+fits_class needs.Nothing rooms.Keep before fits = tt
+fits_class needs.Same (rooms.At link) before fits = absurd fits
+fits_class needs.Same (rooms.Refused other place) before fits = absurd fits
+fits_class needs.Same rooms.Keep before fits = tt
+fits_class needs.TooLarge (rooms.At link) before fits = absurd fits
+fits_class needs.TooLarge (rooms.Refused other place) before fits = absurd fits
+fits_class needs.TooLarge rooms.Keep before fits = tt
 
 -- where no fresh chunk is needed, no room fits
 pub chunkless_fits : (need : Need) (before : List StripeEvent) → IsChunkless need → Fits need rooms.Keep before

@@ -5,3 +5,4 @@ pub mod StripeState
 pub mod StripeCalls
 pub mod Plan
 pub mod Alone
+pub mod Rooms

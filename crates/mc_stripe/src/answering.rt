@@ -6,6 +6,7 @@ ghost use Rattle.mc_item.specs.Answer.{cas_of, row_of};
 ghost use Rattle.mc_item.specs.Cache.{changed};
 ghost use Rattle.mc_item.specs.Command.{key_of};
 ghost use Rattle.mc_item.specs.declared.answer.Answer.{Answer};
+ghost use Rattle.mc_stripe.specs.Rooms.{IsOfNeed};
 
 use crate::changing::{Answered, answer_absent, answer_found, remove};
 use crate::in_place::answer_over;
@@ -29,6 +30,7 @@ pub(crate) fn answer_item(
 ) -> Result<Answered, NoMemory>
     requires cas { cas_of site.now versions < 2 ^ 64 }
     requires moment { moment ≤ 2 ^ 62 }
+    requires need { IsOfNeed (row_of site.now versions (get (pointwise nat_eq) items.old (key_of command.now)) command.now moment).need room }
     requires room { 0 < spare items.old }
     ensures ok { IfOk result (λ a. (answer : Answer) × (answer ≡ (row_of site.now versions (get (pointwise nat_eq) items.old (key_of command.now)) command.now moment).answer room)
         × (a.noted ≡ answer.reply) × (a.copy ≡ (if copies then Some answer.reply else None)) × (a.added ≡ Rattle.mc_item.specs.Cache.versions_of answer.change)

@@ -1,5 +1,5 @@
 //! What a command makes of the item under its key.
-ghost use Rattle.std.specs.Prelude.{◌≡◌, ◌≤◌, ◌<◌, ◌+◌, ◌^◌, ℕ, List, IfOk, OnOk, OnErr, nat_eq, if◌then◌else◌, Some, None};
+ghost use Rattle.std.specs.Prelude.{◌≡◌, ◌≤◌, ◌<◌, ◌+◌, ◌^◌, ℕ, List, IfOk, IfSome, OnOk, OnErr, nat_eq, if◌then◌else◌, Some, None};
 ghost use Rattle.std.specs.Option.{option_copied};
 ghost use Rattle.std.specs.Cmp.Lexicographic.{pointwise};
 ghost use Rattle.std.specs.HashMap.{get, spare};
@@ -7,8 +7,11 @@ ghost use Rattle.mc_item.specs.Answer.{cas_of, row_of};
 ghost use Rattle.mc_item.specs.Cache.{changed};
 ghost use Rattle.mc_item.specs.Command.{key_of};
 ghost use Rattle.mc_item.specs.declared.answer.Answer.{Answer};
+ghost use Rattle.mc_item.specs.declared.answer.Need.{Need};
+ghost use Rattle.mc_item.specs.declared.answer.Need.TheVariants as needs;
+ghost use Rattle.mc_stripe.specs.Rooms.{IsOfNeed};
 
-use mc_item::{Answer, Change, Command, Item, Key, NoMemory, Reply, Room, Site};
+use mc_item::{Answer, Change, ClassNo, Command, Item, Key, NoMemory, Reply, Room, Site};
 use std::alloc::Global;
 use std::collections::HashMap;
 use std::hash::RandomState;
@@ -47,6 +50,17 @@ fn versions_of(change: &Change) -> u64
     }
 }
 
+// The class that a room says the command needs a chunk of.
+fn class_in(room: Room) -> Option<ClassNo>
+    ensures { (need : Need) → IsOfNeed need room → IfSome result (λ class. need ≡ needs.Fresh class) }
+{
+    match room {
+        Room::At(link) => Some(link.class),
+        Room::Refused { class, .. } => Some(class),
+        Room::Keep => None,
+    }
+}
+
 // What a command is answered, and what becomes of its key's item.
 #[derive(Drop)]
 struct Effect {
@@ -68,11 +82,15 @@ fn effect_of(
 ) -> Result<Effect, NoMemory>
     requires cas { cas_of site.now versions < 2 ^ 64 }
     requires moment { moment ≤ 2 ^ 62 }
+    requires need { IsOfNeed (row_of site.now versions (option_copied found) command.now moment).need room }
     ensures ok { IfOk result (λ e. (answer : Answer) × (answer ≡ (row_of site.now versions (option_copied found.entry) command.now moment).answer room)
         × (e.answered.noted ≡ answer.reply) × (e.answered.copy ≡ (if copies then Some answer.reply else None)) × (e.answered.added ≡ Rattle.mc_item.specs.Cache.versions_of answer.change)
         × (e.change ≡ answer.change)) }
 {
-    let Answer { reply, change } = site.answer(alloc, versions, found, command, moment, room)?;
+    let known = class_in(room);
+    let Answer { reply, change } = site.answer(
+        alloc, versions, found, command, moment, known, room,
+    )?;
     let copy = copy_if(alloc, &reply, copies)?;
     let added = versions_of(&change);
     Ok(Effect {
@@ -157,6 +175,7 @@ pub(crate) fn answer_found(
 ) -> Result<(Answered, bool), NoMemory>
     requires cas { cas_of site.now versions < 2 ^ 64 }
     requires moment { moment ≤ 2 ^ 62 }
+    requires need { IsOfNeed (row_of site.now versions (Some item.old) command.now moment).need room }
     ensures ok { IfOk result (λ x. (answer : Answer) × (answer ≡ (row_of site.now versions (Some item.old) command.now moment).answer room)
         × (x.0.noted ≡ answer.reply) × (x.0.copy ≡ (if copies then Some answer.reply else None)) × (x.0.added ≡ Rattle.mc_item.specs.Cache.versions_of answer.change)
         × (changed (Some item.old) answer.change ≡ (if x.1 then Some item.new else None))) }
@@ -190,6 +209,7 @@ pub(crate) fn answer_absent(
 ) -> Result<Answered, NoMemory>
     requires cas { cas_of site.now versions < 2 ^ 64 }
     requires moment { moment ≤ 2 ^ 62 }
+    requires need { IsOfNeed (row_of site.now versions None command.now moment).need room }
     requires room { 0 < spare items.old }
     requires absent { get (pointwise nat_eq) items.old (key_of command.now) ≡ None }
     ensures ok { IfOk result (λ a. (answer : Answer) × (answer ≡ (row_of site.now versions None command.now moment).answer room)

@@ -10,6 +10,7 @@ ghost use Rattle.mc_item.specs.declared.reply.Reply.TheVariants as replies;
 ghost use Rattle.mc_item.specs.declared.reply.Room.TheVariants as rooms;
 ghost use Rattle.mc_stripe.specs.Alone.{IsChunkless};
 ghost use Rattle.mc_stripe.specs.Plan.{fate_of};
+ghost use Rattle.mc_stripe.specs.Rooms.{IsOfNeed};
 ghost use Rattle.mc_stripe.specs.declared.fate.Fate.TheVariants as fates;
 
 use crate::changing::Answered;
@@ -54,6 +55,7 @@ pub(crate) fn answer_over(
 ) -> Result<Option<Answered>, NoMemory>
     requires cas { cas_of site.now versions < 2 ^ 64 }
     requires moment { moment ≤ 2 ^ 62 }
+    requires need { IsOfNeed (row_of site.now versions (Some item.old) command.now moment).need room }
     ensures ok { IfOk result (λ answered. IfSome answered (λ a. (answer : Answer) × (answer ≡ (row_of site.now versions (Some item.old) command.now moment).answer room)
         × (a.noted ≡ answer.reply) × (a.copy ≡ (if copies then Some answer.reply else None)) × (a.added ≡ Rattle.mc_item.specs.Cache.versions_of answer.change)
         × (changed (Some item.old) answer.change ≡ Some item.new))) }
@@ -65,18 +67,15 @@ pub(crate) fn answer_over(
     };
     let Command::Store {
         verb,
-        key,
         flags,
         exptime,
         value,
+        ..
     } = command
     else {
         return Ok(None);
     };
     if !stores_over(*verb) {
-        return Ok(None);
-    }
-    if site.class_of_item(key, value).is_none() {
         return Ok(None);
     }
     let content = Content {

@@ -21,7 +21,7 @@ fn told(
     let site = site();
     assert_eq!(rt; site.need(found, command), need);
     let answer = site
-        .answer(alloc, 5, found, command, 1_000, room)
+        .answer(alloc, 5, found, command, 1_000, None, room)
         .expect(rt, "memory");
     shows(rt, alloc, &answer, want);
 }

@@ -75,7 +75,7 @@ fn counts(rt: &impl Abort, alloc: Global, step: Step, text: &[u8], room: Room, w
     let key = key(rt, alloc, b"k");
     let old = item(rt, alloc, text, NO_MARKS);
     let answer = site()
-        .count_answer(alloc, 5, &key, step, Some(&old), room)
+        .count_answer(alloc, 5, &key, step, Some(&old), None, room)
         .expect(rt, "memory");
     shows(rt, alloc, &answer, want);
 }

@@ -92,7 +92,7 @@ pub(super) fn plain(
         stripes: 4,
         sizes: ClassSizes::of(&[66, 70]),
     };
-    let answer = site.answer(alloc, versions, found, command, moment, room)?;
+    let answer = site.answer(alloc, versions, found, command, moment, None, room)?;
     let reply = reply_text(alloc, &answer.reply)?;
     let item = left(alloc, found, answer.change)?;
     let text = item_text(alloc, item.as_ref())?;
