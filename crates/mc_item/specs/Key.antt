@@ -1,6 +1,8 @@
 -- The bytes of a key: which there may be, and what is wrong with others (protocol.txt, "Keys"; the bytes are this profile's own).
 use Rattle.std.specs.Prelude.{ℕ, ◌≡◌, ◌==◌, ◌||◌, List, Bool, not, nat_lt, if◌then◌else◌, Option, Some, None, length}
 use Rattle.std.specs.List.{list_all}
+use Rattle.mc_item.specs.declared.key.Named.{Named}
+use Rattle.mc_item.specs.declared.key.Named.TheVariants.{Short, Long}
 use Rattle.mc_item.specs.declared.key.KeyFault.{KeyFault}
 use Rattle.mc_item.specs.declared.key.KeyFault.TheVariants.{Empty, TooLong, BadByte}
 
@@ -19,3 +21,8 @@ key_fault_of bytes =
 -- these bytes are a key: 1 to 250 bytes, each of which may stand in one
 abbrev pub IsKey : List ℕ → Type 0
 IsKey bytes = key_fault_of bytes ≡ None
+
+-- the bytes of a key, wherever they are
+abbrev pub named_bytes : Named → List ℕ
+named_bytes (Short bytes) = bytes
+named_bytes (Long bytes) = bytes.items

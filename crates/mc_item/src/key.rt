@@ -1,15 +1,17 @@
 //! The names of items.
-ghost use Rattle.std.specs.Prelude.{◌≡◌, ◌∷◌, [], None, nat_eq, IfOk, IfErr, MatchOption};
+ghost use Rattle.std.specs.Prelude.{◌≡◌, ◌∷◌, [], None, nat_eq, IfOk, IfErr, IfSome, MatchOption};
 ghost use Rattle.std.specs.Cmp.{partial_equiv_from_equiv};
 ghost use Rattle.std.specs.Cmp.Lexicographic.{pointwise, nat_list_eq_equiv};
 ghost use Rattle.std.specs.Cmp.Rules.{hashing};
 ghost use Rattle.std.proofs.Common.{rules};
 ghost use Rattle.std.specs.List.{list_all};
-ghost use Rattle.mc_item.specs.Key.{key_fault_of, IsKey};
+ghost use Rattle.mc_item.specs.Key.{key_fault_of, IsKey, named_bytes};
 ghost use Rattle.mc_item.specs.declared.key.KeyFault.TheVariants as faults;
 
 use crate::fault::NoMemory;
+use crate::short::{SHORT_LEN, ShortBytes};
 use std::alloc::{AllocError, Global};
+use std::fmt::{self, Debug, Formatter, Write};
 use std::hash::{Hash, Hasher};
 use std::marker::Model;
 
@@ -37,21 +39,40 @@ impl From<AllocError> for KeyFault {
     }
 }
 
+/// Where a key's bytes are. A copy of a short key takes no memory.
+#[derive(Drop)]
+pub(crate) enum Named {
+    /// Where the key is.
+    Short(ShortBytes),
+    /// Elsewhere, for this key alone.
+    Long(Vec<u8>),
+}
+
+// Shown as its bytes, wherever they are.
+impl Debug for Named {
+    fn fmt<W: Write>(&self, f: &mut Formatter<W>) -> Result<(), fmt::Error> {
+        match self {
+            Named::Short(bytes) => bytes.fmt(f),
+            Named::Long(bytes) => bytes.fmt(f),
+        }
+    }
+}
+
 /// A key: 1 to 250 bytes, none of them 0, 10, 13 or 32. Contracts see it as its bytes.
 #[derive(Debug, Drop)]
 pub struct Key {
-    pub(crate) bytes: Vec<u8>,
+    pub(crate) bytes: Named,
 }
 
 impl Model for Key {
     ghost use Rattle.std.specs.Prelude.{List, ℕ};
-    ghost use Rattle.mc_item.specs.Key.{IsKey};
+    ghost use Rattle.mc_item.specs.Key.{IsKey, named_bytes};
 
     ghost Value = { List ℕ };
 
-    ghost view = { λ k. k.bytes.items };
+    ghost view = { λ k. named_bytes k.bytes };
 
-    ghost invariant = { λ k. IsKey k.bytes.items };
+    ghost invariant = { λ k. IsKey (named_bytes k.bytes) };
 }
 
 // Whether a byte may stand in a key.
@@ -83,6 +104,18 @@ fn fault_of(bytes: &[u8]) -> Option<KeyFault>
     }
 }
 
+// Bytes, where a key has them.
+#[inline(always)]
+fn bytes_for(alloc: Global, bytes: &[u8]) -> Result<Named, AllocError>
+    ensures { IfOk result (λ n. named_bytes n ≡ bytes.now) }
+{
+    if bytes.len() <= SHORT_LEN {
+        Ok(Named::Short(ShortBytes::of(bytes)))
+    } else {
+        Ok(Named::Long(Vec::from_slice(alloc, bytes)?))
+    }
+}
+
 impl Key {
     /// The key of these bytes.
     pub fn of(alloc: Global, bytes: &[u8]) -> Result<Key, KeyFault>
@@ -92,7 +125,7 @@ impl Key {
         match fault_of(bytes) {
             Some(fault) => Err(fault),
             None => Ok(Key {
-                bytes: Vec::from_slice(alloc, bytes)?,
+                bytes: bytes_for(alloc, bytes)?,
             }),
         }
     }
@@ -102,16 +135,37 @@ impl Key {
         ensures value { result.now ≡ self.now }
         ensures valid { IsKey self.now }
     {
-        self.bytes.as_slice()
+        match &self.bytes {
+            Named::Short(bytes) => bytes.as_slice(),
+            Named::Long(bytes) => bytes.as_slice(),
+        }
     }
 
-    /// An equal key.
+    /// An equal key. That of a key of at most 30 bytes takes no memory.
     pub fn copy(&self, alloc: Global) -> Result<Key, NoMemory>
         ensures { IfOk result (λ key. key ≡ self.now) }
     {
-        Ok(Key {
-            bytes: Vec::from_slice(alloc, self.bytes.as_slice())?,
-        })
+        match &self.bytes {
+            Named::Short(bytes) => Ok(Key {
+                bytes: Named::Short(bytes.copy()),
+            }),
+            Named::Long(bytes) => Ok(Key {
+                bytes: Named::Long(Vec::from_slice(alloc, bytes.as_slice())?),
+            }),
+        }
+    }
+
+    /// An equal key, where that takes no memory: of a key of at most 30 bytes.
+    #[inline(always)]
+    pub fn copy_short(&self) -> Option<Key>
+        ensures { IfSome result (λ key. key ≡ self.now) }
+    {
+        match &self.bytes {
+            Named::Short(bytes) => Some(Key {
+                bytes: Named::Short(bytes.copy()),
+            }),
+            Named::Long(_) => None,
+        }
     }
 }
 

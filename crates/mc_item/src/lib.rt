@@ -18,6 +18,7 @@ mod lists;
 mod measure;
 mod numbers;
 mod reply;
+mod short;
 mod spare;
 mod storing;
 mod stripe_event;

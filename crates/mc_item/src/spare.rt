@@ -2,7 +2,7 @@
 ghost use Rattle.std.specs.Prelude.{◌≡◌, ◌≤◌, vec_capacity};
 
 use crate::fault::NoMemory;
-use crate::key::{Key, MAX_KEY_LEN};
+use crate::key::{Key, MAX_KEY_LEN, Named};
 use std::alloc::Global;
 
 /// A buffer that any key fits into: it has place for 250 bytes.
@@ -22,7 +22,9 @@ impl KeyBuffer {
 
     /// The buffer of a key that isn't wanted any more, where it has place for 250 bytes. It takes no memory.
     pub fn of(key: Key) -> Option<KeyBuffer> {
-        let bytes = key.bytes;
+        let Named::Long(bytes) = key.bytes else {
+            return None;
+        };
         if bytes.capacity() < MAX_KEY_LEN {
             return None;
         }
@@ -37,7 +39,9 @@ impl Key {
     {
         let mut bytes = buffer.bytes;
         bytes.clear();
-        bytes.extend_from_slice(self.bytes.as_slice()).unwrap();
-        Key { bytes }
+        bytes.extend_from_slice(self.bytes()).unwrap();
+        Key {
+            bytes: Named::Long(bytes),
+        }
     }
 }

@@ -59,3 +59,20 @@ pub cas_row : (limits : Limits) (ts : List (Bor (List ℕ))) (d : Bor (List ℕ)
     → kinds_say limits quiet (Flags ∷ Exptime ∷ Bytes ∷ CasNumber ∷ []) Noreply (cas limits key) ((get_or ts 1 d).now ∷ (get_or ts 2 d).now ∷ (get_or ts 3 d).now ∷ (get_or ts 4 d).now ∷ [])
     ≡ row_says limits (Key ∷ Flags ∷ Exptime ∷ Bytes ∷ CasNumber ∷ []) Noreply (cas limits) (map (λ t. t.now) ts)
 cas_row limits ts d key quiet some q k = rw (← (five_and_rest ts d some), ← q, ← k) refl
+
+-- four tokens and the others are the tokens
+four_and_rest : (ts : List (Bor (List ℕ))) (d : Bor (List ℕ)) → 4 ≤ length ts
+    → (get_or ts 0 d).now ∷ (get_or ts 1 d).now ∷ (get_or ts 2 d).now ∷ (get_or ts 3 d).now ∷ map (λ t. t.now) (take (length ts - 4) (drop 4 ts)) ≡ map (λ t. t.now) ts
+four_and_rest [] d some = absurd (omega arith)
+four_and_rest (a ∷ []) d some = absurd (omega arith)
+four_and_rest (a ∷ b ∷ []) d some = absurd (omega arith)
+four_and_rest (a ∷ b ∷ c ∷ []) d some = absurd (omega arith)
+four_and_rest (a ∷ b ∷ c ∷ e ∷ ts) d some =
+    ap (λ (rest : List (Bor (List ℕ))). a.now ∷ b.now ∷ c.now ∷ e.now ∷ map (λ t. t.now) rest) (take_all (length (a ∷ b ∷ c ∷ e ∷ ts) - 4) ts (omega arith))
+
+-- a line set, add or replace with a good key, by its tokens
+pub store_row : (limits : Limits) (verb : Verb) (ts : List (Bor (List ℕ))) (d : Bor (List ℕ)) (key : List ℕ) (quiet : Bool) → 4 ≤ length ts
+    → Some quiet ≡ quiet_of [] Noreply (map (λ t. t.now) (take (length ts - 4) (drop 4 ts))) → Some key ≡ key_of (get_or ts 0 d).now
+    → kinds_say limits quiet (Flags ∷ Exptime ∷ Bytes ∷ []) Noreply (store limits verb key) ((get_or ts 1 d).now ∷ (get_or ts 2 d).now ∷ (get_or ts 3 d).now ∷ [])
+    ≡ row_says limits (Key ∷ Flags ∷ Exptime ∷ Bytes ∷ []) Noreply (store limits verb) (map (λ t. t.now) ts)
+store_row limits verb ts d key quiet some q k = rw (← (four_and_rest ts d some), ← q, ← k) refl

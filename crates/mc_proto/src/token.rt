@@ -21,7 +21,9 @@ pub fn line_end(bytes: &[u8]) -> usize
     }
 }
 
-// The index of the first space, or the length where there is none.
+// The index of the first space, or the length where there is none. It stays a loop of its own: within its callers each
+// turn would count a dozen numbers on.
+#[inline(never)]
 fn token_end(bytes: &[u8]) -> usize
     ensures within { result ≤ length bytes.now }
     ensures before { Lacks 32 (take result bytes.now) }

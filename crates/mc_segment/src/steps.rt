@@ -10,13 +10,17 @@ use crate::state::ClassState;
 use mc_item::{ClassEvent, Entry, Fault, Key, KeyBuffer, Linked, NoMemory, Seg, Shifted, Who};
 use std::alloc::Global;
 
-// A copy of a key: in a buffer that was kept, else of the key's own size.
+// A copy of a key: where it lies if it is short, else in a buffer that was kept, else of the key's own size.
+#[inline(always)]
 fn copied(spares: &mut Vec<KeyBuffer>, alloc: Global, key: &Key) -> Result<Key, NoMemory>
     ensures value { IfOk result (λ copy. copy ≡ key.now) }
     ensures kept { vec_len spares.old ≤ vec_len spares.new + 1 }
     ensures err { OnErr result (vec_len spares.new ≡ vec_len spares.old) }
     ensures succeeds { 0 < vec_len spares.old → IsOk result }
 {
+    if let Some(copy) = key.copy_short() {
+        return Ok(copy);
+    }
     match spares.pop() {
         Some(buffer) => Ok(key.copy_into(buffer)),
         None => key.copy(alloc),
