@@ -15,6 +15,7 @@ use mc_stripe::Fate;
 use std::alloc::Global;
 
 /// Finds a class's part of a command, and makes room for its events.
+#[inline(always)]
 pub(crate) fn prepare(
     alloc: Global,
     class: &mut ClassState,
@@ -37,6 +38,7 @@ pub(crate) fn prepare(
 }
 
 /// Makes the events of a class's part, which room was made for.
+#[inline(always)]
 pub(crate) fn make(class: &mut ClassState, part: Part, who: Who, moment: u64, at: u64)
     requires room { words.places_of part ≤ class.old.room }
     requires place { HasPlaces class.old (words.places_of part) }

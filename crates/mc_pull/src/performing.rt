@@ -40,6 +40,7 @@ fn events_of(cooling: bool) -> usize
 }
 
 /// Answers a command on its stripe, and clears its item's mark where a key is given: all growths come first.
+#[inline(always)]
 pub(crate) fn answer(
     stripe: &mut StripeState,
     who: Who,
@@ -69,6 +70,7 @@ pub(crate) fn answer(
 }
 
 /// A command that is lent one class.
+#[inline(always)]
 pub(crate) fn perform_one(
     alloc: Global,
     stripe: &mut StripeState,
@@ -110,6 +112,7 @@ fn is_either_warming(first: &Part, second: &Part) -> bool
 }
 
 /// A command that is lent two classes.
+#[inline(never)]
 pub(crate) fn perform_two(
     alloc: Global,
     stripe: &mut StripeState,
@@ -149,6 +152,7 @@ pub(crate) fn perform_two(
 
 /// Makes one command on a stripe and the classes that it is lent, as `perform_with` does, where its fate is known: that
 /// of its plan in this room. The key is looked up once, and once more where its item goes or is new, or is cooled.
+#[inline(always)]
 pub fn perform_fated(
     alloc: Global,
     stripe: &mut StripeState,

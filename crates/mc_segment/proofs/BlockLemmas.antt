@@ -46,10 +46,10 @@ length_end [] x = refl
 length_end (y ∷ xs) x = let later = length_end xs x in omega arith
 
 -- ---- numbers
-same_parts : (n q : ℕ) → n / 64 ≡ q / 64 → n % 64 ≡ q % 64 → n ≡ q
+same_parts : (n q : ℕ) → n / 16 ≡ q / 16 → n % 16 ≡ q % 16 → n ≡ q
 same_parts n q above below =
-    let a = div-add-mod n 64 in
-    let b = div-add-mod q 64 in
+    let a = div-add-mod n 16 in
+    let b = div-add-mod q 16 in
     omega (arith, a, b, above, below)
 
 -- ---- slots of one block
@@ -73,62 +73,62 @@ slot_grown (x ∷ xs) (suc q) = slot_grown xs q
 
 -- ---- a block changes
 -- a number whose block isn't there has no place
-pub no_block : (bs : List Block) (n : ℕ) → slice_get bs (n / 64) ≡ None → slot bs n ≡ None
-no_block bs n none = ap (λ (o : Option Block). place_in (slots_in o) (n % 64)) none
+pub no_block : (bs : List Block) (n : ℕ) → slice_get bs (n / 16) ≡ None → slot bs n ≡ None
+no_block bs n none = ap (λ (o : Option Block). place_in (slots_in o) (n % 16)) none
 
 -- and so a change there changes nothing
-pub nothing_there : (bs : List Block) (n q : ℕ) (g : Option Place → Option Place) → g None ≡ None → slice_get bs (n / 64) ≡ None → slot bs q ≡ (if n == q then g (slot bs q) else slot bs q)
+pub nothing_there : (bs : List Block) (n q : ℕ) (g : Option Place → Option Place) → g None ≡ None → slice_get bs (n / 16) ≡ None → slot bs q ≡ (if n == q then g (slot bs q) else slot bs q)
 nothing_there bs n q g still none =
     by_eq n q (λ b. slot bs q ≡ (if b then g (slot bs q) else slot bs q))
     (λ same. let here : slot bs q ≡ None = ap (slot bs) (sym same) ∙ no_block bs n none in here ∙ (sym still ∙ ap g (sym here)))
     (λ other. refl)
 
-module _ (bs : List Block) (n : ℕ) (b later : Block) (is : slice_get bs (n / 64) ≡ Some b) where
-  block_here : (q : ℕ) → n / 64 ≡ q / 64 → slice_get (slice_set bs (n / 64) later) (q / 64) ≡ Some later
-  block_here q same = ap (slice_get (slice_set bs (n / 64) later)) (sym same) ∙ get_set_here bs (n / 64) later (get_within bs (n / 64) b is)
+module _ (bs : List Block) (n : ℕ) (b later : Block) (is : slice_get bs (n / 16) ≡ Some b) where
+  block_here : (q : ℕ) → n / 16 ≡ q / 16 → slice_get (slice_set bs (n / 16) later) (q / 16) ≡ Some later
+  block_here q same = ap (slice_get (slice_set bs (n / 16) later)) (sym same) ∙ get_set_here bs (n / 16) later (get_within bs (n / 16) b is)
 
-  block_was : (q : ℕ) → n / 64 ≡ q / 64 → slice_get bs (q / 64) ≡ Some b
+  block_was : (q : ℕ) → n / 16 ≡ q / 16 → slice_get bs (q / 16) ≡ Some b
   block_was q same = ap (slice_get bs) (sym same) ∙ is
 
   -- the slots of the others stay
-  pub other_block : (q : ℕ) → n / 64 ≢ q / 64 → block_of (slice_set bs (n / 64) later) q ≡ block_of bs q
-  other_block q other = ap slots_in (get_set_other bs (n / 64) (q / 64) later other)
+  pub other_block : (q : ℕ) → n / 16 ≢ q / 16 → block_of (slice_set bs (n / 16) later) q ≡ block_of bs q
+  other_block q other = ap slots_in (get_set_other bs (n / 16) (q / 16) later other)
 
   -- the slot of one number changes with its block
-  pub block_changed : (g : Option Place → Option Place) → ((o : ℕ) → place_in later.items o ≡ (if n % 64 == o then g (place_in b.items o) else place_in b.items o))
-      → (q : ℕ) → slot (slice_set bs (n / 64) later) q ≡ (if n == q then g (slot bs q) else slot bs q)
+  pub block_changed : (g : Option Place → Option Place) → ((o : ℕ) → place_in later.items o ≡ (if n % 16 == o then g (place_in b.items o) else place_in b.items o))
+      → (q : ℕ) → slot (slice_set bs (n / 16) later) q ≡ (if n == q then g (slot bs q) else slot bs q)
   block_changed g new q =
-      by_eq (n / 64) (q / 64) (λ _. slot (slice_set bs (n / 64) later) q ≡ (if n == q then g (slot bs q) else slot bs q))
+      by_eq (n / 16) (q / 16) (λ _. slot (slice_set bs (n / 16) later) q ≡ (if n == q then g (slot bs q) else slot bs q))
       (λ same.
-      let now : slot (slice_set bs (n / 64) later) q ≡ place_in later.items (q % 64) = ap (λ (o : Option Block). place_in (slots_in o) (q % 64)) (block_here q same) in
-      let was : slot bs q ≡ place_in b.items (q % 64) = ap (λ (o : Option Block). place_in (slots_in o) (q % 64)) (block_was q same) in
-      let P : Bool → Type 0 = λ t. (if n % 64 == q % 64 then g (place_in b.items (q % 64)) else place_in b.items (q % 64)) ≡ (if t then g (place_in b.items (q % 64)) else place_in b.items (q % 64)) in
+      let now : slot (slice_set bs (n / 16) later) q ≡ place_in later.items (q % 16) = ap (λ (o : Option Block). place_in (slots_in o) (q % 16)) (block_here q same) in
+      let was : slot bs q ≡ place_in b.items (q % 16) = ap (λ (o : Option Block). place_in (slots_in o) (q % 16)) (block_was q same) in
+      let P : Bool → Type 0 = λ t. (if n % 16 == q % 16 then g (place_in b.items (q % 16)) else place_in b.items (q % 16)) ≡ (if t then g (place_in b.items (q % 16)) else place_in b.items (q % 16)) in
       let tests : P (n == q) = by_eq n q P
-      (λ eq. ap (λ (t : Bool). if t then g (place_in b.items (q % 64)) else place_in b.items (q % 64)) (ap (λ (m : ℕ). n % 64 == m % 64) (sym eq) ∙ itself (n % 64)))
-      (λ not. ap (λ (t : Bool). if t then g (place_in b.items (q % 64)) else place_in b.items (q % 64)) (not_equal (n % 64) (q % 64) (λ low. not (same_parts n q same low)))) in
-      now ∙ (new (q % 64) ∙ (tests ∙ ap (λ (o : Option Place). if n == q then g o else o) (sym was))))
+      (λ eq. ap (λ (t : Bool). if t then g (place_in b.items (q % 16)) else place_in b.items (q % 16)) (ap (λ (m : ℕ). n % 16 == m % 16) (sym eq) ∙ itself (n % 16)))
+      (λ not. ap (λ (t : Bool). if t then g (place_in b.items (q % 16)) else place_in b.items (q % 16)) (not_equal (n % 16) (q % 16) (λ low. not (same_parts n q same low)))) in
+      now ∙ (new (q % 16) ∙ (tests ∙ ap (λ (o : Option Place). if n == q then g o else o) (sym was))))
       (λ other.
-      ap (λ (xs : List (Option Place)). place_in xs (q % 64)) (other_block q other)
-      ∙ ap (λ (t : Bool). if t then g (slot bs q) else slot bs q) (sym (not_equal n q (λ eq. other (ap (λ (m : ℕ). m / 64) eq)))))
+      ap (λ (xs : List (Option Place)). place_in xs (q % 16)) (other_block q other)
+      ∙ ap (λ (t : Bool). if t then g (slot bs q) else slot bs q) (sym (not_equal n q (λ eq. other (ap (λ (m : ℕ). m / 16) eq)))))
 
   -- blocks of the same lengths
-  pub same_shape : length later.items ≡ length b.items → IsShaped bs (slice_set bs (n / 64) later)
+  pub same_shape : length later.items ≡ length b.items → IsShaped bs (slice_set bs (n / 16) later)
   same_shape len = record {
-    blocks = length-set bs (n / 64) later;
-    slots = λ q. by_eq (n / 64) (q / 64) (λ _. slots_of (slice_set bs (n / 64) later) q ≡ slots_of bs q)
+    blocks = length-set bs (n / 16) later;
+    slots = λ q. by_eq (n / 16) (q / 16) (λ _. slots_of (slice_set bs (n / 16) later) q ≡ slots_of bs q)
         (λ same. ap (λ (o : Option Block). length (slots_in o)) (block_here q same) ∙ (len ∙ ap (λ (o : Option Block). length (slots_in o)) (sym (block_was q same))))
         (λ other. ap (λ (xs : List (Option Place)). length xs) (other_block q other));
   }
 
   -- a block without places is given back
-  pub given_back : later.items ≡ [] → ((o : ℕ) → place_in b.items o ≡ None) → (q : ℕ) → slot (slice_set bs (n / 64) later) q ≡ slot bs q
+  pub given_back : later.items ≡ [] → ((o : ℕ) → place_in b.items o ≡ None) → (q : ℕ) → slot (slice_set bs (n / 16) later) q ≡ slot bs q
   given_back none free q =
-      by_eq (n / 64) (q / 64) (λ _. slot (slice_set bs (n / 64) later) q ≡ slot bs q)
+      by_eq (n / 16) (q / 16) (λ _. slot (slice_set bs (n / 16) later) q ≡ slot bs q)
       (λ same.
-      ap (λ (o : Option Block). place_in (slots_in o) (q % 64)) (block_here q same)
-      ∙ (ap (λ (xs : List (Option Place)). place_in xs (q % 64)) none
-      ∙ sym (ap (λ (o : Option Block). place_in (slots_in o) (q % 64)) (block_was q same) ∙ free (q % 64))))
-      (λ other. ap (λ (xs : List (Option Place)). place_in xs (q % 64)) (other_block q other))
+      ap (λ (o : Option Block). place_in (slots_in o) (q % 16)) (block_here q same)
+      ∙ (ap (λ (xs : List (Option Place)). place_in xs (q % 16)) none
+      ∙ sym (ap (λ (o : Option Block). place_in (slots_in o) (q % 16)) (block_was q same) ∙ free (q % 16))))
+      (λ other. ap (λ (xs : List (Option Place)). place_in xs (q % 16)) (other_block q other))
 
 pub shape_self : (bs : List Block) → IsShaped bs bs
 shape_self bs = record { blocks = refl; slots = λ q. refl }
@@ -146,39 +146,39 @@ pub longer_self : (bs : List Block) → IsLonger bs bs
 longer_self bs = record { blocks = omega arith; slots = λ q. refl; old = λ q within. refl; made = λ q past within. absurd (omega arith) }
 
 -- a number below the first n blocks' has its block among them
-block_below : (q n : ℕ) → q < 64 * n → q / 64 < n
-block_below q n h = let a = div-add-mod q 64 in omega (arith, a)
+block_below : (q n : ℕ) → q < 16 * n → q / 16 < n
+block_below q n h = let a = div-add-mod q 16 in omega (arith, a)
 
-block_past : (q n : ℕ) → 64 * n ≤ q → n ≤ q / 64
-block_past q n h = let a = div-add-mod q 64 in omega (arith, a)
+block_past : (q n : ℕ) → 16 * n ≤ q → n ≤ q / 16
+block_past q n h = let a = div-add-mod q 16 in omega (arith, a)
 
-low_part : (q : ℕ) → q % 64 < 64
+low_part : (q : ℕ) → q % 16 < 16
 low_part q = omega arith
 
-pub longer_more : (bs later : List Block) (b : Block) → IsLonger bs later → length b.items ≡ 64 → ((o : ℕ) → place_in b.items o ≡ None) → IsLonger bs (later ++ b ∷ [])
+pub longer_more : (bs later : List Block) (b : Block) → IsLonger bs later → length b.items ≡ 16 → ((o : ℕ) → place_in b.items o ≡ None) → IsLonger bs (later ++ b ∷ [])
 longer_more bs later b was len free =
     let size = length_end later b in
-    let before : (q : ℕ) → q / 64 < length later → block_of (later ++ b ∷ []) q ≡ block_of later q = λ q h. ap slots_in (get_before later b (q / 64) h) in
-    let behind : (q : ℕ) → length later ≤ q / 64 → block_of later q ≡ [] = λ q h. ap slots_in (get_past later (q / 64) h) in
-    let here : (q : ℕ) → q / 64 ≡ length later → block_of (later ++ b ∷ []) q ≡ b.items = λ q h. ap slots_in (get_end later b (q / 64) h) in
-    let past : (q : ℕ) → length later < q / 64 → block_of (later ++ b ∷ []) q ≡ [] = λ q h. ap slots_in (get_past (later ++ b ∷ []) (q / 64) (omega (arith, size))) in
-    let at : List (Option Place) → ℕ → Option Place = λ xs q. place_in xs (q % 64) in
+    let before : (q : ℕ) → q / 16 < length later → block_of (later ++ b ∷ []) q ≡ block_of later q = λ q h. ap slots_in (get_before later b (q / 16) h) in
+    let behind : (q : ℕ) → length later ≤ q / 16 → block_of later q ≡ [] = λ q h. ap slots_in (get_past later (q / 16) h) in
+    let here : (q : ℕ) → q / 16 ≡ length later → block_of (later ++ b ∷ []) q ≡ b.items = λ q h. ap slots_in (get_end later b (q / 16) h) in
+    let past : (q : ℕ) → length later < q / 16 → block_of (later ++ b ∷ []) q ≡ [] = λ q h. ap slots_in (get_past (later ++ b ∷ []) (q / 16) (omega (arith, size))) in
+    let at : List (Option Place) → ℕ → Option Place = λ xs q. place_in xs (q % 16) in
     record {
       blocks = let less = was.blocks in omega (arith, size);
-      slots = λ q. elim (cases_lt (q / 64) (length later)) [
+      slots = λ q. elim (cases_lt (q / 16) (length later)) [
         | inl less ↦ ap (λ (xs : List (Option Place)). at xs q) (before q less) ∙ was.slots q
         | inr more ↦
             let none : slot later q ≡ None = ap (λ (xs : List (Option Place)). at xs q) (behind q more) in
-            (elim (cases_lt (length later) (q / 64)) [
+            (elim (cases_lt (length later) (q / 16)) [
               | inl beyond ↦ ap (λ (xs : List (Option Place)). at xs q) (past q beyond) ∙ (sym none ∙ was.slots q)
-              | inr here_most ↦ ap (λ (xs : List (Option Place)). at xs q) (here q (omega arith)) ∙ (free (q % 64) ∙ (sym none ∙ was.slots q))
+              | inr here_most ↦ ap (λ (xs : List (Option Place)). at xs q) (here q (omega arith)) ∙ (free (q % 16) ∙ (sym none ∙ was.slots q))
             ])
       ];
       old = λ q within. ap (λ (xs : List (Option Place)). length xs) (before q (let less = was.blocks in block_below q (length later) (omega arith))) ∙ was.old q within;
-      made = λ q above within. elim (cases_lt (q / 64) (length later)) [
+      made = λ q above within. elim (cases_lt (q / 16) (length later)) [
         | inl less ↦
             let same = ap (λ (xs : List (Option Place)). length xs) (before q less) in
-            let made = was.made q above (let a = div-add-mod q 64 in omega (arith, a)) in
+            let made = was.made q above (let a = div-add-mod q 16 in omega (arith, a)) in
             omega (arith, same, made)
         | inr more ↦
             let most = block_below q (length (later ++ b ∷ [])) within in
@@ -191,7 +191,7 @@ longer_more bs later b was len free =
 pub longer_ready : (bs later : List Block) (next : ℕ) → IsLonger bs later → IsReady bs next → IsReady later next
 longer_ready bs later next more ready =
     let size = more.blocks in record {
-      ahead = λ q past within. elim (cases_lt q (64 * length bs)) [
+      ahead = λ q past within. elim (cases_lt q (16 * length bs)) [
         | inl less ↦ let same = more.old q less in let here = ready.ahead q past less in omega (arith, same, here)
         | inr beyond ↦ more.made q beyond within
       ];
@@ -199,11 +199,11 @@ longer_ready bs later next more ready =
     }
 
 -- a block all of whose numbers were given is given back
-pub back_ready : (bs later : List Block) (n next : ℕ) → length later ≡ length bs → ((q : ℕ) → n / 64 ≢ q / 64 → slots_of later q ≡ slots_of bs q) → n / 64 < next / 64 → IsReady bs next → IsReady later next
+pub back_ready : (bs later : List Block) (n next : ℕ) → length later ≡ length bs → ((q : ℕ) → n / 16 ≢ q / 16 → slots_of later q ≡ slots_of bs q) → n / 16 < next / 16 → IsReady bs next → IsReady later next
 back_ready bs later n next size other less ready = record {
   ahead = λ q past within.
-      let a = div-add-mod q 64 in
-      let b = div-add-mod next 64 in
+      let a = div-add-mod q 16 in
+      let b = div-add-mod next 16 in
       let low = low_part next in
       let same = other q (λ eq. absurd (omega (arith, a, b, low, past, less, eq))) in
       let here = ready.ahead q past (omega (arith, size)) in

@@ -25,7 +25,7 @@ held lists next room blocks = record { lists = lists; next = next; room = room; 
 
 -- the number has a slot in memory
 abbrev pub HasSlot : Held → ℕ → Type 0
-HasSlot h q = q % 64 < slots_of h.blocks q
+HasSlot h q = q % 16 < slots_of h.blocks q
 
 -- the bytes of all four lists
 abbrev pub all_bytes : Lists → ℕ

@@ -1,11 +1,11 @@
--- Slots of entries under their numbers, in blocks of 64 numbers that come one after the other.
+-- Slots of entries under their numbers, in blocks of 16 numbers that come one after the other.
 use Rattle.std.specs.Prelude.{ℕ, ◌≡◌, ◌*◌, ◌/◌, ◌%◌, ◌<◌, ◌≤◌, List, [], Option, Some, None, Vec, if◌then◌else◌, length, slice_get}
 use Rattle.std.specs.Option.{option_map}
 use Rattle.std.specs.declared.alloc.Global.{Global}
 use Rattle.mc_segment.specs.declared.arena.Place.{Place}
 use Rattle.mc_segment.specs.Links.{with_newer, with_older, points_to}
 
--- the slots of 64 numbers, as memory holds them
+-- the slots of 16 numbers, as memory holds them
 abbrev pub Block : Type 0
 Block = Vec (Option Place) Global
 
@@ -25,7 +25,7 @@ slots_in (Some b) = b.items
 
 -- the slots of the block that a number belongs to; a block that was given back has none
 abbrev pub block_of : List Block → ℕ → List (Option Place)
-block_of bs q = slots_in (slice_get bs (q / 64))
+block_of bs q = slots_in (slice_get bs (q / 16))
 
 -- how many slots that block has
 abbrev pub slots_of : List Block → ℕ → ℕ
@@ -33,7 +33,7 @@ slots_of bs q = length (block_of bs q)
 
 -- the place of a number
 abbrev pub slot : List Block → ℕ → Option Place
-slot bs q = place_in (block_of bs q) (q % 64)
+slot bs q = place_in (block_of bs q) (q % 16)
 
 -- a place whose node has another number before it
 abbrev pub renewed : Option ℕ → Place → Place
@@ -60,10 +60,10 @@ pub record IsShaped (bs bs' : List Block) : Type 0 where
 pub record IsLonger (bs bs' : List Block) : Type 0 where
   pub blocks : length bs ≤ length bs'
   pub slots : (q : ℕ) → slot bs' q ≡ slot bs q
-  pub old : (q : ℕ) → q < 64 * length bs → slots_of bs' q ≡ slots_of bs q
-  pub made : (q : ℕ) → 64 * length bs ≤ q → q < 64 * length bs' → q % 64 < slots_of bs' q
+  pub old : (q : ℕ) → q < 16 * length bs → slots_of bs' q ≡ slots_of bs q
+  pub made : (q : ℕ) → 16 * length bs ≤ q → q < 16 * length bs' → q % 16 < slots_of bs' q
 
 -- each number from the next one on that a block was made for has a slot, and the next number is not past the blocks
 pub record IsReady (bs : List Block) (next : ℕ) : Type 0 where
-  pub ahead : (q : ℕ) → next ≤ q → q < 64 * length bs → q % 64 < slots_of bs q
-  pub inside : next ≤ 64 * length bs
+  pub ahead : (q : ℕ) → next ≤ q → q < 16 * length bs → q % 16 < slots_of bs q
+  pub inside : next ≤ 16 * length bs

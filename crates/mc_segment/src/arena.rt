@@ -41,7 +41,7 @@ impl Model for Arena {
 
     ghost Value = { Held };
 
-    ghost view = { λ a. held (lists_in (slot a.slots.items) a.heads) a.next (64 * length a.slots.items - a.next) a.slots.items };
+    ghost view = { λ a. held (lists_in (slot a.slots.items) a.heads) a.next (16 * length a.slots.items - a.next) a.slots.items };
 
     ghost invariant = { λ a. IsKept a.slots.items a.next a.heads };
 }
@@ -147,6 +147,7 @@ impl Arena {
     }
 
     // Puts an entry at a head, where its number is in no list.
+    #[inline(always)]
     fn put(&mut self, seg: Seg, entry: Entry)
         requires absent { found entry.number self.old.lists ≡ None }
         requires inside { entry.number < self.old.next }
@@ -186,6 +187,7 @@ impl Arena {
     }
 
     // Takes the entry of a number out of the list that it is in.
+    #[inline(always)]
     fn take(&mut self, number: u64) -> Option<(Seg, Entry)>
         ensures entry { result ≡ found number self.old.lists }
         ensures there { IfSome result (λ p. find number (list_of self.old.lists p.0) ≡ Some p.1) }

@@ -1,4 +1,4 @@
-//! One block of slots: the places of 64 numbers that come one after the other.
+//! One block of slots: the places of 16 numbers that come one after the other.
 ghost use Rattle.std.specs.Prelude.{◌≡◌, ◌<◌, ◌==◌, ◌≤◌, ℕ, Some, None, IsTrue, IfOk, if◌then◌else◌, vec_len, length};
 ghost use Rattle.std.specs.Option.{option_copied, option_map};
 ghost use Rattle.mc_segment.specs.Slots.{place_in, renewed, reolded};
@@ -7,11 +7,11 @@ use crate::arena::Place;
 use std::alloc::{AllocError, Global};
 
 /// How many numbers share a block.
-pub(crate) const BLOCK_LEN: u64 = 64;
+pub(crate) const BLOCK_LEN: u64 = 16;
 
 // A block of empty slots.
 pub(crate) fn new_block(alloc: Global) -> Result<Vec<Option<Place>>, AllocError>
-    ensures { IfOk result (λ block. (length block.items ≡ 64) × ((o : ℕ) → place_in block.items o ≡ None)) }
+    ensures { IfOk result (λ block. (length block.items ≡ 16) × ((o : ℕ) → place_in block.items o ≡ None)) }
 {
     let mut block = Vec::with_capacity(alloc, BLOCK_LEN as usize)?;
     for _ in 0..BLOCK_LEN {

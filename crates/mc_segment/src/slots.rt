@@ -49,7 +49,7 @@ pub(crate) fn empty(slots: &mut Vec<Vec<Option<Place>>>, number: u64) -> Option<
 
 // Fills a slot.
 pub(crate) fn fill(slots: &mut Vec<Vec<Option<Place>>>, number: u64, place: Place)
-    requires { number % 64 < slots_of slots.old.items number }
+    requires { number % 16 < slots_of slots.old.items number }
     ensures slots { (q : ℕ) → slot slots.new.items q ≡ (if number == q then Some place else slot slots.old.items q) }
     ensures shape { IsShaped slots.old.items slots.new.items }
 {
@@ -89,7 +89,7 @@ pub(crate) fn set_older(slots: &mut Vec<Vec<Option<Place>>>, at: Option<u64>, to
 pub(crate) fn give_back(slots: &mut Vec<Vec<Option<Place>>>, alloc: Global, number: u64)
     ensures slots { (q : ℕ) → slot slots.new.items q ≡ slot slots.old.items q }
     ensures blocks { length slots.new.items ≡ length slots.old.items }
-    ensures others { (q : ℕ) → number / 64 ≢ q / 64 → slots_of slots.new.items q ≡ slots_of slots.old.items q }
+    ensures others { (q : ℕ) → number / 16 ≢ q / 16 → slots_of slots.new.items q ≡ slots_of slots.old.items q }
 {
     if let Some(block) = slots.get_mut((number / BLOCK_LEN) as usize) {
         if is_free(block) {

@@ -83,6 +83,7 @@ impl ClassState {
     }
 
     // Takes an entry out of its list for an event that does so.
+    #[inline(always)]
     pub(crate) fn leave(&mut self, number: u64, event: ClassEvent) -> Result<(), Fault>
         requires there { IsListed number (lists_of self.old.history) }
         requires lawful { MayCome self.old event }

@@ -8,13 +8,14 @@ ghost use Rattle.mc_item.specs.declared.answer.Need.TheVariants as needs;
 ghost use Rattle.mc_stripe.specs.Plan.{AreHeld, Foresees, IsHeld};
 ghost use Rattle.mc_stripe.specs.declared.fate.Fate.TheVariants as fates;
 
-use crate::fate::{Fate, let_go_fate, link_of};
+use crate::fate::{Fate, gone_fate, let_go_fate, link_of};
 use crate::planning::{Plan, plan_of_either};
 use mc_item::{
     ClassNo, Expiry, Item, Key, Link, Need, Site, Step, Value, Verb, cost, counted, digits_len,
 };
 
 // The plan of a row that needs a chunk of a class for a new version.
+#[inline(always)]
 fn fresh_plan(
     site: &Site,
     class: ClassNo,
@@ -42,7 +43,23 @@ fn fresh_plan(
     }
 }
 
+// The plan of a row that needs a chunk of a class in place of an item's, which stays where it is given none.
+#[inline(always)]
+fn replacing_plan(site: &Site, class: ClassNo, cost: u64, expiry: Expiry, item: &Item) -> Plan
+    requires class { class_of site.now.sizes cost ≡ Some class }
+    requires bound { IsClass site.now.sizes class }
+    requires small { cost ≤ 2 ^ 20 }
+    ensures need { result.need ≡ needs.Fresh class }
+    ensures with_link { result.with_link ≡ fates.Renewed cost expiry (Some item.now.link) }
+    ensures without_link { result.without_link ≡ fates.Untouched }
+    ensures bound { IsNeedOf site.now.sizes result.need }
+    ensures held { AreHeld site.now.sizes result }
+{
+    fresh_plan(site, class, cost, expiry, Some(item.link), Fate::Untouched)
+}
+
 /// The plan of a storage command for the item that it finds, which is alive.
+#[inline(always)]
 pub(crate) fn store_plan(
     site: &Site,
     key: &Key,
@@ -61,22 +78,28 @@ pub(crate) fn store_plan(
     let Some(class) = site.class_of(cost) else {
         return plan_of_either(Need::TooLarge, let_go_fate(verb, found));
     };
-    let refused = let_go_fate(verb, found);
-    let fresh = fresh_plan(site, class, cost, expiry, link_of(found), refused);
-    let nothing = plan_of_either(Need::Nothing, Fate::Untouched);
     match verb {
-        Verb::Set => fresh,
+        Verb::Set => {
+            let refused = gone_fate(found);
+            fresh_plan(site, class, cost, expiry, link_of(found), refused)
+        }
         Verb::Add => match found {
-            Some(_) => nothing,
-            None => fresh,
+            Some(_) => plan_of_either(Need::Nothing, Fate::Untouched),
+            None => fresh_plan(site, class, cost, expiry, None, Fate::Untouched),
         },
         Verb::Replace => match found {
-            Some(_) => fresh,
-            None => nothing,
+            Some(item) => replacing_plan(site, class, cost, expiry, item),
+            None => plan_of_either(Need::Nothing, Fate::Untouched),
         },
         Verb::Cas(unique) => match found {
-            None => nothing,
-            Some(item) => { if item.cas == unique { fresh } else { nothing } }
+            None => plan_of_either(Need::Nothing, Fate::Untouched),
+            Some(item) => {
+                if item.cas == unique {
+                    replacing_plan(site, class, cost, expiry, item)
+                } else {
+                    plan_of_either(Need::Nothing, Fate::Untouched)
+                }
+            }
         },
     }
 }

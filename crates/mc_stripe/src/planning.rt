@@ -25,6 +25,7 @@ pub struct Plan {
 }
 
 /// The plan of a row whose answer doesn't depend on the room, for an item that is alive or absent.
+#[inline(always)]
 pub(crate) fn plan_of_either(need: Need, fate: Fate) -> Plan
     ensures need { result.need ≡ need }
     ensures with_link { result.with_link ≡ fate }
@@ -39,6 +40,7 @@ pub(crate) fn plan_of_either(need: Need, fate: Fate) -> Plan
 }
 
 /// The plan of a command for the item of its key, which is alive or absent.
+#[inline(always)]
 pub(crate) fn plan_of(site: &Site, found: Option<&Item>, command: &Command, moment: u64) -> Plan
     requires moment { moment ≤ 2 ^ 62 }
     requires small { All (λ size. size ≤ 2 ^ 20) site.now.sizes }
@@ -96,12 +98,8 @@ impl StripeState {
         ensures held { AreHeld self.now.site.sizes result }
     {
         let found = self.items.get(command.key());
-        let plan = plan_of(&self.site, alive(found, moment), command, moment);
-        Plan {
-            dead: dead_link(found, moment),
-            need: plan.need,
-            with_link: plan.with_link,
-            without_link: plan.without_link,
-        }
+        let mut plan = plan_of(&self.site, alive(found, moment), command, moment);
+        plan.dead = dead_link(found, moment);
+        plan
     }
 }

@@ -8,5 +8,5 @@ returns-in_default-clause-held c =
     let refused = c.let_go_fate.ensures.held c.args.site.now.sizes in
     (subst held (sym c.plan_of_either.ensures.with_link) refused, subst held (sym c.plan_of_either.ensures.without_link) refused)
 
-pub fresh_plan-fresh-requires-clause-held : goal.fresh_plan-fresh-requires-clause-held
-fresh_plan-fresh-requires-clause-held c = c.let_go_fate-refused.ensures.held c.args.site.now.sizes
+pub fresh_plan-requires-clause-held : goal.fresh_plan-requires-clause-held
+fresh_plan-requires-clause-held c = c.gone_fate-refused.ensures.held c.args.site.now.sizes

@@ -17,5 +17,5 @@ returns-then-number-self c =
     let kept = same_slots _ _ _ _ (seen _ _ _ _ _ c.self.view_is c.self.invariant) (slot c.give_back.new.slots.items) given.slots in (
       whole _ _ _ _ kept,
       ap (λ (v : Held). v.next) c.self.view_is,
-      ap (λ (n : ℕ). 64 * n - c.self.inside.next) given.blocks ∙ ap (λ (v : Held). v.room) c.self.view_is,
+      ap (λ (n : ℕ). 16 * n - c.self.inside.next) given.blocks ∙ ap (λ (v : Held). v.room) c.self.view_is,
     )

@@ -80,7 +80,7 @@ returns-clause-sums c =
 pub returns-clause-slot : goal.returns-clause-slot
 returns-clause-slot c =
     let n = c.args.number in
-    let inside = slot_inside _ (n % 64) _ (sym c.in_ok-place.ensures.place) in
+    let inside = slot_inside _ (n % 16) _ (sym c.in_ok-place.ensures.place) in
     omega (arith, inside, c.empty.ensures.shape.slots n, c.set_older.ensures.shape.slots n, c.set_newer.ensures.shape.slots n)
 
 pub returns-clause-fits : goal.returns-clause-fits
