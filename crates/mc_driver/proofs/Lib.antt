@@ -5,4 +5,5 @@ pub mod LeftLemmas
 pub mod StartLemmas
 pub mod WordLemmas
 pub mod OptionLemmas
+pub mod PassLemmas
 pub mod ReadingLemmas
