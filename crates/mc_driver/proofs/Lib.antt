@@ -7,4 +7,5 @@ pub mod LeftLemmas
 pub mod StartLemmas
 pub mod WordLemmas
 pub mod OptionLemmas
+pub mod PassLemmas
 pub mod ReadingLemmas

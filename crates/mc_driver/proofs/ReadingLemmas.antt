@@ -1,5 +1,5 @@
 -- What is read of the words: no fault, the sizes' text, what the other options say.
-use Rattle.std.proofs.Common.{◌≡◌, ◌∙◌, ◌<◌, ◌^◌, ℕ, Bool, true, false, List, [], Option, Some, None, ap, arith, codes, length, refl, rules, subst, sym}
+use Rattle.std.proofs.Common.{◌≡◌, ◌∙◌, ◌<◌, ◌≤◌, ◌^◌, ℕ, Bool, true, false, List, [], Option, Some, None, ap, arith, codes, length, refl, rules, subst, sym}
 use Rattle.std.proofs.lemmas.Bool.Decides.{nat_tests}
 use Rattle.std.proofs.lemmas.Str.Parse.{IsNumeralModel, numerals_by_fold}
 use Rattle.std.proofs.lemmas.Slice.Eq.{bytes_eq-Decides}
@@ -22,7 +22,8 @@ use Rattle.mc_driver.specs.declared.plans.Options.{Options}
 use Rattle.mc_driver.specs.declared.plans.PlanFault.{PlanFault}
 use Rattle.mc_driver.specs.declared.plans.PlanFault.TheVariants as plan_faults
 use Rattle.mc_driver.specs.declared.words.WordsFault.TheVariants as words_faults
-use Rattle.mc_driver.proofs.OptionLemmas.{chunks_option, events_option, is_free, option_passes, rows_are, temp_option, temp_ttl_option}
+use Rattle.mc_driver.proofs.OptionLemmas.{chunks_option, events_option, is_free, rows_are, temp_option, temp_ttl_option}
+use Rattle.mc_driver.proofs.PassLemmas.{option_passes, stripes_pass}
 
 -- std's numerals are read as these digits are
 reads_digits : IsNumeralModel (λ (digits : List ℕ). list_all is_digit digits ≡ true) (number_from 0)
@@ -38,19 +39,25 @@ numeral_read digits is small =
     let number : number_in digits ≡ Some (number_of digits) = grind (arith, nat_tests) in
     number ∙ ap Some same
 
--- what the reader of a number promises of a text
-abbrev pub ReadsNumber : List ℕ → Result ℕ ParseIntError → Type 0
-ReadsNumber t r = ParsesUnsigned 64 10 t r × ExplainsUnsignedError 10 t r × HasUnsignedDigitsIfOk t r
+-- what the reader of a number of so many bits promises of a text
+abbrev pub ReadsNumber : ℕ → List ℕ → Result ℕ ParseIntError → Type 0
+ReadsNumber bits t r = ParsesUnsigned bits 10 t r × ExplainsUnsignedError 10 t r × HasUnsignedDigitsIfOk t r
 
 -- what is read of a text that passed is its number
-pub number_read : (text : Option Text) (r : Option ℕ) → (text ≡ None → r ≡ None) → ((t : Text) → text ≡ Some t → ReadsOne ReadsNumber t r)
-    → IsNumberRead text r
-number_read None r none value passes = rw (none refl) tt
-number_read (Some t) r none value passes = go r (value t refl)
+pub number_read : (bits : ℕ) → 0 < 2 ^ bits → 2 ^ bits ≤ 2 ^ 64 → (text : Option Text) (r : Option ℕ) → (text ≡ None → r ≡ None)
+    → ((t : Text) → text ≡ Some t → ReadsOne (ReadsNumber bits) t r) → IsNumberRead (2 ^ bits) text r
+number_read bits some few None r none value passes = rw (none refl) tt
+number_read bits some few (Some t) r none value passes = go r (value t refl)
   where
-    go : (o : Option ℕ) → ReadsOne ReadsNumber t o → IsNumberOf (Some t) o
-    go (Some v) reads = let parsed = reads.0 in numeral_read (without_leading_plus t) parsed.0.0 parsed.0.1 ∙ ap Some (sym parsed.1)
-    go None reads = let passed = (passes t refl).1 in reads.1.0 (passed.0, passed.1)
+    go : (o : Option ℕ) → ReadsOne (ReadsNumber bits) t o → IsNumberOf (Some t) o
+    go (Some v) reads =
+        let parsed = reads.0 in
+        let below : digits_value 10 (without_leading_plus t) < 2 ^ 64 = omega (arith, few, parsed.0.1) in
+        numeral_read (without_leading_plus t) parsed.0.0 below ∙ ap Some (sym parsed.1)
+    go None reads =
+        let passed = (passes t refl).1 in
+        let below : digits_value 10 (without_leading_plus t) < 2 ^ bits = omega (arith, some, passed.3) in
+        reads.1.0 (passed.0, below)
 
 -- what is read of a text that says yes or no
 pub yes_read : (text : Option Text) (r : Bool) → (text ≡ None → r ≡ false) → (text ≡ Some (codes "true") → r ≡ true) → (text ≡ Some (codes "false") → r ≡ false)
@@ -86,10 +93,11 @@ pub given_by : (old : Command) (words : List Text) (m : ArgMatches) (options : O
 given_by old words m options is parsed has found =
     let text_is : (name : Text) → one_text (found_of m) name ≡ text_in name words = λ name. one_text-rows (found_of m) name ∙ ap (one_of name) (rows_are (app_of old) words m is has) in
     record {
-      chunks = subst (λ t. IsNumberOf t options.chunks) (text_is (codes "chunks")) (found.chunks (option_passes old m parsed is chunks_option));
-      temp = found.temp (option_passes old m parsed is temp_option) ∙ ap is_yes (text_is (codes "temp"));
-      temp_ttl = subst (λ t. IsNumberOf t options.temp_ttl) (text_is (codes "temp-ttl")) (found.temp_ttl (option_passes old m parsed is temp_ttl_option));
-      events = subst (λ t. IsNumberOf t options.events) (text_is (codes "events")) (found.events (option_passes old m parsed is events_option));
+      stripes = subst (λ t. IsNumberOf t options.stripes) (text_is (codes "stripes")) (found.stripes (stripes_pass old m parsed is));
+      chunks = subst (λ t. IsNumberOf t options.chunks) (text_is (codes "chunks")) (found.chunks (option_passes old m parsed is chunks_option refl));
+      temp = found.temp (option_passes old m parsed is temp_option refl) ∙ ap is_yes (text_is (codes "temp"));
+      temp_ttl = subst (λ t. IsNumberOf t options.temp_ttl) (text_is (codes "temp-ttl")) (found.temp_ttl (option_passes old m parsed is temp_ttl_option refl));
+      events = subst (λ t. IsNumberOf t options.events) (text_is (codes "events")) (found.events (option_passes old m parsed is events_option refl));
     }
 
 -- what an error that is known fulfils

@@ -1,5 +1,5 @@
 -- What options ask for: which numbers a list is, and which configuration is meant (own).
-use Rattle.std.specs.Prelude.{ℕ, ◌≡◌, List, [], ◌∷◌, ◌++◌, Bool, Option, Some, None, codes, length, replicate}
+use Rattle.std.specs.Prelude.{ℕ, ◌≡◌, ◌^◌, List, [], ◌∷◌, ◌++◌, Bool, Option, Some, None, codes, length, replicate}
 use Rattle.std.specs.Str.Parse.{without_leading_plus}
 use Rattle.clap.specs.Words.{Accepts, Text, one_text}
 use Rattle.clap.specs.declared.builder.value_parser.ValueParser.TheVariants as parsers
@@ -9,7 +9,7 @@ use Rattle.mc_item.specs.Measure.{number_in}
 use Rattle.mc_item.specs.declared.config.Config.{Config}
 use Rattle.mc_item.specs.declared.config.ConfigFault.{ConfigFault}
 use Rattle.mc_item.specs.declared.config.ConfigFault.TheVariants.{Stripes, Sizes, Chunks, Percent, Factor, Callers, Events}
-use Rattle.mc_driver.specs.Words.{any_number, is_yes, sizes_in, temp_in, text_in}
+use Rattle.mc_driver.specs.Words.{is_yes, numbers_below, sizes_in, temp_in, text_in}
 use Rattle.mc_driver.specs.declared.plans.Options.{Options}
 use Rattle.mc_driver.specs.declared.plans.PlanFault.{PlanFault}
 use Rattle.mc_driver.specs.declared.plans.PlanFault.TheVariants as plan_faults
@@ -39,14 +39,16 @@ AreNamed (Some text) (Some numbers) = IsListOf text numbers
 
 -- the words ask for what these options say
 pub record AreGiven (words : List Text) (options : Options) : Type 0 where
+  pub stripes : IsNumberOf (text_in (codes "stripes") words) options.stripes
   pub chunks : IsNumberOf (text_in (codes "chunks") words) options.chunks
   pub temp : options.temp ≡ temp_in words
   pub temp_ttl : IsNumberOf (text_in (codes "temp-ttl") words) options.temp_ttl
   pub events : IsNumberOf (text_in (codes "events") words) options.events
 
--- the number was read of a text, where that is absent or a number below 2^64
-abbrev pub IsNumberRead : Option Text → Option ℕ → Type 0
-IsNumberRead text number = ((t : Text) → text ≡ Some t → (in_any_case : Bool) × Accepts in_any_case any_number t) → IsNumberOf text number
+-- the number was read of a text, where that is absent or a number below this limit
+abbrev pub IsNumberRead : ℕ → Option Text → Option ℕ → Type 0
+IsNumberRead limit text number =
+    ((t : Text) → text ≡ Some t → (in_any_case : Bool) × Accepts in_any_case (numbers_below limit) t) → IsNumberOf text number
 
 -- whether the text says yes was read, where it is absent or says yes or no
 abbrev pub IsYesRead : Option Text → Bool → Type 0
@@ -54,10 +56,11 @@ IsYesRead text on = ((t : Text) → text ≡ Some t → (in_any_case : Bool) × 
 
 -- these options were read of what was found
 pub record AreFound (found : Found) (options : Options) : Type 0 where
-  pub chunks : IsNumberRead (one_text found (codes "chunks")) options.chunks
+  pub stripes : IsNumberRead (2 ^ 32) (one_text found (codes "stripes")) options.stripes
+  pub chunks : IsNumberRead (2 ^ 64) (one_text found (codes "chunks")) options.chunks
   pub temp : IsYesRead (one_text found (codes "temp")) options.temp
-  pub temp_ttl : IsNumberRead (one_text found (codes "temp-ttl")) options.temp_ttl
-  pub events : IsNumberRead (one_text found (codes "events")) options.events
+  pub temp_ttl : IsNumberRead (2 ^ 64) (one_text found (codes "temp-ttl")) options.temp_ttl
+  pub events : IsNumberRead (2 ^ 64) (one_text found (codes "events")) options.events
 
 -- the words ask for these sizes, where there are any, and for what these options say
 abbrev pub AreAsked : List Text → Option (List ℕ) → Options → Type 0
@@ -76,6 +79,11 @@ NamesNone (Some text) = IsNoList text
 abbrev pub with_sizes : Option (List ℕ) → Config → Config
 with_sizes None config = config
 with_sizes (Some sizes) config = record config { sizes = sizes; chunks = replicate (length sizes) 1024 }
+
+-- the configuration with this many stripes, where a number is given
+abbrev pub with_stripes : Option ℕ → Config → Config
+with_stripes None config = config
+with_stripes (Some stripes) config = record config { stripes = stripes }
 
 -- the configuration with this many chunks for every class, where a number is given
 abbrev pub with_chunks : Option ℕ → Config → Config
@@ -99,7 +107,8 @@ sized sizes = with_sizes sizes (usual_config 3)
 -- the configuration that is asked for: the usual one with 3 callers, but for what the options say
 unfoldable pub asked : Option (List ℕ) → Options → Config
 asked sizes options =
-    with_events options.events (with_temp_ttl options.temp_ttl (record (with_chunks options.chunks (sized sizes)) { temp = options.temp }))
+    with_events options.events (with_temp_ttl options.temp_ttl
+    (record (with_chunks options.chunks (with_stripes options.stripes (sized sizes))) { temp = options.temp }))
 
 -- the fault's number, from 1, in the order in which faults are looked at
 abbrev pub fault_number : ConfigFault → ℕ

@@ -1,18 +1,30 @@
 -- The words of the command line: what it takes, and the texts that they give for each option (own).
-use Rattle.std.specs.Prelude.{◌^◌, ◌-◌, List, [], Bool, Option, Some, None, codes, false, true}
+use Rattle.std.specs.Prelude.{◌^◌, ◌-◌, ℕ, pos, List, [], Bool, Option, Some, None, codes, false, true}
 use Rattle.std.specs.Str.{bytes_eq}
 use Rattle.clap.specs.Words.{App, Kinds, Rule, Text, first_of, matches_of, new_app, new_rule, one_of, with_rule, fault_of as refusals_of}
 use Rattle.clap.specs.declared.builder.action.ArgAction.TheVariants.{Set, SetTrue}
 use Rattle.clap.specs.declared.builder.value_parser.ValueParser.{ValueParser}
 use Rattle.clap.specs.declared.builder.value_parser.ValueParser.TheVariants as parsers
 
--- the numbers below 2^64, as the reader of the command line sees them
+-- the numbers below a limit of at most 2^64, as the reader of the command line sees them
+abbrev pub numbers_below : ℕ → ValueParser
+numbers_below limit = parsers.Unsigned 0 (limit - 1)
+
+-- the numbers below 2^64
 abbrev pub any_number : ValueParser
-any_number = parsers.Unsigned 0 (2 ^ 64 - 1)
+any_number = numbers_below (2 ^ 64)
+
+-- the numbers below 2^32, as the reader has them of u32: it takes a minus before a 0 too, and drops it before it reads
+abbrev pub any_small_number : ValueParser
+any_small_number = parsers.Signed (pos 0) (pos (2 ^ 32 - 1))
 
 -- an option of this name that takes one number below 2^64
 abbrev pub number_rule : Text → Rule
 number_rule name = record (new_rule name) { long = Some name; action = Some Set; value_names = 1; parser = Some any_number }
+
+-- the option `--stripes`, which takes one number below 2^32
+abbrev pub stripes_rule : Rule
+stripes_rule = record (new_rule (codes "stripes")) { long = Some (codes "stripes"); action = Some Set; value_names = 1; parser = Some any_small_number }
 
 -- the option `--sizes`, which takes one text
 abbrev pub sizes_rule : Rule
@@ -37,8 +49,8 @@ events_rule = number_rule (codes "events")
 -- the command `mcseg`: these options and a version
 unfoldable pub mcseg : App
 mcseg =
-    with_rule (with_rule (with_rule (with_rule (with_rule (record { top = record (new_app (codes "mcseg")).top { has_version = true }; subs = [] })
-    sizes_rule) chunks_rule) temp_rule) temp_ttl_rule) events_rule
+    with_rule (with_rule (with_rule (with_rule (with_rule (with_rule (record { top = record (new_app (codes "mcseg")).top { has_version = true }; subs = [] })
+    stripes_rule) sizes_rule) chunks_rule) temp_rule) temp_ttl_rule) events_rule
 
 -- the kinds of refusal that the words earn; none where the command takes them
 abbrev pub refusals : List Text → Kinds

@@ -40,10 +40,12 @@ An item has a chunk of the smallest slab class that holds 64 bytes, its key and 
 that class has no free chunk, one is taken from an item near the tail of the class's lists; where
 none can be taken, the reply is SERVER_ERROR out of memory storing object.
 
-There is a history of all commands, and one of each slab class. The first keeps an event for each
-command that is answered, one for each key of a get, for each item that goes since it is dead or its
-chunk is taken, and for each mark that is cleared; that of a class for each entry that comes, moves
-or goes, and one or two for each %juggle. Each may have as many events as --events allows.
+Each key belongs to one stripe. There is a history of the commands of each stripe, and one of each
+slab class. That of a stripe keeps an event for each command that is answered, one for each key of a
+get, for each item that goes since it is dead or its chunk is taken, and for each mark that is
+cleared; that of a class for each entry that comes, moves or goes, and one or two for each %juggle.
+Each may have as many events as --events allows. With n stripes the new versions of a stripe's items
+have cas numbers n apart.
 
 Exit statuses, and the lines on standard error:
   0  all went well, or help or the version was printed
@@ -51,7 +53,7 @@ Exit statuses, and the lines on standard error:
        mcseg: out of memory
        mcseg: history full                raise --events
   2  the words of the command line were refused
-       error: <what is wrong>             no options as above, or no number behind --events
+       error: <what is wrong>             no options as above, or no number behind one
        mcseg: a word of the command line is not UTF-8
        mcseg: bad list                    no decimal numbers with one comma between two
        mcseg: bad configuration <number>  the first of these that is out of its bounds:

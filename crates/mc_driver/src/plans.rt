@@ -18,6 +18,8 @@ pub struct Plan {
 /// What the options ask for, but that of the sizes: none where an option is absent.
 #[derive(Clone, Copy, Debug, PartialEq, Eq)]
 pub struct Options {
+    /// How many stripes the store has, instead of 1.
+    pub stripes: Option<u32>,
     /// How many chunks every class has, instead of 1,024.
     pub chunks: Option<u64>,
     /// Whether items that expire soon begin in TEMP.
@@ -107,6 +109,18 @@ fn with_sizes(alloc: Global, given: Config, sizes: Option<Vec<u64>>) -> Result<C
     Ok(config)
 }
 
+// The configuration with this many stripes, where a number is given.
+fn with_stripes(given: Config, stripes: Option<u32>) -> Config
+    ensures { result ≡ Rattle.mc_driver.specs.Asked.with_stripes stripes given }
+{
+    let Some(stripes) = stripes else {
+        return given;
+    };
+    let mut config = given;
+    config.stripes = stripes;
+    config
+}
+
 // The configuration with this many chunks for every class, where a number is given.
 fn with_chunks(alloc: Global, given: Config, chunks: Option<u64>) -> Result<Config, NoMemory>
     ensures { IfOk result (λ config. config ≡ Rattle.mc_driver.specs.Asked.with_chunks chunks given) }
@@ -149,7 +163,8 @@ fn config_of(alloc: Global, sizes: Option<Vec<u64>>, options: Options) -> Result
     ensures { IfOk result (λ config. config ≡ asked (option_map (λ v. v.items) sizes) options) }
 {
     let sized = with_sizes(alloc, Config::usual(alloc, 3)?, sizes)?;
-    let mut config = with_chunks(alloc, sized, options.chunks)?;
+    let striped = with_stripes(sized, options.stripes);
+    let mut config = with_chunks(alloc, striped, options.chunks)?;
     config.temp = options.temp;
     let config = with_temp_ttl(config, options.temp_ttl);
     Ok(with_events(config, options.events))

@@ -1,11 +1,11 @@
 //! The words of the command line.
-ghost use Rattle.std.specs.Prelude.{◌≡◌, ℕ, List, [], IfOk, Err, Option, codes, false};
+ghost use Rattle.std.specs.Prelude.{◌≡◌, ◌^◌, ℕ, List, [], IfOk, Err, Option, codes, false};
 ghost use Rattle.mc_item.specs.Config.{fault_of};
 ghost use Rattle.clap.specs.Walk.{texts};
 ghost use Rattle.clap.specs.Words.{HasKind, app_of, found_of, one_text, rule_of};
 ghost use Rattle.clap.specs.declared.error.Error.{Error as Refusal};
 ghost use Rattle.mc_driver.specs.Asked.{AreAsked, AreFound, IsFault, IsNumberRead, IsYesRead, NamesNone, asked, words_fault_of};
-ghost use Rattle.mc_driver.specs.Words.{mcseg, number_rule, refusals, sizes_in, sizes_rule, temp_rule};
+ghost use Rattle.mc_driver.specs.Words.{mcseg, number_rule, refusals, sizes_in, sizes_rule, stripes_rule, temp_rule};
 ghost use Rattle.mc_driver.specs.declared.plans.Options.{Options};
 ghost use Rattle.mc_driver.specs.declared.words.WordsFault.TheVariants as words_faults;
 
@@ -53,6 +53,19 @@ impl From<PlanFault> for WordsFault {
             PlanFault::NoMemory => WordsFault::NoMemory,
         }
     }
+}
+
+// The option of the number of stripes.
+fn stripes_option<'a>(alloc: Global) -> Arg<'a>
+    ensures rule { rule_of result ≡ stripes_rule }
+    ensures local { result.global ≡ false }
+{
+    Arg::new(alloc, "stripes")
+        .long("stripes")
+        .action(ArgAction::Set)
+        .value_parser(clap::value_parser!(u32))
+        .value_name("n")
+        .help("how many stripes the store has: 1, 2, 4, 8, 16, 32 or 64{n}[default: 1]")
 }
 
 // The option of the slab classes' sizes.
@@ -107,6 +120,7 @@ fn command_of<'a>(alloc: Global) -> Result<Command<'a>, AllocError>
         .version(VERSION)
         .about(ABOUT)
         .after_help(AFTER)
+        .arg(stripes_option(alloc))?
         .arg(sizes_option(alloc))?
         .arg(number_option(alloc, "chunks", chunks))?
         .arg(temp_option(alloc))?
@@ -114,9 +128,16 @@ fn command_of<'a>(alloc: Global) -> Result<Command<'a>, AllocError>
         .arg(number_option(alloc, "events", events))
 }
 
+// The number of stripes that was given.
+fn stripes_at(matches: &ArgMatches) -> Option<u32>
+    ensures { IsNumberRead (2 ^ 32) (one_text (found_of matches.now) (codes "stripes")) result }
+{
+    matches.get_one::<u32>("stripes")
+}
+
 // The number that an option was given.
 fn number_at(matches: &ArgMatches, name: &str) -> Option<u64>
-    ensures { IsNumberRead (one_text (found_of matches.now) name.now) result }
+    ensures { IsNumberRead (2 ^ 64) (one_text (found_of matches.now) name.now) result }
 {
     matches.get_one::<u64>(name)
 }
@@ -133,6 +154,7 @@ fn options_of(matches: &ArgMatches) -> Options
     ensures { AreFound (found_of matches.now) result }
 {
     Options {
+        stripes: stripes_at(matches),
         chunks: number_at(matches, "chunks"),
         temp: temp_at(matches),
         temp_ttl: number_at(matches, "temp-ttl"),

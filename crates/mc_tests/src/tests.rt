@@ -8,6 +8,7 @@ mod moves;
 mod pieces;
 mod places;
 mod plans;
+mod stripes;
 mod supplies;
 mod words;
 

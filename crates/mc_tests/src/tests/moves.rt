@@ -80,6 +80,7 @@ fn asserts_histories<L: Ledger, R: Abort + Wait + RandomSource>(
     let source = Pieces::new(alloc, input, 5, None);
     scripts.push((source, Slow::<L>::new(alloc, 5, None, blank)))?;
     let options = Options {
+        stripes: None,
         chunks: Some(1),
         temp: false,
         temp_ttl: None,

@@ -3,8 +3,9 @@ use mc_driver::{Options, Plan, PlanFault, WordsFault, plan_for, read_words};
 use std::alloc::Global;
 use std::process::Abort;
 
-// What a plan has beside the usual: sizes, chunks of every class, TEMP, its life in seconds, and the limit of events.
-type Shape = (&'static [u64], u64, bool, u64, u64);
+// What a plan has beside the usual: stripes, sizes, chunks of every class, TEMP, its life in seconds, and the limit of
+// events.
+type Shape = (u32, &'static [u64], u64, bool, u64, u64);
 
 // Options, the words that give them, and the plan that they ask for.
 struct Wanted {
@@ -15,6 +16,7 @@ struct Wanted {
 }
 
 const NONE: Options = Options {
+    stripes: None,
     chunks: None,
     temp: false,
     temp_ttl: None,
@@ -27,44 +29,47 @@ const USUAL: [u64; 43] = [
     129376, 161720, 202152, 252696, 315872, 394840, 493552, 616944, 771184, 963984, 1048576,
 ];
 
-static WANTED: [Wanted; 15] = [
+static WANTED: [Wanted; 20] = [
     Wanted {
         sizes: None,
         options: NONE,
         words: &["mcseg"],
-        plan: Ok((&USUAL, 1024, false, 61, 1_048_576)),
+        plan: Ok((1, &USUAL, 1024, false, 61, 1_048_576)),
     },
     Wanted {
         sizes: Some(b"96,1024"),
         options: Options {
+            stripes: None,
             chunks: None,
             temp: false,
             temp_ttl: None,
             events: Some(20),
         },
         words: &["mcseg", "--events", "20", "--sizes", "96,1024"],
-        plan: Ok((&[96, 1024], 1024, false, 61, 20)),
+        plan: Ok((1, &[96, 1024], 1024, false, 61, 20)),
     },
     Wanted {
         sizes: Some(b"0065"),
         options: NONE,
         words: &["mcseg", "--sizes=0065"],
-        plan: Ok((&[65], 1024, false, 61, 1_048_576)),
+        plan: Ok((1, &[65], 1024, false, 61, 1_048_576)),
     },
     Wanted {
         sizes: None,
         options: Options {
+            stripes: None,
             chunks: None,
             temp: false,
             temp_ttl: None,
             events: Some(16),
         },
         words: &["mcseg", "--events", "+16"],
-        plan: Ok((&USUAL, 1024, false, 61, 16)),
+        plan: Ok((1, &USUAL, 1024, false, 61, 16)),
     },
     Wanted {
         sizes: Some(b"96,1024,2048"),
         options: Options {
+            stripes: None,
             chunks: Some(3),
             temp: true,
             temp_ttl: Some(2_592_000),
@@ -80,33 +85,36 @@ static WANTED: [Wanted; 15] = [
             "--sizes",
             "96,1024,2048",
         ],
-        plan: Ok((&[96, 1024, 2048], 3, true, 2_592_000, 1_048_576)),
+        plan: Ok((1, &[96, 1024, 2048], 3, true, 2_592_000, 1_048_576)),
     },
     Wanted {
         sizes: None,
         options: Options {
+            stripes: None,
             chunks: Some(1_048_576),
             temp: false,
             temp_ttl: Some(1),
             events: None,
         },
         words: &["mcseg", "--chunks=+1048576", "--temp-ttl=1"],
-        plan: Ok((&USUAL, 1_048_576, false, 1, 1_048_576)),
+        plan: Ok((1, &USUAL, 1_048_576, false, 1, 1_048_576)),
     },
     Wanted {
         sizes: None,
         options: Options {
+            stripes: None,
             chunks: None,
             temp: true,
             temp_ttl: None,
             events: None,
         },
         words: &["mcseg", "--temp"],
-        plan: Ok((&USUAL, 1024, true, 61, 1_048_576)),
+        plan: Ok((1, &USUAL, 1024, true, 61, 1_048_576)),
     },
     Wanted {
         sizes: Some(b"96,"),
         options: Options {
+            stripes: None,
             chunks: None,
             temp: false,
             temp_ttl: None,
@@ -118,6 +126,7 @@ static WANTED: [Wanted; 15] = [
     Wanted {
         sizes: Some(b"96,80"),
         options: Options {
+            stripes: None,
             chunks: None,
             temp: false,
             temp_ttl: None,
@@ -129,6 +138,7 @@ static WANTED: [Wanted; 15] = [
     Wanted {
         sizes: Some(b"96"),
         options: Options {
+            stripes: None,
             chunks: None,
             temp: false,
             temp_ttl: None,
@@ -140,6 +150,7 @@ static WANTED: [Wanted; 15] = [
     Wanted {
         sizes: None,
         options: Options {
+            stripes: None,
             chunks: None,
             temp: false,
             temp_ttl: None,
@@ -151,6 +162,7 @@ static WANTED: [Wanted; 15] = [
     Wanted {
         sizes: None,
         options: Options {
+            stripes: None,
             chunks: Some(0),
             temp: false,
             temp_ttl: Some(0),
@@ -162,6 +174,7 @@ static WANTED: [Wanted; 15] = [
     Wanted {
         sizes: None,
         options: Options {
+            stripes: None,
             chunks: Some(1_048_577),
             temp: false,
             temp_ttl: None,
@@ -173,6 +186,7 @@ static WANTED: [Wanted; 15] = [
     Wanted {
         sizes: None,
         options: Options {
+            stripes: None,
             chunks: None,
             temp: true,
             temp_ttl: Some(0),
@@ -184,6 +198,7 @@ static WANTED: [Wanted; 15] = [
     Wanted {
         sizes: None,
         options: Options {
+            stripes: None,
             chunks: None,
             temp: false,
             temp_ttl: Some(2_592_001),
@@ -192,18 +207,78 @@ static WANTED: [Wanted; 15] = [
         words: &["mcseg", "--temp-ttl", "2592001"],
         plan: Err(PlanFault::Configuration(5)),
     },
+    Wanted {
+        sizes: None,
+        options: Options {
+            stripes: Some(4),
+            chunks: None,
+            temp: false,
+            temp_ttl: None,
+            events: Some(20),
+        },
+        words: &["mcseg", "--stripes", "4", "--events", "20"],
+        plan: Ok((4, &USUAL, 1024, false, 61, 20)),
+    },
+    Wanted {
+        sizes: None,
+        options: Options {
+            stripes: Some(64),
+            chunks: None,
+            temp: false,
+            temp_ttl: None,
+            events: None,
+        },
+        words: &["mcseg", "--stripes=+64"],
+        plan: Ok((64, &USUAL, 1024, false, 61, 1_048_576)),
+    },
+    Wanted {
+        sizes: Some(b"96,80"),
+        options: Options {
+            stripes: Some(3),
+            chunks: None,
+            temp: false,
+            temp_ttl: None,
+            events: None,
+        },
+        words: &["mcseg", "--sizes", "96,80", "--stripes", "3"],
+        plan: Err(PlanFault::Configuration(1)),
+    },
+    Wanted {
+        sizes: None,
+        options: Options {
+            stripes: Some(0),
+            chunks: None,
+            temp: false,
+            temp_ttl: None,
+            events: None,
+        },
+        words: &["mcseg", "--stripes=-0"],
+        plan: Err(PlanFault::Configuration(1)),
+    },
+    Wanted {
+        sizes: None,
+        options: Options {
+            stripes: Some(4_294_967_295),
+            chunks: None,
+            temp: false,
+            temp_ttl: None,
+            events: None,
+        },
+        words: &["mcseg", "--stripes", "4294967295"],
+        plan: Err(PlanFault::Configuration(1)),
+    },
 ];
 
 // Asserts that a plan is of this shape, and in all else the usual one.
 fn asserts_plan(rt: &impl Abort, plan: Plan, shape: Shape) {
     let config = plan.config;
-    let (sizes, limit, temp, temp_ttl, events) = shape;
+    let (stripes, sizes, limit, temp, temp_ttl, events) = shape;
     assert_eq!(rt; config.sizes.as_slice(), sizes);
     assert_eq!(rt; config.chunks.as_slice().len(), sizes.len());
     for chunks in config.chunks.as_slice() {
         assert_eq!(rt; *chunks, limit);
     }
-    assert_eq!(rt; (config.stripes, config.callers), (1, 3));
+    assert_eq!(rt; (config.stripes, config.callers), (stripes, 3));
     assert_eq!(rt; config.max_events, events);
     assert_eq!(rt; (config.hot_percent, config.warm_percent), (20, 40));
     assert_eq!(rt; (config.hot_factor, config.warm_factor), (20, 200));
@@ -248,6 +323,8 @@ fn words_that_no_option_takes_are_the_readers(rt: HostRuntime) {
         ["mcseg", "--color"].as_slice(),
         ["mcseg", "--version"].as_slice(),
         ["mcseg", "--events", "18446744073709551616"].as_slice(),
+        ["mcseg", "--stripes", "4294967296"].as_slice(),
+        ["mcseg", "--stripes=-1"].as_slice(),
         ["mcseg", "--chunks", "-1"].as_slice(),
         ["mcseg", "--temp-ttl", "x"].as_slice(),
         ["mcseg", "--temp=yes"].as_slice(),

@@ -2,7 +2,7 @@
 use super::{Example, holds, run_program};
 use std::str;
 
-static EXAMPLES: [Example; 10] = [
+static EXAMPLES: [Example; 13] = [
     Example {
         name: "the version",
         words: &["mcseg", "--version"],
@@ -89,6 +89,30 @@ static EXAMPLES: [Example; 10] = [
         status: 0,
         errors: "",
     },
+    Example {
+        name: "three stripes",
+        words: &["mcseg", "--stripes", "3"],
+        input: "get a|",
+        output: "",
+        status: 2,
+        errors: "mcseg: bad configuration 1\n",
+    },
+    Example {
+        name: "no stripes",
+        words: &["mcseg", "--stripes", "0"],
+        input: "get a|",
+        output: "",
+        status: 2,
+        errors: "mcseg: bad configuration 1\n",
+    },
+    Example {
+        name: "more stripes than 64",
+        words: &["mcseg", "--stripes", "65"],
+        input: "get a|",
+        output: "",
+        status: 2,
+        errors: "mcseg: bad configuration 1\n",
+    },
 ];
 
 #[test]
@@ -98,11 +122,13 @@ fn words_that_are_refused_say_why(rt: HostRuntime) {
     }
 }
 
-static REFUSED: [&[&str]; 5] = [
+static REFUSED: [&[&str]; 7] = [
     &["mcseg", "--color"],
     &["mcseg", "96"],
     &["mcseg", "--sizes"],
     &["mcseg", "--events", "x"],
+    &["mcseg", "--stripes", "x"],
+    &["mcseg", "--stripes", "4294967296"],
     &["mcseg", "--sizes", "96", "--sizes", "96"],
 ];
 
@@ -117,7 +143,9 @@ fn words_that_are_no_options_are_refused(rt: HostRuntime) {
 }
 
 // What a person has to find in the help: each line on standard error, each number, each limit.
-static HELP: [&str; 26] = [
+static HELP: [&str; 28] = [
+    "--stripes",
+    "[default: 1]",
     "--sizes",
     "--chunks",
     "from 1 to 1,048,576",
