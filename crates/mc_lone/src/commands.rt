@@ -195,9 +195,9 @@ fn command_with(
         return command_in(alloc, stripe, classes, who, command, moment, config);
     }
     let place = stripe.history().len() as u64;
-    match answer_alone(stripe, who, command, moment)? {
-        None => Ok(place),
-        Some(given) => command_in(alloc, stripe, classes, who, given, moment, config),
+    match answer_alone(stripe, who, command, moment, false)? {
+        Ok(_) => Ok(place),
+        Err(given) => command_in(alloc, stripe, classes, who, given, moment, config),
     }
 }
 
