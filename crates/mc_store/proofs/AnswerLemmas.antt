@@ -1,8 +1,9 @@
 -- How a command under the lock of its stripe ends, by how its steps end.
-use Rattle.std.proofs.Common.{◌≡◌, ◌++◌, ℕ, List, Result, Ok, Err, ap, sym, subst}
-use Rattle.std.specs.Prelude.{Option, IfOk, OnErr}
+use Rattle.std.proofs.Common.{◌≡◌, ◌++◌, ◌∷◌, [], ℕ, List, Result, Ok, Err, ap, sym, subst, length}
+use Rattle.std.specs.Prelude.{Option, IfOk, OnOk, OnErr}
 use Rattle.mc_item.specs.Command.{key_of}
 use Rattle.mc_item.specs.Stripe.{Fits, IsAlive}
+use Rattle.mc_item.specs.declared.call_event.CallEvent.{CallEvent}
 use Rattle.mc_item.specs.declared.command.Command.{Command}
 use Rattle.mc_item.specs.declared.config.Config.{Config}
 use Rattle.mc_item.specs.declared.fault.Fault.{Fault}
@@ -20,7 +21,9 @@ use Rattle.mc_stripe.specs.declared.planning.Plan.{Plan}
 use Rattle.mc_pull.specs.Perform.{call}
 use Rattle.mc_lone.specs.Commands.{IsCut, burial}
 use Rattle.mc_lone.proofs.ReadyLemmas.{plan_fate}
+use Rattle.mc_store.specs.Callers.{answered_at}
 use Rattle.mc_store.specs.Calls.{IsReplied}
+use Rattle.mc_store.specs.Passes.{CallerView}
 use Rattle.mc_store.specs.Performing.{IsMade}
 use Rattle.mc_store.specs.Planned.{GoesBy, IsGiven, IsReadyOn, IsSearched}
 use Rattle.mc_store.proofs.PlanLemmas.{may_answer_in}
@@ -44,9 +47,11 @@ searched_seen config who command moment s mid s_new same searched = subst (λ (t
 
 module _ (config : Config) (who : Who) (command : Command) (moment : ℕ) where
   module _ (s last : Stripe) (alive : IsAlive ((cache_now s).items (key_of command)) moment) (searched : IsSearched config who command moment s last) (end : Stripe) where
-    pub replied_ok : (room : Room) (r : Result Reply Fault) → IfOk r (IsMade last end (call who command moment room)) → IfOk r (IsReplied config who command moment s end)
-    replied_ok room (Ok reply) made = replied_behind config who command moment s last alive searched end room reply made
-    replied_ok room (Err fault) made = tt
+    pub replied_ok : (room : Room) (caller caller_new : CallerView) (r : Result Reply Fault) → KeepsSite s last → IfOk r (IsMade last end (call who command moment room))
+        → OnOk r (caller_new ≡ record caller { calls = caller.calls ++ answered_at last.site.stripe (length last.history) ∷ [] }) → IfOk r (IsReplied config who command moment s end caller.calls caller_new.calls)
+    replied_ok room caller caller_new (Ok reply) site made noted =
+        replied_behind config who command moment s last alive searched end room reply caller.calls caller_new.calls site made (ap (λ (x : CallerView). x.calls) noted)
+    replied_ok room caller caller_new (Err fault) site made noted = tt
 
     pub cut_err : {T : Type 0} (r : Result T Fault) → OnErr r (end.history ≡ last.history) → OnErr r (IsCut config who command moment s end)
     cut_err (Ok reply) same = tt
@@ -59,9 +64,9 @@ module _ (config : Config) (who : Who) (command : Command) (moment : ℕ) where
 
   -- the same where the key's dead item went before
   module _ (s mid : Stripe) (site : KeepsSite s mid) (buried_is : mid.history ≡ s.history ++ burial who (key_of command) moment (dead_link ((cache_now s).items (key_of command)) moment)) (end : Stripe) where
-    pub replied_ok_from : (r : Result Reply Fault) → IfOk r (IsReplied config who command moment mid end) → IfOk r (IsReplied config who command moment s end)
-    replied_ok_from (Ok reply) replied = replied_from config who command moment s mid site buried_is end reply replied
-    replied_ok_from (Err fault) replied = tt
+    pub replied_ok_from : (calls calls_new : List CallEvent) (r : Result Reply Fault) → IfOk r (IsReplied config who command moment mid end calls calls_new) → IfOk r (IsReplied config who command moment s end calls calls_new)
+    replied_ok_from calls calls_new (Ok reply) replied = replied_from config who command moment s mid site buried_is end calls calls_new reply replied
+    replied_ok_from calls calls_new (Err fault) replied = tt
 
     pub cut_err_from : {T : Type 0} (r : Result T Fault) → OnErr r (IsCut config who command moment mid end) → OnErr r (IsCut config who command moment s end)
     cut_err_from (Ok reply) cut = tt

@@ -1,9 +1,10 @@
 -- What a pass has seen of a stripe behind a call.
-use Rattle.std.proofs.Common.{◌≡◌, ◌<◌, ℕ, inl, inr, arith, Result, Ok, Err, refl, sym, ap, ◌∙◌, subst}
+use Rattle.std.proofs.Common.{◌≡◌, ◌<◌, ℕ, List, inl, inr, arith, Result, Ok, Err, refl, sym, ap, ◌∙◌, subst}
 use Rattle.std.specs.Prelude.{IfOk, OnErr}
 use mathlib.Core.List.{IsPrefix}
 use Rattle.atomic_table.specs.Seated.{TableId}
 use Rattle.mc_item.specs.declared.answer.Site.{Site}
+use Rattle.mc_item.specs.declared.call_event.CallEvent.{CallEvent}
 use Rattle.mc_item.specs.declared.command.Command.{Command}
 use Rattle.mc_item.specs.declared.config.Config.{Config}
 use Rattle.mc_item.specs.declared.fault.Fault.{Fault}
@@ -40,16 +41,17 @@ module _ (table : TableId) (config : Config) (old new : StripeSide) (before afte
         (classes_grow config.stripes (list_at new.sight.seen) (list_at after.seen) grows.at) new_kept.keeps);
   }
 
-  pub replied_by : (who : Who) (command : Command) (moment : ℕ) (reply : Reply) → IsReplied config who command moment old.stripe new.stripe reply → IsRepliedBy config old.stripe.site.stripe before after who command moment reply
-  replied_by who command moment reply replied = record { old = old.stripe; new = new.stripe; grew = seen_grow; replied = replied }
+  pub replied_by : (who : Who) (command : Command) (moment : ℕ) (calls calls_new : List CallEvent) (reply : Reply) → IsReplied config who command moment old.stripe new.stripe calls calls_new reply
+      → IsRepliedBy config old.stripe.site.stripe before after calls calls_new who command moment reply
+  replied_by who command moment calls calls_new reply replied = record { old = old.stripe; new = new.stripe; grew = seen_grow; replied = replied }
 
   pub cut_by : (who : Who) (command : Command) (moment : ℕ) → IsCut config who command moment old.stripe new.stripe → IsCutBy config old.stripe.site.stripe before after who command moment
   cut_by who command moment cut = record { old = old.stripe; new = new.stripe; grew = seen_grow; cut = cut }
 
-  pub replied_by_ok : (who : Who) (command : Command) (moment : ℕ) (r : Result Reply Fault) → IfOk r (IsReplied config who command moment old.stripe new.stripe)
-      → IfOk r (IsRepliedBy config old.stripe.site.stripe before after who command moment)
-  replied_by_ok who command moment (Ok reply) replied = replied_by who command moment reply replied
-  replied_by_ok who command moment (Err fault) replied = tt
+  pub replied_by_ok : (who : Who) (command : Command) (moment : ℕ) (calls calls_new : List CallEvent) (r : Result Reply Fault) → IfOk r (IsReplied config who command moment old.stripe new.stripe calls calls_new)
+      → IfOk r (IsRepliedBy config old.stripe.site.stripe before after calls calls_new who command moment)
+  replied_by_ok who command moment calls calls_new (Ok reply) replied = replied_by who command moment calls calls_new reply replied
+  replied_by_ok who command moment calls calls_new (Err fault) replied = tt
 
   pub cut_by_err : (who : Who) (command : Command) (moment : ℕ) (r : Result Reply Fault) → OnErr r (IsCut config who command moment old.stripe new.stripe) → OnErr r (IsCutBy config old.stripe.site.stripe before after who command moment)
   cut_by_err who command moment (Ok reply) cut = tt

@@ -14,8 +14,10 @@ use Rattle.mc_stripe.specs.StripeCalls.{KeepsSite}
 use Rattle.mc_stripe.specs.StripeState.{Stripe}
 use Rattle.mc_pull.specs.Agreeing.{AgreeNow, KeepsAgreement}
 use Rattle.mc_pull.specs.Growth as classes
+use Rattle.mc_pull.specs.Lone.{StripeGrows}
 use Rattle.mc_pull.specs.Refusal.{MayFail}
 use Rattle.mc_pull.specs.Sight.{KeepsSight}
+use Rattle.mc_pull.specs.Walker.{Walker}
 use Rattle.mc_store.specs.Locked.{IsLockedClass, IsLockedStripe}
 use Rattle.mc_store.specs.Serving.{IsServed, MayFailSeen, class_side}
 use Rattle.mc_store.specs.Sides.{StripeSide, class_told, stripe_told}
@@ -74,11 +76,11 @@ module _ (table : TableId) (config : Config) (own : StripeSide) (own_kept : IsLo
     told_of_new_is = ap (λ (x : SeenView). x.sight) told_of_new ∙ ap (λ (o : OwnerView). with_seen heard.sight o.lock (stripe_told s_new.history)) stripe_up
 
     -- the stripe is as its lock keeps it
-    pub stripe_judged : IsLockedStripe table config own_last
-    stripe_judged =
+    pub stripe_judged : (w : Walker) → StripeGrows w s_lent s_new → IsLockedStripe table config own_last
+    stripe_judged w walked =
         subst (IsLockedStripe table config) (sym (same_of_new ∙ ap (λ (o : OwnerView). stripe_side o lent_last s_new) stripe_up))
         (stripe_stepped table config (record before { sight = lent_seen.sight }) (class_side owner heard c) own_now class_now agree s_new c_new site grows legal lawful agreement still
-        lent_last.sight last.sight told_new_is told_of_new_is more_new more_of_new)
+        lent_last.sight last.sight told_new_is told_of_new_is more_new more_of_new w walked)
 
     -- the class can be walked on
     pub class_judged : IsServed table config owner_last last c_new

@@ -1,5 +1,5 @@
 -- A command under locks: what it leaves of its stripe and of the classes that are lent with it.
-use Rattle.std.proofs.Common.{◌≡◌, ◌++◌, ◌∷◌, [], List, Result, Ok, Err, sym, ap, ◌∙◌, subst, inl, inr}
+use Rattle.std.proofs.Common.{◌≡◌, ◌≢◌, ◌⊎◌, ◌++◌, ◌∷◌, [], ℕ, List, Result, Ok, Err, sym, ap, ◌∙◌, subst, inl, inr, ⊎_elim}
 use Rattle.std.specs.Prelude.{OnOk, OnErr}
 use Rattle.std.proofs.lemmas.List.{append-nil, map-append}
 use mathlib.Core.List.{IsPrefix}
@@ -12,6 +12,7 @@ use Rattle.mc_item.specs.declared.item.Who.{Who}
 use Rattle.mc_item.specs.declared.reply.Room.{Room}
 use Rattle.mc_item.specs.declared.stripe_event.StripeEvent.{StripeEvent}
 use Rattle.mc_rule.specs.Segment.{Rule}
+use Rattle.mc_board.proofs.PrefixLemmas.{same_or_not}
 use Rattle.mc_segment.specs.ClassState.{ClassView}
 use Rattle.mc_stripe.specs.StripeState.{Stripe}
 use Rattle.mc_pull.specs.Agreeing.{HasRefusal, IsApart}
@@ -65,6 +66,26 @@ module _ {T : Type 0} (s s_new : Stripe) (c : Call) (vs ws : List ClassView) whe
   pub own_behind : (told : List Event) → told ≡ stripe_told s.history → (r : Result T Fault) → OnOk r (IsPerformed s s_new c vs ws) → OnErr r (IsUntouched s s_new vs ws) → IsPrefix told (stripe_told s_new.history)
   own_behind told is (Ok x) made err = stripe_behind told s.history s_new.history (events_on_stripe s c (is_cooling s c vs)) is made.stripe
   own_behind told is (Err f) made err = stripe_behind told s.history s_new.history [] is (err.stripe ∙ sym (append-nil s.history))
+
+-- ---- numbers of classes
+
+-- two numbers of classes are the same or apart
+same_class : (a b : ClassNo) → (a ≡ b) ⊎ (a ≢ b)
+same_class a b = ⊎_elim
+    (λ (e : a.0 ≡ b.0). inl (ap (λ (n : ℕ). record { 0 = n }) e))
+    (λ (away : a.0 ≢ b.0). inr (λ (e : a ≡ b). away (ap (λ (n : ClassNo). n.0) e)))
+    (same_or_not a.0 b.0)
+
+-- a number is that of one of these classes, or of none
+pub one_or_apart : (number : ClassNo) (vs : List ClassView) → IsOneOf number vs ⊎ IsApart number vs
+one_or_apart number [] = inr tt
+one_or_apart number (v ∷ vs) = ⊎_elim
+    (λ (e : number ≡ v.number). inl (inl e))
+    (λ (away : number ≢ v.number). ⊎_elim
+    (λ (one : IsOneOf number vs). inl (inr one))
+    (λ (apart : IsApart number vs). inr (away, apart))
+    (one_or_apart number vs))
+    (same_class number v.number)
 
 -- ---- a room that a class refused which was lent is no refusal of any other
 

@@ -1,11 +1,14 @@
 pub mod PlaceLemmas
+pub mod CallerLemmas
 pub mod ClosedLemmas
+pub mod FinalLemmas
+pub mod LentLemmas
 pub mod PairLemmas
 pub mod MeetLemmas
-pub mod LentLemmas
 pub mod RefusedLemmas
 pub mod SaidLemmas
 pub mod StepLemmas
+pub mod OneLemmas
 pub mod TwoLemmas
 pub mod PlanLemmas
 pub mod GivenLemmas

@@ -1,5 +1,5 @@
 -- What lies under the locks is kept: as more is seen, and as a stripe and the classes that are lent with it step.
-use Rattle.std.proofs.Common.{◌≡◌, ◌≢◌, ◌⊎◌, ◌<◌, ℕ, List, [], ◌∷◌, sym, ap, ◌∙◌, subst, ⊎_elim, inl, inr}
+use Rattle.std.proofs.Common.{◌≡◌, ◌≢◌, ◌<◌, ℕ, List, [], ◌∷◌, sym, ap, ◌∙◌, subst, ⊎_elim, inl, inr}
 use Rattle.atomic_table.specs.Seated.{TableId}
 use Rattle.mc_item.specs.Stripe.{IsLegal}
 use Rattle.mc_item.specs.declared.answer.Site.{Site}
@@ -31,9 +31,12 @@ use Rattle.mc_pull.specs.Question as made
 use Rattle.mc_pull.specs.Sight.{BacksStill, SuitsStill, TellsStill}
 use Rattle.mc_pull.proofs.GrowthLemmas.{class_later}
 use Rattle.mc_lone.proofs.TogetherLemmas.{stripe_made}
-use Rattle.mc_store.specs.Locked.{IsLockedClass, IsLockedStripe, class_lock, setting_of}
+use Rattle.mc_store.specs.Callers.{AreAnswered}
+use Rattle.mc_store.specs.Locked.{IsLockedClass, IsLockedStripe, class_lock, locks_for, setting_of}
 use Rattle.mc_store.specs.Performing.{IsOneOf}
 use Rattle.mc_store.specs.Sides.{ClassSide, StripeSide, class_told, stripe_told}
+use Rattle.mc_store.proofs.CallerLemmas.{answered_sees}
+use Rattle.mc_store.proofs.LentLemmas.{one_or_apart}
 
 -- ---- what was seen
 
@@ -69,6 +72,7 @@ stripe_sees table config s sight grows kept = record {
   made_with = kept.made_with;
   keeps = stripe_sees_more (setting_of config) s.stripe.site.stripe s.stripe.history (classes_seen config.stripes (list_at s.sight.seen)) (classes_seen config.stripes (list_at sight.seen))
       (classes_grow config.stripes (list_at s.sight.seen) (list_at sight.seen) grows.at) kept.keeps;
+  answered = answered_sees (locks_for config) s.stripe.site.stripe s.stripe.history s.sight sight grows kept.answered;
 }
 
 -- and so does a class's
@@ -90,24 +94,6 @@ site_of_number config s is =
     let stripes : site_in (setting_of config) s.site.stripe ≡ record { stripe = s.site.stripe; stripes = s.site.stripes; sizes = config.sizes }
     = ap (λ (n : ℕ). record { stripe = s.site.stripe; stripes = n; sizes = config.sizes }) (sym is.stripes) in
     stripes ∙ ap (λ (sizes : List ℕ). record { stripe = s.site.stripe; stripes = s.site.stripes; sizes = sizes }) (sym is.sizes)
-
--- two numbers of classes are the same or apart
-same_class : (a b : ClassNo) → (a ≡ b) ⊎ (a ≢ b)
-same_class a b = ⊎_elim
-    (λ (e : a.0 ≡ b.0). inl (ap (λ (n : ℕ). record { 0 = n }) e))
-    (λ (away : a.0 ≢ b.0). inr (λ (e : a ≡ b). away (ap (λ (n : ClassNo). n.0) e)))
-    (same_or_not a.0 b.0)
-
--- a number is that of one of these classes, or of none
-one_or_apart : (number : ClassNo) (vs : List ClassView) → IsOneOf number vs ⊎ IsApart number vs
-one_or_apart number [] = inr tt
-one_or_apart number (v ∷ vs) = ⊎_elim
-    (λ (e : number ≡ v.number). inl (inl e))
-    (λ (away : number ≢ v.number). ⊎_elim
-    (λ (one : IsOneOf number vs). inl (inr one))
-    (λ (apart : IsApart number vs). inr (away, apart))
-    (one_or_apart number vs))
-    (same_class number v.number)
 
 -- ---- a stripe and a class that were told of each other agree
 pub met : (table : TableId) (config : Config) (own : StripeSide) (lent : ClassSide) → IsLockedStripe table config own → IsLockedClass table config lent
@@ -141,7 +127,8 @@ pub record IsHeard (config : Config) (own : StripeSide) (v w : ClassView) : Type
   pub heard : classes_seen config.stripes (list_at own.sight.seen) w.number ≡ w.history
 
 module _ (table : TableId) (config : Config) (own own_new : StripeSide) (kept : IsLockedStripe table config own) (board : own_new.board ≡ own.board) (lock : own_new.lock ≡ own.lock)
-    (site : KeepsSite own.stripe own_new.stripe) (more : Grows own.sight own_new.sight) (legal : IsLegal own_new.stripe.site own_new.stripe.history) where
+    (site : KeepsSite own.stripe own_new.stripe) (more : Grows own.sight own_new.sight) (legal : IsLegal own_new.stripe.site own_new.stripe.history)
+    (answered : AreAnswered (locks_for config) own_new.stripe.site.stripe own_new.stripe.history (list_at own_new.sight.seen)) where
   abbrev seen_now : ClassNo → List ClassEvent
   seen_now = classes_seen config.stripes (list_at own_new.sight.seen)
 
@@ -182,6 +169,7 @@ module _ (table : TableId) (config : Config) (own own_new : StripeSide) (kept : 
       told = λ class is. subst (λ (t : Site). Each (IsTold t (rule_of config) class (seen_now class)) own_new.stripe.history) (sym (at ∙ site.site))
           (⊎_elim (told_lent class vs ws each) (λ (away : IsApart class vs). told_apart class is (apart class (rule_of config) (seen_now class) away)) (one_or_apart class vs));
     };
+    answered = answered;
   }
 
 -- ---- a class that stepped

@@ -1,8 +1,12 @@
 -- Stripes and classes in the order of their numbers, with one more at the end.
-use Rattle.std.proofs.Common.{◌≡◌, ◌⊎◌, ◌+◌, ◌<◌, ℕ, zero, suc, List, [], ◌∷◌, ◌++◌, length, Some, slice_get, refl, ap, ◌∙◌, inl, inr, ⊎_elim, subst, arith}
+use Rattle.std.proofs.Common.{◌≡◌, ◌≢◌, ◌⊎◌, ◌+◌, ◌<◌, ℕ, zero, suc, List, [], ◌∷◌, ◌++◌, length, Some, slice_get, refl, ap, sym, ◌∙◌, inl, inr, ⊎_elim, subst, arith}
+use Rattle.std.proofs.lemmas.List.{length-append}
+use Rattle.mc_board.proofs.PrefixLemmas.{same_or_not}
+use Rattle.mc_pull.proofs.GrowthLemmas.{slice_get-last}
 use Rattle.atomic_table.specs.Seated.{TableId}
 use Rattle.mc_item.specs.declared.config.Config.{Config}
 use Rattle.mc_store.specs.Finals.{AreClasses, AreStripes}
+use Rattle.mc_store.specs.Passes.{ArePasses, PassView, new_pass}
 use Rattle.mc_store.specs.Locked.{IsClassUnder, IsLockedClass, IsLockedStripe, IsStripeUnder}
 use Rattle.mc_store.specs.Sides.{AreClassesOn, AreStripesOn, ClassSide, StripeSide}
 
@@ -18,6 +22,23 @@ pub get_some : {A : Type 0} (xs : List A) (k : ℕ) → k < length xs → (x : A
 get_some [] k lt = absurd (omega (arith, lt))
 get_some (x ∷ xs) zero lt = (x, refl)
 get_some (x ∷ xs) (suc k) lt = get_some xs k (omega (arith, lt))
+
+-- what stands in a list stands in each longer one
+pub get_before : {A : Type 0} (xs ys : List A) (y : A) (k : ℕ) → slice_get xs k ≡ Some y → slice_get (xs ++ ys) k ≡ Some y
+get_before [] ys y k e = absurd (cc e)
+get_before (x ∷ xs) ys y zero e = e
+get_before (x ∷ xs) ys y (suc k) e = get_before xs ys y k e
+
+-- the pass of the next caller comes at the end
+pub passes_push : (callers : ℕ) (xs : List PassView) (x : PassView) → ArePasses callers xs → x ≡ new_pass callers → ArePasses (callers + 1) (xs ++ x ∷ [])
+passes_push callers xs x all is = record {
+  many = length-append xs (x ∷ []) ∙ ap (λ (n : ℕ). n + 1) all.many;
+  each = λ caller below. ⊎_elim
+      (λ (e : caller ≡ callers).
+      ap (λ (k : ℕ). slice_get (xs ++ x ∷ []) k) (e ∙ sym all.many) ∙ (slice_get-last xs x ∙ ap (λ (p : PassView). Some p) (is ∙ ap new_pass (sym e))))
+      (λ (away : caller ≢ callers). get_before xs (x ∷ []) (new_pass caller) caller (all.each caller (omega (arith, below, away))))
+      (same_or_not caller callers);
+}
 
 -- these stripes are each the one of its place, counted from 0
 abbrev pub AreStripesSoFar : TableId → Config → List StripeSide → Type 0

@@ -8,7 +8,7 @@ use Rattle.mc_item.specs.declared.config.Config.{Config}
 use Rattle.mc_item.specs.declared.fault.Fault.{Fault}
 use Rattle.mc_item.specs.declared.fault.Fault.TheVariants.{HistoryFull}
 use Rattle.mc_rule.specs.Lawful.{IsLawfulHistoryByLists}
-use Rattle.mc_board.specs.Histories.{Grows, with_seen}
+use Rattle.mc_board.specs.Histories.{Grows, list_at, with_seen}
 use Rattle.mc_board.specs.Views.{OwnerView, SeenView}
 use Rattle.mc_segment.specs.ClassState.{ClassView}
 use Rattle.mc_stripe.specs.StripeCalls.{KeepsSite}
@@ -19,18 +19,20 @@ use Rattle.mc_pull.specs.Lent.{EachPair}
 use Rattle.mc_pull.specs.Perform.{Call}
 use Rattle.mc_pull.specs.Performed.{IsUntouched, MayRefuseCall}
 use Rattle.mc_pull.specs.Sight.{KeepsSights}
-use Rattle.mc_store.specs.Locked.{IsLockedClass, IsLockedStripe}
+use Rattle.mc_store.specs.Callers.{AreAnswered}
+use Rattle.mc_store.specs.Locked.{IsLockedClass, IsLockedStripe, locks_for}
 use Rattle.mc_store.specs.Performing.{IsRefusedIn}
 use Rattle.mc_store.specs.Serving.{IsShort, class_side}
 use Rattle.mc_store.specs.Sides.{ClassSide, StripeSide, class_told, stripe_told}
-use Rattle.mc_store.proofs.PairLemmas.{grows_trans}
+use Rattle.mc_store.proofs.PairLemmas.{grows_trans, stripe_sees}
 use Rattle.mc_store.proofs.SaidLemmas.{lent_more, lent_said, own_more, own_said, stripe_side}
 use Rattle.mc_store.proofs.StepLemmas.{class_end, two_end, two_short}
 
 module _ (table : TableId) (config : Config) (c : Call) (s s_new : Stripe) (low_class v high_class w : ClassView)
     -- the stripe's tokens, before the command and behind it, and as it is told by the lower class, by the higher, and is left
-    (owner owner_new : OwnerView) (seen : SeenView) (own own_first own_both own_third own_new : StripeSide) (own_is : stripe_side owner seen s ≡ own) (own_kept : IsLockedStripe table config own)
-    (caught : owner_new ≡ record owner { history = stripe_told s_new.history })
+    (owner owner_new : OwnerView) (seen_was seen : SeenView) (own own_first own_both own_third own_new : StripeSide) (own_is : stripe_side owner seen_was s ≡ own) (own_kept : IsLockedStripe table config own)
+    (caught : owner_new ≡ record owner { history = stripe_told s_new.history }) (noted : Grows seen_was.sight seen.sight)
+    (answered : AreAnswered (locks_for config) s.site.stripe s.history (list_at seen_was.sight.seen) → AreAnswered (locks_for config) s_new.site.stripe s_new.history (list_at seen.sight.seen))
     -- the classes' tokens, and as they are when they have told the stripe
     (owner_low new_low : OwnerView) (seen_low : SeenView) (was_low low_first : ClassSide) (low_is : class_side owner_low seen_low low_class ≡ was_low) (low_kept : IsLockedClass table config was_low)
     (caught_low : new_low ≡ record owner_low { history = class_told v.history }) (same_low : low_first ≡ class_side new_low seen_low v)
@@ -61,8 +63,15 @@ module _ (table : TableId) (config : Config) (c : Call) (s s_new : Stripe) (low_
   abbrev high_mid : ClassSide
   high_mid = class_side new_high seen_high w
 
+  kept_was : IsLockedStripe table config (stripe_side owner seen_was s)
+  kept_was = subst (IsLockedStripe table config) (sym own_is) own_kept
+
+  -- the stripe has seen what was noted of the command
   kept : IsLockedStripe table config was
-  kept = subst (IsLockedStripe table config) (sym own_is) own_kept
+  kept = stripe_sees table config (stripe_side owner seen_was s) seen.sight noted kept_was
+
+  answered_now : AreAnswered (locks_for config) s_new.site.stripe s_new.history (list_at seen.sight.seen)
+  answered_now = answered kept_was.answered
 
   kept_low : IsLockedClass table config low
   kept_low = subst (IsLockedClass table config) (sym low_is) low_kept
@@ -105,7 +114,7 @@ module _ (table : TableId) (config : Config) (c : Call) (s s_new : Stripe) (low_
 
   module _ (first_met own_met : StripeSide) (own_view : own ≡ own_met) (met_same : own_met ≡ record first_met { sight = own_met.sight }) (met_first : AgreeNow low_met.class first_met.stripe) (met_second : AgreeNow high_met.class own_met.stripe)
       (agreements : KeepsAgreements c s s_new (low_class ∷ high_class ∷ []) (v ∷ w ∷ [])) (sights : KeepsSights c s s_new (low_class ∷ high_class ∷ []) (v ∷ w ∷ [])) where
-    own_was : was ≡ own_met
+    own_was : stripe_side owner seen_was s ≡ own_met
     own_was = own_is ∙ own_view
 
     met_low : AgreeNow low_class s
@@ -117,25 +126,25 @@ module _ (table : TableId) (config : Config) (c : Call) (s s_new : Stripe) (low_
     pub two_stripe : IsRefusedIn c.room (low_arg.class ∷ high_arg.class ∷ []) → IsLockedStripe table config own_new
     two_stripe refused =
         subst (IsLockedStripe table config) (sym (same ∙ (same_third ∙ said)))
-        (two_end table config was kept s_new c site legal low v kept_low grows.0 high w kept_high grows.1.0 rising_now (agreements.own.0 met_low) (agreements.own.1.0 met_high)
+        (two_end table config was kept s_new c site legal answered_now low v kept_low grows.0 high w kept_high grows.1.0 rising_now (agreements.own.0 met_low) (agreements.own.1.0 met_high)
         (subst (λ (x : ClassView). IsRefusedIn c.room (x ∷ high_class ∷ [])) (sym low_was) (subst (λ (x : ClassView). IsRefusedIn c.room (low_arg.class ∷ x ∷ [])) (sym high_was) refused)) sights more_now)
 
     pub two_low : (low_new : ClassSide) → low_new ≡ record low_first { sight = with_seen low_first.sight own_both.lock (stripe_told own_both.stripe.history) } → Grows low_first.sight low_new.sight
         → IsLawfulHistoryByLists v.chunks v.rule v.history → IsLockedClass table config low_new
     two_low low_new told_low more_low lawful =
         subst (IsLockedClass table config) (sym (lent_said low low_first low_new v own_both own_end (same_low ∙ mid_low) said told_low))
-        (class_end table config was kept s_new c site legal low v kept_low grows.0 lawful (agreements.own.0 met_low) sights.backed.0 sights.suited.0
+        (class_end table config was kept s_new c site legal answered_now low v kept_low grows.0 lawful (agreements.own.0 met_low) sights.backed.0 sights.suited.0
         (lent_more low low_first low_new v own_both own_end (same_low ∙ mid_low) said told_low more_low))
 
     pub two_high : (high_new : ClassSide) → high_new ≡ record high_first { sight = with_seen high_first.sight own_third.lock (stripe_told own_third.stripe.history) } → Grows high_first.sight high_new.sight
         → IsLawfulHistoryByLists w.chunks w.rule w.history → IsLockedClass table config high_new
     two_high high_new told_high more_high lawful =
         subst (IsLockedClass table config) (sym (lent_said high high_first high_new w own_third own_end (same_high ∙ mid_high) (same_third ∙ said) told_high))
-        (class_end table config was kept s_new c site legal high w kept_high grows.1.0 lawful (agreements.own.1.0 met_high) sights.backed.1.0 sights.suited.1.0
+        (class_end table config was kept s_new c site legal answered_now high w kept_high grows.1.0 lawful (agreements.own.1.0 met_high) sights.backed.1.0 sights.suited.1.0
         (lent_more high high_first high_new w own_third own_end (same_high ∙ mid_high) (same_third ∙ said) told_high more_high))
 
   -- a fault for a full history
   pub two_full : {T : Type 0} (r : Result T Fault) → OnErr r (IsUntouched was.stripe s_new (low.class ∷ high.class ∷ []) (v ∷ w ∷ []))
       → IfErr r (MayRefuseCall was.stripe c (low.class ∷ high.class ∷ [])) → r ≡ Err HistoryFull → IsShort config own_new
   two_full r err refusal is =
-      subst (IsShort config) (sym (same ∙ (same_third ∙ said))) (two_short table config was kept s_new c site legal low v kept_low grows.0 high w kept_high grows.1.0 rising_now r err refusal is)
+      subst (IsShort config) (sym (same ∙ (same_third ∙ said))) (two_short table config was kept s_new c site legal answered_now low v kept_low grows.0 high w kept_high grows.1.0 rising_now r err refusal is)

@@ -8,6 +8,7 @@ use Rattle.mc_item.specs.Stripe.{IsAlive}
 use Rattle.mc_item.specs.declared.answer.Need.{Need}
 use Rattle.mc_item.specs.declared.answer.Need.TheVariants as needs
 use Rattle.mc_item.specs.declared.answer.Site.{Site}
+use Rattle.mc_item.specs.declared.call_event.CallEvent.{CallEvent}
 use Rattle.mc_item.specs.declared.command.Command.{Command}
 use Rattle.mc_item.specs.declared.config.Config.{Config}
 use Rattle.mc_item.specs.declared.event.Event.{Event}
@@ -36,6 +37,7 @@ use Rattle.mc_lone.specs.Commands.{IsCut, IsSearch, LeadsUp, burial}
 use Rattle.mc_lone.specs.LoneStore.{walker_in}
 use Rattle.mc_lone.proofs.CommandLemmas.{buried_alive, buried_row, searched_alive}
 use Rattle.mc_lone.proofs.ReadyLemmas.{not_dead, searches_none}
+use Rattle.mc_store.specs.Callers.{answered_at}
 use Rattle.mc_store.specs.Calls.{IsReplied}
 use Rattle.mc_store.specs.Performing.{IsMade}
 use Rattle.mc_store.specs.Planned.{GoesBy, IsPlanIn, IsSearched}
@@ -98,8 +100,9 @@ module _ (config : Config) (who : Who) (command : Command) (moment : ℕ) where
       search = searched.1;
     }
 
-    pub replied_behind : (end : Stripe) (room : Room) (reply : Reply) → IsMade last end (call who command moment room) reply → IsReplied config who command moment s end reply
-    replied_behind end room reply made = record {
+    pub replied_behind : (end : Stripe) (room : Room) (reply : Reply) (calls calls_new : List CallEvent) → KeepsSite s last → IsMade last end (call who command moment room) reply
+        → calls_new ≡ calls ++ answered_at last.site.stripe (length last.history) ∷ [] → IsReplied config who command moment s end calls calls_new reply
+    replied_behind end room reply calls calls_new site made noted = record {
       place = length last.history;
       answered = record {
         before = searched.0;
@@ -111,6 +114,7 @@ module _ (config : Config) (who : Who) (command : Command) (moment : ℕ) where
         place_is = ap (λ (h : List StripeEvent). length h) searched.2;
       };
       reply_is = sym made.reply_is;
+      noted = noted ∙ ap (λ (t : Site). calls ++ answered_at t.stripe (length last.history) ∷ []) site.site;
     }
 
     pub cut_behind : (end : Stripe) → end.history ≡ last.history → IsCut config who command moment s end
@@ -134,8 +138,8 @@ module _ (config : Config) (who : Who) (command : Command) (moment : ℕ) where
     joined : (before : List StripeEvent) → mid.history ++ before ≡ s.history ++ (gone ++ before)
     joined before = ap (λ (h : List StripeEvent). h ++ before) buried_is ∙ append_assoc s.history gone before
 
-    pub replied_from : (end : Stripe) (reply : Reply) → IsReplied config who command moment mid end reply → IsReplied config who command moment s end reply
-    replied_from end reply r =
+    pub replied_from : (end : Stripe) (calls calls_new : List CallEvent) (reply : Reply) → IsReplied config who command moment mid end calls calls_new reply → IsReplied config who command moment s end calls calls_new reply
+    replied_from end calls calls_new reply r =
         let a = r.answered in
         record {
           place = r.place;
@@ -150,6 +154,7 @@ module _ (config : Config) (who : Who) (command : Command) (moment : ℕ) where
             place_is = a.place_is ∙ ap (λ (h : List StripeEvent). length h) (joined a.before);
           };
           reply_is = r.reply_is;
+          noted = r.noted ∙ ap (λ (t : Site). calls ++ answered_at t.stripe r.place ∷ []) site.site;
         }
 
     pub cut_from : (end : Stripe) → IsCut config who command moment mid end → IsCut config who command moment s end

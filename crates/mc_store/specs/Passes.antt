@@ -5,6 +5,11 @@ use Rattle.mc_item.specs.declared.item.Who.{Who}
 use Rattle.mc_board.specs.Histories.{blind}
 use Rattle.mc_board.specs.declared.rule.Sight.{Sight}
 
+-- a caller: its number, and its history
+pub record CallerView : Type 0 where
+  pub number : ℕ
+  pub calls : List CallEvent
+
 -- a pass: its caller, how many turns it has had, the caller's history, and what it has seen and noted of all locks
 pub record PassView : Type 0 where
   pub caller : ℕ

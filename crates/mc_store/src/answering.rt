@@ -1,5 +1,5 @@
 //! One command by its plan, on its stripe and the classes that it needs, each under its lock.
-ghost use Rattle.std.specs.Prelude.{◌≡◌, ◌<◌, IfOk, OnErr, IsErrOf};
+ghost use Rattle.std.specs.Prelude.{◌≡◌, ◌<◌, ◌+◌, ◌^◌, IfOk, OnErr, IsErrOf, length};
 ghost use Rattle.mc_item.specs.Stripe.{Fits};
 ghost use Rattle.mc_item.specs.declared.answer.Need.TheVariants as needs;
 ghost use Rattle.mc_item.specs.declared.fault.Fault.TheVariants.{HistoryFull};
@@ -10,6 +10,7 @@ ghost use Rattle.mc_store.specs.Calls.{IsReplied};
 ghost use Rattle.mc_store.specs.Planned.{GoesBy};
 ghost use Rattle.mc_store.specs.Serving.{IsShort};
 
+use crate::caller::Caller;
 use crate::locked::{LockedClass, LockedStripe};
 use crate::named::Named;
 use crate::performing::{finish_one, finish_two, perform_kept};
@@ -28,15 +29,20 @@ fn answer_kept<N: Named>(
     store: &Store<N>,
     rt: &impl Wait,
     own: &mut LockedStripe<N>,
+    caller: &mut Caller<N>,
     who: Who,
     command: Command,
     moment: u64,
     plan: Plan,
 ) -> Result<Reply, Fault>
+    requires who { who.caller ≡ caller.old.number }
+    requires turns { length caller.old.calls + 1 < 2 ^ 64 }
     requires goes { GoesBy N.config own.old.stripe command moment plan }
     requires kept { Fits plan.need rooms.Keep own.old.stripe.history }
-    ensures replied { IfOk result (IsReplied N.config who command moment own.old.stripe own.new.stripe) }
+    ensures replied { IfOk result (IsReplied N.config who command moment own.old.stripe own.new.stripe caller.old.calls caller.new.calls) }
     ensures cut { OnErr result (IsCut N.config who command moment own.old.stripe own.new.stripe) }
+    ensures unnoted { OnErr result (caller.new ≡ caller.old) }
+    ensures number { caller.new.number ≡ caller.old.number }
     ensures site { KeepsSite own.old.stripe own.new.stripe }
     ensures full { IsErrOf result HistoryFull → IsShort N.config own.new }
 {
@@ -45,6 +51,7 @@ fn answer_kept<N: Named>(
         store,
         rt,
         own,
+        caller,
         who,
         command,
         moment,
@@ -59,16 +66,21 @@ fn answer_on_one<N: Named>(
     rt: &impl Wait,
     own: &mut LockedStripe<N>,
     lent: &mut LockedClass<N>,
+    caller: &mut Caller<N>,
     who: Who,
     command: Command,
     moment: u64,
     plan: Plan,
     class: ClassNo,
 ) -> Result<Reply, Fault>
+    requires who { who.caller ≡ caller.old.number }
+    requires turns { length caller.old.calls + 1 < 2 ^ 64 }
     requires goes { GoesBy N.config own.old.stripe command moment plan }
     requires fresh { plan.need ≡ needs.Fresh class }
-    ensures replied { IfOk result (IsReplied N.config who command moment own.old.stripe own.new.stripe) }
+    ensures replied { IfOk result (IsReplied N.config who command moment own.old.stripe own.new.stripe caller.old.calls caller.new.calls) }
     ensures cut { OnErr result (IsCut N.config who command moment own.old.stripe own.new.stripe) }
+    ensures unnoted { OnErr result (caller.new ≡ caller.old) }
+    ensures number { caller.new.number ≡ caller.old.number }
     ensures site { KeepsSite own.old.stripe own.new.stripe }
     ensures full { IsErrOf result HistoryFull → IsShort N.config own.new }
 {
@@ -76,7 +88,7 @@ fn answer_on_one<N: Named>(
         alloc, store, rt, own, lent, who, &command, moment, plan, class,
     )?;
     finish_one(
-        alloc, store, rt, own, lent, who, command, moment, ready.0, ready.1,
+        alloc, store, rt, own, lent, caller, who, command, moment, ready.0, ready.1,
     )
 }
 
@@ -88,17 +100,22 @@ fn answer_on_two<N: Named>(
     own: &mut LockedStripe<N>,
     low: &mut LockedClass<N>,
     high: &mut LockedClass<N>,
+    caller: &mut Caller<N>,
     who: Who,
     command: Command,
     moment: u64,
     plan: Plan,
     class: ClassNo,
 ) -> Result<Reply, Fault>
+    requires who { who.caller ≡ caller.old.number }
+    requires turns { length caller.old.calls + 1 < 2 ^ 64 }
     requires goes { GoesBy N.config own.old.stripe command moment plan }
     requires fresh { plan.need ≡ needs.Fresh class }
     requires rising { low.old.class.number.0 < high.old.class.number.0 }
-    ensures replied { IfOk result (IsReplied N.config who command moment own.old.stripe own.new.stripe) }
+    ensures replied { IfOk result (IsReplied N.config who command moment own.old.stripe own.new.stripe caller.old.calls caller.new.calls) }
     ensures cut { OnErr result (IsCut N.config who command moment own.old.stripe own.new.stripe) }
+    ensures unnoted { OnErr result (caller.new ≡ caller.old) }
+    ensures number { caller.new.number ≡ caller.old.number }
     ensures site { KeepsSite own.old.stripe own.new.stripe }
     ensures full { IsErrOf result HistoryFull → IsShort N.config own.new }
 {
@@ -107,14 +124,14 @@ fn answer_on_two<N: Named>(
             alloc, store, rt, own, low, who, &command, moment, plan, class,
         )?;
         finish_two(
-            alloc, store, rt, own, low, high, who, command, moment, ready.0, ready.1,
+            alloc, store, rt, own, low, high, caller, who, command, moment, ready.0, ready.1,
         )
     } else {
         let ready = ready_on(
             alloc, store, rt, own, high, who, &command, moment, plan, class,
         )?;
         finish_two(
-            alloc, store, rt, own, low, high, who, command, moment, ready.0, ready.1,
+            alloc, store, rt, own, low, high, caller, who, command, moment, ready.0, ready.1,
         )
     }
 }
@@ -126,16 +143,21 @@ fn answer_fresh<N: Named>(
     store: &Store<N>,
     rt: &impl Wait,
     own: &mut LockedStripe<N>,
+    caller: &mut Caller<N>,
     who: Who,
     command: Command,
     moment: u64,
     plan: Plan,
     class: ClassNo,
 ) -> Result<Reply, Fault>
+    requires who { who.caller ≡ caller.old.number }
+    requires turns { length caller.old.calls + 1 < 2 ^ 64 }
     requires goes { GoesBy N.config own.old.stripe command moment plan }
     requires fresh { plan.need ≡ needs.Fresh class }
-    ensures replied { IfOk result (IsReplied N.config who command moment own.old.stripe own.new.stripe) }
+    ensures replied { IfOk result (IsReplied N.config who command moment own.old.stripe own.new.stripe caller.old.calls caller.new.calls) }
     ensures cut { OnErr result (IsCut N.config who command moment own.old.stripe own.new.stripe) }
+    ensures unnoted { OnErr result (caller.new ≡ caller.old) }
+    ensures number { caller.new.number ≡ caller.old.number }
     ensures site { KeepsSite own.old.stripe own.new.stripe }
     ensures full { IsErrOf result HistoryFull → IsShort N.config own.new }
 {
@@ -146,7 +168,7 @@ fn answer_fresh<N: Named>(
             let mut guard = store.lock_class(rt, number);
             let lent = &mut *guard;
             answer_on_one(
-                alloc, store, rt, own, lent, who, command, moment, plan, class,
+                alloc, store, rt, own, lent, caller, who, command, moment, plan, class,
             )
         }
         Needed::Two(first, second) => {
@@ -155,7 +177,7 @@ fn answer_fresh<N: Named>(
             let low = &mut *lower;
             let high = &mut *higher;
             answer_on_two(
-                alloc, store, rt, own, low, high, who, command, moment, plan, class,
+                alloc, store, rt, own, low, high, caller, who, command, moment, plan, class,
             )
         }
     }
@@ -167,23 +189,28 @@ pub(crate) fn answer_by_plan<N: Named>(
     store: &Store<N>,
     rt: &impl Wait,
     own: &mut LockedStripe<N>,
+    caller: &mut Caller<N>,
     who: Who,
     command: Command,
     moment: u64,
     plan: Plan,
 ) -> Result<Reply, Fault>
+    requires who { who.caller ≡ caller.old.number }
+    requires turns { length caller.old.calls + 1 < 2 ^ 64 }
     requires goes { GoesBy N.config own.old.stripe command moment plan }
-    ensures replied { IfOk result (IsReplied N.config who command moment own.old.stripe own.new.stripe) }
+    ensures replied { IfOk result (IsReplied N.config who command moment own.old.stripe own.new.stripe caller.old.calls caller.new.calls) }
     ensures cut { OnErr result (IsCut N.config who command moment own.old.stripe own.new.stripe) }
+    ensures unnoted { OnErr result (caller.new ≡ caller.old) }
+    ensures number { caller.new.number ≡ caller.old.number }
     ensures site { KeepsSite own.old.stripe own.new.stripe }
     ensures full { IsErrOf result HistoryFull → IsShort N.config own.new }
 {
     match plan.need {
         Need::Fresh(class) => answer_fresh(
-            alloc, store, rt, own, who, command, moment, plan, class,
+            alloc, store, rt, own, caller, who, command, moment, plan, class,
         ),
-        Need::Nothing => answer_kept(alloc, store, rt, own, who, command, moment, plan),
-        Need::Same => answer_kept(alloc, store, rt, own, who, command, moment, plan),
-        Need::TooLarge => answer_kept(alloc, store, rt, own, who, command, moment, plan),
+        Need::Nothing => answer_kept(alloc, store, rt, own, caller, who, command, moment, plan),
+        Need::Same => answer_kept(alloc, store, rt, own, caller, who, command, moment, plan),
+        Need::TooLarge => answer_kept(alloc, store, rt, own, caller, who, command, moment, plan),
     }
 }

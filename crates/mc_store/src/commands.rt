@@ -1,5 +1,5 @@
 //! One command on a store, under the lock of its key's stripe.
-ghost use Rattle.std.specs.Prelude.{◌≡◌, ◌≤◌, ◌⊎◌, ◌+◌, ◌++◌, ◌-◌, ◌^◌, Some, IfOk, OnOk, OnErr, IsErrOf, length};
+ghost use Rattle.std.specs.Prelude.{◌≡◌, ◌≤◌, ◌<◌, ◌⊎◌, ◌+◌, ◌++◌, ◌-◌, ◌^◌, Some, IfOk, OnOk, OnErr, IsErrOf, length};
 ghost use Rattle.mc_item.specs.Command.{key_of};
 ghost use Rattle.mc_item.specs.Measure.{stripe_of};
 ghost use Rattle.mc_item.specs.declared.fault.Fault.TheVariants.{HistoryFull};
@@ -15,6 +15,7 @@ ghost use Rattle.mc_store.specs.Planned.{GoesBy};
 ghost use Rattle.mc_store.specs.Serving.{HasSeenShort, IsShort};
 
 use crate::answering::answer_by_plan;
+use crate::caller::Caller;
 use crate::locked::LockedStripe;
 use crate::named::Named;
 use crate::pass::Pass;
@@ -83,19 +84,24 @@ fn command_under<N: Named>(
     store: &Store<N>,
     rt: &impl Wait,
     own: &mut LockedStripe<N>,
+    caller: &mut Caller<N>,
     who: Who,
     command: Command,
     moment: u64,
 ) -> Result<Reply, Fault>
     requires own { stripe_of (key_of command) N.config.stripes ≡ record { 0 = own.old.stripe.site.stripe } }
+    requires who { who.caller ≡ caller.old.number }
+    requires turns { length caller.old.calls + 1 < 2 ^ 64 }
     requires early { moment ≤ 2 ^ 62 }
-    ensures replied { IfOk result (IsReplied N.config who command moment own.old.stripe own.new.stripe) }
+    ensures replied { IfOk result (IsReplied N.config who command moment own.old.stripe own.new.stripe caller.old.calls caller.new.calls) }
     ensures cut { OnErr result (IsCut N.config who command moment own.old.stripe own.new.stripe) }
+    ensures unnoted { OnErr result (caller.new ≡ caller.old) }
+    ensures number { caller.new.number ≡ caller.old.number }
     ensures site { KeepsSite own.old.stripe own.new.stripe }
     ensures full { IsErrOf result HistoryFull → IsShort N.config own.new }
 {
     let plan = plan_alive(alloc, store, rt, own, who, &command, moment)?;
-    answer_by_plan(alloc, store, rt, own, who, command, moment, plan)
+    answer_by_plan(alloc, store, rt, own, caller, who, command, moment, plan)
 }
 
 // One command on the stripe of its key, which is under its lock, after all that a pass has seen; the pass is told of all.
@@ -110,16 +116,20 @@ fn command_seen<N: Named>(
     moment: u64,
 ) -> Result<Reply, Fault>
     requires own { stripe_of (key_of command) N.config.stripes ≡ record { 0 = own.old.stripe.site.stripe } }
+    requires who { who.caller ≡ pass.old.caller }
+    requires turns { length pass.old.calls < pass.old.turn }
     requires early { moment ≤ 2 ^ 62 }
-    ensures replied { IfOk result (IsRepliedBy N.config own.old.stripe.site.stripe pass.old.sight pass.new.sight who command moment) }
+    ensures replied { IfOk result (IsRepliedBy N.config own.old.stripe.site.stripe pass.old.sight pass.new.sight pass.old.calls pass.new.calls who command moment) }
     ensures cut { OnErr result (IsCutBy N.config own.old.stripe.site.stripe pass.old.sight pass.new.sight who command moment) }
+    ensures calls { OnErr result (pass.new.calls ≡ pass.old.calls) }
     ensures grows { Grows pass.old.sight pass.new.sight }
-    ensures same { pass.new ≡ record pass.old { sight = pass.new.sight } }
+    ensures same { pass.new ≡ record pass.old { calls = pass.new.calls; sight = pass.new.sight } }
     ensures full { IsErrOf result HistoryFull → HasSeenShort N.config pass.new.sight }
 {
     own.law();
     own.side.compare(&store.board, &mut pass.seen);
-    let reply = command_under(alloc, store, rt, own, who, command, moment);
+    let caller = &mut pass.caller;
+    let reply = command_under(alloc, store, rt, own, caller, who, command, moment);
     own.law();
     own.side.share(&store.board, &mut pass.seen);
     reply
@@ -128,7 +138,7 @@ fn command_seen<N: Named>(
 impl<N: Named> Store<N> {
     /// Makes one command under the lock of its key's stripe, for which it waits, and of at most two classes, the lower
     /// first. The reply is what a sequential memcached gives at one point of the stripe's history, after all that the pass
-    /// had seen. `moment` is in whole seconds, at most 2^62. After a fault nothing of the command stands but what leads up
+    /// had seen, and the pass's caller notes where it stands. `moment` is in whole seconds, at most 2^62. After a fault nothing of the command stands but what leads up
     /// to it: `HistoryFull` only where a history has less than two places left, or the pass has had 2^64 - 1 turns;
     /// `NoMemory` where memory is wanting.
     pub fn command(
@@ -140,8 +150,9 @@ impl<N: Named> Store<N> {
         moment: u64,
     ) -> Result<Reply, Fault>
         requires early { moment ≤ 2 ^ 62 }
-        ensures replied { IfOk result (IsRepliedBy N.config (stripe_of (key_of command) N.config.stripes).0 pass.old.sight pass.new.sight (next_who pass.old) command moment) }
+        ensures replied { IfOk result (IsRepliedBy N.config (stripe_of (key_of command) N.config.stripes).0 pass.old.sight pass.new.sight pass.old.calls pass.new.calls (next_who pass.old) command moment) }
         ensures cut { OnErr result ((pass.new ≡ pass.old) ⊎ IsCutBy N.config (stripe_of (key_of command) N.config.stripes).0 pass.old.sight pass.new.sight (next_who pass.old) command moment) }
+        ensures calls { OnErr result (pass.new.calls ≡ pass.old.calls) }
         ensures grows { Grows pass.old.sight pass.new.sight }
         ensures caller { pass.new.caller ≡ pass.old.caller }
         ensures turn { OnOk result (pass.new.turn ≡ pass.old.turn + 1) }

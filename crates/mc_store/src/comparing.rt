@@ -1,10 +1,13 @@
 //! States of a closed store, held against tokens and against each other.
 ghost use Rattle.std.specs.Prelude.{◌≡◌, ◌<◌, ℕ, Some, length, slice_get};
 ghost use Rattle.mc_evidence.specs.Sound.{IsSoundStore};
+ghost use Rattle.mc_board.specs.Histories.{HasSeen};
+ghost use Rattle.mc_store.specs.Callers.{calls_told};
 ghost use Rattle.mc_store.specs.Finals.{AreClasses, AreExactlyEntries, AreStripes, IsBehindClasses, IsBehindStripes, class_histories, stripe_histories};
-ghost use Rattle.mc_store.specs.Locked.{setting_of};
+ghost use Rattle.mc_store.specs.Locked.{caller_place, setting_of};
 ghost use Rattle.mc_store.specs.Sides.{AreClassesOn, AreStripesOn, ClassSide, StripeSide};
 
+use crate::caller::Caller;
 use crate::named::Named;
 use crate::owned_class::OwnedClass;
 use crate::owned_stripe::OwnedStripe;
@@ -31,6 +34,31 @@ pub(crate) fn compare_classes(board: &Board, classes: &mut Vec<OwnedClass>, seen
 {
     for i in 0..classes.len() {
         classes[i].compare(board, seen);
+    }
+}
+
+// Compares what a stripe has seen of a caller's history with it. Nothing changes.
+fn compare_call<N: Named>(board: &Board, stripe: &mut OwnedStripe, caller: &mut Caller<N>)
+    requires board { (board.now.table ≡ N.board.table) × (stripe.old.board ≡ N.board.table) }
+    ensures same { (stripe.new ≡ stripe.old) × (caller.new ≡ caller.old) }
+    ensures behind { HasSeen (calls_told caller.old.calls) stripe.old.sight (caller_place N.config caller.old.number) }
+{
+    caller.compare(board, &mut stripe.seen);
+}
+
+// Compares what each stripe has seen of a caller's history with it. Nothing changes.
+pub(crate) fn compare_calls<N: Named>(
+    board: &Board,
+    stripes: &mut Vec<OwnedStripe>,
+    caller: &mut Caller<N>,
+)
+    requires board { board.now.table ≡ N.board.table }
+    requires stripes { AreStripesOn N.board.table stripes.old.items }
+    ensures same { (stripes.new.items ≡ stripes.old.items) × (caller.new ≡ caller.old) }
+    ensures behind { (k : ℕ) (s : StripeSide) → slice_get stripes.old.items k ≡ Some s → HasSeen (calls_told caller.old.calls) s.sight (caller_place N.config caller.old.number) }
+{
+    for i in 0..stripes.len() {
+        compare_call(board, &mut stripes[i], caller);
     }
 }
 

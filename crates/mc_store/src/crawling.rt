@@ -130,6 +130,7 @@ impl<N: Named> Store<N> {
         ensures crawled { IfOk result (IsCrawledBy N.config class pass.old.sight pass.new.sight (next_who pass.old) moment) }
         ensures grows { Grows pass.old.sight pass.new.sight }
         ensures caller { pass.new.caller ≡ pass.old.caller }
+        ensures calls { pass.new.calls ≡ pass.old.calls }
         ensures turn { OnOk result (pass.new.turn ≡ pass.old.turn + 1) }
         ensures full { IsErrOf result HistoryFull → HasSeenShort N.config pass.new.sight ⊎ (pass.old.turn ≡ 2 ^ 64 - 1) }
     {

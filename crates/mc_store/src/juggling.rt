@@ -34,6 +34,7 @@ impl<N: Named> Store<N> {
         ensures few { IfOk result (λ moves. moves.reclaimed + moves.moved ≤ 10000) }
         ensures grows { Grows pass.old.sight pass.new.sight }
         ensures caller { pass.new.caller ≡ pass.old.caller }
+        ensures calls { pass.new.calls ≡ pass.old.calls }
         ensures turn { OnOk result (pass.new.turn ≡ pass.old.turn + 1) }
         ensures full { IsErrOf result HistoryFull → HasSeenShort N.config pass.new.sight ⊎ (pass.old.turn ≡ 2 ^ 64 - 1) }
     {

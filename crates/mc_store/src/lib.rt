@@ -3,6 +3,7 @@
 #![tactic(auto)]
 
 mod answering;
+mod caller;
 mod closing;
 mod commands;
 mod comparing;

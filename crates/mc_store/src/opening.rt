@@ -1,11 +1,12 @@
 //! How a store is made.
-ghost use Rattle.std.specs.Prelude.{◌≡◌, ◌≤◌, ◌<◌, ◌+◌, ◌^◌, [], length, IfOk};
+ghost use Rattle.std.specs.Prelude.{◌≡◌, ◌≤◌, ◌<◌, ◌+◌, ◌-◌, ◌^◌, [], length, IfOk};
 ghost use Rattle.mc_item.specs.Config.{IsBounded, IsSound};
 ghost use Rattle.mc_board.specs.Histories.{blind};
 ghost use Rattle.mc_board.specs.Views.{locks_of, AreOwners};
-ghost use Rattle.mc_store.specs.Locked.{locks_for};
-ghost use Rattle.mc_store.specs.Passes.{ArePasses};
+ghost use Rattle.mc_store.specs.Locked.{histories_for, locks_for};
+ghost use Rattle.mc_store.specs.Passes.{ArePasses, new_pass};
 
+use crate::caller::Caller;
 use crate::locked::{LockedClass, LockedStripe};
 use crate::named::Named;
 use crate::owned_class::OwnedClass;
@@ -58,30 +59,33 @@ fn open_class<N: Named>(
     LockedClass::new(OwnedClass::new(state, owner, seen))
 }
 
-// The lock that comes next, after so many stripes and classes.
-fn next_lock(stripes: usize, classes: usize) -> usize
-    requires { stripes + classes < 2 ^ 32 }
-    ensures { result ≡ stripes + classes }
+// The pass of the caller whose history comes at a place behind the locks; the caller has had no turn, and the token has seen
+// nothing.
+fn open_pass<N: Named>(config: &Config, place: usize, owner: Owner, seen: Seen) -> Pass<N>
+    requires config { (config.now ≡ N.config) × IsBounded N.config }
+    requires place { (locks_for N.config ≤ place) × (place < histories_for N.config) }
+    requires owner { owner ≡ record { board = N.board.table; lock = place; history = [] } }
+    requires seen { seen ≡ record { board = N.board.table; sight = blind } }
+    ensures { result ≡ new_pass (place - locks_for N.config) }
 {
-    stripes + classes
+    let number = (place - locks_in(config)) as u32;
+    Pass::new(Caller::new(number, owner), seen)
 }
 
-// A pass for each caller, which has seen nothing.
-fn passes<N: Named>(
-    alloc: Global,
-    board: &Board,
-    callers: u32,
-    seen: &mut Seen,
-) -> Result<Vec<Pass<N>>, NoMemory>
-    requires board { board.now ≡ N.board }
-    requires seen { seen.old ≡ record { board = N.board.table; sight = blind } }
-    ensures { IfOk result (λ passes. ArePasses callers passes.items) }
+// How many locks a configuration has.
+fn locks_in(config: &Config) -> usize
+    requires { IsBounded config.now }
+    ensures { result ≡ locks_for config.now }
 {
-    let mut passes = Vec::new(alloc);
-    for caller in 0..callers {
-        passes.push(Pass::new(caller, seen.split(board)))?;
-    }
-    Ok(passes)
+    config.stripes as usize + config.sizes.as_slice().len()
+}
+
+// The place of the history that comes next, after so many stripes, classes and passes.
+fn next_place(stripes: usize, classes: usize, passes: usize) -> usize
+    requires { stripes + classes + passes < 2 ^ 32 }
+    ensures { result ≡ stripes + classes + passes }
+{
+    stripes + classes + passes
 }
 
 // Empty room for the stripes and classes of a configuration.
@@ -96,8 +100,9 @@ fn shelf_for<N: Named>(alloc: Global, config: &Config) -> Result<Shelf<N>, NoMem
 }
 
 impl<N: Named> Store<N> {
-    /// A store of a checked configuration without events, on a board of as many locks: the stripes first, then the
-    /// classes; and a pass for each caller, which has seen nothing. The room that closing needs is made here. Keys are
+    /// A store of a checked configuration without events, on a board of as many histories: those of the stripes first,
+    /// then those of the classes, then those of the callers; and a pass for each caller, which has seen nothing. The room
+    /// that closing needs is made here. Keys are
     /// hashed with the seed, on which no reply depends. `NoMemory` where memory is refused.
     pub fn open(
         alloc: Global,
@@ -109,26 +114,29 @@ impl<N: Named> Store<N> {
     ) -> Result<(Store<N>, Vec<Pass<N>>), NoMemory>
         requires board { board ≡ N.board }
         requires config { (config ≡ N.config) × IsBounded N.config × IsSound N.config }
-        requires locks { locks_of N.board.counts ≡ locks_for N.config }
-        requires owners { AreOwners N.board.table (locks_for N.config) owners.items }
+        requires locks { locks_of N.board.counts ≡ histories_for N.config }
+        requires owners { AreOwners N.board.table (histories_for N.config) owners.items }
         requires seen { seen ≡ record { board = N.board.table; sight = blind } }
         ensures passes { IfOk result (λ r. ArePasses N.config.callers r.1.items) }
     {
         let mut seen = seen;
+        let locks = locks_in(&config);
         let mut stripes = Vec::new(alloc);
         let mut classes = Vec::new(alloc);
+        let mut passes = Vec::new(alloc);
         for owner in owners {
             let token = seen.split(&board);
-            let lock = next_lock(stripes.len(), classes.len());
-            if lock < config.stripes as usize {
-                let stripe = open_stripe::<N>(alloc, &config, lock as u32, owner, token, seed);
+            let place = next_place(stripes.len(), classes.len(), passes.len());
+            if place < config.stripes as usize {
+                let stripe = open_stripe::<N>(alloc, &config, place as u32, owner, token, seed);
                 stripes.push(Mutex::new(stripe))?;
-            } else {
-                let class = open_class::<N>(alloc, &config, lock, owner, token);
+            } else if place < locks {
+                let class = open_class::<N>(alloc, &config, place, owner, token);
                 classes.push(Mutex::new(class))?;
+            } else {
+                passes.push(open_pass::<N>(&config, place, owner, token))?;
             }
         }
-        let passes = passes::<N>(alloc, &board, config.callers, &mut seen)?;
         let shelf = Mutex::new(shelf_for::<N>(alloc, &config)?);
         let store = Store {
             board,

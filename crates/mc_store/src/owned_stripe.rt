@@ -1,5 +1,5 @@
 //! A stripe with its tokens of the board.
-ghost use Rattle.std.specs.Prelude.{◌≡◌, []};
+ghost use Rattle.std.specs.Prelude.{◌≡◌, [], length};
 ghost use mathlib.Core.List.{IsPrefix};
 ghost use Rattle.mc_board.specs.Histories.{list_at, with_seen, Grows};
 ghost use Rattle.mc_store.specs.Finals.{IsBehindAt};
@@ -59,6 +59,13 @@ impl OwnedStripe {
         ensures { result.0 ≡ self.now.stripe.site.stripe }
     {
         self.state.number()
+    }
+
+    // How many events the stripe has had.
+    pub(crate) fn events(&self) -> u64
+        ensures { result ≡ length self.now.stripe.history }
+    {
+        self.state.history().len() as u64
     }
 
     // The stripe, for reading.

@@ -1,6 +1,7 @@
 //! Steps on a stripe and classes under their locks: before each step they are told of each other, behind it the board
 //! has the new events, and they are told of each other again.
-ghost use Rattle.std.specs.Prelude.{◌≡◌, ◌≤◌, ◌<◌, ◌∷◌, [], Bool, ◌++◌, IfOk, OnOk, OnErr, IsErrOf, length};
+ghost use Rattle.std.specs.Prelude.{◌≡◌, ◌≤◌, ◌<◌, ◌+◌, ◌^◌, ◌∷◌, [], Bool, ◌++◌, IfOk, OnOk, OnErr, IsErrOf, length};
+ghost use mathlib.Core.List.{IsPrefix};
 ghost use Rattle.mc_item.specs.declared.fault.Fault.TheVariants.{HistoryFull};
 ghost use Rattle.mc_rule.specs.Lists.{IsFull, lists_of};
 ghost use Rattle.mc_segment.specs.ClassCalls.{Makes, Stays, refused_event};
@@ -11,18 +12,21 @@ ghost use Rattle.mc_pull.specs.Agreeing.{AgreeNow};
 ghost use Rattle.mc_pull.specs.Growth as classes;
 ghost use Rattle.mc_pull.specs.Perform as words;
 ghost use Rattle.mc_pull.specs.Perform.{AreLent, GivesRoom, MayAnswer, call};
+ghost use Rattle.mc_store.specs.Callers.{IsCall, answered_at, call_events};
+ghost use Rattle.mc_store.specs.Locked.{caller_place};
 ghost use Rattle.mc_store.specs.Performing.{IsMade, IsRefusedIn};
 ghost use Rattle.mc_store.specs.Serving.{IsShort};
-ghost use Rattle.mc_store.specs.Sides.{class_told};
+ghost use Rattle.mc_store.specs.Sides.{class_told, stripe_told};
 
+use crate::caller::Caller;
 use crate::locked::{LockedClass, LockedStripe};
 use crate::named::Named;
 use crate::owned_class::catch_up_class;
 use crate::owned_stripe::catch_up_stripe;
-use mc_board::Board;
+use mc_board::{Board, Owner, Seen};
 use mc_item::{Command, Config, Fault, Reply, Room, Who};
 use mc_pull::{Lent, perform_fated};
-use mc_stripe::Fate;
+use mc_stripe::{Fate, StripeState};
 use std::alloc::Global;
 
 // A stripe and a class are told of each other: each has then seen the other's whole history, and the histories agree.
@@ -57,11 +61,39 @@ pub(crate) fn refuse<N: Named>(
     place
 }
 
+// The board gets the events of a command from its stripe. Where the command was answered, its caller notes at which place,
+// and the stripe is told so.
+fn put_answer<N: Named>(
+    board: &Board,
+    caller: &mut Caller<N>,
+    state: &StripeState,
+    owner: &mut Owner,
+    seen: &mut Seen,
+    place: u64,
+    done: &Result<Option<Reply>, Fault>,
+)
+    requires board { (board.now ≡ N.board) × (owner.old.board ≡ N.board.table) × (seen.old.board ≡ N.board.table) }
+    requires behind { IsPrefix owner.old.history (stripe_told state.now.history) }
+    requires turns { length caller.old.calls + 1 < 2 ^ 64 }
+    ensures owner { owner.new ≡ record owner.old { history = stripe_told state.now.history } }
+    ensures board { seen.new.board ≡ seen.old.board }
+    ensures grows { Grows seen.old.sight seen.new.sight }
+    ensures told { OnOk done.now (IsCall (answered_at state.now.site.stripe place) (call_events (list_at seen.new.sight.seen (caller_place N.config caller.old.number)))) }
+    ensures noted { OnOk done.now (caller.new ≡ record caller.old { calls = caller.old.calls ++ answered_at state.now.site.stripe place ∷ [] }) }
+    ensures unnoted { OnErr done.now (caller.new ≡ caller.old) }
+{
+    catch_up_stripe(state, owner, board);
+    if done.is_ok() {
+        caller.note(board, state.number(), place, seen);
+    }
+}
+
 // Makes one command, whose key has no dead item, on its stripe alone.
 pub(crate) fn perform_alone<N: Named>(
     alloc: Global,
     board: &Board,
     own: &mut LockedStripe<N>,
+    caller: &mut Caller<N>,
     who: Who,
     command: Command,
     moment: u64,
@@ -70,16 +102,21 @@ pub(crate) fn perform_alone<N: Named>(
     config: &Config,
 ) -> Result<Reply, Fault>
     requires names { (board.now ≡ N.board) × (config.now ≡ N.config) }
+    requires who { who.caller ≡ caller.old.number }
+    requires turns { length caller.old.calls + 1 < 2 ^ 64 }
     requires answer { MayAnswer own.old.stripe (call who command moment room) }
     requires fate { fate ≡ words.fate_for own.old.stripe (call who command moment room) }
     requires held { IsHeld N.config.sizes fate }
     requires lent { AreLent [] room fate }
     requires unrefused { IsRefusedIn room [] }
     ensures made { IfOk result (IsMade own.old.stripe own.new.stripe (call who command moment room)) }
+    ensures noted { OnOk result (caller.new ≡ record caller.old { calls = caller.old.calls ++ answered_at own.old.stripe.site.stripe (length own.old.stripe.history) ∷ [] }) }
     ensures err { OnErr result (own.new.stripe.history ≡ own.old.stripe.history) }
+    ensures unnoted { OnErr result (caller.new ≡ caller.old) }
     ensures site { KeepsSite own.old.stripe own.new.stripe }
     ensures full { IsErrOf result HistoryFull → IsShort N.config own.new }
 {
+    let place = own.side.events();
     let lent = Lent::Zero;
     let copy = perform_fated(
         alloc,
@@ -94,7 +131,15 @@ pub(crate) fn perform_alone<N: Named>(
         true,
     );
     own.side.state.history();
-    catch_up_stripe(&own.side.state, &mut own.side.owner, board);
+    put_answer(
+        board,
+        caller,
+        &own.side.state,
+        &mut own.side.owner,
+        &mut own.side.seen,
+        place,
+        &copy,
+    );
     Ok(copy?.unwrap())
 }
 
@@ -104,6 +149,7 @@ pub(crate) fn perform_on_one<N: Named>(
     board: &Board,
     own: &mut LockedStripe<N>,
     class: &mut LockedClass<N>,
+    caller: &mut Caller<N>,
     who: Who,
     command: Command,
     moment: u64,
@@ -112,6 +158,8 @@ pub(crate) fn perform_on_one<N: Named>(
     config: &Config,
 ) -> Result<Reply, Fault>
     requires names { (board.now ≡ N.board) × (config.now ≡ N.config) }
+    requires who { who.caller ≡ caller.old.number }
+    requires turns { length caller.old.calls + 1 < 2 ^ 64 }
     requires answer { MayAnswer own.old.stripe (call who command moment room) }
     requires fate { fate ≡ words.fate_for own.old.stripe (call who command moment room) }
     requires held { IsHeld N.config.sizes fate }
@@ -119,11 +167,14 @@ pub(crate) fn perform_on_one<N: Named>(
     requires lent { AreLent (class.old.class ∷ []) room fate }
     requires refused { IsRefusedIn room (class.old.class ∷ []) }
     ensures made { IfOk result (IsMade own.old.stripe own.new.stripe (call who command moment room)) }
+    ensures noted { OnOk result (caller.new ≡ record caller.old { calls = caller.old.calls ++ answered_at own.old.stripe.site.stripe (length own.old.stripe.history) ∷ [] }) }
     ensures err { OnErr result (own.new.stripe.history ≡ own.old.stripe.history) }
+    ensures unnoted { OnErr result (caller.new ≡ caller.old) }
     ensures site { KeepsSite own.old.stripe own.new.stripe }
     ensures full { IsErrOf result HistoryFull → IsShort N.config own.new }
 {
     meet(board, own, class);
+    let place = own.side.events();
     let lent = Lent::One(&mut class.side.state);
     let copy = perform_fated(
         alloc,
@@ -138,7 +189,15 @@ pub(crate) fn perform_on_one<N: Named>(
         true,
     );
     own.side.state.history();
-    catch_up_stripe(&own.side.state, &mut own.side.owner, board);
+    put_answer(
+        board,
+        caller,
+        &own.side.state,
+        &mut own.side.owner,
+        &mut own.side.seen,
+        place,
+        &copy,
+    );
     class.side.state.law();
     catch_up_class(&class.side.state, &mut class.side.owner, board);
     own.side.hear(board, &mut class.side);
@@ -154,6 +213,7 @@ pub(crate) fn perform_on_two<N: Named>(
     own: &mut LockedStripe<N>,
     low: &mut LockedClass<N>,
     high: &mut LockedClass<N>,
+    caller: &mut Caller<N>,
     who: Who,
     command: Command,
     moment: u64,
@@ -162,6 +222,8 @@ pub(crate) fn perform_on_two<N: Named>(
     config: &Config,
 ) -> Result<Reply, Fault>
     requires names { (board.now ≡ N.board) × (config.now ≡ N.config) }
+    requires who { who.caller ≡ caller.old.number }
+    requires turns { length caller.old.calls + 1 < 2 ^ 64 }
     requires answer { MayAnswer own.old.stripe (call who command moment room) }
     requires fate { fate ≡ words.fate_for own.old.stripe (call who command moment room) }
     requires held { IsHeld N.config.sizes fate }
@@ -170,12 +232,15 @@ pub(crate) fn perform_on_two<N: Named>(
     requires lent { AreLent (low.old.class ∷ high.old.class ∷ []) room fate }
     requires refused { IsRefusedIn room (low.old.class ∷ high.old.class ∷ []) }
     ensures made { IfOk result (IsMade own.old.stripe own.new.stripe (call who command moment room)) }
+    ensures noted { OnOk result (caller.new ≡ record caller.old { calls = caller.old.calls ++ answered_at own.old.stripe.site.stripe (length own.old.stripe.history) ∷ [] }) }
     ensures err { OnErr result (own.new.stripe.history ≡ own.old.stripe.history) }
+    ensures unnoted { OnErr result (caller.new ≡ caller.old) }
     ensures site { KeepsSite own.old.stripe own.new.stripe }
     ensures full { IsErrOf result HistoryFull → IsShort N.config own.new }
 {
     meet(board, own, low);
     meet(board, own, high);
+    let place = own.side.events();
     let lent = Lent::Two(&mut low.side.state, &mut high.side.state);
     let copy = perform_fated(
         alloc,
@@ -190,7 +255,15 @@ pub(crate) fn perform_on_two<N: Named>(
         true,
     );
     own.side.state.history();
-    catch_up_stripe(&own.side.state, &mut own.side.owner, board);
+    put_answer(
+        board,
+        caller,
+        &own.side.state,
+        &mut own.side.owner,
+        &mut own.side.seen,
+        place,
+        &copy,
+    );
     low.side.state.law();
     catch_up_class(&low.side.state, &mut low.side.owner, board);
     high.side.state.law();

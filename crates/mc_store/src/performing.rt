@@ -1,5 +1,5 @@
 //! One command in the room that it is given, on the classes that it needs, each under its lock.
-ghost use Rattle.std.specs.Prelude.{◌≡◌, ◌<◌, ◌∷◌, [], IfOk, OnErr, IsErrOf, length};
+ghost use Rattle.std.specs.Prelude.{◌≡◌, ◌<◌, ◌+◌, ◌^◌, ◌++◌, ◌∷◌, [], IfOk, OnOk, OnErr, IsErrOf, length};
 ghost use Rattle.mc_item.specs.declared.fault.Fault.TheVariants.{HistoryFull};
 ghost use Rattle.mc_item.specs.declared.reply.Room.TheVariants as rooms;
 ghost use Rattle.mc_stripe.specs.Plan.{IsHeld};
@@ -7,9 +7,11 @@ ghost use Rattle.mc_stripe.specs.StripeCalls.{KeepsSite};
 ghost use Rattle.mc_pull.specs.Perform as words;
 ghost use Rattle.mc_pull.specs.Perform.{GivesRoom, MayAnswer, call};
 ghost use Rattle.mc_lone.specs.Needed.{HaveClasses};
+ghost use Rattle.mc_store.specs.Callers.{answered_at};
 ghost use Rattle.mc_store.specs.Performing.{IsMade, IsRefusedIn};
 ghost use Rattle.mc_store.specs.Serving.{IsShort};
 
+use crate::caller::Caller;
 use crate::locked::{LockedClass, LockedStripe};
 use crate::named::Named;
 use crate::pairing::{perform_alone, perform_on_one, perform_on_two};
@@ -28,17 +30,22 @@ pub(crate) fn perform_kept<N: Named>(
     store: &Store<N>,
     rt: &impl Wait,
     own: &mut LockedStripe<N>,
+    caller: &mut Caller<N>,
     who: Who,
     command: Command,
     moment: u64,
     fate: Fate,
 ) -> Result<Reply, Fault>
+    requires who { who.caller ≡ caller.old.number }
+    requires turns { length caller.old.calls + 1 < 2 ^ 64 }
     requires answer { MayAnswer own.old.stripe (call who command moment rooms.Keep) }
     requires fate { fate ≡ words.fate_for own.old.stripe (call who command moment rooms.Keep) }
     requires held { IsHeld N.config.sizes fate }
     requires classes { HaveClasses (length N.config.sizes) rooms.Keep fate }
     ensures made { IfOk result (IsMade own.old.stripe own.new.stripe (call who command moment rooms.Keep)) }
+    ensures noted { OnOk result (caller.new ≡ record caller.old { calls = caller.old.calls ++ answered_at own.old.stripe.site.stripe (length own.old.stripe.history) ∷ [] }) }
     ensures err { OnErr result (own.new.stripe.history ≡ own.old.stripe.history) }
+    ensures unnoted { OnErr result (caller.new ≡ caller.old) }
     ensures site { KeepsSite own.old.stripe own.new.stripe }
     ensures full { IsErrOf result HistoryFull → IsShort N.config own.new }
 {
@@ -46,12 +53,14 @@ pub(crate) fn perform_kept<N: Named>(
     let config = &store.config;
     let room = Room::Keep;
     match needed_for(fate, room) {
-        Needed::Zero => perform_alone(alloc, board, own, who, command, moment, room, fate, config),
+        Needed::Zero => perform_alone(
+            alloc, board, own, caller, who, command, moment, room, fate, config,
+        ),
         Needed::One(number) => {
             let mut guard = store.lock_class(rt, number);
             let class = &mut *guard;
             perform_on_one(
-                alloc, board, own, class, who, command, moment, room, fate, config,
+                alloc, board, own, class, caller, who, command, moment, room, fate, config,
             )
         }
         Needed::Two(first, second) => {
@@ -60,7 +69,7 @@ pub(crate) fn perform_kept<N: Named>(
             let low = &mut *lower;
             let high = &mut *higher;
             perform_on_two(
-                alloc, board, own, low, high, who, command, moment, room, fate, config,
+                alloc, board, own, low, high, caller, who, command, moment, room, fate, config,
             )
         }
     }
@@ -74,19 +83,24 @@ pub(crate) fn finish_one<N: Named>(
     rt: &impl Wait,
     own: &mut LockedStripe<N>,
     class: &mut LockedClass<N>,
+    caller: &mut Caller<N>,
     who: Who,
     command: Command,
     moment: u64,
     room: Room,
     fate: Fate,
 ) -> Result<Reply, Fault>
+    requires who { who.caller ≡ caller.old.number }
+    requires turns { length caller.old.calls + 1 < 2 ^ 64 }
     requires answer { MayAnswer own.old.stripe (call who command moment room) }
     requires fate { fate ≡ words.fate_for own.old.stripe (call who command moment room) }
     requires held { IsHeld N.config.sizes fate }
     requires gives { GivesRoom who room class.old.class }
     requires refused { IsRefusedIn room (class.old.class ∷ []) }
     ensures made { IfOk result (IsMade own.old.stripe own.new.stripe (call who command moment room)) }
+    ensures noted { OnOk result (caller.new ≡ record caller.old { calls = caller.old.calls ++ answered_at own.old.stripe.site.stripe (length own.old.stripe.history) ∷ [] }) }
     ensures err { OnErr result (own.new.stripe.history ≡ own.old.stripe.history) }
+    ensures unnoted { OnErr result (caller.new ≡ caller.old) }
     ensures site { KeepsSite own.old.stripe own.new.stripe }
     ensures full { IsErrOf result HistoryFull → IsShort N.config own.new }
 {
@@ -99,6 +113,7 @@ pub(crate) fn finish_one<N: Named>(
         &store.board,
         own,
         class,
+        caller,
         who,
         command,
         moment,
@@ -116,12 +131,15 @@ pub(crate) fn finish_two<N: Named>(
     own: &mut LockedStripe<N>,
     low: &mut LockedClass<N>,
     high: &mut LockedClass<N>,
+    caller: &mut Caller<N>,
     who: Who,
     command: Command,
     moment: u64,
     room: Room,
     fate: Fate,
 ) -> Result<Reply, Fault>
+    requires who { who.caller ≡ caller.old.number }
+    requires turns { length caller.old.calls + 1 < 2 ^ 64 }
     requires answer { MayAnswer own.old.stripe (call who command moment room) }
     requires fate { fate ≡ words.fate_for own.old.stripe (call who command moment room) }
     requires held { IsHeld N.config.sizes fate }
@@ -129,7 +147,9 @@ pub(crate) fn finish_two<N: Named>(
     requires gives { GivesRoom who room low.old.class × GivesRoom who room high.old.class }
     requires refused { IsRefusedIn room (low.old.class ∷ high.old.class ∷ []) }
     ensures made { IfOk result (IsMade own.old.stripe own.new.stripe (call who command moment room)) }
+    ensures noted { OnOk result (caller.new ≡ record caller.old { calls = caller.old.calls ++ answered_at own.old.stripe.site.stripe (length own.old.stripe.history) ∷ [] }) }
     ensures err { OnErr result (own.new.stripe.history ≡ own.old.stripe.history) }
+    ensures unnoted { OnErr result (caller.new ≡ caller.old) }
     ensures site { KeepsSite own.old.stripe own.new.stripe }
     ensures full { IsErrOf result HistoryFull → IsShort N.config own.new }
 {
@@ -144,6 +164,7 @@ pub(crate) fn finish_two<N: Named>(
         own,
         low,
         high,
+        caller,
         who,
         command,
         moment,

@@ -30,7 +30,7 @@ impl<N: Named> Model for Store<N> {
     ghost use Rattle.mc_item.specs.Config.{IsBounded};
     ghost use Rattle.mc_item.specs.declared.config.Config.{Config};
     ghost use Rattle.mc_board.specs.Views.{locks_of};
-    ghost use Rattle.mc_store.specs.Locked.{locks_for};
+    ghost use Rattle.mc_store.specs.Locked.{histories_for};
 
     ghost Value = { Config };
 
@@ -40,7 +40,7 @@ impl<N: Named> Model for Store<N> {
         (s.board ≡ N.board)
         × (s.config ≡ N.config)
         × IsBounded N.config
-        × (locks_of N.board.counts ≡ locks_for N.config)
+        × (locks_of N.board.counts ≡ histories_for N.config)
         × (vec_len s.stripes ≡ N.config.stripes)
         × (vec_len s.classes ≡ length N.config.sizes) };
 }

@@ -3,8 +3,9 @@ ghost use Rattle.std.specs.Prelude.{◌≡◌, ◌<◌, IfOk, length};
 ghost use Rattle.mc_item.specs.Config.{IsBounded, IsSound};
 ghost use Rattle.mc_board.specs.Histories.{blind};
 ghost use Rattle.mc_board.specs.Views.{locks_of, AreOwners};
-ghost use Rattle.mc_store.specs.Locked.{locks_for};
+ghost use Rattle.mc_store.specs.Locked.{histories_for};
 
+mod callers;
 mod commands;
 mod running;
 mod threads;
@@ -44,15 +45,15 @@ fn four_stripes(alloc: Global) -> Result<Config, Fail>
     })
 }
 
-// A board for the locks of a configuration.
+// A board for the locks and the callers of a configuration.
 fn board_for(alloc: Global, config: &Config) -> Result<(Board, Vec<Owner>, Seen), Fail>
     requires { IsBounded config.now }
-    ensures locks { IfOk result (λ r. locks_of r.0.counts ≡ locks_for config.now) }
-    ensures owners { IfOk result (λ r. AreOwners r.0.table (locks_for config.now) r.1.items) }
+    ensures locks { IfOk result (λ r. locks_of r.0.counts ≡ histories_for config.now) }
+    ensures owners { IfOk result (λ r. AreOwners r.0.table (histories_for config.now) r.1.items) }
     ensures seen { IfOk result (λ r. r.2 ≡ record { board = r.0.table; sight = blind }) }
 {
     let locks = config.stripes as usize + config.sizes.as_slice().len();
-    Ok(Board::open(alloc, locks)?)
+    Ok(Board::open(alloc, locks + config.callers as usize)?)
 }
 
 // What was seen of a store: how many events each stripe's history had, what was counted of each lock, and who makes the
@@ -148,8 +149,8 @@ fn looked_at<N: Named, R: Wait>(
     requires board { board ≡ N.board }
     requires config { (config ≡ N.config) × IsBounded N.config × IsSound N.config }
     requires parts { (N.config.stripes ≡ 4) × (length N.config.sizes ≡ 2) × (N.config.callers ≡ 3) }
-    requires locks { locks_of N.board.counts ≡ locks_for N.config }
-    requires owners { AreOwners N.board.table (locks_for N.config) owners.items }
+    requires locks { locks_of N.board.counts ≡ histories_for N.config }
+    requires owners { AreOwners N.board.table (histories_for N.config) owners.items }
     requires seen { seen ≡ record { board = N.board.table; sight = blind } }
 {
     let (store, mut passes) = Store::<N>::open(alloc, config, board, owners, seen, seed)?;
@@ -248,8 +249,8 @@ fn visited_at_once<N: Named + Send + Sync, R: Threads + Wait + Sync>(
     requires board { board ≡ N.board }
     requires config { (config ≡ N.config) × IsBounded N.config × IsSound N.config }
     requires four { N.config.stripes ≡ 4 }
-    requires locks { locks_of N.board.counts ≡ locks_for N.config }
-    requires owners { AreOwners N.board.table (locks_for N.config) owners.items }
+    requires locks { locks_of N.board.counts ≡ histories_for N.config }
+    requires owners { AreOwners N.board.table (histories_for N.config) owners.items }
     requires seen { seen ≡ record { board = N.board.table; sight = blind } }
 {
     let (store, _passes) = Store::<N>::open(alloc, config, board, owners, seen, seed)?;

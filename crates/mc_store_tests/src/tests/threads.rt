@@ -3,7 +3,7 @@ ghost use Rattle.std.specs.Prelude.{◌≡◌, ◌≤◌, length};
 ghost use Rattle.mc_item.specs.Config.{IsBounded, IsSound};
 ghost use Rattle.mc_board.specs.Histories.{blind};
 ghost use Rattle.mc_board.specs.Views.{locks_of, AreOwners};
-ghost use Rattle.mc_store.specs.Locked.{locks_for};
+ghost use Rattle.mc_store.specs.Locked.{histories_for};
 
 use super::{board_for, checked, four_stripes};
 use mc_board::{Board, Owner, Seen};
@@ -72,8 +72,8 @@ fn counted<N: Named + Send + Sync, R: Threads + Abort + Wait + Sync>(
     requires board { board ≡ N.board }
     requires config { (config ≡ N.config) × IsBounded N.config × IsSound N.config }
     requires parts { (N.config.stripes ≡ 4) × (length N.config.sizes ≡ 2) × (N.config.callers ≡ 3) }
-    requires locks { locks_of N.board.counts ≡ locks_for N.config }
-    requires owners { AreOwners N.board.table (locks_for N.config) owners.items }
+    requires locks { locks_of N.board.counts ≡ histories_for N.config }
+    requires owners { AreOwners N.board.table (histories_for N.config) owners.items }
     requires seen { seen ≡ record { board = N.board.table; sight = blind } }
 {
     let (store, mut passes) = Store::<N>::open(alloc, config, board, owners, seen, seed)?;

@@ -3,10 +3,10 @@ use Rattle.mc_store.proofs.answering.answer_on_two.Goals as goal
 
 pub returns-in_ok-ready-clause-replied : goal.returns-in_ok-ready-clause-replied
 returns-in_ok-ready-clause-replied g c =
-    replied_ok g.N.Named.config c.args.who c.args.command c.args.moment c.args.own.now.stripe c.ready_on.new.own.stripe c.requires.goes.alive c.ready_on.ensures.searched c.finish_two.new.own.stripe c.in_ok-ready.ready.0 c.finish_two.result
-    c.finish_two.ensures.made
+    replied_ok g.N.Named.config c.args.who c.args.command c.args.moment c.args.own.now.stripe c.ready_on.new.own.stripe c.requires.goes.alive c.ready_on.ensures.searched c.finish_two.new.own.stripe c.in_ok-ready.ready.0
+    c.args.caller.now c.finish_two.new.caller c.finish_two.result c.ready_on.ensures.site c.finish_two.ensures.made c.finish_two.ensures.noted
 
 pub returns-in_ok-ready-2-clause-replied : goal.returns-in_ok-ready-2-clause-replied
 returns-in_ok-ready-2-clause-replied g c =
     replied_ok g.N.Named.config c.args.who c.args.command c.args.moment c.args.own.now.stripe c.ready_on-else-eq.new.own.stripe c.requires.goes.alive c.ready_on-else-eq.ensures.searched c.finish_two-else-eq.new.own.stripe c.in_ok-ready-2.ready.0
-    c.finish_two-else-eq.result c.finish_two-else-eq.ensures.made
+    c.args.caller.now c.finish_two-else-eq.new.caller c.finish_two-else-eq.result c.ready_on-else-eq.ensures.site c.finish_two-else-eq.ensures.made c.finish_two-else-eq.ensures.noted

@@ -23,8 +23,9 @@ returns-clause-replied g c =
     (subst (λ (x : Sight). HasSeen (stripe_told c.own.inside.side.stripe.history) x c.own.inside.side.lock) (ap (λ (p : PassView). p.sight) c.pass.view_is) c.compare.ensures.behind.seen) in
     let told = subst (λ (s : StripeSide). list_at after.seen s.lock ≡ stripe_told s.stripe.history) c.own-2.view_is c.share.ensures.told in
     let grows = subst (λ (s : StripeSide). Grows s.sight after) c.own-2.view_is c.share.ensures.all in
-    replied_by_ok g.N.Named.board.table config old new before after c.law.ensures c.law-2.ensures site seen told grows c.args.who c.args.command c.args.moment c.command_under-reply.result
-    (subst (λ (s : StripeSide). IfOk c.command_under-reply.result (IsReplied config c.args.who c.args.command c.args.moment s.stripe new.stripe)) same c.command_under-reply.ensures.replied)
+    replied_by_ok g.N.Named.board.table config old new before after c.law.ensures c.law-2.ensures site seen told grows c.args.who c.args.command c.args.moment c.args.pass.now.calls c.command_under-reply.new.caller.calls c.command_under-reply.result
+    (subst (λ (s : StripeSide). IfOk c.command_under-reply.result (IsReplied config c.args.who c.args.command c.args.moment s.stripe new.stripe c.args.pass.now.calls c.command_under-reply.new.caller.calls)) same
+    (subst (λ (p : PassView). IfOk c.command_under-reply.result (IsReplied config c.args.who c.args.command c.args.moment c.compare.new.self.stripe new.stripe p.calls c.command_under-reply.new.caller.calls)) c.pass.view_is c.command_under-reply.ensures.replied))
 
 pub returns-clause-cut : goal.returns-clause-cut
 returns-clause-cut g c =

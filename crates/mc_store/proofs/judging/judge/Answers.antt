@@ -27,6 +27,7 @@ invariant_of-stripe g c =
     let lent = c.stripe-inside-2.inside.0.0 in
     let own_is = ap (λ (l : Inside g.row.N.Denot). l.side) c.stripe-inside.view_is in
     let lent_is = ap (λ (l : Inside g.row.N.Denot). l.side) c.stripe-inside-2.view_is in
+    let walked = settle_walked _ _ _ _ (question_of c.args.look.now.ask) c.settle-done.ensures.site c.settle-done.ensures.agreement c.settle-done.result c.settle-done.ensures.settled c.settle-done.ensures.err in
     let grows = settled_grows _ _ _ _ (question_of c.args.look.now.ask) c.settle-done.result c.settle-done.ensures.settled c.settle-done.ensures.err in
     stripe_judged g.N.Named.board.table g.N.Named.config c.stripe.inside.side c.stripe.invariant own.state own.owner own.seen own_is
     c.args.owner.now c.args.seen.now c.args.look.now.class.now c.requires.served c.catch_up_class.new.owner c.tell.new.self c.catch_up_class.ensures c.tell.ensures.same
@@ -34,7 +35,7 @@ invariant_of-stripe g c =
     lent.state lent.owner lent.seen lent_is
     c.settle-done.new.stripe c.settle-done.new.self.class.now c.settle-done.ensures.site grows c.history.ensures.legal c.law.ensures.lawful c.settle-done.ensures.agreement c.settle-done.ensures.sight
     c.catch_up_stripe.new.owner c.catch_up_stripe.ensures c.catch_up_class-2.new.owner c.tell-3.new.self c.catch_up_class-2.ensures c.tell-3.ensures.same
-    c.tell-3.new.seen c.tell-3.ensures.whole c.tell-3.ensures.grows c.tell-4.new.self c.tell-4.new.seen c.tell-4.ensures.same c.tell-4.ensures.told c.tell-4.ensures.grows
+    c.tell-3.new.seen c.tell-3.ensures.whole c.tell-3.ensures.grows c.tell-4.new.self c.tell-4.new.seen c.tell-4.ensures.same c.tell-4.ensures.told c.tell-4.ensures.grows _ walked.grows
 
 pub returns-in_err-done-clause-served : goal.returns-in_err-done-clause-served
 returns-in_err-done-clause-served g c =
@@ -57,6 +58,7 @@ invariant_of-stripe-2 g c =
     let lent = c.stripe-inside-2.inside.0.0 in
     let own_is = ap (λ (l : Inside g.row.N.Denot). l.side) c.stripe-inside.view_is in
     let lent_is = ap (λ (l : Inside g.row.N.Denot). l.side) c.stripe-inside-2.view_is in
+    let walked = settle_walked _ _ _ _ (question_of c.args.look.now.ask) c.settle-done.ensures.site c.settle-done.ensures.agreement c.settle-done.result c.settle-done.ensures.settled c.settle-done.ensures.err in
     let grows = settled_grows _ _ _ _ (question_of c.args.look.now.ask) c.settle-done.result c.settle-done.ensures.settled c.settle-done.ensures.err in
     stripe_judged g.N.Named.board.table g.N.Named.config c.stripe.inside.side c.stripe.invariant own.state own.owner own.seen own_is
     c.args.owner.now c.args.seen.now c.args.look.now.class.now c.requires.served c.catch_up_class.new.owner c.tell.new.self c.catch_up_class.ensures c.tell.ensures.same
@@ -64,7 +66,7 @@ invariant_of-stripe-2 g c =
     lent.state lent.owner lent.seen lent_is
     c.settle-done.new.stripe c.settle-done.new.self.class.now c.settle-done.ensures.site grows c.history.ensures.legal c.law.ensures.lawful c.settle-done.ensures.agreement c.settle-done.ensures.sight
     c.catch_up_stripe.new.owner c.catch_up_stripe.ensures c.catch_up_class-2.new.owner c.tell-3.new.self c.catch_up_class-2.ensures c.tell-3.ensures.same
-    c.tell-3.new.seen c.tell-3.ensures.whole c.tell-3.ensures.grows c.tell-4.new.self c.tell-4.new.seen c.tell-4.ensures.same c.tell-4.ensures.told c.tell-4.ensures.grows
+    c.tell-3.new.seen c.tell-3.ensures.whole c.tell-3.ensures.grows c.tell-4.new.self c.tell-4.new.seen c.tell-4.ensures.same c.tell-4.ensures.told c.tell-4.ensures.grows _ walked.grows
 
 pub returns-clause-served : goal.returns-clause-served
 returns-clause-served g c =

@@ -1,24 +1,34 @@
-use Rattle.std.proofs.Common.{[], ap, sym, subst}
+use Rattle.std.proofs.Common.{◌≡◌, [], ap, sym, ◌∙◌, subst, length}
 use Rattle.mc_board.specs.Views.{OwnerView}
 use Rattle.mc_pull.specs.Perform.{call}
 use Rattle.mc_store.specs.Locked.{IsLockedStripe}
 use Rattle.mc_store.specs.Sides.{StripeSide}
+use Rattle.mc_store.proofs.CallerLemmas.{answered_performed}
 use Rattle.mc_store.proofs.LentLemmas.{own_behind}
+use Rattle.mc_store.proofs.PairLemmas.{stripe_sees}
+use Rattle.mc_store.proofs.SaidLemmas.{stripe_side}
 use Rattle.mc_store.proofs.StepLemmas.{alone_end}
 use Rattle.mc_store.proofs.pairing.perform_alone.Goals as goal
 
-pub catch_up_stripe-requires-clause-behind : goal.catch_up_stripe-requires-clause-behind
-catch_up_stripe-requires-clause-behind g c =
+pub put_answer-requires-clause-behind : goal.put_answer-requires-clause-behind
+put_answer-requires-clause-behind g c =
     let raw = c.own-inside.inside.0.0 in
     own_behind raw.state c.perform_fated-copy.new.stripe (call c.args.who c.args.command c.args.moment c.args.room) [] [] raw.owner.history c.own-inside.invariant.0
     c.perform_fated-copy.result c.perform_fated-copy.ensures.made c.perform_fated-copy.ensures.err
 
 pub invariant_of-own : goal.invariant_of-own
 invariant_of-own g c =
+    let table = g.N.Named.board.table in
+    let config = g.N.Named.config in
     let raw = c.own-inside.inside.0.0 in
-    let stripe = c.perform_fated-copy.new.stripe in
-    let old : StripeSide = record { board = raw.owner.board; lock = raw.owner.lock; stripe = raw.state; sight = raw.seen.sight } in
-    subst (IsLockedStripe g.N.Named.board.table g.N.Named.config) (sym (ap (λ (o : OwnerView). record { board = o.board; lock = o.lock; stripe = stripe; sight = raw.seen.sight }) c.catch_up_stripe.ensures))
-    (alone_end g.N.Named.board.table g.N.Named.config old
-    (subst (IsLockedStripe g.N.Named.board.table g.N.Named.config) (sym (ap (λ i. i.side) c.own-inside.view_is)) c.own.invariant)
-    stripe (call c.args.who c.args.command c.args.moment c.args.room) c.perform_fated-copy.ensures.site c.history.ensures.legal c.requires.unrefused c.perform_fated-copy.ensures.sight)
+    let made = c.perform_fated-copy in
+    let cl = call c.args.who c.args.command c.args.moment c.args.room in
+    let put = c.put_answer in
+    let own_is = ap (λ i. i.side) c.own-inside.view_is in
+    let was : IsLockedStripe table config (stripe_side raw.owner raw.seen raw.state) = subst (IsLockedStripe table config) (sym own_is) c.own.invariant in
+    let kept = stripe_sees table config (stripe_side raw.owner raw.seen raw.state) put.new.seen.sight put.ensures.grows was in
+    let place : c.events-place.result ≡ length raw.state.history = c.events-place.ensures ∙ sym (ap (λ (x : StripeSide). length x.stripe.history) own_is) in
+    let answered = answered_performed config raw.state made.new.stripe cl [] [] raw.seen.sight put.new.seen.sight c.args.caller.now.number c.events-place.result
+    c.requires.who place made.ensures.site put.ensures.grows made.result made.ensures.made made.ensures.err put.ensures.told was.answered in
+    subst (IsLockedStripe table config) (sym (ap (λ (o : OwnerView). stripe_side o put.new.seen made.new.stripe) put.ensures.owner))
+    (alone_end table config (stripe_side raw.owner put.new.seen raw.state) kept made.new.stripe cl made.ensures.site c.history.ensures.legal answered c.requires.unrefused made.ensures.sight)

@@ -1,12 +1,14 @@
-use Rattle.std.proofs.Common.{rules, ◌≡◌, ◌∷◌, [], Err, ap}
+use Rattle.std.proofs.Common.{rules, ◌≡◌, ◌∷◌, [], Err, ap, sym, ◌∙◌, length}
 use Rattle.mc_item.specs.declared.fault.Fault.TheVariants.{HistoryFull}
 use Rattle.mc_pull.specs.Perform.{call}
+use Rattle.mc_store.specs.Sides.{StripeSide}
+use Rattle.mc_store.proofs.CallerLemmas.{answered_performed}
 use Rattle.mc_store.proofs.LentLemmas.{class_behind, lent_grow, own_behind}
 use Rattle.mc_store.proofs.TwoLemmas.{two_full, two_high, two_low, two_stripe}
 use Rattle.mc_store.proofs.pairing.perform_on_two.Goals as goal
 
-pub catch_up_stripe-requires-clause-behind : goal.catch_up_stripe-requires-clause-behind
-catch_up_stripe-requires-clause-behind g c =
+pub put_answer-requires-clause-behind : goal.put_answer-requires-clause-behind
+put_answer-requires-clause-behind g c =
     let raw = c.own-inside.inside.0.0 in
     let made = c.perform_fated-copy in
     own_behind raw.state made.new.stripe (call c.args.who c.args.command c.args.moment c.args.room) (c.low-inside.inside.0.0.state ∷ c.high-inside.inside.0.0.state ∷ []) (made.new.lent.0 ∷ made.new.lent.1.0 ∷ [])
@@ -46,8 +48,13 @@ invariant_of-own g c =
     let v = made.new.lent.0 in
     let w = made.new.lent.1.0 in
     let grows = lent_grow raw.state made.new.stripe cl (raw_low.state ∷ raw_high.state ∷ []) (v ∷ w ∷ []) made.result made.ensures.made made.ensures.err in
+    let own_is = ap (λ i. i.side) c.own-inside.view_is in
+    let put = c.put_answer in
+    let place : c.events-place.result ≡ length raw.state.history = c.events-place.ensures ∙ sym (ap (λ (x : StripeSide). length x.stripe.history) own_is) in
+    let answered = answered_performed g.N.Named.config raw.state made.new.stripe cl (raw_low.state ∷ raw_high.state ∷ []) (v ∷ w ∷ []) raw.seen.sight put.new.seen.sight c.args.caller.now.number c.events-place.result
+    c.requires.who place made.ensures.site put.ensures.grows made.result made.ensures.made made.ensures.err put.ensures.told in
     two_stripe g.N.Named.board.table g.N.Named.config cl raw.state made.new.stripe raw_low.state v raw_high.state w
-    raw.owner c.catch_up_stripe.new.owner raw.seen c.own.inside.side c.hear.new.self c.hear-2.new.self c.hear-3.new.stripe c.hear-4.new.stripe (ap (λ i. i.side) c.own-inside.view_is) c.own.invariant c.catch_up_stripe.ensures
+    raw.owner put.new.owner raw.seen put.new.seen c.own.inside.side c.hear.new.self c.hear-2.new.self c.hear-3.new.stripe c.hear-4.new.stripe own_is c.own.invariant put.ensures.owner put.ensures.grows answered
     raw_low.owner c.catch_up_class.new.owner raw_low.seen c.low.inside.side c.hear.new.class (ap (λ i. i.side) c.low-inside.view_is) c.low.invariant c.catch_up_class.ensures c.hear.ensures.class
     raw_high.owner c.catch_up_class-2.new.owner raw_high.seen c.high.inside.side c.hear-2.new.class (ap (λ i. i.side) c.high-inside.view_is) c.high.invariant c.catch_up_class-2.ensures c.hear-2.ensures.class
     c.hear.ensures.told c.hear.ensures.grows c.hear-2.ensures.told c.hear-2.ensures.grows c.hear-3.ensures.stripe c.hear-4.ensures.stripe made.ensures.site c.history.ensures.legal grows
@@ -65,8 +72,13 @@ invariant_of-low g c =
     let v = made.new.lent.0 in
     let w = made.new.lent.1.0 in
     let grows = lent_grow raw.state made.new.stripe cl (raw_low.state ∷ raw_high.state ∷ []) (v ∷ w ∷ []) made.result made.ensures.made made.ensures.err in
+    let own_is = ap (λ i. i.side) c.own-inside.view_is in
+    let put = c.put_answer in
+    let place : c.events-place.result ≡ length raw.state.history = c.events-place.ensures ∙ sym (ap (λ (x : StripeSide). length x.stripe.history) own_is) in
+    let answered = answered_performed g.N.Named.config raw.state made.new.stripe cl (raw_low.state ∷ raw_high.state ∷ []) (v ∷ w ∷ []) raw.seen.sight put.new.seen.sight c.args.caller.now.number c.events-place.result
+    c.requires.who place made.ensures.site put.ensures.grows made.result made.ensures.made made.ensures.err put.ensures.told in
     two_low g.N.Named.board.table g.N.Named.config cl raw.state made.new.stripe raw_low.state v raw_high.state w
-    raw.owner c.catch_up_stripe.new.owner raw.seen c.own.inside.side c.hear.new.self c.hear-2.new.self c.hear-3.new.stripe c.hear-4.new.stripe (ap (λ i. i.side) c.own-inside.view_is) c.own.invariant c.catch_up_stripe.ensures
+    raw.owner put.new.owner raw.seen put.new.seen c.own.inside.side c.hear.new.self c.hear-2.new.self c.hear-3.new.stripe c.hear-4.new.stripe own_is c.own.invariant put.ensures.owner put.ensures.grows answered
     raw_low.owner c.catch_up_class.new.owner raw_low.seen c.low.inside.side c.hear.new.class (ap (λ i. i.side) c.low-inside.view_is) c.low.invariant c.catch_up_class.ensures c.hear.ensures.class
     raw_high.owner c.catch_up_class-2.new.owner raw_high.seen c.high.inside.side c.hear-2.new.class (ap (λ i. i.side) c.high-inside.view_is) c.high.invariant c.catch_up_class-2.ensures c.hear-2.ensures.class
     c.hear.ensures.told c.hear.ensures.grows c.hear-2.ensures.told c.hear-2.ensures.grows c.hear-3.ensures.stripe c.hear-4.ensures.stripe made.ensures.site c.history.ensures.legal grows
@@ -84,8 +96,13 @@ invariant_of-high g c =
     let v = made.new.lent.0 in
     let w = made.new.lent.1.0 in
     let grows = lent_grow raw.state made.new.stripe cl (raw_low.state ∷ raw_high.state ∷ []) (v ∷ w ∷ []) made.result made.ensures.made made.ensures.err in
+    let own_is = ap (λ i. i.side) c.own-inside.view_is in
+    let put = c.put_answer in
+    let place : c.events-place.result ≡ length raw.state.history = c.events-place.ensures ∙ sym (ap (λ (x : StripeSide). length x.stripe.history) own_is) in
+    let answered = answered_performed g.N.Named.config raw.state made.new.stripe cl (raw_low.state ∷ raw_high.state ∷ []) (v ∷ w ∷ []) raw.seen.sight put.new.seen.sight c.args.caller.now.number c.events-place.result
+    c.requires.who place made.ensures.site put.ensures.grows made.result made.ensures.made made.ensures.err put.ensures.told in
     two_high g.N.Named.board.table g.N.Named.config cl raw.state made.new.stripe raw_low.state v raw_high.state w
-    raw.owner c.catch_up_stripe.new.owner raw.seen c.own.inside.side c.hear.new.self c.hear-2.new.self c.hear-3.new.stripe c.hear-4.new.stripe (ap (λ i. i.side) c.own-inside.view_is) c.own.invariant c.catch_up_stripe.ensures
+    raw.owner put.new.owner raw.seen put.new.seen c.own.inside.side c.hear.new.self c.hear-2.new.self c.hear-3.new.stripe c.hear-4.new.stripe own_is c.own.invariant put.ensures.owner put.ensures.grows answered
     raw_low.owner c.catch_up_class.new.owner raw_low.seen c.low.inside.side c.hear.new.class (ap (λ i. i.side) c.low-inside.view_is) c.low.invariant c.catch_up_class.ensures c.hear.ensures.class
     raw_high.owner c.catch_up_class-2.new.owner raw_high.seen c.high.inside.side c.hear-2.new.class (ap (λ i. i.side) c.high-inside.view_is) c.high.invariant c.catch_up_class-2.ensures c.hear-2.ensures.class
     c.hear.ensures.told c.hear.ensures.grows c.hear-2.ensures.told c.hear-2.ensures.grows c.hear-3.ensures.stripe c.hear-4.ensures.stripe made.ensures.site c.history.ensures.legal grows
@@ -103,11 +120,16 @@ returns-in_err-copy-clause-full g c =
     let v = made.new.lent.0 in
     let w = made.new.lent.1.0 in
     let grows = lent_grow raw.state made.new.stripe cl (raw_low.state ∷ raw_high.state ∷ []) (v ∷ w ∷ []) made.result made.ensures.made made.ensures.err in
+    let own_is = ap (λ i. i.side) c.own-inside.view_is in
+    let put = c.put_answer in
+    let place : c.events-place.result ≡ length raw.state.history = c.events-place.ensures ∙ sym (ap (λ (x : StripeSide). length x.stripe.history) own_is) in
+    let answered = answered_performed g.N.Named.config raw.state made.new.stripe cl (raw_low.state ∷ raw_high.state ∷ []) (v ∷ w ∷ []) raw.seen.sight put.new.seen.sight c.args.caller.now.number c.events-place.result
+    c.requires.who place made.ensures.site put.ensures.grows made.result made.ensures.made made.ensures.err put.ensures.told in
     λ full.
     let fault : c.from_residual.result ≡ Err c.in_err-copy.field-0.0 = search rules in
     let is : c.perform_fated-copy.result ≡ Err HistoryFull = cc (c.in_err-copy.was, fault, full) in
     two_full g.N.Named.board.table g.N.Named.config cl raw.state made.new.stripe raw_low.state v raw_high.state w
-    raw.owner c.catch_up_stripe.new.owner raw.seen c.own.inside.side c.hear.new.self c.hear-2.new.self c.hear-3.new.stripe c.hear-4.new.stripe (ap (λ i. i.side) c.own-inside.view_is) c.own.invariant c.catch_up_stripe.ensures
+    raw.owner put.new.owner raw.seen put.new.seen c.own.inside.side c.hear.new.self c.hear-2.new.self c.hear-3.new.stripe c.hear-4.new.stripe own_is c.own.invariant put.ensures.owner put.ensures.grows answered
     raw_low.owner c.catch_up_class.new.owner raw_low.seen c.low.inside.side c.hear.new.class (ap (λ i. i.side) c.low-inside.view_is) c.low.invariant c.catch_up_class.ensures c.hear.ensures.class
     raw_high.owner c.catch_up_class-2.new.owner raw_high.seen c.high.inside.side c.hear-2.new.class (ap (λ i. i.side) c.high-inside.view_is) c.high.invariant c.catch_up_class-2.ensures c.hear-2.ensures.class
     c.hear.ensures.told c.hear.ensures.grows c.hear-2.ensures.told c.hear-2.ensures.grows c.hear-3.ensures.stripe c.hear-4.ensures.stripe made.ensures.site c.history.ensures.legal grows
@@ -124,8 +146,13 @@ invariant_of-own-2 g c =
     let v = made.new.lent.0 in
     let w = made.new.lent.1.0 in
     let grows = lent_grow raw.state made.new.stripe cl (raw_low.state ∷ raw_high.state ∷ []) (v ∷ w ∷ []) made.result made.ensures.made made.ensures.err in
+    let own_is = ap (λ i. i.side) c.own-inside.view_is in
+    let put = c.put_answer in
+    let place : c.events-place.result ≡ length raw.state.history = c.events-place.ensures ∙ sym (ap (λ (x : StripeSide). length x.stripe.history) own_is) in
+    let answered = answered_performed g.N.Named.config raw.state made.new.stripe cl (raw_low.state ∷ raw_high.state ∷ []) (v ∷ w ∷ []) raw.seen.sight put.new.seen.sight c.args.caller.now.number c.events-place.result
+    c.requires.who place made.ensures.site put.ensures.grows made.result made.ensures.made made.ensures.err put.ensures.told in
     two_stripe g.N.Named.board.table g.N.Named.config cl raw.state made.new.stripe raw_low.state v raw_high.state w
-    raw.owner c.catch_up_stripe.new.owner raw.seen c.own.inside.side c.hear.new.self c.hear-2.new.self c.hear-3.new.stripe c.hear-4.new.stripe (ap (λ i. i.side) c.own-inside.view_is) c.own.invariant c.catch_up_stripe.ensures
+    raw.owner put.new.owner raw.seen put.new.seen c.own.inside.side c.hear.new.self c.hear-2.new.self c.hear-3.new.stripe c.hear-4.new.stripe own_is c.own.invariant put.ensures.owner put.ensures.grows answered
     raw_low.owner c.catch_up_class.new.owner raw_low.seen c.low.inside.side c.hear.new.class (ap (λ i. i.side) c.low-inside.view_is) c.low.invariant c.catch_up_class.ensures c.hear.ensures.class
     raw_high.owner c.catch_up_class-2.new.owner raw_high.seen c.high.inside.side c.hear-2.new.class (ap (λ i. i.side) c.high-inside.view_is) c.high.invariant c.catch_up_class-2.ensures c.hear-2.ensures.class
     c.hear.ensures.told c.hear.ensures.grows c.hear-2.ensures.told c.hear-2.ensures.grows c.hear-3.ensures.stripe c.hear-4.ensures.stripe made.ensures.site c.history.ensures.legal grows
@@ -143,8 +170,13 @@ invariant_of-low-2 g c =
     let v = made.new.lent.0 in
     let w = made.new.lent.1.0 in
     let grows = lent_grow raw.state made.new.stripe cl (raw_low.state ∷ raw_high.state ∷ []) (v ∷ w ∷ []) made.result made.ensures.made made.ensures.err in
+    let own_is = ap (λ i. i.side) c.own-inside.view_is in
+    let put = c.put_answer in
+    let place : c.events-place.result ≡ length raw.state.history = c.events-place.ensures ∙ sym (ap (λ (x : StripeSide). length x.stripe.history) own_is) in
+    let answered = answered_performed g.N.Named.config raw.state made.new.stripe cl (raw_low.state ∷ raw_high.state ∷ []) (v ∷ w ∷ []) raw.seen.sight put.new.seen.sight c.args.caller.now.number c.events-place.result
+    c.requires.who place made.ensures.site put.ensures.grows made.result made.ensures.made made.ensures.err put.ensures.told in
     two_low g.N.Named.board.table g.N.Named.config cl raw.state made.new.stripe raw_low.state v raw_high.state w
-    raw.owner c.catch_up_stripe.new.owner raw.seen c.own.inside.side c.hear.new.self c.hear-2.new.self c.hear-3.new.stripe c.hear-4.new.stripe (ap (λ i. i.side) c.own-inside.view_is) c.own.invariant c.catch_up_stripe.ensures
+    raw.owner put.new.owner raw.seen put.new.seen c.own.inside.side c.hear.new.self c.hear-2.new.self c.hear-3.new.stripe c.hear-4.new.stripe own_is c.own.invariant put.ensures.owner put.ensures.grows answered
     raw_low.owner c.catch_up_class.new.owner raw_low.seen c.low.inside.side c.hear.new.class (ap (λ i. i.side) c.low-inside.view_is) c.low.invariant c.catch_up_class.ensures c.hear.ensures.class
     raw_high.owner c.catch_up_class-2.new.owner raw_high.seen c.high.inside.side c.hear-2.new.class (ap (λ i. i.side) c.high-inside.view_is) c.high.invariant c.catch_up_class-2.ensures c.hear-2.ensures.class
     c.hear.ensures.told c.hear.ensures.grows c.hear-2.ensures.told c.hear-2.ensures.grows c.hear-3.ensures.stripe c.hear-4.ensures.stripe made.ensures.site c.history.ensures.legal grows
@@ -162,8 +194,13 @@ invariant_of-high-2 g c =
     let v = made.new.lent.0 in
     let w = made.new.lent.1.0 in
     let grows = lent_grow raw.state made.new.stripe cl (raw_low.state ∷ raw_high.state ∷ []) (v ∷ w ∷ []) made.result made.ensures.made made.ensures.err in
+    let own_is = ap (λ i. i.side) c.own-inside.view_is in
+    let put = c.put_answer in
+    let place : c.events-place.result ≡ length raw.state.history = c.events-place.ensures ∙ sym (ap (λ (x : StripeSide). length x.stripe.history) own_is) in
+    let answered = answered_performed g.N.Named.config raw.state made.new.stripe cl (raw_low.state ∷ raw_high.state ∷ []) (v ∷ w ∷ []) raw.seen.sight put.new.seen.sight c.args.caller.now.number c.events-place.result
+    c.requires.who place made.ensures.site put.ensures.grows made.result made.ensures.made made.ensures.err put.ensures.told in
     two_high g.N.Named.board.table g.N.Named.config cl raw.state made.new.stripe raw_low.state v raw_high.state w
-    raw.owner c.catch_up_stripe.new.owner raw.seen c.own.inside.side c.hear.new.self c.hear-2.new.self c.hear-3.new.stripe c.hear-4.new.stripe (ap (λ i. i.side) c.own-inside.view_is) c.own.invariant c.catch_up_stripe.ensures
+    raw.owner put.new.owner raw.seen put.new.seen c.own.inside.side c.hear.new.self c.hear-2.new.self c.hear-3.new.stripe c.hear-4.new.stripe own_is c.own.invariant put.ensures.owner put.ensures.grows answered
     raw_low.owner c.catch_up_class.new.owner raw_low.seen c.low.inside.side c.hear.new.class (ap (λ i. i.side) c.low-inside.view_is) c.low.invariant c.catch_up_class.ensures c.hear.ensures.class
     raw_high.owner c.catch_up_class-2.new.owner raw_high.seen c.high.inside.side c.hear-2.new.class (ap (λ i. i.side) c.high-inside.view_is) c.high.invariant c.catch_up_class-2.ensures c.hear-2.ensures.class
     c.hear.ensures.told c.hear.ensures.grows c.hear-2.ensures.told c.hear-2.ensures.grows c.hear-3.ensures.stripe c.hear-4.ensures.stripe made.ensures.site c.history.ensures.legal grows

@@ -11,6 +11,7 @@ use Rattle.mc_pull.specs.Refusal.{MayFail}
 use Rattle.mc_pull.specs.Settled.{lost_event, stripe_events}
 use Rattle.mc_pull.specs.declared.judge.Done.{Done}
 use Rattle.mc_pull.specs.declared.judge.Judge.TheVariants.{Dead}
+use Rattle.mc_pull.proofs.LoneLemmas.{settle_walked}
 use Rattle.mc_lone.proofs.DeadLemmas.{dead_listed, dead_reclaimed, told_dead}
 use Rattle.mc_lone.proofs.GrowLemmas.{err_is}
 use Rattle.mc_store.specs.Sides.{ClassSide, StripeSide}
@@ -55,11 +56,12 @@ invariant_of-own g c =
     let c_is : lent.state ≡ c.meet.new.lent.class = ap (λ (x : ClassSide). x.class) (lent_is ∙ c.class.view_is) in
     let agree : AgreeNow lent.state own.state = subst (λ (s : Stripe). AgreeNow lent.state s) (sym s_is) (subst (λ (v : ClassView). AgreeNow v c.meet.new.own.stripe) (sym c_is) c.meet.ensures.met) in
     let q = question c.args.who c.args.link.number Dead c.args.moment in
+    let walked = settle_walked _ _ _ _ q c.settle-done.ensures.site c.settle-done.ensures.agreement c.settle-done.result c.settle-done.ensures.settled c.settle-done.ensures.err in
     let grows = settled_grows _ _ _ _ q c.settle-done.result c.settle-done.ensures.settled c.settle-done.ensures.err in
     stripe_paired g.N.Named.board.table g.N.Named.config c.own.inside.side c.class.inside.side c.own.invariant c.class.invariant own.state own.owner own.seen own_is lent.state lent.owner lent.seen lent_is
     agree c.settle-done.new.stripe c.settle-done.new.class c.settle-done.ensures.site grows c.history-2.ensures.legal c.law-2.ensures.lawful c.settle-done.ensures.agreement c.settle-done.ensures.sight
     c.catch_up_stripe.new.owner c.catch_up_stripe.ensures c.catch_up_class.new.owner c.catch_up_class.ensures c.hear.new.self c.hear-2.new.stripe c.hear.new.class c.hear-2.new.self
-    c.hear.ensures.class c.hear.ensures.told c.hear.ensures.grows c.hear-2.ensures.stripe c.hear-2.ensures.told c.hear-2.ensures.grows
+    c.hear.ensures.class c.hear.ensures.told c.hear.ensures.grows c.hear-2.ensures.stripe c.hear-2.ensures.told c.hear-2.ensures.grows _ walked.grows
 
 pub invariant_of-class : goal.invariant_of-class
 invariant_of-class g c =
@@ -87,11 +89,12 @@ invariant_of-own-2 g c =
     let c_is : lent.state ≡ c.meet.new.lent.class = ap (λ (x : ClassSide). x.class) (lent_is ∙ c.class.view_is) in
     let agree : AgreeNow lent.state own.state = subst (λ (s : Stripe). AgreeNow lent.state s) (sym s_is) (subst (λ (v : ClassView). AgreeNow v c.meet.new.own.stripe) (sym c_is) c.meet.ensures.met) in
     let q = question c.args.who c.args.link.number Dead c.args.moment in
+    let walked = settle_walked _ _ _ _ q c.settle-done.ensures.site c.settle-done.ensures.agreement c.settle-done.result c.settle-done.ensures.settled c.settle-done.ensures.err in
     let grows = settled_grows _ _ _ _ q c.settle-done.result c.settle-done.ensures.settled c.settle-done.ensures.err in
     stripe_paired g.N.Named.board.table g.N.Named.config c.own.inside.side c.class.inside.side c.own.invariant c.class.invariant own.state own.owner own.seen own_is lent.state lent.owner lent.seen lent_is
     agree c.settle-done.new.stripe c.settle-done.new.class c.settle-done.ensures.site grows c.history-2.ensures.legal c.law-2.ensures.lawful c.settle-done.ensures.agreement c.settle-done.ensures.sight
     c.catch_up_stripe.new.owner c.catch_up_stripe.ensures c.catch_up_class.new.owner c.catch_up_class.ensures c.hear.new.self c.hear-2.new.stripe c.hear.new.class c.hear-2.new.self
-    c.hear.ensures.class c.hear.ensures.told c.hear.ensures.grows c.hear-2.ensures.stripe c.hear-2.ensures.told c.hear-2.ensures.grows
+    c.hear.ensures.class c.hear.ensures.told c.hear.ensures.grows c.hear-2.ensures.stripe c.hear-2.ensures.told c.hear-2.ensures.grows _ walked.grows
 
 pub invariant_of-class-2 : goal.invariant_of-class-2
 invariant_of-class-2 g c =

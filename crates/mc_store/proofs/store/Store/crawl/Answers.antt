@@ -25,10 +25,17 @@ loop-i-init g c =
       ap (λ (p : PassView). p.caller) c.snapshot_of.ensures.same ∙ ap (λ (p : PassView). p.caller) turn,
       ap (λ (p : PassView). p.turn) c.snapshot_of.ensures.same ∙ ap (λ (p : PassView). p.turn) turn,
       c.in_ok-who.ensures.who,
+      ap (λ (p : PassView). p.calls) c.snapshot_of.ensures.same ∙ ap (λ (p : PassView). p.calls) turn,
     )
 
 pub returns-in_err-crawl_link-clause-grows : goal.returns-in_err-crawl_link-clause-grows
 returns-in_err-crawl_link-clause-grows g c = grows_trans c.args.pass.now.sight c.loop-i.pass.sight c.crawl_link.new.pass.sight c.loop-i.invariant.4 c.crawl_link.ensures.grows
+
+pub returns-in_err-crawl_link-clause-calls : goal.returns-in_err-crawl_link-clause-calls
+returns-in_err-crawl_link-clause-calls g c = ap (λ (p : PassView). p.calls) c.crawl_link.ensures.same ∙ c.loop-i.invariant.8
+
+pub returns-clause-calls : goal.returns-clause-calls
+returns-clause-calls g c = c.loop-i.invariant.8
 
 pub loop-i-preserved : goal.loop-i-preserved
 loop-i-preserved g c =
@@ -44,4 +51,5 @@ loop-i-preserved g c =
       ap (λ (p : PassView). p.caller) c.crawl_link.ensures.same ∙ i.5,
       ap (λ (p : PassView). p.turn) c.crawl_link.ensures.same ∙ i.6,
       i.7,
+      ap (λ (p : PassView). p.calls) c.crawl_link.ensures.same ∙ i.8,
     )

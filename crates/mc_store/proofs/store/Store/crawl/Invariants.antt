@@ -11,3 +11,4 @@ invariant-loop-i g l =
     × ShowsReclaims g.N.Named.config l.class l.fn.pass.sight l.pass.sight l.who l.moment 0 l.histogram.reclaimed
     × IsSnapshot g.N.Named.config l.class l.fn.pass.sight l.pass.sight (length l.links.items)
     × Grows l.fn.pass.sight l.pass.sight × (l.pass.caller ≡ l.fn.pass.caller) × (l.pass.turn ≡ l.fn.pass.turn + 1) × (l.who ≡ next_who l.fn.pass)
+    × (l.pass.calls ≡ l.fn.pass.calls)

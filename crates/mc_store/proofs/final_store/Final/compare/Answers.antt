@@ -1,0 +1,18 @@
+use Rattle.std.proofs.Common.{◌≡◌, List, slice_get, ap, ◌∙◌, subst}
+use Rattle.mc_board.specs.Histories.{HasSeen}
+use Rattle.mc_store.specs.Callers.{calls_told}
+use Rattle.mc_store.specs.Finals.{FinalView}
+use Rattle.mc_store.specs.Locked.{caller_place}
+use Rattle.mc_store.specs.Passes.{PassView}
+use Rattle.mc_store.specs.Sides.{StripeSide}
+use Rattle.mc_store.proofs.FinalLemmas.{its_own}
+use Rattle.mc_store.proofs.final_store.Final.compare.Goals as goal
+
+pub returns-clause-own : goal.returns-clause-own
+returns-clause-own g c = λ are.
+    let config = g.N.Named.config in
+    let same : c.compare_stripes.new.stripes.items ≡ c.args.self.now.stripes = c.compare_stripes.ensures.same.0 ∙ ap (λ (f : FinalView). f.stripes) c.self.view_is in
+    its_own g.N.Named.board.table config c.args.pass.now c.args.self.now.stripes are
+    (λ k s e.
+    subst (λ (p : PassView). HasSeen (calls_told p.calls) s.sight (caller_place config p.caller)) c.pass.view_is
+    (c.compare_calls.ensures.behind k s (ap (λ (ys : List StripeSide). slice_get ys k) same ∙ e)))
