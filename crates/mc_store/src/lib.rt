@@ -23,6 +23,7 @@ mod pairing;
 mod pass;
 mod performing;
 mod planning;
+mod quick;
 mod readying;
 mod shelf;
 mod store;
