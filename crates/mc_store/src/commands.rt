@@ -171,9 +171,9 @@ fn command_seen<N: Named>(
 impl<N: Named> Store<N> {
     /// Makes one command under the lock of its key's stripe, for which it waits, and of at most two classes, the lower
     /// first. The reply is what a sequential memcached gives at one point of the stripe's history, after all that the pass
-    /// had seen, and the pass's caller notes where it stands. `moment` is in whole seconds, at most 2^62. After a fault nothing of the command stands but what leads up
-    /// to it: `HistoryFull` only where a history has less than two places left, or the pass has had 2^64 - 1 turns;
-    /// `NoMemory` where memory is wanting.
+    /// had seen, and the pass's caller notes where it stands. `moment` is in whole seconds, at most 2^62. After a fault
+    /// nothing of the command stands but what leads up to it, and nothing is noted: `HistoryFull` only where a history has
+    /// less than two places left, or the pass has had 2^64 - 1 turns; `NoMemory` where memory is wanting.
     pub fn command(
         &self,
         alloc: Global,
