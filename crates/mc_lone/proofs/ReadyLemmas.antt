@@ -89,7 +89,7 @@ module _ (config : Config) (who : Who) (command : Command) (moment : ℕ) (s mid
       ap (λ (t : Site). (row_of t (cache_of t mid.history).versions (visible_items (cache_of t mid.history) moment (key_of command)) command moment).need) site.site
       ∙ ap (λ (h : List StripeEvent). (row_of s.site (cache_of s.site h).versions (visible_items (cache_of s.site h) moment (key_of command)) command moment).need) same
 
-  led_same : (before : List StripeEvent) → LeadsUp config who command moment mid before → LeadsUp config who command moment s before
+  pub led_same : (before : List StripeEvent) → LeadsUp config who command moment mid before → LeadsUp config who command moment s before
   led_same before led = record {
     walked = led.walked;
     split = led.split ∙ ap (λ (o : Option Item). burial who (key_of command) moment (dead_link o moment) ++ led.walked) items_same;

@@ -1,9 +1,10 @@
 //! One command on a store. It is answered at once where it can be; else its key's dead item goes first, then a chunk is
 //! looked for where one is needed, then it is answered.
-ghost use Rattle.std.specs.Prelude.{◌≡◌, ◌≤◌, ◌^◌, ◌++◌, List, IfOk, OnOk, OnErr, IsErrOf};
+ghost use Rattle.std.specs.Prelude.{◌≡◌, true, false, ◌≤◌, ◌^◌, ◌++◌, List, IfOk, OnOk, OnErr, IsErrOf};
 ghost use Rattle.mc_item.specs.Command.{key_of};
 ghost use Rattle.mc_item.specs.declared.fault.Fault.TheVariants.{HistoryFull};
 ghost use Rattle.mc_item.specs.declared.stripe_event.StripeEvent.{StripeEvent};
+ghost use Rattle.mc_stripe.specs.Alone.{IsStorage};
 ghost use Rattle.mc_stripe.specs.Plan.{dead_link, visible_row};
 ghost use Rattle.mc_stripe.specs.StripeCalls.{KeepsSite};
 ghost use Rattle.mc_stripe.specs.StripeState.{cache_now};
@@ -160,8 +161,11 @@ fn command_in(
     Ok(place)
 }
 
-// A storage command, which takes or may take a chunk.
-fn is_storage(command: &Command) -> bool {
+/// Whether this is a storage command, which takes or may take a chunk.
+pub fn is_storage(command: &Command) -> bool
+    ensures yes { result ≡ true → IsStorage command.now }
+    ensures no { result ≡ false → IsStorage command.now → ⊥ }
+{
     match command {
         Command::Store { .. } | Command::Huge { .. } => true,
         Command::Get(_)
@@ -195,9 +199,9 @@ fn command_with(
         return command_in(alloc, stripe, classes, who, command, moment, config);
     }
     let place = stripe.history().len() as u64;
-    match answer_alone(stripe, who, command, moment)? {
-        None => Ok(place),
-        Some(given) => command_in(alloc, stripe, classes, who, given, moment, config),
+    match answer_alone(stripe, who, command, moment, false)? {
+        Ok(_) => Ok(place),
+        Err(given) => command_in(alloc, stripe, classes, who, given, moment, config),
     }
 }
 

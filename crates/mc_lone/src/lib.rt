@@ -9,6 +9,7 @@ mod steps;
 mod store;
 mod walks;
 
+pub use commands::is_storage;
 pub use needed::{Needed, needed_for};
 pub use steps::{bury, refuse_in};
 pub use store::LoneStore;

@@ -1,6 +1,6 @@
 -- A command that its stripe answers alone keeps agreement with each class, and what is seen of each.
 use Rattle.std.proofs.Common.{◌≡◌, ◌≤◌, ◌^◌, ℕ, List, Result, Ok, Err, refl, sym, subst}
-use Rattle.std.specs.Prelude.{Option, Some, None, IfOk, IfSome, IfNone, OnErr}
+use Rattle.std.specs.Prelude.{Option, Some, None, IfOk, IfErr, OnOk, OnErr}
 use Rattle.mc_item.specs.Answer.{row_of}
 use Rattle.mc_item.specs.Cache.{changed, counted, marked, touched}
 use Rattle.mc_item.specs.Command.{key_of}
@@ -15,6 +15,7 @@ use Rattle.mc_item.specs.declared.fault.Fault.{Fault}
 use Rattle.mc_item.specs.declared.item.ClassNo.{ClassNo}
 use Rattle.mc_item.specs.declared.item.Item.{Item}
 use Rattle.mc_item.specs.declared.item.Who.{Who}
+use Rattle.mc_item.specs.declared.reply.Reply.{Reply}
 use Rattle.mc_item.specs.declared.reply.Room.TheVariants as rooms
 use Rattle.mc_item.specs.declared.stripe_event.StripeEvent.{StripeEvent}
 use Rattle.mc_rule.specs.Agreement.{Agree}
@@ -85,14 +86,14 @@ module _ (s s_new : Stripe) (who : Who) (command : Command) (moment : ℕ) (lega
   same_seen same = record { told = λ other rule seen each. subst (Each (IsTold s.site rule other seen)) (sym same) each }
 
   -- whichever way the call ends
-  pub each_agrees : (result : Result (Option Command) Fault) → IfOk result (λ back. IfNone back (Notes s s_new who command moment rooms.Keep)) → IfOk result (λ back. IfNone back (TouchesNoChunk s command moment))
-      → IfOk result (λ back. IfSome back (λ c. (c ≡ command) × (s_new.history ≡ s.history))) → OnErr result (s_new.history ≡ s.history) → KeepsEachAgreement s s_new
-  each_agrees (Ok None) noted none back err = noted_agrees none noted
-  each_agrees (Ok (Some c)) noted none back err = same_agrees back.1
+  pub each_agrees : (result : Result (Result (Option Reply) Command) Fault) → IfOk result (λ quick. OnOk quick (Notes s s_new who command moment rooms.Keep)) → IfOk result (λ quick. OnOk quick (TouchesNoChunk s command moment))
+      → IfOk result (λ quick. IfErr quick (λ c. (c ≡ command) × (s_new.history ≡ s.history))) → OnErr result (s_new.history ≡ s.history) → KeepsEachAgreement s s_new
+  each_agrees (Ok (Ok copy)) noted none back err = noted_agrees none noted
+  each_agrees (Ok (Err c)) noted none back err = same_agrees back.1
   each_agrees (Err fault) noted none back err = same_agrees err
 
-  pub each_seen : (result : Result (Option Command) Fault) → IfOk result (λ back. IfNone back (Notes s s_new who command moment rooms.Keep)) → IfOk result (λ back. IfNone back (TouchesNoChunk s command moment))
-      → IfOk result (λ back. IfSome back (λ c. (c ≡ command) × (s_new.history ≡ s.history))) → OnErr result (s_new.history ≡ s.history) → KeepsEachSight s s_new
-  each_seen (Ok None) noted none back err = noted_seen none noted
-  each_seen (Ok (Some c)) noted none back err = same_seen back.1
+  pub each_seen : (result : Result (Result (Option Reply) Command) Fault) → IfOk result (λ quick. OnOk quick (Notes s s_new who command moment rooms.Keep)) → IfOk result (λ quick. OnOk quick (TouchesNoChunk s command moment))
+      → IfOk result (λ quick. IfErr quick (λ c. (c ≡ command) × (s_new.history ≡ s.history))) → OnErr result (s_new.history ≡ s.history) → KeepsEachSight s s_new
+  each_seen (Ok (Ok copy)) noted none back err = noted_seen none noted
+  each_seen (Ok (Err c)) noted none back err = same_seen back.1
   each_seen (Err fault) noted none back err = same_seen err

@@ -14,6 +14,7 @@ pub mod TwoLemmas
 pub mod PlanLemmas
 pub mod GivenLemmas
 pub mod UnderLemmas
+pub mod QuickLemmas
 pub mod ServedLemmas
 pub mod JudgedLemmas
 pub mod GateLemmas

@@ -20,9 +20,11 @@ use crate::locked::LockedStripe;
 use crate::named::Named;
 use crate::pass::Pass;
 use crate::planning::plan_under;
+use crate::quick::answer_quick;
 use crate::store::Store;
 use crate::walking::bury_under;
 use mc_item::{Command, Fault, Link, Reply, Who, stripe_of};
+use mc_lone::is_storage;
 use mc_stripe::Plan;
 use std::alloc::Global;
 use std::sync::Wait;
@@ -78,8 +80,8 @@ fn plan_alive<N: Named>(
     }
 }
 
-// One command on the stripe of its key, which is under its lock.
-fn command_under<N: Named>(
+// One command by its plan, on the stripe of its key, which is under its lock.
+fn command_planned<N: Named>(
     alloc: Global,
     store: &Store<N>,
     rt: &impl Wait,
@@ -102,6 +104,37 @@ fn command_under<N: Named>(
 {
     let plan = plan_alive(alloc, store, rt, own, who, &command, moment)?;
     answer_by_plan(alloc, store, rt, own, caller, who, command, moment, plan)
+}
+
+// One command on the stripe of its key, which is under its lock: the quick way where it touches no chunk, else by its plan.
+fn command_under<N: Named>(
+    alloc: Global,
+    store: &Store<N>,
+    rt: &impl Wait,
+    own: &mut LockedStripe<N>,
+    caller: &mut Caller<N>,
+    who: Who,
+    command: Command,
+    moment: u64,
+) -> Result<Reply, Fault>
+    requires own { stripe_of (key_of command) N.config.stripes ≡ record { 0 = own.old.stripe.site.stripe } }
+    requires who { who.caller ≡ caller.old.number }
+    requires turns { length caller.old.calls + 1 < 2 ^ 64 }
+    requires early { moment ≤ 2 ^ 62 }
+    ensures replied { IfOk result (IsReplied N.config who command moment own.old.stripe own.new.stripe caller.old.calls caller.new.calls) }
+    ensures cut { OnErr result (IsCut N.config who command moment own.old.stripe own.new.stripe) }
+    ensures unnoted { OnErr result (caller.new ≡ caller.old) }
+    ensures number { caller.new.number ≡ caller.old.number }
+    ensures site { KeepsSite own.old.stripe own.new.stripe }
+    ensures full { IsErrOf result HistoryFull → IsShort N.config own.new }
+{
+    if is_storage(&command) {
+        return command_planned(alloc, store, rt, own, caller, who, command, moment);
+    }
+    match answer_quick(&store.board, own, caller, who, command, moment)? {
+        Ok(reply) => Ok(reply),
+        Err(given) => command_planned(alloc, store, rt, own, caller, who, given, moment),
+    }
 }
 
 // One command on the stripe of its key, which is under its lock, after all that a pass has seen; the pass is told of all.

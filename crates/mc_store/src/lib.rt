@@ -24,6 +24,7 @@ mod pairing;
 mod pass;
 mod performing;
 mod planning;
+mod quick;
 mod readying;
 mod shelf;
 mod store;

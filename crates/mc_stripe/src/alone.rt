@@ -1,5 +1,5 @@
 //! The quick way: commands that touch no chunk are answered in their place, by one look-up and without a plan.
-ghost use Rattle.std.specs.Prelude.{◌≡◌, ◌≤◌, ◌<◌, ◌^◌, ◌⊎◌, ℕ, List, true, false, IfOk, IfSome, IfNone, OnOk, OnErr, OnSome, nat_eq, if◌then◌else◌, Some, None};
+ghost use Rattle.std.specs.Prelude.{◌≡◌, ◌≤◌, ◌<◌, ◌^◌, ◌⊎◌, ℕ, List, true, false, IfOk, IfSome, IfNone, OnErr, OnSome, nat_eq, if◌then◌else◌, Some, None};
 ghost use Rattle.std.specs.List.{All};
 ghost use Rattle.std.specs.Cmp.Lexicographic.{pointwise};
 ghost use Rattle.std.specs.HashMap.{get, spare};
@@ -15,7 +15,7 @@ ghost use Rattle.mc_item.specs.declared.reply.Room.TheVariants as rooms;
 ghost use Rattle.mc_stripe.specs.Alone.{IsChunkless, IsStorage, LeavesChunks};
 ghost use Rattle.mc_stripe.specs.declared.fate.Fate.TheVariants as fates;
 
-use crate::changing::{Answered, answer_found};
+use crate::changing::{Answered, answer_found, told};
 use crate::fate::{Fate, wakes};
 use crate::in_place::{answer_counted, answer_hit};
 use crate::planning::{Plan, plan_of};
@@ -23,19 +23,6 @@ use mc_item::{Command, Item, Key, Need, NoMemory, Reply, Room, Site};
 use std::alloc::Global;
 use std::collections::HashMap;
 use std::hash::RandomState;
-
-// A reply that adds no version, of which no copy is made.
-#[inline(always)]
-fn told(noted: Reply) -> Answered
-    ensures noted { result.noted ≡ noted }
-    ensures added { result.added ≡ 0 }
-{
-    Answered {
-        noted,
-        copy: None,
-        added: 0,
-    }
-}
 
 // Whether a command of this plan, where it is given no room, touches a chunk.
 fn touches(plan: &Plan) -> bool
@@ -59,10 +46,11 @@ fn get_alone(
     items: &mut HashMap<Key, Item, RandomState>,
     key: &Key,
     moment: u64,
+    copies: bool,
 ) -> Result<Option<Answered>, NoMemory>
     ensures chunks { IfOk result (λ answered. OnSome answered (LeavesChunks key.now (get (pointwise nat_eq) items.old key.now) (get_row (get (pointwise nat_eq) items.old key.now)) moment)) }
     ensures ok { IfOk result (λ answered. IfSome answered (λ a. (answer : Answer) × (answer ≡ (get_row (get (pointwise nat_eq) items.old key.now)).answer rooms.Keep)
-        × (a.noted ≡ answer.reply) × (a.added ≡ Rattle.mc_item.specs.Cache.versions_of answer.change)
+        × (a.noted ≡ answer.reply) × (a.copy ≡ (if copies then Some answer.reply else None)) × (a.added ≡ Rattle.mc_item.specs.Cache.versions_of answer.change)
         × ((q : List ℕ) → get (pointwise nat_eq) items.new q ≡ (if pointwise nat_eq key.now q then changed (get (pointwise nat_eq) items.old key.now) answer.change else get (pointwise nat_eq) items.old q)))) }
     ensures back { IfOk result (λ answered. IfNone answered (LeavesChunks key.now (get (pointwise nat_eq) items.old key.now) (get_row (get (pointwise nat_eq) items.old key.now)) moment → ⊥)) }
     ensures same { IfOk result (λ answered. IfNone answered ((q : List ℕ) → get (pointwise nat_eq) items.new q ≡ get (pointwise nat_eq) items.old q)) }
@@ -70,30 +58,32 @@ fn get_alone(
     ensures spare { spare items.new ≡ spare items.old }
 {
     let Some(item) = items.get_mut(key) else {
-        return Ok(Some(told(Reply::Miss)));
+        return Ok(Some(told(alloc, Reply::Miss, copies)?));
     };
     if item.dead(moment) || wakes(item) {
         return Ok(None);
     }
-    Ok(Some(answer_hit(alloc, item)?))
+    Ok(Some(answer_hit(alloc, item, copies)?))
 }
 
 // The answer to a command whose key has no item; nothing is answered for storage commands.
 #[inline(always)]
-fn absent_alone(command: &Command) -> Option<Answered>
-    ensures chunks { OnSome result ((site : Site) (n moment : ℕ) → LeavesChunks (key_of command.now) None (row_of site n None command.now moment) moment) }
-    ensures ok { IfSome result (λ a. (a.added ≡ 0) × ((site : Site) (n moment : ℕ) → (row_of site n None command.now moment).answer rooms.Keep ≡ answers.answer a.noted changes.Stays)) }
-    ensures back { IfNone result (IsStorage command.now) }
+fn absent_alone(
+    alloc: Global,
+    command: &Command,
+    copies: bool,
+) -> Result<Option<Answered>, NoMemory>
+    ensures chunks { IfOk result (λ answered. OnSome answered ((site : Site) (n moment : ℕ) → LeavesChunks (key_of command.now) None (row_of site n None command.now moment) moment)) }
+    ensures ok { IfOk result (λ answered. IfSome answered (λ a. (a.added ≡ 0) × (a.copy ≡ (if copies then Some a.noted else None)) × ((site : Site) (n moment : ℕ) → (row_of site n None command.now moment).answer rooms.Keep ≡ answers.answer a.noted changes.Stays))) }
+    ensures back { IfOk result (λ answered. IfNone answered (IsStorage command.now)) }
 {
-    match command {
-        Command::Get(_) => Some(told(Reply::Miss)),
-        Command::Store { .. } => None,
-        Command::Huge { .. } => None,
-        Command::Incr(_, _) => Some(told(Reply::NotFound)),
-        Command::Decr(_, _) => Some(told(Reply::NotFound)),
-        Command::Touch(_, _) => Some(told(Reply::NotFound)),
-        Command::Delete(_) => Some(told(Reply::NotFound)),
-    }
+    let noted = match command {
+        Command::Get(_) => Reply::Miss,
+        Command::Store { .. } | Command::Huge { .. } => return Ok(None),
+        Command::Incr(_, _) | Command::Decr(_, _) | Command::Touch(_, _) | Command::Delete(_) =>
+            Reply::NotFound,
+    };
+    Ok(Some(told(alloc, noted, copies)?))
 }
 
 // The answer to a command that finds an item, by the general way, where it touches no chunk. Else nothing is answered,
@@ -106,6 +96,7 @@ fn found_alone(
     item: &mut Item,
     command: &Command,
     moment: u64,
+    copies: bool,
 ) -> Result<Option<Answered>, NoMemory>
     requires cas { cas_of site.now versions < 2 ^ 64 }
     requires moment { moment ≤ 2 ^ 62 }
@@ -113,7 +104,7 @@ fn found_alone(
     requires alive { IsAlive (Some item.old) moment }
     ensures chunks { IfOk result (λ answered. OnSome answered (LeavesChunks (key_of command.now) (Some item.old) (row_of site.now versions (Some item.old) command.now moment) moment)) }
     ensures ok { IfOk result (λ answered. IfSome answered (λ a. (answer : Answer) × (answer ≡ (row_of site.now versions (Some item.old) command.now moment).answer rooms.Keep)
-        × (a.noted ≡ answer.reply) × (a.added ≡ Rattle.mc_item.specs.Cache.versions_of answer.change)
+        × (a.noted ≡ answer.reply) × (a.copy ≡ (if copies then Some answer.reply else None)) × (a.added ≡ Rattle.mc_item.specs.Cache.versions_of answer.change)
         × (changed (Some item.old) answer.change ≡ Some item.new))) }
     ensures back { IfOk result (λ answered. IfNone answered (LeavesChunks (key_of command.now) (Some item.old) (row_of site.now versions (Some item.old) command.now moment) moment → ⊥)) }
     ensures same { IfOk result (λ answered. IfNone answered (item.new ≡ item.old)) }
@@ -131,7 +122,7 @@ fn found_alone(
         command,
         moment,
         Room::Keep,
-        false,
+        copies,
     )?;
     Ok(Some(answered))
 }
@@ -146,13 +137,14 @@ fn other_alone(
     items: &mut HashMap<Key, Item, RandomState>,
     command: &Command,
     moment: u64,
+    copies: bool,
 ) -> Result<Option<Answered>, NoMemory>
     requires cas { cas_of site.now versions < 2 ^ 64 }
     requires moment { moment ≤ 2 ^ 62 }
     requires small { All (λ size. size ≤ 2 ^ 20) site.now.sizes }
     ensures chunks { IfOk result (λ answered. OnSome answered (LeavesChunks (key_of command.now) (get (pointwise nat_eq) items.old (key_of command.now)) (row_of site.now versions (get (pointwise nat_eq) items.old (key_of command.now)) command.now moment) moment)) }
     ensures ok { IfOk result (λ answered. IfSome answered (λ a. (answer : Answer) × (answer ≡ (row_of site.now versions (get (pointwise nat_eq) items.old (key_of command.now)) command.now moment).answer rooms.Keep)
-        × (a.noted ≡ answer.reply) × (a.added ≡ Rattle.mc_item.specs.Cache.versions_of answer.change)
+        × (a.noted ≡ answer.reply) × (a.copy ≡ (if copies then Some answer.reply else None)) × (a.added ≡ Rattle.mc_item.specs.Cache.versions_of answer.change)
         × ((q : List ℕ) → get (pointwise nat_eq) items.new q ≡ (if pointwise nat_eq (key_of command.now) q then changed (get (pointwise nat_eq) items.old (key_of command.now)) answer.change else get (pointwise nat_eq) items.old q)))) }
     ensures back { IfOk result (λ answered. IfNone answered (IsStorage command.now ⊎ (LeavesChunks (key_of command.now) (get (pointwise nat_eq) items.old (key_of command.now)) (row_of site.now versions (get (pointwise nat_eq) items.old (key_of command.now)) command.now moment) moment → ⊥))) }
     ensures same { IfOk result (λ answered. IfNone answered ((q : List ℕ) → get (pointwise nat_eq) items.new q ≡ get (pointwise nat_eq) items.old q)) }
@@ -160,15 +152,15 @@ fn other_alone(
     ensures spare { spare items.new ≡ spare items.old }
 {
     let Some(item) = items.get_mut(command.key()) else {
-        return Ok(absent_alone(command));
+        return absent_alone(alloc, command, copies);
     };
     if item.dead(moment) {
         return Ok(None);
     }
-    if let Some(answered) = answer_counted(site, versions, item, command, moment) {
+    if let Some(answered) = answer_counted(site, versions, item, command, moment, copies) {
         return Ok(Some(answered));
     }
-    found_alone(alloc, site, versions, item, command, moment)
+    found_alone(alloc, site, versions, item, command, moment, copies)
 }
 
 /// Answers a command for the item under its key, where it touches no chunk and is no storage command, and changes it in
@@ -181,13 +173,14 @@ pub(crate) fn answer_alone(
     items: &mut HashMap<Key, Item, RandomState>,
     command: &Command,
     moment: u64,
+    copies: bool,
 ) -> Result<Option<Answered>, NoMemory>
     requires cas { cas_of site.now versions < 2 ^ 64 }
     requires moment { moment ≤ 2 ^ 62 }
     requires small { All (λ size. size ≤ 2 ^ 20) site.now.sizes }
     ensures chunks { IfOk result (λ answered. OnSome answered (LeavesChunks (key_of command.now) (get (pointwise nat_eq) items.old (key_of command.now)) (row_of site.now versions (get (pointwise nat_eq) items.old (key_of command.now)) command.now moment) moment)) }
     ensures ok { IfOk result (λ answered. IfSome answered (λ a. (answer : Answer) × (answer ≡ (row_of site.now versions (get (pointwise nat_eq) items.old (key_of command.now)) command.now moment).answer rooms.Keep)
-        × (a.noted ≡ answer.reply) × (a.added ≡ Rattle.mc_item.specs.Cache.versions_of answer.change)
+        × (a.noted ≡ answer.reply) × (a.copy ≡ (if copies then Some answer.reply else None)) × (a.added ≡ Rattle.mc_item.specs.Cache.versions_of answer.change)
         × ((q : List ℕ) → get (pointwise nat_eq) items.new q ≡ (if pointwise nat_eq (key_of command.now) q then changed (get (pointwise nat_eq) items.old (key_of command.now)) answer.change else get (pointwise nat_eq) items.old q)))) }
     ensures back { IfOk result (λ answered. IfNone answered (IsStorage command.now ⊎ (LeavesChunks (key_of command.now) (get (pointwise nat_eq) items.old (key_of command.now)) (row_of site.now versions (get (pointwise nat_eq) items.old (key_of command.now)) command.now moment) moment → ⊥))) }
     ensures same { IfOk result (λ answered. IfNone answered ((q : List ℕ) → get (pointwise nat_eq) items.new q ≡ get (pointwise nat_eq) items.old q)) }
@@ -195,9 +188,9 @@ pub(crate) fn answer_alone(
     ensures spare { spare items.new ≡ spare items.old }
 {
     match command {
-        Command::Get(key) => get_alone(alloc, items, key, moment),
+        Command::Get(key) => get_alone(alloc, items, key, moment, copies),
         Command::Store { .. } | Command::Huge { .. } => Ok(None),
         Command::Incr(_, _) | Command::Decr(_, _) | Command::Touch(_, _) | Command::Delete(_) =>
-            other_alone(alloc, site, versions, items, command, moment),
+            other_alone(alloc, site, versions, items, command, moment, copies),
     }
 }

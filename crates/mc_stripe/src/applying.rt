@@ -1,5 +1,5 @@
 //! Commands on a stripe.
-ghost use Rattle.std.specs.Prelude.{◌≡◌, ◌≤◌, ◌<◌, ◌+◌, ◌^◌, ℕ, Option, None, false, IfOk, IfSome, IfNone, OnOk, OnErr, OnSome, Some, if◌then◌else◌, ◌⊎◌, IsErrOf, ◌↔◌, ◌++◌, ◌∷◌, [], length, vec_len, vec_capacity};
+ghost use Rattle.std.specs.Prelude.{◌≡◌, ◌≤◌, ◌<◌, ◌+◌, ◌^◌, ℕ, Option, None, false, IfOk, IfErr, OnOk, OnErr, Some, if◌then◌else◌, ◌⊎◌, IsErrOf, ◌↔◌, ◌++◌, ◌∷◌, [], length, vec_len, vec_capacity};
 ghost use Rattle.mc_item.specs.Answer.{row_of};
 ghost use Rattle.mc_item.specs.Cache.{answer_of};
 ghost use Rattle.mc_item.specs.Command.{key_of};
@@ -149,23 +149,26 @@ impl StripeState {
     }
 
     /// The quick way of a command at a moment of at most 2^62: `get`, `incr`, `decr`, `touch` and `delete` are answered
-    /// in their place where they touch no chunk, with one event more and no copy of the reply, which stands in the
-    /// history, at the place that was its end. A storage command is given back, and so is any other whose key's item is
-    /// dead, which needs a fresh chunk, or of which a chunk goes or is woken; then nothing happened. `HistoryFull` is
-    /// answered where the history has no place left. It looks the key up once.
+    /// in their place where they touch no chunk, with one event more, in which the reply stands, at the place that was
+    /// the history's end. A copy of the reply is made where one is asked for, before anything changes. A storage command
+    /// is given back, as the inner `Err`, and so is any other whose key's item is dead, which needs a fresh chunk, or of
+    /// which a chunk goes or is woken; then nothing happened. `HistoryFull` is answered where the history has no place
+    /// left. It looks the key up once.
     #[inline(always)]
     pub fn answer(
         &mut self,
         who: Who,
         command: Command,
         moment: u64,
-    ) -> Result<Option<Command>, Fault>
+        copies: bool,
+    ) -> Result<Result<Option<Reply>, Command>, Fault>
         requires stripe { stripe_of (key_of command) self.old.site.stripes ≡ record { 0 = self.old.site.stripe } }
         requires moment { moment ≤ 2 ^ 62 }
-        ensures event { IfOk result (λ back. IfNone back (Notes self.old self.new who command moment rooms.Keep)) }
-        ensures chunks { IfOk result (λ back. IfNone back (TouchesNoChunk self.old command moment)) }
-        ensures touched { IfOk result (λ back. OnSome back (IsStorage command ⊎ (TouchesNoChunk self.old command moment → ⊥))) }
-        ensures back { IfOk result (λ back. IfSome back (λ c. (c ≡ command) × (self.new.history ≡ self.old.history))) }
+        ensures event { IfOk result (λ quick. OnOk quick (Notes self.old self.new who command moment rooms.Keep)) }
+        ensures copy { IfOk result (λ quick. IfOk quick (λ copy. copy ≡ (if copies then Some (answer_of self.old.site (cache_now self.old) command moment rooms.Keep).reply else None))) }
+        ensures chunks { IfOk result (λ quick. OnOk quick (TouchesNoChunk self.old command moment)) }
+        ensures touched { IfOk result (λ quick. OnErr quick (IsStorage command ⊎ (TouchesNoChunk self.old command moment → ⊥))) }
+        ensures back { IfOk result (λ quick. IfErr quick (λ c. (c ≡ command) × (self.new.history ≡ self.old.history))) }
         ensures full { IsErrOf result faults.HistoryFull ↔ (self.old.limit ≤ length self.old.history) }
         ensures err { OnErr result (self.new.history ≡ self.old.history) }
         ensures site { KeepsSite self.old self.new }
@@ -182,9 +185,10 @@ impl StripeState {
             &mut self.items,
             &command,
             moment,
+            copies,
         )?
         else {
-            return Ok(Some(command));
+            return Ok(Err(command));
         };
         self.versions += told.added;
         push_answer(
@@ -195,6 +199,6 @@ impl StripeState {
             told.noted,
             Room::Keep,
         );
-        Ok(None)
+        Ok(Ok(told.copy))
     }
 }

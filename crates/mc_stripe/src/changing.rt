@@ -36,6 +36,21 @@ pub(crate) fn copy_if(alloc: Global, reply: &Reply, copies: bool) -> Result<Opti
     }
 }
 
+/// A reply that adds no version, with a copy where one is asked for.
+#[inline(always)]
+pub(crate) fn told(alloc: Global, noted: Reply, copies: bool) -> Result<Answered, NoMemory>
+    ensures noted { IfOk result (λ a. a.noted ≡ noted) }
+    ensures copy { IfOk result (λ a. a.copy ≡ (if copies then Some noted else None)) }
+    ensures added { IfOk result (λ a. a.added ≡ 0) }
+{
+    let copy = copy_if(alloc, &noted, copies)?;
+    Ok(Answered {
+        noted,
+        copy,
+        added: 0,
+    })
+}
+
 // How many versions a change adds.
 fn versions_of(change: &Change) -> u64
     ensures { result ≡ Rattle.mc_item.specs.Cache.versions_of change.now }

@@ -13,7 +13,7 @@ ghost use Rattle.mc_stripe.specs.Plan.{fate_of};
 ghost use Rattle.mc_stripe.specs.Rooms.{IsOfNeed};
 ghost use Rattle.mc_stripe.specs.declared.fate.Fate.TheVariants as fates;
 
-use crate::changing::Answered;
+use crate::changing::{Answered, told};
 use mc_item::{
     Command, Content, Item, Key, NoMemory, Reply, Room, Site, Step, expiry_of, stores_over,
 };
@@ -21,8 +21,9 @@ use std::alloc::Global;
 
 // The answer to a get that finds its key's item, which is hit.
 #[inline(always)]
-pub(crate) fn answer_hit(alloc: Global, item: &mut Item) -> Result<Answered, NoMemory>
+pub(crate) fn answer_hit(alloc: Global, item: &mut Item, copies: bool) -> Result<Answered, NoMemory>
     ensures noted { IfOk result (λ a. a.noted ≡ replies.Value item.old.flags item.old.value item.old.cas) }
+    ensures copy { IfOk result (λ a. a.copy ≡ (if copies then Some a.noted else None)) }
     ensures added { IfOk result (λ a. a.added ≡ 0) }
     ensures item { OnOk result (changed (Some item.old) (changes.Hit (hit_marks item.old.marks)) ≡ Some item.new) }
     ensures err { OnErr result (item.new ≡ item.old) }
@@ -32,12 +33,9 @@ pub(crate) fn answer_hit(alloc: Global, item: &mut Item) -> Result<Answered, NoM
         value: item.value.copy(alloc)?,
         cas: item.cas,
     };
+    let answered = told(alloc, noted, copies)?;
     item.marks = item.marks.hit();
-    Ok(Answered {
-        noted,
-        copy: None,
-        added: 0,
-    })
+    Ok(answered)
 }
 
 // The answer to a storage command that stores over the item that it finds, where it is given a link: the new version
@@ -94,30 +92,17 @@ pub(crate) fn answer_over(
 // The answer to an `incr` or `decr` that finds a number whose place is large enough for the new one, which takes it.
 // Nothing is answered for other values, and nothing changes.
 #[inline(never)]
-fn answer_count(
-    site: &Site,
-    versions: u64,
-    key: &Key,
-    item: &mut Item,
-    step: Step,
-) -> Option<Answered>
+fn answer_count(site: &Site, versions: u64, key: &Key, item: &mut Item, step: Step) -> Option<u64>
     requires cas { cas_of site.now versions < 2 ^ 64 }
     ensures need { OnSome result (IsChunkless (count_row site.now versions key.now (stepped step) (Some item.old)).need) }
     ensures fate { OnSome result (fate_of key.now (Some item.old) ((count_row site.now versions key.now (stepped step) (Some item.old)).answer rooms.Keep).change ≡ fates.Untouched) }
-    ensures ok { IfSome result (λ a. (answer : Answer) × (answer ≡ (count_row site.now versions key.now (stepped step) (Some item.old)).answer rooms.Keep)
-        × (a.noted ≡ answer.reply) × (a.added ≡ Rattle.mc_item.specs.Cache.versions_of answer.change)
+    ensures ok { IfSome result (λ number. (answer : Answer) × (answer ≡ (count_row site.now versions key.now (stepped step) (Some item.old)).answer rooms.Keep)
+        × (answer.reply ≡ replies.Number number) × (Rattle.mc_item.specs.Cache.versions_of answer.change ≡ 1)
         × (changed (Some item.old) answer.change ≡ Some item.new)) }
     ensures same { result ≡ None → item.new ≡ item.old }
 {
     let _key = key;
-    let Some(number) = item.count(step, site.cas_of(versions)) else {
-        return None;
-    };
-    Some(Answered {
-        noted: Reply::Number(number),
-        copy: None,
-        added: 1,
-    })
+    item.count(step, site.cas_of(versions))
 }
 
 /// The answer to an `incr` or `decr` that finds a number whose place is large enough for the new one. Nothing is
@@ -129,17 +114,18 @@ pub(crate) fn answer_counted(
     item: &mut Item,
     command: &Command,
     moment: u64,
+    copies: bool,
 ) -> Option<Answered>
     requires cas { cas_of site.now versions < 2 ^ 64 }
     ensures need { OnSome result (IsChunkless (row_of site.now versions (Some item.old) command.now moment).need) }
     ensures fate { OnSome result (fate_of (key_of command.now) (Some item.old) ((row_of site.now versions (Some item.old) command.now moment).answer rooms.Keep).change ≡ fates.Untouched) }
     ensures ok { IfSome result (λ a. (answer : Answer) × (answer ≡ (row_of site.now versions (Some item.old) command.now moment).answer rooms.Keep)
-        × (a.noted ≡ answer.reply) × (a.added ≡ Rattle.mc_item.specs.Cache.versions_of answer.change)
+        × (a.noted ≡ answer.reply) × (a.copy ≡ (if copies then Some answer.reply else None)) × (a.added ≡ Rattle.mc_item.specs.Cache.versions_of answer.change)
         × (changed (Some item.old) answer.change ≡ Some item.new)) }
     ensures same { result ≡ None → item.new ≡ item.old }
 {
     let _moment = moment;
-    match command {
+    let number = match command {
         Command::Incr(key, delta) => {
             let step = Step::Up(*delta);
             answer_count(site, versions, key, item, step)
@@ -153,5 +139,14 @@ pub(crate) fn answer_counted(
         | Command::Huge { .. }
         | Command::Touch(_, _)
         | Command::Delete(_) => None,
-    }
+    }?;
+    Some(Answered {
+        noted: Reply::Number(number),
+        copy: if copies {
+            Some(Reply::Number(number))
+        } else {
+            None
+        },
+        added: 1,
+    })
 }

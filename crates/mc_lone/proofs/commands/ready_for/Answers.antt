@@ -1,5 +1,5 @@
-use Rattle.std.proofs.Common.{◌≡◌, sym, subst}
-use Rattle.std.specs.Prelude.{Option, None, OnSome}
+use Rattle.std.proofs.Common.{◌≡◌, subst}
+use Rattle.std.specs.Prelude.{None, OnSome}
 use Rattle.mc_item.specs.Command.{key_of}
 use Rattle.mc_stripe.specs.Plan.{dead_link}
 use Rattle.mc_stripe.specs.StripeState.{cache_now}

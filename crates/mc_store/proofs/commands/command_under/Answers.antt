@@ -1,12 +1,19 @@
-use Rattle.mc_store.proofs.AnswerLemmas.{cut_err_from, replied_ok_from}
+use Rattle.std.proofs.Common.{subst}
+use Rattle.std.specs.Prelude.{IfOk}
+use Rattle.mc_item.specs.declared.command.Command.{Command}
+use Rattle.mc_store.specs.Calls.{IsReplied}
+use Rattle.mc_store.specs.Passes.{CallerView}
+use Rattle.mc_store.proofs.QuickLemmas.{replied_ok_same}
 use Rattle.mc_store.proofs.commands.command_under.Goals as goal
 
-pub returns-clause-replied : goal.returns-clause-replied
-returns-clause-replied g c =
-    replied_ok_from g.N.Named.config c.args.who c.args.command c.args.moment c.args.own.now.stripe c.plan_alive.new.own.stripe c.plan_alive.ensures.site c.in_ok-plan.ensures.buried c.answer_by_plan.new.own.stripe c.args.caller.now.calls c.answer_by_plan.new.caller.calls
-    c.answer_by_plan.result c.answer_by_plan.ensures.replied
-
-pub returns-clause-cut : goal.returns-clause-cut
-returns-clause-cut g c =
-    cut_err_from g.N.Named.config c.args.who c.args.command c.args.moment c.args.own.now.stripe c.plan_alive.new.own.stripe c.plan_alive.ensures.site c.in_ok-plan.ensures.buried c.answer_by_plan.new.own.stripe c.answer_by_plan.result
-    c.answer_by_plan.ensures.cut
+pub returns-in-Err-clause-replied : goal.returns-in-Err-clause-replied
+returns-in-Err-clause-replied g c =
+    let config = g.N.Named.config in
+    let mid = c.answer_quick.new.own.stripe in
+    let planned = c.command_planned-in-Err in
+    let end = planned.new.own.stripe in
+    let calls_new = planned.new.caller.calls in
+    let back = rw c.in-Err.is at c.in_ok-reply.ensures.back in
+    let given = subst (λ (x : Command). IfOk planned.result (IsReplied config c.args.who x c.args.moment mid end c.answer_quick.new.caller.calls calls_new)) back.0 planned.ensures.replied in
+    let replied = subst (λ (x : CallerView). IfOk planned.result (IsReplied config c.args.who c.args.command c.args.moment mid end x.calls calls_new)) back.2 given in
+    replied_ok_same config c.args.who c.args.command c.args.moment c.args.own.now.stripe mid c.answer_quick.ensures.site back.1 end c.args.caller.now.calls calls_new planned.result replied

@@ -38,5 +38,5 @@ invariant_of-self-2 c =
     c.self.invariant few stripe leaves.alive
     (chunkless_fits (row_of site cache.versions (cache.items key) command moment).need c.self.inside.history.items leaves.need)
     (λ q. refl)
-    refl refl ok.1 ok.4 ok.3
+    refl refl ok.1 ok.5 ok.4
     (c.push_answer.ensures.items ∙ ap (λ (h : List StripeEvent). h ++ events.Did (record { who = c.args.who; command = command; moment = moment; reply = c.in-Some.told.noted; room = rooms.Keep }) ∷ []) c.reserve.ensures.items ∙ ap noted ok.2)
