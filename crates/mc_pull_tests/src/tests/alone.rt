@@ -17,8 +17,8 @@ fn is_answered<R: Abort>(rt: &R, world: &mut World, command: Command, moment: u6
     let stripe = &mut world.stripe;
     assert!(rt; moment <= 1 << 62);
     assert!(rt; stripe.owns(command.key()));
-    let back = answer_alone(stripe, WHO, command, moment).expect(rt, "an answer");
-    back.is_none()
+    let quick = answer_alone(stripe, WHO, command, moment, false).expect(rt, "an answer");
+    quick.is_ok()
 }
 
 // Six items have entries. The stripe has six events, the class twelve; the second hit of an item would wake it.

@@ -19,7 +19,7 @@ fn asserts_alone<R: Abort>(
     rows: &[Row],
 ) -> Result<(), Fail> {
     for row in rows {
-        assert_eq!(rt; is_answered(alloc, stripe, row.0, 1000)?, row.1);
+        assert_eq!(rt; is_answered(rt, alloc, stripe, row.0, 1000)?, row.1);
         asserts_last(rt, alloc, stripe, row.2)?;
     }
     Ok(())
@@ -97,8 +97,8 @@ fn a_stripe_counts_no_word_and_wakes_no_item_alone(rt: HostRuntime) -> Result<()
     let word = Store(Verb::Set, "x");
     asserts(&rt, alloc, &mut stripe, word, false, "Stored")?;
     asserts_alone(&rt, alloc, &mut stripe, WORD.as_slice())?;
-    assert!(rt; !is_answered(alloc, &mut stripe, Incr(1), 1005)?);
-    assert!(rt; !is_answered(alloc, &mut stripe, Delete, 1005)?);
+    assert!(rt; !is_answered(&rt, alloc, &mut stripe, Incr(1), 1005)?);
+    assert!(rt; !is_answered(&rt, alloc, &mut stripe, Delete, 1005)?);
     assert_eq!(rt; stripe.history().len(), 3);
     Ok(())
 }
@@ -108,7 +108,7 @@ fn a_full_history_answers_nothing_alone(rt: HostRuntime) -> Result<(), Fail> {
     let alloc = rt.alloc();
     let mut stripe = stripe_one(&rt, alloc)?;
     for _i in 0..16 {
-        assert!(rt; is_answered(alloc, &mut stripe, Get, 1000)?);
+        assert!(rt; is_answered(&rt, alloc, &mut stripe, Get, 1000)?);
     }
     assert!(rt; is_refused_alone(alloc, &mut stripe)?);
     Ok(())

@@ -157,8 +157,10 @@ pub(super) fn cools_without_memory(alloc: Global, stripe: &mut StripeState) -> R
     }
 }
 
-/// Asks the stripe alone for an answer. Says whether it gave one, or gave the command back.
-pub(super) fn is_answered(
+/// Asks the stripe alone for an answer, and for a copy of it. Says whether it gave one, or gave the command back; the copy
+/// is the reply that stands in the history.
+pub(super) fn is_answered<R: Abort>(
+    rt: &R,
     alloc: Global,
     stripe: &mut StripeState,
     asked: Asked,
@@ -168,8 +170,15 @@ pub(super) fn is_answered(
     if moment > 1_000_000 || !stripe.owns(command.key()) {
         return Err(Fail::from("no call"));
     }
-    let back = stripe.answer(WHO, command, moment)?;
-    Ok(back.is_none())
+    let Ok(copy) = stripe.answer(WHO, command, moment, true)? else {
+        return Ok(false);
+    };
+    let Some(copy) = copy else {
+        return Err(Fail::from("no copy"));
+    };
+    let copy = reply_text(alloc, &copy)?;
+    asserts_last(rt, alloc, stripe, copy.as_str())?;
+    Ok(true)
 }
 
 /// Whether the stripe alone refuses a get of the key `b` since the history is full.
@@ -178,7 +187,7 @@ pub(super) fn is_refused_alone(alloc: Global, stripe: &mut StripeState) -> Resul
     if !stripe.owns(command.key()) {
         return Err(Fail::from("no call"));
     }
-    match stripe.answer(WHO, command, 1000) {
+    match stripe.answer(WHO, command, 1000, false) {
         Ok(_) => Ok(false),
         Err(fault) => Ok(fault == Fault::HistoryFull),
     }

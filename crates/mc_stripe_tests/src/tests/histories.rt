@@ -15,12 +15,12 @@ fn a_reply_stands_in_the_history(rt: HostRuntime) -> Result<(), Fail> {
     let five = Asked::Store(Verb::Set, "5");
     asserts(&rt, alloc, &mut stripe, five, false, "Stored")?;
     asserts_last(&rt, alloc, &stripe, "Stored")?;
-    assert!(rt; is_answered(alloc, &mut stripe, Asked::Touch(100), 1000)?);
+    assert!(rt; is_answered(&rt, alloc, &mut stripe, Asked::Touch(100), 1000)?);
     asserts_last(&rt, alloc, &stripe, "Touched")?;
     asserts(&rt, alloc, &mut stripe, Asked::Get, false, FIVE)?;
-    assert!(rt; is_answered(alloc, &mut stripe, Asked::Get, 1000)?);
+    assert!(rt; is_answered(&rt, alloc, &mut stripe, Asked::Get, 1000)?);
     asserts_last(&rt, alloc, &stripe, FIVE)?;
-    assert!(rt; !is_answered(alloc, &mut stripe, Asked::Get, 1100)?);
+    assert!(rt; !is_answered(&rt, alloc, &mut stripe, Asked::Get, 1100)?);
     assert_eq!(rt; stripe.history().len(), 4);
     asserts_last(&rt, alloc, &stripe, FIVE)?;
     cools(&rt, alloc, &mut stripe)?;
