@@ -36,13 +36,15 @@ get_next (z ∷ zs) ys x = get_next zs ys x
 -- answers go on standing where a history grows
 pub at_later : (h h' : List StripeEvent) (caller : ℕ) (ps : List ℕ) (xs : List Exchange) → IsPrefix h h' → AreAt h caller ps xs → AreAt h' caller ps xs
 at_later h h' caller [] [] grows at = tt
-at_later h h' caller (p ∷ ps) (x ∷ xs) grows at =
-    (record {
-      did = at.0.did;
-      there = ap (λ (l : List StripeEvent). slice_get l p) (sym grows.1) ∙ get_front h grows.0 p _ at.0.there;
-      call_is = at.0.call_is;
-      by = at.0.by;
-    }, at_later h h' caller ps xs grows at.1)
+at_later h h' caller (p ∷ ps) (x ∷ xs) grows at = (
+  record {
+    did = at.0.did;
+    there = ap (λ (l : List StripeEvent). slice_get l p) (sym grows.1) ∙ get_front h grows.0 p _ at.0.there;
+    call_is = at.0.call_is;
+    by = at.0.by;
+  },
+  at_later h h' caller ps xs grows at.1,
+)
 at_later h h' caller [] (x ∷ xs) grows at = absurd at
 at_later h h' caller (p ∷ ps) [] grows at = absurd at
 

@@ -24,7 +24,6 @@ none_below from n [] rising below other = elim other [ ]
 none_below from n (p ∷ ps) rising below (inl is) = absurd (omega (arith, rising.0, below, is))
 none_below from n (p ∷ ps) rising below (inr more) = none_below (p + 1) n ps rising.1 (omega (arith, rising.0, below)) more
 
-
 -- behind so many events of a history the rest has the answers to these calls at these places
 abbrev AreFrom : List StripeEvent → ℕ → ℕ → List ℕ → List Exchange → Type 0
 AreFrom rest caller k [] [] = Unit {0}

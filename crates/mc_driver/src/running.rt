@@ -152,9 +152,7 @@ pub fn run_scripts<S: Source, K: Sink>(
     let (board, owners, seen) = board_for(alloc, &config)?;
     let (source, sink) = scripts.pop().unwrap();
     let mut ends = Both { source, sink };
-    let left = run_named::<Brand, S, K>(
-        rt, alloc, config, board, owners, seen, seed, &mut ends,
-    )?;
+    let left = run_named::<Brand, S, K>(rt, alloc, config, board, owners, seen, seed, &mut ends)?;
     scripts.push_reserved((ends.source, ends.sink));
     outcomes.push_reserved(left.outcome);
     outcomes.push_reserved(Outcome::Done);

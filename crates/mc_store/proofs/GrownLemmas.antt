@@ -64,10 +64,10 @@ module _ (table : TableId) (config : Config) (class : ClassNo) (before after : S
   pub juggled_so : (who : Who) (moment : ℕ) (r : Result Moves Fault)
       → IfOk r (λ moves. (xs : List Answer) × IsJuggle (rounds old.class who moment config) old.class.history xs new.class.history moves) → IfOk r (IsJuggledBy config class before after who moment)
   juggled_so who moment (Ok moves) made = record {
-        old = old.class;
-        own = grows.events;
-        answers = made.0;
-        grew = subst (IsSeenGrowOf config class before after old.class) grows.history_is class_grew;
-        juggle = subst (λ (history : List ClassEvent). IsJuggle (rounds old.class who moment config) old.class.history made.0 history moves) grows.history_is made.1;
-      }
+    old = old.class;
+    own = grows.events;
+    answers = made.0;
+    grew = subst (IsSeenGrowOf config class before after old.class) grows.history_is class_grew;
+    juggle = subst (λ (history : List ClassEvent). IsJuggle (rounds old.class who moment config) old.class.history made.0 history moves) grows.history_is made.1;
+  }
   juggled_so who moment (Err fault) made = tt
