@@ -1,6 +1,6 @@
 -- What follows where nothing is wrong with a configuration.
-use Rattle.std.proofs.Common.{◌≡◌, ◌≤◌, ◌<◌, ◌^◌, ◌==◌, ◌&&◌, ◌||◌, Bool, true, false, not, ℕ, List, length, refl, Option, Some, None, arith, inl, inr, get_or}
-use Rattle.std.specs.Prelude.{if◌then◌else◌, nat_le, nat_lt, ◌⊎◌}
+use Rattle.std.proofs.Common.{◌≡◌, ◌≤◌, ◌<◌, ◌^◌, ◌==◌, ◌&&◌, Bool, true, false, not, ℕ, List, length, refl, Option, Some, None, arith, get_or}
+use Rattle.std.specs.Prelude.{if◌then◌else◌, nat_le, nat_lt}
 use Rattle.std.specs.List.{All, list_all}
 use Rattle.std.proofs.lemmas.Bool.{false≢true}
 use Rattle.std.proofs.lemmas.Bool.Decides.{nat_tests}

@@ -7,9 +7,6 @@ use Rattle.std.proofs.lemmas.Bool.{le-leb}
 use Rattle.std.proofs.lemmas.List.{at_drop_more, at_drop_all}
 use Rattle.std.specs.List.{prefix_len}
 use Rattle.std.proofs.Math.Nat.{pow-suc}
-use Rattle.std.proofs.lemmas.List.Sums.{prefix_len_passes}
-use Rattle.std.proofs.lemmas.List.Folds.{length-prefix_len}
-use Rattle.std.proofs.lemmas.List.{get_or-take}
 use Rattle.mc_item.specs.Config.{is_rising}
 use Rattle.mc_item.specs.Measure.{is_digit, number_of, number_from, number_in, digits_of, numeral_of}
 

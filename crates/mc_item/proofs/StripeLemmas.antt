@@ -1,8 +1,6 @@
 -- A stripe's history with one event more, and beginnings of it.
-use Rattle.std.proofs.Common.{◌≡◌, ◌+◌, ◌≤◌, ℕ, List, [], ◌∷◌, ◌++◌, refl, sym, ap, ◌∙◌, subst, length, append_assoc, append-nil, arith, length-append}
-use Rattle.std.specs.Prelude.{Option}
-use Rattle.mc_item.specs.Answer.{Row}
-use Rattle.mc_item.specs.Cache.{Cache, empty_cache, after_change, versions_of}
+use Rattle.std.proofs.Common.{◌≡◌, ◌≤◌, List, [], ◌∷◌, ◌++◌, refl, sym, subst, append_assoc, append-nil, arith}
+use Rattle.mc_item.specs.Cache.{Cache, empty_cache, versions_of}
 use Rattle.mc_item.specs.Stripe.{cache_after, cache_from, cache_of, IsLegalFrom, IsLegal, MayHappen}
 use Rattle.mc_item.specs.declared.answer.Change.{Change}
 use Rattle.mc_item.specs.declared.answer.Change.TheVariants.{Stays, Goes, Hit, Touched, Counted, Renewed}

@@ -1,6 +1,6 @@
 -- The table of commands, row by row (protocol.txt, by the commands): what a command needs, what it is answered,
 -- and what becomes of its key's item, which is absent or alive. Rows marked (own) are this profile's.
-use Rattle.std.specs.Prelude.{ℕ, ◌+◌, ◌-◌, ◌*◌, ◌%◌, ◌^◌, ◌==◌, ◌≡◌, List, ◌++◌, nat_le, if◌then◌else◌, Option, Some, None, length, replicate, decimal}
+use Rattle.std.specs.Prelude.{ℕ, ◌+◌, ◌-◌, ◌*◌, ◌%◌, ◌^◌, ◌==◌, List, ◌++◌, nat_le, if◌then◌else◌, Option, Some, None, length, replicate, decimal}
 use Rattle.std.specs.Option.{option_map}
 use Rattle.mc_item.specs.Item.{expiry_of, hit_marks, no_marks}
 use Rattle.mc_item.specs.Measure.{cost_of, class_of, numeral_of}

@@ -1,5 +1,5 @@
 -- The history of a stripe: which events may happen to its cache, which histories are legal, and what they leave.
-use Rattle.std.specs.Prelude.{ℕ, ◌≡◌, ◌≢◌, List, [], ◌∷◌, ◌++◌, Bool, true, false, Option, Some, None, IsSomeAnd, IfSome}
+use Rattle.std.specs.Prelude.{ℕ, ◌≡◌, ◌≢◌, List, [], ◌∷◌, ◌++◌, true, false, Option, Some, None, IsSomeAnd, IfSome}
 use Rattle.mc_item.specs.Answer.{row_of}
 use Rattle.mc_item.specs.Cache.{Cache, empty_cache, after_change, after_command, answer_of}
 use Rattle.mc_item.specs.Command.{key_of}
@@ -12,7 +12,6 @@ use Rattle.mc_item.specs.declared.answer.Need.TheVariants as needs
 use Rattle.mc_item.specs.declared.answer.Site.{Site}
 use Rattle.mc_item.specs.declared.item.Item.{Item}
 use Rattle.mc_item.specs.declared.item.Link.{Link}
-use Rattle.mc_item.specs.declared.item.StripeNo.{StripeNo}
 use Rattle.mc_item.specs.declared.reply.Room.{Room}
 use Rattle.mc_item.specs.declared.reply.Room.TheVariants as rooms
 use Rattle.mc_item.specs.declared.stripe_event.Cause.{Cause}

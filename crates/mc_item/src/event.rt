@@ -1,5 +1,5 @@
 //! What any history can hold.
-use crate::call_event::CallEvent;
+use crate::call_event::{Asking, CallEvent};
 use crate::class_event::ClassEvent;
 use crate::stripe_event::StripeEvent;
 
@@ -34,4 +34,12 @@ impl Logged for CallEvent {
     ghost use Rattle.mc_item.specs.declared.event.Event.TheVariants.{Call};
 
     ghost entry = { Call };
+}
+
+impl<'a> Logged for Asking<'a> {
+    ghost use Rattle.mc_item.specs.declared.call_event.Asked.{Asked};
+    ghost use Rattle.mc_item.specs.declared.call_event.CallEvent.TheVariants as calls;
+    ghost use Rattle.mc_item.specs.declared.event.Event.TheVariants.{Call};
+
+    ghost entry = { λ a. Call (calls.Asked (record { command = a.command.now; moment = a.moment })) };
 }

@@ -25,7 +25,7 @@ mod stripe_event;
 mod value;
 
 pub use answer::{Answer, Change, Need, Site};
-pub use call_event::{Answered, CallEvent};
+pub use call_event::{Answered, Asked, Asking, CallEvent, Worked};
 pub use class_event::{
     ClassEvent, Evicted, Linked, Reclaimed, Refused, Shifted, Surveyed, Unlinked, Why,
 };

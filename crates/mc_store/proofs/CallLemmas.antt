@@ -1,5 +1,5 @@
 -- What a pass has seen of a stripe behind a call.
-use Rattle.std.proofs.Common.{◌≡◌, ◌<◌, ℕ, List, inl, inr, arith, Result, Ok, Err, refl, sym, ap, ◌∙◌, subst}
+use Rattle.std.proofs.Common.{◌≡◌, ◌<◌, ℕ, List, inl, inr, arith, Result, Ok, Err, refl, sym, ap, ◌∙◌, subst, ◌++◌, ◌∷◌, [], ◌≤◌, ◌+◌, length, length-append, ◌^◌, Some}
 use Rattle.std.specs.Prelude.{IfOk, OnErr}
 use mathlib.Core.List.{IsPrefix}
 use Rattle.atomic_table.specs.Seated.{TableId}
@@ -23,6 +23,13 @@ use Rattle.mc_store.specs.Locked.{IsLockedStripe, setting_of}
 use Rattle.mc_store.specs.Serving.{HasSeenShort, IsShort}
 use Rattle.mc_store.specs.Sides.{StripeSide, stripe_told}
 use Rattle.mc_store.proofs.GivenLemmas.{short_grows, short_stripe}
+use Rattle.mc_store.specs.Callers.{asked_for, answered_at, turns_of, calls_told, moment_of}
+use Rattle.mc_store.specs.Passes.{CallerView, PassView, HasAsked, HasCalled, caller_of, next_who}
+use Rattle.mc_item.specs.declared.call_event.CallEvent.TheVariants.{Answered, Asked, Crawled, Juggled}
+use Rattle.mc_store.proofs.ServedLemmas.{map_length}
+use Rattle.mc_item.specs.declared.event.Event.{Event}
+use Rattle.mc_item.specs.declared.event.Event.TheVariants.{Call}
+use Rattle.mc_stripe.specs.StripeState.{Stripe}
 
 module _ (table : TableId) (config : Config) (old new : StripeSide) (before after : Sight) (old_kept : IsLockedStripe table config old) (new_kept : IsLockedStripe table config new) (site : KeepsSite old.stripe new.stripe)
     (seen : HasSeen (stripe_told old.stripe.history) before old.lock) (told : list_at after.seen new.lock ≡ stripe_told new.stripe.history) (grows : Grows new.sight after) where
@@ -41,21 +48,23 @@ module _ (table : TableId) (config : Config) (old new : StripeSide) (before afte
         (classes_grow config.stripes (list_at new.sight.seen) (list_at after.seen) grows.at) new_kept.keeps);
   }
 
-  pub replied_by : (who : Who) (command : Command) (moment : ℕ) (calls calls_new : List CallEvent) (reply : Reply) → IsReplied config who command moment old.stripe new.stripe calls calls_new reply
+  pub replied_by : (who : Who) (command : Command) (moment : ℕ) (calls calls_new : List CallEvent) (reply : Reply) → IsReplied config who command moment old.stripe new.stripe (calls ++ asked_for command moment ∷ []) calls_new reply
       → IsRepliedBy config old.stripe.site.stripe before after calls calls_new who command moment reply
   replied_by who command moment calls calls_new reply replied = record { old = old.stripe; new = new.stripe; grew = seen_grow; replied = replied }
 
-  pub cut_by : (who : Who) (command : Command) (moment : ℕ) → IsCut config who command moment old.stripe new.stripe → IsCutBy config old.stripe.site.stripe before after who command moment
-  cut_by who command moment cut = record { old = old.stripe; new = new.stripe; grew = seen_grow; cut = cut }
+  pub cut_by : (who : Who) (command : Command) (moment : ℕ) (calls calls_new : List CallEvent) → calls_new ≡ calls ++ asked_for command moment ∷ [] → IsCut config who command moment old.stripe new.stripe
+      → IsCutBy config old.stripe.site.stripe before after calls calls_new who command moment
+  cut_by who command moment calls calls_new noted cut = record { old = old.stripe; new = new.stripe; grew = seen_grow; cut = cut; noted = noted }
 
-  pub replied_by_ok : (who : Who) (command : Command) (moment : ℕ) (calls calls_new : List CallEvent) (r : Result Reply Fault) → IfOk r (IsReplied config who command moment old.stripe new.stripe calls calls_new)
+  pub replied_by_ok : (who : Who) (command : Command) (moment : ℕ) (calls calls_new : List CallEvent) (r : Result Reply Fault) → IfOk r (IsReplied config who command moment old.stripe new.stripe (calls ++ asked_for command moment ∷ []) calls_new)
       → IfOk r (IsRepliedBy config old.stripe.site.stripe before after calls calls_new who command moment)
   replied_by_ok who command moment calls calls_new (Ok reply) replied = replied_by who command moment calls calls_new reply replied
   replied_by_ok who command moment calls calls_new (Err fault) replied = tt
 
-  pub cut_by_err : (who : Who) (command : Command) (moment : ℕ) (r : Result Reply Fault) → OnErr r (IsCut config who command moment old.stripe new.stripe) → OnErr r (IsCutBy config old.stripe.site.stripe before after who command moment)
-  cut_by_err who command moment (Ok reply) cut = tt
-  cut_by_err who command moment (Err fault) cut = cut_by who command moment cut
+  pub cut_by_err : (who : Who) (command : Command) (moment : ℕ) (calls calls_new : List CallEvent) (r : Result Reply Fault) → OnErr r (calls_new ≡ calls ++ asked_for command moment ∷ []) → OnErr r (IsCut config who command moment old.stripe new.stripe)
+      → OnErr r (IsCutBy config old.stripe.site.stripe before after calls calls_new who command moment)
+  cut_by_err who command moment calls calls_new (Ok reply) noted cut = tt
+  cut_by_err who command moment calls calls_new (Err fault) noted cut = cut_by who command moment calls calls_new noted cut
 
   -- where a history was short, it was seen so
   pub short_shared : IsShort config new → HasSeenShort config after
@@ -64,3 +73,68 @@ module _ (table : TableId) (config : Config) (old new : StripeSide) (before afte
       let lock : new.lock ≡ new.stripe.site.stripe = new_kept.lock_is in
       short_stripe config new.lock after new.stripe.history new.stripe.limit (omega (arith, below, lock)) new_kept.made_with.limit told short
   short_shared (inr was) = short_grows config new.sight after grows was
+
+-- what is told of each failure, in other words
+pub on_err_more : {X : Type 0} (r : Result X Fault) (P Q : Type 0) → (P → Q) → OnErr r P → OnErr r Q
+on_err_more (Ok x) P Q more p = tt
+on_err_more (Err f) P Q more p = more p
+
+-- an answer is no turn
+turns_answered : (calls : List CallEvent) (stripe place : ℕ) → turns_of (calls ++ answered_at stripe place ∷ []) ≡ turns_of calls
+turns_answered [] stripe place = refl
+turns_answered (Asked a ∷ calls) stripe place = ap (λ (l : List CallEvent). Asked a ∷ l) (turns_answered calls stripe place)
+turns_answered (Juggled w ∷ calls) stripe place = ap (λ (l : List CallEvent). Juggled w ∷ l) (turns_answered calls stripe place)
+turns_answered (Crawled w ∷ calls) stripe place = ap (λ (l : List CallEvent). Crawled w ∷ l) (turns_answered calls stripe place)
+turns_answered (Answered a ∷ calls) stripe place = turns_answered calls stripe place
+
+-- a command adds no turn to its caller's history once it was asked for, and at most its answer
+pub turns_kept : (config : Config) (who : Who) (command : Command) (moment : ℕ) (s s_new : Stripe) (caller caller_new : CallerView) (r : Result Reply Fault) → IfOk r (IsReplied config who command moment s s_new caller.calls caller_new.calls)
+    → OnErr r (caller_new ≡ caller) → (turns_of caller_new.calls ≡ turns_of caller.calls) × (length caller_new.calls ≤ length caller.calls + 1)
+turns_kept config who command moment s s_new caller caller_new (Ok reply) replied same =
+    let is = replied.noted in
+    let place = replied.place in
+    let long = length-append caller.calls (answered_at s.site.stripe place ∷ []) in
+    let all : length caller_new.calls ≡ length (caller.calls ++ answered_at s.site.stripe place ∷ []) = ap (λ (l : List CallEvent). length l) is in
+    (ap turns_of is ∙ turns_answered caller.calls s.site.stripe place, omega (arith, all, long))
+turns_kept config who command moment s s_new caller caller_new (Err fault) replied same =
+    (ap (λ (v : CallerView). turns_of v.calls) same, omega (arith, ap (λ (v : CallerView). length v.calls) same))
+
+turns_both : (xs ys : List CallEvent) → length (turns_of (xs ++ ys)) ≡ length (turns_of xs) + length (turns_of ys)
+turns_both [] ys = omega arith
+turns_both (Asked a ∷ xs) ys = omega (arith, turns_both xs ys)
+turns_both (Juggled w ∷ xs) ys = omega (arith, turns_both xs ys)
+turns_both (Crawled w ∷ xs) ys = omega (arith, turns_both xs ys)
+turns_both (Answered a ∷ xs) ys = turns_both xs ys
+
+-- a call is one event, and takes one turn
+pub turn_taken : (calls es : List CallEvent) (told : List Event) (turn : ℕ) → length (turns_of es) ≡ 1 → calls_told es ≡ told → length told ≡ 1 → length (turns_of calls) ≡ turn → length calls ≤ turn + turn
+    → (length (turns_of (calls ++ es)) ≡ turn + 1) × (length (calls ++ es) < (turn + 1) + (turn + 1))
+turn_taken calls es told turn one is single turns few =
+    let both = turns_both calls es in
+    let long = length-append calls es in
+    let event : length es ≡ 1 = sym (map_length Call es) ∙ (ap (λ (l : List Event). length l) is ∙ single) in
+    (omega (arith, both, one, turns), omega (arith, long, event, few))
+
+-- what always holds holds of a failure
+pub on_err_always : {X E P : Type 0} (r : Result X E) → P → OnErr r P
+on_err_always (Ok x) p = tt
+on_err_always (Err e) p = p
+
+-- a call that a pass has just begun stands at the end of its caller's history
+pub called_now : (old now : PassView) (call : CallEvent) (who : Who) (moment : ℕ) → now.caller ≡ old.caller → now.calls ≡ old.calls ++ call ∷ [] → who ≡ next_who old → length (turns_of old.calls) ≡ old.turn → moment_of call ≡ Some moment
+    → HasCalled (caller_of now) who moment
+called_now old now call who moment caller calls is turns handed = record {
+  number = ap (λ (w : Who). w.caller) is ∙ sym caller;
+  begun = record { before = old.calls; call = call; behind = []; split = calls; turn_is = turns ∙ sym (ap (λ (w : Who). w.turn) is); handed = handed };
+}
+
+-- and a command is the last that it asked for
+pub asked_now : (old now : PassView) (command : Command) (who : Who) (moment : ℕ) → now ≡ record old { turn = old.turn + 1; calls = old.calls ++ asked_for command moment ∷ [] } → who ≡ next_who old → length (turns_of old.calls) ≡ old.turn
+    → length now.calls < now.turn + now.turn → now.turn < 2 ^ 63 → HasAsked (caller_of now) who command moment
+asked_now old now command who moment turn is turns room few = record {
+  number = ap (λ (w : Who). w.caller) is ∙ sym (ap (λ (p : PassView). p.caller) turn);
+  before = old.calls;
+  last = ap (λ (p : PassView). p.calls) turn;
+  turn = turns ∙ sym (ap (λ (w : Who). w.turn) is);
+  room = omega (arith, room, few);
+}

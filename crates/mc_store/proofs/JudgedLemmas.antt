@@ -18,11 +18,12 @@ use Rattle.mc_pull.specs.Lone.{StripeGrows}
 use Rattle.mc_pull.specs.Refusal.{MayFail}
 use Rattle.mc_pull.specs.Sight.{KeepsSight}
 use Rattle.mc_pull.specs.Walker.{Walker}
-use Rattle.mc_store.specs.Locked.{IsLockedClass, IsLockedStripe}
+use Rattle.mc_store.specs.Locked.{IsLockedClass, IsLockedStripe, HasBegun}
 use Rattle.mc_store.specs.Serving.{IsServed, MayFailSeen, class_side}
 use Rattle.mc_store.specs.Sides.{StripeSide, class_told, stripe_told}
 use Rattle.mc_store.proofs.PairLemmas.{class_sees, stripe_sees}
 use Rattle.mc_store.proofs.ServedLemmas.{agree_told, class_stepped, fails_seen, stripe_side, stripe_stepped}
+use Rattle.mc_store.proofs.CallerLemmas.{begun_sees}
 
 module _ (table : TableId) (config : Config) (own : StripeSide) (own_kept : IsLockedStripe table config own) (s : Stripe) (own_owner : OwnerView) (own_seen : SeenView) (own_is : stripe_side own_owner own_seen s ≡ own)
     (owner : OwnerView) (seen : SeenView) (c : ClassView) (served : IsServed table config owner seen c)
@@ -76,11 +77,11 @@ module _ (table : TableId) (config : Config) (own : StripeSide) (own_kept : IsLo
     told_of_new_is = ap (λ (x : SeenView). x.sight) told_of_new ∙ ap (λ (o : OwnerView). with_seen heard.sight o.lock (stripe_told s_new.history)) stripe_up
 
     -- the stripe is as its lock keeps it
-    pub stripe_judged : (w : Walker) → StripeGrows w s_lent s_new → IsLockedStripe table config own_last
-    stripe_judged w walked =
+    pub stripe_judged : (w : Walker) → HasBegun config own_seen.sight w.who w.moment → StripeGrows w s_lent s_new → IsLockedStripe table config own_last
+    stripe_judged w begun walked =
         subst (IsLockedStripe table config) (sym (same_of_new ∙ ap (λ (o : OwnerView). stripe_side o lent_last s_new) stripe_up))
         (stripe_stepped table config (record before { sight = lent_seen.sight }) (class_side owner heard c) own_now class_now agree s_new c_new site grows legal lawful agreement still
-        lent_last.sight last.sight told_new_is told_of_new_is more_new more_of_new w walked)
+        lent_last.sight last.sight told_new_is told_of_new_is more_new more_of_new w (begun_sees config own_seen.sight lent_seen.sight w.who w.moment more_is begun) walked)
 
     -- the class can be walked on
     pub class_judged : IsServed table config owner_last last c_new

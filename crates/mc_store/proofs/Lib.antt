@@ -3,6 +3,7 @@ pub mod CallerLemmas
 pub mod ClosedLemmas
 pub mod HeadlineLemmas
 pub mod FinalLemmas
+pub mod CalledLemmas
 pub mod LentLemmas
 pub mod PairLemmas
 pub mod MeetLemmas

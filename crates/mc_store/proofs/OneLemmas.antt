@@ -19,7 +19,7 @@ use Rattle.mc_pull.specs.Lent.{EachPair}
 use Rattle.mc_pull.specs.Perform.{Call}
 use Rattle.mc_pull.specs.Performed.{IsUntouched, MayRefuseCall}
 use Rattle.mc_pull.specs.Sight.{KeepsSights}
-use Rattle.mc_store.specs.Callers.{AreAnswered}
+use Rattle.mc_store.specs.Callers.{AreCalled}
 use Rattle.mc_store.specs.Locked.{IsLockedClass, IsLockedStripe, locks_for}
 use Rattle.mc_store.specs.Performing.{IsRefusedIn}
 use Rattle.mc_store.specs.Serving.{IsShort, class_side}
@@ -32,7 +32,7 @@ module _ (table : TableId) (config : Config) (c : Call) (s s_new : Stripe) (clas
     -- the stripe's tokens, before the command, behind it and when it was noted, and as it is told by the class, and is left
     (owner owner_new : OwnerView) (seen_was seen : SeenView) (own own_first own_new : StripeSide) (own_is : stripe_side owner seen_was s ≡ own) (own_kept : IsLockedStripe table config own)
     (caught : owner_new ≡ record owner { history = stripe_told s_new.history }) (noted : Grows seen_was.sight seen.sight)
-    (answered : AreAnswered (locks_for config) s.site.stripe s.history (list_at seen_was.sight.seen) → AreAnswered (locks_for config) s_new.site.stripe s_new.history (list_at seen.sight.seen))
+    (called : AreCalled (locks_for config) config.callers s.site.stripe s.history (list_at seen_was.sight.seen) → AreCalled (locks_for config) config.callers s_new.site.stripe s_new.history (list_at seen.sight.seen))
     -- the class's tokens, and as it is when it has told the stripe
     (owner_of new_of : OwnerView) (seen_of : SeenView) (was_of class_first : ClassSide) (class_is : class_side owner_of seen_of class ≡ was_of) (class_kept : IsLockedClass table config was_of)
     (caught_of : new_of ≡ record owner_of { history = class_told w.history }) (same_of : class_first ≡ class_side new_of seen_of w)
@@ -57,8 +57,8 @@ module _ (table : TableId) (config : Config) (c : Call) (s s_new : Stripe) (clas
   kept : IsLockedStripe table config was
   kept = stripe_sees table config (stripe_side owner seen_was s) seen.sight noted kept_was
 
-  answered_now : AreAnswered (locks_for config) s_new.site.stripe s_new.history (list_at seen.sight.seen)
-  answered_now = answered kept_was.answered
+  called_now : AreCalled (locks_for config) config.callers s_new.site.stripe s_new.history (list_at seen.sight.seen)
+  called_now = called kept_was.called
 
   kept_of : IsLockedClass table config lent
   kept_of = subst (IsLockedClass table config) (sym class_is) class_kept
@@ -87,17 +87,17 @@ module _ (table : TableId) (config : Config) (c : Call) (s s_new : Stripe) (clas
     pub one_stripe : IsRefusedIn c.room (class_arg.class ∷ []) → IsLockedStripe table config own_new
     one_stripe refused =
         subst (IsLockedStripe table config) (sym (same ∙ said))
-        (one_end table config was kept s_new c site legal answered_now lent w kept_of grows.0 agree
+        (one_end table config was kept s_new c site legal called_now lent w kept_of grows.0 agree
         (subst (λ (x : ClassView). IsRefusedIn c.room (x ∷ [])) (sym (ap (λ (x : ClassSide). x.class) (class_is ∙ (class_view ∙ class_same)))) refused) sights more_now)
 
     pub one_class : (class_new : ClassSide) → class_new ≡ record class_first { sight = with_seen class_first.sight own_first.lock (stripe_told own_first.stripe.history) } → Grows class_first.sight class_new.sight
         → IsLawfulHistoryByLists w.chunks w.rule w.history → IsLockedClass table config class_new
     one_class class_new told_of more_of lawful =
         subst (IsLockedClass table config) (sym (lent_said lent class_first class_new w own_first own_end (same_of ∙ mid_of) said told_of))
-        (class_end table config was kept s_new c site legal answered_now lent w kept_of grows.0 lawful agree sights.backed.0 sights.suited.0
+        (class_end table config was kept s_new c site legal called_now lent w kept_of grows.0 lawful agree sights.backed.0 sights.suited.0
         (lent_more lent class_first class_new w own_first own_end (same_of ∙ mid_of) said told_of more_of))
 
   -- a fault for a full history
   pub one_full : {T : Type 0} (r : Result T Fault) → OnErr r (IsUntouched was.stripe s_new (lent.class ∷ []) (w ∷ [])) → IfErr r (MayRefuseCall was.stripe c (lent.class ∷ [])) → r ≡ Err HistoryFull
       → IsShort config own_new
-  one_full r err refusal is = subst (IsShort config) (sym (same ∙ said)) (one_short table config was kept s_new c site legal answered_now lent w kept_of grows.0 r err refusal is)
+  one_full r err refusal is = subst (IsShort config) (sym (same ∙ said)) (one_short table config was kept s_new c site legal called_now lent w kept_of grows.0 r err refusal is)

@@ -31,11 +31,11 @@ use Rattle.mc_pull.specs.Question as made
 use Rattle.mc_pull.specs.Sight.{BacksStill, SuitsStill, TellsStill}
 use Rattle.mc_pull.proofs.GrowthLemmas.{class_later}
 use Rattle.mc_lone.proofs.TogetherLemmas.{stripe_made}
-use Rattle.mc_store.specs.Callers.{AreAnswered}
+use Rattle.mc_store.specs.Callers.{AreCalled}
 use Rattle.mc_store.specs.Locked.{IsLockedClass, IsLockedStripe, class_lock, locks_for, setting_of}
 use Rattle.mc_store.specs.Performing.{IsOneOf}
 use Rattle.mc_store.specs.Sides.{ClassSide, StripeSide, class_told, stripe_told}
-use Rattle.mc_store.proofs.CallerLemmas.{answered_sees}
+use Rattle.mc_store.proofs.CallerLemmas.{called_sees}
 use Rattle.mc_store.proofs.LentLemmas.{one_or_apart}
 
 -- ---- what was seen
@@ -72,7 +72,7 @@ stripe_sees table config s sight grows kept = record {
   made_with = kept.made_with;
   keeps = stripe_sees_more (setting_of config) s.stripe.site.stripe s.stripe.history (classes_seen config.stripes (list_at s.sight.seen)) (classes_seen config.stripes (list_at sight.seen))
       (classes_grow config.stripes (list_at s.sight.seen) (list_at sight.seen) grows.at) kept.keeps;
-  answered = answered_sees (locks_for config) s.stripe.site.stripe s.stripe.history s.sight sight grows kept.answered;
+  called = called_sees config s.stripe.site.stripe s.stripe.history s.sight sight grows kept.called;
 }
 
 -- and so does a class's
@@ -128,7 +128,7 @@ pub record IsHeard (config : Config) (own : StripeSide) (v w : ClassView) : Type
 
 module _ (table : TableId) (config : Config) (own own_new : StripeSide) (kept : IsLockedStripe table config own) (board : own_new.board ≡ own.board) (lock : own_new.lock ≡ own.lock)
     (site : KeepsSite own.stripe own_new.stripe) (more : Grows own.sight own_new.sight) (legal : IsLegal own_new.stripe.site own_new.stripe.history)
-    (answered : AreAnswered (locks_for config) own_new.stripe.site.stripe own_new.stripe.history (list_at own_new.sight.seen)) where
+    (called : AreCalled (locks_for config) config.callers own_new.stripe.site.stripe own_new.stripe.history (list_at own_new.sight.seen)) where
   abbrev seen_now : ClassNo → List ClassEvent
   seen_now = classes_seen config.stripes (list_at own_new.sight.seen)
 
@@ -169,7 +169,7 @@ module _ (table : TableId) (config : Config) (own own_new : StripeSide) (kept : 
       told = λ class is. subst (λ (t : Site). Each (IsTold t (rule_of config) class (seen_now class)) own_new.stripe.history) (sym (at ∙ site.site))
           (⊎_elim (told_lent class vs ws each) (λ (away : IsApart class vs). told_apart class is (apart class (rule_of config) (seen_now class) away)) (one_or_apart class vs));
     };
-    answered = answered;
+    called = called;
   }
 
 -- ---- a class that stepped

@@ -1,5 +1,5 @@
 -- A command that its stripe answers alone, under its lock.
-use Rattle.std.proofs.Common.{◌≡◌, ◌++◌, ◌∷◌, [], ℕ, List, Result, Ok, Err, false, length, refl, sym, ap, ◌∙◌, subst}
+use Rattle.std.proofs.Common.{◌≡◌, ◌<◌, ◌++◌, ◌∷◌, [], ℕ, List, Result, Ok, Err, false, length, refl, sym, ap, ◌∙◌, subst}
 use Rattle.std.specs.Prelude.{Option, Some, IfOk}
 use mathlib.Core.List.{IsPrefix}
 use Rattle.atomic_table.specs.Seated.{TableId}
@@ -25,13 +25,13 @@ use Rattle.mc_pull.specs.Perform.{Call, answer_to, call}
 use Rattle.mc_pull.specs.Performed.{IsPerformed, cooled_if, did_event}
 use Rattle.mc_pull.specs.Sight.{KeepsEachSight}
 use Rattle.mc_lone.proofs.ReadyLemmas.{led_same}
-use Rattle.mc_store.specs.Callers.{AreAnswered, IsCall, answered_at, call_events}
+use Rattle.mc_store.specs.Callers.{AreCalled, answered_at, calls_told}
 use Rattle.mc_store.specs.Calls.{IsReplied}
 use Rattle.mc_store.specs.Locked.{IsLockedStripe, caller_place, locks_for}
-use Rattle.mc_store.specs.Passes.{CallerView}
+use Rattle.mc_store.specs.Passes.{CallerView, HasAsked}
 use Rattle.mc_store.specs.Performing.{IsMade}
 use Rattle.mc_store.specs.Sides.{StripeSide, stripe_told}
-use Rattle.mc_store.proofs.CallerLemmas.{answered_performed}
+use Rattle.mc_store.proofs.CallerLemmas.{called_performed}
 use Rattle.mc_store.proofs.LentLemmas.{stripe_behind}
 use Rattle.mc_store.proofs.StepLemmas.{alone_end}
 use Rattle.mc_store.proofs.UnderLemmas.{replied_behind, searched_itself, site_itself}
@@ -54,12 +54,12 @@ module _ (who : Who) (command : Command) (moment : ℕ) (s s_new : Stripe) (note
   performed : IsPerformed s s_new one [] []
   performed = record { stripe = notes; classes = tt }
 
-  -- its caller has noted it
-  pub quick_answered : (config : Config) (old new : Sight) (number place : ℕ) → who.caller ≡ number → place ≡ length s.history → KeepsSite s s_new → Grows old new
-      → IsCall (answered_at s_new.site.stripe place) (call_events (list_at new.seen (caller_place config number)))
-      → AreAnswered (locks_for config) s.site.stripe s.history (list_at old.seen) → AreAnswered (locks_for config) s_new.site.stripe s_new.history (list_at new.seen)
-  quick_answered config old new number place caller at site more told all =
-      answered_performed config s s_new one [] [] old new number place caller at site more (done place) performed tt told all
+  -- it was called
+  pub quick_called : (config : Config) (old new : Sight) (caller caller_new : CallerView) (place : ℕ) → HasAsked caller who command moment → place ≡ length s.history → KeepsSite s s_new → Grows old new
+      → caller.number < config.callers → list_at new.seen (caller_place config caller.number) ≡ calls_told caller_new.calls → caller_new ≡ record caller { calls = caller.calls ++ answered_at s_new.site.stripe place ∷ [] }
+      → AreCalled (locks_for config) config.callers s.site.stripe s.history (list_at old.seen) → AreCalled (locks_for config) config.callers s_new.site.stripe s_new.history (list_at new.seen)
+  quick_called config old new caller caller_new place asked at site more of told noted all =
+      called_performed config s s_new one [] [] old new caller caller_new place asked at site more (done place) performed tt of told noted all
 
   -- the reply is a copy of that which stands in the history
   pub quick_replied : (config : Config) (place : ℕ) (stripe : ℕ) (caller caller_new : CallerView) (copy : Option Reply) (reply : Reply) → TouchesNoChunk s command moment → KeepsSite s s_new → place ≡ length s.history → stripe ≡ s_new.site.stripe
@@ -74,11 +74,11 @@ module _ (who : Who) (command : Command) (moment : ℕ) (s s_new : Stripe) (note
 
   -- the lock is kept
   pub quick_end : (table : TableId) (config : Config) (own : StripeSide) → own.stripe ≡ s → IsLockedStripe table config own → KeepsSite s s_new → IsLegal s_new.site s_new.history
-      → AreAnswered (locks_for config) s_new.site.stripe s_new.history (list_at own.sight.seen) → KeepsEachSight s s_new → IsLockedStripe table config (record own { stripe = s_new })
-  quick_end table config own is kept site legal answered sight =
+      → AreCalled (locks_for config) config.callers s_new.site.stripe s_new.history (list_at own.sight.seen) → KeepsEachSight s s_new → IsLockedStripe table config (record own { stripe = s_new })
+  quick_end table config own is kept site legal called sight =
       let site_own = subst (λ (t : Stripe). KeepsSite t s_new) (sym is) site in
       let sight_own = subst (λ (t : Stripe). KeepsEachSight t s_new) (sym is) sight in
-      alone_end table config own kept s_new one site_own legal answered tt (record { told = λ other rule seen apart has. sight_own.told other rule seen; backed = tt; suited = tt })
+      alone_end table config own kept s_new one site_own legal called tt (record { told = λ other rule seen apart has. sight_own.told other rule seen; backed = tt; suited = tt })
 
 -- a command that was answered on a stripe of the same history
 module _ (config : Config) (who : Who) (command : Command) (moment : ℕ) (s mid : Stripe) (site : KeepsSite s mid) (same : mid.history ≡ s.history) where

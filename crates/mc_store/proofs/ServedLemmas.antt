@@ -32,10 +32,10 @@ use Rattle.mc_pull.specs.Settled.{IsSettled, class_events, stripe_events}
 use Rattle.mc_pull.specs.Sight.{KeepsSight}
 use Rattle.mc_pull.specs.Walker.{Walker}
 use Rattle.mc_pull.specs.declared.judge.Done.{Done}
-use Rattle.mc_store.specs.Locked.{IsLockedClass, IsLockedStripe, class_lock, setting_of}
+use Rattle.mc_store.specs.Locked.{IsLockedClass, IsLockedStripe, class_lock, setting_of, HasBegun}
 use Rattle.mc_store.specs.Serving.{HasSeenShort, IsShort, MayFailSeen, class_side}
 use Rattle.mc_store.specs.Sides.{ClassSide, StripeSide, class_told, stripe_told}
-use Rattle.mc_store.proofs.CallerLemmas.{answered_walked}
+use Rattle.mc_store.proofs.CallerLemmas.{called_walked}
 use Rattle.mc_store.proofs.PairLemmas.{class_after, class_sees, heard_class, heard_stripe, met, stripe_after, stripe_sees}
 
 -- what grew is told as more
@@ -134,9 +134,9 @@ module _ (table : TableId) (config : Config) (own : StripeSide) (lent : ClassSid
       (heard_stripe lent.sight own.lock own.stripe.site.stripe s.history own_kept.lock_is)
 
   -- the stripe's lock keeps what it keeps
-  pub stripe_stepped : (w : Walker) → StripeGrows w own.stripe s → IsLockedStripe table config (stripe_at own s sight)
-  stripe_stepped w walked =
-      stripe_after table config own (stripe_at own s sight) own_kept refl refl site more legal (answered_walked config w own.stripe s own.sight sight walked more own_kept.answered) (lent.class ∷ []) (c ∷ [])
+  pub stripe_stepped : (w : Walker) → HasBegun config own.sight w.who w.moment → StripeGrows w own.stripe s → IsLockedStripe table config (stripe_at own s sight)
+  stripe_stepped w begun walked =
+      stripe_after table config own (stripe_at own s sight) own_kept refl refl site more legal (called_walked config w own.stripe s own.sight sight walked more begun own_kept.called) (lent.class ∷ []) (c ∷ [])
       (record { number_is = number_is; rule_is = rule_is ∙ lent_kept.made_with.rule; agrees = agree_now; heard = heard_now }, tt)
       (λ other rule list apart. still.told other rule list apart.0)
 
@@ -215,11 +215,11 @@ module _ (table : TableId) (config : Config) (own : StripeSide) (lent : ClassSid
       ∙ ap (λ (t : Sight). record { board = owner.board; lock = owner.lock; class = c_new; sight = t }) (sym (ap (λ (x : ClassSide). x.sight) told_of))))
 
   -- the stripe is as its lock keeps it
-  pub stripe_paired : (w : Walker) → StripeGrows w s s_new → IsLockedStripe table config own_last
-  stripe_paired w walked =
+  pub stripe_paired : (w : Walker) → HasBegun config own_seen.sight w.who w.moment → StripeGrows w s s_new → IsLockedStripe table config own_last
+  stripe_paired w begun walked =
       subst (IsLockedStripe table config) (sym own_last_is)
       (stripe_stepped table config (stripe_side own_owner own_seen s) (class_side owner seen c) own_first lent_first agree s_new c_new site grows legal lawful agreement still own_new.sight lent_last.sight
-      pair_told_is pair_told_of_is more pair_more_of_is w walked)
+      pair_told_is pair_told_of_is more pair_more_of_is w begun walked)
 
   -- and so is the class
   pub class_paired : IsLockedClass table config lent_last

@@ -25,12 +25,12 @@ use Rattle.mc_pull.specs.Performed.{IsUntouched, MayRefuseCall}
 use Rattle.mc_pull.specs.Sight.{BacksStill, KeepsSights, SuitsStill}
 use Rattle.mc_lone.specs.Commands.{HasShort}
 use Rattle.mc_lone.proofs.PerformLemmas.{all_short}
-use Rattle.mc_store.specs.Callers.{AreAnswered}
+use Rattle.mc_store.specs.Callers.{AreCalled}
 use Rattle.mc_store.specs.Locked.{IsLockedClass, IsLockedStripe, class_lock, locks_for}
 use Rattle.mc_store.specs.Performing.{IsRefusedIn}
 use Rattle.mc_store.specs.Serving.{HasSeenShort, IsShort}
 use Rattle.mc_store.specs.Sides.{ClassSide, StripeSide, class_told, stripe_told}
-use Rattle.mc_store.proofs.CallerLemmas.{answered_sees}
+use Rattle.mc_store.proofs.CallerLemmas.{called_sees}
 use Rattle.mc_store.proofs.LentLemmas.{apart_tells}
 use Rattle.mc_store.proofs.PairLemmas.{IsHeard, class_after, heard_before, heard_class, heard_stripe, stripe_after}
 
@@ -67,15 +67,15 @@ either_short v w has = by has.place has.below (has.short w)
 -- ---- behind a command
 
 module _ (table : TableId) (config : Config) (own : StripeSide) (kept : IsLockedStripe table config own) (s_new : Stripe) (c : Call) (site : KeepsSite own.stripe s_new) (legal : IsLegal s_new.site s_new.history)
-    (answered : AreAnswered (locks_for config) s_new.site.stripe s_new.history (list_at own.sight.seen)) where
+    (called : AreCalled (locks_for config) config.callers s_new.site.stripe s_new.history (list_at own.sight.seen)) where
   -- behind what was noted of it more is seen
-  answered_with : (sight : Sight) → Grows own.sight sight → AreAnswered (locks_for config) s_new.site.stripe s_new.history (list_at sight.seen)
-  answered_with sight more = answered_sees (locks_for config) s_new.site.stripe s_new.history own.sight sight more answered
+  called_with : (sight : Sight) → Grows own.sight sight → AreCalled (locks_for config) config.callers s_new.site.stripe s_new.history (list_at sight.seen)
+  called_with sight more = called_sees config s_new.site.stripe s_new.history own.sight sight more called
 
   -- the stripe alone
   pub alone_end : IsRefusedIn c.room [] → KeepsSights c own.stripe s_new [] [] → IsLockedStripe table config (record own { stripe = s_new })
   alone_end refused sight =
-      stripe_after table config own (record own { stripe = s_new }) kept refl refl site (record { at = λ lock. prefix_self (list_at own.sight.seen lock) }) legal answered [] [] tt
+      stripe_after table config own (record own { stripe = s_new }) kept refl refl site (record { at = λ lock. prefix_self (list_at own.sight.seen lock) }) legal called [] [] tt
       (apart_tells c own.stripe s_new [] [] refused sight)
 
   -- a class that was lent, and was told the stripe's history
@@ -107,7 +107,7 @@ module _ (table : TableId) (config : Config) (own : StripeSide) (kept : IsLocked
     pub one_end : AgreeNow v s_new → IsRefusedIn c.room (low.class ∷ []) → KeepsSights c own.stripe s_new (low.class ∷ []) (v ∷ []) → Grows own.sight hears_low
         → IsLockedStripe table config (record own { stripe = s_new; sight = hears_low })
     one_end agree refused sight more =
-        stripe_after table config own (record own { stripe = s_new; sight = hears_low }) kept refl refl site more legal (answered_with hears_low more) (low.class ∷ []) (v ∷ [])
+        stripe_after table config own (record own { stripe = s_new; sight = hears_low }) kept refl refl site more legal (called_with hears_low more) (low.class ∷ []) (v ∷ [])
         (heard_as hears_low low v kept_low grows_low agree (heard_class config own.sight low.lock v.number v.history (lock_now low v kept_low grows_low)), tt)
         (apart_tells c own.stripe s_new (low.class ∷ []) (v ∷ []) refused sight)
 
@@ -131,7 +131,7 @@ module _ (table : TableId) (config : Config) (own : StripeSide) (kept : IsLocked
           → IsLockedStripe table config (record own { stripe = s_new; sight = hears_both })
       two_end agree agree_high refused sight more =
           let apart : class_lock config v.number ≢ high.lock = subst (λ (k : ℕ). k ≢ high.lock) (lock_now low v kept_low grows_low) locks_apart in
-          stripe_after table config own (record own { stripe = s_new; sight = hears_both }) kept refl refl site more legal (answered_with hears_both more) (low.class ∷ high.class ∷ []) (v ∷ w ∷ []) (
+          stripe_after table config own (record own { stripe = s_new; sight = hears_both }) kept refl refl site more legal (called_with hears_both more) (low.class ∷ high.class ∷ []) (v ∷ w ∷ []) (
             heard_as hears_both low v kept_low grows_low agree
                 (heard_before config hears_low high.lock v.number w.history apart ∙ heard_class config own.sight low.lock v.number v.history (lock_now low v kept_low grows_low)),
             (heard_as hears_both high w kept_high grows_high agree_high (heard_class config hears_low high.lock w.number w.history (lock_now high w kept_high grows_high)), tt),

@@ -19,7 +19,7 @@ use Rattle.mc_pull.specs.Lent.{EachPair}
 use Rattle.mc_pull.specs.Perform.{Call}
 use Rattle.mc_pull.specs.Performed.{IsUntouched, MayRefuseCall}
 use Rattle.mc_pull.specs.Sight.{KeepsSights}
-use Rattle.mc_store.specs.Callers.{AreAnswered}
+use Rattle.mc_store.specs.Callers.{AreCalled}
 use Rattle.mc_store.specs.Locked.{IsLockedClass, IsLockedStripe, locks_for}
 use Rattle.mc_store.specs.Performing.{IsRefusedIn}
 use Rattle.mc_store.specs.Serving.{IsShort, class_side}
@@ -32,7 +32,7 @@ module _ (table : TableId) (config : Config) (c : Call) (s s_new : Stripe) (low_
     -- the stripe's tokens, before the command and behind it, and as it is told by the lower class, by the higher, and is left
     (owner owner_new : OwnerView) (seen_was seen : SeenView) (own own_first own_both own_third own_new : StripeSide) (own_is : stripe_side owner seen_was s ≡ own) (own_kept : IsLockedStripe table config own)
     (caught : owner_new ≡ record owner { history = stripe_told s_new.history }) (noted : Grows seen_was.sight seen.sight)
-    (answered : AreAnswered (locks_for config) s.site.stripe s.history (list_at seen_was.sight.seen) → AreAnswered (locks_for config) s_new.site.stripe s_new.history (list_at seen.sight.seen))
+    (called : AreCalled (locks_for config) config.callers s.site.stripe s.history (list_at seen_was.sight.seen) → AreCalled (locks_for config) config.callers s_new.site.stripe s_new.history (list_at seen.sight.seen))
     -- the classes' tokens, and as they are when they have told the stripe
     (owner_low new_low : OwnerView) (seen_low : SeenView) (was_low low_first : ClassSide) (low_is : class_side owner_low seen_low low_class ≡ was_low) (low_kept : IsLockedClass table config was_low)
     (caught_low : new_low ≡ record owner_low { history = class_told v.history }) (same_low : low_first ≡ class_side new_low seen_low v)
@@ -70,8 +70,8 @@ module _ (table : TableId) (config : Config) (c : Call) (s s_new : Stripe) (low_
   kept : IsLockedStripe table config was
   kept = stripe_sees table config (stripe_side owner seen_was s) seen.sight noted kept_was
 
-  answered_now : AreAnswered (locks_for config) s_new.site.stripe s_new.history (list_at seen.sight.seen)
-  answered_now = answered kept_was.answered
+  called_now : AreCalled (locks_for config) config.callers s_new.site.stripe s_new.history (list_at seen.sight.seen)
+  called_now = called kept_was.called
 
   kept_low : IsLockedClass table config low
   kept_low = subst (IsLockedClass table config) (sym low_is) low_kept
@@ -126,25 +126,25 @@ module _ (table : TableId) (config : Config) (c : Call) (s s_new : Stripe) (low_
     pub two_stripe : IsRefusedIn c.room (low_arg.class ∷ high_arg.class ∷ []) → IsLockedStripe table config own_new
     two_stripe refused =
         subst (IsLockedStripe table config) (sym (same ∙ (same_third ∙ said)))
-        (two_end table config was kept s_new c site legal answered_now low v kept_low grows.0 high w kept_high grows.1.0 rising_now (agreements.own.0 met_low) (agreements.own.1.0 met_high)
+        (two_end table config was kept s_new c site legal called_now low v kept_low grows.0 high w kept_high grows.1.0 rising_now (agreements.own.0 met_low) (agreements.own.1.0 met_high)
         (subst (λ (x : ClassView). IsRefusedIn c.room (x ∷ high_class ∷ [])) (sym low_was) (subst (λ (x : ClassView). IsRefusedIn c.room (low_arg.class ∷ x ∷ [])) (sym high_was) refused)) sights more_now)
 
     pub two_low : (low_new : ClassSide) → low_new ≡ record low_first { sight = with_seen low_first.sight own_both.lock (stripe_told own_both.stripe.history) } → Grows low_first.sight low_new.sight
         → IsLawfulHistoryByLists v.chunks v.rule v.history → IsLockedClass table config low_new
     two_low low_new told_low more_low lawful =
         subst (IsLockedClass table config) (sym (lent_said low low_first low_new v own_both own_end (same_low ∙ mid_low) said told_low))
-        (class_end table config was kept s_new c site legal answered_now low v kept_low grows.0 lawful (agreements.own.0 met_low) sights.backed.0 sights.suited.0
+        (class_end table config was kept s_new c site legal called_now low v kept_low grows.0 lawful (agreements.own.0 met_low) sights.backed.0 sights.suited.0
         (lent_more low low_first low_new v own_both own_end (same_low ∙ mid_low) said told_low more_low))
 
     pub two_high : (high_new : ClassSide) → high_new ≡ record high_first { sight = with_seen high_first.sight own_third.lock (stripe_told own_third.stripe.history) } → Grows high_first.sight high_new.sight
         → IsLawfulHistoryByLists w.chunks w.rule w.history → IsLockedClass table config high_new
     two_high high_new told_high more_high lawful =
         subst (IsLockedClass table config) (sym (lent_said high high_first high_new w own_third own_end (same_high ∙ mid_high) (same_third ∙ said) told_high))
-        (class_end table config was kept s_new c site legal answered_now high w kept_high grows.1.0 lawful (agreements.own.1.0 met_high) sights.backed.1.0 sights.suited.1.0
+        (class_end table config was kept s_new c site legal called_now high w kept_high grows.1.0 lawful (agreements.own.1.0 met_high) sights.backed.1.0 sights.suited.1.0
         (lent_more high high_first high_new w own_third own_end (same_high ∙ mid_high) (same_third ∙ said) told_high more_high))
 
   -- a fault for a full history
   pub two_full : {T : Type 0} (r : Result T Fault) → OnErr r (IsUntouched was.stripe s_new (low.class ∷ high.class ∷ []) (v ∷ w ∷ []))
       → IfErr r (MayRefuseCall was.stripe c (low.class ∷ high.class ∷ [])) → r ≡ Err HistoryFull → IsShort config own_new
   two_full r err refusal is =
-      subst (IsShort config) (sym (same ∙ (same_third ∙ said))) (two_short table config was kept s_new c site legal answered_now low v kept_low grows.0 high w kept_high grows.1.0 rising_now r err refusal is)
+      subst (IsShort config) (sym (same ∙ (same_third ∙ said))) (two_short table config was kept s_new c site legal called_now low v kept_low grows.0 high w kept_high grows.1.0 rising_now r err refusal is)

@@ -1,11 +1,15 @@
--- Callers' histories: where each command of a caller was answered (own).
+-- Callers' histories: each event of a stripe was made by a call of its caller, whose history has that call (own).
 -- A caller's history stands on the board behind those of stripes and classes, and only the caller's pass adds to it.
-use Rattle.std.specs.Prelude.{◌≡◌, ◌+◌, ◌⊎◌, ℕ, List, [], ◌∷◌, Some, map, slice_get}
+use Rattle.std.specs.Prelude.{◌≡◌, ◌<◌, ◌+◌, ◌++◌, ◌⊎◌, ℕ, List, [], ◌∷◌, Option, Some, None, length, map, slice_get}
 use Rattle.mc_item.specs.declared.call_event.CallEvent.{CallEvent}
-use Rattle.mc_item.specs.declared.call_event.CallEvent.TheVariants.{Answered}
+use Rattle.mc_item.specs.declared.call_event.CallEvent.TheVariants.{Answered, Asked, Crawled, Juggled}
+use Rattle.mc_item.specs.declared.command.Command.{Command}
 use Rattle.mc_item.specs.declared.event.Event.{Event}
 use Rattle.mc_item.specs.declared.event.Event.TheVariants.{Call, Class, Stripe}
-use Rattle.mc_item.specs.declared.stripe_event.Did.{Did}
+use Rattle.mc_item.specs.declared.item.ClassNo.{ClassNo}
+use Rattle.mc_item.specs.declared.item.Who.{Who}
+use Rattle.mc_item.specs.declared.stripe_event.Cause.{Cause}
+use Rattle.mc_item.specs.declared.stripe_event.Cause.TheVariants.{Expired, Taken}
 use Rattle.mc_item.specs.declared.stripe_event.StripeEvent.{StripeEvent}
 use Rattle.mc_item.specs.declared.stripe_event.StripeEvent.TheVariants as events
 
@@ -20,17 +24,82 @@ call_events (Stripe e ∷ es) = call_events es
 call_events (Class e ∷ es) = call_events es
 call_events (Call e ∷ es) = e ∷ call_events es
 
--- a caller's event that its command was answered by the event at this place of this stripe's history
+-- a caller's event that it asked for this command, at this moment
+abbrev pub asked_for : Command → ℕ → CallEvent
+asked_for command moment = Asked (record { command = command; moment = moment })
+
+-- a caller's event that it juggled this class, at this moment
+abbrev pub juggling_of : ClassNo → ℕ → CallEvent
+juggling_of class moment = Juggled (record { class = class; moment = moment })
+
+-- a caller's event that it crawled this class, at this moment
+abbrev pub crawling_of : ClassNo → ℕ → CallEvent
+crawling_of class moment = Crawled (record { class = class; moment = moment })
+
+-- a caller's event that its last command was answered by the event at this place of this stripe's history
 abbrev pub answered_at : ℕ → ℕ → CallEvent
 answered_at stripe place = Answered (record { stripe = record { 0 = stripe }; place = place })
+
+-- the calls of a caller's history, one for each of its turns: all but the answers
+abbrev pub turns_of : List CallEvent → List CallEvent
+turns_of [] = []
+turns_of (Asked asked ∷ calls) = Asked asked ∷ turns_of calls
+turns_of (Juggled worked ∷ calls) = Juggled worked ∷ turns_of calls
+turns_of (Crawled worked ∷ calls) = Crawled worked ∷ turns_of calls
+turns_of (Answered answered ∷ calls) = turns_of calls
+
+-- the moment that a call was handed; an answer is none
+abbrev pub moment_of : CallEvent → Option ℕ
+moment_of (Asked asked) = Some asked.moment
+moment_of (Juggled worked) = Some worked.moment
+moment_of (Crawled worked) = Some worked.moment
+moment_of (Answered answered) = None
 
 -- the event is one of these
 abbrev pub IsCall : CallEvent → List CallEvent → Type 0
 IsCall call [] = ⊥
 IsCall call (e ∷ es) = (e ≡ call) ⊎ IsCall call es
 
--- each answered command of a stripe's history has its event in its caller's history, as far as that was seen; the histories of
--- callers come behind so many others
-pub record AreAnswered (others stripe : ℕ) (history : List StripeEvent) (seen : ℕ → List Event) : Type 0 where
-  pub each : (place : ℕ) (did : Did) → slice_get history place ≡ Some (events.Did did)
-      → IsCall (answered_at stripe place) (call_events (seen (others + did.who.caller)))
+-- the event is the first of these
+abbrev pub IsNext : CallEvent → List CallEvent → Type 0
+IsNext call [] = ⊥
+IsNext call (e ∷ es) = e ≡ call
+
+-- a caller's history has the call of this turn, which was handed this moment
+pub record IsBegun (calls : List CallEvent) (turn moment : ℕ) : Type 0 where
+  pub before : List CallEvent
+  pub call : CallEvent
+  pub behind : List CallEvent
+  pub split : calls ≡ before ++ call ∷ behind
+  pub turn_is : length (turns_of before) ≡ turn
+  pub handed : moment_of call ≡ Some moment
+
+-- who made an event of a stripe
+abbrev pub who_of : StripeEvent → Who
+who_of (events.Did did) = did.who
+who_of (events.Lost lost) = lost.who
+who_of (events.Cooled cooled) = cooled.who
+
+-- an item that went for being dead was so at this moment
+abbrev pub IsMomentOf : Cause → ℕ → Type 0
+IsMomentOf (Expired dead) moment = dead ≡ moment
+IsMomentOf (Taken class place) moment = Unit {0}
+
+-- the event at a place of a stripe's history is one of this call, which was handed this moment and has these events of its
+-- caller behind it: an answered command is just the one that was asked for, and the next event says where it stands
+abbrev pub IsOf : ℕ → ℕ → StripeEvent → CallEvent → List CallEvent → ℕ → Type 0
+IsOf stripe place (events.Did did) call behind moment = (call ≡ asked_for did.command did.moment) × IsNext (answered_at stripe place) behind
+IsOf stripe place (events.Lost lost) call behind moment = IsMomentOf lost.cause moment
+IsOf stripe place (events.Cooled cooled) call behind moment = Unit {0}
+
+-- the event at a place of a stripe's history was called: its caller's history has, for its turn, the call that it is of
+pub record IsCalled (calls : List CallEvent) (stripe place : ℕ) (event : StripeEvent) : Type 0 where
+  pub moment : ℕ
+  pub begun : IsBegun calls (who_of event).turn moment
+  pub own : IsOf stripe place event begun.call begun.behind moment
+
+-- each event of a stripe's history was called, by one of so many callers, as far as that one's history was seen; the histories
+-- of callers come behind so many others
+pub record AreCalled (others callers stripe : ℕ) (history : List StripeEvent) (seen : ℕ → List Event) : Type 0 where
+  pub each : (place : ℕ) (event : StripeEvent) → slice_get history place ≡ Some event
+      → ((who_of event).caller < callers) × IsCalled (call_events (seen (others + (who_of event).caller))) stripe place event

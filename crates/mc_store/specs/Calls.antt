@@ -21,7 +21,7 @@ use Rattle.mc_pull.specs.Question.{IsClassOf, IsStripeOf}
 use Rattle.mc_pull.specs.Rounds.{rounds}
 use Rattle.mc_pull.specs.declared.looking.Answer.{Answer}
 use Rattle.mc_lone.specs.Commands.{IsAnswered, IsCut}
-use Rattle.mc_store.specs.Callers.{answered_at}
+use Rattle.mc_store.specs.Callers.{answered_at, asked_for}
 use Rattle.mc_store.specs.Locked.{class_lock, setting_of}
 use Rattle.mc_store.specs.Sides.{class_told, stripe_told}
 
@@ -43,19 +43,22 @@ pub record IsSeenGrow (config : Config) (number : ℕ) (before after : Sight) (s
   pub now : list_at after.seen number ≡ stripe_told s_new.history
   pub sound : StripeKeeps (setting_of config) number s_new.history (classes_seen config.stripes (list_at after.seen))
 
--- a command was answered with this reply at one point of its stripe's growing history, after all that the pass had seen
+-- a command was answered with this reply at one point of its stripe's growing history, after all that the pass had seen; its
+-- caller's history has two events more: that the command was asked for, and where the answer stands
 pub record IsRepliedBy (config : Config) (number : ℕ) (before after : Sight) (calls calls_new : List CallEvent) (who : Who) (command : Command) (moment : ℕ) (reply : Reply) : Type 0 where
   pub old : Stripe
   pub new : Stripe
   pub grew : IsSeenGrow config number before after old new
-  pub replied : IsReplied config who command moment old new calls calls_new reply
+  pub replied : IsReplied config who command moment old new (calls ++ asked_for command moment ∷ []) calls_new reply
 
--- a command was broken off: nothing of it stands in its stripe's history but what leads up to it
-pub record IsCutBy (config : Config) (number : ℕ) (before after : Sight) (who : Who) (command : Command) (moment : ℕ) : Type 0 where
+-- a command was broken off: nothing of it stands in its stripe's history but what leads up to it, and its caller's history has
+-- one event more, that it was asked for
+pub record IsCutBy (config : Config) (number : ℕ) (before after : Sight) (calls calls_new : List CallEvent) (who : Who) (command : Command) (moment : ℕ) : Type 0 where
   pub old : Stripe
   pub new : Stripe
   pub grew : IsSeenGrow config number before after old new
   pub cut : IsCut config who command moment old new
+  pub noted : calls_new ≡ calls ++ asked_for command moment ∷ []
 
 -- a class's history grew in a call, from one list to another: the same of a class
 pub record IsSeenGrowOf (config : Config) (class : ClassNo) (before after : Sight) (c : ClassView) (history : List ClassEvent) : Type 0 where

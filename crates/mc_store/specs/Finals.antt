@@ -9,16 +9,14 @@ use Rattle.mc_item.specs.declared.item.ClassNo.{ClassNo}
 use Rattle.mc_item.specs.declared.item.Item.{Item}
 use Rattle.mc_item.specs.declared.lists.Entry.{Entry}
 use Rattle.mc_item.specs.declared.lists.Seg.{Seg}
-use Rattle.mc_item.specs.declared.stripe_event.Did.{Did}
 use Rattle.mc_item.specs.declared.stripe_event.StripeEvent.{StripeEvent}
-use Rattle.mc_item.specs.declared.stripe_event.StripeEvent.TheVariants as events
 use Rattle.mc_board.specs.Histories.{HasNoted, HasSeen}
 use Rattle.mc_board.specs.declared.rule.Sight.{Sight}
 use Rattle.mc_evidence.specs.Setting.{IsClass, Setting, site_in}
 use Rattle.mc_rule.specs.Belonging.{HasEntry, HasItem}
 use Rattle.mc_rule.specs.Lists.{found, lists_of, times_in}
 use Rattle.mc_rule.specs.Pairs.{item_after}
-use Rattle.mc_store.specs.Callers.{IsCall, answered_at}
+use Rattle.mc_store.specs.Callers.{IsCalled, who_of}
 use Rattle.mc_store.specs.Locked.{IsClassUnder, IsStripeUnder}
 use Rattle.mc_store.specs.Passes.{PassView}
 use Rattle.mc_store.specs.Sides.{ClassSide, StripeSide, class_told, stripe_told}
@@ -80,7 +78,7 @@ pub record IsBehindStripes (sight : Sight) (stripes : List StripeSide) : Type 0 
 pub record IsBehindClasses (sight : Sight) (classes : List ClassSide) : Type 0 where
   pub each : (k : ℕ) (s : ClassSide) → slice_get classes k ≡ Some s → IsBehindAt sight s.lock (class_told s.class.history)
 
--- of the answered commands in the final histories those that name a pass's caller are just those that its history has
+-- each event of the final histories that names a pass's caller was called: the pass's own history has its call
 pub record AreItsOwn (pass : PassView) (stripes : List StripeSide) : Type 0 where
-  pub each : (k : ℕ) (s : StripeSide) (place : ℕ) (did : Did) → slice_get stripes k ≡ Some s → slice_get s.stripe.history place ≡ Some (events.Did did)
-      → did.who.caller ≡ pass.caller → IsCall (answered_at k place) pass.calls
+  pub each : (k : ℕ) (s : StripeSide) (place : ℕ) (event : StripeEvent) → slice_get stripes k ≡ Some s → slice_get s.stripe.history place ≡ Some event
+      → (who_of event).caller ≡ pass.caller → IsCalled pass.calls k place event

@@ -4,8 +4,10 @@ use Rattle.atomic_table.specs.Seated.{TableId}
 use Rattle.mc_item.specs.Config.{IsSound}
 use Rattle.mc_item.specs.declared.config.Config.{Config}
 use Rattle.mc_item.specs.declared.item.ClassNo.{ClassNo}
+use Rattle.mc_item.specs.declared.item.Who.{Who}
 use Rattle.mc_rule.specs.Segment.{rule_of}
 use Rattle.mc_board.specs.Histories.{list_at}
+use Rattle.mc_board.specs.declared.rule.Sight.{Sight}
 use Rattle.mc_segment.specs.ClassState.{chunks_for}
 use Rattle.mc_pull.specs.Question as made
 use Rattle.mc_evidence.specs.Locks.{ClassKeeps, StripeKeeps}
@@ -13,7 +15,7 @@ use Rattle.mc_evidence.specs.Seen.{classes_seen, stripes_seen}
 use Rattle.mc_evidence.specs.Setting.{IsClass, Setting}
 use Rattle.mc_store.specs.declared.lock_no.LockNo.{LockNo}
 use Rattle.mc_store.specs.declared.lock_no.LockNo.TheVariants as locks
-use Rattle.mc_store.specs.Callers.{AreAnswered}
+use Rattle.mc_store.specs.Callers.{AreCalled, IsBegun, call_events}
 use Rattle.mc_store.specs.Sides.{ClassSide, StripeSide}
 
 -- what is fixed for a store of a configuration
@@ -32,6 +34,11 @@ histories_for config = locks_for config + config.callers
 abbrev pub caller_place : Config → ℕ → ℕ
 caller_place config caller = locks_for config + caller
 
+-- who made this has a call of this moment in its caller's history, as far as that was seen
+pub record HasBegun (config : Config) (sight : Sight) (who : Who) (moment : ℕ) : Type 0 where
+  pub of : who.caller < config.callers
+  pub begun : IsBegun (call_events (list_at sight.seen (caller_place config who.caller))) who.turn moment
+
 -- the lock of a class: those of the stripes come first, and classes are numbered from 1
 abbrev pub class_lock : Config → ClassNo → ℕ
 class_lock config class = config.stripes + (class.0 - 1)
@@ -47,8 +54,8 @@ IsLock config (locks.Stripe number) = number.0 < config.stripes
 IsLock config (locks.Class number) = IsClass (setting_of config) number
 
 -- a stripe's lock keeps: the stripe is of this board, under the lock of its number, made with this configuration, which was
--- checked; its history is legal, each of its events has found its partner in what was seen of the classes, and each of its
--- answered commands stands in what was seen of its caller's history
+-- checked; its history is legal, each of its events has found its partner in what was seen of the classes, and each was called,
+-- as what was seen of its caller's history has it
 pub record IsLockedStripe (board : TableId) (config : Config) (s : StripeSide) : Type 0 where
   pub board_is : s.board ≡ board
   pub lock_is : s.lock ≡ s.stripe.site.stripe
@@ -56,7 +63,7 @@ pub record IsLockedStripe (board : TableId) (config : Config) (s : StripeSide) :
   pub sound : IsSound config
   pub made_with : made.IsStripeOf config s.stripe
   pub keeps : StripeKeeps (setting_of config) s.stripe.site.stripe s.stripe.history (classes_seen config.stripes (list_at s.sight.seen))
-  pub answered : AreAnswered (locks_for config) s.stripe.site.stripe s.stripe.history (list_at s.sight.seen)
+  pub called : AreCalled (locks_for config) config.callers s.stripe.site.stripe s.stripe.history (list_at s.sight.seen)
 
 -- a class's lock keeps: the class is of this board, under the lock of its number, made with this configuration; its history is
 -- lawful, and each of its events has found its partner and the item that it cites in what was seen of the stripes

@@ -1,9 +1,11 @@
 -- What a contract sees of a pass, and the passes of a new store (own).
-use Rattle.std.specs.Prelude.{◌≡◌, ℕ, ◌<◌, List, [], Some, length, slice_get}
+use Rattle.std.specs.Prelude.{◌≡◌, ℕ, ◌<◌, ◌+◌, ◌^◌, ◌++◌, ◌∷◌, List, [], Some, length, slice_get}
 use Rattle.mc_item.specs.declared.call_event.CallEvent.{CallEvent}
+use Rattle.mc_item.specs.declared.command.Command.{Command}
 use Rattle.mc_item.specs.declared.item.Who.{Who}
 use Rattle.mc_board.specs.Histories.{blind}
 use Rattle.mc_board.specs.declared.rule.Sight.{Sight}
+use Rattle.mc_store.specs.Callers.{IsBegun, asked_for, turns_of}
 
 -- a caller: its number, and its history
 pub record CallerView : Type 0 where
@@ -17,6 +19,10 @@ pub record PassView : Type 0 where
   pub calls : List CallEvent
   pub sight : Sight
 
+-- the caller of a pass
+abbrev pub caller_of : PassView → CallerView
+caller_of pass = record { number = pass.caller; calls = pass.calls }
+
 -- who a pass's next call is made by
 abbrev pub next_who : PassView → Who
 next_who pass = record { caller = pass.caller; turn = pass.turn }
@@ -29,3 +35,16 @@ new_pass caller = record { caller = caller; turn = 0; calls = []; sight = blind 
 pub record ArePasses (callers : ℕ) (passes : List PassView) : Type 0 where
   pub many : length passes ≡ callers
   pub each : (caller : ℕ) → caller < callers → slice_get passes caller ≡ Some (new_pass caller)
+
+-- a caller's last event is that it asked for this command at this moment, in this turn; its history has room for the answer
+pub record HasAsked (caller : CallerView) (who : Who) (command : Command) (moment : ℕ) : Type 0 where
+  pub number : who.caller ≡ caller.number
+  pub before : List CallEvent
+  pub last : caller.calls ≡ before ++ asked_for command moment ∷ []
+  pub turn : length (turns_of before) ≡ who.turn
+  pub room : length caller.calls + 1 < 2 ^ 64
+
+-- a caller's history has the call of this turn, which was handed this moment
+pub record HasCalled (caller : CallerView) (who : Who) (moment : ℕ) : Type 0 where
+  pub number : who.caller ≡ caller.number
+  pub begun : IsBegun caller.calls who.turn moment

@@ -9,6 +9,8 @@ ghost use Rattle.mc_lone.specs.Commands.{IsCut};
 ghost use Rattle.mc_store.specs.Calls.{IsReplied};
 ghost use Rattle.mc_store.specs.Planned.{GoesBy};
 ghost use Rattle.mc_store.specs.Serving.{IsShort};
+ghost use Rattle.mc_store.specs.Locked.{HasBegun};
+ghost use Rattle.mc_store.specs.Passes.{HasAsked};
 
 use crate::caller::Caller;
 use crate::locked::{LockedClass, LockedStripe};
@@ -35,8 +37,7 @@ fn answer_kept<N: Named>(
     moment: u64,
     plan: Plan,
 ) -> Result<Reply, Fault>
-    requires who { who.caller ≡ caller.old.number }
-    requires turns { length caller.old.calls + 1 < 2 ^ 64 }
+    requires asked { HasAsked caller.old who command moment }
     requires goes { GoesBy N.config own.old.stripe command moment plan }
     requires kept { Fits plan.need rooms.Keep own.old.stripe.history }
     ensures replied { IfOk result (IsReplied N.config who command moment own.old.stripe own.new.stripe caller.old.calls caller.new.calls) }
@@ -73,8 +74,8 @@ fn answer_on_one<N: Named>(
     plan: Plan,
     class: ClassNo,
 ) -> Result<Reply, Fault>
-    requires who { who.caller ≡ caller.old.number }
-    requires turns { length caller.old.calls + 1 < 2 ^ 64 }
+    requires asked { HasAsked caller.old who command moment }
+    requires begun { HasBegun N.config own.old.sight who moment }
     requires goes { GoesBy N.config own.old.stripe command moment plan }
     requires fresh { plan.need ≡ needs.Fresh class }
     ensures replied { IfOk result (IsReplied N.config who command moment own.old.stripe own.new.stripe caller.old.calls caller.new.calls) }
@@ -107,8 +108,8 @@ fn answer_on_two<N: Named>(
     plan: Plan,
     class: ClassNo,
 ) -> Result<Reply, Fault>
-    requires who { who.caller ≡ caller.old.number }
-    requires turns { length caller.old.calls + 1 < 2 ^ 64 }
+    requires asked { HasAsked caller.old who command moment }
+    requires begun { HasBegun N.config own.old.sight who moment }
     requires goes { GoesBy N.config own.old.stripe command moment plan }
     requires fresh { plan.need ≡ needs.Fresh class }
     requires rising { low.old.class.number.0 < high.old.class.number.0 }
@@ -150,8 +151,8 @@ fn answer_fresh<N: Named>(
     plan: Plan,
     class: ClassNo,
 ) -> Result<Reply, Fault>
-    requires who { who.caller ≡ caller.old.number }
-    requires turns { length caller.old.calls + 1 < 2 ^ 64 }
+    requires asked { HasAsked caller.old who command moment }
+    requires begun { HasBegun N.config own.old.sight who moment }
     requires goes { GoesBy N.config own.old.stripe command moment plan }
     requires fresh { plan.need ≡ needs.Fresh class }
     ensures replied { IfOk result (IsReplied N.config who command moment own.old.stripe own.new.stripe caller.old.calls caller.new.calls) }
@@ -195,8 +196,8 @@ pub(crate) fn answer_by_plan<N: Named>(
     moment: u64,
     plan: Plan,
 ) -> Result<Reply, Fault>
-    requires who { who.caller ≡ caller.old.number }
-    requires turns { length caller.old.calls + 1 < 2 ^ 64 }
+    requires asked { HasAsked caller.old who command moment }
+    requires begun { HasBegun N.config own.old.sight who moment }
     requires goes { GoesBy N.config own.old.stripe command moment plan }
     ensures replied { IfOk result (IsReplied N.config who command moment own.old.stripe own.new.stripe caller.old.calls caller.new.calls) }
     ensures cut { OnErr result (IsCut N.config who command moment own.old.stripe own.new.stripe) }

@@ -1,12 +1,15 @@
 //! A caller and its history.
-ghost use Rattle.std.specs.Prelude.{◌≡◌, ◌<◌, ◌+◌, ◌^◌, ◌++◌, ◌∷◌, [], length};
+ghost use Rattle.std.specs.Prelude.{◌≡◌, ◌<◌, ◌+◌, ◌^◌, ◌++◌, ◌∷◌, ℕ, [], length};
+ghost use Rattle.mc_item.specs.declared.item.Who.{Who};
 ghost use Rattle.mc_board.specs.Histories.{with_seen, Grows, HasSeen};
-ghost use Rattle.mc_store.specs.Callers.{answered_at, calls_told};
-ghost use Rattle.mc_store.specs.Locked.{caller_place};
+ghost use Rattle.mc_store.specs.Callers.{answered_at, call_events, calls_told};
+ghost use Rattle.mc_store.specs.Locked.{caller_place, HasBegun};
+ghost use Rattle.mc_store.specs.Passes.{HasCalled};
 
+use crate::locked::{LockedClass, LockedStripe};
 use crate::named::Named;
 use mc_board::{Board, Owner, Seen};
-use mc_item::{Answered, CallEvent, StripeNo};
+use mc_item::{Answered, CallEvent, Logged, StripeNo};
 use std::marker::{Model, PhantomData};
 
 /// The number of a caller, and the token that tells its history to the board.
@@ -18,7 +21,7 @@ pub(crate) struct Caller<N: Named> {
 }
 
 impl<N: Named> Model for Caller<N> {
-    ghost use Rattle.std.specs.Prelude.{◌≡◌};
+    ghost use Rattle.std.specs.Prelude.{◌≡◌, ◌<◌};
     ghost use Rattle.mc_store.specs.Callers.{call_events, calls_told};
     ghost use Rattle.mc_store.specs.Locked.{caller_place};
     ghost use Rattle.mc_store.specs.Passes.{CallerView};
@@ -28,14 +31,16 @@ impl<N: Named> Model for Caller<N> {
     ghost view = { λ c. record { number = c.number; calls = call_events c.owner.history } };
 
     ghost invariant = { λ c.
-        (c.owner.board ≡ N.board.table)
+        (c.number < N.config.callers)
+        × (c.owner.board ≡ N.board.table)
         × (c.owner.lock ≡ caller_place N.config c.number)
         × (c.owner.history ≡ calls_told (call_events c.owner.history)) };
 }
 
 impl<N: Named> Caller<N> {
-    // The caller of a number, none of whose commands was answered.
+    // The caller of a number, which has made no call.
     pub(crate) fn new(number: u32, owner: Owner) -> Caller<N>
+        requires of { number < N.config.callers }
         requires owner { owner ≡ record { board = N.board.table; lock = caller_place N.config number; history = [] } }
         ensures { result ≡ record { number = number; calls = [] } }
     {
@@ -53,10 +58,21 @@ impl<N: Named> Caller<N> {
         self.number
     }
 
+    // Notes a call before it is made.
+    pub(crate) fn begin<E: Logged>(&mut self, board: &Board, event: &E)
+        requires board { board.now.table ≡ N.board.table }
+        requires call { calls_told (call_events (E.entry event.now ∷ [])) ≡ E.entry event.now ∷ [] }
+        requires room { length self.old.calls + 1 < 2 ^ 64 }
+        ensures { self.new ≡ record self.old { calls = self.old.calls ++ call_events (E.entry event.now ∷ []) } }
+    {
+        self.owner.append(board, event);
+    }
+
     // Notes that a command was answered by the event at a place of a stripe's history, and tells a token the whole history.
     pub(crate) fn note(&mut self, board: &Board, stripe: StripeNo, place: u64, seen: &mut Seen)
         requires board { (board.now.table ≡ N.board.table) × (seen.old.board ≡ N.board.table) }
         requires room { length self.old.calls + 1 < 2 ^ 64 }
+        ensures of { self.old.number < N.config.callers }
         ensures noted { self.new ≡ record self.old { calls = self.old.calls ++ answered_at stripe.0 place ∷ [] } }
         ensures told { seen.new ≡ record seen.old { sight = with_seen seen.old.sight (caller_place N.config self.old.number) (calls_told self.new.calls) } }
         ensures grows { Grows seen.old.sight seen.new.sight }
@@ -64,6 +80,39 @@ impl<N: Named> Caller<N> {
         let event = CallEvent::Answered(Answered { stripe, place });
         self.owner.append(board, &event);
         self.owner.tell(board, seen);
+    }
+
+    // Tells a token the whole history: it has then seen each call that was begun.
+    fn tell(&mut self, board: &Board, seen: &mut Seen)
+        requires board { (board.now.table ≡ N.board.table) × (seen.old.board ≡ N.board.table) }
+        ensures same { self.new ≡ self.old }
+        ensures board { seen.new.board ≡ seen.old.board }
+        ensures grows { Grows seen.old.sight seen.new.sight }
+        ensures begun { (who : Who) (moment : ℕ) → HasCalled self.old who moment → HasBegun N.config seen.new.sight who moment }
+    {
+        self.owner.tell(board, seen);
+    }
+
+    // Tells a stripe under its lock.
+    pub(crate) fn tell_stripe(&mut self, board: &Board, stripe: &mut LockedStripe<N>)
+        requires board { board.now.table ≡ N.board.table }
+        ensures same { self.new ≡ self.old }
+        ensures stripe { stripe.new ≡ record stripe.old { sight = stripe.new.sight } }
+        ensures grows { Grows stripe.old.sight stripe.new.sight }
+        ensures begun { (who : Who) (moment : ℕ) → HasCalled self.old who moment → HasBegun N.config stripe.new.sight who moment }
+    {
+        self.tell(board, &mut stripe.side.seen);
+    }
+
+    // Tells a class under its lock.
+    pub(crate) fn tell_class(&mut self, board: &Board, class: &mut LockedClass<N>)
+        requires board { board.now.table ≡ N.board.table }
+        ensures same { self.new ≡ self.old }
+        ensures class { class.new ≡ record class.old { sight = class.new.sight } }
+        ensures grows { Grows class.old.sight class.new.sight }
+        ensures begun { (who : Who) (moment : ℕ) → HasCalled self.old who moment → HasBegun N.config class.new.sight who moment }
+    {
+        self.tell(board, &mut class.side.seen);
     }
 
     // Compares the history with a token: what the token has seen of it begins it. Nothing changes.

@@ -1,5 +1,5 @@
 //! One command on a store, under the lock of its key's stripe.
-ghost use Rattle.std.specs.Prelude.{◌≡◌, ◌≤◌, ◌<◌, ◌⊎◌, ◌+◌, ◌++◌, ◌-◌, ◌^◌, Some, IfOk, OnOk, OnErr, IsErrOf, length};
+ghost use Rattle.std.specs.Prelude.{◌≡◌, ◌≤◌, ◌<◌, ◌⊎◌, ◌+◌, ◌++◌, ◌-◌, ◌^◌, Some, IfOk, OnOk, OnErr, IsErrOf, length, List, ◌∷◌, []};
 ghost use Rattle.mc_item.specs.Command.{key_of};
 ghost use Rattle.mc_item.specs.Measure.{stripe_of};
 ghost use Rattle.mc_item.specs.declared.fault.Fault.TheVariants.{HistoryFull};
@@ -10,9 +10,12 @@ ghost use Rattle.mc_board.specs.Histories.{Grows};
 ghost use Rattle.mc_lone.specs.Commands.{IsCut, burial};
 ghost use Rattle.mc_lone.specs.Needed.{IsNumberOf};
 ghost use Rattle.mc_store.specs.Calls.{IsCutBy, IsReplied, IsRepliedBy};
-ghost use Rattle.mc_store.specs.Passes.{next_who};
+ghost use Rattle.mc_store.specs.Passes.{next_who, HasAsked, caller_of};
 ghost use Rattle.mc_store.specs.Planned.{GoesBy};
 ghost use Rattle.mc_store.specs.Serving.{HasSeenShort, IsShort};
+ghost use Rattle.mc_store.specs.Locked.{HasBegun};
+ghost use Rattle.mc_store.specs.Callers.{asked_for};
+ghost use Rattle.mc_item.specs.declared.call_event.CallEvent.{CallEvent};
 
 use crate::answering::answer_by_plan;
 use crate::caller::Caller;
@@ -23,7 +26,7 @@ use crate::planning::plan_under;
 use crate::quick::answer_quick;
 use crate::store::Store;
 use crate::walking::bury_under;
-use mc_item::{Command, Fault, Link, Reply, Who, stripe_of};
+use mc_item::{Asking, Command, Fault, Link, Reply, Who, stripe_of};
 use mc_lone::is_storage;
 use mc_stripe::Plan;
 use std::alloc::Global;
@@ -40,10 +43,12 @@ fn bury_locked<N: Named>(
     link: Link,
     moment: u64,
 ) -> Result<(), Fault>
+    requires begun { HasBegun N.config own.old.sight who moment }
     requires dead { dead_link ((cache_now own.old.stripe).items (key_of command.now)) moment ≡ Some link }
     requires class { IsNumberOf (length N.config.sizes) link.class }
     ensures lost { OnOk result (own.new.stripe.history ≡ own.old.stripe.history ++ burial who (key_of command.now) moment (Some link)) }
     ensures err { OnErr result (own.new.stripe.history ≡ own.old.stripe.history) }
+    ensures sees { Grows own.old.sight own.new.sight }
     ensures site { KeepsSite own.old.stripe own.new.stripe }
     ensures full { IsErrOf result HistoryFull → IsShort N.config own.new }
 {
@@ -64,7 +69,9 @@ fn plan_alive<N: Named>(
 ) -> Result<Plan, Fault>
     requires own { stripe_of (key_of command.now) N.config.stripes ≡ record { 0 = own.old.stripe.site.stripe } }
     requires early { moment ≤ 2 ^ 62 }
+    requires begun { HasBegun N.config own.old.sight who moment }
     ensures goes { IfOk result (GoesBy N.config own.new.stripe command.now moment) }
+    ensures sees { Grows own.old.sight own.new.sight }
     ensures buried { OnOk result (own.new.stripe.history ≡ own.old.stripe.history ++ burial who (key_of command.now) moment (dead_link ((cache_now own.old.stripe).items (key_of command.now)) moment)) }
     ensures err { OnErr result (own.new.stripe.history ≡ own.old.stripe.history) }
     ensures site { KeepsSite own.old.stripe own.new.stripe }
@@ -92,8 +99,8 @@ fn command_planned<N: Named>(
     moment: u64,
 ) -> Result<Reply, Fault>
     requires own { stripe_of (key_of command) N.config.stripes ≡ record { 0 = own.old.stripe.site.stripe } }
-    requires who { who.caller ≡ caller.old.number }
-    requires turns { length caller.old.calls + 1 < 2 ^ 64 }
+    requires begun { HasBegun N.config own.old.sight who moment }
+    requires asked { HasAsked caller.old who command moment }
     requires early { moment ≤ 2 ^ 62 }
     ensures replied { IfOk result (IsReplied N.config who command moment own.old.stripe own.new.stripe caller.old.calls caller.new.calls) }
     ensures cut { OnErr result (IsCut N.config who command moment own.old.stripe own.new.stripe) }
@@ -104,6 +111,31 @@ fn command_planned<N: Named>(
 {
     let plan = plan_alive(alloc, store, rt, own, who, &command, moment)?;
     answer_by_plan(alloc, store, rt, own, caller, who, command, moment, plan)
+}
+
+// The same, once the stripe is told that the command was asked for.
+fn command_told<N: Named>(
+    alloc: Global,
+    store: &Store<N>,
+    rt: &impl Wait,
+    own: &mut LockedStripe<N>,
+    caller: &mut Caller<N>,
+    who: Who,
+    command: Command,
+    moment: u64,
+) -> Result<Reply, Fault>
+    requires own { stripe_of (key_of command) N.config.stripes ≡ record { 0 = own.old.stripe.site.stripe } }
+    requires asked { HasAsked caller.old who command moment }
+    requires early { moment ≤ 2 ^ 62 }
+    ensures replied { IfOk result (IsReplied N.config who command moment own.old.stripe own.new.stripe caller.old.calls caller.new.calls) }
+    ensures cut { OnErr result (IsCut N.config who command moment own.old.stripe own.new.stripe) }
+    ensures unnoted { OnErr result (caller.new ≡ caller.old) }
+    ensures number { caller.new.number ≡ caller.old.number }
+    ensures site { KeepsSite own.old.stripe own.new.stripe }
+    ensures full { IsErrOf result HistoryFull → IsShort N.config own.new }
+{
+    caller.tell_stripe(&store.board, own);
+    command_planned(alloc, store, rt, own, caller, who, command, moment)
 }
 
 // One command on the stripe of its key, which is under its lock: the quick way where it touches no chunk, else by its plan.
@@ -118,8 +150,7 @@ fn command_under<N: Named>(
     moment: u64,
 ) -> Result<Reply, Fault>
     requires own { stripe_of (key_of command) N.config.stripes ≡ record { 0 = own.old.stripe.site.stripe } }
-    requires who { who.caller ≡ caller.old.number }
-    requires turns { length caller.old.calls + 1 < 2 ^ 64 }
+    requires asked { HasAsked caller.old who command moment }
     requires early { moment ≤ 2 ^ 62 }
     ensures replied { IfOk result (IsReplied N.config who command moment own.old.stripe own.new.stripe caller.old.calls caller.new.calls) }
     ensures cut { OnErr result (IsCut N.config who command moment own.old.stripe own.new.stripe) }
@@ -129,11 +160,11 @@ fn command_under<N: Named>(
     ensures full { IsErrOf result HistoryFull → IsShort N.config own.new }
 {
     if is_storage(&command) {
-        return command_planned(alloc, store, rt, own, caller, who, command, moment);
+        return command_told(alloc, store, rt, own, caller, who, command, moment);
     }
     match answer_quick(&store.board, own, caller, who, command, moment)? {
         Ok(reply) => Ok(reply),
-        Err(given) => command_planned(alloc, store, rt, own, caller, who, given, moment),
+        Err(given) => command_told(alloc, store, rt, own, caller, who, given, moment),
     }
 }
 
@@ -149,12 +180,11 @@ fn command_seen<N: Named>(
     moment: u64,
 ) -> Result<Reply, Fault>
     requires own { stripe_of (key_of command) N.config.stripes ≡ record { 0 = own.old.stripe.site.stripe } }
-    requires who { who.caller ≡ pass.old.caller }
-    requires turns { length pass.old.calls < pass.old.turn }
+    requires asked { HasAsked (caller_of pass.old) who command moment }
+    requires room { length pass.old.calls < pass.old.turn + pass.old.turn }
     requires early { moment ≤ 2 ^ 62 }
-    ensures replied { IfOk result (IsRepliedBy N.config own.old.stripe.site.stripe pass.old.sight pass.new.sight pass.old.calls pass.new.calls who command moment) }
-    ensures cut { OnErr result (IsCutBy N.config own.old.stripe.site.stripe pass.old.sight pass.new.sight who command moment) }
-    ensures calls { OnErr result (pass.new.calls ≡ pass.old.calls) }
+    ensures replied { (calls : List CallEvent) → pass.old.calls ≡ calls ++ asked_for command moment ∷ [] → IfOk result (IsRepliedBy N.config own.old.stripe.site.stripe pass.old.sight pass.new.sight calls pass.new.calls who command moment) }
+    ensures cut { (calls : List CallEvent) → pass.old.calls ≡ calls ++ asked_for command moment ∷ [] → OnErr result (IsCutBy N.config own.old.stripe.site.stripe pass.old.sight pass.new.sight calls pass.new.calls who command moment) }
     ensures grows { Grows pass.old.sight pass.new.sight }
     ensures same { pass.new ≡ record pass.old { calls = pass.new.calls; sight = pass.new.sight } }
     ensures full { IsErrOf result HistoryFull → HasSeenShort N.config pass.new.sight }
@@ -171,9 +201,9 @@ fn command_seen<N: Named>(
 impl<N: Named> Store<N> {
     /// Makes one command under the lock of its key's stripe, for which it waits, and of at most two classes, the lower
     /// first. The reply is what a sequential memcached gives at one point of the stripe's history, after all that the pass
-    /// had seen, and the pass's caller notes where it stands. `moment` is in whole seconds, at most 2^62. After a fault
-    /// nothing of the command stands but what leads up to it, and nothing is noted: `HistoryFull` only where a history has
-    /// less than two places left, or the pass has had 2^64 - 1 turns; `NoMemory` where memory is wanting.
+    /// had seen, and its caller's history has that it was asked for, and where the answer stands. `moment` is in whole seconds, at most 2^62. After a fault
+    /// nothing of the command stands but what leads up to it, and that it was asked for: `HistoryFull` only where a history
+    /// has less than two places left, or the pass has had 2^63 - 1 turns; `NoMemory` where memory is wanting.
     pub fn command(
         &self,
         alloc: Global,
@@ -184,14 +214,17 @@ impl<N: Named> Store<N> {
     ) -> Result<Reply, Fault>
         requires early { moment ≤ 2 ^ 62 }
         ensures replied { IfOk result (IsRepliedBy N.config (stripe_of (key_of command) N.config.stripes).0 pass.old.sight pass.new.sight pass.old.calls pass.new.calls (next_who pass.old) command moment) }
-        ensures cut { OnErr result ((pass.new ≡ pass.old) ⊎ IsCutBy N.config (stripe_of (key_of command) N.config.stripes).0 pass.old.sight pass.new.sight (next_who pass.old) command moment) }
-        ensures calls { OnErr result (pass.new.calls ≡ pass.old.calls) }
+        ensures cut { OnErr result ((pass.new ≡ pass.old) ⊎ IsCutBy N.config (stripe_of (key_of command) N.config.stripes).0 pass.old.sight pass.new.sight pass.old.calls pass.new.calls (next_who pass.old) command moment) }
         ensures grows { Grows pass.old.sight pass.new.sight }
         ensures caller { pass.new.caller ≡ pass.old.caller }
         ensures turn { OnOk result (pass.new.turn ≡ pass.old.turn + 1) }
-        ensures full { IsErrOf result HistoryFull → HasSeenShort N.config pass.new.sight ⊎ (pass.old.turn ≡ 2 ^ 64 - 1) }
+        ensures full { IsErrOf result HistoryFull → HasSeenShort N.config pass.new.sight ⊎ (2 ^ 63 - 1 ≤ pass.old.turn) }
     {
-        let who = pass.take_turn()?;
+        let asking = Asking {
+            command: &command,
+            moment,
+        };
+        let who = pass.take_turn(&self.board, &asking)?;
         let number = stripe_of(command.key(), self.config.stripes);
         let mut guard = self.lock_stripe(rt, number);
         let own = &mut *guard;

@@ -1,5 +1,5 @@
 //! The crawl of a class that threads share: a snapshot of its links under its lock, and then each link under the lock again.
-ghost use Rattle.std.specs.Prelude.{◌≡◌, ◌⊎◌, ◌+◌, ◌-◌, ◌^◌, length, IfErr, IfOk, OnOk, IsErrOf};
+ghost use Rattle.std.specs.Prelude.{◌≡◌, ◌⊎◌, ◌+◌, ◌-◌, ◌^◌, length, IfErr, IfOk, OnOk, IsErrOf, ◌++◌, ◌∷◌, ◌≤◌, [], OnErr};
 ghost use Rattle.mc_item.specs.declared.fault.Fault.TheVariants.{HistoryFull, NoMemory};
 ghost use Rattle.mc_evidence.specs.Setting.{IsClass};
 ghost use Rattle.mc_board.specs.Histories.{Grows};
@@ -7,9 +7,10 @@ ghost use Rattle.mc_pull.specs.Growth as classes;
 ghost use Rattle.mc_crawl.specs.Crawl.{Reclaims};
 ghost use Rattle.mc_crawl.specs.CrawlCount.{IsBalanced, MayCount};
 ghost use Rattle.mc_store.specs.Crawls.{IsCrawledBy, IsSnapshot, ShowsReclaims};
-ghost use Rattle.mc_store.specs.Locked.{setting_of};
-ghost use Rattle.mc_store.specs.Passes.{next_who};
+ghost use Rattle.mc_store.specs.Locked.{setting_of, HasBegun};
+ghost use Rattle.mc_store.specs.Passes.{next_who, caller_of, HasCalled};
 ghost use Rattle.mc_store.specs.Serving.{HasSeenShort, MayFailSeen};
+ghost use Rattle.mc_store.specs.Callers.{crawling_of};
 
 use crate::gates::Trying;
 use crate::locked::LockedClass;
@@ -18,7 +19,7 @@ use crate::owned_class::catch_up_class;
 use crate::pass::Pass;
 use crate::store::Store;
 use mc_crawl::{crawl_one, snapshot};
-use mc_item::{ClassNo, Fault, Histogram, Link, Who};
+use mc_item::{CallEvent, ClassNo, Fault, Histogram, Link, Who, Worked};
 use std::alloc::Global;
 use std::sync::Wait;
 
@@ -32,6 +33,7 @@ fn crawl_under<N: Named>(
     moment: u64,
     histogram: &mut Histogram,
 ) -> Result<(), Fault>
+    requires begun { HasBegun N.config class.old.sight who moment }
     requires counts { MayCount histogram.old }
     ensures seen { OnOk result (histogram.new.seen ≡ histogram.old.seen + 1) }
     ensures balanced { IsBalanced histogram.old → IsBalanced histogram.new }
@@ -46,6 +48,8 @@ fn crawl_under<N: Named>(
         owner: &mut side.owner,
         seen: &mut side.seen,
         answers: &mut answers,
+        who,
+        moment,
     };
     let done = crawl_one(
         alloc,
@@ -72,6 +76,7 @@ impl<N: Named> Store<N> {
     ) -> Result<Vec<Link>, Fault>
         requires class { IsClass (setting_of N.config) class }
         ensures links { IfOk result (λ links. IsSnapshot N.config class pass.old.sight pass.new.sight (length links.items)) }
+        ensures few { IfOk result (λ links. length links.items ≤ 2 ^ 32) }
         ensures grows { Grows pass.old.sight pass.new.sight }
         ensures same { pass.new ≡ record pass.old { sight = pass.new.sight } }
         ensures memory { IfErr result (λ fault. fault ≡ NoMemory) }
@@ -97,6 +102,7 @@ impl<N: Named> Store<N> {
         histogram: &mut Histogram,
     ) -> Result<(), Fault>
         requires class { IsClass (setting_of N.config) class }
+        requires called { HasCalled (caller_of pass.old) who moment }
         requires counts { MayCount histogram.old }
         ensures seen { OnOk result (histogram.new.seen ≡ histogram.old.seen + 1) }
         ensures balanced { IsBalanced histogram.old → IsBalanced histogram.new }
@@ -108,6 +114,7 @@ impl<N: Named> Store<N> {
         let mut guard = self.lock_class(rt, class);
         let own = &mut *guard;
         own.side.compare(&self.board, &mut pass.seen);
+        pass.caller.tell_class(&self.board, own);
         let done = crawl_under(alloc, self, own, link, who, moment, histogram);
         own.side.share(&self.board, &mut pass.seen);
         done
@@ -115,9 +122,9 @@ impl<N: Named> Store<N> {
 
     /// Crawls a class: the links of its entries are taken down under its lock, for which it waits, and then each is looked
     /// at under the lock again; stripes are only tried. An item that is dead at the moment goes with its entry, and the
-    /// histogram counts each link as one kind. `moment` is in whole seconds. After a fault what happened so far stands:
-    /// `HistoryFull` only where a history has less than two places left, or the pass has had 2^64 - 1 turns; `NoMemory`
-    /// where memory is wanting.
+    /// histogram counts each link as one kind, at most 2^32 of them. `moment` is in whole seconds. After a fault what
+    /// happened so far stands: `HistoryFull` only where a history has less than two places left, or the pass has had
+    /// 2^63 - 1 turns; `NoMemory` where memory is wanting.
     pub fn crawl(
         &self,
         alloc: Global,
@@ -128,13 +135,16 @@ impl<N: Named> Store<N> {
     ) -> Result<Histogram, Fault>
         requires class { IsClass (setting_of N.config) class }
         ensures crawled { IfOk result (IsCrawledBy N.config class pass.old.sight pass.new.sight (next_who pass.old) moment) }
+        ensures few { IfOk result (λ histogram. histogram.seen ≤ 2 ^ 32) }
         ensures grows { Grows pass.old.sight pass.new.sight }
         ensures caller { pass.new.caller ≡ pass.old.caller }
-        ensures calls { pass.new.calls ≡ pass.old.calls }
+        ensures calls { OnOk result (pass.new.calls ≡ pass.old.calls ++ crawling_of class moment ∷ []) }
+        ensures cut { OnErr result ((pass.new ≡ pass.old) ⊎ (pass.new.calls ≡ pass.old.calls ++ crawling_of class moment ∷ [])) }
         ensures turn { OnOk result (pass.new.turn ≡ pass.old.turn + 1) }
-        ensures full { IsErrOf result HistoryFull → HasSeenShort N.config pass.new.sight ⊎ (pass.old.turn ≡ 2 ^ 64 - 1) }
+        ensures full { IsErrOf result HistoryFull → HasSeenShort N.config pass.new.sight ⊎ (2 ^ 63 - 1 ≤ pass.old.turn) }
     {
-        let who = pass.take_turn()?;
+        let event = CallEvent::Crawled(Worked { class, moment });
+        let who = pass.take_turn(&self.board, &event)?;
         let links = self.snapshot_of(alloc, rt, pass, class)?;
         let mut histogram = Histogram::new();
         for i in 0..links.len() {

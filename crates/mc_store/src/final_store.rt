@@ -65,8 +65,8 @@ impl Final {
     }
 
     /// Compares a pass of the store with it: what the pass has seen of each lock is a beginning of that one's final
-    /// history, and what it has noted is at most its length. Of the answered commands in the histories those that name the
-    /// pass's caller are just those that the pass was answered. Nothing changes. It takes no memory and waits for nobody.
+    /// history, and what it has noted is at most its length. Each event in the stripes' histories that names the pass's caller
+    /// is of a call that the pass made. Nothing changes. It takes no memory and waits for nobody.
     pub fn compare<N: Named>(&mut self, pass: &mut Pass<N>)
         requires board { self.old.board ≡ N.board.table }
         ensures same { (self.new ≡ self.old) × (pass.new ≡ pass.old) }

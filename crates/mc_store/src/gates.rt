@@ -1,5 +1,5 @@
 //! Gates of walks under the locks of a store: other stripes are only tried.
-ghost use Rattle.std.specs.Prelude.{◌≡◌, ◌++◌, List, IfErr, IfOk};
+ghost use Rattle.std.specs.Prelude.{◌≡◌, ◌++◌, List, IfErr, IfOk, false};
 ghost use Rattle.mc_pull.specs.Growth.{Grows};
 ghost use Rattle.mc_pull.specs.Lone.{StripeGrows};
 ghost use Rattle.mc_pull.specs.Question.{IsClassOf};
@@ -7,6 +7,7 @@ ghost use Rattle.mc_pull.specs.Rounds.{IsRoom, rounds};
 ghost use Rattle.mc_pull.specs.Walker.{walker_of};
 ghost use Rattle.mc_pull.specs.declared.looking.Answer.{Answer};
 ghost use Rattle.mc_store.specs.Serving.{IsServed, MayFailSeen};
+ghost use Rattle.mc_store.specs.Locked.{HasBegun};
 
 use crate::judging::judge;
 use crate::locked::LockedStripe;
@@ -18,23 +19,36 @@ use mc_pull::{Answer, Gate, Look, make_room};
 use mc_segment::ClassState;
 use std::alloc::Global;
 
-/// A gate that tries every stripe of a store. It holds the tokens of the class that is walked, and a list for its
-/// answers. A stripe whose lock isn't had at once is passed.
+/// A gate that tries every stripe of a store, for one call: who made it, and its moment. It holds the tokens of the class
+/// that is walked, which have seen that the call was begun, and a list for its answers. A stripe whose lock isn't had at
+/// once is passed, and so is all that another call asks for.
 #[derive(Drop)]
 pub(crate) struct Trying<'a, N: Named> {
     pub(crate) store: &'a Store<N>,
     pub(crate) owner: &'a mut Owner,
     pub(crate) seen: &'a mut Seen,
     pub(crate) answers: &'a mut Vec<Answer>,
+    pub(crate) who: Who,
+    pub(crate) moment: u64,
+}
+
+impl<'a, N: Named> Trying<'a, N> {
+    // Whether a look is of another call than the gate's.
+    fn is_foreign(&self, look: &Look<'_>) -> bool
+        ensures { result ≡ false → (look.now.ask.who ≡ self.now.who) × (look.now.ask.moment ≡ self.now.moment) }
+    {
+        look.ask.who != self.who || look.ask.moment != self.moment
+    }
 }
 
 impl<'a, N: Named> Gate for Trying<'a, N> {
     ghost use Rattle.std.specs.Prelude.{◌≡◌, ◌∷◌, []};
+    ghost use Rattle.mc_store.specs.Locked.{HasBegun};
     ghost use Rattle.mc_store.specs.Serving.{IsServed, MayFailSeen};
 
     ghost answers = { λ g. g.answers.now.items };
 
-    ghost serves = { λ g config c. (config ≡ N.config) × IsServed N.board.table N.config g.owner.now g.seen.now c };
+    ghost serves = { λ g config c. (config ≡ N.config) × IsServed N.board.table N.config g.owner.now g.seen.now c × HasBegun N.config g.seen.now.sight g.who g.moment };
 
     ghost references = { λ g. g.owner.ghost_name ∷ g.seen.ghost_name ∷ [] };
 
@@ -44,35 +58,30 @@ impl<'a, N: Named> Gate for Trying<'a, N> {
 
     fn visit(&mut self, stripe: StripeNo, look: &mut Look<'_>) -> Result<bool, Fault> {
         self.answers.reserve(1)?;
+        let passed = Answer {
+            stripe,
+            judged: None,
+        };
+        if self.is_foreign(look) {
+            self.answers.push_reserved(passed);
+            return Ok(false);
+        }
         let store = self.store;
         let Some(lock) = store.stripes.get(stripe.0 as usize) else {
-            self.answers.push_reserved(Answer {
-                stripe,
-                judged: None,
-            });
+            self.answers.push_reserved(passed);
             return Ok(false);
         };
         let Some(mut guard) = lock.try_lock() else {
-            self.answers.push_reserved(Answer {
-                stripe,
-                judged: None,
-            });
+            self.answers.push_reserved(passed);
             return Ok(false);
         };
         if guard.side().number() != stripe {
-            self.answers.push_reserved(Answer {
-                stripe,
-                judged: None,
-            });
+            self.answers.push_reserved(passed);
             return Ok(false);
         }
-        judge(
-            &store.board,
-            &mut guard,
-            &mut *self.owner,
-            &mut *self.seen,
-            look,
-        )?;
+        let own = &mut *guard;
+        own.learn(&store.board, &mut *self.seen);
+        judge(&store.board, own, &mut *self.owner, &mut *self.seen, look)?;
         self.answers.push_reserved(Answer {
             stripe,
             judged: look.judged,
@@ -91,11 +100,12 @@ pub(crate) struct Holding<'a, 'b, N: Named> {
 impl<'a, 'b, N: Named> Gate for Holding<'a, 'b, N> {
     ghost use Rattle.std.specs.Prelude.{◌≡◌, ◌∷◌, []};
     ghost use Rattle.mc_pull.specs.Lone.{StripeGrows};
+    ghost use Rattle.mc_store.specs.Locked.{HasBegun};
     ghost use Rattle.mc_store.specs.Serving.{IsServed, MayFailSeen};
 
     ghost answers = { λ g. g.others.answers.now.items };
 
-    ghost serves = { λ g config c. (config ≡ N.config) × IsServed N.board.table N.config g.others.owner.now g.others.seen.now c };
+    ghost serves = { λ g config c. (config ≡ N.config) × IsServed N.board.table N.config g.others.owner.now g.others.seen.now c × HasBegun N.config g.others.seen.now.sight g.others.who g.others.moment };
 
     ghost references = { λ g. g.own.ghost_name ∷ g.others.owner.ghost_name ∷ g.others.seen.ghost_name ∷ [] };
 
@@ -105,12 +115,13 @@ impl<'a, 'b, N: Named> Gate for Holding<'a, 'b, N> {
 
     fn visit(&mut self, stripe: StripeNo, look: &mut Look<'_>) -> Result<bool, Fault> {
         let own = &mut *self.own;
-        if own.side().number() != stripe {
-            return self.others.visit(stripe, look);
-        }
         let others = &mut self.others;
+        if own.side().number() != stripe || others.is_foreign(look) {
+            return others.visit(stripe, look);
+        }
         others.answers.reserve(1)?;
         let store = others.store;
+        own.learn(&store.board, &mut *others.seen);
         judge(
             &store.board,
             own,
@@ -140,6 +151,7 @@ impl<'a, 'b, N: Named> Holding<'a, 'b, N> {
         requires config { IsClassOf config.now class.old }
         requires names { config.now ≡ N.config }
         requires served { IsServed N.board.table N.config self.old.others.owner.now self.old.others.seen.now class.old }
+        requires begun { HasBegun N.config self.old.others.seen.now.sight self.old.others.who self.old.others.moment }
         ensures room { IfOk result (λ found. (xs : List Answer) × IsRoom (rounds class.old who moment config.now) class.old.history xs class.new.history found) }
         ensures grows { Grows class.old class.new }
         ensures fault { IfErr result (MayFailSeen N.config self.new.others.seen.now.sight class.new) }

@@ -7,6 +7,8 @@ ghost use Rattle.mc_pull.specs.Question.{question_of, MayJudge};
 ghost use Rattle.mc_pull.specs.Settled.{class_with};
 ghost use Rattle.mc_pull.specs.Walker.{walker_of};
 ghost use Rattle.mc_store.specs.Serving.{IsServed, MayFailSeen};
+ghost use Rattle.mc_store.specs.Locked.{HasBegun};
+ghost use Rattle.mc_board.specs.Histories.{Grows};
 
 use crate::locked::LockedStripe;
 use crate::named::Named;
@@ -29,6 +31,7 @@ pub(crate) fn judge<N: Named>(
     requires config { look.old.ask.config.now ≡ N.config }
     requires served { IsServed N.board.table N.config owner.old seen.old look.old.class.now }
     requires may { MayJudge look.old.class.now (question_of look.old.ask) }
+    requires begun { HasBegun N.config stripe.old.sight look.old.ask.who look.old.ask.moment }
     requires once { look.old.judged ≡ None }
     ensures same_reference { look.new.class.ghost_name ≡ look.old.class.ghost_name }
     ensures had { OnOk result (is_some look.new.judged ≡ true) }
@@ -37,6 +40,7 @@ pub(crate) fn judge<N: Named>(
     ensures err { OnErr result (look.new.class.now ≡ with_room look.old.class.now look.new.class.now.room) }
     ensures served { IsServed N.board.table N.config owner.new seen.new look.new.class.now }
     ensures stripe { StripeGrows (walker_of look.old.class.now look.old.ask.who look.old.ask.moment) stripe.old.stripe stripe.new.stripe }
+    ensures sees { Grows seen.old.sight seen.new.sight }
     ensures fault { IfErr result (MayFailSeen N.config seen.new.sight look.new.class.now) }
 {
     catch_up_class(look.class, owner, board);

@@ -1,5 +1,5 @@
 //! Juggling of a class that threads share.
-ghost use Rattle.std.specs.Prelude.{◌≡◌, ◌≤◌, ◌⊎◌, ◌+◌, ◌-◌, ◌^◌, IfOk, OnOk, IsErrOf};
+ghost use Rattle.std.specs.Prelude.{◌≡◌, ◌≤◌, ◌⊎◌, ◌+◌, ◌-◌, ◌^◌, IfOk, OnOk, IsErrOf, ◌++◌, ◌∷◌, [], OnErr};
 ghost use Rattle.mc_item.specs.declared.fault.Fault.TheVariants.{HistoryFull};
 ghost use Rattle.mc_evidence.specs.Setting.{IsClass};
 ghost use Rattle.mc_board.specs.Histories.{Grows};
@@ -7,12 +7,13 @@ ghost use Rattle.mc_store.specs.Calls.{IsJuggledBy};
 ghost use Rattle.mc_store.specs.Locked.{setting_of};
 ghost use Rattle.mc_store.specs.Passes.{next_who};
 ghost use Rattle.mc_store.specs.Serving.{HasSeenShort};
+ghost use Rattle.mc_store.specs.Callers.{juggling_of};
 
 use crate::named::Named;
 use crate::pass::Pass;
 use crate::store::Store;
 use crate::walking::juggle_under;
-use mc_item::{ClassNo, Fault, Moves};
+use mc_item::{CallEvent, ClassNo, Fault, Moves, Worked};
 use std::alloc::Global;
 use std::sync::Wait;
 
@@ -20,7 +21,7 @@ impl<N: Named> Store<N> {
     /// Juggles a class under its lock, for which it waits; the stripes of the entries that it looks at are only tried,
     /// and one that isn't had at once is passed. It answers how many entries were reclaimed and moved, at most 10000 of
     /// both. `moment` is in whole seconds. After a fault what happened so far stands: `HistoryFull` only where a history
-    /// has less than two places left, or the pass has had 2^64 - 1 turns; `NoMemory` where memory is wanting.
+    /// has less than two places left, or the pass has had 2^63 - 1 turns; `NoMemory` where memory is wanting.
     pub fn juggle(
         &self,
         alloc: Global,
@@ -34,14 +35,17 @@ impl<N: Named> Store<N> {
         ensures few { IfOk result (λ moves. moves.reclaimed + moves.moved ≤ 10000) }
         ensures grows { Grows pass.old.sight pass.new.sight }
         ensures caller { pass.new.caller ≡ pass.old.caller }
-        ensures calls { pass.new.calls ≡ pass.old.calls }
+        ensures calls { OnOk result (pass.new.calls ≡ pass.old.calls ++ juggling_of class moment ∷ []) }
+        ensures cut { OnErr result ((pass.new ≡ pass.old) ⊎ (pass.new.calls ≡ pass.old.calls ++ juggling_of class moment ∷ [])) }
         ensures turn { OnOk result (pass.new.turn ≡ pass.old.turn + 1) }
-        ensures full { IsErrOf result HistoryFull → HasSeenShort N.config pass.new.sight ⊎ (pass.old.turn ≡ 2 ^ 64 - 1) }
+        ensures full { IsErrOf result HistoryFull → HasSeenShort N.config pass.new.sight ⊎ (2 ^ 63 - 1 ≤ pass.old.turn) }
     {
-        let who = pass.take_turn()?;
+        let event = CallEvent::Juggled(Worked { class, moment });
+        let who = pass.take_turn(&self.board, &event)?;
         let mut guard = self.lock_class(rt, class);
         let own = &mut *guard;
         own.side.compare(&self.board, &mut pass.seen);
+        pass.caller.tell_class(&self.board, own);
         let moves = juggle_under(alloc, self, own, who, moment);
         own.side.share(&self.board, &mut pass.seen);
         moves

@@ -1,5 +1,5 @@
 //! The headline over what a closed store leaves: laws, which are contracts alone.
-ghost use Rattle.std.specs.Prelude.{◌≡◌, ◌<◌, ◌++◌, ℕ, List, IsSomeAnd, None, Some};
+ghost use Rattle.std.specs.Prelude.{◌≡◌, ◌<◌, ◌++◌, ℕ, List, IsSomeAnd, None, Some, slice_get};
 ghost use Rattle.mc_item.specs.Cache.{visible_items};
 ghost use Rattle.mc_item.specs.Stripe.{cache_of};
 ghost use Rattle.mc_item.specs.declared.call_event.CallEvent.{CallEvent};
@@ -9,6 +9,7 @@ ghost use Rattle.mc_item.specs.declared.item.Item.{Item};
 ghost use Rattle.mc_item.specs.declared.item.Who.{Who};
 ghost use Rattle.mc_item.specs.declared.reply.Reply.{Reply};
 ghost use Rattle.mc_item.specs.declared.stripe_event.StripeEvent.{StripeEvent};
+ghost use Rattle.mc_item.specs.declared.stripe_event.StripeEvent.TheVariants as events;
 ghost use Rattle.mc_rule.specs.Pairs.{item_after};
 ghost use Rattle.mc_evidence.specs.Losses.{AreNoCommands, IsSameItem, WasLost};
 ghost use Rattle.mc_evidence.specs.Setting.{site_in};
@@ -16,9 +17,13 @@ ghost use Rattle.mc_evidence.specs.Sound.{IsSoundStore};
 ghost use Rattle.mc_board.specs.Histories.{Grows};
 ghost use Rattle.mc_board.specs.declared.rule.Sight.{Sight};
 ghost use Rattle.mc_store.specs.Calls.{IsRepliedBy};
-ghost use Rattle.mc_store.specs.Finals.{AreStripes, FinalView, IsBehindStripes, class_histories, stripe_histories};
+ghost use Rattle.mc_store.specs.Finals.{AreStripes, FinalView, IsBehindStripes, class_histories, stripe_histories, AreItsOwn};
 ghost use Rattle.mc_store.specs.Headline.{IsBorneOut};
 ghost use Rattle.mc_store.specs.Locked.{setting_of};
+ghost use Rattle.mc_item.specs.declared.stripe_event.Did.{Did};
+ghost use Rattle.mc_store.specs.Callers.{IsCalled, who_of};
+ghost use Rattle.mc_store.specs.Passes.{PassView};
+ghost use Rattle.mc_store.specs.Sides.{StripeSide};
 
 /// Whatever a pass's command was answered, a closed store bears it out: where what the pass has seen since begins the final
 /// histories, the reply stands in one event of its stripe's legal history, behind all that the pass had seen before the call.
@@ -42,4 +47,24 @@ pub fn between_commands_a_closed_store_only_lost()
         → stripe_histories final.stripes number ≡ before ++ (between ++ later) → AreNoCommands between
         → item_after (site_in (setting_of config) number) before key ≡ Some item → item_after (site_in (setting_of config) number) (before ++ between) key ≡ None
         → WasLost (setting_of config).chunks (class_histories final.classes) between key item }
+{}
+
+/// Each event on a stripe of a closed store was called: it names one of the store's callers, and where each caller's pass was
+/// compared with what is left, that one's own history has the call, with its turn and, where the event has a moment, with that
+/// moment handed in. So nothing is made in another's name, and no moment is invented.
+pub fn each_event_of_a_closed_store_was_called()
+    ensures { (config : Config) (final : FinalView) (passes : ℕ → PassView) (number place : ℕ) (s : StripeSide) (event : StripeEvent)
+        → AreStripes final.board config final.stripes
+        → ((caller : ℕ) → caller < config.callers → ((passes caller).caller ≡ caller) × AreItsOwn (passes caller) final.stripes)
+        → slice_get final.stripes number ≡ Some s → slice_get s.stripe.history place ≡ Some event
+        → ((who_of event).caller < config.callers) × IsCalled (passes (who_of event).caller).calls number place event }
+{}
+
+/// A turn is answered once: two answered commands of a closed store that name one caller and one turn are the same event.
+pub fn a_turn_of_a_closed_store_is_answered_once()
+    ensures { (final : FinalView) (pass : PassView) (number place number_too place_too : ℕ) (s s_too : StripeSide) (did did_too : Did)
+        → AreItsOwn pass final.stripes → did.who.caller ≡ pass.caller → did_too.who ≡ did.who
+        → slice_get final.stripes number ≡ Some s → slice_get s.stripe.history place ≡ Some (events.Did did)
+        → slice_get final.stripes number_too ≡ Some s_too → slice_get s_too.stripe.history place_too ≡ Some (events.Did did_too)
+        → (number ≡ number_too) × (place ≡ place_too) }
 {}

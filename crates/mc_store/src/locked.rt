@@ -1,11 +1,13 @@
 //! What lies under the locks. Each is of the board and the configuration that N names, and its history is sound by what it
 //! has seen of the others.
 ghost use Rattle.std.specs.Prelude.{◌≡◌};
+ghost use Rattle.mc_board.specs.Histories.{Grows};
 ghost use Rattle.mc_store.specs.Locked.{IsLockedClass, IsLockedStripe};
 
 use crate::named::Named;
 use crate::owned_class::OwnedClass;
 use crate::owned_stripe::OwnedStripe;
+use mc_board::{Board, Seen};
 use std::marker::{Model, PhantomData};
 
 /// A stripe under its lock.
@@ -51,6 +53,18 @@ impl<N: Named> LockedStripe<N> {
         ensures { IsLockedStripe N.board.table N.config self.now }
     {
         let _side = &self.side;
+    }
+
+    // The stripe learns all that a token has seen.
+    pub(crate) fn learn(&mut self, board: &Board, seen: &mut Seen)
+        requires board { (board.now.table ≡ N.board.table) × (seen.old.board ≡ N.board.table) }
+        ensures same { seen.new ≡ seen.old }
+        ensures stripe { self.new ≡ record self.old { sight = self.new.sight } }
+        ensures grows { Grows self.old.sight self.new.sight }
+        ensures learnt { Grows seen.old.sight self.new.sight }
+    {
+        let side = &mut self.side;
+        side.seen.learn(board, seen);
     }
 
     // Out of its lock.
@@ -99,6 +113,19 @@ impl<N: Named> LockedClass<N> {
         ensures kept { IsLockedClass N.board.table N.config self.now }
     {
         &self.side
+    }
+
+    // The class learns all that a stripe has seen.
+    pub(crate) fn learn_from(&mut self, board: &Board, stripe: &mut LockedStripe<N>)
+        requires board { board.now.table ≡ N.board.table }
+        ensures same { stripe.new ≡ stripe.old }
+        ensures class { self.new ≡ record self.old { sight = self.new.sight } }
+        ensures grows { Grows self.old.sight self.new.sight }
+        ensures learnt { Grows stripe.old.sight self.new.sight }
+    {
+        let side = &mut self.side;
+        let other = &mut stripe.side;
+        side.seen.learn(board, &mut other.seen);
     }
 
     // Out of its lock.

@@ -12,11 +12,12 @@ ghost use Rattle.mc_pull.specs.Agreeing.{AgreeNow};
 ghost use Rattle.mc_pull.specs.Growth as classes;
 ghost use Rattle.mc_pull.specs.Perform as words;
 ghost use Rattle.mc_pull.specs.Perform.{AreLent, GivesRoom, MayAnswer, call};
-ghost use Rattle.mc_store.specs.Callers.{IsCall, answered_at, call_events};
+ghost use Rattle.mc_store.specs.Callers.{IsCall, answered_at, call_events, calls_told};
 ghost use Rattle.mc_store.specs.Locked.{caller_place};
 ghost use Rattle.mc_store.specs.Performing.{IsMade, IsRefusedIn};
 ghost use Rattle.mc_store.specs.Serving.{IsShort};
 ghost use Rattle.mc_store.specs.Sides.{class_told, stripe_told};
+ghost use Rattle.mc_store.specs.Passes.{HasAsked};
 
 use crate::caller::Caller;
 use crate::locked::{LockedClass, LockedStripe};
@@ -78,7 +79,8 @@ fn put_answer<N: Named>(
     ensures owner { owner.new ≡ record owner.old { history = stripe_told state.now.history } }
     ensures board { seen.new.board ≡ seen.old.board }
     ensures grows { Grows seen.old.sight seen.new.sight }
-    ensures told { OnOk done.now (IsCall (answered_at state.now.site.stripe place) (call_events (list_at seen.new.sight.seen (caller_place N.config caller.old.number)))) }
+    ensures of { OnOk done.now (caller.old.number < N.config.callers) }
+    ensures told { OnOk done.now (list_at seen.new.sight.seen (caller_place N.config caller.old.number) ≡ calls_told caller.new.calls) }
     ensures noted { OnOk done.now (caller.new ≡ record caller.old { calls = caller.old.calls ++ answered_at state.now.site.stripe place ∷ [] }) }
     ensures unnoted { OnErr done.now (caller.new ≡ caller.old) }
 {
@@ -102,8 +104,7 @@ pub(crate) fn perform_alone<N: Named>(
     config: &Config,
 ) -> Result<Reply, Fault>
     requires names { (board.now ≡ N.board) × (config.now ≡ N.config) }
-    requires who { who.caller ≡ caller.old.number }
-    requires turns { length caller.old.calls + 1 < 2 ^ 64 }
+    requires asked { HasAsked caller.old who command moment }
     requires answer { MayAnswer own.old.stripe (call who command moment room) }
     requires fate { fate ≡ words.fate_for own.old.stripe (call who command moment room) }
     requires held { IsHeld N.config.sizes fate }
@@ -158,8 +159,7 @@ pub(crate) fn perform_on_one<N: Named>(
     config: &Config,
 ) -> Result<Reply, Fault>
     requires names { (board.now ≡ N.board) × (config.now ≡ N.config) }
-    requires who { who.caller ≡ caller.old.number }
-    requires turns { length caller.old.calls + 1 < 2 ^ 64 }
+    requires asked { HasAsked caller.old who command moment }
     requires answer { MayAnswer own.old.stripe (call who command moment room) }
     requires fate { fate ≡ words.fate_for own.old.stripe (call who command moment room) }
     requires held { IsHeld N.config.sizes fate }
@@ -222,8 +222,7 @@ pub(crate) fn perform_on_two<N: Named>(
     config: &Config,
 ) -> Result<Reply, Fault>
     requires names { (board.now ≡ N.board) × (config.now ≡ N.config) }
-    requires who { who.caller ≡ caller.old.number }
-    requires turns { length caller.old.calls + 1 < 2 ^ 64 }
+    requires asked { HasAsked caller.old who command moment }
     requires answer { MayAnswer own.old.stripe (call who command moment room) }
     requires fate { fate ≡ words.fate_for own.old.stripe (call who command moment room) }
     requires held { IsHeld N.config.sizes fate }

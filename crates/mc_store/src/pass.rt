@@ -1,13 +1,17 @@
 //! What a caller has seen.
-ghost use Rattle.std.specs.Prelude.{◌≡◌, ◌<◌, ◌≤◌, ◌+◌, ◌-◌, ◌^◌, IfOk, IfErr, OnOk, OnErr, [], length};
+ghost use Rattle.std.specs.Prelude.{◌≡◌, ◌<◌, ◌≤◌, ◌+◌, ◌-◌, ◌^◌, ◌++◌, ◌∷◌, IfOk, IfErr, OnOk, OnErr, [], length};
 ghost use Rattle.mc_item.specs.declared.fault.Fault.TheVariants.{HistoryFull};
+ghost use Rattle.mc_store.specs.Callers.{call_events, calls_told, turns_of};
 ghost use Rattle.mc_store.specs.Passes.{next_who};
 
 use crate::caller::Caller;
 use crate::named::Named;
-use mc_board::Seen;
-use mc_item::{Fault, Who};
+use mc_board::{Board, Seen};
+use mc_item::{Fault, Logged, Who};
 use std::marker::Model;
+
+// How many turns a pass has: a caller's history has at most two events for each.
+const MOST_TURNS: u64 = 0x7fff_ffff_ffff_ffff;
 
 /// A caller's pass: its number and its history, how many turns it has had, and what it has seen and noted of each lock.
 #[derive(Drop)]
@@ -18,14 +22,18 @@ pub struct Pass<N: Named> {
 }
 
 impl<N: Named> Model for Pass<N> {
-    ghost use Rattle.std.specs.Prelude.{◌≡◌, ◌≤◌, length};
+    ghost use Rattle.std.specs.Prelude.{◌≡◌, ◌≤◌, ◌+◌, length};
+    ghost use Rattle.mc_store.specs.Callers.{turns_of};
     ghost use Rattle.mc_store.specs.Passes.{PassView};
 
     ghost Value = { PassView };
 
     ghost view = { λ p. record { caller = p.caller.number; turn = p.turn; calls = p.caller.calls; sight = p.seen.sight } };
 
-    ghost invariant = { λ p. (p.seen.board ≡ N.board.table) × (length p.caller.calls ≤ p.turn) };
+    ghost invariant = { λ p.
+        (p.seen.board ≡ N.board.table)
+        × (length (turns_of p.caller.calls) ≡ p.turn)
+        × (length p.caller.calls ≤ p.turn + p.turn) };
 }
 
 impl<N: Named> Pass<N> {
@@ -52,21 +60,26 @@ impl<N: Named> Pass<N> {
         }
     }
 
-    // Takes the next turn: who the call is made by. `HistoryFull` where the pass has had 2^64 - 1 turns; nothing changes then.
-    pub(crate) fn take_turn(&mut self) -> Result<Who, Fault>
+    // Takes the next turn for a call, which the caller's history has from then on: who the call is made by. `HistoryFull`
+    // where the pass has had 2^63 - 1 turns; nothing changes then.
+    pub(crate) fn take_turn<E: Logged>(&mut self, board: &Board, event: &E) -> Result<Who, Fault>
+        requires board { board.now.table ≡ N.board.table }
+        requires call { calls_told (call_events (E.entry event.now ∷ [])) ≡ E.entry event.now ∷ [] }
+        requires one { length (turns_of (call_events (E.entry event.now ∷ []))) ≡ 1 }
         ensures who { IfOk result (λ who. who ≡ next_who self.old) }
-        ensures turn { OnOk result (self.new ≡ record self.old { turn = self.old.turn + 1 }) }
-        ensures room { OnOk result (length self.new.calls < self.new.turn) }
-        ensures err { OnErr result ((self.new ≡ self.old) × (self.old.turn ≡ 2 ^ 64 - 1)) }
+        ensures turn { OnOk result (self.new ≡ record self.old { turn = self.old.turn + 1; calls = self.old.calls ++ call_events (E.entry event.now ∷ []) }) }
+        ensures turns { OnOk result (length (turns_of self.old.calls) ≡ self.old.turn) }
+        ensures room { OnOk result (length self.new.calls < self.new.turn + self.new.turn) }
+        ensures few { OnOk result (self.new.turn < 2 ^ 63) }
+        ensures err { OnErr result ((self.new ≡ self.old) × (2 ^ 63 - 1 ≤ self.old.turn)) }
         ensures full { IfErr result (λ fault. fault ≡ HistoryFull) }
     {
-        let who = self.next_who();
-        match self.turn.checked_add(1) {
-            None => Err(Fault::HistoryFull),
-            Some(turn) => {
-                self.turn = turn;
-                Ok(who)
-            }
+        if self.turn >= MOST_TURNS {
+            return Err(Fault::HistoryFull);
         }
+        let who = self.next_who();
+        self.caller.begin(board, event);
+        self.turn += 1;
+        Ok(who)
     }
 }

@@ -10,6 +10,7 @@ ghost use Rattle.mc_lone.specs.Needed.{HaveClasses};
 ghost use Rattle.mc_store.specs.Callers.{answered_at};
 ghost use Rattle.mc_store.specs.Performing.{IsMade, IsRefusedIn};
 ghost use Rattle.mc_store.specs.Serving.{IsShort};
+ghost use Rattle.mc_store.specs.Passes.{HasAsked};
 
 use crate::caller::Caller;
 use crate::locked::{LockedClass, LockedStripe};
@@ -36,8 +37,7 @@ pub(crate) fn perform_kept<N: Named>(
     moment: u64,
     fate: Fate,
 ) -> Result<Reply, Fault>
-    requires who { who.caller ≡ caller.old.number }
-    requires turns { length caller.old.calls + 1 < 2 ^ 64 }
+    requires asked { HasAsked caller.old who command moment }
     requires answer { MayAnswer own.old.stripe (call who command moment rooms.Keep) }
     requires fate { fate ≡ words.fate_for own.old.stripe (call who command moment rooms.Keep) }
     requires held { IsHeld N.config.sizes fate }
@@ -90,8 +90,7 @@ pub(crate) fn finish_one<N: Named>(
     room: Room,
     fate: Fate,
 ) -> Result<Reply, Fault>
-    requires who { who.caller ≡ caller.old.number }
-    requires turns { length caller.old.calls + 1 < 2 ^ 64 }
+    requires asked { HasAsked caller.old who command moment }
     requires answer { MayAnswer own.old.stripe (call who command moment room) }
     requires fate { fate ≡ words.fate_for own.old.stripe (call who command moment room) }
     requires held { IsHeld N.config.sizes fate }
@@ -138,8 +137,7 @@ pub(crate) fn finish_two<N: Named>(
     room: Room,
     fate: Fate,
 ) -> Result<Reply, Fault>
-    requires who { who.caller ≡ caller.old.number }
-    requires turns { length caller.old.calls + 1 < 2 ^ 64 }
+    requires asked { HasAsked caller.old who command moment }
     requires answer { MayAnswer own.old.stripe (call who command moment room) }
     requires fate { fate ≡ words.fate_for own.old.stripe (call who command moment room) }
     requires held { IsHeld N.config.sizes fate }

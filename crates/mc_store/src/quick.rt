@@ -7,6 +7,7 @@ ghost use Rattle.mc_stripe.specs.Alone.{IsStorage, TouchesNoChunk};
 ghost use Rattle.mc_stripe.specs.StripeCalls.{KeepsSite};
 ghost use Rattle.mc_store.specs.Calls.{IsReplied};
 ghost use Rattle.mc_store.specs.Serving.{IsShort};
+ghost use Rattle.mc_store.specs.Passes.{HasAsked};
 
 use crate::caller::Caller;
 use crate::locked::LockedStripe;
@@ -28,8 +29,7 @@ pub(crate) fn answer_quick<N: Named>(
 ) -> Result<Result<Reply, Command>, Fault>
     requires board { board.now ≡ N.board }
     requires own { stripe_of (key_of command) N.config.stripes ≡ record { 0 = own.old.stripe.site.stripe } }
-    requires who { who.caller ≡ caller.old.number }
-    requires turns { length caller.old.calls + 1 < 2 ^ 64 }
+    requires asked { HasAsked caller.old who command moment }
     requires early { moment ≤ 2 ^ 62 }
     ensures replied { IfOk result (λ quick. IfOk quick (IsReplied N.config who command moment own.old.stripe own.new.stripe caller.old.calls caller.new.calls)) }
     ensures touched { IfOk result (λ quick. OnErr quick (IsStorage command ⊎ (TouchesNoChunk own.old.stripe command moment → ⊥))) }

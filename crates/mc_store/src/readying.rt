@@ -6,7 +6,7 @@ ghost use Rattle.mc_item.specs.declared.fault.Fault.TheVariants.{HistoryFull};
 ghost use Rattle.mc_stripe.specs.StripeCalls.{KeepsSite};
 ghost use Rattle.mc_pull.specs.Agreeing.{AgreeNow};
 ghost use Rattle.mc_rule.specs.Lists.{IsFull, lists_of};
-ghost use Rattle.mc_store.specs.Locked.{IsLockedClass};
+ghost use Rattle.mc_store.specs.Locked.{IsLockedClass, HasBegun};
 ghost use Rattle.mc_store.specs.Planned.{GoesBy, IsGiven, IsReadyOn, IsSearched};
 ghost use Rattle.mc_store.specs.Serving.{IsShort};
 
@@ -47,6 +47,7 @@ fn search_on<N: Named>(
     plan: Plan,
     class: ClassNo,
 ) -> Result<Plan, Fault>
+    requires begun { HasBegun N.config own.old.sight who moment }
     requires goes { GoesBy N.config own.old.stripe command.now moment plan }
     requires fresh { plan.need ≡ needs.Fresh class }
     ensures goes { IfOk result (GoesBy N.config own.new.stripe command.now moment) }
@@ -144,6 +145,7 @@ pub(crate) fn ready_on<N: Named>(
     plan: Plan,
     class: ClassNo,
 ) -> Result<(Room, Fate), Fault>
+    requires begun { HasBegun N.config own.old.sight who moment }
     requires goes { GoesBy N.config own.old.stripe command.now moment plan }
     requires fresh { plan.need ≡ needs.Fresh class }
     ensures ready { IfOk result (λ ready. IsReadyOn N.config own.new.stripe lent.new.class who command.now moment ready.0 ready.1) }

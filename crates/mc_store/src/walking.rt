@@ -13,6 +13,8 @@ ghost use Rattle.mc_pull.specs.Settled.{lost_event};
 ghost use Rattle.mc_pull.specs.Walker.{walker_of};
 ghost use Rattle.mc_pull.specs.declared.looking.Answer.{Answer};
 ghost use Rattle.mc_store.specs.Serving.{IsServed, IsShort, MayFailSeen};
+ghost use Rattle.mc_store.specs.Locked.{HasBegun};
+ghost use Rattle.mc_board.specs.Histories.{Grows};
 
 use crate::gates::{Holding, Trying};
 use crate::locked::{LockedClass, LockedStripe};
@@ -39,6 +41,7 @@ fn make_room_with<N: Named>(
     moment: u64,
 ) -> Result<bool, Fault>
     requires served { IsServed N.board.table N.config owner.old seen.old class.old }
+    requires begun { HasBegun N.config seen.old.sight who moment }
     ensures room { IfOk result (λ found. (xs : List Answer) × IsRoom (rounds class.old who moment N.config) class.old.history xs class.new.history found) }
     ensures class { classes.Grows class.old class.new }
     ensures served { IsServed N.board.table N.config owner.new seen.new class.new }
@@ -53,6 +56,8 @@ fn make_room_with<N: Named>(
             owner: &mut *owner,
             seen: &mut *seen,
             answers: &mut answers,
+            who,
+            moment,
         },
     };
     gate.make_room(alloc, class, who, moment, &store.config)
@@ -68,12 +73,14 @@ pub(crate) fn make_room_under<N: Named>(
     who: Who,
     moment: u64,
 ) -> Result<bool, Fault>
+    requires begun { HasBegun N.config own.old.sight who moment }
     ensures room { IfOk result (λ found. (xs : List Answer) × IsRoom (rounds class.old.class who moment N.config) class.old.class.history xs class.new.class.history found) }
     ensures class { classes.Grows class.old.class class.new.class }
     ensures stripe { StripeGrows (walker_of class.old.class who moment) own.old.stripe own.new.stripe }
     ensures full { IsErrOf result HistoryFull → IsShort N.config own.new }
 {
     let board = &store.board;
+    class.learn_from(board, own);
     let side = &mut class.side;
     let found = make_room_with(
         alloc,
@@ -99,6 +106,7 @@ pub(crate) fn juggle_under<N: Named>(
     who: Who,
     moment: u64,
 ) -> Result<Moves, Fault>
+    requires begun { HasBegun N.config class.old.sight who moment }
     ensures juggle { IfOk result (λ moves. (xs : List Answer) × IsJuggle (rounds class.old.class who moment N.config) class.old.class.history xs class.new.class.history moves) }
     ensures few { IfOk result (λ moves. moves.reclaimed + moves.moved ≤ 10000) }
     ensures class { classes.Grows class.old.class class.new.class }
@@ -111,6 +119,8 @@ pub(crate) fn juggle_under<N: Named>(
         owner: &mut side.owner,
         seen: &mut side.seen,
         answers: &mut answers,
+        who,
+        moment,
     };
     let moves = juggle(
         alloc,
@@ -136,10 +146,12 @@ pub(crate) fn bury_under<N: Named>(
     link: Link,
     moment: u64,
 ) -> Result<(), Fault>
+    requires begun { HasBegun N.config own.old.sight who moment }
     requires dead { dead_link ((cache_now own.old.stripe).items key.now) moment ≡ Some link }
     requires class { class.old.class.number ≡ link.class }
     ensures lost { OnOk result (own.new.stripe.history ≡ own.old.stripe.history ++ lost_event who key.now (Expired moment) ∷ []) }
     ensures err { OnErr result (own.new.stripe.history ≡ own.old.stripe.history) }
+    ensures sees { Grows own.old.sight own.new.sight }
     ensures site { KeepsSite own.old.stripe own.new.stripe }
     ensures full { IsErrOf result HistoryFull → IsShort N.config own.new }
 {

@@ -6,7 +6,13 @@ ghost use Rattle.mc_board.specs.Views.{locks_of, AreOwners};
 ghost use Rattle.mc_store.specs.Locked.{histories_for};
 
 mod callers;
+mod checker;
 mod commands;
+mod counters;
+mod dice;
+mod own_locks;
+mod plain;
+mod playing;
 mod running;
 mod threads;
 mod upkeep;

@@ -66,7 +66,7 @@ pub(crate) fn get<R: Abort>(rt: &R, alloc: Global, letter: u8) -> Command {
 }
 
 // The reply in one line: of an item its flags and its value.
-fn told(alloc: Global, reply: Reply) -> Result<String, Fail> {
+pub(super) fn told(alloc: Global, reply: Reply) -> Result<String, Fail> {
     match reply {
         Reply::Value { flags, value, .. } => {
             let mut line = format!(in alloc; "{flags} ")?;

@@ -1,4 +1,4 @@
-use Rattle.std.proofs.Common.{rules, ◌≡◌, ◌∙◌, sym, ap, ℕ, ◌+◌, ◌<◌, ◌^◌, List, slice_set, set, get_or, length, arith, add-one}
+use Rattle.std.proofs.Common.{◌≡◌, ◌∙◌, sym, ap, ℕ, ◌+◌, List, set, get_or, arith, add-one}
 use Rattle.mc_item.proofs.CountsLemmas.{summed, get_or-summed, summed-next, summed-all, pair_fits}
 use Rattle.mc_item.proofs.counts.add_minutes.Goals as goal
 

@@ -1,8 +1,8 @@
-use Rattle.std.proofs.Common.{◌≡◌, ◌∙◌, ◌≤◌, ℕ, List, arith, ap, sym, true, take, drop, length}
+use Rattle.std.proofs.Common.{◌≡◌, ◌∙◌, arith, ap, sym, true, take, drop, length}
 use Rattle.std.specs.List.{list_all}
 use Rattle.std.specs.Prelude.{◌==◌}
 use Rattle.std.proofs.lemmas.List.Sums.{prefix_len-le-length}
-use Rattle.mc_item.specs.Measure.{is_digit, digits_of, number_in}
+use Rattle.mc_item.specs.Measure.{is_digit, digits_of}
 use Rattle.mc_item.proofs.MeasureLemmas.{numeral_is_number}
 use Rattle.mc_item.proofs.measure.numeral_of.Goals as goal
 

@@ -1,4 +1,5 @@
 use Rattle.mc_store.proofs.AnswerLemmas.{cut_err_from, replied_ok_from}
+use Rattle.mc_store.proofs.CallerLemmas.{begun_sees}
 use Rattle.mc_store.proofs.commands.command_planned.Goals as goal
 
 pub returns-clause-replied : goal.returns-clause-replied
@@ -10,3 +11,6 @@ pub returns-clause-cut : goal.returns-clause-cut
 returns-clause-cut g c =
     cut_err_from g.N.Named.config c.args.who c.args.command c.args.moment c.args.own.now.stripe c.plan_alive.new.own.stripe c.plan_alive.ensures.site c.in_ok-plan.ensures.buried c.answer_by_plan.new.own.stripe c.answer_by_plan.result
     c.answer_by_plan.ensures.cut
+
+pub answer_by_plan-requires-clause-begun : goal.answer_by_plan-requires-clause-begun
+answer_by_plan-requires-clause-begun g c = begun_sees g.N.Named.config c.args.own.now.sight c.plan_alive.new.own.sight c.args.who c.args.moment c.plan_alive.ensures.sees c.requires.begun

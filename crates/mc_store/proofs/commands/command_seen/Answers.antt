@@ -1,17 +1,20 @@
-use Rattle.std.proofs.Common.{◌≡◌, ◌∙◌, ap, subst}
+use Rattle.std.proofs.Common.{◌≡◌, ◌++◌, ◌∷◌, [], List, ◌∙◌, ap, subst, arith, length, ◌<◌, ◌+◌, sym}
+use Rattle.mc_item.specs.declared.call_event.CallEvent.{CallEvent}
 use Rattle.std.specs.Prelude.{IfOk, OnErr}
 use Rattle.mc_board.specs.Histories.{Grows, HasSeen, list_at}
+use Rattle.mc_board.specs.Views.{SeenView}
 use Rattle.mc_board.specs.declared.rule.Sight.{Sight}
 use Rattle.mc_stripe.specs.StripeCalls.{KeepsSite}
 use Rattle.mc_lone.specs.Commands.{IsCut}
 use Rattle.mc_store.specs.Calls.{IsReplied}
-use Rattle.mc_store.specs.Passes.{PassView}
+use Rattle.mc_store.specs.Callers.{asked_for}
+use Rattle.mc_store.specs.Passes.{CallerView, PassView}
 use Rattle.mc_store.specs.Sides.{StripeSide, stripe_told}
-use Rattle.mc_store.proofs.CallLemmas.{cut_by_err, replied_by_ok, short_shared}
+use Rattle.mc_store.proofs.CallLemmas.{cut_by_err, on_err_more, replied_by_ok, short_shared, turns_kept}
 use Rattle.mc_store.proofs.commands.command_seen.Goals as goal
 
 pub returns-clause-replied : goal.returns-clause-replied
-returns-clause-replied g c =
+returns-clause-replied g c = λ calls asked.
     let config = g.N.Named.config in
     let old = c.args.own.now in
     let new = c.command_under-reply.new.own in
@@ -23,12 +26,13 @@ returns-clause-replied g c =
     (subst (λ (x : Sight). HasSeen (stripe_told c.own.inside.side.stripe.history) x c.own.inside.side.lock) (ap (λ (p : PassView). p.sight) c.pass.view_is) c.compare.ensures.behind.seen) in
     let told = subst (λ (s : StripeSide). list_at after.seen s.lock ≡ stripe_told s.stripe.history) c.own-2.view_is c.share.ensures.told in
     let grows = subst (λ (s : StripeSide). Grows s.sight after) c.own-2.view_is c.share.ensures.all in
-    replied_by_ok g.N.Named.board.table config old new before after c.law.ensures c.law-2.ensures site seen told grows c.args.who c.args.command c.args.moment c.args.pass.now.calls c.command_under-reply.new.caller.calls c.command_under-reply.result
-    (subst (λ (s : StripeSide). IfOk c.command_under-reply.result (IsReplied config c.args.who c.args.command c.args.moment s.stripe new.stripe c.args.pass.now.calls c.command_under-reply.new.caller.calls)) same
-    (subst (λ (p : PassView). IfOk c.command_under-reply.result (IsReplied config c.args.who c.args.command c.args.moment c.compare.new.self.stripe new.stripe p.calls c.command_under-reply.new.caller.calls)) c.pass.view_is c.command_under-reply.ensures.replied))
+    replied_by_ok g.N.Named.board.table config old new before after c.law.ensures c.law-2.ensures site seen told grows c.args.who c.args.command c.args.moment calls c.command_under-reply.new.caller.calls c.command_under-reply.result
+    (subst (λ (s : StripeSide). IfOk c.command_under-reply.result (IsReplied config c.args.who c.args.command c.args.moment s.stripe new.stripe (calls ++ asked_for c.args.command c.args.moment ∷ []) c.command_under-reply.new.caller.calls)) same
+    (subst (λ (l : List CallEvent). IfOk c.command_under-reply.result (IsReplied config c.args.who c.args.command c.args.moment c.compare.new.self.stripe new.stripe l c.command_under-reply.new.caller.calls)) (ap (λ (p : PassView). p.calls) c.pass.view_is ∙ asked)
+    c.command_under-reply.ensures.replied))
 
 pub returns-clause-cut : goal.returns-clause-cut
-returns-clause-cut g c =
+returns-clause-cut g c = λ calls asked.
     let config = g.N.Named.config in
     let old = c.args.own.now in
     let new = c.command_under-reply.new.own in
@@ -40,7 +44,8 @@ returns-clause-cut g c =
     (subst (λ (x : Sight). HasSeen (stripe_told c.own.inside.side.stripe.history) x c.own.inside.side.lock) (ap (λ (p : PassView). p.sight) c.pass.view_is) c.compare.ensures.behind.seen) in
     let told = subst (λ (s : StripeSide). list_at after.seen s.lock ≡ stripe_told s.stripe.history) c.own-2.view_is c.share.ensures.told in
     let grows = subst (λ (s : StripeSide). Grows s.sight after) c.own-2.view_is c.share.ensures.all in
-    cut_by_err g.N.Named.board.table config old new before after c.law.ensures c.law-2.ensures site seen told grows c.args.who c.args.command c.args.moment c.command_under-reply.result
+    cut_by_err g.N.Named.board.table config old new before after c.law.ensures c.law-2.ensures site seen told grows c.args.who c.args.command c.args.moment calls c.command_under-reply.new.caller.calls c.command_under-reply.result
+    (on_err_more c.command_under-reply.result _ _ (λ same_caller. ap (λ (v : CallerView). v.calls) same_caller ∙ (ap (λ (p : PassView). p.calls) c.pass.view_is ∙ asked)) c.command_under-reply.ensures.unnoted)
     (subst (λ (s : StripeSide). OnErr c.command_under-reply.result (IsCut config c.args.who c.args.command c.args.moment s.stripe new.stripe)) same c.command_under-reply.ensures.cut)
 
 pub returns-clause-full : goal.returns-clause-full
@@ -57,3 +62,14 @@ returns-clause-full g c =
     let told = subst (λ (s : StripeSide). list_at after.seen s.lock ≡ stripe_told s.stripe.history) c.own-2.view_is c.share.ensures.told in
     let grows = subst (λ (s : StripeSide). Grows s.sight after) c.own-2.view_is c.share.ensures.all in
     λ e. short_shared g.N.Named.board.table config old new before after c.law.ensures c.law-2.ensures site seen told grows (c.command_under-reply.ensures.full e)
+
+pub invariant_of-pass : goal.invariant_of-pass
+invariant_of-pass g c =
+    let i = c.pass.invariant in
+    let under = c.command_under-reply in
+    let kept = turns_kept g.N.Named.config c.args.who c.args.command c.args.moment c.compare.new.self.stripe under.new.own.stripe c.pass.inside.caller under.new.caller under.result under.ensures.replied under.ensures.unnoted in
+    let room = subst (λ (p : PassView). length p.calls < p.turn + p.turn) (sym c.pass.view_is) c.requires.room in (
+      c.share.ensures.board ∙ (ap (λ (v : SeenView). v.board) c.compare.ensures.same.1 ∙ i.0),
+      ap (λ l. length l) kept.0 ∙ i.1,
+      omega (arith, kept.1, room),
+    )

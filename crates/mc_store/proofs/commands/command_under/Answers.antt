@@ -10,7 +10,7 @@ pub returns-in-Err-clause-replied : goal.returns-in-Err-clause-replied
 returns-in-Err-clause-replied g c =
     let config = g.N.Named.config in
     let mid = c.answer_quick.new.own.stripe in
-    let planned = c.command_planned-in-Err in
+    let planned = c.command_told-in-Err in
     let end = planned.new.own.stripe in
     let calls_new = planned.new.caller.calls in
     let back = rw c.in-Err.is at c.in_ok-reply.ensures.back in

@@ -11,6 +11,8 @@ use Rattle.mc_store.specs.declared.locked.LockedStripe.TheInside.{Inside}
 use Rattle.mc_store.proofs.JudgedLemmas.{class_judged, fault_judged, stripe_judged}
 use Rattle.mc_store.proofs.ServedLemmas.{class_told_more, handed_on, settled_grows, settled_told}
 use Rattle.mc_store.proofs.judging.judge.Goals as goal
+use Rattle.mc_store.specs.Locked.{HasBegun}
+use Rattle.mc_store.proofs.PairLemmas.{grows_trans}
 
 pub catch_up_stripe-requires-clause-behind : goal.catch_up_stripe-requires-clause-behind
 catch_up_stripe-requires-clause-behind g c =
@@ -27,6 +29,7 @@ invariant_of-stripe g c =
     let lent = c.stripe-inside-2.inside.0.0 in
     let own_is = ap (λ (l : Inside g.row.N.Denot). l.side) c.stripe-inside.view_is in
     let lent_is = ap (λ (l : Inside g.row.N.Denot). l.side) c.stripe-inside-2.view_is in
+    let begun = subst (λ (x : StripeSide). HasBegun g.N.Named.config x.sight c.args.look.now.ask.who c.args.look.now.ask.moment) (sym (own_is ∙ c.stripe.view_is)) c.requires.begun in
     let walked = settle_walked _ _ _ _ (question_of c.args.look.now.ask) c.settle-done.ensures.site c.settle-done.ensures.agreement c.settle-done.result c.settle-done.ensures.settled c.settle-done.ensures.err in
     let grows = settled_grows _ _ _ _ (question_of c.args.look.now.ask) c.settle-done.result c.settle-done.ensures.settled c.settle-done.ensures.err in
     stripe_judged g.N.Named.board.table g.N.Named.config c.stripe.inside.side c.stripe.invariant own.state own.owner own.seen own_is
@@ -35,7 +38,7 @@ invariant_of-stripe g c =
     lent.state lent.owner lent.seen lent_is
     c.settle-done.new.stripe c.settle-done.new.self.class.now c.settle-done.ensures.site grows c.history.ensures.legal c.law.ensures.lawful c.settle-done.ensures.agreement c.settle-done.ensures.sight
     c.catch_up_stripe.new.owner c.catch_up_stripe.ensures c.catch_up_class-2.new.owner c.tell-3.new.self c.catch_up_class-2.ensures c.tell-3.ensures.same
-    c.tell-3.new.seen c.tell-3.ensures.whole c.tell-3.ensures.grows c.tell-4.new.self c.tell-4.new.seen c.tell-4.ensures.same c.tell-4.ensures.told c.tell-4.ensures.grows _ walked.grows
+    c.tell-3.new.seen c.tell-3.ensures.whole c.tell-3.ensures.grows c.tell-4.new.self c.tell-4.new.seen c.tell-4.ensures.same c.tell-4.ensures.told c.tell-4.ensures.grows _ begun walked.grows
 
 pub returns-in_err-done-clause-served : goal.returns-in_err-done-clause-served
 returns-in_err-done-clause-served g c =
@@ -58,6 +61,7 @@ invariant_of-stripe-2 g c =
     let lent = c.stripe-inside-2.inside.0.0 in
     let own_is = ap (λ (l : Inside g.row.N.Denot). l.side) c.stripe-inside.view_is in
     let lent_is = ap (λ (l : Inside g.row.N.Denot). l.side) c.stripe-inside-2.view_is in
+    let begun = subst (λ (x : StripeSide). HasBegun g.N.Named.config x.sight c.args.look.now.ask.who c.args.look.now.ask.moment) (sym (own_is ∙ c.stripe.view_is)) c.requires.begun in
     let walked = settle_walked _ _ _ _ (question_of c.args.look.now.ask) c.settle-done.ensures.site c.settle-done.ensures.agreement c.settle-done.result c.settle-done.ensures.settled c.settle-done.ensures.err in
     let grows = settled_grows _ _ _ _ (question_of c.args.look.now.ask) c.settle-done.result c.settle-done.ensures.settled c.settle-done.ensures.err in
     stripe_judged g.N.Named.board.table g.N.Named.config c.stripe.inside.side c.stripe.invariant own.state own.owner own.seen own_is
@@ -66,7 +70,7 @@ invariant_of-stripe-2 g c =
     lent.state lent.owner lent.seen lent_is
     c.settle-done.new.stripe c.settle-done.new.self.class.now c.settle-done.ensures.site grows c.history.ensures.legal c.law.ensures.lawful c.settle-done.ensures.agreement c.settle-done.ensures.sight
     c.catch_up_stripe.new.owner c.catch_up_stripe.ensures c.catch_up_class-2.new.owner c.tell-3.new.self c.catch_up_class-2.ensures c.tell-3.ensures.same
-    c.tell-3.new.seen c.tell-3.ensures.whole c.tell-3.ensures.grows c.tell-4.new.self c.tell-4.new.seen c.tell-4.ensures.same c.tell-4.ensures.told c.tell-4.ensures.grows _ walked.grows
+    c.tell-3.new.seen c.tell-3.ensures.whole c.tell-3.ensures.grows c.tell-4.new.self c.tell-4.new.seen c.tell-4.ensures.same c.tell-4.ensures.told c.tell-4.ensures.grows _ begun walked.grows
 
 pub returns-clause-served : goal.returns-clause-served
 returns-clause-served g c =
@@ -109,3 +113,9 @@ returns-clause-stripe g c =
     let w = walker_of c.args.look.now.class.now c.args.look.now.ask.who c.args.look.now.ask.moment in
     let walked = settle_walked _ _ _ _ (question_of c.args.look.now.ask) c.settle-done.ensures.site c.settle-done.ensures.agreement c.settle-done.result c.settle-done.ensures.settled c.settle-done.ensures.err in
     subst (λ (x : Stripe). StripeGrows w c.args.stripe.now.stripe x) (sym last) (subst (λ (x : Stripe). StripeGrows w x c.settle-done.new.stripe) first walked.grows)
+
+pub returns-in_err-done-clause-sees : goal.returns-in_err-done-clause-sees
+returns-in_err-done-clause-sees g c = grows_trans c.args.seen.now.sight c.tell-2.new.seen.sight c.tell-4.new.seen.sight c.tell-2.ensures.grows c.tell-4.ensures.grows
+
+pub returns-clause-sees : goal.returns-clause-sees
+returns-clause-sees g c = grows_trans c.args.seen.now.sight c.tell-2.new.seen.sight c.tell-4.new.seen.sight c.tell-2.ensures.grows c.tell-4.ensures.grows

@@ -3,7 +3,7 @@ use Rattle.mc_board.specs.Views.{OwnerView}
 use Rattle.mc_pull.specs.Perform.{call}
 use Rattle.mc_store.specs.Locked.{IsLockedStripe}
 use Rattle.mc_store.specs.Sides.{StripeSide}
-use Rattle.mc_store.proofs.CallerLemmas.{answered_performed}
+use Rattle.mc_store.proofs.CallerLemmas.{called_performed}
 use Rattle.mc_store.proofs.LentLemmas.{own_behind}
 use Rattle.mc_store.proofs.PairLemmas.{stripe_sees}
 use Rattle.mc_store.proofs.SaidLemmas.{stripe_side}
@@ -28,7 +28,7 @@ invariant_of-own g c =
     let was : IsLockedStripe table config (stripe_side raw.owner raw.seen raw.state) = subst (IsLockedStripe table config) (sym own_is) c.own.invariant in
     let kept = stripe_sees table config (stripe_side raw.owner raw.seen raw.state) put.new.seen.sight put.ensures.grows was in
     let place : c.events-place.result ≡ length raw.state.history = c.events-place.ensures ∙ sym (ap (λ (x : StripeSide). length x.stripe.history) own_is) in
-    let answered = answered_performed config raw.state made.new.stripe cl [] [] raw.seen.sight put.new.seen.sight c.args.caller.now.number c.events-place.result
-    c.requires.who place made.ensures.site put.ensures.grows made.result made.ensures.made made.ensures.err put.ensures.told was.answered in
+    let called = called_performed config raw.state made.new.stripe cl [] [] raw.seen.sight put.new.seen.sight c.args.caller.now put.new.caller c.events-place.result
+    c.requires.asked place made.ensures.site put.ensures.grows made.result made.ensures.made made.ensures.err put.ensures.of put.ensures.told put.ensures.noted was.called in
     subst (IsLockedStripe table config) (sym (ap (λ (o : OwnerView). stripe_side o put.new.seen made.new.stripe) put.ensures.owner))
-    (alone_end table config (stripe_side raw.owner put.new.seen raw.state) kept made.new.stripe cl made.ensures.site c.history.ensures.legal answered c.requires.unrefused made.ensures.sight)
+    (alone_end table config (stripe_side raw.owner put.new.seen raw.state) kept made.new.stripe cl made.ensures.site c.history.ensures.legal called c.requires.unrefused made.ensures.sight)

@@ -2,7 +2,7 @@ use Rattle.std.proofs.Common.{rules, ◌≡◌, ◌∷◌, [], Err, ap, sym, ◌
 use Rattle.mc_item.specs.declared.fault.Fault.TheVariants.{HistoryFull}
 use Rattle.mc_pull.specs.Perform.{call}
 use Rattle.mc_store.specs.Sides.{StripeSide}
-use Rattle.mc_store.proofs.CallerLemmas.{answered_performed}
+use Rattle.mc_store.proofs.CallerLemmas.{called_performed}
 use Rattle.mc_store.proofs.LentLemmas.{class_behind, lent_grow, own_behind}
 use Rattle.mc_store.proofs.OneLemmas.{one_class, one_full, one_stripe}
 use Rattle.mc_store.proofs.pairing.perform_on_one.Goals as goal
@@ -35,10 +35,10 @@ invariant_of-own g c =
     let own_is = ap (λ i. i.side) c.own-inside.view_is in
     let put = c.put_answer in
     let place : c.events-place.result ≡ length raw.state.history = c.events-place.ensures ∙ sym (ap (λ (x : StripeSide). length x.stripe.history) own_is) in
-    let answered = answered_performed g.N.Named.config raw.state made.new.stripe cl (raw_of.state ∷ []) (w ∷ []) raw.seen.sight put.new.seen.sight c.args.caller.now.number c.events-place.result
-    c.requires.who place made.ensures.site put.ensures.grows made.result made.ensures.made made.ensures.err put.ensures.told in
+    let called = called_performed g.N.Named.config raw.state made.new.stripe cl (raw_of.state ∷ []) (w ∷ []) raw.seen.sight put.new.seen.sight c.args.caller.now put.new.caller c.events-place.result
+    c.requires.asked place made.ensures.site put.ensures.grows made.result made.ensures.made made.ensures.err put.ensures.of put.ensures.told put.ensures.noted in
     one_stripe g.N.Named.board.table g.N.Named.config cl raw.state made.new.stripe raw_of.state w
-    raw.owner put.new.owner raw.seen put.new.seen c.own.inside.side c.hear.new.self c.hear-2.new.stripe own_is c.own.invariant put.ensures.owner put.ensures.grows answered
+    raw.owner put.new.owner raw.seen put.new.seen c.own.inside.side c.hear.new.self c.hear-2.new.stripe own_is c.own.invariant put.ensures.owner put.ensures.grows called
     raw_of.owner c.catch_up_class.new.owner raw_of.seen c.class.inside.side c.hear.new.class (ap (λ i. i.side) c.class-inside.view_is) c.class.invariant c.catch_up_class.ensures c.hear.ensures.class
     c.hear.ensures.told c.hear.ensures.grows c.hear-2.ensures.stripe made.ensures.site c.history.ensures.legal grows
     c.args.class.now c.meet.new.lent c.class.view_is c.meet.ensures.lent c.meet.new.own c.own.view_is c.meet.ensures.met made.ensures.agreement made.ensures.sight
@@ -55,10 +55,10 @@ invariant_of-class g c =
     let own_is = ap (λ i. i.side) c.own-inside.view_is in
     let put = c.put_answer in
     let place : c.events-place.result ≡ length raw.state.history = c.events-place.ensures ∙ sym (ap (λ (x : StripeSide). length x.stripe.history) own_is) in
-    let answered = answered_performed g.N.Named.config raw.state made.new.stripe cl (raw_of.state ∷ []) (w ∷ []) raw.seen.sight put.new.seen.sight c.args.caller.now.number c.events-place.result
-    c.requires.who place made.ensures.site put.ensures.grows made.result made.ensures.made made.ensures.err put.ensures.told in
+    let called = called_performed g.N.Named.config raw.state made.new.stripe cl (raw_of.state ∷ []) (w ∷ []) raw.seen.sight put.new.seen.sight c.args.caller.now put.new.caller c.events-place.result
+    c.requires.asked place made.ensures.site put.ensures.grows made.result made.ensures.made made.ensures.err put.ensures.of put.ensures.told put.ensures.noted in
     one_class g.N.Named.board.table g.N.Named.config cl raw.state made.new.stripe raw_of.state w
-    raw.owner put.new.owner raw.seen put.new.seen c.own.inside.side c.hear.new.self c.hear-2.new.stripe own_is c.own.invariant put.ensures.owner put.ensures.grows answered
+    raw.owner put.new.owner raw.seen put.new.seen c.own.inside.side c.hear.new.self c.hear-2.new.stripe own_is c.own.invariant put.ensures.owner put.ensures.grows called
     raw_of.owner c.catch_up_class.new.owner raw_of.seen c.class.inside.side c.hear.new.class (ap (λ i. i.side) c.class-inside.view_is) c.class.invariant c.catch_up_class.ensures c.hear.ensures.class
     c.hear.ensures.told c.hear.ensures.grows c.hear-2.ensures.stripe made.ensures.site c.history.ensures.legal grows
     c.args.class.now c.meet.new.lent c.class.view_is c.meet.ensures.lent c.meet.new.own c.own.view_is c.meet.ensures.met made.ensures.agreement made.ensures.sight
@@ -75,13 +75,13 @@ returns-in_err-copy-clause-full g c =
     let own_is = ap (λ i. i.side) c.own-inside.view_is in
     let put = c.put_answer in
     let place : c.events-place.result ≡ length raw.state.history = c.events-place.ensures ∙ sym (ap (λ (x : StripeSide). length x.stripe.history) own_is) in
-    let answered = answered_performed g.N.Named.config raw.state made.new.stripe cl (raw_of.state ∷ []) (w ∷ []) raw.seen.sight put.new.seen.sight c.args.caller.now.number c.events-place.result
-    c.requires.who place made.ensures.site put.ensures.grows made.result made.ensures.made made.ensures.err put.ensures.told in
+    let called = called_performed g.N.Named.config raw.state made.new.stripe cl (raw_of.state ∷ []) (w ∷ []) raw.seen.sight put.new.seen.sight c.args.caller.now put.new.caller c.events-place.result
+    c.requires.asked place made.ensures.site put.ensures.grows made.result made.ensures.made made.ensures.err put.ensures.of put.ensures.told put.ensures.noted in
     λ full.
     let fault : c.from_residual.result ≡ Err c.in_err-copy.field-0.0 = search rules in
     let is : c.perform_fated-copy.result ≡ Err HistoryFull = cc (c.in_err-copy.was, fault, full) in
     one_full g.N.Named.board.table g.N.Named.config cl raw.state made.new.stripe raw_of.state w
-    raw.owner put.new.owner raw.seen put.new.seen c.own.inside.side c.hear.new.self c.hear-2.new.stripe own_is c.own.invariant put.ensures.owner put.ensures.grows answered
+    raw.owner put.new.owner raw.seen put.new.seen c.own.inside.side c.hear.new.self c.hear-2.new.stripe own_is c.own.invariant put.ensures.owner put.ensures.grows called
     raw_of.owner c.catch_up_class.new.owner raw_of.seen c.class.inside.side c.hear.new.class (ap (λ i. i.side) c.class-inside.view_is) c.class.invariant c.catch_up_class.ensures c.hear.ensures.class
     c.hear.ensures.told c.hear.ensures.grows c.hear-2.ensures.stripe made.ensures.site c.history.ensures.legal grows
     made.result made.ensures.err made.ensures.refusal is
@@ -97,10 +97,10 @@ invariant_of-own-2 g c =
     let own_is = ap (λ i. i.side) c.own-inside.view_is in
     let put = c.put_answer in
     let place : c.events-place.result ≡ length raw.state.history = c.events-place.ensures ∙ sym (ap (λ (x : StripeSide). length x.stripe.history) own_is) in
-    let answered = answered_performed g.N.Named.config raw.state made.new.stripe cl (raw_of.state ∷ []) (w ∷ []) raw.seen.sight put.new.seen.sight c.args.caller.now.number c.events-place.result
-    c.requires.who place made.ensures.site put.ensures.grows made.result made.ensures.made made.ensures.err put.ensures.told in
+    let called = called_performed g.N.Named.config raw.state made.new.stripe cl (raw_of.state ∷ []) (w ∷ []) raw.seen.sight put.new.seen.sight c.args.caller.now put.new.caller c.events-place.result
+    c.requires.asked place made.ensures.site put.ensures.grows made.result made.ensures.made made.ensures.err put.ensures.of put.ensures.told put.ensures.noted in
     one_stripe g.N.Named.board.table g.N.Named.config cl raw.state made.new.stripe raw_of.state w
-    raw.owner put.new.owner raw.seen put.new.seen c.own.inside.side c.hear.new.self c.hear-2.new.stripe own_is c.own.invariant put.ensures.owner put.ensures.grows answered
+    raw.owner put.new.owner raw.seen put.new.seen c.own.inside.side c.hear.new.self c.hear-2.new.stripe own_is c.own.invariant put.ensures.owner put.ensures.grows called
     raw_of.owner c.catch_up_class.new.owner raw_of.seen c.class.inside.side c.hear.new.class (ap (λ i. i.side) c.class-inside.view_is) c.class.invariant c.catch_up_class.ensures c.hear.ensures.class
     c.hear.ensures.told c.hear.ensures.grows c.hear-2.ensures.stripe made.ensures.site c.history.ensures.legal grows
     c.args.class.now c.meet.new.lent c.class.view_is c.meet.ensures.lent c.meet.new.own c.own.view_is c.meet.ensures.met made.ensures.agreement made.ensures.sight
@@ -117,10 +117,10 @@ invariant_of-class-2 g c =
     let own_is = ap (λ i. i.side) c.own-inside.view_is in
     let put = c.put_answer in
     let place : c.events-place.result ≡ length raw.state.history = c.events-place.ensures ∙ sym (ap (λ (x : StripeSide). length x.stripe.history) own_is) in
-    let answered = answered_performed g.N.Named.config raw.state made.new.stripe cl (raw_of.state ∷ []) (w ∷ []) raw.seen.sight put.new.seen.sight c.args.caller.now.number c.events-place.result
-    c.requires.who place made.ensures.site put.ensures.grows made.result made.ensures.made made.ensures.err put.ensures.told in
+    let called = called_performed g.N.Named.config raw.state made.new.stripe cl (raw_of.state ∷ []) (w ∷ []) raw.seen.sight put.new.seen.sight c.args.caller.now put.new.caller c.events-place.result
+    c.requires.asked place made.ensures.site put.ensures.grows made.result made.ensures.made made.ensures.err put.ensures.of put.ensures.told put.ensures.noted in
     one_class g.N.Named.board.table g.N.Named.config cl raw.state made.new.stripe raw_of.state w
-    raw.owner put.new.owner raw.seen put.new.seen c.own.inside.side c.hear.new.self c.hear-2.new.stripe own_is c.own.invariant put.ensures.owner put.ensures.grows answered
+    raw.owner put.new.owner raw.seen put.new.seen c.own.inside.side c.hear.new.self c.hear-2.new.stripe own_is c.own.invariant put.ensures.owner put.ensures.grows called
     raw_of.owner c.catch_up_class.new.owner raw_of.seen c.class.inside.side c.hear.new.class (ap (λ i. i.side) c.class-inside.view_is) c.class.invariant c.catch_up_class.ensures c.hear.ensures.class
     c.hear.ensures.told c.hear.ensures.grows c.hear-2.ensures.stripe made.ensures.site c.history.ensures.legal grows
     c.args.class.now c.meet.new.lent c.class.view_is c.meet.ensures.lent c.meet.new.own c.own.view_is c.meet.ensures.met made.ensures.agreement made.ensures.sight

@@ -2,7 +2,7 @@ use Rattle.std.proofs.Common.{rules, ◌≡◌, ◌∷◌, [], Err, ap, sym, ◌
 use Rattle.mc_item.specs.declared.fault.Fault.TheVariants.{HistoryFull}
 use Rattle.mc_pull.specs.Perform.{call}
 use Rattle.mc_store.specs.Sides.{StripeSide}
-use Rattle.mc_store.proofs.CallerLemmas.{answered_performed}
+use Rattle.mc_store.proofs.CallerLemmas.{called_performed}
 use Rattle.mc_store.proofs.LentLemmas.{class_behind, lent_grow, own_behind}
 use Rattle.mc_store.proofs.TwoLemmas.{two_full, two_high, two_low, two_stripe}
 use Rattle.mc_store.proofs.pairing.perform_on_two.Goals as goal
@@ -51,10 +51,10 @@ invariant_of-own g c =
     let own_is = ap (λ i. i.side) c.own-inside.view_is in
     let put = c.put_answer in
     let place : c.events-place.result ≡ length raw.state.history = c.events-place.ensures ∙ sym (ap (λ (x : StripeSide). length x.stripe.history) own_is) in
-    let answered = answered_performed g.N.Named.config raw.state made.new.stripe cl (raw_low.state ∷ raw_high.state ∷ []) (v ∷ w ∷ []) raw.seen.sight put.new.seen.sight c.args.caller.now.number c.events-place.result
-    c.requires.who place made.ensures.site put.ensures.grows made.result made.ensures.made made.ensures.err put.ensures.told in
+    let called = called_performed g.N.Named.config raw.state made.new.stripe cl (raw_low.state ∷ raw_high.state ∷ []) (v ∷ w ∷ []) raw.seen.sight put.new.seen.sight c.args.caller.now put.new.caller c.events-place.result
+    c.requires.asked place made.ensures.site put.ensures.grows made.result made.ensures.made made.ensures.err put.ensures.of put.ensures.told put.ensures.noted in
     two_stripe g.N.Named.board.table g.N.Named.config cl raw.state made.new.stripe raw_low.state v raw_high.state w
-    raw.owner put.new.owner raw.seen put.new.seen c.own.inside.side c.hear.new.self c.hear-2.new.self c.hear-3.new.stripe c.hear-4.new.stripe own_is c.own.invariant put.ensures.owner put.ensures.grows answered
+    raw.owner put.new.owner raw.seen put.new.seen c.own.inside.side c.hear.new.self c.hear-2.new.self c.hear-3.new.stripe c.hear-4.new.stripe own_is c.own.invariant put.ensures.owner put.ensures.grows called
     raw_low.owner c.catch_up_class.new.owner raw_low.seen c.low.inside.side c.hear.new.class (ap (λ i. i.side) c.low-inside.view_is) c.low.invariant c.catch_up_class.ensures c.hear.ensures.class
     raw_high.owner c.catch_up_class-2.new.owner raw_high.seen c.high.inside.side c.hear-2.new.class (ap (λ i. i.side) c.high-inside.view_is) c.high.invariant c.catch_up_class-2.ensures c.hear-2.ensures.class
     c.hear.ensures.told c.hear.ensures.grows c.hear-2.ensures.told c.hear-2.ensures.grows c.hear-3.ensures.stripe c.hear-4.ensures.stripe made.ensures.site c.history.ensures.legal grows
@@ -75,10 +75,10 @@ invariant_of-low g c =
     let own_is = ap (λ i. i.side) c.own-inside.view_is in
     let put = c.put_answer in
     let place : c.events-place.result ≡ length raw.state.history = c.events-place.ensures ∙ sym (ap (λ (x : StripeSide). length x.stripe.history) own_is) in
-    let answered = answered_performed g.N.Named.config raw.state made.new.stripe cl (raw_low.state ∷ raw_high.state ∷ []) (v ∷ w ∷ []) raw.seen.sight put.new.seen.sight c.args.caller.now.number c.events-place.result
-    c.requires.who place made.ensures.site put.ensures.grows made.result made.ensures.made made.ensures.err put.ensures.told in
+    let called = called_performed g.N.Named.config raw.state made.new.stripe cl (raw_low.state ∷ raw_high.state ∷ []) (v ∷ w ∷ []) raw.seen.sight put.new.seen.sight c.args.caller.now put.new.caller c.events-place.result
+    c.requires.asked place made.ensures.site put.ensures.grows made.result made.ensures.made made.ensures.err put.ensures.of put.ensures.told put.ensures.noted in
     two_low g.N.Named.board.table g.N.Named.config cl raw.state made.new.stripe raw_low.state v raw_high.state w
-    raw.owner put.new.owner raw.seen put.new.seen c.own.inside.side c.hear.new.self c.hear-2.new.self c.hear-3.new.stripe c.hear-4.new.stripe own_is c.own.invariant put.ensures.owner put.ensures.grows answered
+    raw.owner put.new.owner raw.seen put.new.seen c.own.inside.side c.hear.new.self c.hear-2.new.self c.hear-3.new.stripe c.hear-4.new.stripe own_is c.own.invariant put.ensures.owner put.ensures.grows called
     raw_low.owner c.catch_up_class.new.owner raw_low.seen c.low.inside.side c.hear.new.class (ap (λ i. i.side) c.low-inside.view_is) c.low.invariant c.catch_up_class.ensures c.hear.ensures.class
     raw_high.owner c.catch_up_class-2.new.owner raw_high.seen c.high.inside.side c.hear-2.new.class (ap (λ i. i.side) c.high-inside.view_is) c.high.invariant c.catch_up_class-2.ensures c.hear-2.ensures.class
     c.hear.ensures.told c.hear.ensures.grows c.hear-2.ensures.told c.hear-2.ensures.grows c.hear-3.ensures.stripe c.hear-4.ensures.stripe made.ensures.site c.history.ensures.legal grows
@@ -99,10 +99,10 @@ invariant_of-high g c =
     let own_is = ap (λ i. i.side) c.own-inside.view_is in
     let put = c.put_answer in
     let place : c.events-place.result ≡ length raw.state.history = c.events-place.ensures ∙ sym (ap (λ (x : StripeSide). length x.stripe.history) own_is) in
-    let answered = answered_performed g.N.Named.config raw.state made.new.stripe cl (raw_low.state ∷ raw_high.state ∷ []) (v ∷ w ∷ []) raw.seen.sight put.new.seen.sight c.args.caller.now.number c.events-place.result
-    c.requires.who place made.ensures.site put.ensures.grows made.result made.ensures.made made.ensures.err put.ensures.told in
+    let called = called_performed g.N.Named.config raw.state made.new.stripe cl (raw_low.state ∷ raw_high.state ∷ []) (v ∷ w ∷ []) raw.seen.sight put.new.seen.sight c.args.caller.now put.new.caller c.events-place.result
+    c.requires.asked place made.ensures.site put.ensures.grows made.result made.ensures.made made.ensures.err put.ensures.of put.ensures.told put.ensures.noted in
     two_high g.N.Named.board.table g.N.Named.config cl raw.state made.new.stripe raw_low.state v raw_high.state w
-    raw.owner put.new.owner raw.seen put.new.seen c.own.inside.side c.hear.new.self c.hear-2.new.self c.hear-3.new.stripe c.hear-4.new.stripe own_is c.own.invariant put.ensures.owner put.ensures.grows answered
+    raw.owner put.new.owner raw.seen put.new.seen c.own.inside.side c.hear.new.self c.hear-2.new.self c.hear-3.new.stripe c.hear-4.new.stripe own_is c.own.invariant put.ensures.owner put.ensures.grows called
     raw_low.owner c.catch_up_class.new.owner raw_low.seen c.low.inside.side c.hear.new.class (ap (λ i. i.side) c.low-inside.view_is) c.low.invariant c.catch_up_class.ensures c.hear.ensures.class
     raw_high.owner c.catch_up_class-2.new.owner raw_high.seen c.high.inside.side c.hear-2.new.class (ap (λ i. i.side) c.high-inside.view_is) c.high.invariant c.catch_up_class-2.ensures c.hear-2.ensures.class
     c.hear.ensures.told c.hear.ensures.grows c.hear-2.ensures.told c.hear-2.ensures.grows c.hear-3.ensures.stripe c.hear-4.ensures.stripe made.ensures.site c.history.ensures.legal grows
@@ -123,13 +123,13 @@ returns-in_err-copy-clause-full g c =
     let own_is = ap (λ i. i.side) c.own-inside.view_is in
     let put = c.put_answer in
     let place : c.events-place.result ≡ length raw.state.history = c.events-place.ensures ∙ sym (ap (λ (x : StripeSide). length x.stripe.history) own_is) in
-    let answered = answered_performed g.N.Named.config raw.state made.new.stripe cl (raw_low.state ∷ raw_high.state ∷ []) (v ∷ w ∷ []) raw.seen.sight put.new.seen.sight c.args.caller.now.number c.events-place.result
-    c.requires.who place made.ensures.site put.ensures.grows made.result made.ensures.made made.ensures.err put.ensures.told in
+    let called = called_performed g.N.Named.config raw.state made.new.stripe cl (raw_low.state ∷ raw_high.state ∷ []) (v ∷ w ∷ []) raw.seen.sight put.new.seen.sight c.args.caller.now put.new.caller c.events-place.result
+    c.requires.asked place made.ensures.site put.ensures.grows made.result made.ensures.made made.ensures.err put.ensures.of put.ensures.told put.ensures.noted in
     λ full.
     let fault : c.from_residual.result ≡ Err c.in_err-copy.field-0.0 = search rules in
     let is : c.perform_fated-copy.result ≡ Err HistoryFull = cc (c.in_err-copy.was, fault, full) in
     two_full g.N.Named.board.table g.N.Named.config cl raw.state made.new.stripe raw_low.state v raw_high.state w
-    raw.owner put.new.owner raw.seen put.new.seen c.own.inside.side c.hear.new.self c.hear-2.new.self c.hear-3.new.stripe c.hear-4.new.stripe own_is c.own.invariant put.ensures.owner put.ensures.grows answered
+    raw.owner put.new.owner raw.seen put.new.seen c.own.inside.side c.hear.new.self c.hear-2.new.self c.hear-3.new.stripe c.hear-4.new.stripe own_is c.own.invariant put.ensures.owner put.ensures.grows called
     raw_low.owner c.catch_up_class.new.owner raw_low.seen c.low.inside.side c.hear.new.class (ap (λ i. i.side) c.low-inside.view_is) c.low.invariant c.catch_up_class.ensures c.hear.ensures.class
     raw_high.owner c.catch_up_class-2.new.owner raw_high.seen c.high.inside.side c.hear-2.new.class (ap (λ i. i.side) c.high-inside.view_is) c.high.invariant c.catch_up_class-2.ensures c.hear-2.ensures.class
     c.hear.ensures.told c.hear.ensures.grows c.hear-2.ensures.told c.hear-2.ensures.grows c.hear-3.ensures.stripe c.hear-4.ensures.stripe made.ensures.site c.history.ensures.legal grows
@@ -149,10 +149,10 @@ invariant_of-own-2 g c =
     let own_is = ap (λ i. i.side) c.own-inside.view_is in
     let put = c.put_answer in
     let place : c.events-place.result ≡ length raw.state.history = c.events-place.ensures ∙ sym (ap (λ (x : StripeSide). length x.stripe.history) own_is) in
-    let answered = answered_performed g.N.Named.config raw.state made.new.stripe cl (raw_low.state ∷ raw_high.state ∷ []) (v ∷ w ∷ []) raw.seen.sight put.new.seen.sight c.args.caller.now.number c.events-place.result
-    c.requires.who place made.ensures.site put.ensures.grows made.result made.ensures.made made.ensures.err put.ensures.told in
+    let called = called_performed g.N.Named.config raw.state made.new.stripe cl (raw_low.state ∷ raw_high.state ∷ []) (v ∷ w ∷ []) raw.seen.sight put.new.seen.sight c.args.caller.now put.new.caller c.events-place.result
+    c.requires.asked place made.ensures.site put.ensures.grows made.result made.ensures.made made.ensures.err put.ensures.of put.ensures.told put.ensures.noted in
     two_stripe g.N.Named.board.table g.N.Named.config cl raw.state made.new.stripe raw_low.state v raw_high.state w
-    raw.owner put.new.owner raw.seen put.new.seen c.own.inside.side c.hear.new.self c.hear-2.new.self c.hear-3.new.stripe c.hear-4.new.stripe own_is c.own.invariant put.ensures.owner put.ensures.grows answered
+    raw.owner put.new.owner raw.seen put.new.seen c.own.inside.side c.hear.new.self c.hear-2.new.self c.hear-3.new.stripe c.hear-4.new.stripe own_is c.own.invariant put.ensures.owner put.ensures.grows called
     raw_low.owner c.catch_up_class.new.owner raw_low.seen c.low.inside.side c.hear.new.class (ap (λ i. i.side) c.low-inside.view_is) c.low.invariant c.catch_up_class.ensures c.hear.ensures.class
     raw_high.owner c.catch_up_class-2.new.owner raw_high.seen c.high.inside.side c.hear-2.new.class (ap (λ i. i.side) c.high-inside.view_is) c.high.invariant c.catch_up_class-2.ensures c.hear-2.ensures.class
     c.hear.ensures.told c.hear.ensures.grows c.hear-2.ensures.told c.hear-2.ensures.grows c.hear-3.ensures.stripe c.hear-4.ensures.stripe made.ensures.site c.history.ensures.legal grows
@@ -173,10 +173,10 @@ invariant_of-low-2 g c =
     let own_is = ap (λ i. i.side) c.own-inside.view_is in
     let put = c.put_answer in
     let place : c.events-place.result ≡ length raw.state.history = c.events-place.ensures ∙ sym (ap (λ (x : StripeSide). length x.stripe.history) own_is) in
-    let answered = answered_performed g.N.Named.config raw.state made.new.stripe cl (raw_low.state ∷ raw_high.state ∷ []) (v ∷ w ∷ []) raw.seen.sight put.new.seen.sight c.args.caller.now.number c.events-place.result
-    c.requires.who place made.ensures.site put.ensures.grows made.result made.ensures.made made.ensures.err put.ensures.told in
+    let called = called_performed g.N.Named.config raw.state made.new.stripe cl (raw_low.state ∷ raw_high.state ∷ []) (v ∷ w ∷ []) raw.seen.sight put.new.seen.sight c.args.caller.now put.new.caller c.events-place.result
+    c.requires.asked place made.ensures.site put.ensures.grows made.result made.ensures.made made.ensures.err put.ensures.of put.ensures.told put.ensures.noted in
     two_low g.N.Named.board.table g.N.Named.config cl raw.state made.new.stripe raw_low.state v raw_high.state w
-    raw.owner put.new.owner raw.seen put.new.seen c.own.inside.side c.hear.new.self c.hear-2.new.self c.hear-3.new.stripe c.hear-4.new.stripe own_is c.own.invariant put.ensures.owner put.ensures.grows answered
+    raw.owner put.new.owner raw.seen put.new.seen c.own.inside.side c.hear.new.self c.hear-2.new.self c.hear-3.new.stripe c.hear-4.new.stripe own_is c.own.invariant put.ensures.owner put.ensures.grows called
     raw_low.owner c.catch_up_class.new.owner raw_low.seen c.low.inside.side c.hear.new.class (ap (λ i. i.side) c.low-inside.view_is) c.low.invariant c.catch_up_class.ensures c.hear.ensures.class
     raw_high.owner c.catch_up_class-2.new.owner raw_high.seen c.high.inside.side c.hear-2.new.class (ap (λ i. i.side) c.high-inside.view_is) c.high.invariant c.catch_up_class-2.ensures c.hear-2.ensures.class
     c.hear.ensures.told c.hear.ensures.grows c.hear-2.ensures.told c.hear-2.ensures.grows c.hear-3.ensures.stripe c.hear-4.ensures.stripe made.ensures.site c.history.ensures.legal grows
@@ -197,10 +197,10 @@ invariant_of-high-2 g c =
     let own_is = ap (λ i. i.side) c.own-inside.view_is in
     let put = c.put_answer in
     let place : c.events-place.result ≡ length raw.state.history = c.events-place.ensures ∙ sym (ap (λ (x : StripeSide). length x.stripe.history) own_is) in
-    let answered = answered_performed g.N.Named.config raw.state made.new.stripe cl (raw_low.state ∷ raw_high.state ∷ []) (v ∷ w ∷ []) raw.seen.sight put.new.seen.sight c.args.caller.now.number c.events-place.result
-    c.requires.who place made.ensures.site put.ensures.grows made.result made.ensures.made made.ensures.err put.ensures.told in
+    let called = called_performed g.N.Named.config raw.state made.new.stripe cl (raw_low.state ∷ raw_high.state ∷ []) (v ∷ w ∷ []) raw.seen.sight put.new.seen.sight c.args.caller.now put.new.caller c.events-place.result
+    c.requires.asked place made.ensures.site put.ensures.grows made.result made.ensures.made made.ensures.err put.ensures.of put.ensures.told put.ensures.noted in
     two_high g.N.Named.board.table g.N.Named.config cl raw.state made.new.stripe raw_low.state v raw_high.state w
-    raw.owner put.new.owner raw.seen put.new.seen c.own.inside.side c.hear.new.self c.hear-2.new.self c.hear-3.new.stripe c.hear-4.new.stripe own_is c.own.invariant put.ensures.owner put.ensures.grows answered
+    raw.owner put.new.owner raw.seen put.new.seen c.own.inside.side c.hear.new.self c.hear-2.new.self c.hear-3.new.stripe c.hear-4.new.stripe own_is c.own.invariant put.ensures.owner put.ensures.grows called
     raw_low.owner c.catch_up_class.new.owner raw_low.seen c.low.inside.side c.hear.new.class (ap (λ i. i.side) c.low-inside.view_is) c.low.invariant c.catch_up_class.ensures c.hear.ensures.class
     raw_high.owner c.catch_up_class-2.new.owner raw_high.seen c.high.inside.side c.hear-2.new.class (ap (λ i. i.side) c.high-inside.view_is) c.high.invariant c.catch_up_class-2.ensures c.hear-2.ensures.class
     c.hear.ensures.told c.hear.ensures.grows c.hear-2.ensures.told c.hear-2.ensures.grows c.hear-3.ensures.stripe c.hear-4.ensures.stripe made.ensures.site c.history.ensures.legal grows

@@ -4,9 +4,9 @@ use Rattle.mc_stripe.specs.Alone.{IsStorage, TouchesNoChunk}
 use Rattle.mc_store.specs.Calls.{IsReplied}
 use Rattle.mc_store.specs.Locked.{IsLockedStripe}
 use Rattle.mc_store.specs.Sides.{StripeSide}
-use Rattle.mc_store.proofs.CallerLemmas.{told_call}
+use Rattle.mc_store.proofs.CallerLemmas.{noted_at, told_answer}
 use Rattle.mc_store.proofs.PairLemmas.{stripe_sees}
-use Rattle.mc_store.proofs.QuickLemmas.{done, quick_answered, quick_behind, quick_end, quick_replied}
+use Rattle.mc_store.proofs.QuickLemmas.{done, quick_called, quick_behind, quick_end, quick_replied}
 use Rattle.mc_store.proofs.SaidLemmas.{stripe_side}
 use Rattle.mc_store.proofs.quick.answer_quick.Goals as goal
 
@@ -24,16 +24,19 @@ invariant_of-own-in-Ok g c =
     let new = c.answer_alone-quick.new.stripe in
     let quick = c.answer_alone-quick.ensures in
     let seen = c.note.new.seen in
-    let number = c.args.caller.now.number in
+    let place_of = c.events-place.result in
     let own_is = ap (λ i. i.side) c.own-inside.view_is in
     let notes = rw c.in-Ok.is at c.in_ok-copy.ensures.event in
     let was : IsLockedStripe table config (stripe_side raw.owner raw.seen raw.state) = subst (IsLockedStripe table config) (sym own_is) c.own.invariant in
     let kept = stripe_sees table config (stripe_side raw.owner raw.seen raw.state) seen.sight c.note.ensures.grows was in
     let place : c.events-place.result ≡ length raw.state.history = c.events-place.ensures ∙ sym (ap (λ (x : StripeSide). length x.stripe.history) own_is) in
-    let told = told_call config c.args.caller.now c.note.new.self c.number-stripe.result.0 new.site.stripe c.events-place.result raw.seen seen c.number-stripe.ensures c.note.ensures.noted c.note.ensures.told (done number) in
-    let answered = quick_answered c.args.who c.args.command c.args.moment raw.state new notes config raw.seen.sight seen.sight number c.events-place.result c.requires.who place quick.site c.note.ensures.grows told was.answered in
+    let stripe = c.number-stripe.ensures in
+    let noted = noted_at c.args.caller.now c.note.new.self c.number-stripe.result.0 new.site.stripe c.events-place.result stripe c.note.ensures.noted (done place_of) in
+    let told = told_answer config c.args.caller.now c.note.new.self raw.seen seen c.note.ensures.told (done place_of) in
+    let called = quick_called c.args.who c.args.command c.args.moment raw.state new notes config raw.seen.sight seen.sight c.args.caller.now c.note.new.self c.events-place.result c.requires.asked place quick.site c.note.ensures.grows
+    c.note.ensures.of told noted was.called in
     subst (IsLockedStripe table config) (sym (ap (λ (o : OwnerView). stripe_side o seen new) c.catch_up_stripe.ensures))
-    (quick_end c.args.who c.args.command c.args.moment raw.state new notes table config (stripe_side raw.owner seen raw.state) refl kept quick.site c.history.ensures.legal answered quick.sight)
+    (quick_end c.args.who c.args.command c.args.moment raw.state new notes table config (stripe_side raw.owner seen raw.state) refl kept quick.site c.history.ensures.legal called quick.sight)
 
 pub returns-in-Ok-clause-replied : goal.returns-in-Ok-clause-replied
 returns-in-Ok-clause-replied g c =

@@ -19,6 +19,10 @@ use Rattle.mc_store.specs.declared.locked.LockedStripe.TheInside as stripes
 use Rattle.mc_store.specs.declared.locked.LockedClass.TheInside as classes
 use Rattle.mc_store.proofs.ServedLemmas.{class_paired, class_told_more, settled_grows, settled_told, short_paired, stripe_paired}
 use Rattle.mc_store.proofs.walking.bury_under.Goals as goal
+use Rattle.mc_store.specs.Locked.{HasBegun}
+use Rattle.mc_store.proofs.CallerLemmas.{begun_sees}
+use Rattle.mc_store.proofs.PairLemmas.{grows_trans}
+use Rattle.mc_board.specs.Histories.{Grows}
 
 pub settle-done-requires-clause-judge : goal.settle-done-requires-clause-judge
 settle-done-requires-clause-judge g c =
@@ -56,12 +60,14 @@ invariant_of-own g c =
     let c_is : lent.state ≡ c.meet.new.lent.class = ap (λ (x : ClassSide). x.class) (lent_is ∙ c.class.view_is) in
     let agree : AgreeNow lent.state own.state = subst (λ (s : Stripe). AgreeNow lent.state s) (sym s_is) (subst (λ (v : ClassView). AgreeNow v c.meet.new.own.stripe) (sym c_is) c.meet.ensures.met) in
     let q = question c.args.who c.args.link.number Dead c.args.moment in
+    let begun = subst (λ (x : StripeSide). HasBegun g.N.Named.config x.sight c.args.who c.args.moment) (sym (own_is ∙ c.own.view_is))
+    (begun_sees g.N.Named.config c.args.own.now.sight c.meet.new.own.sight c.args.who c.args.moment c.meet.ensures.grows c.requires.begun) in
     let walked = settle_walked _ _ _ _ q c.settle-done.ensures.site c.settle-done.ensures.agreement c.settle-done.result c.settle-done.ensures.settled c.settle-done.ensures.err in
     let grows = settled_grows _ _ _ _ q c.settle-done.result c.settle-done.ensures.settled c.settle-done.ensures.err in
     stripe_paired g.N.Named.board.table g.N.Named.config c.own.inside.side c.class.inside.side c.own.invariant c.class.invariant own.state own.owner own.seen own_is lent.state lent.owner lent.seen lent_is
     agree c.settle-done.new.stripe c.settle-done.new.class c.settle-done.ensures.site grows c.history-2.ensures.legal c.law-2.ensures.lawful c.settle-done.ensures.agreement c.settle-done.ensures.sight
     c.catch_up_stripe.new.owner c.catch_up_stripe.ensures c.catch_up_class.new.owner c.catch_up_class.ensures c.hear.new.self c.hear-2.new.stripe c.hear.new.class c.hear-2.new.self
-    c.hear.ensures.class c.hear.ensures.told c.hear.ensures.grows c.hear-2.ensures.stripe c.hear-2.ensures.told c.hear-2.ensures.grows _ walked.grows
+    c.hear.ensures.class c.hear.ensures.told c.hear.ensures.grows c.hear-2.ensures.stripe c.hear-2.ensures.told c.hear-2.ensures.grows _ begun walked.grows
 
 pub invariant_of-class : goal.invariant_of-class
 invariant_of-class g c =
@@ -89,12 +95,14 @@ invariant_of-own-2 g c =
     let c_is : lent.state ≡ c.meet.new.lent.class = ap (λ (x : ClassSide). x.class) (lent_is ∙ c.class.view_is) in
     let agree : AgreeNow lent.state own.state = subst (λ (s : Stripe). AgreeNow lent.state s) (sym s_is) (subst (λ (v : ClassView). AgreeNow v c.meet.new.own.stripe) (sym c_is) c.meet.ensures.met) in
     let q = question c.args.who c.args.link.number Dead c.args.moment in
+    let begun = subst (λ (x : StripeSide). HasBegun g.N.Named.config x.sight c.args.who c.args.moment) (sym (own_is ∙ c.own.view_is))
+    (begun_sees g.N.Named.config c.args.own.now.sight c.meet.new.own.sight c.args.who c.args.moment c.meet.ensures.grows c.requires.begun) in
     let walked = settle_walked _ _ _ _ q c.settle-done.ensures.site c.settle-done.ensures.agreement c.settle-done.result c.settle-done.ensures.settled c.settle-done.ensures.err in
     let grows = settled_grows _ _ _ _ q c.settle-done.result c.settle-done.ensures.settled c.settle-done.ensures.err in
     stripe_paired g.N.Named.board.table g.N.Named.config c.own.inside.side c.class.inside.side c.own.invariant c.class.invariant own.state own.owner own.seen own_is lent.state lent.owner lent.seen lent_is
     agree c.settle-done.new.stripe c.settle-done.new.class c.settle-done.ensures.site grows c.history-2.ensures.legal c.law-2.ensures.lawful c.settle-done.ensures.agreement c.settle-done.ensures.sight
     c.catch_up_stripe.new.owner c.catch_up_stripe.ensures c.catch_up_class.new.owner c.catch_up_class.ensures c.hear.new.self c.hear-2.new.stripe c.hear.new.class c.hear-2.new.self
-    c.hear.ensures.class c.hear.ensures.told c.hear.ensures.grows c.hear-2.ensures.stripe c.hear-2.ensures.told c.hear-2.ensures.grows _ walked.grows
+    c.hear.ensures.class c.hear.ensures.told c.hear.ensures.grows c.hear-2.ensures.stripe c.hear-2.ensures.told c.hear-2.ensures.grows _ begun walked.grows
 
 pub invariant_of-class-2 : goal.invariant_of-class-2
 invariant_of-class-2 g c =
@@ -150,3 +158,15 @@ returns-clause-lost g c =
     ∙ (c.in_ok-done.ensures.settled.stripe
     ∙ (ap (λ (es : List StripeEvent). own.state.history ++ es) (ap (λ (d : Done). stripe_events lent.state q d) (c.in_ok-done.ensures.done ∙ made.0) ∙ made.1)
     ∙ ap (λ (s : Stripe). s.history ++ lost_event c.args.who c.args.key.now (Expired c.args.moment) ∷ []) (s_is ∙ ap (λ (x : StripeSide). x.stripe) c.meet.ensures.own)))
+
+pub returns-in_err-done-clause-sees : goal.returns-in_err-done-clause-sees
+returns-in_err-done-clause-sees g c =
+    let own_is = ap (λ (l : stripes.Inside g.row.N.Denot). l.side) c.own-inside.view_is in
+    subst (λ (x : StripeSide). Grows c.args.own.now.sight x.sight) (sym c.hear-2.ensures.stripe)
+    (grows_trans c.args.own.now.sight c.meet.new.own.sight c.hear.new.self.sight c.meet.ensures.grows (subst (λ (x : StripeSide). Grows x.sight c.hear.new.self.sight) (own_is ∙ c.own.view_is) c.hear.ensures.grows))
+
+pub returns-clause-sees : goal.returns-clause-sees
+returns-clause-sees g c =
+    let own_is = ap (λ (l : stripes.Inside g.row.N.Denot). l.side) c.own-inside.view_is in
+    subst (λ (x : StripeSide). Grows c.args.own.now.sight x.sight) (sym c.hear-2.ensures.stripe)
+    (grows_trans c.args.own.now.sight c.meet.new.own.sight c.hear.new.self.sight c.meet.ensures.grows (subst (λ (x : StripeSide). Grows x.sight c.hear.new.self.sight) (own_is ∙ c.own.view_is) c.hear.ensures.grows))

@@ -11,8 +11,8 @@ use Rattle.mc_store.proofs.walking.juggle_under.Goals as goal
 
 pub juggle-moves-requires-clause-outlasts : goal.juggle-moves-requires-clause-outlasts
 juggle-moves-requires-clause-outlasts g c = record {
-  survey = λ gate config v who moment room s. (s.0, served_survey g.N.Named.board.table g.N.Named.config gate.owner.now gate.seen.now v who moment room s.1);
-  room = λ gate config v room s. (s.0, served_room g.N.Named.board.table g.N.Named.config gate.owner.now gate.seen.now v room s.1);
+  survey = λ gate config v who moment room s. (s.0, served_survey g.N.Named.board.table g.N.Named.config gate.owner.now gate.seen.now v who moment room s.1, s.2);
+  room = λ gate config v room s. (s.0, served_room g.N.Named.board.table g.N.Named.config gate.owner.now gate.seen.now v room s.1, s.2);
 }
 
 pub returns-clause-juggle : goal.returns-clause-juggle

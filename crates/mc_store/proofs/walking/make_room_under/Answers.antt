@@ -15,6 +15,8 @@ use Rattle.mc_store.proofs.GateLemmas.{ok_more, room_full}
 use Rattle.mc_store.proofs.PairLemmas.{grows_trans}
 use Rattle.mc_store.proofs.ServedLemmas.{stripe_heard}
 use Rattle.mc_store.proofs.walking.make_room_under.Goals as goal
+use Rattle.mc_store.specs.Locked.{HasBegun}
+use Rattle.mc_store.proofs.CallerLemmas.{begun_sees}
 
 pub invariant_of-own : goal.invariant_of-own
 invariant_of-own g c =
@@ -24,7 +26,7 @@ invariant_of-own g c =
 
 pub returns-clause-room : goal.returns-clause-room
 returns-clause-room g c =
-    let of : c.side.inside.state ≡ c.args.class.now.class = ap (λ (x : ClassSide). x.class) (c.side.view_is ∙ c.class.view_is) in
+    let of : c.side.inside.state ≡ c.args.class.now.class = ap (λ (x : ClassSide). x.class) (c.side.view_is ∙ (c.class.view_is ∙ c.learn_from.ensures.class)) in
     let last : c.hear.new.class.class ≡ c.make_room_with-found.new.class = ap (λ (x : ClassSide). x.class) c.hear.ensures.class in
     let P : ClassView → ClassView → Bool → Type 0 = λ v w found. (xs : List Answer) × IsRoom (rounds v c.args.who c.args.moment g.N.Named.config) v.history xs w.history found in
     ok_more c.make_room_with-found.result _ (P c.args.class.now.class c.hear.new.class.class)
@@ -33,12 +35,13 @@ returns-clause-room g c =
 
 pub returns-clause-stripe : goal.returns-clause-stripe
 returns-clause-stripe g c =
-    let of : c.side.inside.state ≡ c.args.class.now.class = ap (λ (x : ClassSide). x.class) (c.side.view_is ∙ c.class.view_is) in
+    let of : c.side.inside.state ≡ c.args.class.now.class = ap (λ (x : ClassSide). x.class) (c.side.view_is ∙ (c.class.view_is ∙ c.learn_from.ensures.class)) in
     let walked = c.make_room_with-found.new.own.stripe in
     let own_is = ap (λ (l : Inside g.row.N.Denot). l.side) c.own-inside.view_is in
     let last : c.hear.new.self.stripe ≡ walked = ap (λ (x : StripeSide). x.stripe) c.hear.ensures.told ∙ ap (λ (x : StripeSide). x.stripe) (own_is ∙ c.own.view_is) in
     subst (λ (s : Stripe). StripeGrows (walker_of c.args.class.now.class c.args.who c.args.moment) c.args.own.now.stripe s) (sym last)
-    (subst (λ (v : ClassView). StripeGrows (walker_of v c.args.who c.args.moment) c.args.own.now.stripe walked) of c.make_room_with-found.ensures.stripe)
+    (subst (λ (x : StripeSide). StripeGrows (walker_of c.args.class.now.class c.args.who c.args.moment) x.stripe walked) c.learn_from.ensures.same
+    (subst (λ (v : ClassView). StripeGrows (walker_of v c.args.who c.args.moment) c.learn_from.new.stripe.stripe walked) of c.make_room_with-found.ensures.stripe))
 
 pub returns-clause-full : goal.returns-clause-full
 returns-clause-full g c = λ is.
@@ -49,3 +52,8 @@ returns-clause-full g c = λ is.
     inr (room_full g.N.Named.board.table g.N.Named.config new.owner new.seen new.class c.make_room_with-found.ensures.served c.hear.new.self.sight c.catch_up_class.new.owner.lock
     (ap (λ (o : OwnerView). o.lock) c.catch_up_class.ensures) told (grows_trans new.seen.sight c.learn.new.self.sight c.hear.new.self.sight c.learn.ensures.theirs c.hear.ensures.grows)
     c.make_room_with-found.result c.make_room_with-found.ensures.fault is)
+
+pub make_room_with-found-requires-clause-begun : goal.make_room_with-found-requires-clause-begun
+make_room_with-found-requires-clause-begun g c =
+    subst (λ (x : ClassSide). HasBegun g.N.Named.config x.sight c.args.who c.args.moment) (sym (c.side.view_is ∙ c.class.view_is))
+    (begun_sees g.N.Named.config c.args.own.now.sight c.learn_from.new.self.sight c.args.who c.args.moment c.learn_from.ensures.learnt c.requires.begun)

@@ -1,4 +1,4 @@
-use Rattle.std.proofs.Common.{◌≡◌, ◌+◌, ℕ, ap, ◌∙◌, length, refl, subst, sym}
+use Rattle.std.proofs.Common.{◌≡◌, ◌+◌, ℕ, ap, ◌∙◌, length, refl, subst, sym, inr}
 use Rattle.mc_item.specs.Counts.{no_counts}
 use Rattle.mc_item.specs.declared.counts.Histogram.{Histogram}
 use Rattle.mc_board.specs.Histories.{Grows}
@@ -8,6 +8,8 @@ use Rattle.mc_store.specs.Passes.{PassView}
 use Rattle.mc_store.proofs.CrawledLemmas.{shows_both, shows_none, snapshot_later}
 use Rattle.mc_store.proofs.PairLemmas.{grows_trans}
 use Rattle.mc_store.proofs.store.Store.crawl.Goals as goal
+use Rattle.mc_store.proofs.CallLemmas.{on_err_always, called_now}
+use Rattle.mc_store.specs.Callers.{crawling_of}
 
 pub loop-i-init : goal.loop-i-init
 loop-i-init g c =
@@ -31,8 +33,13 @@ loop-i-init g c =
 pub returns-in_err-crawl_link-clause-grows : goal.returns-in_err-crawl_link-clause-grows
 returns-in_err-crawl_link-clause-grows g c = grows_trans c.args.pass.now.sight c.loop-i.pass.sight c.crawl_link.new.pass.sight c.loop-i.invariant.4 c.crawl_link.ensures.grows
 
-pub returns-in_err-crawl_link-clause-calls : goal.returns-in_err-crawl_link-clause-calls
-returns-in_err-crawl_link-clause-calls g c = ap (λ (p : PassView). p.calls) c.crawl_link.ensures.same ∙ c.loop-i.invariant.8
+pub returns-in_err-crawl_link-clause-cut : goal.returns-in_err-crawl_link-clause-cut
+returns-in_err-crawl_link-clause-cut g c = on_err_always c.from_residual-in_err-crawl_link.result (inr (ap (λ (p : PassView). p.calls) c.crawl_link.ensures.same ∙ c.loop-i.invariant.8))
+
+pub crawl_link-requires-clause-called : goal.crawl_link-requires-clause-called
+crawl_link-requires-clause-called g c =
+    let i = c.loop-i.invariant in
+    called_now c.args.pass.now c.loop-i.pass (crawling_of c.args.class c.args.moment) c.in_ok-who.who c.args.moment i.5 i.8 i.7 c.in_ok-who.ensures.turns refl
 
 pub returns-clause-calls : goal.returns-clause-calls
 returns-clause-calls g c = c.loop-i.invariant.8

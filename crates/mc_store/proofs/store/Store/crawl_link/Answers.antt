@@ -1,11 +1,14 @@
 use Rattle.std.proofs.Common.{◌≡◌, ap, ◌∙◌, subst, sym}
+use Rattle.std.specs.Prelude.{OnOk}
 use Rattle.mc_board.specs.Histories.{Grows, list_at}
 use Rattle.mc_board.specs.declared.rule.Sight.{Sight}
 use Rattle.mc_crawl.specs.Crawl.{Reclaims}
+use Rattle.mc_segment.specs.ClassState.{ClassView}
+use Rattle.mc_pull.specs.Growth as classes
 use Rattle.mc_store.specs.Crawls.{ShowsReclaims}
 use Rattle.mc_store.specs.Finals.{IsBehindAt}
 use Rattle.mc_store.specs.Locked.{IsLockedClass}
-use Rattle.mc_store.specs.Passes.{PassView}
+use Rattle.mc_store.specs.Passes.{PassView, HasCalled, caller_of}
 use Rattle.mc_store.specs.Sides.{ClassSide, class_told}
 use Rattle.mc_store.proofs.CrawledLemmas.{on_ok_more, shows_one}
 use Rattle.mc_store.proofs.GrownLemmas.{class_grew, fails_full}
@@ -20,6 +23,8 @@ returns-clause-reclaims g c =
     let old_kept : IsLockedClass table config old = subst (IsLockedClass table config) (sym same) c.own.invariant in
     let new = c.crawl_under-done.new.class in
     let new_kept : IsLockedClass table config new = subst (IsLockedClass table config) c.own-2.view_is c.own-2.invariant in
+    let cls : c.tell_class.new.class.class ≡ old.class = ap (λ (x : ClassSide). x.class) c.tell_class.ensures.class in
+    let grows = subst (λ (v : ClassView). classes.Grows v new.class) cls c.crawl_under-done.ensures.class in
     let number : old.class.number ≡ c.args.class = ap (λ (x : ClassSide). x.class.number) (same ∙ (c.own.view_is ∙ c.deref_mut-own.ensures.value)) ∙ c.lock_class-guard.ensures in
     let sight : c.pass.inside.seen.sight ≡ c.args.pass.now.sight = ap (λ (v : PassView). v.sight) c.pass.view_is in
     let behind : IsBehindAt c.args.pass.now.sight old.lock (class_told old.class.history) =
@@ -28,13 +33,13 @@ returns-clause-reclaims g c =
     let told : list_at c.share.new.seen.sight.seen new.lock ≡ class_told new.class.history =
     subst (λ (x : ClassSide). list_at c.share.new.seen.sight.seen x.lock ≡ class_told x.class.history) c.own-2.view_is c.share.ensures.told in
     let all : Grows new.sight c.share.new.seen.sight = subst (λ (x : ClassSide). Grows x.sight c.share.new.seen.sight) c.own-2.view_is c.share.ensures.all in
-    let grew = class_grew table config c.args.class c.args.pass.now.sight c.share.new.seen.sight old new old_kept new_kept number c.crawl_under-done.ensures.class behind told all in
+    let grew = class_grew table config c.args.class c.args.pass.now.sight c.share.new.seen.sight old new old_kept new_kept number grows behind told all in
     let first = c.args.histogram.now.reclaimed in
     let last = c.crawl_under-done.new.histogram.reclaimed in
     on_ok_more c.crawl_under-done.result (Reclaims c.args.who c.args.moment old.class.history new.class.history first last)
     (ShowsReclaims config c.args.class c.args.pass.now.sight c.share.new.seen.sight c.args.who c.args.moment first last)
     (shows_one config c.args.class c.args.pass.now.sight c.share.new.seen.sight c.args.who c.args.moment first last old.class.history new.class.history grew.seen grew.now)
-    c.crawl_under-done.ensures.reclaims
+    (subst (λ (v : ClassView). OnOk c.crawl_under-done.result (Reclaims c.args.who c.args.moment v.history new.class.history first last)) cls c.crawl_under-done.ensures.reclaims)
 
 pub returns-clause-full : goal.returns-clause-full
 returns-clause-full g c = λ is.
@@ -45,6 +50,8 @@ returns-clause-full g c = λ is.
     let old_kept : IsLockedClass table config old = subst (IsLockedClass table config) (sym same) c.own.invariant in
     let new = c.crawl_under-done.new.class in
     let new_kept : IsLockedClass table config new = subst (IsLockedClass table config) c.own-2.view_is c.own-2.invariant in
+    let cls : c.tell_class.new.class.class ≡ old.class = ap (λ (x : ClassSide). x.class) c.tell_class.ensures.class in
+    let grows = subst (λ (v : ClassView). classes.Grows v new.class) cls c.crawl_under-done.ensures.class in
     let number : old.class.number ≡ c.args.class = ap (λ (x : ClassSide). x.class.number) (same ∙ (c.own.view_is ∙ c.deref_mut-own.ensures.value)) ∙ c.lock_class-guard.ensures in
     let sight : c.pass.inside.seen.sight ≡ c.args.pass.now.sight = ap (λ (v : PassView). v.sight) c.pass.view_is in
     let behind : IsBehindAt c.args.pass.now.sight old.lock (class_told old.class.history) =
@@ -53,5 +60,9 @@ returns-clause-full g c = λ is.
     let told : list_at c.share.new.seen.sight.seen new.lock ≡ class_told new.class.history =
     subst (λ (x : ClassSide). list_at c.share.new.seen.sight.seen x.lock ≡ class_told x.class.history) c.own-2.view_is c.share.ensures.told in
     let all : Grows new.sight c.share.new.seen.sight = subst (λ (x : ClassSide). Grows x.sight c.share.new.seen.sight) c.own-2.view_is c.share.ensures.all in
-    fails_full table config c.args.class c.args.pass.now.sight c.share.new.seen.sight old new old_kept new_kept number c.crawl_under-done.ensures.class behind told all
+    fails_full table config c.args.class c.args.pass.now.sight c.share.new.seen.sight old new old_kept new_kept number grows behind told all
     c.crawl_under-done.result c.crawl_under-done.ensures.fault is
+
+pub crawl_under-done-requires-clause-begun : goal.crawl_under-done-requires-clause-begun
+crawl_under-done-requires-clause-begun g c =
+    c.tell_class.ensures.begun c.args.who c.args.moment (subst (λ (p : PassView). HasCalled (caller_of p) c.args.who c.args.moment) (sym c.pass.view_is) c.requires.called)

@@ -1,15 +1,22 @@
-use Rattle.std.proofs.Common.{◌≡◌, ap, ◌∙◌, inl, subst, sym}
+use Rattle.std.proofs.Common.{◌≡◌, List, ap, ◌∙◌, inl, subst, sym, refl}
 use Rattle.std.specs.Prelude.{IfOk}
 use Rattle.mc_item.specs.declared.item.Who.{Who}
 use Rattle.mc_board.specs.Histories.{Grows, list_at}
 use Rattle.mc_board.specs.declared.rule.Sight.{Sight}
+use Rattle.mc_segment.specs.ClassState.{ClassView}
+use Rattle.mc_pull.specs.Growth as classes
+use Rattle.mc_pull.specs.Juggle.{IsJuggle}
+use Rattle.mc_pull.specs.Rounds.{rounds}
+use Rattle.mc_pull.specs.declared.looking.Answer.{Answer}
 use Rattle.mc_store.specs.Calls.{IsJuggledBy}
 use Rattle.mc_store.specs.Finals.{IsBehindAt}
 use Rattle.mc_store.specs.Locked.{IsLockedClass}
-use Rattle.mc_store.specs.Passes.{PassView}
+use Rattle.mc_store.specs.Passes.{PassView, HasCalled, caller_of}
 use Rattle.mc_store.specs.Sides.{ClassSide, class_told}
 use Rattle.mc_store.proofs.GrownLemmas.{fails_full, juggled_so}
 use Rattle.mc_store.proofs.store.Store.juggle.Goals as goal
+use Rattle.mc_store.proofs.CallLemmas.{called_now}
+use Rattle.mc_store.specs.Callers.{juggling_of}
 
 pub returns-clause-juggled : goal.returns-clause-juggled
 returns-clause-juggled g c =
@@ -20,6 +27,8 @@ returns-clause-juggled g c =
     let old_kept : IsLockedClass table config old = subst (IsLockedClass table config) (sym same) c.own.invariant in
     let new = c.juggle_under-moves.new.class in
     let new_kept : IsLockedClass table config new = subst (IsLockedClass table config) c.own-2.view_is c.own-2.invariant in
+    let cls : c.tell_class.new.class.class ≡ old.class = ap (λ (x : ClassSide). x.class) c.tell_class.ensures.class in
+    let grows = subst (λ (v : ClassView). classes.Grows v new.class) cls c.juggle_under-moves.ensures.class in
     let number : old.class.number ≡ c.args.class = ap (λ (x : ClassSide). x.class.number) (same ∙ (c.own.view_is ∙ c.deref_mut-own.ensures.value)) ∙ c.lock_class-guard.ensures in
     let sight : c.pass.inside.seen.sight ≡ c.args.pass.now.sight = ap (λ (v : PassView). v.sight) (c.pass.view_is ∙ c.in_ok-who.ensures.turn) in
     let behind : IsBehindAt c.args.pass.now.sight old.lock (class_told old.class.history) =
@@ -29,8 +38,9 @@ returns-clause-juggled g c =
     subst (λ (x : ClassSide). list_at c.share.new.seen.sight.seen x.lock ≡ class_told x.class.history) c.own-2.view_is c.share.ensures.told in
     let all : Grows new.sight c.share.new.seen.sight = subst (λ (x : ClassSide). Grows x.sight c.share.new.seen.sight) c.own-2.view_is c.share.ensures.all in
     subst (λ (who : Who). IfOk c.juggle_under-moves.result (IsJuggledBy config c.args.class c.args.pass.now.sight c.share.new.seen.sight who c.args.moment)) c.in_ok-who.ensures.who
-    (juggled_so table config c.args.class c.args.pass.now.sight c.share.new.seen.sight old new old_kept new_kept number c.juggle_under-moves.ensures.class behind told all
-    c.in_ok-who.who c.args.moment c.juggle_under-moves.result c.juggle_under-moves.ensures.juggle)
+    (juggled_so table config c.args.class c.args.pass.now.sight c.share.new.seen.sight old new old_kept new_kept number grows behind told all
+    c.in_ok-who.who c.args.moment c.juggle_under-moves.result
+    (subst (λ (v : ClassView). IfOk c.juggle_under-moves.result (λ moves. (xs : List Answer) × IsJuggle (rounds v c.in_ok-who.who c.args.moment config) v.history xs new.class.history moves)) cls c.juggle_under-moves.ensures.juggle))
 
 pub returns-clause-full : goal.returns-clause-full
 returns-clause-full g c = λ is.
@@ -41,6 +51,8 @@ returns-clause-full g c = λ is.
     let old_kept : IsLockedClass table config old = subst (IsLockedClass table config) (sym same) c.own.invariant in
     let new = c.juggle_under-moves.new.class in
     let new_kept : IsLockedClass table config new = subst (IsLockedClass table config) c.own-2.view_is c.own-2.invariant in
+    let cls : c.tell_class.new.class.class ≡ old.class = ap (λ (x : ClassSide). x.class) c.tell_class.ensures.class in
+    let grows = subst (λ (v : ClassView). classes.Grows v new.class) cls c.juggle_under-moves.ensures.class in
     let number : old.class.number ≡ c.args.class = ap (λ (x : ClassSide). x.class.number) (same ∙ (c.own.view_is ∙ c.deref_mut-own.ensures.value)) ∙ c.lock_class-guard.ensures in
     let sight : c.pass.inside.seen.sight ≡ c.args.pass.now.sight = ap (λ (v : PassView). v.sight) (c.pass.view_is ∙ c.in_ok-who.ensures.turn) in
     let behind : IsBehindAt c.args.pass.now.sight old.lock (class_told old.class.history) =
@@ -49,5 +61,11 @@ returns-clause-full g c = λ is.
     let told : list_at c.share.new.seen.sight.seen new.lock ≡ class_told new.class.history =
     subst (λ (x : ClassSide). list_at c.share.new.seen.sight.seen x.lock ≡ class_told x.class.history) c.own-2.view_is c.share.ensures.told in
     let all : Grows new.sight c.share.new.seen.sight = subst (λ (x : ClassSide). Grows x.sight c.share.new.seen.sight) c.own-2.view_is c.share.ensures.all in
-    inl (fails_full table config c.args.class c.args.pass.now.sight c.share.new.seen.sight old new old_kept new_kept number c.juggle_under-moves.ensures.class behind told all
+    inl (fails_full table config c.args.class c.args.pass.now.sight c.share.new.seen.sight old new old_kept new_kept number grows behind told all
     c.juggle_under-moves.result c.juggle_under-moves.ensures.fault is)
+
+pub juggle_under-moves-requires : goal.juggle_under-moves-requires
+juggle_under-moves-requires g c =
+    let turn = c.in_ok-who.ensures.turn in
+    let called = called_now c.args.pass.now c.take_turn.new.self (juggling_of c.args.class c.args.moment) c.in_ok-who.who c.args.moment (ap (λ (p : PassView). p.caller) turn) (ap (λ (p : PassView). p.calls) turn) c.in_ok-who.ensures.who c.in_ok-who.ensures.turns refl in
+    record { begun = c.tell_class.ensures.begun c.in_ok-who.who c.args.moment (subst (λ (p : PassView). HasCalled (caller_of p) c.in_ok-who.who c.args.moment) (sym c.pass.view_is) called) }
