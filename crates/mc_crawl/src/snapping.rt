@@ -1,5 +1,5 @@
 //! A snapshot of the links of a class.
-ghost use Rattle.std.specs.Prelude.{◌≡◌, ◌++◌, length, IfOk, OnOk};
+ghost use Rattle.std.specs.Prelude.{◌≡◌, ◌≤◌, ◌++◌, ◌^◌, length, IfOk, OnOk};
 ghost use Rattle.mc_rule.specs.Lists.{count_of, lists_of};
 ghost use Rattle.mc_crawl.specs.Snapshot.{links_in, links_of};
 
@@ -25,12 +25,14 @@ fn push_segment(links: &mut Vec<Link>, class: &ClassState, seg: Seg) -> Result<(
     Ok(())
 }
 
-/// The links of all entries of a class: those of HOT, of WARM, of COLD and of TEMP, each list from its tail.
-/// `NoMemory` where there is none for the list.
+/// The links of all entries of a class: those of HOT, of WARM, of COLD and of TEMP, each list from its tail. They are no
+/// more than a history may have events. `NoMemory` where there is none for the list.
 pub fn snapshot(alloc: Global, class: &ClassState) -> Result<Vec<Link>, NoMemory>
     ensures links { IfOk result (λ links. links.items ≡ links_of class.now) }
     ensures count { IfOk result (λ links. length links.items ≡ count_of (lists_of class.now.history)) }
+    ensures few { IfOk result (λ links. length links.items ≤ 2 ^ 32) }
 {
+    class.law();
     let mut links = Vec::with_capacity(alloc, class.count() as usize)?;
     push_segment(&mut links, class, Seg::Hot)?;
     push_segment(&mut links, class, Seg::Warm)?;

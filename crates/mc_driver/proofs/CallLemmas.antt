@@ -1,6 +1,6 @@
 -- What a call on a store that threads share leaves of what its pass knows.
-use Rattle.std.proofs.Common.{◌≡◌, ◌<◌, ◌≤◌, ℕ, List, [], ◌∷◌, ◌++◌, Result, Ok, Err, refl, sym, ap, ◌∙◌, append-nil, subst, arith, length, length-append}
-use Rattle.std.specs.Prelude.{Bool, IfOk, OnErr, Some, cond, nat_eq, true}
+use Rattle.std.proofs.Common.{◌≡◌, ◌<◌, ◌≤◌, ℕ, List, [], ◌∷◌, ◌++◌, Result, Ok, Err, refl, sym, ap, ◌∙◌, append-nil, subst, arith, length, length-append, ◌⊎◌, inl, inr, ⊎_elim}
+use Rattle.std.specs.Prelude.{Bool, IfOk, OnErr, Some, cond, nat_eq, true, OnOk}
 use Rattle.std.specs.List.{slice_get}
 use Rattle.std.proofs.lemmas.List.Elements.{filter-append}
 use mathlib.Core.List.{IsPrefix}
@@ -13,6 +13,7 @@ use Rattle.mc_item.specs.declared.command.Command.{Command}
 use Rattle.mc_item.specs.declared.config.Config.{Config}
 use Rattle.mc_item.specs.declared.counts.Moves.{Moves}
 use Rattle.mc_item.specs.declared.event.Event.{Event}
+use Rattle.mc_item.specs.declared.event.Event.TheVariants as board_events
 use Rattle.mc_item.specs.declared.fault.Fault.{Fault}
 use Rattle.mc_item.specs.declared.item.ClassNo.{ClassNo}
 use Rattle.mc_item.specs.declared.item.Who.{Who}
@@ -26,35 +27,37 @@ use Rattle.mc_board.proofs.PrefixLemmas.{prefix_length}
 use Rattle.mc_evidence.specs.Seen.{class_events, stripe_events}
 use Rattle.mc_evidence.specs.Setting.{IsClass}
 use Rattle.mc_evidence.proofs.SeenLemmas.{class_events-map, classes_grow, stripe_events-map, stripes_grow}
-use Rattle.mc_proto.specs.Answers.{Moved, Replied}
+use Rattle.mc_proto.specs.Answers.{Moved, Replied, Counted}
 use Rattle.mc_pull.specs.Juggle.{IsJuggle}
 use Rattle.mc_pull.specs.Performed.{cooled_if}
 use Rattle.mc_pull.specs.Rounds.{Rounds, rounds}
 use Rattle.mc_rule.specs.Segment.{Rule}
-use Rattle.mc_script.specs.Calls.{Adds}
-use Rattle.mc_script.specs.Exchanges.{Asks, Exchange, Juggles, exchange}
+use Rattle.mc_script.specs.Calls.{Adds, AddsUp}
+use Rattle.mc_script.specs.Exchanges.{Asks, Exchange, Juggles, exchange, Crawls}
 use Rattle.mc_segment.specs.ClassState.{ClassView, chunks_for, class_view, opened}
-use Rattle.mc_store.specs.Callers.{answered_at}
-use Rattle.mc_store.specs.Calls.{IsJuggledBy, IsRepliedBy}
-use Rattle.mc_store.specs.Locked.{setting_of}
+use Rattle.mc_store.specs.Callers.{answered_at, asked_for, juggling_of, moment_of, crawling_of}
+use Rattle.mc_store.specs.Calls.{IsJuggledBy, IsRepliedBy, IsCutBy}
+use Rattle.mc_store.specs.Locked.{setting_of, class_lock}
 use Rattle.mc_store.specs.Passes.{PassView}
 use Rattle.mc_store.specs.Sides.{class_told, stripe_told}
 use Rattle.mc_driver.specs.Caller.{AreAt, AreNoted, AreRising, IsAt, histories_seen, places_in}
-use Rattle.mc_driver.specs.Noted.{NotesCommand, NotesJuggling, answered_event}
+use Rattle.mc_driver.specs.Noted.{NotesCommand, NotesJuggling, answered_event, NotesCrawling}
 use Rattle.mc_driver.specs.Stand.{calls_at, is_command_at, stripe_number}
-use Rattle.mc_driver.proofs.NotedLemmas.{at_later, at_push_if, get_next, places_in-push, rising_push_if, stripe_begins}
+use Rattle.mc_driver.proofs.NotedLemmas.{at_later, at_push_if, get_next, places_in-push, rising_push_if, stripe_begins, places_in-call}
 use Rattle.mc_driver.proofs.OnlyLemmas.{is_same}
 use Rattle.mc_driver.proofs.StandLemmas.{ArePlaced-append, Grow, Stand-append, stand_later}
+use Rattle.mc_item.specs.declared.counts.Histogram.{Histogram}
+use Rattle.mc_store.specs.Crawls.{HasReclaims, IsCrawledBy}
 
 -- what a pass has seen grows
-seen_grow : (config : Config) (old new : Sight) → Grows old new → Grow config (histories_seen config old) (histories_seen config new)
+pub seen_grow : (config : Config) (old new : Sight) → Grows old new → Grow config (histories_seen config old) (histories_seen config new)
 seen_grow config old new grows = record {
   stripes = λ number below. stripes_grow (list_at old.seen) (list_at new.seen) grows.at number;
   classes = λ class is. classes_grow config.stripes (list_at old.seen) (list_at new.seen) grows.at class;
 }
 
 -- a command that was replied to stands in what the pass has seen
-replied_stands : (config : Config) (before after : Sight) (calls calls_new : List CallEvent) (who : Who) (command : Command) (moment : ℕ) (reply : Reply)
+pub replied_stands : (config : Config) (before after : Sight) (calls calls_new : List CallEvent) (who : Who) (command : Command) (moment : ℕ) (reply : Reply)
     → IsRepliedBy config (stripe_number config.stripes command) before after calls calls_new who command moment reply
     → NotesCommand ((histories_seen config after).stripes (stripe_number config.stripes command)) who command moment reply
 replied_stands config before after calls calls_new who command moment reply by =
@@ -76,7 +79,7 @@ parts_same n n' chunks chunks' events events' rule rule' a b c d =
     ∙ ap (λ (x : ℕ). class_view n' chunks' x rule [] 0) c ∙ ap (λ (x : Rule). class_view n' chunks' events' x [] 0) d
 
 -- juggling that was done stands in what the pass has seen
-juggled_stands : (config : Config) (class : ClassNo) (before after : Sight) (who : Who) (moment : ℕ) (moves : Moves)
+pub juggled_stands : (config : Config) (class : ClassNo) (before after : Sight) (who : Who) (moment : ℕ) (moves : Moves)
     → IsJuggledBy config class before after who moment moves → NotesJuggling config ((histories_seen config after).classes class) who class moment moves
 juggled_stands config class before after who moment moves by =
     let c = by.old in
@@ -92,6 +95,43 @@ juggled_stands config class before after who moment moves by =
       split = seen ∙ sym (append-nil (c.history ++ by.own));
       answers = by.answers;
       juggled = subst (λ (r : Rounds). IsJuggle r c.history by.answers (c.history ++ by.own) moves) (ap (λ (v : ClassView). rounds v who moment config) same) by.juggle;
+    }
+
+-- what was seen of a class alone has the same reclaims
+reclaims_told : (who : Who) (moment many : ℕ) (es : List Event) → HasReclaims who moment many es → HasReclaims who moment many (class_told (class_events es))
+reclaims_told who moment many [] none = none
+reclaims_told who moment many (board_events.Stripe e ∷ es) some = reclaims_told who moment many es some
+reclaims_told who moment many (board_events.Call e ∷ es) some = reclaims_told who moment many es some
+reclaims_told who moment many (board_events.Class e ∷ es) (inl some) = inl (reclaims_told who moment many es some)
+reclaims_told who moment many (board_events.Class e ∷ es) (inr t) = inr (t.0, (t.1.0, t.1.1, reclaims_told who moment t.1.0 es t.1.2))
+
+-- events before others change nothing
+reclaims_behind : (who : Who) (moment many : ℕ) (xs ys : List Event) → HasReclaims who moment many ys → HasReclaims who moment many (xs ++ ys)
+reclaims_behind who moment many [] ys some = some
+reclaims_behind who moment many (board_events.Stripe e ∷ xs) ys some = reclaims_behind who moment many xs ys some
+reclaims_behind who moment many (board_events.Call e ∷ xs) ys some = reclaims_behind who moment many xs ys some
+reclaims_behind who moment many (board_events.Class e ∷ xs) ys some = inl (reclaims_behind who moment many xs ys some)
+
+-- a crawl that was made stands in what the pass has seen
+pub crawled_stands : (config : Config) (class : ClassNo) (before after : Sight) (who : Who) (moment : ℕ) (histogram : Histogram) → IsClass (setting_of config) class
+    → IsCrawledBy config class before after who moment histogram → NotesCrawling ((histories_seen config after).classes class) who moment histogram
+crawled_stands config class before after who moment histogram is by =
+    let snapshot = by.snapshot in
+    let shown = by.reclaims in
+    let list = list_at after.seen (class_lock config class) in
+    let begins : IsPrefix (class_events (class_told snapshot.history)) (class_events list) = classes_grow config.stripes (λ lock. class_told snapshot.history) (λ lock. list) (λ lock. snapshot.now) class in
+    let many : histogram.reclaimed ≡ shown.many = shown.count_is ∙ omega arith in
+    record {
+      at = snapshot.history;
+      behind = begins.0;
+      split = sym (ap (λ (h : List ClassEvent). h ++ begins.0) (sym (class_events-map snapshot.history)) ∙ begins.1);
+      seen = snapshot.count_is;
+      balanced = by.balanced;
+      reclaims =
+          reclaims_told who moment histogram.reclaimed list
+          (subst (λ (l : List Event). HasReclaims who moment histogram.reclaimed l) shown.events_are
+          (reclaims_behind who moment histogram.reclaimed (list_at before.seen (class_lock config class)) shown.events
+          (subst (λ (k : ℕ). HasReclaims who moment k shown.events) (sym many) shown.reclaims)));
     }
 
 -- where a reply was noted, and what stands there
@@ -124,8 +164,11 @@ module _ (config : Config) (old new : PassView) (command : Command) (moment : �
   here : IsAt (stripe_events (list_at new.sight.seen number)) old.caller place call
   here = record { did = did; there = there; call_is = ap (λ (r : Reply). exchange old.caller old.turn (Asks command) moment (Replied r)) by.replied.reply_is; by = refl }
 
-  noted_as : new.calls ≡ old.calls ++ answered_at number place ∷ []
-  noted_as = by.replied.noted ∙ ap (λ (k : ℕ). old.calls ++ answered_at k by.replied.place ∷ []) by.grew.number_is
+  abbrev asked : List CallEvent
+  asked = old.calls ++ asked_for command moment ∷ []
+
+  noted_as : new.calls ≡ asked ++ answered_at number place ∷ []
+  noted_as = by.replied.noted ∙ ap (λ (k : ℕ). asked ++ answered_at k by.replied.place ∷ []) by.grew.number_is
 
   behind : length (stripe_events (list_at old.sight.seen number)) ≤ place
   behind =
@@ -135,7 +178,10 @@ module _ (config : Config) (old new : PassView) (command : Command) (moment : �
 
   module _ (calls : List Exchange) (noted : AreNoted config old calls) (grows : Grows old.sight new.sight) (n : ℕ) (below : n < config.stripes) where
     places : places_in n new.calls ≡ places_in n old.calls ++ cond (nat_eq number n) (place ∷ []) []
-    places = ap (places_in n) noted_as ∙ places_in-push n old.calls number place
+    places =
+        ap (places_in n) noted_as
+        ∙ (places_in-push n asked number place
+        ∙ ap (λ (l : List ℕ). l ++ cond (nat_eq number n) (place ∷ []) []) (places_in-call n moment old.calls (asked_for command moment) refl))
 
     all : calls_at config.stripes n (calls ++ call ∷ []) ≡ calls_at config.stripes n calls ++ cond (nat_eq number n) (call ∷ []) []
     all = filter-append (λ (c : Exchange). is_command_at config.stripes n c.call) calls (call ∷ [])
@@ -174,39 +220,57 @@ replied_adds config old new command moment reply some same grows by = record {
   };
 }
 
+-- a call that is no answer leaves the places as they are
+kept_places : (old new : PassView) (moment : ℕ) (call : CallEvent) → moment_of call ≡ Some moment → new.calls ≡ old.calls ++ call ∷ [] → (n : ℕ) → places_in n new.calls ≡ places_in n old.calls
+kept_places old new moment call handed noted_as n = ap (places_in n) noted_as ∙ places_in-call n moment old.calls call handed
+
 -- calls of which none is a command leave the places as they are
-kept_at : (config : Config) (old new : PassView) (calls more : List Exchange) → new.caller ≡ old.caller → new.calls ≡ old.calls → Grows old.sight new.sight → AreNoted config old calls
+kept_at : (config : Config) (old new : PassView) (calls more : List Exchange) → new.caller ≡ old.caller → ((n : ℕ) → places_in n new.calls ≡ places_in n old.calls) → Grows old.sight new.sight → AreNoted config old calls
     → (n : ℕ) → n < config.stripes → calls_at config.stripes n more ≡ [] → AreAt (stripe_events (list_at new.sight.seen n)) new.caller (places_in n new.calls) (calls_at config.stripes n (calls ++ more))
 kept_at config old new calls more caller same grows noted n below none =
     let all : calls_at config.stripes n (calls ++ more) ≡ calls_at config.stripes n calls =
     filter-append (λ (c : Exchange). is_command_at config.stripes n c.call) calls more ∙ ap (λ (l : List Exchange). calls_at config.stripes n calls ++ l) none ∙ append-nil (calls_at config.stripes n calls) in
     subst (λ (l : List Exchange). AreAt (stripe_events (list_at new.sight.seen n)) new.caller (places_in n new.calls) l) (sym all)
-    (subst (λ (l : List CallEvent). AreAt (stripe_events (list_at new.sight.seen n)) new.caller (places_in n l) (calls_at config.stripes n calls)) (sym same)
+    (subst (λ (l : List ℕ). AreAt (stripe_events (list_at new.sight.seen n)) new.caller l (calls_at config.stripes n calls)) (sym (same n))
     (subst (λ (k : ℕ). AreAt (stripe_events (list_at new.sight.seen n)) k (places_in n old.calls) (calls_at config.stripes n calls)) (sym caller)
     (at_later _ _ old.caller _ _ ((seen_grow config old.sight new.sight grows).stripes n below) (noted.at n below))))
 
 -- juggling is noted too
-pub juggled_adds : (config : Config) (old new : PassView) (class : ClassNo) (moment : ℕ) (moves : Moves) → IsClass (setting_of config) class → new.caller ≡ old.caller → new.calls ≡ old.calls → Grows old.sight new.sight
+pub juggled_adds : (config : Config) (old new : PassView) (class : ClassNo) (moment : ℕ) (moves : Moves) → IsClass (setting_of config) class → new.caller ≡ old.caller → new.calls ≡ old.calls ++ juggling_of class moment ∷ [] → Grows old.sight new.sight
     → IsJuggledBy config class old.sight new.sight (record { caller = old.caller; turn = old.turn }) moment moves
     → Adds (AreNoted config old) (AreNoted config new) (exchange old.caller old.turn (Juggles class) moment (Moved moves) ∷ [])
-juggled_adds config old new class moment moves is caller same grows by = record {
+juggled_adds config old new class moment moves is caller noted_as grows by = let same = kept_places old new moment (juggling_of class moment) refl noted_as in record {
   at = λ calls noted. record {
     placed = ArePlaced-append config calls _ noted.placed (is, tt);
     stand = Stand-append config (histories_seen config new.sight) calls _ (stand_later config _ _ calls (seen_grow config old.sight new.sight grows) noted.placed noted.stand)
         (juggled_stands config class old.sight new.sight _ moment moves by, tt);
     at = λ n below. kept_at config old new calls _ caller same grows noted n below refl;
-    rising = λ n below. subst (λ (l : List CallEvent). AreRising 0 (places_in n l)) (sym same) (noted.rising n below);
+    rising = λ n below. subst (AreRising 0) (sym (same n)) (noted.rising n below);
+  };
+}
+
+-- and so is a crawl
+pub crawled_adds : (config : Config) (old new : PassView) (class : ClassNo) (moment : ℕ) (histogram : Histogram) → IsClass (setting_of config) class → new.caller ≡ old.caller → new.calls ≡ old.calls ++ crawling_of class moment ∷ [] → Grows old.sight new.sight
+    → IsCrawledBy config class old.sight new.sight (record { caller = old.caller; turn = old.turn }) moment histogram
+    → Adds (AreNoted config old) (AreNoted config new) (exchange old.caller old.turn (Crawls class) moment (Counted histogram) ∷ [])
+crawled_adds config old new class moment histogram is caller noted_as grows by = let same = kept_places old new moment (crawling_of class moment) refl noted_as in record {
+  at = λ calls noted. record {
+    placed = ArePlaced-append config calls _ noted.placed (is, tt);
+    stand = Stand-append config (histories_seen config new.sight) calls _ (stand_later config _ _ calls (seen_grow config old.sight new.sight grows) noted.placed noted.stand)
+        (crawled_stands config class old.sight new.sight _ moment histogram is by, tt);
+    at = λ n below. kept_at config old new calls _ caller same grows noted n below refl;
+    rising = λ n below. subst (AreRising 0) (sym (same n)) (noted.rising n below);
   };
 }
 
 -- what went wrong adds none
-pub none_adds : (config : Config) (old new : PassView) → new.caller ≡ old.caller → new.calls ≡ old.calls → Grows old.sight new.sight → Adds (AreNoted config old) (AreNoted config new) []
+pub none_adds : (config : Config) (old new : PassView) → new.caller ≡ old.caller → ((n : ℕ) → places_in n new.calls ≡ places_in n old.calls) → Grows old.sight new.sight → Adds (AreNoted config old) (AreNoted config new) []
 none_adds config old new caller same grows = record {
   at = λ calls noted. record {
     placed = ArePlaced-append config calls [] noted.placed tt;
     stand = Stand-append config (histories_seen config new.sight) calls [] (stand_later config _ _ calls (seen_grow config old.sight new.sight grows) noted.placed noted.stand) tt;
     at = λ n below. kept_at config old new calls [] caller same grows noted n below refl;
-    rising = λ n below. subst (λ (l : List CallEvent). AreRising 0 (places_in n l)) (sym same) (noted.rising n below);
+    rising = λ n below. subst (AreRising 0) (sym (same n)) (noted.rising n below);
   };
 }
 
@@ -217,16 +281,44 @@ pub replied_ok : (config : Config) (old new : PassView) (command : Command) (mom
 replied_ok config old new command moment reply some same grows by = (reply, refl, replied_adds config old new command moment reply some same grows by)
 
 -- juggling is noted where it was done
-pub juggled_ok : (config : Config) (old new : PassView) (class : ClassNo) (moment : ℕ) (r : Result Moves Fault) → IsClass (setting_of config) class → new.caller ≡ old.caller → new.calls ≡ old.calls → Grows old.sight new.sight
+pub juggled_ok : (config : Config) (old new : PassView) (class : ClassNo) (moment : ℕ) (r : Result Moves Fault) → IsClass (setting_of config) class → new.caller ≡ old.caller → OnOk r (new.calls ≡ old.calls ++ juggling_of class moment ∷ []) → Grows old.sight new.sight
     → IfOk r (IsJuggledBy config class old.sight new.sight (record { caller = old.caller; turn = old.turn }) moment)
     → IfOk r (λ moves. Adds (AreNoted config old) (AreNoted config new) (exchange old.caller old.turn (Juggles class) moment (Moved moves) ∷ []))
 juggled_ok config old new class moment (Ok moves) is caller same grows by = juggled_adds config old new class moment moves is caller same grows by
 juggled_ok config old new class moment (Err fault) is caller same grows by = tt
 
--- and whatever went wrong adds none
-pub failed : {T : Type 0} (config : Config) (old new : PassView) (r : Result T Fault) → new.caller ≡ old.caller → OnErr r (new.calls ≡ old.calls) → Grows old.sight new.sight → OnErr r (Adds (AreNoted config old) (AreNoted config new) [])
-failed config old new (Ok x) caller same grows = tt
-failed config old new (Err fault) caller same grows = none_adds config old new caller same grows
+-- and what went wrong adds none, whether the call was begun or not
+cut_places : (old new : PassView) (moment : ℕ) (made : CallEvent) → moment_of made ≡ Some moment → (new ≡ old) ⊎ (new.calls ≡ old.calls ++ made ∷ []) → (n : ℕ) → places_in n new.calls ≡ places_in n old.calls
+cut_places old new moment made handed (inl same) n = ap (λ (p : PassView). places_in n p.calls) same
+cut_places old new moment made handed (inr noted_as) n = kept_places old new moment made handed noted_as n
+
+pub juggling_failed : (config : Config) (old new : PassView) (class : ClassNo) (moment : ℕ) (r : Result Moves Fault) → new.caller ≡ old.caller → OnErr r ((new ≡ old) ⊎ (new.calls ≡ old.calls ++ juggling_of class moment ∷ [])) → Grows old.sight new.sight
+    → OnErr r (Adds (AreNoted config old) (AreNoted config new) [])
+juggling_failed config old new class moment (Ok x) caller cut grows = tt
+juggling_failed config old new class moment (Err fault) caller cut grows = none_adds config old new caller (cut_places old new moment (juggling_of class moment) refl cut) grows
+
+pub crawling_failed : (config : Config) (old new : PassView) (class : ClassNo) (moment : ℕ) (r : Result Histogram Fault) → new.caller ≡ old.caller → OnErr r ((new ≡ old) ⊎ (new.calls ≡ old.calls ++ crawling_of class moment ∷ [])) → Grows old.sight new.sight
+    → OnErr r (Adds (AreNoted config old) (AreNoted config new) [])
+crawling_failed config old new class moment (Ok x) caller cut grows = tt
+crawling_failed config old new class moment (Err fault) caller cut grows = none_adds config old new caller (cut_places old new moment (crawling_of class moment) refl cut) grows
+
+-- a crawl is noted where it was made
+pub crawled_ok : (config : Config) (old new : PassView) (class : ClassNo) (moment : ℕ) (r : Result Histogram Fault) → IsClass (setting_of config) class → new.caller ≡ old.caller → OnOk r (new.calls ≡ old.calls ++ crawling_of class moment ∷ []) → Grows old.sight new.sight
+    → IfOk r (IsCrawledBy config class old.sight new.sight (record { caller = old.caller; turn = old.turn }) moment)
+    → IfOk r (λ histogram. Adds (AreNoted config old) (AreNoted config new) (exchange old.caller old.turn (Crawls class) moment (Counted histogram) ∷ []))
+crawled_ok config old new class moment (Ok histogram) is caller same grows by = crawled_adds config old new class moment histogram is caller same grows by
+crawled_ok config old new class moment (Err fault) is caller same grows by = tt
+
+-- where it was made, each entry that was seen is counted as one kind
+pub crawled_kinds : (config : Config) (class : ClassNo) (before after : Sight) (who : Who) (moment : ℕ) (r : Result Histogram Fault) → IfOk r (IsCrawledBy config class before after who moment) → IfOk r AddsUp
+crawled_kinds config class before after who moment (Ok histogram) by = by.balanced
+crawled_kinds config class before after who moment (Err fault) by = tt
+
+pub command_failed : (config : Config) (old new : PassView) (who : Who) (command : Command) (moment number : ℕ) → new.caller ≡ old.caller
+    → (new ≡ old) ⊎ IsCutBy config number old.sight new.sight old.calls new.calls who command moment → Grows old.sight new.sight → Adds (AreNoted config old) (AreNoted config new) []
+command_failed config old new who command moment number caller cut grows =
+    none_adds config old new caller (cut_places old new moment (asked_for command moment) refl
+    (⊎_elim (λ (same : new ≡ old). inl same) (λ (c : IsCutBy config number old.sight new.sight old.calls new.calls who command moment). inr c.noted) cut)) grows
 
 -- what holds whatever was answered holds of a failure
 pub on_err_always : {X E P : Type 0} (r : Result X E) → P → OnErr r P

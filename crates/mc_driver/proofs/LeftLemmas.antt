@@ -9,6 +9,7 @@ use Rattle.mc_item.specs.declared.config.Config.{Config}
 use Rattle.mc_item.specs.declared.event.Event.{Event}
 use Rattle.mc_item.specs.declared.item.ClassNo.{ClassNo}
 use Rattle.mc_item.specs.declared.stripe_event.StripeEvent.{StripeEvent}
+use Rattle.mc_item.specs.declared.stripe_event.StripeEvent.TheVariants as events
 use Rattle.mc_board.specs.Histories.{list_at}
 use Rattle.mc_board.specs.declared.rule.Sight.{Sight}
 use Rattle.mc_board.proofs.PrefixLemmas.{prefix_length}
@@ -29,7 +30,7 @@ use Rattle.mc_store.proofs.ServedLemmas.{map_length}
 use Rattle.mc_driver.specs.Caller.{AreAt, AreNoted, histories_seen, places_in}
 use Rattle.mc_driver.specs.Run.{HasFull, HasFullClass, HasFullStripe, IsClass as IsClassOfRun, IsStore, IsStripe, histories_left, with_callers}
 use Rattle.mc_driver.specs.Stand.{AreItsCalls, Histories, Stand, calls_at}
-use Rattle.mc_driver.proofs.NotedLemmas.{at_later, call_place, stripe_begins}
+use Rattle.mc_driver.proofs.NotedLemmas.{at_later, called_place, stripe_begins}
 use Rattle.mc_driver.proofs.OnlyLemmas.{only_these}
 use Rattle.mc_driver.proofs.StandLemmas.{Grow, stand_later}
 
@@ -125,8 +126,8 @@ module _ (config : Config) (final : FinalView) (all : AreStripes final.board con
             let at = at_later _ (stripe_histories final.stripes number) pass.caller _ _
             (left_grows.stripes number below) (subst (λ (t : Sight). AreAt (stripe_events (list_at t.seen number)) pass.caller (places_in number pass.calls) (calls_at config.stripes number calls)) is (noted.at number below)) in
             only_these pass.caller (stripe_histories final.stripes number) (places_in number pass.calls) (calls_at config.stripes number calls) (noted.rising number below) at
-            (λ place did found by. call_place number place pass.calls
-            (own.each number g.0 place did g.1 (ap (λ (h : List StripeEvent). slice_get h place) (sym there) ∙ found) by));
+            (λ place did found by. called_place number place pass.calls
+            did (own.each number g.0 place (events.Did did) g.1 (ap (λ (h : List StripeEvent). slice_get h place) (sym there) ∙ found) by));
       };
     }
 

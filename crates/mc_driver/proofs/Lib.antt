@@ -1,5 +1,6 @@
 pub mod StandLemmas
 pub mod CallLemmas
+pub mod MadeLemmas
 pub mod OnlyLemmas
 pub mod NotedLemmas
 pub mod LeavesLemmas

@@ -13,10 +13,12 @@ use Rattle.mc_item.specs.declared.stripe_event.StripeEvent.{StripeEvent}
 use Rattle.mc_evidence.specs.Seen.{stripe_events}
 use Rattle.mc_evidence.proofs.SeenLemmas.{stripe_events-map, stripes_grow}
 use Rattle.mc_script.specs.Exchanges.{Exchange}
-use Rattle.mc_store.specs.Callers.{IsCall, answered_at}
+use Rattle.mc_store.specs.Callers.{IsCall, answered_at, IsCalled, IsNext, moment_of}
 use Rattle.mc_store.specs.Sides.{stripe_told}
 use Rattle.mc_driver.specs.Caller.{AreAt, AreRising, IsAt, places_in}
 use Rattle.mc_driver.proofs.OnlyLemmas.{IsOneOf, is_yes}
+use Rattle.mc_item.specs.declared.stripe_event.Did.{Did}
+use Rattle.mc_item.specs.declared.stripe_event.StripeEvent.TheVariants as events
 
 -- what begins a stripe's history on the board shows a beginning of it
 pub stripe_begins : (list : List Event) (es : List StripeEvent) → IsPrefix list (stripe_told es) → IsPrefix (stripe_events list) es
@@ -83,9 +85,24 @@ cond_first false p ps more = refl
 -- the places of a caller's history that goes on
 pub places_in-push : (number : ℕ) (events : List CallEvent) (stripe place : ℕ) → places_in number (events ++ answered_at stripe place ∷ []) ≡ places_in number events ++ cond (nat_eq stripe number) (place ∷ []) []
 places_in-push number [] stripe place = refl
+places_in-push number (calls.Asked asked ∷ events) stripe place = places_in-push number events stripe place
+places_in-push number (calls.Juggled worked ∷ events) stripe place = places_in-push number events stripe place
+places_in-push number (calls.Crawled worked ∷ events) stripe place = places_in-push number events stripe place
 places_in-push number (calls.Answered answered ∷ events) stripe place =
     ap (λ (l : List ℕ). cond (nat_eq answered.stripe.0 number) (answered.place ∷ l) l) (places_in-push number events stripe place)
     ∙ sym (cond_first (nat_eq answered.stripe.0 number) answered.place (places_in number events) (cond (nat_eq stripe number) (place ∷ []) []))
+
+-- a call that is no answer adds none
+pub places_in-call : (number moment : ℕ) (events : List CallEvent) (call : CallEvent) → moment_of call ≡ Some moment → places_in number (events ++ call ∷ []) ≡ places_in number events
+places_in-call number moment [] (calls.Asked asked) handed = refl
+places_in-call number moment [] (calls.Juggled worked) handed = refl
+places_in-call number moment [] (calls.Crawled worked) handed = refl
+places_in-call number moment [] (calls.Answered answered) handed = absurd (cc handed)
+places_in-call number moment (calls.Asked asked ∷ events) call handed = places_in-call number moment events call handed
+places_in-call number moment (calls.Juggled worked ∷ events) call handed = places_in-call number moment events call handed
+places_in-call number moment (calls.Crawled worked ∷ events) call handed = places_in-call number moment events call handed
+places_in-call number moment (calls.Answered answered ∷ events) call handed =
+    ap (λ (l : List ℕ). cond (nat_eq answered.stripe.0 number) (answered.place ∷ l) l) (places_in-call number moment events call handed)
 
 -- a place that a test lets through
 first_if : (b : Bool) (place : ℕ) (ps : List ℕ) → b ≡ true → IsOneOf place (cond b (place ∷ ps) ps)
@@ -100,6 +117,29 @@ more_if false q place ps is = is
 -- where a caller's history has an answer, its place is one of these
 pub call_place : (number place : ℕ) (events : List CallEvent) → IsCall (answered_at number place) events → IsOneOf place (places_in number events)
 call_place number place [] none = elim none [ ]
+call_place number place (calls.Asked asked ∷ events) (inl same) = absurd (cc same)
+call_place number place (calls.Juggled worked ∷ events) (inl same) = absurd (cc same)
+call_place number place (calls.Crawled worked ∷ events) (inl same) = absurd (cc same)
+call_place number place (calls.Asked asked ∷ events) (inr more) = call_place number place events more
+call_place number place (calls.Juggled worked ∷ events) (inr more) = call_place number place events more
+call_place number place (calls.Crawled worked ∷ events) (inr more) = call_place number place events more
 call_place number place (calls.Answered answered ∷ events) (inl same) =
     subst (λ (e : CallEvent). IsOneOf place (places_in number (e ∷ events))) (sym same) (first_if (nat_eq number number) place (places_in number events) (is_yes number number refl))
 call_place number place (calls.Answered answered ∷ events) (inr more) = more_if (nat_eq answered.stripe.0 number) answered.place place (places_in number events) (call_place number place events more)
+
+-- an answer that comes next is there
+next_is_call : (call : CallEvent) (behind : List CallEvent) → IsNext call behind → IsCall call behind
+next_is_call call [] is = absurd is
+next_is_call call (e ∷ es) is = inl is
+
+is_call_behind : (call : CallEvent) (before behind : List CallEvent) → IsCall call behind → IsCall call (before ++ behind)
+is_call_behind call [] behind is = is
+is_call_behind call (b ∷ bs) behind is = inr (is_call_behind call bs behind is)
+
+-- where an answered command was called, its place is one of these
+pub called_place : (number place : ℕ) (all : List CallEvent) (did : Did) → IsCalled all number place (events.Did did) → IsOneOf place (places_in number all)
+called_place number place all did called =
+    call_place number place all
+    (subst (IsCall (answered_at number place)) (sym called.begun.split)
+    (is_call_behind (answered_at number place) called.begun.before (called.begun.call ∷ called.begun.behind)
+    (inr (next_is_call (answered_at number place) called.begun.behind called.own.1))))

@@ -1,5 +1,5 @@
 -- A caller of a store that threads share: what its pass knows of its calls so far.
-use Rattle.std.specs.Prelude.{ℕ, ◌≡◌, ◌<◌, ◌≤◌, ◌+◌, List, [], ◌∷◌, Some, if◌then◌else◌, nat_eq, slice_get}
+use Rattle.std.specs.Prelude.{ℕ, ◌≡◌, ◌<◌, ◌≤◌, ◌+◌, List, [], ◌∷◌, Some, if◌then◌else◌, nat_eq, slice_get, length}
 use Rattle.mc_item.specs.declared.config.Config.{Config}
 use Rattle.mc_item.specs.declared.call_event.CallEvent.{CallEvent}
 use Rattle.mc_item.specs.declared.call_event.CallEvent.TheVariants as calls
@@ -10,11 +10,13 @@ use Rattle.mc_board.specs.declared.rule.Sight.{Sight}
 use Rattle.mc_board.specs.Histories.{list_at}
 use Rattle.mc_evidence.specs.Seen.{classes_seen, stripes_seen}
 use Rattle.mc_evidence.specs.Setting.{IsClass}
-use Rattle.mc_script.specs.Exchanges.{Asks, Call, Exchange, Juggles}
+use Rattle.mc_script.specs.Exchanges.{Asks, Call, Exchange, Juggles, Crawls}
 use Rattle.mc_store.specs.Locked.{setting_of}
 use Rattle.mc_store.specs.Passes.{PassView}
 use Rattle.mc_driver.specs.Noted.{exchange_of}
-use Rattle.mc_driver.specs.Stand.{Histories, Stand, calls_at, stripe_number}
+use Rattle.mc_driver.specs.Stand.{Histories, Stand, calls_at, stripe_number, Stands}
+use Rattle.mc_item.specs.declared.item.Who.{Who}
+use Rattle.mc_store.specs.Callers.{moment_of, turns_of}
 
 -- the histories of a store as far as a token has seen them
 abbrev pub histories_seen : Config → Sight → Histories
@@ -25,6 +27,7 @@ histories_seen config sight =
 abbrev pub IsPlaced : Config → Call → Type 0
 IsPlaced config (Asks command) = stripe_number config.stripes command < config.stripes
 IsPlaced config (Juggles class) = IsClass (setting_of config) class
+IsPlaced config (Crawls class) = IsClass (setting_of config) class
 
 -- each of these calls' is
 abbrev pub ArePlaced : Config → List Exchange → Type 0
@@ -53,6 +56,9 @@ AreRising from (number ∷ numbers) = (from ≤ number) × AreRising (number + 1
 -- where a caller's history says that commands were answered: the places in the history of one stripe, in order
 abbrev pub places_in : ℕ → List CallEvent → List ℕ
 places_in number [] = []
+places_in number (calls.Asked asked ∷ more) = places_in number more
+places_in number (calls.Juggled worked ∷ more) = places_in number more
+places_in number (calls.Crawled worked ∷ more) = places_in number more
 places_in number (calls.Answered answered ∷ more) = if nat_eq answered.stripe.0 number then answered.place ∷ places_in number more else places_in number more
 
 -- these calls, with their answers, stand in what the caller's pass has seen, and of each stripe the caller's history has the
@@ -62,3 +68,22 @@ pub record AreNoted (config : Config) (pass : PassView) (calls : List Exchange) 
   pub stand : Stand config (histories_seen config pass.sight) calls
   pub at : (number : ℕ) → number < config.stripes → AreAt (stripes_seen (list_at pass.sight.seen) number) pass.caller (places_in number pass.calls) (calls_at config.stripes number calls)
   pub rising : (number : ℕ) → number < config.stripes → AreRising 0 (places_in number pass.calls)
+
+-- a call of a caller's history was made to its end: an exchange of this turn, and of its moment, stands in these histories
+pub record IsMade (config : Config) (histories : Histories) (who : Who) (call : CallEvent) : Type 0 where
+  pub exchange : Exchange
+  pub placed : IsPlaced config exchange.call
+  pub stands : Stands config histories exchange
+  pub who_is : exchange.who ≡ who
+  pub moment_is : moment_of call ≡ Some exchange.moment
+
+-- no call of the pass was broken off: all calls that its caller's history has were made to their end
+pub record AreMade (config : Config) (pass : PassView) : Type 0 where
+  pub each : (turn : ℕ) (call : CallEvent) → slice_get (turns_of pass.calls) turn ≡ Some call
+      → IsMade config (histories_seen config pass.sight) (record { caller = pass.caller; turn = turn }) call
+
+-- a pass may make a call: there are stripes, no call was broken off, and its caller's history has a call for each turn
+pub record MayCall (config : Config) (pass : PassView) : Type 0 where
+  pub some : 0 < config.stripes
+  pub made : AreMade config pass
+  pub turns : length (turns_of pass.calls) ≡ pass.turn

@@ -18,6 +18,11 @@ use Rattle.mc_pull.specs.Rounds.{rounds}
 use Rattle.mc_pull.specs.declared.looking.Answer.{Answer as GateAnswer}
 use Rattle.mc_script.specs.Exchanges.{Asks, Exchange}
 use Rattle.mc_segment.specs.ClassState.{opened}
+use Rattle.mc_item.specs.declared.counts.Histogram.{Histogram}
+use Rattle.mc_rule.specs.Lists.{count_of, lists_of}
+use Rattle.mc_crawl.specs.CrawlCount.{IsBalanced}
+use Rattle.mc_store.specs.Crawls.{HasReclaims}
+use Rattle.mc_store.specs.Sides.{class_told}
 
 -- the exchange that an answered command is, whatever its room
 abbrev pub exchange_of : Did → Exchange
@@ -43,6 +48,16 @@ pub record NotesCommand (history : List StripeEvent) (who : Who) (command : Comm
   pub room : Room
   pub behind : List StripeEvent
   pub split : history ≡ before ++ answered_event who command moment reply room ∷ behind
+
+-- a class's history has a call's crawl, with these counts: so many entries were there at one point, each counts as one kind,
+-- and what was reclaimed stands there, by this call and of its moment
+pub record NotesCrawling (history : List ClassEvent) (who : Who) (moment : ℕ) (histogram : Histogram) : Type 0 where
+  pub at : List ClassEvent
+  pub behind : List ClassEvent
+  pub split : history ≡ at ++ behind
+  pub seen : histogram.seen ≡ count_of (lists_of at)
+  pub balanced : IsBalanced histogram
+  pub reclaims : HasReclaims who moment histogram.reclaimed (class_told history)
 
 -- a class's history has a call's juggling, with these moves: its surveys and the events of its walks stand together
 pub record NotesJuggling (config : Config) (history : List ClassEvent) (who : Who) (class : ClassNo) (moment : ℕ) (moves : Moves) : Type 0 where

@@ -9,9 +9,9 @@ use Rattle.mc_item.specs.declared.config.Config.{Config}
 use Rattle.mc_item.specs.declared.item.ClassNo.{ClassNo}
 use Rattle.mc_item.specs.declared.item.Who.{Who}
 use Rattle.mc_item.specs.declared.stripe_event.StripeEvent.{StripeEvent}
-use Rattle.mc_proto.specs.Answers.{Answer, Moved, Replied}
-use Rattle.mc_script.specs.Exchanges.{Asks, Call, Exchange, Juggles}
-use Rattle.mc_driver.specs.Noted.{NotesCommand, NotesJuggling, exchanges_in}
+use Rattle.mc_proto.specs.Answers.{Answer, Moved, Replied, Counted}
+use Rattle.mc_script.specs.Exchanges.{Asks, Call, Exchange, Juggles, Crawls}
+use Rattle.mc_driver.specs.Noted.{NotesCommand, NotesJuggling, exchanges_in, NotesCrawling}
 
 -- the histories of a store: of its stripes, by their numbers from 0, and of its classes, by theirs from 1
 pub record Histories : Type 0 where
@@ -22,13 +22,18 @@ pub record Histories : Type 0 where
 abbrev pub stripe_number : ℕ → Command → ℕ
 stripe_number stripes command = (stripe_of (key_of command) stripes).0
 
--- a call with its answer stands in the histories: a command in its stripe's, juggling in its class's
+-- a call with its answer stands in the histories: a command in its stripe's, juggling and a crawl in their class's
 abbrev pub StandsAs : Config → Histories → Who → ℕ → Call → Answer → Type 0
 StandsAs config histories who moment (Asks command) (Replied reply) =
     NotesCommand (histories.stripes (stripe_number config.stripes command)) who command moment reply
 StandsAs config histories who moment (Juggles class) (Moved moves) = NotesJuggling config (histories.classes class) who class moment moves
+StandsAs config histories who moment (Crawls class) (Counted histogram) = NotesCrawling (histories.classes class) who moment histogram
 StandsAs config histories who moment (Asks command) (Moved moves) = ⊥
+StandsAs config histories who moment (Asks command) (Counted histogram) = ⊥
 StandsAs config histories who moment (Juggles class) (Replied reply) = ⊥
+StandsAs config histories who moment (Juggles class) (Counted histogram) = ⊥
+StandsAs config histories who moment (Crawls class) (Replied reply) = ⊥
+StandsAs config histories who moment (Crawls class) (Moved moves) = ⊥
 
 -- an exchange stands in the histories, with who made it, its call, its moment and its answer
 abbrev pub Stands : Config → Histories → Exchange → Type 0
@@ -43,6 +48,7 @@ Stand config histories (call ∷ calls) = Stands config histories call × Stand 
 abbrev pub is_command_at : ℕ → ℕ → Call → Bool
 is_command_at stripes number (Asks command) = nat_eq (stripe_number stripes command) number
 is_command_at stripes number (Juggles class) = false
+is_command_at stripes number (Crawls class) = false
 
 -- those of these calls that are commands of one stripe, of so many, in order
 abbrev pub calls_at : ℕ → ℕ → List Exchange → List Exchange

@@ -2,7 +2,7 @@
 ghost use Rattle.std.specs.Prelude.{◌≡◌, ◌<◌, ◌-◌, ◌^◌, OnOk, IfErr};
 ghost use Rattle.mc_item.specs.declared.fault.Fault.TheVariants.{NoMemory};
 
-use mc_item::{ClassNo, Command, Fault, Moves, Reply};
+use mc_item::{ClassNo, Command, Fault, Histogram, Moves, Reply};
 use mc_script::Calls;
 use mc_store::{Named, Pass, Store};
 use std::alloc::Global;
@@ -39,12 +39,12 @@ impl<'a, N: Named> Caller<'a, N> {
         self.pass
     }
 
-    // Goes on where the pass has a turn left. Nobody has had 2^64 - 1 turns; who had would find no memory for one more.
+    // Goes on where the pass has a turn left. Nobody has had 2^63 - 1 turns; who had would find no memory for one more.
     fn check_turn(&self) -> Result<(), Fault>
-        ensures left { OnOk result (self.now.pass.turn < 2 ^ 64 - 1) }
+        ensures left { OnOk result (self.now.pass.turn < 2 ^ 63 - 1) }
         ensures full { IfErr result (λ fault. fault ≡ NoMemory) }
     {
-        if self.pass.next_who().turn == u64::MAX {
+        if self.pass.next_who().turn >= 0x7fff_ffff_ffff_ffff {
             return Err(Fault::NoMemory);
         }
         Ok(())
@@ -52,12 +52,11 @@ impl<'a, N: Named> Caller<'a, N> {
 }
 
 impl<'a, N: Named> Calls for Caller<'a, N> {
-    ghost use Rattle.std.specs.Prelude.{◌<◌};
     ghost use Rattle.mc_item.specs.declared.config.Config.{Config};
     ghost use Rattle.mc_evidence.specs.Setting.{IsClass};
     ghost use Rattle.mc_store.specs.Locked.{setting_of};
     ghost use Rattle.mc_store.specs.Serving.{HasSeenShort};
-    ghost use Rattle.mc_driver.specs.Caller.{AreNoted};
+    ghost use Rattle.mc_driver.specs.Caller.{AreNoted, MayCall};
 
     ghost Place = { Config };
 
@@ -77,7 +76,7 @@ impl<'a, N: Named> Calls for Caller<'a, N> {
 
     ghost is_full = { λ s. HasSeenShort N.config s.pass.sight };
 
-    ghost may_call = { λ s. 0 < N.config.stripes };
+    ghost may_call = { λ s. MayCall N.config s.pass };
 
     fn command(&mut self, rt: &impl Wait, command: Command, moment: u64) -> Result<(), Fault> {
         self.check_turn()?;
@@ -94,6 +93,12 @@ impl<'a, N: Named> Calls for Caller<'a, N> {
         self.check_turn()?;
         self.store
             .juggle(self.alloc, rt, &mut self.pass, class, moment)
+    }
+
+    fn crawl(&mut self, rt: &impl Wait, class: ClassNo, moment: u64) -> Result<Histogram, Fault> {
+        self.check_turn()?;
+        self.store
+            .crawl(self.alloc, rt, &mut self.pass, class, moment)
     }
 
     fn reply(&self) -> &Reply {

@@ -23,6 +23,9 @@ Directives stand in the place of a command:
   %at <second>      sets the moment, at first 1000, for what follows; it has no reply
   %juggle <class>   works on the lists of a slab class, and prints JUGGLED, how many entries it
   %juggle all       reclaimed, and how many it moved; of all classes it prints the sums
+  %crawl <class>    looks at each entry of a slab class, reclaims the dead, and prints CRAWL and how
+  %crawl all        many it saw, reclaimed, passed, found gone, saw without exptime and saw with an
+                    hour or more to live; then MINUTE, i and how many have i minutes left; then END
   %next             ends the script, as quit does
 Slab classes are numbered from 1, in the order of their sizes.
 

@@ -1,5 +1,5 @@
 //! Runs of scripts, and what they leave.
-ghost use Rattle.std.specs.Prelude.{◌≡◌, ◌≢◌, ◌<◌, ◌≤◌, List, ◌∷◌, ◌++◌, [], ℕ, IfOk, IfErr, Some, None, length, slice_index_or};
+ghost use Rattle.std.specs.Prelude.{◌≡◌, ◌≢◌, ◌<◌, ◌≤◌, List, ◌∷◌, ◌++◌, [], ℕ, IfOk, IfErr, Some, None, length, slice_index_or, slice_get};
 ghost use Rattle.mc_item.specs.Config.{fault_of, IsBounded, IsSound};
 ghost use Rattle.mc_board.specs.Histories.{blind};
 ghost use Rattle.mc_board.specs.Views.{AreOwners, locks_of};
@@ -10,6 +10,9 @@ ghost use Rattle.mc_script.specs.Run.{AreCounted, Leaves};
 ghost use Rattle.mc_script.specs.declared.outcome.Outcome.{Outcome};
 ghost use Rattle.mc_script.specs.declared.outcome.Outcome.TheVariants as outcomes;
 ghost use Rattle.mc_driver.specs.declared.fault.RunFault.TheVariants as faults;
+ghost use Rattle.mc_driver.specs.Called.{AreByCallers, AreWholeTurns, MadeNone};
+ghost use Rattle.mc_store.specs.Finals.{AreStripes};
+ghost use Rattle.mc_store.specs.Passes.{PassView};
 
 use crate::caller::Caller;
 use crate::fault::RunFault;
@@ -17,7 +20,7 @@ use mc_board::{Board, Owner, Seen};
 use mc_item::{Config, NoMemory};
 use mc_proto::{Limits, Sink};
 use mc_script::{Both, Outcome, Source, run_script};
-use mc_store::{Final, Named, Store};
+use mc_store::{Final, Named, Pass, Store};
 use std::alloc::Global;
 use std::hash::RandomState;
 use std::marker::Brand;
@@ -75,6 +78,19 @@ struct Left {
     outcome: Outcome,
 }
 
+// Compares passes that made no call with a closed store: no event names their callers. Nothing changes.
+fn compare_idle<N: Named>(ledger: &mut Final, passes: &mut Vec<Pass<N>>)
+    requires board { ledger.old.board ≡ N.board.table }
+    requires stripes { AreStripes N.board.table N.config ledger.old.stripes }
+    requires idle { (k : ℕ) (p : PassView) → slice_get passes.old.items k ≡ Some p → p.calls ≡ [] }
+    ensures same { ledger.new ≡ ledger.old }
+    ensures none { (k : ℕ) (p : PassView) → slice_get passes.old.items k ≡ Some p → MadeNone p.caller ledger.old.stripes }
+{
+    for i in 0..passes.len() {
+        ledger.compare(&mut passes[i]);
+    }
+}
+
 // Runs one script as caller 0 of a new store, on a board and with a configuration that N names, and closes the store.
 fn run_named<N: Named, S: Source, K: Sink>(
     rt: &impl Wait,
@@ -97,6 +113,8 @@ fn run_named<N: Named, S: Source, K: Sink>(
     ensures counted { IfOk result (λ left. AreCounted left.outcome (S.failures ends.old.source) (S.failures ends.new.source)
         (K.failures ends.old.sink) (K.failures ends.new.sink)) }
     ensures full { IfOk result (λ left. left.outcome ≡ outcomes.HistoryFull → HasFull N.config (histories_left left.ledger)) }
+    ensures whole { IfOk result (λ left. left.outcome ≡ outcomes.Done → AreWholeTurns N.config 0 (histories_left left.ledger)) }
+    ensures by { IfOk result (λ left. AreByCallers N.config.stripes 1 (histories_left left.ledger)) }
     ensures store { IfOk result (λ left. IsStore N.config left.ledger) }
 {
     let limits = limits_for(&config);
@@ -107,6 +125,7 @@ fn run_named<N: Named, S: Source, K: Sink>(
     let mut pass = calls.into_pass();
     let mut ledger = store.close(rt);
     ledger.compare(&mut pass);
+    compare_idle(&mut ledger, &mut passes);
     Ok(Left { ledger, outcome })
 }
 
@@ -137,6 +156,12 @@ pub fn run_scripts<S: Source, K: Sink>(
         (K.failures (slice_index_or scripts.items i ends).1) (K.failures (slice_index_or run.ends.items i ends).1)) }
     ensures full { IfOk result (λ run. (i : ℕ) (outcome : Outcome) → i < length scripts.items
         → slice_index_or run.outcomes.items i outcome ≡ outcomes.HistoryFull → HasFull config (histories_left run.ledger)) }
+
+    // Whose the events on the stripes are: each names one of the scripts; where that one is done, one of its calls, which
+    // stands in the histories, made the event, at the call's moment.
+    ensures by { IfOk result (λ run. AreByCallers config.stripes (length scripts.items) (histories_left run.ledger)) }
+    ensures whole { IfOk result (λ run. (i : ℕ) (outcome : Outcome) → i < length scripts.items
+        → slice_index_or run.outcomes.items i outcome ≡ outcomes.Done → AreWholeTurns (with_callers config) i (histories_left run.ledger)) }
 
     // What else the run leaves: the outcomes of upkeep behind those of the scripts, and the store.
     ensures outcomes { IfOk result (λ run. (own : List Outcome) × (length own ≡ length scripts.items) × (run.outcomes.items ≡ own ++ outcomes.Done ∷ outcomes.Done ∷ [])) }

@@ -1,22 +1,26 @@
 -- Answers to the calls of a request, and the text of a request by them (protocol.txt, by the commands; the directives' texts are this profile's own).
 use Rattle.std.specs.Prelude.{ℕ, ◌+◌, List, [], ◌∷◌, ◌++◌, if◌then◌else◌}
+use Rattle.mc_item.specs.Counts.{added, no_counts}
+use Rattle.mc_item.specs.declared.counts.Histogram.{Histogram}
 use Rattle.mc_item.specs.declared.counts.Moves.{Moves}
 use Rattle.mc_item.specs.declared.reply.Reply.{Reply}
-use Rattle.mc_proto.specs.Text.{end_text, fault_text, moves_text, one_text, values_text}
-use Rattle.mc_proto.specs.declared.request.LineFault.TheVariants.{Error}
+use Rattle.mc_proto.specs.Text.{end_text, fault_text, histogram_text, moves_text, one_text, values_text}
 use Rattle.mc_proto.specs.declared.request.Request.{Request}
 use Rattle.mc_proto.specs.declared.request.Request.TheVariants as requests
 
--- the answer to a call: a command's reply, or how many entries the maintainer reclaimed and moved in a class
+-- the answer to a call: a command's reply, how many entries the maintainer reclaimed and moved in a class, or what the
+-- crawler counted there
 pub data Answer : Type 0 where
   Replied : Reply → Answer
   Moved : Moves → Answer
+  Counted : Histogram → Answer
 
 -- the replies among answers, in order
 abbrev pub replies_of : List Answer → List Reply
 replies_of [] = []
 replies_of (Replied reply ∷ more) = reply ∷ replies_of more
 replies_of (Moved moves ∷ more) = replies_of more
+replies_of (Counted histogram ∷ more) = replies_of more
 
 -- two counts of moves, summed
 abbrev pub moves_sum : Moves → Moves → Moves
@@ -27,6 +31,14 @@ abbrev pub moves_of : List Answer → Moves
 moves_of [] = record { reclaimed = 0; moved = 0 }
 moves_of (Replied reply ∷ more) = moves_of more
 moves_of (Moved moves ∷ more) = moves_sum moves (moves_of more)
+moves_of (Counted histogram ∷ more) = moves_of more
+
+-- the histograms among answers, summed
+abbrev pub counts_of : List Answer → Histogram
+counts_of [] = no_counts
+counts_of (Replied reply ∷ more) = counts_of more
+counts_of (Moved moves ∷ more) = counts_of more
+counts_of (Counted histogram ∷ more) = added histogram (counts_of more)
 
 -- the text of a request by the answers to its calls; nothing where it is quiet
 abbrev pub text_of : Request → List Answer → List ℕ
@@ -34,8 +46,7 @@ text_of (requests.Get keys with_cas) answers = values_text with_cas keys (replie
 text_of (requests.One command quiet) answers = if quiet then [] else one_text (replies_of answers)
 text_of (requests.Bad why quiet) answers = if quiet then [] else fault_text why
 text_of (requests.Juggle target) answers = moves_text (moves_of answers)
+text_of (requests.Crawl target) answers = histogram_text (counts_of answers)
 text_of (requests.At moment) answers = []
 text_of requests.Next answers = []
 text_of requests.Quit answers = []
--- nothing drives the crawler yet, so its directive is printed as an error
-text_of (requests.Crawl target) answers = fault_text Error

@@ -332,3 +332,13 @@ pub fn histogram_text(alloc: Global, h: &Histogram) -> Result<Vec<u8>, NoMemory>
     push_end(&mut out)?;
     Ok(out)
 }
+
+/// Adds the text of `%crawl`: a line of counts, one for each minute that entries have to live, and the end. After an
+/// `Err` nothing is added.
+pub fn push_histogram(out: &mut Vec<u8>, h: &Histogram) -> Result<(), NoMemory>
+    ensures ok { OnOk result (out.new.items ≡ out.old.items ++ texts.histogram_text h.now) }
+    ensures err { OnErr result (out.new.items ≡ out.old.items) }
+{
+    let text = histogram_text(*out.allocator(), h)?;
+    push_text(out, text.as_slice())
+}

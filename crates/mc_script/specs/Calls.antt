@@ -1,16 +1,18 @@
 -- What is known of a caller's calls, and what a request does to it.
 use Rattle.std.specs.Prelude.{ℕ, ◌≡◌, ◌≤◌, ◌<◌, ◌+◌, Bool, List, [], ◌∷◌, ◌++◌, length, map, take}
+use Rattle.std.specs.List.{sum}
 use Rattle.mc_item.specs.declared.command.Command.TheVariants.{Get}
 use Rattle.mc_item.specs.declared.fault.Fault.{Fault}
 use Rattle.mc_item.specs.declared.fault.Fault.TheVariants as faults
 use Rattle.mc_item.specs.declared.item.ClassNo.{ClassNo}
+use Rattle.mc_item.specs.declared.counts.Histogram.{Histogram}
 use Rattle.mc_item.specs.declared.counts.Moves.{Moves}
 use Rattle.mc_item.specs.declared.reply.Reply.{Reply}
-use Rattle.mc_proto.specs.Answers.{Answer, Replied, moves_of, text_of}
+use Rattle.mc_proto.specs.Answers.{Answer, Replied, counts_of, moves_of, text_of}
 use Rattle.mc_proto.specs.Text.{value_text}
 use Rattle.mc_proto.specs.declared.request.Limits.{Limits}
 use Rattle.mc_proto.specs.declared.request.Request.{Request}
-use Rattle.mc_script.specs.Exchanges.{AreAnswers, Asks, Call, Exchange, Juggles, exchanges}
+use Rattle.mc_script.specs.Exchanges.{AreAnswers, Asks, Call, Crawls, Exchange, Juggles, exchanges}
 use Rattle.mc_script.specs.Script.{calls_of}
 
 -- what was known of some calls is now known of them and these
@@ -61,6 +63,16 @@ pub record JugglesAll (classes : List ClassNo) (moves : Moves) (caller turn turn
   pub answers : List Answer
   pub sums : moves ≡ moves_of answers
   pub makes : Makes (map Juggles classes) answers caller turn turn' moment notes notes'
+
+-- the crawler worked on these classes, in order, and this is the sum of its histograms
+pub record CrawlsAll (classes : List ClassNo) (histogram : Histogram) (caller turn turn' moment : ℕ) (notes notes' : List Exchange → Type 0) : Type 0 where
+  pub answers : List Answer
+  pub sums : histogram ≡ counts_of answers
+  pub makes : Makes (map Crawls classes) answers caller turn turn' moment notes notes'
+
+-- each entry that was seen is counted as one kind
+abbrev pub AddsUp : Histogram → Type 0
+AddsUp h = h.seen ≡ sum h.minutes + h.hour_plus + h.no_expiry + h.reclaimed + h.passed + h.gone
 
 -- the new text begins with the old one
 abbrev pub Begins : List ℕ → List ℕ → Type 0

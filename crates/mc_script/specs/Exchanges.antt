@@ -3,19 +3,25 @@ use Rattle.std.specs.Prelude.{ℕ, ◌+◌, List, [], ◌∷◌}
 use Rattle.mc_item.specs.declared.command.Command.{Command}
 use Rattle.mc_item.specs.declared.item.ClassNo.{ClassNo}
 use Rattle.mc_item.specs.declared.item.Who.{Who}
-use Rattle.mc_proto.specs.Answers.{Answer, Replied, Moved}
+use Rattle.mc_proto.specs.Answers.{Answer, Counted, Replied, Moved}
 
--- a call: a command, or the maintainer's work on a slab class
+-- a call: a command, or the maintainer's or the crawler's work on a slab class
 pub data Call : Type 0 where
   Asks : Command → Call
   Juggles : ClassNo → Call
+  Crawls : ClassNo → Call
 
--- an answer is of its call's kind: a command is replied to, and the maintainer's work moves
+-- an answer is of its call's kind: a command is replied to, the maintainer's work moves, and the crawler's counts
 abbrev pub IsOfKind : Call → Answer → Type 0
 IsOfKind (Asks command) (Replied reply) = Unit {0}
 IsOfKind (Juggles class) (Moved moves) = Unit {0}
+IsOfKind (Crawls class) (Counted histogram) = Unit {0}
 IsOfKind (Asks command) (Moved moves) = ⊥
+IsOfKind (Asks command) (Counted histogram) = ⊥
 IsOfKind (Juggles class) (Replied reply) = ⊥
+IsOfKind (Juggles class) (Counted histogram) = ⊥
+IsOfKind (Crawls class) (Replied reply) = ⊥
+IsOfKind (Crawls class) (Moved moves) = ⊥
 
 -- these are answers to the first of these calls, each of its call's kind
 abbrev pub AreAnswers : List Call → List Answer → Type 0

@@ -9,6 +9,7 @@ ghost use Rattle.mc_script.specs.Calls.{Answers, AnswersKey, Begins, Fails, Fail
 ghost use Rattle.mc_script.specs.Script.{AllThere, moment_after};
 
 use crate::calls::Calls;
+use crate::crawling::answer_crawl;
 use crate::juggling::answer_juggle;
 use mc_item::{Command, Fault, Key, NoMemory, Reply};
 use mc_proto::{
@@ -198,7 +199,7 @@ fn answer_whole<C: Calls>(
             Ok(())
         }
         Request::Juggle(target) => answer_juggle(rt, limits, calls, text, target, *moment),
-        Request::Crawl(_) => refuse(text, LineFault::Error, false),
+        Request::Crawl(target) => answer_crawl(rt, limits, calls, text, target, *moment),
         Request::Next => Ok(()),
         Request::Quit => Ok(()),
     }

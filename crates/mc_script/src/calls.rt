@@ -4,11 +4,11 @@ ghost use Rattle.mc_item.specs.Command.{key_of};
 ghost use Rattle.mc_item.specs.declared.fault.Fault.TheVariants as faults;
 ghost use Rattle.mc_item.specs.declared.item.ClassNo.{ClassNo};
 ghost use Rattle.mc_item.specs.declared.reply.Reply.{Reply};
-ghost use Rattle.mc_proto.specs.Answers.{Moved, Replied};
-ghost use Rattle.mc_script.specs.Calls.{Adds};
-ghost use Rattle.mc_script.specs.Exchanges.{Asks, Exchange, Juggles, exchange};
+ghost use Rattle.mc_proto.specs.Answers.{Counted, Moved, Replied};
+ghost use Rattle.mc_script.specs.Calls.{Adds, AddsUp};
+ghost use Rattle.mc_script.specs.Exchanges.{Asks, Crawls, Exchange, Juggles, exchange};
 
-use mc_item::{ClassNo, Command, Fault, Moves, Reply};
+use mc_item::{ClassNo, Command, Fault, Histogram, Moves, Reply};
 use std::sync::Wait;
 
 /// A caller that makes calls, each in a turn of its own. What is known of its calls so far is a fact about the list of
@@ -60,6 +60,22 @@ pub trait Calls: Drop {
         ensures turn { OnOk result (turn self.new ≡ turn self.old + 1) }
         ensures ok { IfOk result (λ moves. Adds (notes self.old) (notes self.new) (exchange (caller self.old) (turn self.old) (Juggles class) moment (Moved moves) ∷ [])) }
         ensures small { IfOk result (λ moves. (moves.reclaimed < 2 ^ 32) × (moves.moved < 2 ^ 32)) }
+        ensures err { OnErr result (Adds (notes self.old) (notes self.new) []) }
+        ensures full { IsErrOf result faults.HistoryFull → is_full self.new };
+
+    /// Makes one call of the crawler's work on a slab class at a moment: how many entries were seen, and how many of each
+    /// kind.
+    fn crawl(&mut self, rt: &impl Wait, class: ClassNo, moment: u64) -> Result<Histogram, Fault>
+        requires may { may_call self.old }
+        requires early { moment ≤ 2 ^ 62 }
+        requires there { has_class (place self.old) class }
+        ensures may { OnOk result (may_call self.new) }
+        ensures place { place self.new ≡ place self.old }
+        ensures caller { caller self.new ≡ caller self.old }
+        ensures turn { OnOk result (turn self.new ≡ turn self.old + 1) }
+        ensures ok { IfOk result (λ histogram. Adds (notes self.old) (notes self.new) (exchange (caller self.old) (turn self.old) (Crawls class) moment (Counted histogram) ∷ [])) }
+        ensures small { IfOk result (λ histogram. histogram.seen ≤ 2 ^ 32) }
+        ensures kinds { IfOk result AddsUp }
         ensures err { OnErr result (Adds (notes self.old) (notes self.new) []) }
         ensures full { IsErrOf result faults.HistoryFull → is_full self.new };
 

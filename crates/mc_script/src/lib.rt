@@ -3,6 +3,7 @@
 
 mod answering;
 mod calls;
+mod crawling;
 mod ends;
 mod juggling;
 mod outcome;

@@ -1,7 +1,7 @@
-//! The maintainer's directive in scripts over calls that are made up. Expected values are written from the rules by hand.
+//! The maintainer's and the crawler's directives in scripts over calls that are made up. Expected values are written from the rules by hand.
 ghost use Rattle.std.specs.Prelude.{◌≡◌};
 
-use mc_item::{ClassNo, Command, Fault, Moves, Reply};
+use mc_item::{ClassNo, Command, Fault, Histogram, Moves, Reply};
 use mc_proto::{Limits, Sink, SinkFault};
 use mc_script::{Both, Calls, Outcome, Source, SourceFault, run_script};
 use std::alloc::Global;
@@ -15,7 +15,9 @@ const LIMITS: Limits = Limits {
 };
 
 // Calls that are noted. Each command misses; the maintainer reclaims as many entries of a class as its number says, and
-// moves ten times as many. The call of one number, from 0 on, fails, where there is one.
+// moves ten times as many. The crawler counts as many with a minute to live, or with none where the number is even, ten
+// times as many with an hour, and so on by tens: without an expiry, reclaimed, passed, gone. The call of one number, from 0
+// on, fails, where there is one.
 #[derive(Drop)]
 struct Noted<'a, R: Abort> {
     rt: &'a R,
@@ -87,6 +89,27 @@ impl<R: Abort> Calls for Noted<'_, R> {
             reclaimed: number,
             moved: 10 * number,
         })
+    }
+
+    fn crawl(&mut self, _rt: &impl Wait, class: ClassNo, moment: u64) -> Result<Histogram, Fault> {
+        if self.is_failing() {
+            return Err(Fault::NoMemory);
+        }
+        assert!(self.rt; self.made < 99);
+        assert!(self.rt; class.0 < 99);
+        self.made += 1;
+        self.classes.push(class.0).expect(self.rt, "memory");
+        self.moments.push(moment).expect(self.rt, "memory");
+        let number = u64::from(class.0);
+        let mut histogram = Histogram::new();
+        histogram.minutes[class.0 as usize % 2] = number;
+        histogram.hour_plus = 10 * number;
+        histogram.no_expiry = 100 * number;
+        histogram.reclaimed = 1_000 * number;
+        histogram.passed = 10_000 * number;
+        histogram.gone = 100_000 * number;
+        histogram.seen = 111_111 * number;
+        Ok(histogram)
     }
 
     fn reply(&self) -> &Reply {
@@ -231,6 +254,58 @@ fn one_class_and_all_are_juggled(rt: HostRuntime) {
 }
 
 #[test]
+fn one_class_and_all_are_crawled(rt: HostRuntime) {
+    for (script, text, classes) in [
+        (
+            b"%crawl 1\r\n".as_slice(),
+            b"CRAWL 111111 1000 10000 100000 100 10\r\nMINUTE 1 1\r\nEND\r\n".as_slice(),
+            [1].as_slice(),
+        ),
+        (
+            b"%crawl 2\r\n".as_slice(),
+            b"CRAWL 222222 2000 20000 200000 200 20\r\nMINUTE 0 2\r\nEND\r\n".as_slice(),
+            [2].as_slice(),
+        ),
+        (
+            b"%crawl all\r\n".as_slice(),
+            b"CRAWL 666666 6000 60000 600000 600 60\r\nMINUTE 0 2\r\nMINUTE 1 4\r\nEND\r\n".as_slice(),
+            [1, 2, 3].as_slice(),
+        ),
+        (
+            b"get a\r\n%crawl 3\r\n%juggle 3\r\n".as_slice(),
+            b"END\r\nCRAWL 333333 3000 30000 300000 300 30\r\nMINUTE 1 3\r\nEND\r\nJUGGLED 3 30\r\n".as_slice(),
+            [3, 3].as_slice(),
+        ),
+    ] {
+        let ran = run_noted(&rt, rt.alloc(), script, None);
+        assert_eq!(rt; ran.outcome, Outcome::Done);
+        assert_eq!(rt; ran.text.as_slice(), text);
+        assert_eq!(rt; ran.classes.as_slice(), classes);
+    }
+}
+
+#[test]
+fn the_crawler_works_at_the_scripts_moment(rt: HostRuntime) {
+    let ran = run_noted(
+        &rt,
+        rt.alloc(),
+        b"%crawl all\r\n%at 5\r\n%crawl 2\r\n",
+        None,
+    );
+    assert_eq!(rt; ran.outcome, Outcome::Done);
+    assert_eq!(rt; ran.moments.as_slice(), [1000, 1000, 1000, 5].as_slice());
+}
+
+#[test]
+fn a_fault_in_the_last_of_three_crawls_prints_nothing(rt: HostRuntime) {
+    let ran = run_noted(&rt, rt.alloc(), b"%crawl all\r\nget a\r\n", Some(2));
+    assert_eq!(rt; ran.outcome, Outcome::Memory);
+    assert!(rt; ran.text.is_empty());
+    assert_eq!(rt; ran.made, 2);
+    assert_eq!(rt; ran.classes.as_slice(), [1, 2].as_slice());
+}
+
+#[test]
 fn the_maintainer_works_at_the_scripts_moment(rt: HostRuntime) {
     let ran = run_noted(
         &rt,
@@ -261,6 +336,9 @@ fn a_class_that_is_not_there_is_a_bad_line(rt: HostRuntime) {
         b"%juggle 4\r\n".as_slice(),
         b"%juggle 44\r\n".as_slice(),
         b"%juggle none\r\n".as_slice(),
+        b"%crawl 0\r\n".as_slice(),
+        b"%crawl 4\r\n".as_slice(),
+        b"%crawl ALL\r\n".as_slice(),
     ] {
         let ran = run_noted(&rt, rt.alloc(), script, None);
         assert_eq!(rt; ran.outcome, Outcome::Done);

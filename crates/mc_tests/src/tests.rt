@@ -1,6 +1,7 @@
 //! What the tests run: the program over bytes in memory, and a script over pieces.
 mod asking;
 mod classes;
+mod crawls;
 mod examples;
 mod failures;
 mod histories;

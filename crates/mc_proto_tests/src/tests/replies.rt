@@ -4,8 +4,8 @@ ghost use Rattle.std.specs.Prelude.{List, ℕ, ◌≡◌, ◌<◌};
 use mc_item::{Histogram, Key, Moves, Reply, Value};
 use mc_proto::{
     Keys, LineFault, Sink, SinkFault, fault_text, histogram_text, moves_text, push_end, push_fault,
-    push_moves, push_reply, push_value_head, push_value_tail, reply_text, value_text, write_reply,
-    write_whole,
+    push_histogram, push_moves, push_reply, push_value_head, push_value_tail, reply_text,
+    value_text, write_reply, write_whole,
 };
 use std::alloc::Global;
 use std::process::Abort;
@@ -192,6 +192,29 @@ fn upkeep(rt: HostRuntime) {
     assert_eq!(rt;
         some.as_slice(),
         b"CRAWL 21 1 2 3 4 5\r\nMINUTE 0 6\r\nMINUTE 59 10\r\nEND\r\n".as_slice()
+    );
+}
+
+#[test]
+fn a_histogram_is_added_behind_a_text(rt: HostRuntime) {
+    let mut out = Vec::new(rt.alloc());
+    push_end(&mut out).expect(&rt, "memory");
+    let mut counts = Histogram::new();
+    push_histogram(&mut out, &counts).expect(&rt, "memory");
+    assert_eq!(rt;
+        out.as_slice(),
+        b"END\r\nCRAWL 0 0 0 0 0 0\r\nEND\r\n".as_slice()
+    );
+    out.clear();
+    counts.seen = 18_446_744_073_709_551_615;
+    counts.minutes[1] = 1;
+    counts.minutes[9] = 2;
+    counts.minutes[10] = 4_294_967_295;
+    push_histogram(&mut out, &counts).expect(&rt, "memory");
+    push_end(&mut out).expect(&rt, "memory");
+    assert_eq!(rt;
+        out.as_slice(),
+        b"CRAWL 18446744073709551615 0 0 0 0 0\r\nMINUTE 1 1\r\nMINUTE 9 2\r\nMINUTE 10 4294967295\r\nEND\r\nEND\r\n".as_slice()
     );
 }
 

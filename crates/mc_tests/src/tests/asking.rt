@@ -3,7 +3,7 @@ ghost use Rattle.std.specs.Prelude.{◌≡◌, ◌<◌};
 
 use super::supplies::{Pieces, Slow};
 use mc_driver::Outcome;
-use mc_item::{ClassNo, Command, Fault, Moves, Reply};
+use mc_item::{ClassNo, Command, Fault, Histogram, Moves, Reply};
 use mc_proto::{Limits, Sink, SinkFault};
 use mc_script::{Calls, Ends, Source, SourceFault, run_script};
 use std::alloc::Global;
@@ -116,6 +116,19 @@ impl Calls for Misses {
             reclaimed: 0,
             moved: 0,
         })
+    }
+
+    fn crawl(
+        &mut self,
+        _rt: &impl Wait,
+        _class: ClassNo,
+        _moment: u64,
+    ) -> Result<Histogram, Fault> {
+        if self.made >= MOST {
+            return Err(Fault::HistoryFull);
+        }
+        self.made += 1;
+        Ok(Histogram::new())
     }
 
     fn reply(&self) -> &Reply {

@@ -20,7 +20,7 @@ pub struct Pieces<'a> {
 
 impl<'a> Pieces<'a> {
     /// These bytes, in pieces of this size.
-    pub fn new(alloc: Global, bytes: &'a [u8], size: usize, reads: Option<u64>) -> Pieces<'a>
+    pub(super) fn new(alloc: Global, bytes: &'a [u8], size: usize, reads: Option<u64>) -> Pieces<'a>
         ensures bytes { result.rest.now ≡ bytes.now }
         ensures fine { result.failed ≡ false }
     {
@@ -35,7 +35,7 @@ impl<'a> Pieces<'a> {
     }
 
     /// These bytes, cut once, behind so many. No read fails.
-    pub fn cut_once(alloc: Global, bytes: &'a [u8], front: usize) -> Pieces<'a> {
+    pub(super) fn cut_once(alloc: Global, bytes: &'a [u8], front: usize) -> Pieces<'a> {
         Pieces {
             alloc,
             rest: bytes,
@@ -150,7 +150,7 @@ pub struct Slow<L: Ledger> {
 
 impl<L: Ledger> Slow<L> {
     /// A sink that has taken nothing.
-    pub fn new(alloc: Global, size: usize, writes: Option<u64>, blank: Blank) -> Slow<L>
+    pub(super) fn new(alloc: Global, size: usize, writes: Option<u64>, blank: Blank) -> Slow<L>
         requires name { blank.name ≡ L.name }
         requires parts { blank.parts ≡ L.parts }
         requires part { 0 < blank.parts }

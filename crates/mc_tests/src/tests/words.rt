@@ -143,7 +143,9 @@ fn words_that_are_no_options_are_refused(rt: HostRuntime) {
 }
 
 // What a person has to find in the help: each line on standard error, each number, each limit.
-static HELP: [&str; 28] = [
+static HELP: [&str; 30] = [
+    "%juggle <class>",
+    "%crawl <class>",
     "--stripes",
     "[default: 1]",
     "--sizes",

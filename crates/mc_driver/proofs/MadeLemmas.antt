@@ -1,0 +1,216 @@
+-- Calls that were made to their end, and whose the events of a closed store are.
+use Rattle.std.proofs.Common.{◌≡◌, ◌⊎◌, ◌<◌, ◌≤◌, ◌+◌, ℕ, zero, suc, List, [], ◌∷◌, ◌++◌, Option, Some, Result, Ok, Err, refl, sym, ap, ◌∙◌, subst, inl, inr, ⊎_elim, arith, length, length-append, append-nil}
+use Rattle.std.specs.Prelude.{IfOk, OnOk, slice_get}
+use Rattle.mc_item.specs.Command.{key_of}
+use Rattle.mc_item.specs.Measure.{fnv1a}
+use Rattle.mc_item.specs.declared.call_event.CallEvent.{CallEvent}
+use Rattle.mc_item.specs.declared.call_event.CallEvent.TheVariants as calls
+use Rattle.mc_item.specs.declared.command.Command.{Command}
+use Rattle.mc_item.specs.declared.config.Config.{Config}
+use Rattle.mc_item.specs.declared.counts.Moves.{Moves}
+use Rattle.mc_item.specs.declared.fault.Fault.{Fault}
+use Rattle.mc_item.specs.declared.item.ClassNo.{ClassNo}
+use Rattle.mc_item.specs.declared.item.Who.{Who}
+use Rattle.mc_item.specs.declared.reply.Reply.{Reply}
+use Rattle.mc_item.specs.declared.stripe_event.StripeEvent.{StripeEvent}
+use Rattle.mc_item.specs.declared.stripe_event.StripeEvent.TheVariants as events
+use Rattle.mc_board.specs.Histories.{Grows}
+use Rattle.mc_evidence.specs.Setting.{IsClass}
+use Rattle.mc_proto.specs.Answers.{Moved, Replied, Counted}
+use Rattle.mc_script.specs.Exchanges.{Asks, Exchange, Juggles, exchange, Crawls}
+use Rattle.mc_store.specs.Callers.{IsCalled, IsOf, answered_at, asked_for, juggling_of, moment_of, turns_of, who_of, crawling_of}
+use Rattle.mc_store.specs.Calls.{IsJuggledBy, IsRepliedBy}
+use Rattle.mc_store.specs.Finals.{AreItsOwn, AreStripes, FinalView, stripe_histories, stripe_history}
+use Rattle.mc_store.specs.Locked.{setting_of}
+use Rattle.mc_store.specs.Passes.{PassView}
+use Rattle.mc_store.specs.Sides.{StripeSide}
+use Rattle.mc_store.proofs.PlaceLemmas.{get_some}
+use Rattle.mc_driver.specs.Called.{AreByCallers, AreWholeTurns, HasCall, IsAtMoment, MadeNone}
+use Rattle.mc_driver.specs.Caller.{AreMade, IsMade, MayCall, histories_seen}
+use Rattle.mc_driver.specs.Run.{histories_left}
+use Rattle.mc_driver.specs.Stand.{Histories, Stands, stripe_number}
+use Rattle.mc_driver.proofs.CallLemmas.{juggled_stands, replied_stands, seen_grow, crawled_stands}
+use Rattle.mc_driver.proofs.NotedLemmas.{get_next}
+use Rattle.mc_driver.proofs.StandLemmas.{Grow, stands_as_later}
+use Rattle.std.proofs.Math.Nat.{mod-lt}
+use Rattle.mc_item.specs.declared.counts.Histogram.{Histogram}
+use Rattle.mc_store.specs.Crawls.{IsCrawledBy}
+
+-- ---- turns
+
+-- the turns of two lists are those of the one, then those of the other
+pub turns_of-append : (xs ys : List CallEvent) → turns_of (xs ++ ys) ≡ turns_of xs ++ turns_of ys
+turns_of-append [] ys = refl
+turns_of-append (calls.Asked a ∷ xs) ys = ap (λ (l : List CallEvent). calls.Asked a ∷ l) (turns_of-append xs ys)
+turns_of-append (calls.Juggled w ∷ xs) ys = ap (λ (l : List CallEvent). calls.Juggled w ∷ l) (turns_of-append xs ys)
+turns_of-append (calls.Crawled w ∷ xs) ys = ap (λ (l : List CallEvent). calls.Crawled w ∷ l) (turns_of-append xs ys)
+turns_of-append (calls.Answered a ∷ xs) ys = turns_of-append xs ys
+
+-- what was handed a moment is a turn
+turn_first : (call : CallEvent) (behind : List CallEvent) (moment : ℕ) → moment_of call ≡ Some moment → turns_of (call ∷ behind) ≡ call ∷ turns_of behind
+turn_first (calls.Asked a) behind moment handed = refl
+turn_first (calls.Juggled w) behind moment handed = refl
+turn_first (calls.Crawled w) behind moment handed = refl
+turn_first (calls.Answered a) behind moment handed = absurd (cc handed)
+
+-- the call of a turn stands at its place among the turns
+turn_at : (all before : List CallEvent) (call : CallEvent) (behind : List CallEvent) (turn moment : ℕ) → all ≡ before ++ call ∷ behind → length (turns_of before) ≡ turn → moment_of call ≡ Some moment
+    → slice_get (turns_of all) turn ≡ Some call
+turn_at all before call behind turn moment split is handed =
+    subst (λ (k : ℕ). slice_get (turns_of all) k ≡ Some call) is
+    (ap (λ (l : List CallEvent). slice_get l (length (turns_of before)))
+    (ap turns_of split ∙ (turns_of-append before (call ∷ behind) ∙ ap (λ (l : List CallEvent). turns_of before ++ l) (turn_first call behind moment handed)))
+    ∙ get_next (turns_of before) (turns_of behind) call)
+
+-- what stands at a place of a list with one more stands there, or is that one
+get_last : {A : Type 0} (xs : List A) (x y : A) (k : ℕ) → slice_get (xs ++ x ∷ []) k ≡ Some y → (slice_get xs k ≡ Some y) ⊎ ((k ≡ length xs) × (x ≡ y))
+get_last [] x y zero e = inr (refl, cc e)
+get_last [] x y (suc k) e = absurd (cc e)
+get_last (z ∷ zs) x y zero e = inl e
+get_last (z ∷ zs) x y (suc k) e = ⊎_elim
+    (λ (was : slice_get zs k ≡ Some y). inl was)
+    (λ (t : (k ≡ length zs) × (x ≡ y)). let at = t.0 in inr (omega (arith, at), t.1))
+    (get_last zs x y k e)
+
+-- ---- calls that were made
+
+-- a call that was made stays so while histories grow
+made_later : (config : Config) (old new : Histories) (who : Who) (call : CallEvent) → Grow config old new → IsMade config old who call → IsMade config new who call
+made_later config old new who call grow made = record {
+  exchange = made.exchange;
+  placed = made.placed;
+  stands = stands_as_later config old new made.exchange.who made.exchange.moment made.exchange.call made.exchange.answer grow made.placed made.stands;
+  who_is = made.who_is;
+  moment_is = made.moment_is;
+}
+
+-- one more call was made
+may_more : (config : Config) (old new : PassView) (call : CallEvent) → MayCall config old → new.caller ≡ old.caller → new.turn ≡ old.turn + 1 → Grows old.sight new.sight
+    → turns_of new.calls ≡ turns_of old.calls ++ call ∷ [] → IsMade config (histories_seen config new.sight) (record { caller = old.caller; turn = old.turn }) call → MayCall config new
+may_more config old new call may caller turn grows turns made = record {
+  some = may.some;
+  made = record {
+    each = λ k e at.
+        subst (λ (n : ℕ). IsMade config (histories_seen config new.sight) (record { caller = n; turn = k }) e) (sym caller)
+        (⊎_elim
+        (λ (was : slice_get (turns_of old.calls) k ≡ Some e).
+        made_later config (histories_seen config old.sight) (histories_seen config new.sight) (record { caller = old.caller; turn = k }) e (seen_grow config old.sight new.sight grows) (may.made.each k e was))
+        (λ (last : (k ≡ length (turns_of old.calls)) × (call ≡ e)).
+        subst (λ (x : CallEvent). IsMade config (histories_seen config new.sight) (record { caller = old.caller; turn = k }) x) last.1
+        (subst (λ (n : ℕ). IsMade config (histories_seen config new.sight) (record { caller = old.caller; turn = n }) call) (sym (last.0 ∙ may.turns)) made))
+        (get_last (turns_of old.calls) call e k (ap (λ (l : List CallEvent). slice_get l k) (sym turns) ∙ at)));
+  };
+  turns =
+      let was = may.turns in
+      let many : length (turns_of new.calls) ≡ length (turns_of old.calls) + 1 = ap (λ (l : List CallEvent). length l) turns ∙ length-append (turns_of old.calls) (call ∷ []) in
+      omega (arith, many, was, turn);
+}
+
+-- a command that was answered was made to its end
+pub replied_may : (config : Config) (old new : PassView) (command : Command) (moment : ℕ) (reply : Reply) → MayCall config old → new.caller ≡ old.caller → new.turn ≡ old.turn + 1 → Grows old.sight new.sight
+    → IsRepliedBy config (stripe_number config.stripes command) old.sight new.sight old.calls new.calls (record { caller = old.caller; turn = old.turn }) command moment reply → MayCall config new
+replied_may config old new command moment reply may caller turn grows by =
+    let asked = asked_for command moment in
+    let last = answered_at by.old.site.stripe by.replied.place in
+    let turns : turns_of new.calls ≡ turns_of old.calls ++ asked ∷ [] =
+    ap turns_of by.replied.noted
+    ∙ (turns_of-append (old.calls ++ asked ∷ []) (last ∷ [])
+    ∙ (append-nil (turns_of (old.calls ++ asked ∷ [])) ∙ turns_of-append old.calls (asked ∷ []))) in
+    may_more config old new asked may caller turn grows turns (record {
+      exchange = exchange old.caller old.turn (Asks command) moment (Replied reply);
+      placed = mod-lt (fnv1a (key_of command)) may.some;
+      stands = replied_stands config old.sight new.sight old.calls new.calls (record { caller = old.caller; turn = old.turn }) command moment reply by;
+      who_is = refl;
+      moment_is = refl;
+    })
+
+-- and so was juggling
+pub juggled_may : (config : Config) (old new : PassView) (class : ClassNo) (moment : ℕ) (r : Result Moves Fault) → MayCall config old → IsClass (setting_of config) class → new.caller ≡ old.caller
+    → OnOk r (new.turn ≡ old.turn + 1) → OnOk r (new.calls ≡ old.calls ++ juggling_of class moment ∷ []) → Grows old.sight new.sight
+    → IfOk r (IsJuggledBy config class old.sight new.sight (record { caller = old.caller; turn = old.turn }) moment) → OnOk r (MayCall config new)
+juggled_may config old new class moment (Ok moves) may is caller turn noted grows by =
+    may_more config old new (juggling_of class moment) may caller turn grows (ap turns_of noted ∙ turns_of-append old.calls (juggling_of class moment ∷ [])) (record {
+      exchange = exchange old.caller old.turn (Juggles class) moment (Moved moves);
+      placed = is;
+      stands = juggled_stands config class old.sight new.sight (record { caller = old.caller; turn = old.turn }) moment moves by;
+      who_is = refl;
+      moment_is = refl;
+    })
+juggled_may config old new class moment (Err fault) may is caller turn noted grows by = tt
+
+-- and so was a crawl
+pub crawled_may : (config : Config) (old new : PassView) (class : ClassNo) (moment : ℕ) (r : Result Histogram Fault) → MayCall config old → IsClass (setting_of config) class → new.caller ≡ old.caller
+    → OnOk r (new.turn ≡ old.turn + 1) → OnOk r (new.calls ≡ old.calls ++ crawling_of class moment ∷ []) → Grows old.sight new.sight
+    → IfOk r (IsCrawledBy config class old.sight new.sight (record { caller = old.caller; turn = old.turn }) moment) → OnOk r (MayCall config new)
+crawled_may config old new class moment (Ok histogram) may is caller turn noted grows by =
+    may_more config old new (crawling_of class moment) may caller turn grows (ap turns_of noted ∙ turns_of-append old.calls (crawling_of class moment ∷ [])) (record {
+      exchange = exchange old.caller old.turn (Crawls class) moment (Counted histogram);
+      placed = is;
+      stands = crawled_stands config class old.sight new.sight (record { caller = old.caller; turn = old.turn }) moment histogram is by;
+      who_is = refl;
+      moment_is = refl;
+    })
+crawled_may config old new class moment (Err fault) may is caller turn noted grows by = tt
+
+-- ---- what a closed store has
+
+-- an event's moment is that of its call
+moment_of_call : (stripe place : ℕ) (event : StripeEvent) (call : CallEvent) (behind : List CallEvent) (moment handed : ℕ) → moment_of call ≡ Some moment → moment_of call ≡ Some handed → IsOf stripe place event call behind moment
+    → IsAtMoment event handed
+moment_of_call stripe place (events.Did did) call behind moment handed is also own = let asked = ap moment_of own.0 in cc
+moment_of_call stripe place (events.Lost lost) call behind moment handed is also own =
+    let same : moment ≡ handed = cc in
+    subst (IsAtMoment (events.Lost lost)) same own
+moment_of_call stripe place (events.Cooled cooled) call behind moment handed is also own = tt
+
+who_by : (who : Who) (caller : ℕ) → who.caller ≡ caller → who ≡ record { caller = caller; turn = who.turn }
+who_by who caller is = ap (λ (n : ℕ). record who { caller = n }) is
+
+-- where no call of a pass was broken off, each event that names its caller has its call
+pub whole_turns : (config : Config) (final : FinalView) (pass : PassView) → AreStripes final.board config final.stripes → AreItsOwn pass final.stripes → Grow config (histories_seen config pass.sight) (histories_left final)
+    → MayCall config pass → AreWholeTurns config pass.caller (histories_left final)
+whole_turns config final pass all own grow may = record {
+  at = λ number place event below found by.
+      let s = get_some final.stripes number (omega (arith, below, all.many)) in
+      let there : stripe_histories final.stripes number ≡ s.0.stripe.history = ap stripe_history s.1 in
+      let called = own.each number s.0 place event s.1 (ap (λ (h : List StripeEvent). slice_get h place) (sym there) ∙ found) by in
+      let begun = called.begun in
+      let at = turn_at pass.calls begun.before begun.call begun.behind (who_of event).turn called.moment begun.split begun.turn_is begun.handed in
+      let made = made_later config (histories_seen config pass.sight) (histories_left final) (record { caller = pass.caller; turn = (who_of event).turn }) begun.call grow (may.made.each (who_of event).turn begun.call at) in
+      record {
+        call = made.exchange;
+        stands = made.stands;
+        who_is = who_by (who_of event) pass.caller by ∙ sym made.who_is;
+        moment_is = moment_of_call number place event begun.call begun.behind called.moment made.exchange.moment begun.handed made.moment_is called.own;
+      };
+}
+
+-- no event names a caller that made no call
+pub none_made : (pass : PassView) (stripes : List StripeSide) → pass.calls ≡ [] → AreItsOwn pass stripes → MadeNone pass.caller stripes
+none_made pass stripes none own = record {
+  at = λ k place s event found there by.
+      let called = own.each k s place event found there by in
+      nothing called.begun.before called.begun.call called.begun.behind (sym none ∙ called.begun.split);
+}
+  where
+    nothing : (before : List CallEvent) (call : CallEvent) (behind : List CallEvent) → [] ≡ before ++ call ∷ behind → ⊥
+    nothing [] call behind is = absurd (cc is)
+    nothing (b ∷ bs) call behind is = absurd (cc is)
+
+-- of three callers two made none: the events are the first one's
+pub by_first : (config : Config) (final : FinalView) → AreStripes final.board config final.stripes → config.callers ≡ 3 → MadeNone 1 final.stripes → MadeNone 2 final.stripes
+    → AreByCallers config.stripes 1 (histories_left final)
+by_first config final all three second third = record {
+  at = λ number place event below found.
+      let s = get_some final.stripes number (omega (arith, below, all.many)) in
+      let there : stripe_histories final.stripes number ≡ s.0.stripe.history = ap stripe_history s.1 in
+      let at = ap (λ (h : List StripeEvent). slice_get h place) (sym there) ∙ found in
+      let few = ((all.each number s.0 s.1).kept.called.each place event at).0 in
+      only (who_of event).caller (omega (arith, few, three)) (second.at number place s.0 event s.1 at) (third.at number place s.0 event s.1 at);
+}
+  where
+    only : (n : ℕ) → n < 3 → (n ≡ 1 → ⊥) → (n ≡ 2 → ⊥) → n < 1
+    only zero few one two = omega arith
+    only (suc zero) few one two = absurd (one refl)
+    only (suc (suc zero)) few one two = absurd (two refl)
+    only (suc (suc (suc n))) few one two = absurd (omega (arith, few))

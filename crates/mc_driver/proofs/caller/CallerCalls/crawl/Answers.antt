@@ -1,0 +1,19 @@
+use Rattle.mc_store.specs.Passes.{next_who}
+use Rattle.mc_driver.proofs.CallLemmas.{crawled_kinds, crawled_ok, crawling_failed}
+use Rattle.mc_driver.proofs.MadeLemmas.{crawled_may}
+use Rattle.mc_driver.proofs.caller.CallerCalls.crawl.Goals as goal
+
+pub returns-clause-ok : goal.returns-clause-ok
+returns-clause-ok g c =
+    crawled_ok g.N.Named.config c.args.self.now.pass c.crawl.new.pass c.args.class c.args.moment c.crawl.result c.requires.there c.crawl.ensures.caller c.crawl.ensures.calls c.crawl.ensures.grows c.crawl.ensures.crawled
+
+pub returns-clause-kinds : goal.returns-clause-kinds
+returns-clause-kinds g c =
+    crawled_kinds g.N.Named.config c.args.class c.args.self.now.pass.sight c.crawl.new.pass.sight (next_who c.args.self.now.pass) c.args.moment c.crawl.result c.crawl.ensures.crawled
+
+pub returns-clause-err : goal.returns-clause-err
+returns-clause-err g c = crawling_failed g.N.Named.config c.args.self.now.pass c.crawl.new.pass c.args.class c.args.moment c.crawl.result c.crawl.ensures.caller c.crawl.ensures.cut c.crawl.ensures.grows
+
+pub returns-clause-may : goal.returns-clause-may
+returns-clause-may g c =
+    crawled_may g.N.Named.config c.args.self.now.pass c.crawl.new.pass c.args.class c.args.moment c.crawl.result c.requires.may c.requires.there c.crawl.ensures.caller c.crawl.ensures.turn c.crawl.ensures.calls c.crawl.ensures.grows c.crawl.ensures.crawled

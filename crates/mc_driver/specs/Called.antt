@@ -1,0 +1,36 @@
+-- That each event of a stripe is of a call that stands in the histories, by who made it and its moment (own).
+use Rattle.std.specs.Prelude.{ℕ, ◌≡◌, ◌<◌, List, Some, slice_get}
+use Rattle.mc_item.specs.declared.config.Config.{Config}
+use Rattle.mc_item.specs.declared.item.Who.{Who}
+use Rattle.mc_item.specs.declared.stripe_event.StripeEvent.{StripeEvent}
+use Rattle.mc_item.specs.declared.stripe_event.StripeEvent.TheVariants as events
+use Rattle.mc_script.specs.Exchanges.{Exchange}
+use Rattle.mc_store.specs.Callers.{IsMomentOf, who_of}
+use Rattle.mc_driver.specs.Stand.{Histories, Stands}
+use Rattle.mc_store.specs.Sides.{StripeSide}
+
+-- an event that has a moment has this one; an item that was taken and a cleared mark have none
+abbrev pub IsAtMoment : StripeEvent → ℕ → Type 0
+IsAtMoment (events.Did did) moment = did.moment ≡ moment
+IsAtMoment (events.Lost lost) moment = IsMomentOf lost.cause moment
+IsAtMoment (events.Cooled cooled) moment = Unit {0}
+
+-- an event has its call: one that stands in the histories, whose caller made it in the call's turn and at its moment
+pub record HasCall (config : Config) (histories : Histories) (event : StripeEvent) : Type 0 where
+  pub call : Exchange
+  pub stands : Stands config histories call
+  pub who_is : who_of event ≡ call.who
+  pub moment_is : IsAtMoment event call.moment
+
+-- no call of this caller was broken off: each event that names it, on whatever stripe, has its call
+pub record AreWholeTurns (config : Config) (caller : ℕ) (histories : Histories) : Type 0 where
+  pub at : (number place : ℕ) (event : StripeEvent) → number < config.stripes → slice_get (histories.stripes number) place ≡ Some event
+      → (who_of event).caller ≡ caller → HasCall config histories event
+
+-- nobody but the first so many callers made an event on any stripe
+pub record AreByCallers (stripes callers : ℕ) (histories : Histories) : Type 0 where
+  pub at : (number place : ℕ) (event : StripeEvent) → number < stripes → slice_get (histories.stripes number) place ≡ Some event → (who_of event).caller < callers
+
+-- none of the events of these stripes names this caller
+pub record MadeNone (caller : ℕ) (stripes : List StripeSide) : Type 0 where
+  pub at : (k place : ℕ) (s : StripeSide) (event : StripeEvent) → slice_get stripes k ≡ Some s → slice_get s.stripe.history place ≡ Some event → (who_of event).caller ≡ caller → ⊥

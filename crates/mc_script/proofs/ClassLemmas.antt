@@ -1,0 +1,57 @@
+-- A directive's calls, one for each slab class.
+use Rattle.std.proofs.Common.{◌≡◌, ◌+◌, ◌-◌, ◌<◌, ℕ, zero, suc, List, [], ◌∷◌, ◌++◌, sym, ap, ◌∙◌, arith, map, subst}
+use Rattle.std.proofs.lemmas.List.{map-append}
+use Rattle.mc_item.specs.declared.fault.Fault.{Fault}
+use Rattle.mc_item.specs.declared.item.ClassNo.{ClassNo}
+use Rattle.mc_proto.specs.Answers.{Answer}
+use Rattle.mc_script.specs.Calls.{Adds, Breaks, Makes}
+use Rattle.mc_script.specs.Exchanges.{Call, Exchange, IsOfKind, exchange}
+use Rattle.mc_script.specs.Script.{classes_from}
+use Rattle.mc_script.proofs.CallLemmas.{breaks_first, breaks_later, makes_both, makes_one}
+
+-- classes from one on, and those behind them
+classes_from-append : (first n m : ℕ) → classes_from first (n + m) ≡ classes_from first n ++ classes_from (first + n) m
+classes_from-append first zero m =
+    let none : 0 + m ≡ m = omega arith in
+    let here : first ≡ first + 0 = omega arith in
+    ap (classes_from first) none ∙ ap (λ (k : ℕ). classes_from k m) here
+classes_from-append first (suc n) m =
+    let one : suc n + m ≡ suc (n + m) = omega arith in
+    let later : first + 1 + n ≡ first + suc n = omega arith in
+    ap (classes_from first) one
+    ∙ ap (λ (cs : List ClassNo). record { 0 = first } ∷ cs) (classes_from-append (first + 1) n m ∙ ap (λ (k : ℕ). classes_from (first + 1) n ++ classes_from k m) later)
+
+-- one class more is the last
+classes_from-push : (first n : ℕ) → classes_from first (n + 1) ≡ classes_from first n ++ record { 0 = first + n } ∷ []
+classes_from-push first n = classes_from-append first n 1
+
+-- a class with those before it and those behind it
+classes_from-split : (first n all : ℕ) → n < all → classes_from first all ≡ classes_from first n ++ record { 0 = first + n } ∷ classes_from (first + n + 1) (all - (n + 1))
+classes_from-split first n all below =
+    let is : all ≡ n + suc (all - (n + 1)) = omega arith in
+    ap (classes_from first) is ∙ classes_from-append first n (suc (all - (n + 1)))
+
+-- the call of one class more was made
+pub class_more : (call : ClassNo → Call) (first n : ℕ) (answers : List Answer) (answer : Answer) (caller caller' turn turn' turn'' moment : ℕ) (notes notes' notes'' : List Exchange → Type 0)
+    → Makes (map call (classes_from first n)) answers caller turn turn' moment notes notes' → caller' ≡ caller → IsOfKind (call (record { 0 = first + n })) answer
+    → Adds notes' notes'' (exchange caller' turn' (call (record { 0 = first + n })) moment answer ∷ []) → turn'' ≡ turn' + 1
+    → Makes (map call (classes_from first (n + 1))) (answers ++ answer ∷ []) caller turn turn'' moment notes notes''
+class_more call first n answers answer caller caller' turn turn' turn'' moment notes notes' notes'' so_far same kind noted next =
+    let one : Makes (call (record { 0 = first + n }) ∷ []) (answer ∷ []) caller' turn' turn'' moment notes' notes'' =
+    makes_one (call (record { 0 = first + n })) answer caller' turn' turn'' moment notes' notes'' kind noted next in
+    let both = makes_both (map call (classes_from first n)) (call (record { 0 = first + n }) ∷ []) answers (answer ∷ []) caller caller' turn turn' turn'' moment notes notes' notes'' so_far same one in
+    let same_calls : map call (classes_from first n) ++ call (record { 0 = first + n }) ∷ [] ≡ map call (classes_from first (n + 1)) =
+    sym (ap (map call) (classes_from-push first n) ∙ map-append call (classes_from first n) (record { 0 = first + n } ∷ [])) in
+    subst (λ (cs : List Call). Makes cs (answers ++ answer ∷ []) caller turn turn'' moment notes notes'') same_calls both
+
+-- the call of a class failed behind those of others
+pub class_fails : (call : ClassNo → Call) (first n all : ℕ) (fault : Fault) (answers : List Answer) (caller caller' turn turn' moment : ℕ) (notes notes' notes'' : List Exchange → Type 0)
+    → n < all → Makes (map call (classes_from first n)) answers caller turn turn' moment notes notes' → caller' ≡ caller → Adds notes' notes'' []
+    → Breaks fault (map call (classes_from first all)) caller turn moment notes notes''
+class_fails call first n all fault answers caller caller' turn turn' moment notes notes' notes'' below so_far same none =
+    let here = call (record { 0 = first + n }) in
+    let later = map call (classes_from (first + n + 1) (all - (n + 1))) in
+    let made = breaks_later fault (map call (classes_from first n)) (here ∷ []) later answers caller caller' turn turn' moment notes notes' notes'' so_far same
+    (breaks_first fault here [] caller' turn' moment notes' notes'' none) in
+    subst (λ (cs : List Call). Breaks fault cs caller turn moment notes notes'')
+    (sym (ap (map call) (classes_from-split first n all below) ∙ map-append call (classes_from first n) (record { 0 = first + n } ∷ classes_from (first + n + 1) (all - (n + 1))))) made
