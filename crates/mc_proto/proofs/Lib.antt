@@ -8,4 +8,6 @@ pub mod TakingLemmas
 mod QuickLemmas
 pub mod RestLemmas
 pub mod StreamLemmas
+pub mod SplitLemmas
+pub mod PercentLemmas
 pub mod TextLemmas

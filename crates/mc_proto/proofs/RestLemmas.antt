@@ -16,13 +16,13 @@ use Rattle.mc_proto.specs.declared.state.State.{State}
 use Rattle.mc_proto.specs.declared.state.State.TheVariants.{Line, Block, Skip, Closed, Failed}
 use Rattle.mc_proto.proofs.CutLemmas.{same_line, past_line, no_line}
 
-in_line : (limits : Limits) (rest u : List ℕ) → rest ≡ u → Lacks 10 u → length u < 65537 → BeginsNone limits rest
+pub in_line : (limits : Limits) (rest u : List ℕ) → rest ≡ u → Lacks 10 u → length u < 65537 → BeginsNone limits rest
 in_line limits rest u is lack short bytes more r e (inl p) =
     no_line p.line (p.block ++ more) u lack (sym is ∙ e ∙ ap (λ (t : List ℕ). t ++ more) p.whole ∙ append_assoc p.line (10 ∷ p.block) more)
 in_line limits rest u is lack short bytes more r e (inr p) =
     omega (arith, ap length is, ap length e, length-append bytes more, p.long)
 
-in_block : (limits : Limits) (rest line tail : List ℕ) → rest ≡ line ++ 10 ∷ tail → IsLine line → length tail < wanted (says limits line) → BeginsNone limits rest
+pub in_block : (limits : Limits) (rest line tail : List ℕ) → rest ≡ line ++ 10 ∷ tail → IsLine line → length tail < wanted (says limits line) → BeginsNone limits rest
 in_block limits rest line tail is il part bytes more r e (inl p) =
     let joined : p.line ++ 10 ∷ (p.block ++ more) ≡ line ++ 10 ∷ tail =
     sym (append_assoc p.line (10 ∷ p.block) more) ∙ ap (λ (t : List ℕ). t ++ more) (sym p.whole) ∙ sym e ∙ is in

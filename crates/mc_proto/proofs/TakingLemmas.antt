@@ -19,22 +19,22 @@ use Rattle.mc_proto.specs.declared.state.State.{State}
 use Rattle.mc_proto.specs.declared.state.State.TheVariants.{Line, Block, Skip, Closed}
 use Rattle.mc_proto.proofs.CutLemmas.{lacks_both, lacks_front}
 
-spelt_on : (limits : Limits) (stream : List ℕ) (rs : List Request) (rest p : List ℕ) → Spelt limits stream rs rest → Spelt limits (stream ++ p) rs (rest ++ p)
+pub spelt_on : (limits : Limits) (stream : List ℕ) (rs : List Request) (rest p : List ℕ) → Spelt limits stream rs rest → Spelt limits (stream ++ p) rs (rest ++ p)
 spelt_on limits stream [] rest p e = ap (λ (t : List ℕ). t ++ p) e
 spelt_on limits stream (r ∷ rs) rest p s = (s.0, s.1 ++ p, ap (λ (t : List ℕ). t ++ p) s.2 ∙ append_assoc s.0 s.1 p, s.3, s.4, spelt_on limits s.1 rs rest p s.5)
 
-parts : (b c : Bool) → (if b then true else c) ≡ false → (b ≡ false) × (c ≡ false)
+pub parts : (b c : Bool) → (if b then true else c) ≡ false → (b ≡ false) × (c ≡ false)
 parts true c e = absurd (cc)
 parts false c e = (refl, e)
 
-spelt_push : (limits : Limits) (stream : List ℕ) (rs : List Request) (rest bytes more : List ℕ) (r : Request) → Spelt limits stream rs rest → closed rs ≡ false → rest ≡ bytes ++ more → Spells limits bytes r → Spelt limits stream (rs ++ r ∷ []) more
+pub spelt_push : (limits : Limits) (stream : List ℕ) (rs : List Request) (rest bytes more : List ℕ) (r : Request) → Spelt limits stream rs rest → closed rs ≡ false → rest ≡ bytes ++ more → Spells limits bytes r → Spelt limits stream (rs ++ r ∷ []) more
 spelt_push limits stream [] rest bytes more r e c is sp = (bytes, more, e ∙ is, sp, λ h. refl, refl)
 spelt_push limits stream (q ∷ rs) rest bytes more r s c is sp =
     let two = parts (closes q) (closed rs) c in
     let off : closes q ≡ false = two.0 in
     (s.0, s.1, s.2, s.3, λ h. absurd (let on : closes q ≡ true = h in cc), spelt_push limits s.1 rs rest bytes more r s.5 two.1 is sp)
 
-closed_push : (rs : List Request) (r : Request) (b : Bool) → closed rs ≡ false → closes r ≡ b → closed (rs ++ r ∷ []) ≡ b
+pub closed_push : (rs : List Request) (r : Request) (b : Bool) → closed rs ≡ false → closes r ≡ b → closed (rs ++ r ∷ []) ≡ b
 closed_push [] r true c is = rw is refl
 closed_push [] r false c is = rw is refl
 closed_push (q ∷ rs) r b c is =
@@ -64,7 +64,7 @@ pub behind : (limits : Limits) (next : State) (v stream : List ℕ) (before old 
 behind limits next v stream before old add new is a =
     subst (λ (ts : List Request). After limits next v stream ts) (append_assoc before old add ∙ ap (λ (ts : List Request). before ++ ts) (sym is)) a
 
-lacks_take : (b n : ℕ) (xs : List ℕ) → Lacks b xs → Lacks b (take n xs)
+pub lacks_take : (b n : ℕ) (xs : List ℕ) → Lacks b xs → Lacks b (take n xs)
 lacks_take b n xs l = lacks_front b (take n xs) (drop n xs) (subst (Lacks b) (sym (take-append-drop n xs)) l)
 
 pub too_long : (limits : Limits) (u v stream piece : List ℕ) (rs : List Request) (end : ℕ) → After limits Line u stream rs → end ≤ length piece → Lacks 10 (take end piece) → 65536 < length u + end
@@ -136,7 +136,7 @@ block_more limits u v block stream piece rs s a l =
     rw (take_all (length piece) piece (omega arith))
     (goes limits (Block s block) (Block s (block ++ piece)) u v stream piece rs a (st.0, with_more a.rest st.0 block piece st.1, st.2, st.3, omega (arith, length-append block piece)) refl)
 
-stored_open : (s : Start) (block : List ℕ) (b : Bool) → closes (if b then One (commands.Store s.verb s.key s.flags s.exptime (take s.count block)) s.quiet else Bad Chunk s.quiet) ≡ false
+pub stored_open : (s : Start) (block : List ℕ) (b : Bool) → closes (if b then One (commands.Store s.verb s.key s.flags s.exptime (take s.count block)) s.quiet else Bad Chunk s.quiet) ≡ false
 stored_open s block true = refl
 stored_open s block false = refl
 

@@ -14,6 +14,13 @@ use Rattle.mc_proto.proofs.CutLemmas.{lacks_both}
 pub lacks_more : (b : ℕ) (xs : List ℕ) (i : ℕ) → i < length xs → Lacks b (take i xs) → (get_or xs i 0 ≡ b → ⊥) → Lacks b (take (i + 1) xs)
 lacks_more b xs i l h not = rw (take_more xs i 0 l) (lacks_both b (take i xs) (get_or xs i 0 ∷ []) h (not, tt))
 
+pub lacks_up_to : (b : ℕ) (xs : List ℕ) (n : ℕ) → n ≤ length xs → ((i : ℕ) → i < n → get_or xs i 0 == b ≡ true → ⊥) → Lacks b (take n xs)
+lacks_up_to b xs zero l h = tt
+lacks_up_to b xs (suc n) l h =
+    let at : n + 1 ≡ suc n = omega arith in
+    let more : Lacks b (take (n + 1) xs) = lacks_more b xs n (omega arith) (lacks_up_to b xs n (omega arith) (λ i g. h i (omega arith))) (λ is. h n (omega arith) (eq-eqb (get_or xs n 0) b is)) in
+    rw at at more
+
 pub space_more : (xs : List ℕ) (i : ℕ) → i < length xs → get_or xs i 0 ≡ 32 → tokens (drop (i + 1) xs) ≡ tokens (drop i xs)
 space_more xs i l is = sym (at_drop_more tokens xs i 0 l ∙ ap (λ (b : ℕ). tokens (b ∷ drop (i + 1) xs)) is)
 

@@ -4,5 +4,6 @@ pub mod Kinds
 pub mod Table
 pub mod Grammar
 pub mod Reader
+pub mod Scripts
 pub mod Text
 pub mod Answers

@@ -3,6 +3,7 @@ ghost use Rattle.std.specs.Prelude.{◌≡◌, ◌++◌, ℕ, List};
 ghost use Rattle.mc_proto.specs.Grammar.{Spells, Spelt, Reads};
 ghost use Rattle.mc_proto.specs.Lines.{AreTokens, tokens};
 ghost use Rattle.mc_proto.specs.Reader.{After, Stands};
+ghost use Rattle.mc_proto.specs.Scripts.{AreScripts, ReadAlone, with_next};
 ghost use Rattle.mc_proto.specs.declared.request.Limits.{Limits};
 ghost use Rattle.mc_proto.specs.declared.request.Request.{Request};
 ghost use Rattle.mc_proto.specs.declared.state.State.{State};
@@ -37,4 +38,15 @@ pub fn after_is_reading()
 pub fn reading_goes_on()
     ensures { (limits : Limits) (came more rest other : List ℕ) (requests all : List Request) → Spelt limits came requests rest → Reads limits (came ++ more) all other
         → ((others : List Request) × (all ≡ requests ++ others)) }
+{}
+
+/// A stream is cut into scripts in one way at most.
+pub fn one_splitting()
+    ensures { (limits : Limits) (stream : List ℕ) (ss ts : List (List ℕ)) → AreScripts limits stream ss → AreScripts limits stream ts → ss ≡ ts }
+{}
+
+/// The scripts of a stream, each read on its own, have the requests of the whole stream, but for those between them.
+pub fn scripts_read_alone()
+    ensures { (limits : Limits) (stream : List ℕ) (ss : List (List ℕ)) → AreScripts limits stream ss
+        → ((all : List (List Request)) × (rest : List ℕ) × ReadAlone limits ss all rest × Reads limits stream (with_next all) rest) }
 {}

@@ -12,6 +12,7 @@ mod reader;
 mod request;
 mod said;
 mod sink;
+mod splitting;
 mod state;
 mod storage;
 mod taking;
@@ -21,11 +22,12 @@ mod verb;
 
 pub use laws::{
     a_line_is_its_tokens, after_is_reading, every_stream_reads, no_spelling_begins_another,
-    one_reading, reading_goes_on,
+    one_reading, one_splitting, reading_goes_on, scripts_read_alone,
 };
 pub use reader::Reader;
 pub use request::{Keys, Limits, LineFault, Request, Rest, Target};
 pub use sink::{Sink, SinkFault, write_reply, write_whole};
+pub use splitting::{lacks_directives, split_scripts};
 pub use text::{
     fault_text, histogram_text, moves_text, push_end, push_fault, push_histogram, push_moves,
     push_reply, push_value_head, push_value_tail, reply_text, value_text,

@@ -19,7 +19,7 @@ use std::alloc::Global;
 use std::mem;
 
 /// The longest line in bytes, without its LF.
-const MAX_LINE: usize = 65_536;
+pub const MAX_LINE: usize = 65_536;
 
 // What a line says that lies in two pieces, of which the second has `front`.
 #[cold]

@@ -4,4 +4,5 @@ mod lines;
 mod pieces;
 mod replies;
 mod show;
+mod splitting;
 mod table;

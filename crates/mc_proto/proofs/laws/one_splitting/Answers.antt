@@ -1,0 +1,5 @@
+use Rattle.mc_proto.proofs.SplitLemmas.{scripts_once}
+use Rattle.mc_proto.proofs.laws.one_splitting.Goals as goal
+
+pub returns : goal.returns
+returns c = scripts_once

@@ -1,0 +1,5 @@
+use Rattle.mc_proto.proofs.SplitLemmas.{scripts_read}
+use Rattle.mc_proto.proofs.laws.scripts_read_alone.Goals as goal
+
+pub returns : goal.returns
+returns c = scripts_read

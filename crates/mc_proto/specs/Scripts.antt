@@ -1,0 +1,86 @@
+-- The scripts of an input: a line %next in the place of a command begins the next script (own).
+use Rattle.std.specs.Prelude.{◌≡◌, ◌<◌, ◌≤◌, ◌+◌, List, [], ◌∷◌, ◌++◌, ℕ, Bool, true, false, Option, Some, None, All, length, take, drop}
+use Rattle.mc_proto.specs.Grammar.{Spells, Spelt, Reads, closes, closed}
+use Rattle.mc_proto.specs.declared.request.Limits.{Limits}
+use Rattle.mc_proto.specs.declared.request.Request.{Request}
+use Rattle.mc_proto.specs.declared.request.Request.TheVariants.{Get, One, Bad, At, Next, Juggle, Crawl, Quit}
+use Rattle.mc_proto.specs.declared.splitting.End.{End}
+use Rattle.mc_proto.specs.declared.splitting.First.{First}
+use Rattle.mc_proto.specs.declared.splitting.First.TheVariants.{More, Begins, Last}
+use Rattle.mc_proto.specs.declared.state.Said.{Said}
+use Rattle.mc_proto.specs.declared.state.Said.TheVariants as said
+
+-- a request that doesn't begin the next script
+abbrev pub IsOther : Request → Type 0
+IsOther r = r ≡ Next → ⊥
+
+-- bytes that are all of a script: they spell requests, of which none begins the next script, and none closes the reader
+pub record IsWhole (limits : Limits) (script : List ℕ) : Type 0 where
+  pub requests : List Request
+  pub spelt : Spelt limits script requests []
+  pub others : All IsOther requests
+  pub reads_on : closed requests ≡ false
+
+-- a stream in which no script begins behind the first: it reads as requests, of which none begins the next script
+pub record IsLast (limits : Limits) (stream : List ℕ) : Type 0 where
+  pub requests : List Request
+  pub rest : List ℕ
+  pub reads : Reads limits stream requests rest
+  pub others : All IsOther requests
+
+-- a stream is a whole script, a line that begins the next one, and the rest
+pub record IsCut (limits : Limits) (stream script rest : List ℕ) : Type 0 where
+  pub line : List ℕ
+  pub is : stream ≡ script ++ (line ++ rest)
+  pub whole : IsWhole limits script
+  pub next : Spells limits line Next
+
+-- the scripts of a stream: it is cut at each line that begins the next script, which is part of none, and the last script is what is left
+abbrev pub AreScripts : Limits → List ℕ → List (List ℕ) → Type 0
+AreScripts limits stream [] = ⊥
+AreScripts limits stream (script ∷ []) = (script ≡ stream) × IsLast limits stream
+AreScripts limits stream (script ∷ next ∷ more) = (rest : List ℕ) × IsCut limits stream script rest × AreScripts limits rest (next ∷ more)
+
+-- the requests of scripts, with one that begins the next script between those of each two
+abbrev pub with_next : List (List Request) → List Request
+with_next [] = []
+with_next (requests ∷ []) = requests
+with_next (requests ∷ next ∷ more) = requests ++ Next ∷ with_next (next ∷ more)
+
+-- each script reads, on its own, as its requests, and only the last has a rest
+abbrev pub ReadAlone : Limits → List (List ℕ) → List (List Request) → List ℕ → Type 0
+ReadAlone limits [] requests rest = ⊥
+ReadAlone limits (script ∷ scripts) [] rest = ⊥
+ReadAlone limits (script ∷ []) (requests ∷ []) rest = Reads limits script requests rest
+ReadAlone limits (script ∷ []) (requests ∷ next ∷ more) rest = ⊥
+ReadAlone limits (script ∷ second ∷ scripts) (requests ∷ []) rest = ⊥
+ReadAlone limits (script ∷ second ∷ scripts) (requests ∷ next ∷ more) rest = Reads limits script requests [] × ReadAlone limits (second ∷ scripts) (next ∷ more) rest
+
+-- what stands first in a stream: so many bytes that spell a request, which begins the next script or goes on with this
+-- one; or nothing behind which a script could begin
+abbrev pub StandsFirst : Limits → List ℕ → First → Type 0
+StandsFirst limits stream (More n) = (0 < n) × (n ≤ length stream) × ((r : Request) × Spells limits (take n stream) r × (closes r ≡ false) × IsOther r)
+StandsFirst limits stream (Begins n) = (0 < n) × (n ≤ length stream) × Spells limits (take n stream) Next
+StandsFirst limits stream Last = IsLast limits stream
+
+-- where the first script of a stream ends: behind so many bytes, before a line of so many bytes; or where the stream ends
+abbrev pub EndsFirst : Limits → List ℕ → Option End → Type 0
+EndsFirst limits stream None = IsLast limits stream
+EndsFirst limits stream (Some e) = (0 < e.line) × (e.script + e.line ≤ length stream) × IsWhole limits (take e.script stream) × Spells limits (take e.line (drop e.script stream)) Next
+
+-- whether a request begins the next script
+abbrev pub is_next : Request → Bool
+is_next Next = true
+is_next (Get keys with_cas) = false
+is_next (One command quiet) = false
+is_next (Bad why quiet) = false
+is_next (At moment) = false
+is_next (Juggle target) = false
+is_next (Crawl target) = false
+is_next Quit = false
+
+-- whether a line says that the next script begins
+abbrev pub says_next : Said → Bool
+says_next (said.Whole r) = is_next r
+says_next (said.Block s) = false
+says_next (said.Skip s) = false
