@@ -12,6 +12,7 @@ use Rattle.mc_item.specs.declared.item.Who.{Who}
 use Rattle.mc_item.specs.declared.reply.Reply.{Reply}
 use Rattle.mc_item.specs.declared.reply.Room.{Room}
 use Rattle.mc_item.specs.Answer.{Row}
+use Rattle.mc_board.specs.declared.rule.Sight.{Sight}
 use Rattle.mc_segment.specs.ClassState.{ClassView}
 use Rattle.mc_stripe.specs.Plan.{AreHeld, Foresees, IsHeld, dead_link, fate_of}
 use Rattle.mc_stripe.specs.StripeCalls.{KeepsSite}
@@ -23,6 +24,7 @@ use Rattle.mc_lone.specs.Commands.{IsCut, burial}
 use Rattle.mc_lone.proofs.ReadyLemmas.{plan_fate}
 use Rattle.mc_store.specs.Callers.{answered_at}
 use Rattle.mc_store.specs.Calls.{IsReplied}
+use Rattle.mc_store.specs.Earned.{IsEarned}
 use Rattle.mc_store.specs.Passes.{CallerView}
 use Rattle.mc_store.specs.Performing.{IsMade}
 use Rattle.mc_store.specs.Planned.{GoesBy, IsGiven, IsReadyOn, IsSearched}
@@ -47,11 +49,12 @@ searched_seen config who command moment s mid s_new same searched = subst (λ (t
 
 module _ (config : Config) (who : Who) (command : Command) (moment : ℕ) where
   module _ (s last : Stripe) (alive : IsAlive ((cache_now s).items (key_of command)) moment) (searched : IsSearched config who command moment s last) (end : Stripe) where
-    pub replied_ok : (room : Room) (caller caller_new : CallerView) (r : Result Reply Fault) → KeepsSite s last → IfOk r (IsMade last end (call who command moment room))
-        → OnOk r (caller_new ≡ record caller { calls = caller.calls ++ answered_at last.site.stripe (length last.history) ∷ [] }) → IfOk r (IsReplied config who command moment s end caller.calls caller_new.calls)
-    replied_ok room caller caller_new (Ok reply) site made noted =
-        replied_behind config who command moment s last alive searched end room reply caller.calls caller_new.calls site made (ap (λ (x : CallerView). x.calls) noted)
-    replied_ok room caller caller_new (Err fault) site made noted = tt
+    pub replied_ok : (sight : Sight) (room : Room) (caller caller_new : CallerView) (r : Result Reply Fault) → KeepsSite s last → IfOk r (IsMade last end (call who command moment room))
+        → OnOk r (caller_new ≡ record caller { calls = caller.calls ++ answered_at last.site.stripe (length last.history) ∷ [] }) → ((reply : Reply) → IsEarned config s.site sight (record { who = who; command = command; moment = moment; reply = reply; room = room }))
+        → IfOk r (IsReplied config who command moment s end sight caller.calls caller_new.calls)
+    replied_ok sight room caller caller_new (Ok reply) site made noted earned =
+        replied_behind config who command moment s last alive searched end sight room reply caller.calls caller_new.calls site made (ap (λ (x : CallerView). x.calls) noted) (earned _)
+    replied_ok sight room caller caller_new (Err fault) site made noted earned = tt
 
     pub cut_err : {T : Type 0} (r : Result T Fault) → OnErr r (end.history ≡ last.history) → OnErr r (IsCut config who command moment s end)
     cut_err (Ok reply) same = tt
@@ -64,9 +67,9 @@ module _ (config : Config) (who : Who) (command : Command) (moment : ℕ) where
 
   -- the same where the key's dead item went before
   module _ (s mid : Stripe) (site : KeepsSite s mid) (buried_is : mid.history ≡ s.history ++ burial who (key_of command) moment (dead_link ((cache_now s).items (key_of command)) moment)) (end : Stripe) where
-    pub replied_ok_from : (calls calls_new : List CallEvent) (r : Result Reply Fault) → IfOk r (IsReplied config who command moment mid end calls calls_new) → IfOk r (IsReplied config who command moment s end calls calls_new)
-    replied_ok_from calls calls_new (Ok reply) replied = replied_from config who command moment s mid site buried_is end calls calls_new reply replied
-    replied_ok_from calls calls_new (Err fault) replied = tt
+    pub replied_ok_from : (sight : Sight) (calls calls_new : List CallEvent) (r : Result Reply Fault) → IfOk r (IsReplied config who command moment mid end sight calls calls_new) → IfOk r (IsReplied config who command moment s end sight calls calls_new)
+    replied_ok_from sight calls calls_new (Ok reply) replied = replied_from config who command moment s mid site buried_is end sight calls calls_new reply replied
+    replied_ok_from sight calls calls_new (Err fault) replied = tt
 
     pub cut_err_from : {T : Type 0} (r : Result T Fault) → OnErr r (IsCut config who command moment mid end) → OnErr r (IsCut config who command moment s end)
     cut_err_from (Ok reply) cut = tt

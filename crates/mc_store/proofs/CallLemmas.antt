@@ -22,6 +22,7 @@ use Rattle.mc_store.specs.Calls.{IsCutBy, IsReplied, IsRepliedBy, IsSeenGrow}
 use Rattle.mc_store.specs.Locked.{IsLockedStripe, setting_of}
 use Rattle.mc_store.specs.Serving.{HasSeenShort, IsShort}
 use Rattle.mc_store.specs.Sides.{StripeSide, stripe_told}
+use Rattle.mc_store.proofs.EarnedLemmas.{told_sees}
 use Rattle.mc_store.proofs.GivenLemmas.{short_grows, short_stripe}
 use Rattle.mc_store.specs.Callers.{asked_for, answered_at, turns_of, calls_told, moment_of}
 use Rattle.mc_store.specs.Passes.{CallerView, PassView, HasAsked, HasCalled, caller_of, next_who}
@@ -48,7 +49,7 @@ module _ (table : TableId) (config : Config) (old new : StripeSide) (before afte
         (classes_grow config.stripes (list_at new.sight.seen) (list_at after.seen) grows.at) new_kept.keeps);
   }
 
-  pub replied_by : (who : Who) (command : Command) (moment : ℕ) (calls calls_new : List CallEvent) (reply : Reply) → IsReplied config who command moment old.stripe new.stripe (calls ++ asked_for command moment ∷ []) calls_new reply
+  pub replied_by : (who : Who) (command : Command) (moment : ℕ) (calls calls_new : List CallEvent) (reply : Reply) → IsReplied config who command moment old.stripe new.stripe after (calls ++ asked_for command moment ∷ []) calls_new reply
       → IsRepliedBy config old.stripe.site.stripe before after calls calls_new who command moment reply
   replied_by who command moment calls calls_new reply replied = record { old = old.stripe; new = new.stripe; grew = seen_grow; replied = replied }
 
@@ -56,7 +57,7 @@ module _ (table : TableId) (config : Config) (old new : StripeSide) (before afte
       → IsCutBy config old.stripe.site.stripe before after calls calls_new who command moment
   cut_by who command moment calls calls_new noted cut = record { old = old.stripe; new = new.stripe; grew = seen_grow; cut = cut; noted = noted }
 
-  pub replied_by_ok : (who : Who) (command : Command) (moment : ℕ) (calls calls_new : List CallEvent) (r : Result Reply Fault) → IfOk r (IsReplied config who command moment old.stripe new.stripe (calls ++ asked_for command moment ∷ []) calls_new)
+  pub replied_by_ok : (who : Who) (command : Command) (moment : ℕ) (calls calls_new : List CallEvent) (r : Result Reply Fault) → IfOk r (IsReplied config who command moment old.stripe new.stripe after (calls ++ asked_for command moment ∷ []) calls_new)
       → IfOk r (IsRepliedBy config old.stripe.site.stripe before after calls calls_new who command moment)
   replied_by_ok who command moment calls calls_new (Ok reply) replied = replied_by who command moment calls calls_new reply replied
   replied_by_ok who command moment calls calls_new (Err fault) replied = tt
@@ -74,6 +75,18 @@ module _ (table : TableId) (config : Config) (old new : StripeSide) (before afte
       short_stripe config new.lock after new.stripe.history new.stripe.limit (omega (arith, below, lock)) new_kept.made_with.limit told short
   short_shared (inr was) = short_grows config new.sight after grows was
 
+-- what was replied was so too by whoever has seen more
+pub replied_sees : (config : Config) (who : Who) (command : Command) (moment : ℕ) (s s_new : Stripe) (a b : Sight) (calls calls_new : List CallEvent) (r : Result Reply Fault) → Grows a b
+    → IfOk r (IsReplied config who command moment s s_new a calls calls_new) → IfOk r (IsReplied config who command moment s s_new b calls calls_new)
+replied_sees config who command moment s s_new a b calls calls_new (Ok reply) grows r = record {
+  place = r.place;
+  answered = r.answered;
+  reply_is = r.reply_is;
+  noted = r.noted;
+  earned = told_sees config s.site a b (record { who = who; command = command; moment = moment; reply = r.answered.reply; room = r.answered.room }) grows r.earned;
+}
+replied_sees config who command moment s s_new a b calls calls_new (Err fault) grows r = tt
+
 -- what is told of each failure, in other words
 pub on_err_more : {X : Type 0} (r : Result X Fault) (P Q : Type 0) → (P → Q) → OnErr r P → OnErr r Q
 on_err_more (Ok x) P Q more p = tt
@@ -88,15 +101,15 @@ turns_answered (Crawled w ∷ calls) stripe place = ap (λ (l : List CallEvent).
 turns_answered (Answered a ∷ calls) stripe place = turns_answered calls stripe place
 
 -- a command adds no turn to its caller's history once it was asked for, and at most its answer
-pub turns_kept : (config : Config) (who : Who) (command : Command) (moment : ℕ) (s s_new : Stripe) (caller caller_new : CallerView) (r : Result Reply Fault) → IfOk r (IsReplied config who command moment s s_new caller.calls caller_new.calls)
+pub turns_kept : (config : Config) (who : Who) (command : Command) (moment : ℕ) (s s_new : Stripe) (sight : Sight) (caller caller_new : CallerView) (r : Result Reply Fault) → IfOk r (IsReplied config who command moment s s_new sight caller.calls caller_new.calls)
     → OnErr r (caller_new ≡ caller) → (turns_of caller_new.calls ≡ turns_of caller.calls) × (length caller_new.calls ≤ length caller.calls + 1)
-turns_kept config who command moment s s_new caller caller_new (Ok reply) replied same =
+turns_kept config who command moment s s_new sight caller caller_new (Ok reply) replied same =
     let is = replied.noted in
     let place = replied.place in
     let long = length-append caller.calls (answered_at s.site.stripe place ∷ []) in
     let all : length caller_new.calls ≡ length (caller.calls ++ answered_at s.site.stripe place ∷ []) = ap (λ (l : List CallEvent). length l) is in
     (ap turns_of is ∙ turns_answered caller.calls s.site.stripe place, omega (arith, all, long))
-turns_kept config who command moment s s_new caller caller_new (Err fault) replied same =
+turns_kept config who command moment s s_new sight caller caller_new (Err fault) replied same =
     (ap (λ (v : CallerView). turns_of v.calls) same, omega (arith, ap (λ (v : CallerView). length v.calls) same))
 
 turns_both : (xs ys : List CallEvent) → length (turns_of (xs ++ ys)) ≡ length (turns_of xs) + length (turns_of ys)

@@ -1,27 +1,38 @@
 -- A judgement of a class's entry with its key's stripe, where the class's tokens are apart from it: each call that tells.
-use Rattle.std.proofs.Common.{◌≡◌, sym, ap, ◌∙◌, subst}
+use Rattle.std.proofs.Common.{◌≡◌, ℕ, sym, ap, ◌∙◌, subst}
+use Rattle.std.specs.Prelude.{Option, Some, IsSomeAnd}
 use mathlib.Core.List.{IsPrefix}
 use Rattle.atomic_table.specs.Seated.{TableId}
 use Rattle.mc_item.specs.Stripe.{IsLegal}
+use Rattle.mc_item.specs.declared.answer.Site.{Site}
 use Rattle.mc_item.specs.declared.config.Config.{Config}
 use Rattle.mc_item.specs.declared.fault.Fault.{Fault}
 use Rattle.mc_rule.specs.Lawful.{IsLawfulHistoryByLists}
+use Rattle.mc_rule.specs.Segment.{Rule}
 use Rattle.mc_board.specs.Histories.{Grows, with_seen}
 use Rattle.mc_board.specs.Views.{OwnerView, SeenView}
 use Rattle.mc_board.proofs.PrefixLemmas.{prefix_self}
-use Rattle.mc_segment.specs.ClassState.{ClassView}
+use Rattle.mc_segment.specs.ClassState.{ClassView, chunks_for}
 use Rattle.mc_stripe.specs.StripeCalls.{KeepsSite}
-use Rattle.mc_stripe.specs.StripeState.{Stripe}
+use Rattle.mc_stripe.specs.StripeState.{Stripe, cache_now}
+use Rattle.mc_pull.specs.declared.judge.Done.{Done}
+use Rattle.mc_pull.specs.declared.looking.Judged.{Judged}
 use Rattle.mc_pull.specs.Agreeing.{AgreeNow, KeepsAgreement}
 use Rattle.mc_pull.specs.Growth as classes
+use Rattle.mc_pull.specs.Judgement.{done_of}
 use Rattle.mc_pull.specs.Lone.{StripeGrows}
+use Rattle.mc_pull.specs.Looks.{judgement}
+use Rattle.mc_pull.specs.Question.{HasKeyOf, MayJudge, Question}
 use Rattle.mc_pull.specs.Refusal.{MayFail}
 use Rattle.mc_pull.specs.Sight.{KeepsSight}
 use Rattle.mc_pull.specs.Walker.{Walker}
+use Rattle.mc_pull.proofs.KnownLemmas.{known}
+use Rattle.mc_store.specs.Looked.{IsKnown}
 use Rattle.mc_store.specs.Locked.{IsLockedClass, IsLockedStripe, HasBegun}
 use Rattle.mc_store.specs.Serving.{IsServed, MayFailSeen, class_side}
 use Rattle.mc_store.specs.Sides.{StripeSide, class_told, stripe_told}
-use Rattle.mc_store.proofs.PairLemmas.{class_sees, stripe_sees}
+use Rattle.mc_store.proofs.LookedLemmas.{judged_listed}
+use Rattle.mc_store.proofs.PairLemmas.{class_sees, site_of_number, stripe_sees}
 use Rattle.mc_store.proofs.ServedLemmas.{agree_told, class_stepped, fails_seen, stripe_side, stripe_stepped}
 use Rattle.mc_store.proofs.CallerLemmas.{begun_sees}
 
@@ -60,6 +71,18 @@ module _ (table : TableId) (config : Config) (own : StripeSide) (own_kept : IsLo
 
   agree : AgreeNow c s_lent
   agree = agree_told table config before (class_side owner seen c) before_kept served.kept lent_seen.sight heard.sight told_is told_of_is more_is more_of
+
+  -- what was done with an entry of the stripe is what the stripe tells, which knows it
+  pub known_judged : (q : Question) (j : Option Judged) (d : Done) (at : ℕ) → MayJudge c q → HasKeyOf (record { 0 = s_lent.site.stripe }) config c q → d ≡ done_of c (cache_now s_lent) q → j ≡ Some (judgement d at)
+      → IsSomeAnd j (IsKnown c s_lent q)
+  known_judged q j d at may keyed is judged =
+      let legal = subst (λ (t : Site). IsLegal t s_lent.history) (site_of_number config s_lent own_now.made_with) own_now.keeps.legal in
+      let lawful = subst (λ (n : ℕ). IsLawfulHistoryByLists n c.rule c.history) (sym class_now.made_with.chunks)
+      (subst (λ (r : Rule). IsLawfulHistoryByLists (chunks_for config c.number) r c.history) (sym class_now.made_with.rule) class_now.keeps.lawful) in
+      subst (λ (o : Option Judged). IsSomeAnd o (IsKnown c s_lent q)) (sym judged) (record {
+        done_is = is;
+        known = λ stranger. known c s_lent config q agree lawful legal (judged_listed c q may) own_now.made_with.stripes keyed (sym is ∙ stranger);
+      })
 
   module _ (s_new : Stripe) (c_new : ClassView) (site : KeepsSite s_lent s_new) (grows : classes.Grows c c_new) (legal : IsLegal s_new.site s_new.history) (lawful : IsLawfulHistoryByLists c_new.chunks c_new.rule c_new.history)
       (agreement : KeepsAgreement c c_new s_lent s_new) (still : KeepsSight c c_new s_lent s_new)

@@ -13,12 +13,14 @@ pub mod StepLemmas
 pub mod OneLemmas
 pub mod TwoLemmas
 pub mod PlanLemmas
+pub mod EarnedLemmas
 pub mod GivenLemmas
 pub mod UnderLemmas
 pub mod QuickLemmas
 pub mod ServedLemmas
 pub mod JudgedLemmas
 pub mod GateLemmas
+pub mod LookedLemmas
 pub mod GrownLemmas
 pub mod CrawledLemmas
 pub mod AnswerLemmas

@@ -27,11 +27,13 @@ use Rattle.mc_pull.specs.Sight.{KeepsEachSight}
 use Rattle.mc_lone.proofs.ReadyLemmas.{led_same}
 use Rattle.mc_store.specs.Callers.{AreCalled, answered_at, calls_told}
 use Rattle.mc_store.specs.Calls.{IsReplied}
+use Rattle.mc_store.specs.Earned.{IsEarned}
 use Rattle.mc_store.specs.Locked.{IsLockedStripe, caller_place, locks_for}
 use Rattle.mc_store.specs.Passes.{CallerView, HasAsked}
 use Rattle.mc_store.specs.Performing.{IsMade}
 use Rattle.mc_store.specs.Sides.{StripeSide, stripe_told}
 use Rattle.mc_store.proofs.CallerLemmas.{called_performed}
+use Rattle.mc_store.proofs.EarnedLemmas.{earned_keep}
 use Rattle.mc_store.proofs.LentLemmas.{stripe_behind}
 use Rattle.mc_store.proofs.StepLemmas.{alone_end}
 use Rattle.mc_store.proofs.UnderLemmas.{replied_behind, searched_itself, site_itself}
@@ -62,15 +64,15 @@ module _ (who : Who) (command : Command) (moment : ℕ) (s s_new : Stripe) (note
       called_performed config s s_new one [] [] old new caller caller_new place asked at site more (done place) performed tt of told noted all
 
   -- the reply is a copy of that which stands in the history
-  pub quick_replied : (config : Config) (place : ℕ) (stripe : ℕ) (caller caller_new : CallerView) (copy : Option Reply) (reply : Reply) → TouchesNoChunk s command moment → KeepsSite s s_new → place ≡ length s.history → stripe ≡ s_new.site.stripe
+  pub quick_replied : (config : Config) (sight : Sight) (place : ℕ) (stripe : ℕ) (caller caller_new : CallerView) (copy : Option Reply) (reply : Reply) → TouchesNoChunk s command moment → KeepsSite s s_new → place ≡ length s.history → stripe ≡ s_new.site.stripe
       → copy ≡ Some (answer_to s one).reply → copy ≡ Some reply → caller_new ≡ record caller { calls = caller.calls ++ answered_at stripe place ∷ [] }
-      → IsReplied config who command moment s s_new caller.calls caller_new.calls reply
-  quick_replied config place stripe caller caller_new copy reply touches site at number is unwrapped noted =
+      → IsReplied config who command moment s s_new sight caller.calls caller_new.calls reply
+  quick_replied config sight place stripe caller caller_new copy reply touches site at number is unwrapped noted =
       let made : IsMade s s_new one reply = record { reply_is = some_same reply (answer_to s one).reply (sym unwrapped ∙ is); cooling = false; history_is = notes } in
       let stripe_is : stripe ≡ s.site.stripe = number ∙ ap (λ (t : Site). t.stripe) site.site in
       let calls : caller_new.calls ≡ caller.calls ++ answered_at s.site.stripe (length s.history) ∷ [] =
       ap (λ (c : CallerView). c.calls) noted ∙ (ap (λ (n : ℕ). caller.calls ++ answered_at n place ∷ []) stripe_is ∙ ap (λ (n : ℕ). caller.calls ++ answered_at s.site.stripe n ∷ []) at) in
-      replied_behind config who command moment s s touches.alive (searched_itself config who command moment s s refl) s_new rooms.Keep reply caller.calls caller_new.calls (site_itself s) made calls
+      replied_behind config who command moment s s touches.alive (searched_itself config who command moment s s refl) s_new sight rooms.Keep reply caller.calls caller_new.calls (site_itself s) made calls (earned_keep config s.site sight who command moment (answer_to s one).reply)
 
   -- the lock is kept
   pub quick_end : (table : TableId) (config : Config) (own : StripeSide) → own.stripe ≡ s → IsLockedStripe table config own → KeepsSite s s_new → IsLegal s_new.site s_new.history
@@ -82,8 +84,8 @@ module _ (who : Who) (command : Command) (moment : ℕ) (s s_new : Stripe) (note
 
 -- a command that was answered on a stripe of the same history
 module _ (config : Config) (who : Who) (command : Command) (moment : ℕ) (s mid : Stripe) (site : KeepsSite s mid) (same : mid.history ≡ s.history) where
-  pub replied_same : (end : Stripe) (calls calls_new : List CallEvent) (reply : Reply) → IsReplied config who command moment mid end calls calls_new reply → IsReplied config who command moment s end calls calls_new reply
-  replied_same end calls calls_new reply r = let a = r.answered in record {
+  pub replied_same : (end : Stripe) (sight : Sight) (calls calls_new : List CallEvent) (reply : Reply) → IsReplied config who command moment mid end sight calls calls_new reply → IsReplied config who command moment s end sight calls calls_new reply
+  replied_same end sight calls calls_new reply r = let a = r.answered in record {
     place = r.place;
     answered = record {
       before = a.before;
@@ -97,8 +99,9 @@ module _ (config : Config) (who : Who) (command : Command) (moment : ℕ) (s mid
     };
     reply_is = r.reply_is;
     noted = r.noted ∙ ap (λ (t : Site). calls ++ answered_at t.stripe r.place ∷ []) site.site;
+    earned = subst (λ (t : Site). IsEarned config t sight (record { who = who; command = command; moment = moment; reply = a.reply; room = a.room })) site.site r.earned;
   }
 
-  pub replied_ok_same : (end : Stripe) (calls calls_new : List CallEvent) (r : Result Reply Fault) → IfOk r (IsReplied config who command moment mid end calls calls_new) → IfOk r (IsReplied config who command moment s end calls calls_new)
-  replied_ok_same end calls calls_new (Ok reply) replied = replied_same end calls calls_new reply replied
-  replied_ok_same end calls calls_new (Err fault) replied = tt
+  pub replied_ok_same : (end : Stripe) (sight : Sight) (calls calls_new : List CallEvent) (r : Result Reply Fault) → IfOk r (IsReplied config who command moment mid end sight calls calls_new) → IfOk r (IsReplied config who command moment s end sight calls calls_new)
+  replied_ok_same end sight calls calls_new (Ok reply) replied = replied_same end sight calls calls_new reply replied
+  replied_ok_same end sight calls calls_new (Err fault) replied = tt

@@ -39,6 +39,7 @@ use Rattle.mc_lone.proofs.CommandLemmas.{buried_alive, buried_row, searched_aliv
 use Rattle.mc_lone.proofs.ReadyLemmas.{not_dead, searches_none}
 use Rattle.mc_store.specs.Callers.{answered_at}
 use Rattle.mc_store.specs.Calls.{IsReplied}
+use Rattle.mc_store.specs.Earned.{IsEarned}
 use Rattle.mc_store.specs.Performing.{IsMade}
 use Rattle.mc_store.specs.Planned.{GoesBy, IsPlanIn, IsSearched}
 use Rattle.mc_store.specs.Serving.{GrowsBut}
@@ -100,9 +101,9 @@ module _ (config : Config) (who : Who) (command : Command) (moment : ℕ) where
       search = searched.1;
     }
 
-    pub replied_behind : (end : Stripe) (room : Room) (reply : Reply) (calls calls_new : List CallEvent) → KeepsSite s last → IsMade last end (call who command moment room) reply
-        → calls_new ≡ calls ++ answered_at last.site.stripe (length last.history) ∷ [] → IsReplied config who command moment s end calls calls_new reply
-    replied_behind end room reply calls calls_new site made noted = record {
+    pub replied_behind : (end : Stripe) (sight : Sight) (room : Room) (reply : Reply) (calls calls_new : List CallEvent) → KeepsSite s last → IsMade last end (call who command moment room) reply
+        → calls_new ≡ calls ++ answered_at last.site.stripe (length last.history) ∷ [] → IsEarned config s.site sight (record { who = who; command = command; moment = moment; reply = (answer_to last (call who command moment room)).reply; room = room }) → IsReplied config who command moment s end sight calls calls_new reply
+    replied_behind end sight room reply calls calls_new site made noted earned = record {
       place = length last.history;
       answered = record {
         before = searched.0;
@@ -115,6 +116,7 @@ module _ (config : Config) (who : Who) (command : Command) (moment : ℕ) where
       };
       reply_is = sym made.reply_is;
       noted = noted ∙ ap (λ (t : Site). calls ++ answered_at t.stripe (length last.history) ∷ []) site.site;
+      earned = earned;
     }
 
     pub cut_behind : (end : Stripe) → end.history ≡ last.history → IsCut config who command moment s end
@@ -138,8 +140,8 @@ module _ (config : Config) (who : Who) (command : Command) (moment : ℕ) where
     joined : (before : List StripeEvent) → mid.history ++ before ≡ s.history ++ (gone ++ before)
     joined before = ap (λ (h : List StripeEvent). h ++ before) buried_is ∙ append_assoc s.history gone before
 
-    pub replied_from : (end : Stripe) (calls calls_new : List CallEvent) (reply : Reply) → IsReplied config who command moment mid end calls calls_new reply → IsReplied config who command moment s end calls calls_new reply
-    replied_from end calls calls_new reply r =
+    pub replied_from : (end : Stripe) (sight : Sight) (calls calls_new : List CallEvent) (reply : Reply) → IsReplied config who command moment mid end sight calls calls_new reply → IsReplied config who command moment s end sight calls calls_new reply
+    replied_from end sight calls calls_new reply r =
         let a = r.answered in
         record {
           place = r.place;
@@ -155,6 +157,7 @@ module _ (config : Config) (who : Who) (command : Command) (moment : ℕ) where
           };
           reply_is = r.reply_is;
           noted = r.noted ∙ ap (λ (t : Site). calls ++ answered_at t.stripe r.place ∷ []) site.site;
+          earned = subst (λ (t : Site). IsEarned config t sight (record { who = who; command = command; moment = moment; reply = a.reply; room = a.room })) site.site r.earned;
         }
 
     pub cut_from : (end : Stripe) → IsCut config who command moment mid end → IsCut config who command moment s end

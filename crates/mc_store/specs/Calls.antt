@@ -22,15 +22,18 @@ use Rattle.mc_pull.specs.Rounds.{rounds}
 use Rattle.mc_pull.specs.declared.looking.Answer.{Answer}
 use Rattle.mc_lone.specs.Commands.{IsAnswered, IsCut}
 use Rattle.mc_store.specs.Callers.{answered_at, asked_for}
+use Rattle.mc_store.specs.Earned.{IsEarned}
 use Rattle.mc_store.specs.Locked.{class_lock, setting_of}
 use Rattle.mc_store.specs.Sides.{class_told, stripe_told}
 
--- a command was answered with this reply, and its caller's history has one event more, which says where the answer stands
-pub record IsReplied (config : Config) (who : Who) (command : Command) (moment : ℕ) (s s_new : Stripe) (calls calls_new : List CallEvent) (reply : Reply) : Type 0 where
+-- a command was answered with this reply, and its caller's history has one event more, which says where the answer stands; a
+-- refusal that the answer cites was earned: it stands behind a search by the same call, by what is seen of its class
+pub record IsReplied (config : Config) (who : Who) (command : Command) (moment : ℕ) (s s_new : Stripe) (sight : Sight) (calls calls_new : List CallEvent) (reply : Reply) : Type 0 where
   pub place : ℕ
   pub answered : IsAnswered config who command moment s s_new place
   pub reply_is : answered.reply ≡ reply
   pub noted : calls_new ≡ calls ++ answered_at s.site.stripe place ∷ []
+  pub earned : IsEarned config s.site sight (record { who = who; command = command; moment = moment; reply = answered.reply; room = answered.room })
 
 -- a stripe's history grew in a call: what the pass had seen of it is a beginning of what it was when its lock was had, and
 -- the pass has seen all of it now; it is legal, and of each of its events the partner stands in what the pass has seen of the
@@ -49,7 +52,7 @@ pub record IsRepliedBy (config : Config) (number : ℕ) (before after : Sight) (
   pub old : Stripe
   pub new : Stripe
   pub grew : IsSeenGrow config number before after old new
-  pub replied : IsReplied config who command moment old new (calls ++ asked_for command moment ∷ []) calls_new reply
+  pub replied : IsReplied config who command moment old new after (calls ++ asked_for command moment ∷ []) calls_new reply
 
 -- a command was broken off: nothing of it stands in its stripe's history but what leads up to it, and its caller's history has
 -- one event more, that it was asked for

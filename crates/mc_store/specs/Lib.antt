@@ -6,6 +6,8 @@ pub mod Passes
 pub mod Serving
 pub mod Performing
 pub mod Planned
+pub mod Looked
+pub mod Earned
 pub mod Calls
 pub mod Crawls
 pub mod Finals

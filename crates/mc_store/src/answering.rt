@@ -40,7 +40,7 @@ fn answer_kept<N: Named>(
     requires asked { HasAsked caller.old who command moment }
     requires goes { GoesBy N.config own.old.stripe command moment plan }
     requires kept { Fits plan.need rooms.Keep own.old.stripe.history }
-    ensures replied { IfOk result (IsReplied N.config who command moment own.old.stripe own.new.stripe caller.old.calls caller.new.calls) }
+    ensures replied { IfOk result (IsReplied N.config who command moment own.old.stripe own.new.stripe own.new.sight caller.old.calls caller.new.calls) }
     ensures cut { OnErr result (IsCut N.config who command moment own.old.stripe own.new.stripe) }
     ensures unnoted { OnErr result (caller.new ≡ caller.old) }
     ensures number { caller.new.number ≡ caller.old.number }
@@ -78,7 +78,7 @@ fn answer_on_one<N: Named>(
     requires begun { HasBegun N.config own.old.sight who moment }
     requires goes { GoesBy N.config own.old.stripe command moment plan }
     requires fresh { plan.need ≡ needs.Fresh class }
-    ensures replied { IfOk result (IsReplied N.config who command moment own.old.stripe own.new.stripe caller.old.calls caller.new.calls) }
+    ensures replied { IfOk result (IsReplied N.config who command moment own.old.stripe own.new.stripe own.new.sight caller.old.calls caller.new.calls) }
     ensures cut { OnErr result (IsCut N.config who command moment own.old.stripe own.new.stripe) }
     ensures unnoted { OnErr result (caller.new ≡ caller.old) }
     ensures number { caller.new.number ≡ caller.old.number }
@@ -113,7 +113,7 @@ fn answer_on_two<N: Named>(
     requires goes { GoesBy N.config own.old.stripe command moment plan }
     requires fresh { plan.need ≡ needs.Fresh class }
     requires rising { low.old.class.number.0 < high.old.class.number.0 }
-    ensures replied { IfOk result (IsReplied N.config who command moment own.old.stripe own.new.stripe caller.old.calls caller.new.calls) }
+    ensures replied { IfOk result (IsReplied N.config who command moment own.old.stripe own.new.stripe own.new.sight caller.old.calls caller.new.calls) }
     ensures cut { OnErr result (IsCut N.config who command moment own.old.stripe own.new.stripe) }
     ensures unnoted { OnErr result (caller.new ≡ caller.old) }
     ensures number { caller.new.number ≡ caller.old.number }
@@ -155,7 +155,7 @@ fn answer_fresh<N: Named>(
     requires begun { HasBegun N.config own.old.sight who moment }
     requires goes { GoesBy N.config own.old.stripe command moment plan }
     requires fresh { plan.need ≡ needs.Fresh class }
-    ensures replied { IfOk result (IsReplied N.config who command moment own.old.stripe own.new.stripe caller.old.calls caller.new.calls) }
+    ensures replied { IfOk result (IsReplied N.config who command moment own.old.stripe own.new.stripe own.new.sight caller.old.calls caller.new.calls) }
     ensures cut { OnErr result (IsCut N.config who command moment own.old.stripe own.new.stripe) }
     ensures unnoted { OnErr result (caller.new ≡ caller.old) }
     ensures number { caller.new.number ≡ caller.old.number }
@@ -199,7 +199,7 @@ pub(crate) fn answer_by_plan<N: Named>(
     requires asked { HasAsked caller.old who command moment }
     requires begun { HasBegun N.config own.old.sight who moment }
     requires goes { GoesBy N.config own.old.stripe command moment plan }
-    ensures replied { IfOk result (IsReplied N.config who command moment own.old.stripe own.new.stripe caller.old.calls caller.new.calls) }
+    ensures replied { IfOk result (IsReplied N.config who command moment own.old.stripe own.new.stripe own.new.sight caller.old.calls caller.new.calls) }
     ensures cut { OnErr result (IsCut N.config who command moment own.old.stripe own.new.stripe) }
     ensures unnoted { OnErr result (caller.new ≡ caller.old) }
     ensures number { caller.new.number ≡ caller.old.number }

@@ -102,7 +102,7 @@ fn command_planned<N: Named>(
     requires begun { HasBegun N.config own.old.sight who moment }
     requires asked { HasAsked caller.old who command moment }
     requires early { moment ≤ 2 ^ 62 }
-    ensures replied { IfOk result (IsReplied N.config who command moment own.old.stripe own.new.stripe caller.old.calls caller.new.calls) }
+    ensures replied { IfOk result (IsReplied N.config who command moment own.old.stripe own.new.stripe own.new.sight caller.old.calls caller.new.calls) }
     ensures cut { OnErr result (IsCut N.config who command moment own.old.stripe own.new.stripe) }
     ensures unnoted { OnErr result (caller.new ≡ caller.old) }
     ensures number { caller.new.number ≡ caller.old.number }
@@ -127,7 +127,7 @@ fn command_told<N: Named>(
     requires own { stripe_of (key_of command) N.config.stripes ≡ record { 0 = own.old.stripe.site.stripe } }
     requires asked { HasAsked caller.old who command moment }
     requires early { moment ≤ 2 ^ 62 }
-    ensures replied { IfOk result (IsReplied N.config who command moment own.old.stripe own.new.stripe caller.old.calls caller.new.calls) }
+    ensures replied { IfOk result (IsReplied N.config who command moment own.old.stripe own.new.stripe own.new.sight caller.old.calls caller.new.calls) }
     ensures cut { OnErr result (IsCut N.config who command moment own.old.stripe own.new.stripe) }
     ensures unnoted { OnErr result (caller.new ≡ caller.old) }
     ensures number { caller.new.number ≡ caller.old.number }
@@ -152,7 +152,7 @@ fn command_under<N: Named>(
     requires own { stripe_of (key_of command) N.config.stripes ≡ record { 0 = own.old.stripe.site.stripe } }
     requires asked { HasAsked caller.old who command moment }
     requires early { moment ≤ 2 ^ 62 }
-    ensures replied { IfOk result (IsReplied N.config who command moment own.old.stripe own.new.stripe caller.old.calls caller.new.calls) }
+    ensures replied { IfOk result (IsReplied N.config who command moment own.old.stripe own.new.stripe own.new.sight caller.old.calls caller.new.calls) }
     ensures cut { OnErr result (IsCut N.config who command moment own.old.stripe own.new.stripe) }
     ensures unnoted { OnErr result (caller.new ≡ caller.old) }
     ensures number { caller.new.number ≡ caller.old.number }

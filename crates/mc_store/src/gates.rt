@@ -1,11 +1,13 @@
 //! Gates of walks under the locks of a store: other stripes are only tried.
-ghost use Rattle.std.specs.Prelude.{◌≡◌, ◌++◌, List, IfErr, IfOk, false};
+ghost use Rattle.std.specs.Prelude.{◌≡◌, ◌≢◌, ◌++◌, List, IfErr, IfOk, false, true};
 ghost use Rattle.mc_pull.specs.Growth.{Grows};
 ghost use Rattle.mc_pull.specs.Lone.{StripeGrows};
 ghost use Rattle.mc_pull.specs.Question.{IsClassOf};
 ghost use Rattle.mc_pull.specs.Rounds.{IsRoom, rounds};
 ghost use Rattle.mc_pull.specs.Walker.{walker_of};
 ghost use Rattle.mc_pull.specs.declared.looking.Answer.{Answer};
+ghost use Rattle.mc_store.specs.Earned.{HasSearchedForAny};
+ghost use Rattle.mc_store.specs.Looked.{IsOfCall};
 ghost use Rattle.mc_store.specs.Serving.{IsServed, MayFailSeen};
 ghost use Rattle.mc_store.specs.Locked.{HasBegun};
 
@@ -15,9 +17,16 @@ use crate::named::Named;
 use crate::store::Store;
 use mc_board::{Owner, Seen};
 use mc_item::{Config, Fault, StripeNo, Who};
-use mc_pull::{Answer, Gate, Look, make_room};
+use mc_pull::{Answer, Gate, Look, a_search_in_vain_has_tried, make_room};
 use mc_segment::ClassState;
 use std::alloc::Global;
+
+// Whether a stripe has this number.
+fn is_numbered<N: Named>(own: &LockedStripe<N>, number: StripeNo) -> bool
+    ensures { result ≡ true → number ≡ record { 0 = own.now.stripe.site.stripe } }
+{
+    own.side().number() == number
+}
 
 /// A gate that tries every stripe of a store, for one call: who made it, and its moment. It holds the tokens of the class
 /// that is walked, which have seen that the call was begun, and a list for its answers. A stripe whose lock isn't had at
@@ -35,7 +44,8 @@ pub(crate) struct Trying<'a, N: Named> {
 impl<'a, N: Named> Trying<'a, N> {
     // Whether a look is of another call than the gate's.
     fn is_foreign(&self, look: &Look<'_>) -> bool
-        ensures { result ≡ false → (look.now.ask.who ≡ self.now.who) × (look.now.ask.moment ≡ self.now.moment) }
+        ensures own { result ≡ false → (look.now.ask.who ≡ self.now.who) × (look.now.ask.moment ≡ self.now.moment) }
+        ensures foreign { result ≡ true → look.now.ask.who ≡ self.now.who → look.now.ask.moment ≡ self.now.moment → ⊥ }
     {
         look.ask.who != self.who || look.ask.moment != self.moment
     }
@@ -54,7 +64,7 @@ impl<'a, N: Named> Gate for Trying<'a, N> {
 
     ghost faults = { λ g c. MayFailSeen N.config g.seen.now.sight c };
 
-    ghost keeps = { λ w g begun h history. Unit {0} };
+    ghost keeps = { λ w g begun h history. (h.who ≡ g.who) × (h.moment ≡ g.moment) };
 
     fn visit(&mut self, stripe: StripeNo, look: &mut Look<'_>) -> Result<bool, Fault> {
         self.answers.reserve(1)?;
@@ -75,11 +85,11 @@ impl<'a, N: Named> Gate for Trying<'a, N> {
             self.answers.push_reserved(passed);
             return Ok(false);
         };
-        if guard.side().number() != stripe {
+        let own = &mut *guard;
+        if !is_numbered(own, stripe) {
             self.answers.push_reserved(passed);
             return Ok(false);
         }
-        let own = &mut *guard;
         own.learn(&store.board, &mut *self.seen);
         judge(&store.board, own, &mut *self.owner, &mut *self.seen, look)?;
         self.answers.push_reserved(Answer {
@@ -100,6 +110,7 @@ pub(crate) struct Holding<'a, 'b, N: Named> {
 impl<'a, 'b, N: Named> Gate for Holding<'a, 'b, N> {
     ghost use Rattle.std.specs.Prelude.{◌≡◌, ◌∷◌, []};
     ghost use Rattle.mc_pull.specs.Lone.{StripeGrows};
+    ghost use Rattle.mc_store.specs.Looked.{HasLooked, IsOfCall};
     ghost use Rattle.mc_store.specs.Locked.{HasBegun};
     ghost use Rattle.mc_store.specs.Serving.{IsServed, MayFailSeen};
 
@@ -111,14 +122,14 @@ impl<'a, 'b, N: Named> Gate for Holding<'a, 'b, N> {
 
     ghost faults = { λ g c. MayFailSeen N.config g.others.seen.now.sight c };
 
-    ghost keeps = { λ w g begun h history. StripeGrows w g.own.now.stripe h.own.now.stripe };
+    ghost keeps = { λ w g begun h history. StripeGrows w g.own.now.stripe h.own.now.stripe × (IsOfCall w g.others.who g.others.moment → IsOfCall w h.others.who h.others.moment × HasLooked N.config.stripes w g.own.now.stripe g.others.answers.now.items h.others.answers.now.items begun history) };
 
     fn visit(&mut self, stripe: StripeNo, look: &mut Look<'_>) -> Result<bool, Fault> {
+        if !self.lends(stripe, look) {
+            return self.others.visit(stripe, look);
+        }
         let own = &mut *self.own;
         let others = &mut self.others;
-        if own.side().number() != stripe || others.is_foreign(look) {
-            return others.visit(stripe, look);
-        }
         others.answers.reserve(1)?;
         let store = others.store;
         own.learn(&store.board, &mut *others.seen);
@@ -138,8 +149,16 @@ impl<'a, 'b, N: Named> Gate for Holding<'a, 'b, N> {
 }
 
 impl<'a, 'b, N: Named> Holding<'a, 'b, N> {
+    // Whether a look is the gate's own call's, and asks for the stripe that the gate is lent.
+    fn lends(&self, stripe: StripeNo, look: &Look<'_>) -> bool
+        ensures own { result ≡ true → (stripe ≡ record { 0 = self.now.own.now.stripe.site.stripe }) × (look.now.ask.who ≡ self.now.others.who) × (look.now.ask.moment ≡ self.now.others.moment) }
+        ensures other { result ≡ false → look.now.ask.who ≡ self.now.others.who → look.now.ask.moment ≡ self.now.others.moment → stripe ≢ record { 0 = self.now.own.now.stripe.site.stripe } }
+    {
+        self.own.side().number() == stripe && !self.others.is_foreign(look)
+    }
+
     // Makes room in a class, as `make_room` does. It says of this gate what the call for any gate can't: that it holds the
-    // same references, and that its own stripe has only events of this walker more.
+    // same references, that its own stripe has only events of this walker more, and that a search in vain has tried.
     pub(crate) fn make_room(
         &mut self,
         alloc: Global,
@@ -160,7 +179,9 @@ impl<'a, 'b, N: Named> Holding<'a, 'b, N> {
         ensures seen_reference { self.new.others.seen.ghost_name ≡ self.old.others.seen.ghost_name }
         ensures served { IsServed N.board.table N.config self.new.others.owner.now self.new.others.seen.now class.new }
         ensures stripe { StripeGrows (walker_of class.old who moment) self.old.own.now.stripe self.new.own.now.stripe }
+        ensures tried { IfOk result (λ found. found ≡ false → IsOfCall (walker_of class.old who moment) self.old.others.who self.old.others.moment → HasSearchedForAny N.config.stripes self.old.own.now.stripe who moment class.new.history) }
     {
+        a_search_in_vain_has_tried();
         make_room(alloc, class, who, moment, config, self)
     }
 }

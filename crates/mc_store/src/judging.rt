@@ -1,11 +1,12 @@
 //! One entry under locks, judged with its key's stripe.
-ghost use Rattle.std.specs.Prelude.{◌≡◌, true, is_some, None, IfErr, OnOk, OnErr};
+ghost use Rattle.std.specs.Prelude.{◌≡◌, true, is_some, None, IfErr, IsSomeAnd, OnOk, OnErr};
 ghost use Rattle.mc_segment.specs.ClassState.{with_room};
 ghost use Rattle.mc_pull.specs.Lone.{StripeGrows};
 ghost use Rattle.mc_pull.specs.Looks.{events_if, IsJudgedIf};
-ghost use Rattle.mc_pull.specs.Question.{question_of, MayJudge};
+ghost use Rattle.mc_pull.specs.Question.{question_of, HasKeyOf, MayJudge};
 ghost use Rattle.mc_pull.specs.Settled.{class_with};
 ghost use Rattle.mc_pull.specs.Walker.{walker_of};
+ghost use Rattle.mc_store.specs.Looked.{IsKnown};
 ghost use Rattle.mc_store.specs.Serving.{IsServed, MayFailSeen};
 ghost use Rattle.mc_store.specs.Locked.{HasBegun};
 ghost use Rattle.mc_board.specs.Histories.{Grows};
@@ -37,6 +38,7 @@ pub(crate) fn judge<N: Named>(
     ensures had { OnOk result (is_some look.new.judged ≡ true) }
     ensures class { OnOk result (look.new.class.now ≡ class_with look.old.class.now (events_if look.old.class.now (question_of look.old.ask) look.new.judged) look.new.class.now.room) }
     ensures judged { OnOk result (IsJudgedIf N.config (record { 0 = stripe.old.stripe.site.stripe }) look.old.class.now (question_of look.old.ask) look.new.judged) }
+    ensures known { OnOk result (HasKeyOf (record { 0 = stripe.old.stripe.site.stripe }) N.config look.old.class.now (question_of look.old.ask) → IsSomeAnd look.new.judged (IsKnown look.old.class.now stripe.old.stripe (question_of look.old.ask))) }
     ensures err { OnErr result (look.new.class.now ≡ with_room look.old.class.now look.new.class.now.room) }
     ensures served { IsServed N.board.table N.config owner.new seen.new look.new.class.now }
     ensures stripe { StripeGrows (walker_of look.old.class.now look.old.ask.who look.old.ask.moment) stripe.old.stripe stripe.new.stripe }

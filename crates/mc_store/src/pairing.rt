@@ -3,6 +3,7 @@
 ghost use Rattle.std.specs.Prelude.{◌≡◌, ◌≤◌, ◌<◌, ◌+◌, ◌^◌, ◌∷◌, [], Bool, ◌++◌, IfOk, OnOk, OnErr, IsErrOf, length};
 ghost use mathlib.Core.List.{IsPrefix};
 ghost use Rattle.mc_item.specs.declared.fault.Fault.TheVariants.{HistoryFull};
+ghost use Rattle.mc_evidence.specs.Seen.{classes_seen};
 ghost use Rattle.mc_rule.specs.Lists.{IsFull, lists_of};
 ghost use Rattle.mc_segment.specs.ClassCalls.{Makes, Stays, refused_event};
 ghost use Rattle.mc_stripe.specs.Plan.{IsHeld};
@@ -38,6 +39,7 @@ pub(crate) fn meet<N: Named>(board: &Board, own: &mut LockedStripe<N>, lent: &mu
     ensures met { AgreeNow lent.new.class own.new.stripe }
     ensures grows { Grows own.old.sight own.new.sight }
     ensures told { list_at own.new.sight.seen lent.old.lock ≡ class_told lent.old.class.history }
+    ensures heard { classes_seen N.config.stripes (list_at own.new.sight.seen) lent.old.class.number ≡ lent.old.class.history }
 {
     own.side.hear(board, &mut lent.side);
     lent.side.hear(board, &mut own.side);
@@ -113,6 +115,7 @@ pub(crate) fn perform_alone<N: Named>(
     ensures made { IfOk result (IsMade own.old.stripe own.new.stripe (call who command moment room)) }
     ensures noted { OnOk result (caller.new ≡ record caller.old { calls = caller.old.calls ++ answered_at own.old.stripe.site.stripe (length own.old.stripe.history) ∷ [] }) }
     ensures err { OnErr result (own.new.stripe.history ≡ own.old.stripe.history) }
+    ensures sees { Grows own.old.sight own.new.sight }
     ensures unnoted { OnErr result (caller.new ≡ caller.old) }
     ensures site { KeepsSite own.old.stripe own.new.stripe }
     ensures full { IsErrOf result HistoryFull → IsShort N.config own.new }
@@ -169,6 +172,7 @@ pub(crate) fn perform_on_one<N: Named>(
     ensures made { IfOk result (IsMade own.old.stripe own.new.stripe (call who command moment room)) }
     ensures noted { OnOk result (caller.new ≡ record caller.old { calls = caller.old.calls ++ answered_at own.old.stripe.site.stripe (length own.old.stripe.history) ∷ [] }) }
     ensures err { OnErr result (own.new.stripe.history ≡ own.old.stripe.history) }
+    ensures sees { Grows own.old.sight own.new.sight }
     ensures unnoted { OnErr result (caller.new ≡ caller.old) }
     ensures site { KeepsSite own.old.stripe own.new.stripe }
     ensures full { IsErrOf result HistoryFull → IsShort N.config own.new }
@@ -233,6 +237,7 @@ pub(crate) fn perform_on_two<N: Named>(
     ensures made { IfOk result (IsMade own.old.stripe own.new.stripe (call who command moment room)) }
     ensures noted { OnOk result (caller.new ≡ record caller.old { calls = caller.old.calls ++ answered_at own.old.stripe.site.stripe (length own.old.stripe.history) ∷ [] }) }
     ensures err { OnErr result (own.new.stripe.history ≡ own.old.stripe.history) }
+    ensures sees { Grows own.old.sight own.new.sight }
     ensures unnoted { OnErr result (caller.new ≡ caller.old) }
     ensures site { KeepsSite own.old.stripe own.new.stripe }
     ensures full { IsErrOf result HistoryFull → IsShort N.config own.new }

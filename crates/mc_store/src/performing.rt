@@ -6,6 +6,7 @@ ghost use Rattle.mc_stripe.specs.Plan.{IsHeld};
 ghost use Rattle.mc_stripe.specs.StripeCalls.{KeepsSite};
 ghost use Rattle.mc_pull.specs.Perform as words;
 ghost use Rattle.mc_pull.specs.Perform.{GivesRoom, MayAnswer, call};
+ghost use Rattle.mc_board.specs.Histories.{Grows};
 ghost use Rattle.mc_lone.specs.Needed.{HaveClasses};
 ghost use Rattle.mc_store.specs.Callers.{answered_at};
 ghost use Rattle.mc_store.specs.Performing.{IsMade, IsRefusedIn};
@@ -45,6 +46,7 @@ pub(crate) fn perform_kept<N: Named>(
     ensures made { IfOk result (IsMade own.old.stripe own.new.stripe (call who command moment rooms.Keep)) }
     ensures noted { OnOk result (caller.new ≡ record caller.old { calls = caller.old.calls ++ answered_at own.old.stripe.site.stripe (length own.old.stripe.history) ∷ [] }) }
     ensures err { OnErr result (own.new.stripe.history ≡ own.old.stripe.history) }
+    ensures sees { Grows own.old.sight own.new.sight }
     ensures unnoted { OnErr result (caller.new ≡ caller.old) }
     ensures site { KeepsSite own.old.stripe own.new.stripe }
     ensures full { IsErrOf result HistoryFull → IsShort N.config own.new }
@@ -99,6 +101,7 @@ pub(crate) fn finish_one<N: Named>(
     ensures made { IfOk result (IsMade own.old.stripe own.new.stripe (call who command moment room)) }
     ensures noted { OnOk result (caller.new ≡ record caller.old { calls = caller.old.calls ++ answered_at own.old.stripe.site.stripe (length own.old.stripe.history) ∷ [] }) }
     ensures err { OnErr result (own.new.stripe.history ≡ own.old.stripe.history) }
+    ensures sees { Grows own.old.sight own.new.sight }
     ensures unnoted { OnErr result (caller.new ≡ caller.old) }
     ensures site { KeepsSite own.old.stripe own.new.stripe }
     ensures full { IsErrOf result HistoryFull → IsShort N.config own.new }
@@ -147,6 +150,7 @@ pub(crate) fn finish_two<N: Named>(
     ensures made { IfOk result (IsMade own.old.stripe own.new.stripe (call who command moment room)) }
     ensures noted { OnOk result (caller.new ≡ record caller.old { calls = caller.old.calls ++ answered_at own.old.stripe.site.stripe (length own.old.stripe.history) ∷ [] }) }
     ensures err { OnErr result (own.new.stripe.history ≡ own.old.stripe.history) }
+    ensures sees { Grows own.old.sight own.new.sight }
     ensures unnoted { OnErr result (caller.new ≡ caller.old) }
     ensures site { KeepsSite own.old.stripe own.new.stripe }
     ensures full { IsErrOf result HistoryFull → IsShort N.config own.new }

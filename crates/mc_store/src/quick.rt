@@ -31,7 +31,7 @@ pub(crate) fn answer_quick<N: Named>(
     requires own { stripe_of (key_of command) N.config.stripes ≡ record { 0 = own.old.stripe.site.stripe } }
     requires asked { HasAsked caller.old who command moment }
     requires early { moment ≤ 2 ^ 62 }
-    ensures replied { IfOk result (λ quick. IfOk quick (IsReplied N.config who command moment own.old.stripe own.new.stripe caller.old.calls caller.new.calls)) }
+    ensures replied { IfOk result (λ quick. IfOk quick (IsReplied N.config who command moment own.old.stripe own.new.stripe own.new.sight caller.old.calls caller.new.calls)) }
     ensures touched { IfOk result (λ quick. OnErr quick (IsStorage command ⊎ (TouchesNoChunk own.old.stripe command moment → ⊥))) }
     ensures back { IfOk result (λ quick. IfErr quick (λ c. (c ≡ command) × (own.new.stripe.history ≡ own.old.stripe.history) × (caller.new ≡ caller.old))) }
     ensures err { OnErr result (own.new.stripe.history ≡ own.old.stripe.history) }

@@ -1,11 +1,13 @@
 //! The room that a command is given by a class under its lock.
-ghost use Rattle.std.specs.Prelude.{◌≡◌, IfOk, OnOk, IsErrOf};
+ghost use Rattle.std.specs.Prelude.{◌≡◌, ℕ, List, IfOk, OnOk, IsErrOf};
+ghost use Rattle.mc_item.specs.Command.{key_of};
 ghost use Rattle.mc_item.specs.Stripe.{Fits};
 ghost use Rattle.mc_item.specs.declared.answer.Need.TheVariants as needs;
 ghost use Rattle.mc_item.specs.declared.fault.Fault.TheVariants.{HistoryFull};
 ghost use Rattle.mc_stripe.specs.StripeCalls.{KeepsSite};
 ghost use Rattle.mc_pull.specs.Agreeing.{AgreeNow};
 ghost use Rattle.mc_rule.specs.Lists.{IsFull, lists_of};
+ghost use Rattle.mc_store.specs.Earned.{HasSearched, IsEarnedIn};
 ghost use Rattle.mc_store.specs.Locked.{IsLockedClass, HasBegun};
 ghost use Rattle.mc_store.specs.Planned.{GoesBy, IsGiven, IsReadyOn, IsSearched};
 ghost use Rattle.mc_store.specs.Serving.{IsShort};
@@ -51,6 +53,7 @@ fn search_on<N: Named>(
     requires goes { GoesBy N.config own.old.stripe command.now moment plan }
     requires fresh { plan.need ≡ needs.Fresh class }
     ensures goes { IfOk result (GoesBy N.config own.new.stripe command.now moment) }
+    ensures tried { OnOk result (IsFull lent.new.class.chunks (lists_of lent.new.class.history) → HasSearched N.config.stripes (record { 0 = own.old.stripe.site.stripe }) who (key_of command.now) lent.new.class.history) }
     ensures searched { IsSearched N.config who command.now moment own.old.stripe own.new.stripe }
     ensures number { lent.new.class.number ≡ lent.old.class.number }
     ensures site { KeepsSite own.old.stripe own.new.stripe }
@@ -70,6 +73,7 @@ fn next_on<N: Named>(own: &LockedStripe<N>, lent: &LockedClass<N>, who: Who) -> 
     requires free { IsFull lent.now.class.chunks (lists_of lent.now.class.history) → ⊥ }
     ensures fits { Fits (needs.Fresh lent.now.class.number) result own.now.stripe.history }
     ensures given { IsGiven who result lent.now.class }
+    ensures earned { (number : ℕ) (key : List ℕ) → IsEarnedIn N.config number who key own.now.sight result }
 {
     let _own = own;
     let _who = who;
@@ -83,8 +87,8 @@ fn next_on<N: Named>(own: &LockedStripe<N>, lent: &LockedClass<N>, who: Who) -> 
     })
 }
 
-// The room that a class gives: its next link, where a chunk is free, and else a refusal that it notes. A class of another
-// number, of which there is none here, would be waited for.
+// The room that a class gives: its next link, where a chunk is free, and else a refusal that it notes, and tells the stripe of.
+// A class of another number, of which there is none here, would be waited for.
 fn fresh_room<N: Named>(
     store: &Store<N>,
     rt: &impl Wait,
@@ -96,6 +100,7 @@ fn fresh_room<N: Named>(
     ensures same { own.new.stripe ≡ own.old.stripe }
     ensures fits { IfOk result (λ room. Fits (needs.Fresh class) room own.old.stripe.history) }
     ensures given { IfOk result (λ room. IsGiven who room lent.new.class) }
+    ensures earned { IfOk result (λ room. (key : List ℕ) → (IsFull lent.old.class.chunks (lists_of lent.old.class.history) → HasSearched N.config.stripes (record { 0 = own.old.stripe.site.stripe }) who key lent.old.class.history) → IsEarnedIn N.config own.old.stripe.site.stripe who key own.new.sight room) }
     ensures number { lent.new.class.number ≡ lent.old.class.number }
     ensures full { IsErrOf result HistoryFull → IsShort N.config own.new }
 {
@@ -105,6 +110,7 @@ fn fresh_room<N: Named>(
         return Ok(next_on(own, lent, who));
     }
     let place = refuse(&store.board, lent, who)?;
+    meet(&store.board, own, lent);
     Ok(Room::Refused { class, place })
 }
 
@@ -120,6 +126,7 @@ fn room_on<N: Named>(
     ensures same { own.new.stripe ≡ own.old.stripe }
     ensures fits { IfOk result (λ room. Fits need room own.old.stripe.history) }
     ensures given { IfOk result (λ room. IsGiven who room lent.new.class) }
+    ensures earned { IfOk result (λ room. (key : List ℕ) → (IsFull lent.old.class.chunks (lists_of lent.old.class.history) → HasSearched N.config.stripes (record { 0 = own.old.stripe.site.stripe }) who key lent.old.class.history) → IsEarnedIn N.config own.old.stripe.site.stripe who key own.new.sight room) }
     ensures number { lent.new.class.number ≡ lent.old.class.number }
     ensures full { IsErrOf result HistoryFull → IsShort N.config own.new }
 {
@@ -149,6 +156,7 @@ pub(crate) fn ready_on<N: Named>(
     requires goes { GoesBy N.config own.old.stripe command.now moment plan }
     requires fresh { plan.need ≡ needs.Fresh class }
     ensures ready { IfOk result (λ ready. IsReadyOn N.config own.new.stripe lent.new.class who command.now moment ready.0 ready.1) }
+    ensures earned { IfOk result (λ ready. IsEarnedIn N.config own.old.stripe.site.stripe who (key_of command.now) own.new.sight ready.0) }
     ensures searched { IsSearched N.config who command.now moment own.old.stripe own.new.stripe }
     ensures number { lent.new.class.number ≡ lent.old.class.number }
     ensures site { KeepsSite own.old.stripe own.new.stripe }

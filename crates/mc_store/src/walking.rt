@@ -1,5 +1,5 @@
 //! Walks under the locks of a store: room is made in a class, a class is juggled, a dead item goes.
-ghost use Rattle.std.specs.Prelude.{◌≡◌, ◌≤◌, ◌+◌, ◌++◌, ◌∷◌, [], ◌^◌, List, Some, IfOk, IfErr, OnOk, OnErr, IsErrOf};
+ghost use Rattle.std.specs.Prelude.{◌≡◌, ◌≤◌, ◌+◌, ◌++◌, ◌∷◌, [], ◌^◌, List, Some, IfOk, IfErr, OnOk, OnErr, IsErrOf, false};
 ghost use Rattle.mc_item.specs.declared.fault.Fault.TheVariants.{HistoryFull};
 ghost use Rattle.mc_item.specs.declared.stripe_event.Cause.TheVariants.{Expired};
 ghost use Rattle.mc_stripe.specs.Plan.{dead_link};
@@ -12,6 +12,7 @@ ghost use Rattle.mc_pull.specs.Rounds.{IsRoom, rounds};
 ghost use Rattle.mc_pull.specs.Settled.{lost_event};
 ghost use Rattle.mc_pull.specs.Walker.{walker_of};
 ghost use Rattle.mc_pull.specs.declared.looking.Answer.{Answer};
+ghost use Rattle.mc_store.specs.Earned.{HasSearchedForAny};
 ghost use Rattle.mc_store.specs.Serving.{IsServed, IsShort, MayFailSeen};
 ghost use Rattle.mc_store.specs.Locked.{HasBegun};
 ghost use Rattle.mc_board.specs.Histories.{Grows};
@@ -46,6 +47,7 @@ fn make_room_with<N: Named>(
     ensures class { classes.Grows class.old class.new }
     ensures served { IsServed N.board.table N.config owner.new seen.new class.new }
     ensures stripe { StripeGrows (walker_of class.old who moment) own.old.stripe own.new.stripe }
+    ensures tried { IfOk result (λ found. found ≡ false → HasSearchedForAny N.config.stripes own.old.stripe who moment class.new.history) }
     ensures fault { IfErr result (MayFailSeen N.config seen.new.sight class.new) }
 {
     let mut answers = Vec::new(alloc);
@@ -64,7 +66,8 @@ fn make_room_with<N: Named>(
 }
 
 // Makes room in a class under its lock, for a caller that holds one stripe: the others are only tried. Whether a chunk is
-// free then. After a fault what happened so far stands. The stripe is told of all that the class was told.
+// free then; where none is, entries were tried for. After a fault what happened so far stands. The stripe is told of all that
+// the class was told.
 pub(crate) fn make_room_under<N: Named>(
     alloc: Global,
     store: &Store<N>,
@@ -77,6 +80,7 @@ pub(crate) fn make_room_under<N: Named>(
     ensures room { IfOk result (λ found. (xs : List Answer) × IsRoom (rounds class.old.class who moment N.config) class.old.class.history xs class.new.class.history found) }
     ensures class { classes.Grows class.old.class class.new.class }
     ensures stripe { StripeGrows (walker_of class.old.class who moment) own.old.stripe own.new.stripe }
+    ensures tried { IfOk result (λ found. found ≡ false → HasSearchedForAny N.config.stripes own.old.stripe who moment class.new.class.history) }
     ensures full { IsErrOf result HistoryFull → IsShort N.config own.new }
 {
     let board = &store.board;

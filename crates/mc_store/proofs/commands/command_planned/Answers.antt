@@ -4,7 +4,7 @@ use Rattle.mc_store.proofs.commands.command_planned.Goals as goal
 
 pub returns-clause-replied : goal.returns-clause-replied
 returns-clause-replied g c =
-    replied_ok_from g.N.Named.config c.args.who c.args.command c.args.moment c.args.own.now.stripe c.plan_alive.new.own.stripe c.plan_alive.ensures.site c.in_ok-plan.ensures.buried c.answer_by_plan.new.own.stripe c.args.caller.now.calls c.answer_by_plan.new.caller.calls
+    replied_ok_from g.N.Named.config c.args.who c.args.command c.args.moment c.args.own.now.stripe c.plan_alive.new.own.stripe c.plan_alive.ensures.site c.in_ok-plan.ensures.buried c.answer_by_plan.new.own.stripe c.answer_by_plan.new.own.sight c.args.caller.now.calls c.answer_by_plan.new.caller.calls
     c.answer_by_plan.result c.answer_by_plan.ensures.replied
 
 pub returns-clause-cut : goal.returns-clause-cut

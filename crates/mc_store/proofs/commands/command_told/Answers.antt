@@ -15,9 +15,10 @@ returns-clause-replied g c =
     let config = g.N.Named.config in
     let r = c.command_planned.result in
     let end = c.command_planned.new.own.stripe in
+    let sight = c.command_planned.new.own.sight in
     let calls_new = c.command_planned.new.caller.calls in
-    subst (λ (x : StripeSide). IfOk r (IsReplied config c.args.who c.args.command c.args.moment x.stripe end c.args.caller.now.calls calls_new)) c.tell_stripe.ensures.stripe
-    (subst (λ (x : CallerView). IfOk r (IsReplied config c.args.who c.args.command c.args.moment c.tell_stripe.new.stripe.stripe end x.calls calls_new)) c.tell_stripe.ensures.same c.command_planned.ensures.replied)
+    subst (λ (x : StripeSide). IfOk r (IsReplied config c.args.who c.args.command c.args.moment x.stripe end sight c.args.caller.now.calls calls_new)) c.tell_stripe.ensures.stripe
+    (subst (λ (x : CallerView). IfOk r (IsReplied config c.args.who c.args.command c.args.moment c.tell_stripe.new.stripe.stripe end sight x.calls calls_new)) c.tell_stripe.ensures.same c.command_planned.ensures.replied)
 
 pub returns-clause-cut : goal.returns-clause-cut
 returns-clause-cut g c =

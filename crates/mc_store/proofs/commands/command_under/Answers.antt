@@ -12,8 +12,9 @@ returns-in-Err-clause-replied g c =
     let mid = c.answer_quick.new.own.stripe in
     let planned = c.command_told-in-Err in
     let end = planned.new.own.stripe in
+    let sight = planned.new.own.sight in
     let calls_new = planned.new.caller.calls in
     let back = rw c.in-Err.is at c.in_ok-reply.ensures.back in
-    let given = subst (λ (x : Command). IfOk planned.result (IsReplied config c.args.who x c.args.moment mid end c.answer_quick.new.caller.calls calls_new)) back.0 planned.ensures.replied in
-    let replied = subst (λ (x : CallerView). IfOk planned.result (IsReplied config c.args.who c.args.command c.args.moment mid end x.calls calls_new)) back.2 given in
-    replied_ok_same config c.args.who c.args.command c.args.moment c.args.own.now.stripe mid c.answer_quick.ensures.site back.1 end c.args.caller.now.calls calls_new planned.result replied
+    let given = subst (λ (x : Command). IfOk planned.result (IsReplied config c.args.who x c.args.moment mid end sight c.answer_quick.new.caller.calls calls_new)) back.0 planned.ensures.replied in
+    let replied = subst (λ (x : CallerView). IfOk planned.result (IsReplied config c.args.who c.args.command c.args.moment mid end sight x.calls calls_new)) back.2 given in
+    replied_ok_same config c.args.who c.args.command c.args.moment c.args.own.now.stripe mid c.answer_quick.ensures.site back.1 end sight c.args.caller.now.calls calls_new planned.result replied

@@ -1,14 +1,16 @@
 use Rattle.std.proofs.Common.{◌≡◌, ap, sym, subst, ◌∙◌}
+use Rattle.std.specs.Prelude.{IsSomeAnd}
 use Rattle.mc_pull.specs.Lone.{StripeGrows}
-use Rattle.mc_pull.specs.Question.{question_of}
+use Rattle.mc_pull.specs.Question.{HasKeyOf, question_of}
 use Rattle.mc_pull.specs.Walker.{walker_of}
 use Rattle.mc_pull.proofs.LoneLemmas.{settle_walked}
 use Rattle.mc_board.specs.Views.{OwnerView}
 use Rattle.mc_stripe.specs.StripeState.{Stripe}
+use Rattle.mc_store.specs.Looked.{IsKnown}
 use Rattle.mc_store.specs.Serving.{MayFailSeen}
 use Rattle.mc_store.specs.Sides.{StripeSide}
 use Rattle.mc_store.specs.declared.locked.LockedStripe.TheInside.{Inside}
-use Rattle.mc_store.proofs.JudgedLemmas.{class_judged, fault_judged, stripe_judged}
+use Rattle.mc_store.proofs.JudgedLemmas.{class_judged, fault_judged, known_judged, stripe_judged}
 use Rattle.mc_store.proofs.ServedLemmas.{class_told_more, handed_on, settled_grows, settled_told}
 use Rattle.mc_store.proofs.judging.judge.Goals as goal
 use Rattle.mc_store.specs.Locked.{HasBegun}
@@ -119,3 +121,18 @@ returns-in_err-done-clause-sees g c = grows_trans c.args.seen.now.sight c.tell-2
 
 pub returns-clause-sees : goal.returns-clause-sees
 returns-clause-sees g c = grows_trans c.args.seen.now.sight c.tell-2.new.seen.sight c.tell-4.new.seen.sight c.tell-2.ensures.grows c.tell-4.ensures.grows
+
+pub returns-clause-known : goal.returns-clause-known
+returns-clause-known g c =
+    let own = c.stripe-inside.inside.0.0 in
+    let lent = c.stripe-inside-2.inside.0.0 in
+    let own_is = ap (λ (l : Inside g.row.N.Denot). l.side) c.stripe-inside.view_is in
+    let lent_is = ap (λ (l : Inside g.row.N.Denot). l.side) c.stripe-inside-2.view_is in
+    let q = question_of c.args.look.now.ask in
+    let class = c.args.look.now.class.now in
+    let same : lent.state ≡ c.args.stripe.now.stripe = ap (λ (x : StripeSide). x.stripe) (lent_is ∙ c.tell-2.ensures.same) ∙ ap (λ (x : StripeSide). x.stripe) (own_is ∙ c.stripe.view_is) in
+    subst (λ (s : Stripe). HasKeyOf (record { 0 = s.site.stripe }) g.N.Named.config class q → IsSomeAnd c.settle-done.new.self.judged (IsKnown class s q)) same (λ keyed.
+    known_judged g.N.Named.board.table g.N.Named.config c.stripe.inside.side c.stripe.invariant own.state own.owner own.seen own_is
+    c.args.owner.now c.args.seen.now c.args.look.now.class.now c.requires.served c.catch_up_class.new.owner c.tell.new.self c.catch_up_class.ensures c.tell.ensures.same
+    c.tell.new.seen c.tell.ensures.whole c.tell.ensures.grows c.tell-2.new.self c.tell-2.new.seen c.tell-2.ensures.same c.tell-2.ensures.told c.tell-2.ensures.grows
+    lent.state lent.owner lent.seen lent_is q c.settle-done.new.self.judged c.in_ok-done.field-0 _ c.requires.may keyed c.in_ok-done.ensures.done.0 c.in_ok-done.ensures.done.1)

@@ -1,5 +1,7 @@
-use Rattle.std.proofs.Common.{◌∙◌, ap, sym}
+use Rattle.std.proofs.Common.{◌≡◌, ◌∙◌, ap, subst, sym}
+use Rattle.mc_store.specs.Locked.{class_lock}
 use Rattle.mc_store.specs.Sides.{ClassSide, StripeSide, class_told}
+use Rattle.mc_store.proofs.EarnedLemmas.{class_seen}
 use Rattle.mc_store.proofs.MeetLemmas.{meet_agree, meet_class, meet_stripe}
 use Rattle.mc_store.proofs.UnderLemmas.{told_at}
 use Rattle.mc_store.proofs.pairing.meet.Goals as goal
@@ -23,3 +25,8 @@ pub returns-clause-told : goal.returns-clause-told
 returns-clause-told g c =
     told_at c.own.inside.side.sight c.lent.inside.side.lock (class_told c.lent.inside.side.class.history) c.hear-2.new.stripe.sight c.args.lent.now.lock (class_told c.args.lent.now.class.history)
     (ap (λ (x : StripeSide). x.sight) (c.hear-2.ensures.stripe ∙ c.hear.ensures.told)) (sym (ap (λ (x : ClassSide). x.lock) c.lent.view_is)) (ap (λ (x : ClassSide). class_told x.class.history) c.lent.view_is)
+
+pub returns-clause-heard : goal.returns-clause-heard
+returns-clause-heard g c =
+    class_seen g.N.Named.config c.hear-2.new.stripe.sight c.args.lent.now.lock c.args.lent.now.class.number c.args.lent.now.class.history
+    (subst (λ (x : ClassSide). x.lock ≡ class_lock g.N.Named.config x.class.number) c.lent.view_is c.lent.invariant.lock_is) (returns-clause-told g c)

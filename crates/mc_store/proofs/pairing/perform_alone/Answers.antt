@@ -1,4 +1,5 @@
 use Rattle.std.proofs.Common.{◌≡◌, [], ap, sym, ◌∙◌, subst, length}
+use Rattle.mc_board.specs.Histories.{Grows}
 use Rattle.mc_board.specs.Views.{OwnerView}
 use Rattle.mc_pull.specs.Perform.{call}
 use Rattle.mc_store.specs.Locked.{IsLockedStripe}
@@ -32,3 +33,15 @@ invariant_of-own g c =
     c.requires.asked place made.ensures.site put.ensures.grows made.result made.ensures.made made.ensures.err put.ensures.of put.ensures.told put.ensures.noted was.called in
     subst (IsLockedStripe table config) (sym (ap (λ (o : OwnerView). stripe_side o put.new.seen made.new.stripe) put.ensures.owner))
     (alone_end table config (stripe_side raw.owner put.new.seen raw.state) kept made.new.stripe cl made.ensures.site c.history.ensures.legal called c.requires.unrefused made.ensures.sight)
+
+pub returns-in_err-copy-clause-sees : goal.returns-in_err-copy-clause-sees
+returns-in_err-copy-clause-sees g c =
+    let raw = c.own-inside.inside.0.0 in
+    let own_is = ap (λ i. i.side) c.own-inside.view_is in
+    subst (λ (x : StripeSide). Grows x.sight c.put_answer.new.seen.sight) (own_is ∙ c.own.view_is) c.put_answer.ensures.grows
+
+pub returns-clause-sees : goal.returns-clause-sees
+returns-clause-sees g c =
+    let raw = c.own-inside.inside.0.0 in
+    let own_is = ap (λ i. i.side) c.own-inside.view_is in
+    subst (λ (x : StripeSide). Grows x.sight c.put_answer.new.seen.sight) (own_is ∙ c.own.view_is) c.put_answer.ensures.grows

@@ -5,6 +5,7 @@ use Rattle.mc_store.specs.Sides.{StripeSide}
 use Rattle.mc_store.proofs.CallerLemmas.{called_performed}
 use Rattle.mc_store.proofs.LentLemmas.{class_behind, lent_grow, own_behind}
 use Rattle.mc_store.proofs.OneLemmas.{one_class, one_full, one_stripe}
+use Rattle.mc_store.proofs.PairLemmas.{seen_on}
 use Rattle.mc_store.proofs.pairing.perform_on_one.Goals as goal
 
 pub put_answer-requires-clause-behind : goal.put_answer-requires-clause-behind
@@ -125,3 +126,19 @@ invariant_of-class-2 g c =
     c.hear.ensures.told c.hear.ensures.grows c.hear-2.ensures.stripe made.ensures.site c.history.ensures.legal grows
     c.args.class.now c.meet.new.lent c.class.view_is c.meet.ensures.lent c.meet.new.own c.own.view_is c.meet.ensures.met made.ensures.agreement made.ensures.sight
     c.hear-2.new.self c.hear-2.ensures.told c.hear-2.ensures.grows c.law.ensures.lawful
+
+pub returns-in_err-copy-clause-sees : goal.returns-in_err-copy-clause-sees
+returns-in_err-copy-clause-sees g c =
+    let raw = c.own-inside.inside.0.0 in
+    let own_is = ap (λ i. i.side) c.own-inside.view_is in
+    let put = c.put_answer in
+    seen_on c.args.own.now.sight c.meet.new.own raw.seen.sight put.new.seen.sight c.hear.new.self c.hear-2.new.stripe c.meet.ensures.grows (ap (λ (x : StripeSide). x.sight) (own_is ∙ c.own.view_is)) put.ensures.grows c.hear.ensures.grows
+    c.hear-2.ensures.stripe
+
+pub returns-clause-sees : goal.returns-clause-sees
+returns-clause-sees g c =
+    let raw = c.own-inside.inside.0.0 in
+    let own_is = ap (λ i. i.side) c.own-inside.view_is in
+    let put = c.put_answer in
+    seen_on c.args.own.now.sight c.meet.new.own raw.seen.sight put.new.seen.sight c.hear.new.self c.hear-2.new.stripe c.meet.ensures.grows (ap (λ (x : StripeSide). x.sight) (own_is ∙ c.own.view_is)) put.ensures.grows c.hear.ensures.grows
+    c.hear-2.ensures.stripe

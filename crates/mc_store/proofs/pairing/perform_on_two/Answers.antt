@@ -5,6 +5,7 @@ use Rattle.mc_store.specs.Sides.{StripeSide}
 use Rattle.mc_store.proofs.CallerLemmas.{called_performed}
 use Rattle.mc_store.proofs.LentLemmas.{class_behind, lent_grow, own_behind}
 use Rattle.mc_store.proofs.TwoLemmas.{two_full, two_high, two_low, two_stripe}
+use Rattle.mc_store.proofs.PairLemmas.{grows_trans, seen_on}
 use Rattle.mc_store.proofs.pairing.perform_on_two.Goals as goal
 
 pub put_answer-requires-clause-behind : goal.put_answer-requires-clause-behind
@@ -207,3 +208,21 @@ invariant_of-high-2 g c =
     c.args.low.now c.meet.new.lent c.args.high.now c.meet-2.new.lent c.low.view_is c.meet.ensures.lent c.high.view_is c.meet-2.ensures.lent c.requires.rising
     c.meet.new.own c.meet-2.new.own c.own.view_is c.meet-2.ensures.own c.meet.ensures.met c.meet-2.ensures.met made.ensures.agreement made.ensures.sight
     c.hear-4.new.self c.hear-4.ensures.told c.hear-4.ensures.grows c.law-2.ensures.lawful
+
+pub returns-in_err-copy-clause-sees : goal.returns-in_err-copy-clause-sees
+returns-in_err-copy-clause-sees g c =
+    let raw = c.own-inside.inside.0.0 in
+    let own_is = ap (λ i. i.side) c.own-inside.view_is in
+    let put = c.put_answer in
+    seen_on c.args.own.now.sight c.meet-2.new.own raw.seen.sight put.new.seen.sight c.hear-2.new.self c.hear-4.new.stripe (grows_trans c.args.own.now.sight c.meet.new.own.sight c.meet-2.new.own.sight c.meet.ensures.grows c.meet-2.ensures.grows)
+    (ap (λ (x : StripeSide). x.sight) (own_is ∙ c.own.view_is)) put.ensures.grows (grows_trans put.new.seen.sight c.hear.new.self.sight c.hear-2.new.self.sight c.hear.ensures.grows c.hear-2.ensures.grows)
+    (c.hear-4.ensures.stripe ∙ c.hear-3.ensures.stripe)
+
+pub returns-clause-sees : goal.returns-clause-sees
+returns-clause-sees g c =
+    let raw = c.own-inside.inside.0.0 in
+    let own_is = ap (λ i. i.side) c.own-inside.view_is in
+    let put = c.put_answer in
+    seen_on c.args.own.now.sight c.meet-2.new.own raw.seen.sight put.new.seen.sight c.hear-2.new.self c.hear-4.new.stripe (grows_trans c.args.own.now.sight c.meet.new.own.sight c.meet-2.new.own.sight c.meet.ensures.grows c.meet-2.ensures.grows)
+    (ap (λ (x : StripeSide). x.sight) (own_is ∙ c.own.view_is)) put.ensures.grows (grows_trans put.new.seen.sight c.hear.new.self.sight c.hear-2.new.self.sight c.hear.ensures.grows c.hear-2.ensures.grows)
+    (c.hear-4.ensures.stripe ∙ c.hear-3.ensures.stripe)

@@ -48,8 +48,8 @@ returns-in-Ok-clause-replied g c =
     let touches = rw c.in-Ok.is at c.in_ok-copy.ensures.chunks in
     let copy = rw c.in-Ok.is at c.in_ok-copy.ensures.copy in
     let place : c.events-place.result ≡ length raw.state.history = c.events-place.ensures ∙ sym (ap (λ (x : StripeSide). length x.stripe.history) own_is) in
-    subst (λ (x : StripeSide). IsReplied config c.args.who c.args.command c.args.moment x.stripe new c.args.caller.now.calls c.note.new.self.calls c.unwrap.result) (own_is ∙ c.own.view_is)
-    (quick_replied c.args.who c.args.command c.args.moment raw.state new notes config c.events-place.result c.number-stripe.result.0 c.args.caller.now c.note.new.self c.in-Ok.copy c.unwrap.result touches c.answer_alone-quick.ensures.site place c.number-stripe.ensures
+    subst (λ (x : StripeSide). IsReplied config c.args.who c.args.command c.args.moment x.stripe new c.note.new.seen.sight c.args.caller.now.calls c.note.new.self.calls c.unwrap.result) (own_is ∙ c.own.view_is)
+    (quick_replied c.args.who c.args.command c.args.moment raw.state new notes config c.note.new.seen.sight c.events-place.result c.number-stripe.result.0 c.args.caller.now c.note.new.self c.in-Ok.copy c.unwrap.result touches c.answer_alone-quick.ensures.site place c.number-stripe.ensures
     copy c.unwrap.ensures c.note.ensures.noted)
 
 pub returns-in-Err-clause-touched : goal.returns-in-Err-clause-touched

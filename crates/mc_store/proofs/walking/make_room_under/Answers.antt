@@ -1,4 +1,4 @@
-use Rattle.std.proofs.Common.{Bool, ◌≡◌, List, ap, ◌∙◌, inr, subst, sym}
+use Rattle.std.proofs.Common.{Bool, false, ◌≡◌, List, ap, ◌∙◌, inr, subst, sym}
 use Rattle.mc_segment.specs.ClassState.{ClassView}
 use Rattle.mc_stripe.specs.StripeState.{Stripe}
 use Rattle.mc_board.proofs.SeenLemmas.{list_at_same}
@@ -9,6 +9,7 @@ use Rattle.mc_pull.specs.Lone.{StripeGrows}
 use Rattle.mc_pull.specs.Rounds.{IsRoom, rounds}
 use Rattle.mc_pull.specs.Walker.{walker_of}
 use Rattle.mc_pull.specs.declared.looking.Answer.{Answer}
+use Rattle.mc_store.specs.Earned.{HasSearchedForAny}
 use Rattle.mc_store.specs.Sides.{ClassSide, StripeSide, class_told}
 use Rattle.mc_store.specs.declared.locked.LockedStripe.TheInside.{Inside}
 use Rattle.mc_store.proofs.GateLemmas.{ok_more, room_full}
@@ -42,6 +43,14 @@ returns-clause-stripe g c =
     subst (λ (s : Stripe). StripeGrows (walker_of c.args.class.now.class c.args.who c.args.moment) c.args.own.now.stripe s) (sym last)
     (subst (λ (x : StripeSide). StripeGrows (walker_of c.args.class.now.class c.args.who c.args.moment) x.stripe walked) c.learn_from.ensures.same
     (subst (λ (v : ClassView). StripeGrows (walker_of v c.args.who c.args.moment) c.learn_from.new.stripe.stripe walked) of c.make_room_with-found.ensures.stripe))
+
+pub returns-clause-tried : goal.returns-clause-tried
+returns-clause-tried g c =
+    let last : c.hear.new.class.class ≡ c.make_room_with-found.new.class = ap (λ (x : ClassSide). x.class) c.hear.ensures.class in
+    let P : StripeSide → ClassView → Bool → Type 0 = λ x v found. found ≡ false → HasSearchedForAny g.N.Named.config.stripes x.stripe c.args.who c.args.moment v.history in
+    ok_more c.make_room_with-found.result _ (P c.args.own.now c.hear.new.class.class)
+    (λ found made. subst (λ (v : ClassView). P c.args.own.now v found) (sym last) (subst (λ (x : StripeSide). P x c.make_room_with-found.new.class found) c.learn_from.ensures.same made))
+    c.make_room_with-found.ensures.tried
 
 pub returns-clause-full : goal.returns-clause-full
 returns-clause-full g c = λ is.

@@ -1,13 +1,18 @@
-use Rattle.std.proofs.Common.{subst, sym}
+use Rattle.std.proofs.Common.{◌≡◌, ◌∙◌, ℕ, ap, subst, sym}
+use Rattle.mc_item.specs.declared.config.Config.{Config}
+use Rattle.mc_item.specs.declared.item.StripeNo.{StripeNo}
+use Rattle.mc_pull.specs.Looks.{IsJudgedIf}
+use Rattle.mc_pull.specs.Question.{question_of}
 use Rattle.mc_board.specs.Views.{SeenView}
 use Rattle.mc_store.specs.Locked.{HasBegun}
+use Rattle.mc_store.specs.Sides.{StripeSide}
 use Rattle.mc_store.proofs.CallerLemmas.{asked_here, begun_sees}
 use Rattle.mc_store.proofs.gates.TryingGate.visit.Goals as goal
 
 pub judge-requires-clause-begun : goal.judge-requires-clause-begun
 judge-requires-clause-begun g c =
     begun_sees g.N.Named.config c.args.self.now.seen.now.sight c.learn.new.self.sight c.args.look.now.ask.who c.args.look.now.ask.moment c.learn.ensures.learnt
-    (asked_here g.N.Named.config c.args.self.now.seen.now.sight c.args.self.now.who c.args.look.now.ask.who c.args.self.now.moment c.args.look.now.ask.moment (c.is_foreign.ensures c.if-is_foreign.false) c.requires.gate.2)
+    (asked_here g.N.Named.config c.args.self.now.seen.now.sight c.args.self.now.who c.args.look.now.ask.who c.args.self.now.moment c.args.look.now.ask.moment (c.is_foreign.ensures.own c.if-is_foreign.false) c.requires.gate.2)
 
 pub returns-in_err-judge-clause-serves : goal.returns-in_err-judge-clause-serves
 returns-in_err-judge-clause-serves g c = (
@@ -24,3 +29,11 @@ returns-clause-serves g c = (
   begun_sees g.N.Named.config c.learn.new.seen.sight c.judge.new.seen.sight c.args.self.now.who c.args.self.now.moment c.judge.ensures.sees
       (subst (λ (v : SeenView). HasBegun g.N.Named.config v.sight c.args.self.now.who c.args.self.now.moment) (sym c.learn.ensures.same) c.requires.gate.2),
 )
+
+pub returns-clause-judged : goal.returns-clause-judged
+returns-clause-judged g c =
+    let look = c.args.look.now in
+    let seen = ap (λ (x : StripeSide). x.stripe.site.stripe) c.learn.ensures.stripe in
+    let number : record { 0 = c.learn.new.self.stripe.site.stripe } ≡ c.args.stripe = ap (λ (n : ℕ). record { 0 = n }) seen ∙ sym (c.is_numbered.ensures c.if-not-is_numbered.false) in
+    subst (λ (k : Config). IsJudgedIf k c.args.stripe look.class.now (question_of look.ask) c.judge.new.look.judged) (sym c.requires.gate.0)
+    (subst (λ (n : StripeNo). IsJudgedIf g.N.Named.config n look.class.now (question_of look.ask) c.judge.new.look.judged) number c.in_ok-judge.ensures.judged)

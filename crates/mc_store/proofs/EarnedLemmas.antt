@@ -1,0 +1,124 @@
+-- A refusal that was earned: when it is noted, and as more is seen.
+use Rattle.std.proofs.Common.{◌≡◌, ◌<◌, ◌⊎◌, ℕ, List, [], ◌∷◌, ◌++◌, inl, inr, length, refl, sym, ap, ◌∙◌, subst, append_assoc}
+use Rattle.std.specs.Prelude.{Option, Some, None, IfSome}
+use mathlib.Core.List.{IsPrefix}
+use Rattle.mc_item.specs.Command.{key_of}
+use Rattle.mc_item.specs.Measure.{stripe_of}
+use Rattle.mc_item.specs.declared.answer.Site.{Site}
+use Rattle.mc_item.specs.declared.class_event.ClassEvent.{ClassEvent}
+use Rattle.mc_item.specs.declared.class_event.ClassEvent.TheVariants as entries
+use Rattle.mc_item.specs.declared.command.Command.{Command}
+use Rattle.mc_item.specs.declared.config.Config.{Config}
+use Rattle.mc_item.specs.declared.item.ClassNo.{ClassNo}
+use Rattle.mc_item.specs.declared.item.StripeNo.{StripeNo}
+use Rattle.mc_item.specs.declared.item.Who.{Who}
+use Rattle.mc_item.specs.declared.lists.Entry.{Entry}
+use Rattle.mc_item.specs.declared.lists.Seg.{Seg}
+use Rattle.mc_item.specs.declared.lists.Seg.TheVariants.{Hot, Cold}
+use Rattle.mc_item.specs.declared.reply.Reply.{Reply}
+use Rattle.mc_item.specs.declared.reply.Room.{Room}
+use Rattle.mc_item.specs.declared.reply.Room.TheVariants as rooms
+use Rattle.mc_item.specs.declared.stripe_event.Did.{Did}
+use Rattle.mc_rule.specs.Lists.{from_tail, list_of, lists_of}
+use Rattle.mc_rule.specs.Pairs.{IsKeyOf, IsRefusal}
+use Rattle.mc_rule.specs.Places.{Has}
+use Rattle.mc_evidence.specs.Refusals.{HasTried, NoneNear, WasTried}
+use Rattle.mc_evidence.proofs.GrowLemmas.{tried_later}
+use Rattle.mc_pull.specs.Tried.{IsNoneNear}
+use Rattle.mc_evidence.specs.Seen.{class_events, classes_seen}
+use Rattle.mc_evidence.proofs.SeenLemmas.{class_events-map, classes_grow}
+use Rattle.mc_board.specs.Histories.{Grows, list_at}
+use Rattle.mc_board.specs.declared.rule.Sight.{Sight}
+use Rattle.mc_segment.specs.ClassCalls.{Makes, refused_event}
+use Rattle.mc_segment.specs.ClassState.{ClassView}
+use Rattle.mc_store.specs.Earned.{HasSearched, IsEarned, IsEarnedAt, IsEarnedIn}
+use Rattle.mc_store.specs.Locked.{class_lock}
+use Rattle.mc_store.specs.Sides.{class_told}
+
+-- who has seen all that a class told has seen its history
+pub class_seen : (config : Config) (sight : Sight) (lock : ℕ) (class : ClassNo) (history : List ClassEvent) → lock ≡ class_lock config class → list_at sight.seen lock ≡ class_told history
+    → classes_seen config.stripes (list_at sight.seen) class ≡ history
+class_seen config sight lock class history at told =
+    ap (λ (k : ℕ). class_events (list_at sight.seen k)) (sym at) ∙ (ap class_events told ∙ class_events-map history)
+
+-- a refusal that was noted just now, behind a search
+pub earned_noted : (config : Config) (number : ℕ) (who : Who) (key : List ℕ) (v v_new : ClassView) (sight : Sight) (class : ClassNo) (place : ℕ) → v.number ≡ class → Makes v v_new (refused_event who) → place ≡ length v.history
+    → HasSearched config.stripes (record { 0 = number }) who key v.history → classes_seen config.stripes (list_at sight.seen) v_new.number ≡ v_new.history → IsEarnedIn config number who key sight (rooms.Refused class place)
+earned_noted config number who key v v_new sight class place at makes is tried seen = record {
+  before = v.history;
+  refused = record {
+    later = [];
+    is = ap (λ (n : ClassNo). classes_seen config.stripes (list_at sight.seen) n) (sym (ap (λ (c : ClassView). c.number) makes ∙ at)) ∙ (seen ∙ ap (λ (c : ClassView). c.history) makes);
+  };
+  place_is = is;
+  searched = tried;
+}
+
+-- what was earned stays so as more is seen
+earned_more : (stripes : ℕ) (number : StripeNo) (who : Who) (key : List ℕ) (place : ℕ) (seen more : List ClassEvent) → IsPrefix seen more → IsEarnedAt stripes number who key place seen → IsEarnedAt stripes number who key place more
+earned_more stripes number who key place seen more begins earned = record {
+  before = earned.before;
+  refused = record {
+    later = earned.refused.later ++ begins.0;
+    is = sym begins.1 ∙ (ap (λ (l : List ClassEvent). l ++ begins.0) earned.refused.is ∙ append_assoc earned.before (refused_event who ∷ earned.refused.later) begins.0);
+  };
+  place_is = earned.place_is;
+  searched = earned.searched;
+}
+
+pub earned_sees : (config : Config) (number : ℕ) (who : Who) (key : List ℕ) (a b : Sight) (room : Room) → Grows a b → IsEarnedIn config number who key a room → IsEarnedIn config number who key b room
+earned_sees config number who key a b rooms.Keep grows earned = tt
+earned_sees config number who key a b (rooms.At link) grows earned = tt
+earned_sees config number who key a b (rooms.Refused class place) grows earned =
+    earned_more config.stripes (record { 0 = number }) who key place (classes_seen config.stripes (list_at a.seen) class) (classes_seen config.stripes (list_at b.seen) class)
+    (classes_grow config.stripes (list_at a.seen) (list_at b.seen) grows.at class) earned
+
+-- ---- in the words of evidence
+
+-- none near a tail is of the stripe
+near_none : (site : Site) (stripes : ℕ) (seg : Seg) (history : List ClassEvent) → site.stripes ≡ stripes → IsNoneNear stripes (record { 0 = site.stripe }) seg history → NoneNear site (list_of (lists_of history) seg)
+near_none site stripes seg history same none = λ j few. by j few (from_tail (list_of (lists_of history) seg) j) refl
+  where
+    by : (j : ℕ) → j < 5 → (o : Option Entry) → from_tail (list_of (lists_of history) seg) j ≡ o → IfSome o (λ e. IsKeyOf site e.key → ⊥)
+    by j few None is = tt
+    by j few (Some e) is = λ of. none j e few is (ap (λ (n : ℕ). stripe_of e.key n) (sym same) ∙ of)
+
+-- a room that is none is no refusal
+pub earned_keep : (config : Config) (site : Site) (sight : Sight) (who : Who) (command : Command) (moment : ℕ) (reply : Reply) → IsEarned config site sight (record { who = who; command = command; moment = moment; reply = reply; room = rooms.Keep })
+earned_keep config site sight who command moment reply class place is = absurd (kept class place is)
+  where
+    kept : (class : ClassNo) (place : ℕ) → rooms.Keep ≡ rooms.Refused class place → ⊥
+    kept class place is = cc
+
+-- whatever was earned wasn't made at once
+pub earned_told : (config : Config) (site : Site) (sight : Sight) (who : Who) (command : Command) (moment : ℕ) (reply : Reply) (room : Room) → site.stripes ≡ config.stripes → IsEarnedIn config site.stripe who (key_of command) sight room
+    → IsEarned config site sight (record { who = who; command = command; moment = moment; reply = reply; room = room })
+earned_told config site sight who command moment reply rooms.Keep same earned = earned_keep config site sight who command moment reply
+earned_told config site sight who command moment reply (rooms.At link) same earned = λ class place is. absurd (at class place is)
+  where
+    at : (class : ClassNo) (place : ℕ) → rooms.At link ≡ rooms.Refused class place → ⊥
+    at class place is = cc
+earned_told config site sight who command moment reply (rooms.Refused own at) same earned = λ class place is. of class (same_class class place is)
+  where
+    same_class : (class : ClassNo) (place : ℕ) → rooms.Refused own at ≡ rooms.Refused class place → own ≡ class
+    same_class class place is = cc
+
+    did : Did
+    did = record { who = who; command = command; moment = moment; reply = reply; room = rooms.Refused own at }
+
+    IsSo : ClassNo → Type 0
+    IsSo class = Has entries.Refused (classes_seen config.stripes (list_at sight.seen) class) (λ behind e. IsRefusal class did behind e × (HasTried behind who (key_of command) ⊎ (NoneNear site (lists_of behind).cold × NoneNear site (lists_of behind).hot)))
+
+    searched : HasSearched config.stripes (record { 0 = site.stripe }) who (key_of command) earned.before → HasTried earned.before who (key_of command) ⊎ (NoneNear site (lists_of earned.before).cold × NoneNear site (lists_of earned.before).hot)
+    searched (inl tried) = inl tried
+    searched (inr none) = inr (near_none site config.stripes Cold earned.before same none.0, near_none site config.stripes Hot earned.before same none.1)
+
+    of : (class : ClassNo) → own ≡ class → IsSo class
+    of class is =
+        subst IsSo is (earned.before, record { who = who }, earned.refused, (record { who = refl; room = ap (λ (n : ℕ). rooms.Refused own n) earned.place_is }, searched earned.searched))
+
+-- and wasn't so for whoever has seen more
+pub told_sees : (config : Config) (site : Site) (a b : Sight) (did : Did) → Grows a b → IsEarned config site a did → IsEarned config site b did
+told_sees config site a b did grows earned = λ class.
+    let begins = classes_grow config.stripes (list_at a.seen) (list_at b.seen) grows.at class in
+    subst (λ (l : List ClassEvent). WasTried site class l did) begins.1 (tried_later site class (classes_seen config.stripes (list_at a.seen) class) begins.0 did (earned class))

@@ -1,0 +1,50 @@
+-- That a reply for want of a chunk was earned: the refusal that it cites stands behind a search by the same call (own).
+use Rattle.std.specs.Prelude.{◌≡◌, ◌⊎◌, ℕ, List, length}
+use Rattle.mc_item.specs.Measure.{stripe_of}
+use Rattle.mc_item.specs.Stripe.{IsAlive}
+use Rattle.mc_item.specs.declared.answer.Site.{Site}
+use Rattle.mc_item.specs.declared.class_event.ClassEvent.{ClassEvent}
+use Rattle.mc_item.specs.declared.config.Config.{Config}
+use Rattle.mc_item.specs.declared.item.ClassNo.{ClassNo}
+use Rattle.mc_item.specs.declared.item.StripeNo.{StripeNo}
+use Rattle.mc_item.specs.declared.item.Who.{Who}
+use Rattle.mc_item.specs.declared.lists.Seg.TheVariants.{Hot, Cold}
+use Rattle.mc_item.specs.declared.reply.Room.{Room}
+use Rattle.mc_item.specs.declared.reply.Room.TheVariants as rooms
+use Rattle.mc_item.specs.declared.stripe_event.Did.{Did}
+use Rattle.mc_rule.specs.Places.{Stands}
+use Rattle.mc_evidence.specs.Refusals.{HasTried, WasTried}
+use Rattle.mc_evidence.specs.Seen.{classes_seen}
+use Rattle.mc_board.specs.Histories.{list_at}
+use Rattle.mc_board.specs.declared.rule.Sight.{Sight}
+use Rattle.mc_segment.specs.ClassCalls.{refused_event}
+use Rattle.mc_stripe.specs.StripeState.{Stripe, cache_now}
+use Rattle.mc_pull.specs.Tried.{IsNoneNear}
+
+-- a call for a key of a stripe has searched a class for a chunk: it took or moved an entry, or reclaimed one of another key; or
+-- none of the five entries nearest COLD's tail, and none of the five nearest HOT's, has a key of the stripe
+abbrev pub HasSearched : ℕ → StripeNo → Who → List ℕ → List ClassEvent → Type 0
+HasSearched stripes number who key history = HasTried history who key ⊎ (IsNoneNear stripes number Cold history × IsNoneNear stripes number Hot history)
+
+-- a call has searched so for each key of a stripe whose item isn't dead at a moment
+abbrev pub HasSearchedForAny : ℕ → Stripe → Who → ℕ → List ClassEvent → Type 0
+HasSearchedForAny stripes s who moment history =
+    (key : List ℕ) → stripe_of key stripes ≡ record { 0 = s.site.stripe } → IsAlive ((cache_now s).items key) moment
+    → HasSearched stripes (record { 0 = s.site.stripe }) who key history
+
+-- the event at a place of a class's history, as it is seen, is a refusal of this call, which had searched before it
+pub record IsEarnedAt (stripes : ℕ) (number : StripeNo) (who : Who) (key : List ℕ) (place : ℕ) (seen : List ClassEvent) : Type 0 where
+  pub before : List ClassEvent
+  pub refused : Stands seen before (refused_event who)
+  pub place_is : place ≡ length before
+  pub searched : HasSearched stripes number who key before
+
+-- where a room is a refusal, that is such an event, by what is seen of its class
+abbrev pub IsEarnedIn : Config → ℕ → Who → List ℕ → Sight → Room → Type 0
+IsEarnedIn config number who key sight (rooms.Refused class place) = IsEarnedAt config.stripes (record { 0 = number }) who key place (classes_seen config.stripes (list_at sight.seen) class)
+IsEarnedIn config number who key sight (rooms.At link) = Unit {0}
+IsEarnedIn config number who key sight rooms.Keep = Unit {0}
+
+-- a refusal that a command of a stripe cites wasn't made at once, by what is seen of its class
+abbrev pub IsEarned : Config → Site → Sight → Did → Type 0
+IsEarned config site sight did = (class : ClassNo) → WasTried site class (classes_seen config.stripes (list_at sight.seen) class) did

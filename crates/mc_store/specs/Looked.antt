@@ -1,0 +1,51 @@
+-- What a walker leaves by a gate that has one stripe at hand (own).
+use Rattle.std.specs.Prelude.{◌≡◌, ◌≢◌, ◌++◌, ◌∷◌, [], ℕ, List, IsSomeAnd}
+use Rattle.mc_item.specs.Measure.{stripe_of}
+use Rattle.mc_item.specs.Stripe.{IsAlive}
+use Rattle.mc_item.specs.declared.class_event.ClassEvent.{ClassEvent}
+use Rattle.mc_item.specs.declared.class_event.ClassEvent.TheVariants as events
+use Rattle.mc_item.specs.declared.item.Who.{Who}
+use Rattle.mc_rule.specs.Lists.{found, lists_of}
+use Rattle.mc_segment.specs.ClassState.{ClassView}
+use Rattle.mc_stripe.specs.StripeState.{Stripe, cache_now}
+use Rattle.mc_pull.specs.declared.judge.Done.TheVariants as done
+use Rattle.mc_pull.specs.declared.looking.Answer.{Answer}
+use Rattle.mc_pull.specs.declared.looking.Judged.{Judged}
+use Rattle.mc_pull.specs.Judgement.{done_of}
+use Rattle.mc_pull.specs.Question.{Question}
+use Rattle.mc_pull.specs.Tried.{AreHad}
+use Rattle.mc_pull.specs.Walker.{Walker}
+
+-- what was done with an entry is what this stripe tells of it, to which it is no stranger
+pub record IsKnown (c : ClassView) (s : Stripe) (q : Question) (j : Judged) : Type 0 where
+  pub done_is : j.done ≡ done_of c (cache_now s) q
+  pub known : j.done ≢ done.Stranger
+
+-- a walker walks for this call, at this moment
+abbrev pub IsOfCall : Walker → Who → ℕ → Type 0
+IsOfCall w who moment = (w.who ≡ who) × (w.moment ≡ moment)
+
+-- where a class's event reclaims an entry, that had another key
+abbrev pub IsOfOther : List ℕ → List ClassEvent → ClassEvent → Type 0
+IsOfOther key before (events.Reclaimed e) = IsSomeAnd (found e.number (lists_of before)) (λ there. there.1.key ≢ key)
+IsOfOther key before (events.Evicted e) = Unit {0}
+IsOfOther key before (events.Shifted e) = Unit {0}
+IsOfOther key before (events.Linked e) = Unit {0}
+IsOfOther key before (events.Unlinked e) = Unit {0}
+IsOfOther key before (events.Surveyed e) = Unit {0}
+IsOfOther key before (events.Refused e) = Unit {0}
+
+-- each of these events behind a history, that reclaims an entry, was of another key
+abbrev pub AreOfOthers : List ℕ → List ClassEvent → List ClassEvent → Type 0
+AreOfOthers key before [] = Unit {0}
+AreOfOthers key before (e ∷ es) = IsOfOther key before e × AreOfOthers key (before ++ e ∷ []) es
+
+-- a walker by a gate with a stripe at hand has these answers and events more: wherever the stripe was asked for it was had,
+-- and knew the entry; and no entry of a key of the stripe was reclaimed that has no dead item
+pub record HasLooked (stripes : ℕ) (w : Walker) (s : Stripe) (xs xs_new : List Answer) (history history_new : List ClassEvent) : Type 0 where
+  pub answers : List Answer
+  pub answers_are : xs_new ≡ xs ++ answers
+  pub had : AreHad (record { 0 = s.site.stripe }) answers
+  pub events : List ClassEvent
+  pub history_is : history_new ≡ history ++ events
+  pub others : (key : List ℕ) → stripe_of key stripes ≡ record { 0 = s.site.stripe } → IsAlive ((cache_now s).items key) w.moment → AreOfOthers key history events
