@@ -1,44 +1,18 @@
 //! Threads that count on the same keys: no count is lost, and each thread's own numbers rise.
-ghost use Rattle.std.specs.Prelude.{◌≡◌, IfOk, length};
-ghost use Rattle.mc_item.specs.Config.{IsBounded, IsSound};
-ghost use Rattle.mc_board.specs.Histories.{blind};
-ghost use Rattle.mc_board.specs.Views.{locks_of, AreOwners};
-ghost use Rattle.mc_store.specs.Locked.{histories_for};
+ghost use Rattle.std.specs.Prelude.{◌≡◌, length};
+ghost use Rattle.mc_store_tests.specs.Opening.{AreParts};
 
-use super::running::{get, key, set, told};
-use super::{board_for, checked};
-use mc_board::{Board, Owner, Seen};
-use mc_item::{Command, Config, Numbers, Reply};
+use super::asking::{ask, check_reply, get, incr, set};
+use super::opening::{Parts, opened, parts_for, two_classes};
+use mc_item::Reply;
 use mc_store::{Named, Pass, Store};
 use std::alloc::Global;
-use std::hash::RandomState;
 use std::marker::Brand;
 use std::process::Abort;
 use std::random::RandomSource;
 use std::sync::Wait;
-use std::test::Fail;
 use std::thread;
 use std::thread::Threads;
-
-// So many stripes, so many callers, and two classes of 96 and of 120 bytes with these many chunks.
-pub(super) fn shared(
-    alloc: Global,
-    stripes: u32,
-    chunks: [u64; 2],
-    callers: u32,
-) -> Result<Config, Fail>
-    ensures { IfOk result (λ config. (config.stripes ≡ stripes) × (length config.sizes ≡ 2) × (config.callers ≡ callers)) }
-{
-    let sizes = Numbers::from_vec(Vec::from_slice(alloc, &[96, 120])?);
-    let chunks = Numbers::from_vec(Vec::from_slice(alloc, &chunks)?);
-    let usual = Config::usual(alloc, callers)?;
-    Ok(Config {
-        stripes,
-        sizes,
-        chunks,
-        ..usual
-    })
-}
 
 // A number that a thread was answered, and the letter of its key.
 #[derive(Clone, Copy)]
@@ -47,7 +21,32 @@ struct Number {
     number: u64,
 }
 
-// Adds one to each key, 500 times: the numbers, as they were answered. What is no number is 0.
+// The number that is answered. What is no number is 0.
+fn number_of(reply: &Reply) -> u64 {
+    match reply {
+        Reply::Number(number) => *number,
+        _ => 0,
+    }
+}
+
+// Adds one to the key of one letter, and notes the number.
+fn add_one<N: Named, R: Abort + Wait>(
+    rt: &R,
+    alloc: Global,
+    store: &Store<N>,
+    pass: &mut Pass<N>,
+    letter: u8,
+    counts: &mut Vec<Number>,
+) {
+    let reply = ask(rt, alloc, store, pass, incr(rt, alloc, letter, 1), 1000);
+    let number = number_of(&reply);
+    counts
+        .push(Number { letter, number })
+        .ok()
+        .expect(rt, "room for a number");
+}
+
+// Adds one to each key, 500 times: the numbers, as they were answered.
 fn count<N: Named, R: Abort + Wait>(
     rt: &R,
     alloc: Global,
@@ -59,17 +58,7 @@ fn count<N: Named, R: Abort + Wait>(
     let mut counts = Vec::new(alloc);
     for _ in 0..500 {
         for letter in letters {
-            let add = Command::Incr(key(rt, alloc, *letter), 1);
-            let reply = store.command(alloc, rt, &mut pass, add, 1000);
-            let number = match reply.expect(rt, "a number") {
-                Reply::Number(number) => number,
-                _ => 0,
-            };
-            let letter = *letter;
-            counts
-                .push(Number { letter, number })
-                .ok()
-                .expect(rt, "room for a number");
+            add_one(rt, alloc, store, &mut pass, *letter, &mut counts);
         }
     }
     counts
@@ -84,77 +73,29 @@ fn set_zeros<N: Named, R: Abort + Wait>(
     letters: &[u8],
 ) {
     for letter in letters {
-        let zeros = set(rt, alloc, *letter, b"0000");
-        store
-            .command(alloc, rt, pass, zeros, 1000)
-            .expect(rt, "stored");
+        ask(
+            rt,
+            alloc,
+            store,
+            pass,
+            set(rt, alloc, *letter, b"0000"),
+            1000,
+        );
     }
 }
 
-// Reads each key.
-fn read<N: Named, R: Abort + Wait>(
+// Ends the test where a key's value isn't 2000.
+fn check_sums<N: Named, R: Abort + Wait>(
     rt: &R,
     alloc: Global,
     store: &Store<N>,
     pass: &mut Pass<N>,
     letters: &[u8],
-) -> Vec<Reply> {
-    let mut replies = Vec::new(alloc);
+) {
     for letter in letters {
-        let shown = get(rt, alloc, *letter);
-        let reply = store.command(alloc, rt, pass, shown, 1000);
-        replies
-            .push(reply.expect(rt, "a value"))
-            .ok()
-            .expect(rt, "room for a value");
+        let reply = ask(rt, alloc, store, pass, get(rt, alloc, *letter), 1000);
+        check_reply(rt, alloc, &reply, "0 2000");
     }
-    replies
-}
-
-// What was counted: each thread's numbers, and in the end each key's item.
-#[derive(Drop)]
-struct Counts {
-    threads: Vec<Vec<Number>>,
-    replies: Vec<Reply>,
-}
-
-// Sets each key, lets four threads count, and reads each key.
-fn counted<N: Named + Send + Sync, R: Threads + Abort + Wait + Sync>(
-    rt: &R,
-    alloc: Global,
-    config: Config,
-    board: Board,
-    owners: Vec<Owner>,
-    seen: Seen,
-    seed: RandomState,
-    letters: &[u8],
-) -> Result<Counts, Fail>
-    requires board { board ≡ N.board }
-    requires config { (config ≡ N.config) × IsBounded N.config × IsSound N.config }
-    requires five { N.config.callers ≡ 5 }
-    requires locks { locks_of N.board.counts ≡ histories_for N.config }
-    requires owners { AreOwners N.board.table (histories_for N.config) owners.items }
-    requires seen { seen ≡ record { board = N.board.table; sight = blind } }
-{
-    let (store, mut passes) = Store::<N>::open(alloc, config, board, owners, seen, seed)?;
-    let mut pass = passes.pop().unwrap();
-    set_zeros(rt, alloc, &store, &mut pass, letters);
-    let threads = thread::map_vec(rt, passes, &|own| count(rt, alloc, &store, own, letters))?;
-    let replies = read(rt, alloc, &store, &mut pass, letters);
-    Ok(Counts { threads, replies })
-}
-
-// What four threads count on a new store of so many stripes.
-fn run<R: Threads + Abort + Wait + RandomSource + Sync>(
-    rt: &R,
-    alloc: Global,
-    stripes: u32,
-    letters: &[u8],
-) -> Result<Counts, Fail> {
-    let config = checked(shared(alloc, stripes, [8, 8], 5)?)?;
-    let (board, owners, seen) = board_for(alloc, &config)?;
-    let seed = RandomState::new(rt)?;
-    counted::<Brand, R>(rt, alloc, config, board, owners, seen, seed, letters)
 }
 
 // Whether each number is larger than the one before.
@@ -170,70 +111,94 @@ fn is_rising(numbers: &[u64]) -> bool {
 }
 
 // The numbers of one key.
-fn numbers_of(alloc: Global, counts: &Vec<Number>, letter: u8) -> Result<Vec<u64>, Fail> {
+fn numbers_of<R: Abort>(rt: &R, alloc: Global, counts: &Vec<Number>, letter: u8) -> Vec<u64> {
     let mut numbers = Vec::new(alloc);
     for count in counts {
         if count.letter == letter {
-            numbers.push(count.number)?;
+            numbers
+                .push(count.number)
+                .ok()
+                .expect(rt, "room for a number");
         }
     }
-    Ok(numbers)
+    numbers
+}
+
+// Adds a thread's numbers of a key to all of them, and ends the test where they don't rise.
+fn check_rise<R: Abort>(
+    rt: &R,
+    alloc: Global,
+    counts: &Vec<Number>,
+    letter: u8,
+    all: &mut Vec<u64>,
+) {
+    let numbers = numbers_of(rt, alloc, counts, letter);
+    assert_eq!(rt; numbers.len(), 500);
+    assert!(rt; is_rising(numbers.as_slice()));
+    all.extend_from_slice(numbers.as_slice())
+        .expect(rt, "room for all");
+}
+
+// Ends the test where the numbers aren't those from 1 to 2000, each once.
+fn check_all<R: Abort>(rt: &R, all: &[u64]) {
+    assert_eq!(rt; all.len(), 2000);
+    let mut wanted = 0u64;
+    for number in all {
+        wanted = wanted.wrapping_add(1);
+        assert_eq!(rt; *number, wanted);
+    }
 }
 
 // Ends the test where a thread's numbers of a key don't rise, or where the threads' numbers of it aren't those from 1 to
 // 2000, each once.
-fn check_counts<R: Abort>(
-    rt: &R,
-    alloc: Global,
-    threads: &Vec<Vec<Number>>,
-    letter: u8,
-) -> Result<(), Fail> {
+fn check_counts<R: Abort>(rt: &R, alloc: Global, threads: &Vec<Vec<Number>>, letter: u8) {
     let mut all = Vec::new(alloc);
     for counts in threads {
-        let numbers = numbers_of(alloc, counts, letter)?;
-        assert_eq!(rt; numbers.len(), 500);
-        assert!(rt; is_rising(numbers.as_slice()));
-        all.extend_from_slice(numbers.as_slice())?;
+        check_rise(rt, alloc, counts, letter, &mut all);
     }
-    all.sort()?;
-    assert_eq!(rt; all.len(), 2000);
-    let mut wanted = 0u64;
-    for number in &all {
-        wanted = wanted.wrapping_add(1);
-        assert_eq!(rt; *number, wanted);
-    }
-    Ok(())
+    all.sort().expect(rt, "room to sort");
+    check_all(rt, all.as_slice());
 }
 
-// Ends the test where a key's value isn't 2000.
-fn check_sums<R: Abort>(rt: &R, alloc: Global, replies: Vec<Reply>) -> Result<(), Fail> {
-    for reply in replies {
-        let line = told(alloc, reply)?;
-        assert_eq!(rt; line.as_str(), "0 2000");
+// Sets each key, lets four threads count, and ends the test where that doesn't add up.
+fn count_on<N: Named + Send + Sync, R: Threads + Abort + Wait + Sync>(
+    rt: &R,
+    alloc: Global,
+    parts: Parts,
+    letters: &[u8],
+)
+    requires named { (parts.board ≡ N.board) × (parts.config ≡ N.config) }
+    requires fit { AreParts N.board N.config parts.owners.items parts.seen }
+{
+    let (store, mut passes) = opened::<N, R>(rt, alloc, parts);
+    let mut pass = passes.pop().expect(rt, "a pass");
+    set_zeros(rt, alloc, &store, &mut pass, letters);
+    let threads = thread::map_vec(rt, passes, &|own| count(rt, alloc, &store, own, letters)).expect(
+        rt,
+        "room for threads",
+    );
+    check_sums(rt, alloc, &store, &mut pass, letters);
+    assert_eq!(rt; threads.len(), 4);
+    for letter in letters {
+        check_counts(rt, alloc, &threads, *letter);
     }
-    Ok(())
 }
 
 // Ends the test where what four threads count on a new store of so many stripes doesn't add up.
-fn check_run<R: Threads + Abort + Wait + RandomSource + Sync>(
+fn run<R: Threads + Abort + Wait + RandomSource + Sync>(
     rt: &R,
     alloc: Global,
     stripes: u32,
     letters: &[u8],
-) -> Result<(), Fail> {
-    let Counts { threads, replies } = run(rt, alloc, stripes, letters)?;
-    assert_eq!(rt; threads.len(), 4);
-    assert_eq!(rt; replies.len(), letters.len());
-    check_sums(rt, alloc, replies)?;
-    for letter in letters {
-        check_counts(rt, alloc, &threads, *letter)?;
-    }
-    Ok(())
+) {
+    let config = two_classes(rt, alloc, stripes, [8, 8], 5);
+    let parts = parts_for(rt, alloc, config);
+    count_on::<Brand, R>(rt, alloc, parts, letters);
 }
 
 // Four threads add 500 times one to a key, and then to each of four keys, one of each stripe.
 #[test]
-fn counters_of_four_threads_add_up(rt: HostRuntime) -> Result<(), Fail> {
-    check_run(&rt, rt.alloc(), 1, b"a")?;
-    check_run(&rt, rt.alloc(), 4, b"abcd")
+fn counters_of_four_threads_add_up(rt: HostRuntime) {
+    run(&rt, rt.alloc(), 1, b"a");
+    run(&rt, rt.alloc(), 4, b"abcd");
 }

@@ -1,7 +1,7 @@
 //! Commands that are drawn: each run of a test draws the same ones.
 ghost use Rattle.std.specs.Prelude.{◌<◌};
 
-use super::running::{key, store};
+use super::asking::{key, store};
 use mc_item::{Command, Key, Verb};
 use std::alloc::Global;
 use std::process::Abort;

@@ -1,23 +1,18 @@
 //! A stripe's lock stands alone: what is answered while one stripe of four is held, of which `a` is stripe 0 and `b`
 //! stripe 1.
-ghost use Rattle.std.specs.Prelude.{◌≡◌};
-ghost use Rattle.mc_item.specs.Config.{IsBounded, IsSound};
-ghost use Rattle.mc_board.specs.Histories.{blind};
-ghost use Rattle.mc_board.specs.Views.{locks_of, AreOwners};
-ghost use Rattle.mc_store.specs.Locked.{histories_for};
+ghost use Rattle.std.specs.Prelude.{◌≡◌, length};
+ghost use Rattle.mc_store_tests.specs.Opening.{AreParts};
 
-use super::running::{compare, get, key, set, told};
-use super::{board_for, checked, four_stripes, is_set_in_time};
-use mc_board::{Board, Owner, Seen};
-use mc_item::{Command, Config, Reply, StripeNo};
+use super::asking::{ask, check_reply, get, incr, set};
+use super::is_set_in_time;
+use super::opening::{Parts, four_stripes, opened};
+use mc_item::StripeNo;
 use mc_store::{Named, Pass, Store};
 use std::alloc::Global;
-use std::hash::RandomState;
 use std::marker::Brand;
 use std::process::Abort;
 use std::sync::Wait;
 use std::sync::atomic::{AtomicBool, Ordering};
-use std::test::Fail;
 use std::thread;
 use std::thread::Threads;
 
@@ -48,20 +43,15 @@ fn ask_another<N: Named, R: Abort + Wait>(
     store: &Store<N>,
     pass: &mut Pass<N>,
     signs: &Signs,
-) -> (Reply, Reply, Reply) {
+) {
     assert!(rt; is_set_in_time(&signs.held));
-    let stored = store
-        .command(alloc, rt, pass, set(rt, alloc, b'b', b"1"), 1000)
-        .expect(rt, "stored");
-    let add = Command::Incr(key(rt, alloc, b'b'), 5);
-    let added = store
-        .command(alloc, rt, pass, add, 1000)
-        .expect(rt, "a number");
-    let shown = store
-        .command(alloc, rt, pass, get(rt, alloc, b'b'), 1000)
-        .expect(rt, "a value");
+    let stored = ask(rt, alloc, store, pass, set(rt, alloc, b'b', b"1"), 1000);
+    check_reply(rt, alloc, &stored, "Stored");
+    let added = ask(rt, alloc, store, pass, incr(rt, alloc, b'b', 5), 1000);
+    check_reply(rt, alloc, &added, "Number(6)");
+    let shown = ask(rt, alloc, store, pass, get(rt, alloc, b'b'), 1000);
+    check_reply(rt, alloc, &shown, "0 6");
     signs.other.store(true, Ordering::SeqCst);
-    (stored, added, shown)
 }
 
 // Asks for `a` while stripe 0 is held, and says so once it is answered.
@@ -71,60 +61,11 @@ fn ask_the_same<N: Named, R: Abort + Wait>(
     store: &Store<N>,
     pass: &mut Pass<N>,
     signs: &Signs,
-) -> Reply {
+) {
     assert!(rt; is_set_in_time(&signs.held));
-    let reply = store
-        .command(alloc, rt, pass, get(rt, alloc, b'a'), 1000)
-        .expect(rt, "a miss");
+    let reply = ask(rt, alloc, store, pass, get(rt, alloc, b'a'), 1000);
     signs.same.store(true, Ordering::SeqCst);
-    reply
-}
-
-// What was seen from under the lock of stripe 0, and what the two other threads were answered.
-#[derive(Drop)]
-struct Held {
-    other: bool,
-    same: bool,
-    answers: (Reply, Reply, Reply),
-    reply: Reply,
-}
-
-// One thread holds stripe 0, and two ask for another key and for one of its own.
-fn asked_under_a_lock<N: Named + Send + Sync, R: Threads + Abort + Wait + Sync>(
-    rt: &R,
-    alloc: Global,
-    config: Config,
-    board: Board,
-    owners: Vec<Owner>,
-    seen: Seen,
-    seed: RandomState,
-) -> Result<Held, Fail>
-    requires board { board ≡ N.board }
-    requires config { (config ≡ N.config) × IsBounded N.config × IsSound N.config }
-    requires parts { (N.config.stripes ≡ 4) × (N.config.callers ≡ 3) }
-    requires locks { locks_of N.board.counts ≡ histories_for N.config }
-    requires owners { AreOwners N.board.table (histories_for N.config) owners.items }
-    requires seen { seen ≡ record { board = N.board.table; sight = blind } }
-{
-    let (store, mut passes) = Store::<N>::open(alloc, config, board, owners, seen, seed)?;
-    let mut first = passes.pop().unwrap();
-    let mut second = passes.pop().unwrap();
-    let signs = Signs {
-        held: AtomicBool::new(false),
-        other: AtomicBool::new(false),
-        same: AtomicBool::new(false),
-    };
-    let ((other, same), (answers, reply)) = thread::join(
-        rt,
-        || hold(rt, &store, &signs),
-        || ask_both(rt, alloc, &store, &mut first, &mut second, &signs),
-    );
-    Ok(Held {
-        other,
-        same,
-        answers,
-        reply,
-    })
+    check_reply(rt, alloc, &reply, "Miss");
 }
 
 // Two threads ask, one for `b` and one for `a`.
@@ -135,33 +76,60 @@ fn ask_both<N: Named + Send + Sync, R: Threads + Abort + Wait + Sync>(
     first: &mut Pass<N>,
     second: &mut Pass<N>,
     signs: &Signs,
-) -> ((Reply, Reply, Reply), Reply) {
+) {
     thread::join(
         rt,
         || ask_another(rt, alloc, store, first, signs),
         || ask_the_same(rt, alloc, store, second, signs),
-    )
+    );
+}
+
+// One thread holds stripe 0, and two ask for another key and for one of its own: whether the first was answered in time, and
+// whether the second was before the lock was let go.
+fn asked_under_a_lock<N: Named + Send + Sync, R: Threads + Abort + Wait + Sync>(
+    rt: &R,
+    alloc: Global,
+    store: &Store<N>,
+    first: &mut Pass<N>,
+    second: &mut Pass<N>,
+) -> (bool, bool)
+    requires { N.config.stripes ≡ 4 }
+{
+    let signs = Signs {
+        held: AtomicBool::new(false),
+        other: AtomicBool::new(false),
+        same: AtomicBool::new(false),
+    };
+    let (held, ()) = thread::join(
+        rt,
+        || hold(rt, store, &signs),
+        || ask_both(rt, alloc, store, first, second, &signs),
+    );
+    held
+}
+
+// Ends the test where commands on another stripe of a new store aren't answered while one is held, or those on it are.
+fn ask_under_a_lock<N: Named + Send + Sync, R: Threads + Abort + Wait + Sync>(
+    rt: &R,
+    alloc: Global,
+    parts: Parts,
+)
+    requires named { (parts.board ≡ N.board) × (parts.config ≡ N.config) }
+    requires fit { AreParts N.board N.config parts.owners.items parts.seen }
+    requires four { N.config.stripes ≡ 4 }
+{
+    let (store, mut passes) = opened::<N, R>(rt, alloc, parts);
+    let mut first = passes.pop().expect(rt, "a pass");
+    let mut second = passes.pop().expect(rt, "a pass");
+    let (other, same) = asked_under_a_lock(rt, alloc, &store, &mut first, &mut second);
+    assert!(rt; other);
+    assert!(rt; !same);
 }
 
 // While one stripe is held commands on another are answered, and those on it wait.
 #[test]
-fn another_stripe_answers_while_one_is_held(rt: HostRuntime) -> Result<(), Fail> {
+fn another_stripe_answers_while_one_is_held(rt: HostRuntime) {
     let alloc = rt.alloc();
-    let config = checked(four_stripes(alloc)?)?;
-    let (board, owners, seen) = board_for(alloc, &config)?;
-    let seed = RandomState::new(&rt)?;
-    let Held {
-        other,
-        same,
-        answers: (stored, added, shown),
-        reply,
-    } = asked_under_a_lock::<Brand, HostRuntime>(&rt, alloc, config, board, owners, seen, seed)?;
-    assert!(rt; other);
-    assert!(rt; !same);
-    let mut lines = Vec::new(alloc);
-    for answer in vec![in alloc; stored, added, shown, reply]? {
-        lines.push(told(alloc, answer)?)?;
-    }
-    compare(&rt, &lines, &["Stored", "Number(6)", "0 6", "Miss"]);
-    Ok(())
+    let parts = four_stripes(&rt, alloc);
+    ask_under_a_lock::<Brand, HostRuntime>(&rt, alloc, parts);
 }

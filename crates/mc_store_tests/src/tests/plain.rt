@@ -1,8 +1,8 @@
 //! A plain memcached of one stripe, by protocol.txt: a list of items, which takes one event after another and says of each
 //! whether it may happen.
-use mc_item::{Cause, Command, Cooled, Did, Key, Lost, Reply, Room, StripeEvent, Value, Verb};
+use mc_item::{Cause, Command, Reply, Value, Verb};
 use std::alloc::Global;
-use std::test::Fail;
+use std::process::Abort;
 
 /// The bytes that the largest chunk has for a key and its value: 120, less 64 for the item's head.
 const LARGEST: usize = 56;
@@ -69,6 +69,20 @@ fn number_in(value: &[u8]) -> Option<u64> {
     if has_digits { Some(number) } else { None }
 }
 
+// A copy of bytes.
+fn copied<R: Abort>(rt: &R, alloc: Global, bytes: &[u8]) -> Vec<u8> {
+    Vec::from_slice(alloc, bytes).expect(rt, "a copy")
+}
+
+// The digits of a number, and spaces up to this length.
+fn numeral<R: Abort>(rt: &R, alloc: Global, number: u64, len: usize) -> Vec<u8> {
+    let mut text = number.to_string(alloc).expect(rt, "digits").into_bytes();
+    for _ in text.len()..len {
+        text.push(b' ').ok().expect(rt, "room for a space");
+    }
+    text
+}
+
 // Whether no chunk is large enough.
 fn is_too_large(key: &[u8], len: usize) -> bool {
     key.len().saturating_add(len) > LARGEST
@@ -100,14 +114,13 @@ impl Plain {
         Some(self.items.remove(place))
     }
 
+    // Adds an item.
+    fn add<R: Abort>(&mut self, rt: &R, kept: Kept) {
+        self.items.push(kept).ok().expect(rt, "room for an item");
+    }
+
     // A new version of a key's item. The n-th of stripe s of S has the cas number n * S + s + 1.
-    fn put(
-        &mut self,
-        key: &[u8],
-        flags: u32,
-        value: Vec<u8>,
-        end: Option<u64>,
-    ) -> Result<(), Fail> {
+    fn put<R: Abort>(&mut self, rt: &R, key: &[u8], flags: u32, value: Vec<u8>, end: Option<u64>) {
         let cas = self
             .versions
             .wrapping_mul(self.stripes)
@@ -115,25 +128,28 @@ impl Plain {
             .wrapping_add(1);
         self.versions = self.versions.wrapping_add(1);
         let _ = self.take(key);
-        self.items.push(Kept {
-            key: Vec::from_slice(self.alloc, key)?,
-            flags,
-            value,
-            end,
-            cas,
-        })?;
-        Ok(())
+        let key = copied(rt, self.alloc, key);
+        self.add(
+            rt,
+            Kept {
+                key,
+                flags,
+                value,
+                end,
+                cas,
+            },
+        );
     }
 
     // "Retrieval command".
-    fn get(&self, key: &[u8]) -> Result<Reply, Fail> {
+    fn get<R: Abort>(&self, rt: &R, key: &[u8]) -> Reply {
         match self.find(key) {
-            None => Ok(Reply::Miss),
-            Some(kept) => Ok(Reply::Value {
+            None => Reply::Miss,
+            Some(kept) => Reply::Value {
                 flags: kept.flags,
-                value: Value::from_vec(Vec::from_slice(self.alloc, kept.value.as_slice())?),
+                value: Value::from_vec(copied(rt, self.alloc, kept.value.as_slice())),
                 cas: kept.cas,
-            }),
+            },
         }
     }
 
@@ -165,36 +181,44 @@ impl Plain {
     }
 
     // "Storage commands"; the value is a new item's.
-    fn store(
+    fn store<R: Abort>(
         &mut self,
+        rt: &R,
         verb: Verb,
         key: &[u8],
         flags: u32,
         end: Option<u64>,
         value: &[u8],
         refused: bool,
-    ) -> Result<Reply, Fail> {
+    ) -> Reply {
         if is_too_large(key, value.len()) {
-            return Ok(self.failed(verb, key, Reply::TooLarge));
+            return self.failed(verb, key, Reply::TooLarge);
         }
         if let Some(reply) = self.unmet(verb, key) {
-            return Ok(reply);
+            return reply;
         }
         if refused {
-            return Ok(self.failed(verb, key, Reply::NoRoom));
+            return self.failed(verb, key, Reply::NoRoom);
         }
-        self.put(key, flags, Vec::from_slice(self.alloc, value)?, end)?;
-        Ok(Reply::Stored)
+        self.put(rt, key, flags, copied(rt, self.alloc, value), end);
+        Reply::Stored
     }
 
     // "Increment/Decrement": the number wraps upwards and stops at 0 downwards; where it isn't longer than the old value,
     // spaces fill the rest.
-    fn count(&mut self, key: &[u8], up: bool, delta: u64, refused: bool) -> Result<Reply, Fail> {
+    fn count<R: Abort>(
+        &mut self,
+        rt: &R,
+        key: &[u8],
+        up: bool,
+        delta: u64,
+        refused: bool,
+    ) -> Reply {
         let Some(kept) = self.find(key) else {
-            return Ok(Reply::NotFound);
+            return Reply::NotFound;
         };
         let Some(old) = number_in(kept.value.as_slice()) else {
-            return Ok(Reply::NonNumeric);
+            return Reply::NonNumeric;
         };
         let number = if up {
             old.wrapping_add(delta)
@@ -204,24 +228,21 @@ impl Plain {
         let len = kept.value.len();
         let flags = kept.flags;
         let end = kept.end;
-        let mut text = number.to_string(self.alloc)?.into_bytes();
+        let text = numeral(rt, self.alloc, number, len);
         if text.len() > len && (refused || is_too_large(key, text.len())) {
-            return Ok(Reply::NoSpace);
+            return Reply::NoSpace;
         }
-        for _ in text.len()..len {
-            text.push(b' ')?;
-        }
-        self.put(key, flags, text, end)?;
-        Ok(Reply::Number(number))
+        self.put(rt, key, flags, text, end);
+        Reply::Number(number)
     }
 
     // "Touch".
-    fn touch(&mut self, key: &[u8], end: Option<u64>) -> Result<Reply, Fail> {
+    fn touch<R: Abort>(&mut self, rt: &R, key: &[u8], end: Option<u64>) -> Reply {
         match self.take(key) {
-            None => Ok(Reply::NotFound),
+            None => Reply::NotFound,
             Some(kept) => {
-                self.items.push(Kept { end, ..kept })?;
-                Ok(Reply::Touched)
+                self.add(rt, Kept { end, ..kept });
+                Reply::Touched
             }
         }
     }
@@ -244,16 +265,17 @@ impl Plain {
     }
 
     /// What a command is answered at a moment, and where it needs a chunk, whether none was to be had.
-    pub(super) fn answer(
+    pub(super) fn answer<R: Abort>(
         &mut self,
+        rt: &R,
         command: &Command,
         moment: u64,
         refused: bool,
-    ) -> Result<Reply, Fail> {
+    ) -> Reply {
         let key = command.key().bytes();
         self.bury(key, moment);
         match command {
-            Command::Get(_) => self.get(key),
+            Command::Get(_) => self.get(rt, key),
             Command::Store {
                 verb,
                 flags,
@@ -262,13 +284,13 @@ impl Plain {
                 ..
             } => {
                 let end = end_of(*exptime, moment);
-                self.store(*verb, key, *flags, end, value.bytes(), refused)
+                self.store(rt, *verb, key, *flags, end, value.bytes(), refused)
             }
-            Command::Huge { verb, .. } => Ok(self.failed(*verb, key, Reply::TooLarge)),
-            Command::Incr(_, delta) => self.count(key, true, *delta, refused),
-            Command::Decr(_, delta) => self.count(key, false, *delta, refused),
-            Command::Touch(_, exptime) => self.touch(key, end_of(*exptime, moment)),
-            Command::Delete(_) => Ok(self.delete(key)),
+            Command::Huge { verb, .. } => self.failed(*verb, key, Reply::TooLarge),
+            Command::Incr(_, delta) => self.count(rt, key, true, *delta, refused),
+            Command::Decr(_, delta) => self.count(rt, key, false, *delta, refused),
+            Command::Touch(_, exptime) => self.touch(rt, key, end_of(*exptime, moment)),
+            Command::Delete(_) => self.delete(key),
         }
     }
 

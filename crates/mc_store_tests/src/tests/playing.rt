@@ -1,6 +1,7 @@
 //! Threads that work on a shared store: some make drawn commands, one juggles its classes and one crawls them.
 ghost use Rattle.std.specs.Prelude.{◌≡◌, length};
 
+use super::asking;
 use super::dice::{Dice, Shown};
 use mc_item::{ClassNo, Command, Reply};
 use mc_store::{Named, Pass, Store};
@@ -17,7 +18,7 @@ pub(super) const PLAYERS: u32 = 4;
 pub(super) const COMMANDS: u64 = 2000;
 
 /// No command has a later moment.
-const LAST_MOMENT: u64 = 100_000;
+const LAST_MOMENT: u32 = 100_000;
 
 /// The juggler and the crawler give up after so many rounds, and so end in any case.
 const ROUNDS: u32 = 20_000;
@@ -26,7 +27,7 @@ const ROUNDS: u32 = 20_000;
 #[derive(Drop)]
 pub(super) struct Call {
     pub(super) command: Command,
-    pub(super) moment: u64,
+    pub(super) moment: u32,
     pub(super) reply: Reply,
     pub(super) found: bool,
 }
@@ -43,6 +44,25 @@ fn shown_by(command: &Command, reply: &Reply, before: Shown) -> Shown {
     before
 }
 
+// Makes a drawn command: the call, as it was answered.
+fn make_call<N: Named, R: Abort + Wait>(
+    rt: &R,
+    alloc: Global,
+    store: &Store<N>,
+    pass: &mut Pass<N>,
+    command: Command,
+    moment: u32,
+) -> Call {
+    let given = command.copy(alloc).expect(rt, "a copy");
+    let reply = asking::ask(rt, alloc, store, pass, given, moment);
+    Call {
+        command,
+        moment,
+        reply,
+        found: false,
+    }
+}
+
 // Makes drawn commands, of which the moments go on slowly: all that was answered, in turn.
 fn play<N: Named, R: Abort + Wait>(
     rt: &R,
@@ -53,26 +73,17 @@ fn play<N: Named, R: Abort + Wait>(
 ) -> Vec<Call> {
     let mut dice = Dice::new(seed);
     let mut calls = Vec::new(alloc);
-    let mut moment = 1000u64;
+    let mut moment = 1000u32;
     let mut shown = Shown {
         letter: b'a',
         cas: 1,
     };
     for _ in 0..COMMANDS {
-        moment = u64::min(moment.wrapping_add(dice.below(2)), LAST_MOMENT);
+        moment = u32::min(moment.wrapping_add(dice.below(2) as u32), LAST_MOMENT);
         let command = dice.command(rt, alloc, shown);
-        let given = command.copy(alloc).expect(rt, "a copy");
-        let reply = store
-            .command(alloc, rt, pass, given, moment)
-            .expect(rt, "a reply");
-        shown = shown_by(&command, &reply, shown);
-        let call = Call {
-            command,
-            moment,
-            reply,
-            found: false,
-        };
-        calls.push(call).ok().expect(rt, "room for a call");
+        let made = make_call(rt, alloc, store, pass, command, moment);
+        shown = shown_by(&made.command, &made.reply, shown);
+        calls.push(made).ok().expect(rt, "room for a call");
     }
     calls
 }
@@ -88,13 +99,9 @@ fn juggle<N: Named, R: Abort + Wait>(
     requires { length N.config.sizes ≡ 2 }
 {
     for round in 0..ROUNDS {
-        let moment = 1000 + u64::from(round) / 16;
-        store
-            .juggle(alloc, rt, pass, ClassNo(1), moment)
-            .expect(rt, "moves");
-        store
-            .juggle(alloc, rt, pass, ClassNo(2), moment)
-            .expect(rt, "moves");
+        let moment = 1000 + round / 16;
+        asking::juggle(rt, alloc, store, pass, ClassNo(1), moment);
+        asking::juggle(rt, alloc, store, pass, ClassNo(2), moment);
         if ended.load(Ordering::SeqCst) == u64::from(PLAYERS) {
             break;
         }
@@ -113,13 +120,9 @@ fn crawl<N: Named, R: Abort + Wait>(
     requires { length N.config.sizes ≡ 2 }
 {
     for round in 0..ROUNDS {
-        let moment = 1000 + u64::from(round) / 16;
-        store
-            .crawl(alloc, rt, pass, ClassNo(1), moment)
-            .expect(rt, "a histogram");
-        store
-            .crawl(alloc, rt, pass, ClassNo(2), moment)
-            .expect(rt, "a histogram");
+        let moment = 1000 + round / 16;
+        asking::crawl(rt, alloc, store, pass, ClassNo(1), moment);
+        asking::crawl(rt, alloc, store, pass, ClassNo(2), moment);
         if ended.load(Ordering::SeqCst) == u64::from(PLAYERS) {
             break;
         }

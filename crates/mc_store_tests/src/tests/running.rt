@@ -1,159 +1,126 @@
 //! Scripts of commands on shared stores.
-ghost use Rattle.std.specs.Prelude.{◌≡◌};
-ghost use Rattle.mc_item.specs.Config.{IsBounded, IsSound};
-ghost use Rattle.mc_board.specs.Histories.{blind};
-ghost use Rattle.mc_board.specs.Views.{locks_of, AreOwners};
-ghost use Rattle.mc_store.specs.Locked.{histories_for};
+ghost use Rattle.std.specs.Prelude.{◌≡◌, ◌≤◌, ◌<◌, length};
+ghost use Rattle.mc_store_tests.specs.Opening.{AreParts};
 
-use super::{board_for, checked};
-use mc_board::{Board, Owner, Seen};
-use mc_item::{Command, Config, Key, Numbers, Reply, Value, Verb};
-use mc_store::{Named, Store};
+use super::asking::{ask, check_reply, key, store};
+use super::opening::{Parts, opened, parts_for, two_classes};
+use mc_item::{Command, Reply, Verb};
+use mc_store::{Named, Pass, Store};
 use std::alloc::Global;
-use std::hash::RandomState;
 use std::marker::Brand;
 use std::process::Abort;
 use std::random::RandomSource;
 use std::sync::Wait;
-use std::test::Fail;
 
-// A configuration of so many stripes, and of two classes of 96 and of 120 bytes with so many chunks each.
-fn small(alloc: Global, stripes: u32, chunks: u64) -> Result<Config, Fail> {
-    let sizes = Numbers::from_vec(Vec::from_slice(alloc, &[96, 120])?);
-    let chunks = Numbers::from_vec(Vec::from_slice(alloc, &[chunks, chunks])?);
-    let usual = Config::usual(alloc, 1)?;
-    Ok(Config {
-        stripes,
-        sizes,
-        chunks,
-        ..usual
-    })
+/// What is asked for a key.
+#[derive(Clone, Copy)]
+pub(super) enum Ask {
+    Get,
+    /// A storage command of these flags and this value, which doesn't expire.
+    Store(Verb, u32, &'static str),
+    /// A cas to this value, with the number that was shown last, or 0.
+    Cas(&'static str),
+    Incr(u64),
+    Decr(u64),
+    Touch(i64),
+    Delete,
+    /// A set of a block that was skipped.
+    Huge,
 }
 
-// The key of one letter.
-pub(crate) fn key<R: Abort>(rt: &R, alloc: Global, letter: u8) -> Key {
-    Key::of(alloc, &[letter]).expect(rt, "a key")
-}
+/// A row of a script: a moment, the letter of a key, what is asked for it, and what that is answered.
+pub(super) type Row = (u32, u8, Ask, &'static str);
 
-// A storage command for the key of one letter.
-pub(crate) fn store<R: Abort>(
-    rt: &R,
-    alloc: Global,
-    verb: Verb,
-    letter: u8,
-    flags: u32,
-    exptime: i64,
-    text: &[u8],
-) -> Command {
-    let bytes = Vec::from_slice(alloc, text).expect(rt, "a value");
-    Command::Store {
-        verb,
-        key: key(rt, alloc, letter),
-        flags,
-        exptime,
-        value: Value::from_vec(bytes),
-    }
-}
-
-// A set of the key of one letter, without flags, that doesn't expire.
-pub(crate) fn set<R: Abort>(rt: &R, alloc: Global, letter: u8, text: &[u8]) -> Command {
-    store(rt, alloc, Verb::Set, letter, 0, 0, text)
-}
-
-// A get of the key of one letter.
-pub(crate) fn get<R: Abort>(rt: &R, alloc: Global, letter: u8) -> Command {
-    Command::Get(key(rt, alloc, letter))
-}
-
-// The reply in one line: of an item its flags and its value.
-pub(super) fn told(alloc: Global, reply: Reply) -> Result<String, Fail> {
-    match reply {
-        Reply::Value { flags, value, .. } => {
-            let mut line = format!(in alloc; "{flags} ")?;
-            for byte in value.bytes() {
-                line.push(*byte as char)?;
-            }
-            Ok(line)
+// The command of a row, where this cas number was shown last.
+fn command_of<R: Abort>(rt: &R, alloc: Global, letter: u8, ask: Ask, shown: u64) -> Command {
+    match ask {
+        Ask::Get => Command::Get(key(rt, alloc, letter)),
+        Ask::Store(verb, flags, text) => {
+            store(rt, alloc, verb, letter, flags, 0, text.as_bytes())
         }
-        other => Ok(format!(in alloc; "{other:?}")?),
-    }
-}
-
-// A cas that names no number has the one that was shown last.
-fn with_shown(command: Command, shown: u64) -> Command {
-    match command {
-        Command::Store {
-            verb: Verb::Cas(0),
-            key,
-            flags,
-            exptime,
-            value,
-        } => Command::Store {
-            verb: Verb::Cas(shown),
-            key,
-            flags,
-            exptime,
-            value,
+        Ask::Cas(text) => store(rt, alloc, Verb::Cas(shown), letter, 0, 0, text.as_bytes()),
+        Ask::Incr(delta) => Command::Incr(key(rt, alloc, letter), delta),
+        Ask::Decr(delta) => Command::Decr(key(rt, alloc, letter), delta),
+        Ask::Touch(exptime) => Command::Touch(key(rt, alloc, letter), exptime),
+        Ask::Delete => Command::Delete(key(rt, alloc, letter)),
+        Ask::Huge => Command::Huge {
+            verb: Verb::Set,
+            key: key(rt, alloc, letter),
         },
-        other => other,
     }
 }
 
-// What the commands of a script, each at its moment, are answered by a store that is then closed and held against the
-// pass.
-fn answered<N: Named, R: Wait>(
+// The cas number that a reply shows, or else the one that was shown before.
+fn shown_by(reply: &Reply, before: u64) -> u64 {
+    match reply {
+        Reply::Value { cas, .. } => *cas,
+        _ => before,
+    }
+}
+
+// Ends the test where a row isn't answered as it says: the cas number that was shown last.
+fn check_row<N: Named, R: Abort + Wait>(
     rt: &R,
     alloc: Global,
-    config: Config,
-    board: Board,
-    owners: Vec<Owner>,
-    seen: Seen,
-    seed: RandomState,
-    script: Vec<(Command, u32)>,
-) -> Result<Vec<String>, Fail>
-    requires board { board ≡ N.board }
-    requires config { (config ≡ N.config) × IsBounded N.config × IsSound N.config }
-    requires locks { locks_of N.board.counts ≡ histories_for N.config }
-    requires owners { AreOwners N.board.table (histories_for N.config) owners.items }
-    requires seen { seen ≡ record { board = N.board.table; sight = blind } }
-{
-    let (store, mut passes) = Store::<N>::open(alloc, config, board, owners, seen, seed)?;
-    let mut lines = Vec::new(alloc);
-    let Some(mut pass) = passes.pop() else {
-        return Ok(lines);
-    };
+    store: &Store<N>,
+    pass: &mut Pass<N>,
+    row: Row,
+    shown: u64,
+) -> u64 {
+    let (moment, letter, what, wanted) = row;
+    let command = command_of(rt, alloc, letter, what, shown);
+    let reply = ask(rt, alloc, store, pass, command, moment);
+    check_reply(rt, alloc, &reply, wanted);
+    shown_by(&reply, shown)
+}
+
+// Ends the test where the rows of a script aren't answered as they say, one after another.
+fn check_rows<N: Named, R: Abort + Wait>(
+    rt: &R,
+    alloc: Global,
+    store: &Store<N>,
+    pass: &mut Pass<N>,
+    script: &[Row],
+) {
     let mut shown = 0;
-    for (command, moment) in script {
-        let given = with_shown(command, shown);
-        let reply = store.command(alloc, rt, &mut pass, given, moment as u64)?;
-        if let Reply::Value { cas, .. } = &reply {
-            shown = *cas;
-        }
-        lines.push(told(alloc, reply)?)?;
+    for row in script {
+        shown = check_row(rt, alloc, store, pass, *row, shown);
     }
+}
+
+// The same of a new store, which is then closed and held against the pass.
+fn check_store<N: Named, R: Abort + Wait>(rt: &R, alloc: Global, parts: Parts, script: &[Row])
+    requires named { (parts.board ≡ N.board) × (parts.config ≡ N.config) }
+    requires fit { AreParts N.board N.config parts.owners.items parts.seen }
+{
+    let (store, mut passes) = opened::<N, R>(rt, alloc, parts);
+    let mut pass = passes.pop().expect(rt, "a pass");
+    check_rows(rt, alloc, &store, &mut pass, script);
     let mut ledger = store.close(rt);
     ledger.compare(&mut pass);
-    Ok(lines)
 }
 
-// What the script is answered by a new store of so many stripes, with so many chunks of each class.
-pub(crate) fn run<R: Wait + RandomSource>(
+// The same of a new store of so many stripes, with so many chunks of each class.
+fn run<R: Abort + Wait + RandomSource>(
     rt: &R,
     alloc: Global,
     stripes: u32,
     chunks: u64,
-    script: Vec<(Command, u32)>,
-) -> Result<Vec<String>, Fail> {
-    let config = checked(small(alloc, stripes, chunks)?)?;
-    let (board, owners, seen) = board_for(alloc, &config)?;
-    let seed = RandomState::new(rt)?;
-    answered::<Brand, R>(rt, alloc, config, board, owners, seen, seed, script)
+    script: &[Row],
+) {
+    let config = two_classes(rt, alloc, stripes, [chunks, chunks], 1);
+    let parts = parts_for(rt, alloc, config);
+    check_store::<Brand, R>(rt, alloc, parts, script);
 }
 
-// Ends the test where the lines aren't those that are wanted.
-pub(crate) fn compare<R: Abort>(rt: &R, lines: &Vec<String>, wanted: &[&str]) {
-    assert_eq!(rt; lines.len(), wanted.len());
-    for place in 0..wanted.len() {
-        assert_eq!(rt; lines[place].as_str(), wanted[place]);
-    }
+/// Ends the test where the rows of a script aren't answered as they say by a new store of one stripe, and by one of two, with
+/// so many chunks of each class.
+pub(super) fn check_script<R: Abort + Wait + RandomSource>(
+    rt: &R,
+    alloc: Global,
+    chunks: u64,
+    script: &[Row],
+) {
+    run(rt, alloc, 1, chunks, script);
+    run(rt, alloc, 2, chunks, script);
 }

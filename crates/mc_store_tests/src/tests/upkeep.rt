@@ -1,90 +1,60 @@
 //! A class of a shared store is crawled and juggled: what is counted, worked out by hand.
 ghost use Rattle.std.specs.Prelude.{◌≡◌, length};
-ghost use Rattle.mc_item.specs.Config.{IsBounded, IsSound};
-ghost use Rattle.mc_board.specs.Histories.{blind};
-ghost use Rattle.mc_board.specs.Views.{locks_of, AreOwners};
-ghost use Rattle.mc_store.specs.Locked.{histories_for};
+ghost use Rattle.mc_store_tests.specs.Opening.{AreParts};
 
-use super::{board_for, checked, four_stripes};
-use mc_board::{Board, Owner, Seen};
-use mc_item::{ClassNo, Command, Config, Histogram, Key, Moves, Value, Verb};
-use mc_store::{Named, Store};
+use super::asking::{ask, crawl, juggle, set, store};
+use super::opening::{Parts, four_stripes, opened};
+use mc_item::{ClassNo, Histogram, Moves, Verb};
+use mc_store::Named;
 use std::alloc::Global;
-use std::hash::RandomState;
 use std::marker::Brand;
 use std::process::Abort;
 use std::sync::Wait;
-use std::test::Fail;
 
-// A set of the key of one letter to a value of one byte.
-fn set<R: Abort>(rt: &R, alloc: Global, letter: u8, exptime: i64) -> Command {
-    let text = Vec::from_slice(alloc, b"1").expect(rt, "a value");
-    Command::Store {
-        verb: Verb::Set,
-        key: Key::of(alloc, &[letter]).expect(rt, "a key"),
-        flags: 0,
-        exptime,
-        value: Value::from_vec(text),
-    }
-}
-
-// Two items, of which one is dead ten seconds later, when their class is crawled and then juggled.
-fn kept_up<N: Named, R: Abort + Wait>(
-    rt: &R,
-    alloc: Global,
-    config: Config,
-    board: Board,
-    owners: Vec<Owner>,
-    seen: Seen,
-    seed: RandomState,
-) -> Result<(Histogram, Moves), Fail>
-    requires board { board ≡ N.board }
-    requires config { (config ≡ N.config) × IsBounded N.config × IsSound N.config }
-    requires parts { (N.config.stripes ≡ 4) × (length N.config.sizes ≡ 2) × (N.config.callers ≡ 3) }
-    requires locks { locks_of N.board.counts ≡ histories_for N.config }
-    requires owners { AreOwners N.board.table (histories_for N.config) owners.items }
-    requires seen { seen ≡ record { board = N.board.table; sight = blind } }
-{
-    let (store, mut passes) = Store::<N>::open(alloc, config, board, owners, seen, seed)?;
-    let mut pass = passes.pop().unwrap();
-    store
-        .command(alloc, rt, &mut pass, set(rt, alloc, b'a', 5), 1000)
-        .expect(rt, "stored");
-    store
-        .command(alloc, rt, &mut pass, set(rt, alloc, b'b', 0), 1000)
-        .expect(rt, "stored");
-    let histogram = store
-        .crawl(alloc, rt, &mut pass, ClassNo(1), 1010)
-        .expect(rt, "a histogram");
-    let moves = store
-        .juggle(alloc, rt, &mut pass, ClassNo(1), 1010)
-        .expect(rt, "moves");
-    let mut ledger = store.close(rt);
-    ledger.compare(&mut pass);
-    Ok((histogram, moves))
-}
-
-// The dead item is reclaimed, the other doesn't expire; then that one goes from HOT, which may hold a fifth of its bytes,
-// to COLD.
-#[test]
-fn a_crawl_reclaims_what_is_dead(rt: HostRuntime) -> Result<(), Fail> {
-    let config = checked(four_stripes(rt.alloc())?)?;
-    let (board, owners, seen) = board_for(rt.alloc(), &config)?;
-    let seed = RandomState::new(&rt)?;
-    let (histogram, moves) = kept_up::<Brand, HostRuntime>(
-        &rt,
-        rt.alloc(),
-        config,
-        board,
-        owners,
-        seen,
-        seed,
-    )?;
+// The dead item is reclaimed, the other doesn't expire.
+fn check_crawl<R: Abort>(rt: &R, histogram: &Histogram) {
     assert_eq!(rt; histogram.seen, 2);
     assert_eq!(rt; histogram.reclaimed, 1);
     assert_eq!(rt; histogram.no_expiry, 1);
     assert_eq!(rt; histogram.passed, 0);
+}
+
+// The item that is left goes from HOT, which may hold a fifth of its bytes, to COLD.
+fn check_moves<R: Abort>(rt: &R, moves: &Moves) {
     assert_eq!(rt; moves.reclaimed, 0);
     assert_eq!(rt; moves.moved, 1);
-    Ok(())
+}
+
+// Two items, of which one is dead ten seconds later, when their class is crawled and then juggled.
+fn keep_up<N: Named, R: Abort + Wait>(rt: &R, alloc: Global, parts: Parts)
+    requires named { (parts.board ≡ N.board) × (parts.config ≡ N.config) }
+    requires fit { AreParts N.board N.config parts.owners.items parts.seen }
+    requires shape { (N.config.stripes ≡ 4) × (length N.config.sizes ≡ 2) }
+{
+    let (shared, mut passes) = opened::<N, R>(rt, alloc, parts);
+    let mut pass = passes.pop().expect(rt, "a pass");
+    let dying = store(rt, alloc, Verb::Set, b'a', 0, 5, b"1");
+    ask(rt, alloc, &shared, &mut pass, dying, 1000);
+    ask(
+        rt,
+        alloc,
+        &shared,
+        &mut pass,
+        set(rt, alloc, b'b', b"1"),
+        1000,
+    );
+    let histogram = crawl(rt, alloc, &shared, &mut pass, ClassNo(1), 1010);
+    let moves = juggle(rt, alloc, &shared, &mut pass, ClassNo(1), 1010);
+    let mut ledger = shared.close(rt);
+    ledger.compare(&mut pass);
+    check_crawl(rt, &histogram);
+    check_moves(rt, &moves);
+}
+
+// A crawl reclaims the dead item, and juggling moves the other.
+#[test]
+fn a_crawl_reclaims_what_is_dead(rt: HostRuntime) {
+    let alloc = rt.alloc();
+    let parts = four_stripes(&rt, alloc);
+    keep_up::<Brand, HostRuntime>(&rt, alloc, parts);
 }

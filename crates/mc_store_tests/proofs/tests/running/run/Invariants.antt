@@ -1,4 +1,4 @@
 use Rattle.mc_store_tests.proofs.tests.running.run.Given as goal
 
-abbrev pub ghosts-answered : goal.ghosts-answered
-ghosts-answered g a = record { board = a.board; config = a.config }
+abbrev pub ghosts-check_store : goal.ghosts-check_store
+ghosts-check_store g a = record { board = a.parts.board; config = a.parts.config }

@@ -2,7 +2,7 @@ use Rattle.std.proofs.Common.{◌≡◌, Option, Some, None, Result, Ok, Err, re
 use Rattle.mc_item.specs.declared.config.Config.{Config}
 use Rattle.mc_item.specs.declared.config.ConfigFault.{ConfigFault}
 use Rattle.mc_item.specs.Config.{fault_of, IsSound}
-use Rattle.mc_store_tests.proofs.tests.checked.Goals as goal
+use Rattle.mc_store_tests.proofs.tests.opening.checked.Goals as goal
 
 abbrev fine : Config → Result Config ConfigFault
 fine x = Ok x

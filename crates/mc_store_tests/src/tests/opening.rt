@@ -1,0 +1,113 @@
+//! Stores for the tests: what they are opened with, by a name that the caller picks.
+ghost use Rattle.std.specs.Prelude.{◌≡◌, IfOk, length};
+ghost use Rattle.mc_item.specs.Config.{IsBounded, IsSound};
+ghost use Rattle.mc_board.specs.Histories.{blind};
+ghost use Rattle.mc_board.specs.Views.{locks_of, AreOwners};
+ghost use Rattle.mc_store.specs.Locked.{histories_for};
+ghost use Rattle.mc_store_tests.specs.Opening.{AreParts};
+
+use mc_board::{Board, Owner, Seen};
+use mc_item::{Config, ConfigFault, NoMemory, Numbers};
+use mc_store::{Named, Pass, Store};
+use std::alloc::Global;
+use std::hash::RandomState;
+use std::process::Abort;
+use std::random::RandomSource;
+
+/// What a store is opened with.
+#[derive(Drop)]
+pub(super) struct Parts {
+    pub(super) config: Config,
+    pub(super) board: Board,
+    pub(super) owners: Vec<Owner>,
+    pub(super) seen: Seen,
+    pub(super) seed: RandomState,
+}
+
+// The configuration, where it is sound.
+fn checked(config: Config) -> Result<Config, ConfigFault>
+    ensures sound { IfOk result (λ c. IsSound c × (c ≡ config)) }
+    ensures bounded { IfOk result IsBounded }
+{
+    Ok(config.check()?)
+}
+
+// A board for the locks and the callers of a configuration.
+fn board_for(alloc: Global, config: &Config) -> Result<(Board, Vec<Owner>, Seen), NoMemory>
+    requires { IsBounded config.now }
+    ensures locks { IfOk result (λ r. locks_of r.0.counts ≡ histories_for config.now) }
+    ensures owners { IfOk result (λ r. AreOwners r.0.table (histories_for config.now) r.1.items) }
+    ensures seen { IfOk result (λ r. r.2 ≡ record { board = r.0.table; sight = blind }) }
+{
+    let locks = config.stripes as usize + config.sizes.as_slice().len();
+    Board::open(alloc, locks + config.callers as usize)
+}
+
+/// So many stripes and callers, and two classes of 96 and of 120 bytes with these many chunks.
+pub(super) fn two_classes<R: Abort>(
+    rt: &R,
+    alloc: Global,
+    stripes: u32,
+    chunks: [u64; 2],
+    callers: u32,
+) -> Config
+    ensures stripes { result.stripes ≡ stripes }
+    ensures classes { length result.sizes ≡ 2 }
+    ensures callers { result.callers ≡ callers }
+{
+    let sizes = Vec::from_slice(alloc, &[96, 120]).expect(rt, "two sizes");
+    let chunks = Vec::from_slice(alloc, &chunks).expect(rt, "two numbers");
+    let usual = Config::usual(alloc, callers).expect(rt, "a configuration");
+    Config {
+        stripes,
+        sizes: Numbers::from_vec(sizes),
+        chunks: Numbers::from_vec(chunks),
+        ..usual
+    }
+}
+
+/// The parts of a store of a configuration.
+pub(super) fn parts_for<R: Abort + RandomSource>(rt: &R, alloc: Global, config: Config) -> Parts
+    ensures config { result.config ≡ config }
+    ensures fit { AreParts result.board result.config result.owners.items result.seen }
+{
+    let config = checked(config).expect(rt, "a sound configuration");
+    let (board, owners, seen) = board_for(alloc, &config).expect(rt, "a board");
+    let seed = RandomState::new(rt).expect(rt, "a seed");
+    Parts {
+        config,
+        board,
+        owners,
+        seen,
+        seed,
+    }
+}
+
+/// A store of its parts, and a pass for each caller.
+pub(super) fn opened<N: Named, R: Abort>(
+    rt: &R,
+    alloc: Global,
+    parts: Parts,
+) -> (Store<N>, Vec<Pass<N>>)
+    requires named { (parts.board ≡ N.board) × (parts.config ≡ N.config) }
+    requires fit { AreParts N.board N.config parts.owners.items parts.seen }
+    ensures { length result.1.items ≡ N.config.callers }
+{
+    let Parts {
+        config,
+        board,
+        owners,
+        seen,
+        seed,
+    } = parts;
+    Store::<N>::open(alloc, config, board, owners, seen, seed).expect(rt, "a store")
+}
+
+/// The parts of a store of four stripes, three callers and two classes: two chunks of 96 bytes, and three of 120.
+pub(super) fn four_stripes<R: Abort + RandomSource>(rt: &R, alloc: Global) -> Parts
+    ensures shape { (result.config.stripes ≡ 4) × (length result.config.sizes ≡ 2) × (result.config.callers ≡ 3) }
+    ensures fit { AreParts result.board result.config result.owners.items result.seen }
+{
+    let config = two_classes(rt, alloc, 4, [2, 3], 3);
+    parts_for(rt, alloc, config)
+}
