@@ -6,3 +6,4 @@ pub mod HistogramLemmas
 pub mod ProgressLemmas
 pub mod PieceLemmas
 pub mod RunLemmas
+pub mod UpkeepLemmas

@@ -3,3 +3,4 @@ pub mod Script
 pub mod Calls
 pub mod Run
 pub mod Progress
+pub mod Upkeep

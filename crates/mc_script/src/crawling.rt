@@ -40,7 +40,7 @@ fn crawl_from<C: Calls>(
 }
 
 // The classes that the directive names. The answer is the sum of their histograms.
-fn crawl_target<C: Calls>(
+pub(crate) fn crawl_target<C: Calls>(
     rt: &impl Wait,
     limits: Limits,
     calls: &mut C,

@@ -44,7 +44,7 @@ fn juggle_from<C: Calls>(
 }
 
 // The classes that the directive names. The answer is the sums of their moves.
-fn juggle_target<C: Calls>(
+pub(crate) fn juggle_target<C: Calls>(
     rt: &impl Wait,
     limits: Limits,
     calls: &mut C,

@@ -9,9 +9,11 @@ mod juggling;
 mod outcome;
 mod scripting;
 mod source;
+mod upkeep;
 
 pub use calls::Calls;
 pub use ends::{Both, Ends};
 pub use outcome::Outcome;
 pub use scripting::run_script;
 pub use source::{Source, SourceFault};
+pub use upkeep::{Keeper, run_upkeep};

@@ -1,0 +1,60 @@
+-- Upkeep: the work of the maintainer and of the crawler beside scripts, and what it leaves, by how it ended (own).
+use Rattle.std.specs.Prelude.{ℕ, ◌≡◌, List, [], ◌∷◌, ◌++◌, length}
+use Rattle.mc_item.specs.declared.fault.Fault.{Fault}
+use Rattle.mc_item.specs.declared.fault.Fault.TheVariants as faults
+use Rattle.mc_proto.specs.Answers.{Answer}
+use Rattle.mc_proto.specs.declared.request.Limits.{Limits}
+use Rattle.mc_proto.specs.declared.request.Request.{Request}
+use Rattle.mc_proto.specs.declared.request.Request.TheVariants as requests
+use Rattle.mc_proto.specs.declared.request.Target.TheVariants.{All}
+use Rattle.mc_script.specs.Calls.{IsPart, Makes}
+use Rattle.mc_script.specs.Exchanges.{AreAnswers, Exchange, exchanges}
+use Rattle.mc_script.specs.Run.{first_moment}
+use Rattle.mc_script.specs.Script.{Answered, AreWhole, all_exchanges, calls_of, moment_behind, requests_of, turn_behind}
+use Rattle.mc_script.specs.declared.outcome.Outcome.{Outcome}
+use Rattle.mc_script.specs.declared.outcome.Outcome.TheVariants.{Done, Memory, HistoryFull, Input, Output}
+use Rattle.mc_script.specs.declared.upkeep.Keeper.{Keeper}
+use Rattle.mc_script.specs.declared.upkeep.Keeper.TheVariants.{Maintainer, Crawler}
+
+-- the directive that a script would give for a keeper's work on all slab classes
+abbrev pub directive_of : Keeper → Request
+directive_of Maintainer = requests.Juggle All
+directive_of Crawler = requests.Crawl All
+
+-- a keeper's work at these moments, as a script would ask for it: at each moment in order, all slab classes in rising number
+abbrev pub work_of : Keeper → List ℕ → List Request
+work_of keeper [] = []
+work_of keeper (moment ∷ moments) = requests.At moment ∷ directive_of keeper ∷ work_of keeper moments
+
+-- a keeper's work at one moment was done: its calls were made
+pub record WorksAll (limits : Limits) (keeper : Keeper) (caller turn turn' moment : ℕ) (notes notes' : List Exchange → Type 0) : Type 0 where
+  pub answers : List Answer
+  pub makes : Makes (calls_of limits (directive_of keeper)) answers caller turn turn' moment notes notes'
+
+-- all of this work was done: just its calls were made
+pub record HasKeptUp (limits : Limits) (work : List Request) (notes : List Exchange → Type 0) (caller : ℕ) : Type 0 where
+  pub answered : List Answered
+  pub asked : requests_of answered ≡ work
+  pub whole : AreWhole limits answered
+  pub calls : notes (all_exchanges limits caller 0 first_moment answered)
+
+-- the work broke off: of the calls of one request the first were made, behind those of the requests before it
+pub record HasBrokenOff (fault : Fault) (limits : Limits) (work : List Request) (notes : List Exchange → Type 0) (caller : ℕ) : Type 0 where
+  pub answered : List Answered
+  pub request : Request
+  pub back : List Request
+  pub asked : work ≡ requests_of answered ++ request ∷ back
+  pub whole : AreWhole limits answered
+  pub answers : List Answer
+  pub part : IsPart fault (length answers) (length (calls_of limits request))
+  pub kinds : AreAnswers (calls_of limits request) answers
+  pub calls : notes (all_exchanges limits caller 0 first_moment answered
+      ++ exchanges caller (turn_behind limits 0 answered) (moment_behind first_moment answered) (calls_of limits request) answers)
+
+-- what upkeep leaves, by how it ended: it reads and prints nothing
+abbrev pub KeepsUp : Outcome → Limits → List Request → (List Exchange → Type 0) → ℕ → Type 0
+KeepsUp Done limits work notes caller = HasKeptUp limits work notes caller
+KeepsUp Memory limits work notes caller = HasBrokenOff faults.NoMemory limits work notes caller
+KeepsUp HistoryFull limits work notes caller = HasBrokenOff faults.HistoryFull limits work notes caller
+KeepsUp Input limits work notes caller = ⊥
+KeepsUp Output limits work notes caller = ⊥
