@@ -1,6 +1,6 @@
 -- What a call on a store that threads share leaves of what its pass knows.
 use Rattle.std.proofs.Common.{◌≡◌, ◌<◌, ◌≤◌, ℕ, List, [], ◌∷◌, ◌++◌, Result, Ok, Err, refl, sym, ap, ◌∙◌, append-nil, subst, arith, length, length-append, ◌⊎◌, inl, inr, ⊎_elim}
-use Rattle.std.specs.Prelude.{Bool, IfOk, OnErr, Some, cond, nat_eq, true, OnOk}
+use Rattle.std.specs.Prelude.{IfOk, OnErr, Some, cond, nat_eq, true, OnOk}
 use Rattle.std.specs.List.{slice_get}
 use Rattle.std.proofs.lemmas.List.Elements.{filter-append}
 use mathlib.Core.List.{IsPrefix}
@@ -39,7 +39,7 @@ use Rattle.mc_store.specs.Callers.{answered_at, asked_for, juggling_of, moment_o
 use Rattle.mc_store.specs.Calls.{IsJuggledBy, IsRepliedBy, IsCutBy}
 use Rattle.mc_store.specs.Locked.{setting_of, class_lock}
 use Rattle.mc_store.specs.Passes.{PassView}
-use Rattle.mc_store.specs.Sides.{class_told, stripe_told}
+use Rattle.mc_store.specs.Sides.{class_told}
 use Rattle.mc_driver.specs.Caller.{AreAt, AreNoted, AreRising, IsAt, histories_seen, places_in}
 use Rattle.mc_driver.specs.Noted.{NotesCommand, NotesJuggling, answered_event, NotesCrawling}
 use Rattle.mc_driver.specs.Stand.{calls_at, is_command_at, stripe_number}

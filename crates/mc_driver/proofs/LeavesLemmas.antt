@@ -4,6 +4,8 @@ use Rattle.mc_item.specs.declared.fault.Fault.{Fault}
 use Rattle.mc_proto.specs.declared.request.Limits.{Limits}
 use Rattle.mc_script.specs.Exchanges.{Exchange}
 use Rattle.mc_script.specs.Run.{HasBroken, HasRun, HasRunTo, HasStarved, HasStopped, Leaves}
+use Rattle.mc_proto.specs.declared.request.Request.{Request}
+use Rattle.mc_script.specs.Upkeep.{HasBrokenOff, KeepsUp}
 use Rattle.mc_script.specs.declared.outcome.Outcome.{Outcome}
 use Rattle.mc_script.specs.declared.outcome.Outcome.TheVariants.{Done, Memory, HistoryFull, Input, Output}
 
@@ -67,3 +69,25 @@ pub leaves_known : (limits limits' : Limits) (caller caller' : ℕ) (notes notes
 leaves_known limits limits' caller caller' notes notes' outcome bytes left start taken same_limits same_caller follows leaves =
     leaves_as limits start taken notes notes' caller follows outcome bytes left
     (subst (λ (k : ℕ). Leaves outcome limits bytes left start taken notes k) same_caller (subst (λ (l : Limits). Leaves outcome l bytes left start taken notes caller') same_limits leaves))
+
+module _ (limits : Limits) (work : List Request) (notes notes' : List Exchange → Type 0) (caller : ℕ) (follows : (calls : List Exchange) → notes calls → notes' calls) where
+  broken_off_as : (fault : Fault) → HasBrokenOff fault limits work notes caller → HasBrokenOff fault limits work notes' caller
+  broken_off_as fault off = record {
+    answered = off.answered;
+    request = off.request;
+    back = off.back;
+    asked = off.asked;
+    whole = off.whole;
+    answers = off.answers;
+    part = off.part;
+    kinds = off.kinds;
+    calls = follows _ off.calls;
+  }
+
+  -- what upkeep leaves, by how it ended
+  pub keeps_up_as : (outcome : Outcome) → KeepsUp outcome limits work notes caller → KeepsUp outcome limits work notes' caller
+  keeps_up_as Done kept = record { answered = kept.answered; asked = kept.asked; whole = kept.whole; calls = follows _ kept.calls }
+  keeps_up_as Memory kept = broken_off_as _ kept
+  keeps_up_as HistoryFull kept = broken_off_as _ kept
+  keeps_up_as Input kept = kept
+  keeps_up_as Output kept = kept

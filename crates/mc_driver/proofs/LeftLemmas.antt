@@ -1,5 +1,5 @@
 -- What a run leaves: the closed store, and what the caller's pass has seen of it.
-use Rattle.std.proofs.Common.{◌≡◌, ◌<◌, ◌≤◌, ◌+◌, ◌-◌, ℕ, zero, suc, List, Option, Some, None, length, refl, sym, ap, ◌∙◌, subst, arith, inl, inr}
+use Rattle.std.proofs.Common.{◌≡◌, ◌<◌, ◌≤◌, ◌+◌, ◌-◌, ℕ, suc, List, Option, length, sym, ap, ◌∙◌, subst, arith, inl, inr}
 use Rattle.std.proofs.lemmas.Bool.{cases_lt}
 use Rattle.std.specs.List.{slice_get}
 use mathlib.Core.List.{IsPrefix}
@@ -18,18 +18,17 @@ use Rattle.mc_evidence.specs.Setting.{IsClass}
 use Rattle.mc_evidence.specs.Sound.{IsSoundStore}
 use Rattle.mc_evidence.proofs.SeenLemmas.{class_events-map, classes_grow}
 use Rattle.mc_item.specs.Stripe.{IsLegal}
-use Rattle.mc_pull.specs.Question.{IsClassOf}
 use Rattle.mc_script.specs.Exchanges.{Exchange}
 use Rattle.mc_store.specs.Finals.{AreClasses, AreExactlyEntries, AreItsOwn, AreStripes, FinalView, IsBehindClasses, IsBehindStripes, class_histories, class_history, stripe_histories, stripe_history}
-use Rattle.mc_store.specs.Locked.{class_lock, locks_for, setting_of}
+use Rattle.mc_store.specs.Locked.{class_lock, setting_of}
 use Rattle.mc_store.specs.Passes.{PassView}
 use Rattle.mc_store.specs.Serving.{HasSeenShort}
 use Rattle.mc_store.specs.Sides.{ClassSide, StripeSide, class_told, stripe_told}
 use Rattle.mc_store.proofs.PlaceLemmas.{get_some}
 use Rattle.mc_store.proofs.ServedLemmas.{map_length}
 use Rattle.mc_driver.specs.Caller.{AreAt, AreNoted, histories_seen, places_in}
-use Rattle.mc_driver.specs.Run.{HasFull, HasFullClass, HasFullStripe, IsClass as IsClassOfRun, IsStore, IsStripe, histories_left, with_callers}
-use Rattle.mc_driver.specs.Stand.{AreItsCalls, Histories, Stand, calls_at}
+use Rattle.mc_driver.specs.Run.{HasFull, IsStore, histories_left}
+use Rattle.mc_driver.specs.Stand.{AreItsCalls, Stand, calls_at}
 use Rattle.mc_driver.proofs.NotedLemmas.{at_later, called_place, stripe_begins}
 use Rattle.mc_driver.proofs.OnlyLemmas.{only_these}
 use Rattle.mc_driver.proofs.StandLemmas.{Grow, stand_later}
@@ -51,8 +50,8 @@ site_is s stripe stripes sizes a b c = site_parts s.stripe stripe s.stripes stri
 module _ (config : Config) (final : FinalView) (all : AreStripes final.board config final.stripes) (all_classes : AreClasses final.board config final.classes) where
   -- the store is all of its stripes and classes
   pub store_left : IsSoundStore (setting_of config) (stripe_histories final.stripes) (class_histories final.classes)
-      → AreExactlyEntries (setting_of config) (stripe_histories final.stripes) (class_histories final.classes) → with_callers config ≡ config → IsStore config final
-  store_left sound entries same = record {
+      → AreExactlyEntries (setting_of config) (stripe_histories final.stripes) (class_histories final.classes) → IsStore config final
+  store_left sound entries = record {
     count = all.many;
     each = λ number s found.
         let under = all.each number s found in
@@ -66,7 +65,7 @@ module _ (config : Config) (final : FinalView) (all : AreStripes final.board con
     classes = all_classes.many;
     each_class = λ place c found.
         let under = all_classes.each place c found in
-        record { number_is = ap (λ (n : ℕ). record { 0 = n }) under.number_is; made_with = subst (λ (k : Config). IsClassOf k c.class) (sym same) under.kept.made_with };
+        record { number_is = ap (λ (n : ℕ). record { 0 = n }) under.number_is; made_with = under.kept.made_with };
     sound = sound;
     entries = entries;
   }
@@ -130,25 +129,3 @@ module _ (config : Config) (final : FinalView) (all : AreStripes final.board con
             did (own.each number g.0 place (events.Did did) g.1 (ap (λ (h : List StripeEvent). slice_get h place) (sym there) ∙ found) by));
       };
     }
-
--- a store of the configuration with its callers is one of the configuration
-pub store_as : (config used : Config) (final : FinalView) → used ≡ with_callers config → IsStore used final → IsStore config final
-store_as config used final is store =
-    let s : IsStore (with_callers config) final = subst (λ (k : Config). IsStore k final) is store in
-    record {
-      count = s.count;
-      each = λ number x found. let here = s.each number x found in record { site = here.site; limit = here.limit; legal = here.legal };
-      classes = s.classes;
-      each_class = λ place c found. let here = s.each_class place c found in record { number_is = here.number_is; made_with = here.made_with };
-      sound = s.sound;
-      entries = s.entries;
-    }
-
--- and one of its histories is short of places where one of that one's is
-pub full_as : (config used : Config) (histories : Histories) → used ≡ with_callers config → HasFull used histories → HasFull config histories
-full_as config used histories is (inl stripe) =
-    let s : HasFullStripe (with_callers config) histories = subst (λ (k : Config). HasFullStripe k histories) is stripe in
-    inl (record { number = s.number; below = s.below; full = s.full })
-full_as config used histories is (inr class) =
-    let s : HasFullClass (with_callers config) histories = subst (λ (k : Config). HasFullClass k histories) is class in
-    inr (record { number = s.number; first = s.first; last = s.last; full = s.full })

@@ -10,3 +10,6 @@ pub mod WordLemmas
 pub mod OptionLemmas
 pub mod PassLemmas
 pub mod ReadingLemmas
+pub mod JobLemmas
+pub mod EndedLemmas
+pub mod RunLemmas

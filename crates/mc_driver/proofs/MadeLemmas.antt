@@ -1,6 +1,7 @@
 -- Calls that were made to their end, and whose the events of a closed store are.
-use Rattle.std.proofs.Common.{◌≡◌, ◌⊎◌, ◌<◌, ◌≤◌, ◌+◌, ℕ, zero, suc, List, [], ◌∷◌, ◌++◌, Option, Some, Result, Ok, Err, refl, sym, ap, ◌∙◌, subst, inl, inr, ⊎_elim, arith, length, length-append, append-nil}
+use Rattle.std.proofs.Common.{◌≡◌, ◌⊎◌, ◌<◌, ◌+◌, ℕ, zero, suc, List, [], ◌∷◌, ◌++◌, Some, Result, Ok, Err, refl, sym, ap, ◌∙◌, subst, inl, inr, ⊎_elim, arith, length, length-append, append-nil}
 use Rattle.std.specs.Prelude.{IfOk, OnOk, slice_get}
+use Rattle.std.proofs.lemmas.Bool.{cases_lt}
 use Rattle.mc_item.specs.Command.{key_of}
 use Rattle.mc_item.specs.Measure.{fnv1a}
 use Rattle.mc_item.specs.declared.call_event.CallEvent.{CallEvent}
@@ -17,18 +18,18 @@ use Rattle.mc_item.specs.declared.stripe_event.StripeEvent.TheVariants as events
 use Rattle.mc_board.specs.Histories.{Grows}
 use Rattle.mc_evidence.specs.Setting.{IsClass}
 use Rattle.mc_proto.specs.Answers.{Moved, Replied, Counted}
-use Rattle.mc_script.specs.Exchanges.{Asks, Exchange, Juggles, exchange, Crawls}
-use Rattle.mc_store.specs.Callers.{IsCalled, IsOf, answered_at, asked_for, juggling_of, moment_of, turns_of, who_of, crawling_of}
+use Rattle.mc_script.specs.Exchanges.{Asks, Juggles, exchange, Crawls}
+use Rattle.mc_store.specs.Callers.{IsOf, answered_at, asked_for, juggling_of, moment_of, turns_of, who_of, crawling_of}
 use Rattle.mc_store.specs.Calls.{IsJuggledBy, IsRepliedBy}
 use Rattle.mc_store.specs.Finals.{AreItsOwn, AreStripes, FinalView, stripe_histories, stripe_history}
 use Rattle.mc_store.specs.Locked.{setting_of}
 use Rattle.mc_store.specs.Passes.{PassView}
 use Rattle.mc_store.specs.Sides.{StripeSide}
 use Rattle.mc_store.proofs.PlaceLemmas.{get_some}
-use Rattle.mc_driver.specs.Called.{AreByCallers, AreWholeTurns, HasCall, IsAtMoment, MadeNone}
-use Rattle.mc_driver.specs.Caller.{AreMade, IsMade, MayCall, histories_seen}
-use Rattle.mc_driver.specs.Run.{histories_left}
-use Rattle.mc_driver.specs.Stand.{Histories, Stands, stripe_number}
+use Rattle.mc_driver.specs.Called.{AreByCallers, AreWholeTurns, IsAtMoment, MadeNone}
+use Rattle.mc_driver.specs.Caller.{IsMade, MayCall, histories_seen}
+use Rattle.mc_driver.specs.Run.{callers_at_work, histories_left}
+use Rattle.mc_driver.specs.Stand.{Histories, stripe_number}
 use Rattle.mc_driver.proofs.CallLemmas.{juggled_stands, replied_stands, seen_grow, crawled_stands}
 use Rattle.mc_driver.proofs.NotedLemmas.{get_next}
 use Rattle.mc_driver.proofs.StandLemmas.{Grow, stands_as_later}
@@ -197,20 +198,27 @@ none_made pass stripes none own = record {
     nothing [] call behind is = absurd (cc is)
     nothing (b ∷ bs) call behind is = absurd (cc is)
 
--- of three callers two made none: the events are the first one's
-pub by_first : (config : Config) (final : FinalView) → AreStripes final.board config final.stripes → config.callers ≡ 3 → MadeNone 1 final.stripes → MadeNone 2 final.stripes
-    → AreByCallers config.stripes 1 (histories_left final)
-by_first config final all three second third = record {
+-- where the maintainer and the crawler have no moments to work at, the events are those of the scripts' callers
+pub by_working : (config : Config) (final : FinalView) (scripts : ℕ) (moments : List ℕ) → AreStripes final.board config final.stripes → config.callers ≡ scripts + 2
+    → (moments ≡ [] → MadeNone scripts final.stripes × MadeNone (suc scripts) final.stripes) → AreByCallers config.stripes (callers_at_work scripts moments) (histories_left final)
+by_working config final scripts moments all many none = record {
   at = λ number place event below found.
       let s = get_some final.stripes number (omega (arith, below, all.many)) in
       let there : stripe_histories final.stripes number ≡ s.0.stripe.history = ap stripe_history s.1 in
       let at = ap (λ (h : List StripeEvent). slice_get h place) (sym there) ∙ found in
       let few = ((all.each number s.0 s.1).kept.called.each place event at).0 in
-      only (who_of event).caller (omega (arith, few, three)) (second.at number place s.0 event s.1 at) (third.at number place s.0 event s.1 at);
+      working moments (who_of event).caller (omega (arith, few, many)) (λ is. ((none is).0.at number place s.0 event s.1 at, (none is).1.at number place s.0 event s.1 at));
 }
   where
-    only : (n : ℕ) → n < 3 → (n ≡ 1 → ⊥) → (n ≡ 2 → ⊥) → n < 1
-    only zero few one two = omega arith
-    only (suc zero) few one two = absurd (one refl)
-    only (suc (suc zero)) few one two = absurd (two refl)
-    only (suc (suc (suc n))) few one two = absurd (omega (arith, few))
+    below_both : (n : ℕ) → n < scripts + 2 → (n ≡ scripts → ⊥) → (n ≡ suc scripts → ⊥) → n < scripts
+    below_both n few one two = elim (cases_lt n scripts) [
+      | inl below ↦ below
+      | inr past ↦ elim (cases_lt n (suc scripts)) [
+        | inl first ↦ absurd (one (omega (arith, past, first)))
+        | inr second ↦ absurd (two (omega (arith, few, second)))
+      ]
+    ]
+
+    working : (moments : List ℕ) (n : ℕ) → n < scripts + 2 → (moments ≡ [] → (n ≡ scripts → ⊥) × (n ≡ suc scripts → ⊥)) → n < callers_at_work scripts moments
+    working [] n few none = let both = none refl in below_both n few both.0 both.1
+    working (moment ∷ moments) n few none = few

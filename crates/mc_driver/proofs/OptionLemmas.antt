@@ -15,7 +15,7 @@ use Rattle.clap.specs.declared.builder.command.Command.TheViews.{out-Command}
 use Rattle.clap.specs.declared.builder.value_parser.ValueParser.{ValueParser}
 use Rattle.clap.specs.declared.builder.value_parser.ValueParser.TheVariants as parsers
 use Rattle.clap.specs.declared.parser.matches.ArgMatches.{ArgMatches}
-use Rattle.mc_driver.specs.Words.{any_number, any_small_number, chunks_rule, events_rule, mcseg, sizes_in, sizes_rule, stripes_rule, temp_rule, temp_ttl_rule}
+use Rattle.mc_driver.specs.Words.{any_number, any_small_number, chunks_rule, events_rule, mcseg, sizes_rule, stripes_rule, temp_rule, temp_ttl_rule, upkeep_rule}
 
 -- the command is one whose clauses can be computed
 pub is_plain : is_simple mcseg ≡ true
@@ -31,27 +31,27 @@ is_free = refl
 pub rows_are : (app : App) (words : List Text) (m : ArgMatches) → app ≡ mcseg → HasMatchesOf app words m → rows_of (found_of m) ≡ matches_of mcseg words
 rows_are app words m is has = (has (ap is_simple is ∙ is_plain)).0 ∙ ap (λ (a : App). matches_of a words) is
 
--- the text that the words give for the sizes is the first of that option
-pub sizes_are : (app : App) (words : List Text) (m : ArgMatches) → app ≡ mcseg → HasMatchesOf app words m → first_value (found_of m) (codes "sizes") ≡ sizes_in words
-sizes_are app words m is has = first_value-rows (found_of m) (codes "sizes") ∙ ap (first_of (codes "sizes")) (rows_are app words m is has)
+-- the text that the words give for an option is the first of that option
+pub first_text_is : (name : Text) (app : App) (words : List Text) (m : ArgMatches) → app ≡ mcseg → HasMatchesOf app words m → first_value (found_of m) name ≡ first_of name (matches_of mcseg words)
+first_text_is name app words m is has = first_value-rows (found_of m) name ∙ ap (first_of name) (rows_are app words m is has)
 
 -- the options of the command
 abbrev pub option_rules : List Rule
-option_rules = stripes_rule ∷ sizes_rule ∷ chunks_rule ∷ temp_rule ∷ temp_ttl_rule ∷ events_rule ∷ []
+option_rules = stripes_rule ∷ sizes_rule ∷ chunks_rule ∷ temp_rule ∷ temp_ttl_rule ∷ events_rule ∷ upkeep_rule ∷ []
 
 -- are these
 options_are : (old : Command) → app_of old ≡ mcseg → map rule_of (args_of old) ≡ option_rules
 unfolding mcseg
 options_are old is = ap (λ (a : App). a.top.rules) is
 
--- so there are six
-pub six_options : (old : Command) → app_of old ≡ mcseg → length (args_of old) ≡ 6
-six_options old is = sym (length-map (args_of old) rule_of) ∙ ap length (options_are old is)
+-- so there are seven
+pub seven_options : (old : Command) → app_of old ≡ mcseg → length (args_of old) ≡ 7
+seven_options old is = sym (length-map (args_of old) rule_of) ∙ ap length (options_are old is)
 
 -- and each has its rule
-pub rule_at : (old : Command) → app_of old ≡ mcseg → (k : ℕ) (d : Arg) → k < 6 → rule_of (slice_index_or (args_of old) k d) ≡ slice_index_or option_rules k sizes_rule
+pub rule_at : (old : Command) → app_of old ≡ mcseg → (k : ℕ) (d : Arg) → k < 7 → rule_of (slice_index_or (args_of old) k d) ≡ slice_index_or option_rules k sizes_rule
 rule_at old is k d below =
-    let few : k < length (args_of old) = rw (six_options old is) below in
+    let few : k < length (args_of old) = rw (seven_options old is) below in
     sym (get_or-map rule_of (args_of old) k d sizes_rule few) ∙ ap (λ rs. slice_index_or rs k sizes_rule) (options_are old is)
 
 -- the third of four tests that hold
@@ -91,27 +91,28 @@ in_no_group : (a : Arg) → is_simple_arg a ≡ true → a.groups.items ≡ []
 in_no_group a is = none_left a.groups.items (third _ _ _ _ is)
 
 -- each rule is of the simple kind
-rules_simple : (k : ℕ) → k < 6 → (slice_index_or option_rules k sizes_rule).is_simple ≡ true
+rules_simple : (k : ℕ) → k < 7 → (slice_index_or option_rules k sizes_rule).is_simple ≡ true
 rules_simple zero below = refl
 rules_simple (suc zero) below = refl
 rules_simple (suc (suc zero)) below = refl
 rules_simple (suc (suc (suc zero))) below = refl
 rules_simple (suc (suc (suc (suc zero)))) below = refl
 rules_simple (suc (suc (suc (suc (suc zero))))) below = refl
-rules_simple (suc (suc (suc (suc (suc (suc k)))))) below = absurd (omega arith)
+rules_simple (suc (suc (suc (suc (suc (suc zero)))))) below = refl
+rules_simple (suc (suc (suc (suc (suc (suc (suc k))))))) below = absurd (omega arith)
 
 -- so no option names a group
 pub groups_unnamed : (old : Command) → app_of old ≡ mcseg → NamesNoGroup old
 groups_unnamed old is = λ k d below.
-    let few : k < 6 = rw (← six_options old is) below in
+    let few : k < 7 = rw (← seven_options old is) below in
     in_no_group (slice_index_or (args_of old) k d) (ap (λ (r : Rule). r.is_simple) (rule_at old is k d few) ∙ rules_simple k few)
 
 -- what is known of an option that takes a value: its place, its name, which no other has, and what its text must be
 pub record IsOption (k : ℕ) (name : Text) (parser : ValueParser) : Type 0 where
-  pub below : k < 6
+  pub below : k < 7
   pub named : (slice_index_or option_rules k sizes_rule).id ≡ name
   pub parsed : (slice_index_or option_rules k sizes_rule).parser ≡ Some parser
-  pub alone : (j : ℕ) → j < 6 → bytes_eq (slice_index_or option_rules j sizes_rule).id name ≡ true → j ≡ k
+  pub alone : (j : ℕ) → j < 7 → bytes_eq (slice_index_or option_rules j sizes_rule).id name ≡ true → j ≡ k
   pub no_help : name ≡ codes "help" → ⊥
   pub no_version : name ≡ codes "version" → ⊥
   pub no_group : name ≡ [] → ⊥
@@ -130,14 +131,15 @@ stripes_option = record {
   no_group = λ is. cc;
 }
   where
-    only : (j : ℕ) → j < 6 → bytes_eq (slice_index_or option_rules j sizes_rule).id (codes "stripes") ≡ true → j ≡ 0
+    only : (j : ℕ) → j < 7 → bytes_eq (slice_index_or option_rules j sizes_rule).id (codes "stripes") ≡ true → j ≡ 0
     only zero below is = refl
     only (suc zero) below is = absurd (cc)
     only (suc (suc zero)) below is = absurd (cc)
     only (suc (suc (suc zero))) below is = absurd (cc)
     only (suc (suc (suc (suc zero)))) below is = absurd (cc)
     only (suc (suc (suc (suc (suc zero))))) below is = absurd (cc)
-    only (suc (suc (suc (suc (suc (suc j)))))) below is = absurd (omega arith)
+    only (suc (suc (suc (suc (suc (suc zero)))))) below is = absurd (cc)
+    only (suc (suc (suc (suc (suc (suc (suc j))))))) below is = absurd (omega arith)
 
 -- the number of chunks
 pub chunks_option : IsOption 2 (codes "chunks") any_number
@@ -151,14 +153,15 @@ chunks_option = record {
   no_group = λ is. cc;
 }
   where
-    only : (j : ℕ) → j < 6 → bytes_eq (slice_index_or option_rules j sizes_rule).id (codes "chunks") ≡ true → j ≡ 2
+    only : (j : ℕ) → j < 7 → bytes_eq (slice_index_or option_rules j sizes_rule).id (codes "chunks") ≡ true → j ≡ 2
     only zero below is = absurd (cc)
     only (suc zero) below is = absurd (cc)
     only (suc (suc zero)) below is = refl
     only (suc (suc (suc zero))) below is = absurd (cc)
     only (suc (suc (suc (suc zero)))) below is = absurd (cc)
     only (suc (suc (suc (suc (suc zero))))) below is = absurd (cc)
-    only (suc (suc (suc (suc (suc (suc j)))))) below is = absurd (omega arith)
+    only (suc (suc (suc (suc (suc (suc zero)))))) below is = absurd (cc)
+    only (suc (suc (suc (suc (suc (suc (suc j))))))) below is = absurd (omega arith)
 
 -- whether TEMP is on
 pub temp_option : IsOption 3 (codes "temp") parsers.Bool
@@ -174,14 +177,15 @@ temp_option = record {
   no_group = λ is. cc;
 }
   where
-    only : (j : ℕ) → j < 6 → bytes_eq (slice_index_or option_rules j sizes_rule).id (codes "temp") ≡ true → j ≡ 3
+    only : (j : ℕ) → j < 7 → bytes_eq (slice_index_or option_rules j sizes_rule).id (codes "temp") ≡ true → j ≡ 3
     only zero below is = absurd (cc)
     only (suc zero) below is = absurd (cc)
     only (suc (suc zero)) below is = absurd (cc)
     only (suc (suc (suc zero))) below is = refl
     only (suc (suc (suc (suc zero)))) below is = absurd (cc)
     only (suc (suc (suc (suc (suc zero))))) below is = absurd (cc)
-    only (suc (suc (suc (suc (suc (suc j)))))) below is = absurd (omega arith)
+    only (suc (suc (suc (suc (suc (suc zero)))))) below is = absurd (cc)
+    only (suc (suc (suc (suc (suc (suc (suc j))))))) below is = absurd (omega arith)
 
 -- the life in TEMP
 pub temp_ttl_option : IsOption 4 (codes "temp-ttl") any_number
@@ -195,14 +199,15 @@ temp_ttl_option = record {
   no_group = λ is. cc;
 }
   where
-    only : (j : ℕ) → j < 6 → bytes_eq (slice_index_or option_rules j sizes_rule).id (codes "temp-ttl") ≡ true → j ≡ 4
+    only : (j : ℕ) → j < 7 → bytes_eq (slice_index_or option_rules j sizes_rule).id (codes "temp-ttl") ≡ true → j ≡ 4
     only zero below is = absurd (cc)
     only (suc zero) below is = absurd (cc)
     only (suc (suc zero)) below is = absurd (cc)
     only (suc (suc (suc zero))) below is = absurd (cc)
     only (suc (suc (suc (suc zero)))) below is = refl
     only (suc (suc (suc (suc (suc zero))))) below is = absurd (cc)
-    only (suc (suc (suc (suc (suc (suc j)))))) below is = absurd (omega arith)
+    only (suc (suc (suc (suc (suc (suc zero)))))) below is = absurd (cc)
+    only (suc (suc (suc (suc (suc (suc (suc j))))))) below is = absurd (omega arith)
 
 -- the limit of events
 pub events_option : IsOption 5 (codes "events") any_number
@@ -216,11 +221,12 @@ events_option = record {
   no_group = λ is. cc;
 }
   where
-    only : (j : ℕ) → j < 6 → bytes_eq (slice_index_or option_rules j sizes_rule).id (codes "events") ≡ true → j ≡ 5
+    only : (j : ℕ) → j < 7 → bytes_eq (slice_index_or option_rules j sizes_rule).id (codes "events") ≡ true → j ≡ 5
     only zero below is = absurd (cc)
     only (suc zero) below is = absurd (cc)
     only (suc (suc zero)) below is = absurd (cc)
     only (suc (suc (suc zero))) below is = absurd (cc)
     only (suc (suc (suc (suc zero)))) below is = absurd (cc)
     only (suc (suc (suc (suc (suc zero))))) below is = refl
-    only (suc (suc (suc (suc (suc (suc j)))))) below is = absurd (omega arith)
+    only (suc (suc (suc (suc (suc (suc zero)))))) below is = absurd (cc)
+    only (suc (suc (suc (suc (suc (suc (suc j))))))) below is = absurd (omega arith)

@@ -1,5 +1,5 @@
 -- What the words give for an option is what it takes, as its parser reads it.
-use Rattle.std.proofs.Common.{◌≡◌, ◌∙◌, ◌<◌, ℕ, Bool, true, false, List, [], ◌∷◌, Option, Some, None, ap, arith, codes, inl, inr, length, refl, subst, sym}
+use Rattle.std.proofs.Common.{◌≡◌, ◌∙◌, ◌<◌, ◌≤◌, ◌^◌, ℕ, Bool, true, false, List, [], ◌∷◌, Option, Some, None, ap, arith, codes, inl, inr, length, refl, subst, sym}
 use Rattle.std.proofs.lemmas.List.Elements.{All-get_or}
 use Rattle.std.proofs.lemmas.Slice.Eq.{bytes_eq-Decides}
 use Rattle.std.specs.Borrow.{Bor}
@@ -7,6 +7,7 @@ use Rattle.std.specs.List.{All, slice_index_or}
 use Rattle.std.specs.Option.{option_map}
 use Rattle.std.specs.Prelude.{slice_get}
 use Rattle.std.specs.Str.{bytes_eq}
+use Rattle.mc_driver.specs.Asked.{AreMomentsNamed}
 use Rattle.clap.proofs.CallerLemmas.{entry_by_id, same_rules_by_id}
 use Rattle.clap.specs.Facts.{Entry, EntryPasses, PassesArg, parser_of_value}
 use Rattle.clap.specs.Words.{Accepts, IsParsedFrom, Text, app_of, args_of, found_of, groups_of, matched_of, one_text, parser_of, read_as, reading_of, Rule}
@@ -26,7 +27,7 @@ use Rattle.std.specs.Str.Parse.{IsNumeral, starts_with_minus, without_leading_pl
 use Rattle.clap.specs.Lexer.{without_minus}
 use Rattle.clap.specs.Values.{IsSignedIn, IsUnsignedIn}
 use Rattle.mc_driver.specs.Words.{mcseg, numbers_below, sizes_rule}
-use Rattle.mc_driver.proofs.OptionLemmas.{IsOption, globals_none, groups_none, groups_unnamed, option_rules, rule_at, six_options, stripes_option}
+use Rattle.mc_driver.proofs.OptionLemmas.{IsOption, globals_none, groups_none, groups_unnamed, option_rules, rule_at, seven_options, stripes_option}
 
 -- an argument of the command as it was given
 abbrev arg_at : Command → ℕ → Arg → Arg
@@ -36,14 +37,14 @@ arg_at old k d = slice_index_or (args_of old) k d
 reads : (old : Command) (m : ArgMatches) (p : IsParsedFrom old m) → app_of old ≡ mcseg → {k : ℕ} {name : Text} {parser : ValueParser} → IsOption k name parser
     → (j : ℕ) (x : Arg) → j < length (args_of p.built) → slice_index_or (args_of p.built) j x ≡ x → bytes_eq x.id.now name ≡ true → parser_of x ≡ parser
 reads old m p is {k} {name} {parser} option j x high at same =
-    let six = six_options old is in
-    let few : k < length (args_of old) = rw six option.below in
+    let seven = seven_options old is in
+    let few : k < length (args_of old) = rw seven option.below in
     let rule = rule_at old is k x option.below in
     let id : (arg_at old k x).id.now ≡ name = ap (λ (r : Rule). r.id) rule ∙ option.named in
     let named : bytes_eq x.id.now (arg_at old k x).id.now ≡ true = rw id same in
     let same_rules = same_rules_by_id old m p k x few
     (λ i e below equal.
-    let less : i < 6 = rw (← six) below in
+    let less : i < 7 = rw (← seven) below in
     let its : (arg_at old i e).id.now ≡ (slice_index_or option_rules i sizes_rule).id = ap (λ (r : Rule). r.id) (rule_at old is i e less) in
     option.alone i less (rw (← its, ← id) equal))
     (λ auto. elim auto [
@@ -153,3 +154,8 @@ pub stripes_pass : (old : Command) (m : ArgMatches) → IsParsedFrom old m → a
 stripes_pass old m p is t text =
     let taken = option_taken old m p is stripes_option t text in
     (taken.in_any_case, small_is taken.written t taken.read taken.accepted)
+
+-- moments that words ask for are early
+pub moments_early : (text : Option (List ℕ)) (moments : List ℕ) → AreMomentsNamed text moments → All (λ moment. moment ≤ 2 ^ 62) moments
+moments_early None moments none = subst (All (λ moment. moment ≤ 2 ^ 62)) (sym none) (λ i d below. absurd (omega (arith, below)))
+moments_early (Some text) moments named = named.allowed.early

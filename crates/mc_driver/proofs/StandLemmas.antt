@@ -1,5 +1,5 @@
 -- Calls that stand in histories go on standing where these grow.
-use Rattle.std.proofs.Common.{◌≡◌, ◌<◌, ℕ, List, [], ◌∷◌, ◌++◌, sym, ap, ◌∙◌, append_assoc, subst, refl, inl, inr}
+use Rattle.std.proofs.Common.{◌<◌, ℕ, List, [], ◌∷◌, ◌++◌, sym, ap, ◌∙◌, append_assoc, subst, refl, inl, inr}
 use mathlib.Core.List.{IsPrefix}
 use Rattle.mc_item.specs.declared.class_event.ClassEvent.{ClassEvent}
 use Rattle.mc_item.specs.declared.command.Command.{Command}
@@ -15,7 +15,7 @@ use Rattle.mc_script.specs.Exchanges.{Asks, Call, Exchange, Juggles, Crawls}
 use Rattle.mc_store.specs.Locked.{setting_of}
 use Rattle.mc_driver.specs.Caller.{ArePlaced, IsPlaced}
 use Rattle.mc_driver.specs.Noted.{NotesCommand, NotesJuggling, answered_event, NotesCrawling}
-use Rattle.mc_driver.specs.Stand.{Histories, Stand, Stands, StandsAs, stripe_number}
+use Rattle.mc_driver.specs.Stand.{Histories, Stand, StandsAs, stripe_number}
 use Rattle.mc_item.specs.declared.counts.Histogram.{Histogram}
 use Rattle.mc_store.specs.Crawls.{HasReclaims}
 use Rattle.mc_store.specs.Sides.{class_told}

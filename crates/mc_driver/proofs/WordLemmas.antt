@@ -1,5 +1,5 @@
 -- Which numbers the parts between a text's commas spell, and which list they are.
-use Rattle.std.proofs.Common.{◌≡◌, ◌≤◌, ◌<◌, ℕ, ◌+◌, ◌^◌, Bool, true, false, ◌&&◌, cond, eqb, nat_lt, List, [], ◌∷◌, ◌++◌, Some, None, Option, length, map, drop, get_or, refl, sym, ap, ◌∙◌, ◌⊎◌, inl, inr, append-nil, arith}
+use Rattle.std.proofs.Common.{◌≡◌, ◌≤◌, ◌<◌, ℕ, ◌+◌, ◌^◌, Bool, true, false, ◌&&◌, cond, eqb, nat_lt, List, [], ◌∷◌, ◌++◌, Some, None, Option, length, map, drop, get_or, refl, subst, sym, ap, ◌∙◌, ◌⊎◌, inl, inr, append-nil, arith}
 use Rattle.std.specs.Prelude.{Result, Ok, Err, MatchOption}
 use Rattle.std.proofs.lemmas.Bool.Decides.{nat_tests}
 use Rattle.std.proofs.lemmas.Bool.{cases_lt}
@@ -10,7 +10,7 @@ use Rattle.std.specs.List.{list_all, slice_split, All, position_or_len, before_f
 use Rattle.mc_item.specs.Measure.{is_digit, number_of, number_in}
 use Rattle.mc_item.specs.declared.config.Config.{Config}
 use Rattle.mc_item.specs.declared.config.ConfigFault.{ConfigFault}
-use Rattle.mc_driver.specs.Asked.{IsListOf, IsNoList}
+use Rattle.mc_driver.specs.Asked.{AreMoments, AreNamed, IsListOf, IsNoList, NamesNoMoments}
 
 -- a number is read only where the second of three tests passes
 second_passes : (a b c : Bool) (n m : ℕ) → cond (a && b && c) (Some n) None ≡ Some m → b ≡ true
@@ -125,6 +125,23 @@ part_refused numbers text i part at none so_far =
 pub parts_read : (numbers text : List ℕ) (i : ℕ) → length (slice_split (λ b. eqb b 44) text) ≤ i → map Some numbers ++ map number_in (drop i (slice_split (λ b. eqb b 44) text)) ≡ map number_in (slice_split (λ b. eqb b 44) text) → IsListOf text numbers
 parts_read numbers text i end so_far =
     list_of_parts numbers text (sym so_far ∙ ap (λ (t : List (Option ℕ)). map Some numbers ++ t) (at_drop_all (map number_in) (slice_split (λ b. eqb b 44) text) i end) ∙ append-nil (map Some numbers))
+
+-- equal numbers have equal parts
+same_somes : (ns ms : List ℕ) → map Some ns ≡ map Some ms → ns ≡ ms
+same_somes [] [] is = refl
+same_somes [] (m ∷ ms) is = absurd (cc)
+same_somes (n ∷ ns) [] is = absurd (cc)
+same_somes (n ∷ ns) (m ∷ ms) is = let rest = same_somes ns ms (cc) in cc
+
+-- a text is one list
+same_list : (text numbers others : List ℕ) → IsListOf text numbers → IsListOf text others → others ≡ numbers
+same_list text numbers others list other = same_somes others numbers (sym (parts_of_list others text other) ∙ parts_of_list numbers text list)
+
+-- where its numbers may be no moments, the text names none
+pub no_moments : (text : Option (List ℕ)) (numbers : List ℕ) → AreNamed text (Some numbers) → (AreMoments numbers → ⊥) → NamesNoMoments text
+no_moments None numbers list refused = absurd list
+no_moments (Some text) numbers list refused = λ moments is.
+    refused (subst AreMoments (same_list text numbers moments list is.list) is.allowed)
 
 -- a configuration that was refused has the fault
 pub check_failed : (given : Config) (r : Result Config ConfigFault) (f : ConfigFault) (fault : Option ConfigFault) → r ≡ Err f → MatchOption fault (r ≡ Ok given) (λ f. r ≡ Err f) → fault ≡ Some f

@@ -1,5 +1,6 @@
 -- What options ask for: which numbers a list is, and which configuration is meant (own).
-use Rattle.std.specs.Prelude.{ℕ, ◌≡◌, ◌^◌, List, [], ◌∷◌, ◌++◌, Bool, Option, Some, None, codes, length, replicate}
+use Rattle.std.specs.Prelude.{ℕ, ◌≡◌, ◌≤◌, ◌^◌, List, [], ◌∷◌, ◌++◌, Bool, Option, Some, None, codes, length, replicate, ◌⊎◌}
+use Rattle.std.specs.List.{All}
 use Rattle.std.specs.Str.Parse.{without_leading_plus}
 use Rattle.clap.specs.Words.{Accepts, Text, one_text}
 use Rattle.clap.specs.declared.builder.value_parser.ValueParser.TheVariants as parsers
@@ -9,7 +10,7 @@ use Rattle.mc_item.specs.Measure.{number_in}
 use Rattle.mc_item.specs.declared.config.Config.{Config}
 use Rattle.mc_item.specs.declared.config.ConfigFault.{ConfigFault}
 use Rattle.mc_item.specs.declared.config.ConfigFault.TheVariants.{Stripes, Sizes, Chunks, Percent, Factor, Callers, Events}
-use Rattle.mc_driver.specs.Words.{is_yes, numbers_below, sizes_in, temp_in, text_in}
+use Rattle.mc_driver.specs.Words.{is_yes, numbers_below, sizes_in, temp_in, text_in, upkeep_in}
 use Rattle.mc_driver.specs.declared.plans.Options.{Options}
 use Rattle.mc_driver.specs.declared.plans.PlanFault.{PlanFault}
 use Rattle.mc_driver.specs.declared.plans.PlanFault.TheVariants as plan_faults
@@ -37,6 +38,21 @@ AreNamed None (Some numbers) = ⊥
 AreNamed (Some text) None = ⊥
 AreNamed (Some text) (Some numbers) = IsListOf text numbers
 
+-- these may be moments of upkeep: at most 1,000, each at most 2^62
+pub record AreMoments (moments : List ℕ) : Type 0 where
+  pub few : length moments ≤ 1000
+  pub early : All (λ moment. moment ≤ 2 ^ 62) moments
+
+-- the text is a list of these moments
+pub record IsMomentsOf (text moments : List ℕ) : Type 0 where
+  pub list : IsListOf text moments
+  pub allowed : AreMoments moments
+
+-- there are no moments where there is no text, and else the text is a list of them
+abbrev pub AreMomentsNamed : Option (List ℕ) → List ℕ → Type 0
+AreMomentsNamed None moments = moments ≡ []
+AreMomentsNamed (Some text) moments = IsMomentsOf text moments
+
 -- the words ask for what these options say
 pub record AreGiven (words : List Text) (options : Options) : Type 0 where
   pub stripes : IsNumberOf (text_in (codes "stripes") words) options.stripes
@@ -62,9 +78,11 @@ pub record AreFound (found : Found) (options : Options) : Type 0 where
   pub temp_ttl : IsNumberRead (2 ^ 64) (one_text found (codes "temp-ttl")) options.temp_ttl
   pub events : IsNumberRead (2 ^ 64) (one_text found (codes "events")) options.events
 
--- the words ask for these sizes, where there are any, and for what these options say
-abbrev pub AreAsked : List Text → Option (List ℕ) → Options → Type 0
-AreAsked words sizes options = AreNamed (sizes_in words) sizes × AreGiven words options
+-- the words ask for these sizes, where there are any, these moments of upkeep, and for what these options say
+pub record AreAsked (words : List Text) (sizes : Option (List ℕ)) (upkeep : List ℕ) (options : Options) : Type 0 where
+  pub sized : AreNamed (sizes_in words) sizes
+  pub moments : AreMomentsNamed (upkeep_in words) upkeep
+  pub given : AreGiven words options
 
 -- the text is no list of numbers
 abbrev pub IsNoList : List ℕ → Type 0
@@ -74,6 +92,15 @@ IsNoList text = (numbers : List ℕ) → IsListOf text numbers → ⊥
 abbrev pub NamesNone : Option (List ℕ) → Type 0
 NamesNone None = ⊥
 NamesNone (Some text) = IsNoList text
+
+-- there is a text, and it is no list of moments
+abbrev pub NamesNoMoments : Option (List ℕ) → Type 0
+NamesNoMoments None = ⊥
+NamesNoMoments (Some text) = (moments : List ℕ) → IsMomentsOf text moments → ⊥
+
+-- one of two texts is bad: that of the sizes is no list of numbers, or that of upkeep no list of moments
+abbrev pub IsBadList : Option (List ℕ) → Option (List ℕ) → Type 0
+IsBadList sizes upkeep = NamesNone sizes ⊎ NamesNoMoments upkeep
 
 -- the configuration with these sizes and 1,024 chunks for each, where sizes are given
 abbrev pub with_sizes : Option (List ℕ) → Config → Config

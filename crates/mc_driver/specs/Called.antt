@@ -1,11 +1,12 @@
 -- That each event of a stripe is of a call that stands in the histories, by who made it and its moment (own).
 use Rattle.std.specs.Prelude.{ℕ, ◌≡◌, ◌<◌, List, Some, slice_get}
 use Rattle.mc_item.specs.declared.config.Config.{Config}
-use Rattle.mc_item.specs.declared.item.Who.{Who}
 use Rattle.mc_item.specs.declared.stripe_event.StripeEvent.{StripeEvent}
 use Rattle.mc_item.specs.declared.stripe_event.StripeEvent.TheVariants as events
 use Rattle.mc_script.specs.Exchanges.{Exchange}
 use Rattle.mc_store.specs.Callers.{IsMomentOf, who_of}
+use Rattle.mc_store.specs.Finals.{AreItsOwn, FinalView, IsBehindClasses, IsBehindStripes}
+use Rattle.mc_store.specs.Passes.{PassView}
 use Rattle.mc_driver.specs.Stand.{Histories, Stands}
 use Rattle.mc_store.specs.Sides.{StripeSide}
 
@@ -34,3 +35,9 @@ pub record AreByCallers (stripes callers : ℕ) (histories : Histories) : Type 0
 -- none of the events of these stripes names this caller
 pub record MadeNone (caller : ℕ) (stripes : List StripeSide) : Type 0 where
   pub at : (k place : ℕ) (s : StripeSide) (event : StripeEvent) → slice_get stripes k ≡ Some s → slice_get s.stripe.history place ≡ Some event → (who_of event).caller ≡ caller → ⊥
+
+-- a pass was compared with the store that is left: what it has seen is a beginning, and the events in its caller's name were called
+pub record IsCompared (pass : PassView) (final : FinalView) : Type 0 where
+  pub stripes : IsBehindStripes pass.sight final.stripes
+  pub classes : IsBehindClasses pass.sight final.classes
+  pub own : AreItsOwn pass final.stripes

@@ -2,6 +2,8 @@ pub mod Noted
 pub mod Stand
 pub mod Called
 pub mod Caller
+pub mod Jobs
 pub mod Run
+pub mod Left
 pub mod Words
 pub mod Asked

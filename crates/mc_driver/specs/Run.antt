@@ -1,5 +1,5 @@
 -- Which runs are accepted, and the store that one leaves.
-use Rattle.std.specs.Prelude.{ℕ, ◌≡◌, ◌<◌, ◌≤◌, ◌+◌, ◌-◌, ◌⊎◌, Some, None, length, slice_get, slice_index}
+use Rattle.std.specs.Prelude.{ℕ, ◌≡◌, ◌<◌, ◌≤◌, ◌+◌, ◌-◌, ◌⊎◌, List, [], ◌∷◌, Some, None, length, slice_get, slice_index}
 use Rattle.mc_item.specs.Config.{fault_of}
 use Rattle.mc_item.specs.Stripe.{IsLegal}
 use Rattle.mc_item.specs.declared.answer.Site.{Site}
@@ -25,9 +25,9 @@ limits_of config = record { largest = slice_index config.sizes (length config.si
 abbrev pub site_of : Config → ℕ → Site
 site_of config number = record { stripe = number; stripes = config.stripes; sizes = config.sizes }
 
--- the configuration for one script, which has a caller for it, for the maintainer and for the crawler
-abbrev pub with_callers : Config → Config
-with_callers config =
+-- the configuration for so many scripts: a caller for each, one for the maintainer, and one for the crawler
+abbrev pub with_callers : ℕ → Config → Config
+with_callers scripts config =
     record {
       stripes = config.stripes;
       sizes = config.sizes;
@@ -38,27 +38,32 @@ with_callers config =
       warm_factor = config.warm_factor;
       temp = config.temp;
       temp_ttl = config.temp_ttl;
-      callers = 3;
+      callers = scripts + 2;
       max_events = config.max_events;
     }
 
--- there is one script and no upkeep
-abbrev pub IsOneScript : ℕ → ℕ → Type 0
-IsOneScript scripts upkeep = (scripts ≡ 1) × (upkeep ≡ 0)
+-- so many scripts may be run at once
+abbrev pub AreScripts : ℕ → Type 0
+AreScripts scripts = (1 ≤ scripts) × (scripts ≤ 62)
 
 -- the configuration is sound
-abbrev pub IsRunnable : Config → Type 0
-IsRunnable config = fault_of (with_callers config) ≡ None
+abbrev pub IsRunnable : ℕ → Config → Type 0
+IsRunnable scripts config = fault_of (with_callers scripts config) ≡ None
 
--- so many scripts and upkeep moments, and this configuration, may be run
-abbrev pub IsAccepted : ℕ → ℕ → Config → Type 0
-IsAccepted scripts upkeep config = IsOneScript scripts upkeep × IsRunnable config
+-- so many scripts, and this configuration, may be run
+abbrev pub IsAccepted : ℕ → Config → Type 0
+IsAccepted scripts config = AreScripts scripts × IsRunnable scripts config
 
--- why they are not: the number of scripts and upkeep come first, then the configuration, then memory
-abbrev pub IsRefused : RunFault → ℕ → ℕ → Config → Type 0
-IsRefused refusals.Scripts scripts upkeep config = IsOneScript scripts upkeep → ⊥
-IsRefused refusals.Configuration scripts upkeep config = IsOneScript scripts upkeep × (IsRunnable config → ⊥)
-IsRefused refusals.NoMemory scripts upkeep config = IsAccepted scripts upkeep config
+-- why they are not: the number of scripts comes first, then the configuration, then memory
+abbrev pub IsRefused : RunFault → ℕ → Config → Type 0
+IsRefused refusals.Scripts scripts config = AreScripts scripts → ⊥
+IsRefused refusals.Configuration scripts config = AreScripts scripts × (IsRunnable scripts config → ⊥)
+IsRefused refusals.NoMemory scripts config = IsAccepted scripts config
+
+-- how many callers make calls: one for each script, and with upkeep the maintainer and the crawler
+abbrev pub callers_at_work : ℕ → List ℕ → ℕ
+callers_at_work scripts [] = scripts
+callers_at_work scripts (moment ∷ moments) = scripts + 2
 
 -- a stripe of this number of a configuration, with a legal history
 pub record IsStripe (config : Config) (number : ℕ) (s : Stripe) : Type 0 where
@@ -69,7 +74,7 @@ pub record IsStripe (config : Config) (number : ℕ) (s : Stripe) : Type 0 where
 -- a class of this number of a configuration
 pub record IsClass (config : Config) (number : ClassNo) (c : ClassView) : Type 0 where
   pub number_is : c.number ≡ number
-  pub made_with : IsClassOf (with_callers config) c
+  pub made_with : IsClassOf config c
 
 -- the histories that a run leaves
 abbrev pub histories_left : FinalView → Histories

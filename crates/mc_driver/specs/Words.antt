@@ -46,11 +46,15 @@ temp_ttl_rule = number_rule (codes "temp-ttl")
 abbrev pub events_rule : Rule
 events_rule = number_rule (codes "events")
 
+-- the option `--upkeep`, which takes one text
+abbrev pub upkeep_rule : Rule
+upkeep_rule = record (new_rule (codes "upkeep")) { long = Some (codes "upkeep"); action = Some Set; value_names = 1 }
+
 -- the command `mcseg`: these options and a version
 unfoldable pub mcseg : App
 mcseg =
-    with_rule (with_rule (with_rule (with_rule (with_rule (with_rule (record { top = record (new_app (codes "mcseg")).top { has_version = true }; subs = [] })
-    stripes_rule) sizes_rule) chunks_rule) temp_rule) temp_ttl_rule) events_rule
+    with_rule (with_rule (with_rule (with_rule (with_rule (with_rule (with_rule (record { top = record (new_app (codes "mcseg")).top { has_version = true }; subs = [] })
+    stripes_rule) sizes_rule) chunks_rule) temp_rule) temp_ttl_rule) events_rule) upkeep_rule
 
 -- the kinds of refusal that the words earn; none where the command takes them
 abbrev pub refusals : List Text → Kinds
@@ -59,6 +63,10 @@ refusals words = refusals_of mcseg words
 -- the text that the words give for the sizes
 abbrev pub sizes_in : List Text → Option Text
 sizes_in words = first_of (codes "sizes") (matches_of mcseg words)
+
+-- the text that the words give for the moments of upkeep
+abbrev pub upkeep_in : List Text → Option Text
+upkeep_in words = first_of (codes "upkeep") (matches_of mcseg words)
 
 -- the text that the words give for the option of this name
 abbrev pub text_in : Text → List Text → Option Text

@@ -10,9 +10,9 @@ use std::alloc::AllocError;
 pub enum RunFault {
     /// A growth was refused.
     NoMemory,
-    /// The configuration isn't sound, or there is more than one stripe.
+    /// The configuration isn't sound.
     Configuration,
-    /// There isn't one script, or there is upkeep to do.
+    /// There is no script, or there are more than 62.
     Scripts,
 }
 

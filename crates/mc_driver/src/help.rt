@@ -10,7 +10,7 @@ pub const ABOUT: &str =
 /// All else that a person has to know before the first script.
 pub const AFTER: &str = "\
 Requests are those of memcached's classic text protocol. Their replies are printed when the input
-has ended.
+has ended and its scripts have run.
   get <key>..    gets <key>..    touch <key> <exptime>    delete <key>    quit
   set, add, replace <key> <flags> <exptime> <bytes>       incr, decr <key> <delta>
   cas <key> <flags> <exptime> <bytes> <cas number>
@@ -26,8 +26,14 @@ Directives stand in the place of a command:
   %crawl <class>    looks at each entry of a slab class, reclaims the dead, and prints CRAWL and how
   %crawl all        many it saw, reclaimed, passed, found gone, saw without exptime and saw with an
                     hour or more to live; then MINUTE, i and how many have i minutes left; then END
-  %next             ends the script, as quit does
+  %next             begins the next script
 Slab classes are numbered from 1, in the order of their sizes.
+
+The input is cut at each %next into scripts. Each runs at the same time as the others, as a caller
+of its own, and begins at moment 1000. Replies are printed script by script when all have ended.
+quit ends the script: what follows it up to a %next is read and ignored. With --upkeep every slab
+class is juggled by the maintainer and crawled by the crawler at each of the moments in order,
+beside the scripts; nothing is printed of that.
 
 Limits:
   key           1 to 250 bytes, none of them NUL, LF, CR or space
@@ -38,6 +44,8 @@ Limits:
   value         the size of the largest slab class, less 64 bytes and those of the key
   delta         below 2^64, as a cas number
   moment        0 to 2^62
+  scripts       1 to 62
+  upkeep        1 to 1,000 moments
 
 An item has a chunk of the smallest slab class that holds 64 bytes, its key and its value. Where
 that class has no free chunk, one is taken from an item near the tail of the class's lists; where
@@ -46,19 +54,21 @@ none can be taken, the reply is SERVER_ERROR out of memory storing object.
 Each key belongs to one stripe. There is a history of the commands of each stripe, and one of each
 slab class. That of a stripe keeps an event for each command that is answered, one for each key of a
 get, for each item that goes since it is dead or its chunk is taken, and for each mark that is
-cleared; that of a class for each entry that comes, moves or goes, and one or two for each %juggle.
-Each may have as many events as --events allows. With n stripes the new versions of a stripe's items
-have cas numbers n apart.
+cleared; that of a class for each entry that comes, moves or goes, and one or two for each %juggle
+or moment of upkeep. Each may have as many events as --events allows. With n stripes the new
+versions of a stripe's items have cas numbers n apart.
 
 Exit statuses, and the lines on standard error:
   0  all went well, or help or the version was printed
   1  memory or a history ran out; what was answered before is printed
        mcseg: out of memory
        mcseg: history full                raise --events
-  2  the words of the command line were refused
+  2  the words of the command line or the number of scripts were refused
        error: <what is wrong>             no options as above, or no number behind one
        mcseg: a word of the command line is not UTF-8
-       mcseg: bad list                    no decimal numbers with one comma between two
+       mcseg: bad list                    no decimal numbers with one comma between two, or upkeep
+                                          at more than 1,000 moments or at one above 2^62
+       mcseg: too many scripts            more than 62
        mcseg: bad configuration <number>  the first of these that is out of its bounds:
          1 stripes   1, 2, 4, 8, 16, 32 or 64
          2 sizes     1 to 63 of them, each larger than the one before, from 65 to 1,048,576

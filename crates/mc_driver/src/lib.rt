@@ -4,6 +4,7 @@
 mod caller;
 mod fault;
 mod help;
+mod jobs;
 mod memory;
 mod plans;
 mod program;

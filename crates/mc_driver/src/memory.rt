@@ -1,5 +1,5 @@
 //! A source and a sink in memory.
-ghost use Rattle.std.specs.Prelude.{◌≡◌, ◌<◌, ◌++◌, [], OnOk, OnErr, length};
+ghost use Rattle.std.specs.Prelude.{◌≡◌, ◌<◌, ◌+◌, ◌++◌, [], OnOk, OnErr, length};
 ghost use Rattle.std.specs.List.{flat_map};
 
 use mc_item::NoMemory;
@@ -9,7 +9,8 @@ use std::alloc::Global;
 use std::collections::VecDeque;
 use std::marker::Model;
 use std::mem;
-use std::sync::ledger::{Blank, Book, Ledger, Share};
+use std::sync::ledger::{Book, Ledger, Share};
+use std::sync::{Mutex, Wait};
 
 /// A source that gives its pieces one by one, and keeps none that it gave. It never fails.
 #[derive(Drop)]
@@ -70,56 +71,66 @@ fn keep_whole(alloc: Global, pieces: &mut Vec<Vec<u8>>, text: &mut Vec<u8>) -> R
     Ok(())
 }
 
-/// A sink that keeps what it takes. It fails where it finds no memory; how often, a ledger counts.
+/// A sink that keeps what it takes. It fails where it finds no memory; how often, its share of a ledger says, whose book
+/// all sinks of a run have in common.
 #[derive(Drop)]
-pub struct Kept<L: Ledger> {
+pub struct Kept<'a, R: Wait, L: Ledger> {
     /// What it has taken, in pieces.
     pub pieces: Vec<Vec<u8>>,
+    rt: &'a R,
     alloc: Global,
-    book: Book<L>,
+    book: &'a Mutex<Book<L>>,
     share: Share<L>,
     ghost has_part: { 0 < share.parts },
 }
 
-impl<L: Ledger> Kept<L> {
+impl<'a, R: Wait, L: Ledger> Kept<'a, R, L> {
     /// A sink that has taken nothing.
-    pub fn new(alloc: Global, blank: Blank) -> Kept<L>
-        requires name { blank.name ≡ L.name }
-        requires parts { blank.parts ≡ L.parts }
-        requires some { 0 < blank.parts }
+    pub fn new(
+        rt: &'a R,
+        alloc: Global,
+        book: &'a Mutex<Book<L>>,
+        share: Share<L>,
+    ) -> Kept<'a, R, L>
+        requires { 0 < share.parts }
+        ensures { result.pieces.items ≡ [] }
     {
-        let (book, share) = blank.open::<L>();
         Kept {
             pieces: Vec::new(alloc),
+            rt,
             alloc,
             book,
             share,
         }
     }
+
+    // A failure.
+    fn fail(&mut self) -> SinkFault
+        ensures pieces { self.new.pieces.items ≡ self.old.pieces.items }
+        ensures count { self.new.share.amount ≡ self.old.share.amount + 1 }
+    {
+        let mut book = self.book.lock(self.rt);
+        book.add(&mut self.share, 1);
+        SinkFault
+    }
 }
 
-impl<L: Ledger> Sink for Kept<L> {
+impl<'a, R: Wait, L: Ledger> Sink for Kept<'a, R, L> {
     ghost taken = { λ s. flat_map (λ v. v.items) s.pieces.items };
 
-    ghost failures = { λ s. s.book.total };
+    ghost failures = { λ s. s.share.amount };
 
     fn put(&mut self, bytes: &[u8]) -> Result<usize, SinkFault> {
         match keep_copy(self.alloc, &mut self.pieces, bytes) {
             Ok(()) => Ok(bytes.len()),
-            Err(_) => {
-                self.book.add(&mut self.share, 1);
-                Err(SinkFault)
-            }
+            Err(_) => Err(self.fail()),
         }
     }
 
     fn put_whole(&mut self, text: &mut Vec<u8>) -> Result<(), SinkFault> {
         match keep_whole(self.alloc, &mut self.pieces, text) {
             Ok(()) => Ok(()),
-            Err(_) => {
-                self.book.add(&mut self.share, 1);
-                Err(SinkFault)
-            }
+            Err(_) => Err(self.fail()),
         }
     }
 }

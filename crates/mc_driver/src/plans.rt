@@ -1,12 +1,19 @@
 //! Plans: what the options ask for.
-ghost use Rattle.std.specs.Prelude.{◌≡◌, ℕ, List, [], IfOk, Err, Option, None, MatchOption};
+ghost use Rattle.std.specs.Prelude.{◌≡◌, ℕ, List, IfOk, Err, Option, None, MatchOption};
+ghost use Rattle.std.specs.Bool.{Decides};
 ghost use Rattle.std.specs.Option.{option_copied, option_map};
 ghost use Rattle.mc_item.specs.Config.{fault_of};
-ghost use Rattle.mc_driver.specs.Asked.{AreNamed, IsFault, IsListOf, IsNoList, NamesNone, asked, fault_number};
+ghost use Rattle.mc_driver.specs.Asked.{AreMoments, AreMomentsNamed, AreNamed, IsBadList, IsFault, IsListOf, IsNoList, NamesNoMoments, NamesNone, asked, fault_number};
 ghost use Rattle.mc_driver.specs.declared.plans.PlanFault.TheVariants as faults;
 
 use mc_item::{Config, ConfigFault, NoMemory, Numbers, number_of};
 use std::alloc::Global;
+
+// How many moments of upkeep there may be.
+const MOST_MOMENTS: usize = 1000;
+
+// The last moment.
+const MAX_MOMENT: u64 = 1 << 62;
 
 /// What is asked for: a store's configuration, and the moments of upkeep.
 #[derive(Drop)]
@@ -15,7 +22,7 @@ pub struct Plan {
     pub upkeep: Numbers,
 }
 
-/// What the options ask for, but that of the sizes: none where an option is absent.
+/// What the options ask for, but those of the sizes and of upkeep: none where an option is absent.
 #[derive(Clone, Copy, Debug, PartialEq, Eq)]
 pub struct Options {
     /// How many stripes the store has, instead of 1.
@@ -33,7 +40,8 @@ pub struct Options {
 /// Why there is no plan.
 #[derive(Clone, Copy, Debug, PartialEq, Eq)]
 pub enum PlanFault {
-    /// A list isn't one of numbers below 2^64 with one comma between two.
+    /// A list isn't one of numbers below 2^64 with one comma between two, or upkeep has more than 1,000 moments or one
+    /// above 2^62.
     List,
     /// The configuration has the fault of this number: 1 for its stripes, 2 sizes, 3 chunks, 4 percents, 5 factors,
     /// 6 callers, 7 events.
@@ -93,6 +101,31 @@ fn named(alloc: Global, text: Option<&[u8]>) -> Result<Option<Vec<u64>>, PlanFau
     match list_in(alloc, text)? {
         Some(numbers) => Ok(Some(numbers)),
         None => Err(PlanFault::List),
+    }
+}
+
+// Whether these may be moments of upkeep.
+fn are_moments(numbers: &[u64]) -> bool
+    ensures { Decides result (AreMoments numbers.now) }
+{
+    numbers.len() <= MOST_MOMENTS && numbers.iter().all(|moment| *moment <= MAX_MOMENT)
+}
+
+// The moments that the option of upkeep names, none where it isn't given.
+fn moments_named(alloc: Global, text: Option<&[u8]>) -> Result<Numbers, PlanFault>
+    ensures ok { IfOk result (λ moments. AreMomentsNamed (option_copied text.entry) moments) }
+    ensures list { result ≡ Err faults.List → NamesNoMoments (option_copied text.entry) }
+    ensures sound { (n : ℕ) → result ≡ Err (faults.Configuration n) → ⊥ }
+{
+    match named(alloc, text)? {
+        None => Ok(Numbers::from_vec(Vec::new(alloc))),
+        Some(moments) => {
+            if are_moments(&moments) {
+                Ok(Numbers::from_vec(moments))
+            } else {
+                Err(PlanFault::List)
+            }
+        }
     }
 }
 
@@ -170,36 +203,42 @@ fn config_of(alloc: Global, sizes: Option<Vec<u64>>, options: Options) -> Result
     Ok(with_events(config, options.events))
 }
 
-// The plan of a configuration, where it is sound.
-fn plan_of(alloc: Global, config: Config) -> Result<Plan, PlanFault>
+// The plan of a configuration and of moments of upkeep, where the configuration is sound.
+fn plan_of(config: Config, upkeep: Numbers) -> Result<Plan, PlanFault>
     ensures config { IfOk result (λ plan. (plan.config ≡ config) × (fault_of config ≡ None)) }
-    ensures upkeep { IfOk result (λ plan. plan.upkeep ≡ []) }
+    ensures upkeep { IfOk result (λ plan. plan.upkeep ≡ upkeep) }
     ensures list { result ≡ Err faults.List → ⊥ }
     ensures fault { (n : ℕ) → result ≡ Err (faults.Configuration n) → IsFault n config }
 {
     match config.check() {
-        Ok(config) => Ok(Plan {
-            config,
-            upkeep: Numbers::from_vec(Vec::new(alloc)),
-        }),
+        Ok(config) => Ok(Plan { config, upkeep }),
         Err(fault) => Err(PlanFault::Configuration(fault_number(fault))),
     }
 }
 
 /// The plan of the options, each of which may be absent: the usual configuration of one stripe and 3 callers, and no
 /// upkeep. `sizes` is the text of the slab classes' sizes in bytes, as "96,1024": decimal numbers with one comma
-/// between two and nothing else, instead of the usual 43; each class has 1,024 chunks. What the other options ask for,
-/// `options` says.
+/// between two and nothing else, instead of the usual 43; each class has 1,024 chunks. `upkeep` is such a text of the
+/// moments at which the maintainer and the crawler work: at most 1,000, each at most 2^62. What the other options ask
+/// for, `options` says.
 ///
-/// The error is `List` where the text is no such list, whatever the other options are; else `Configuration` where the
+/// The error is `List` where a text is no such list, whatever the other options are; else `Configuration` where the
 /// sizes or a number are out of their range; and `NoMemory` where a growth was refused.
-pub fn plan_for(alloc: Global, sizes: Option<&[u8]>, options: Options) -> Result<Plan, PlanFault>
-    ensures ok { IfOk result (λ plan. (numbers : Option (List ℕ)) × AreNamed (option_copied sizes.entry) numbers × (plan.config ≡ asked numbers options) × (fault_of plan.config ≡ None) × (plan.upkeep ≡ [])) }
-    ensures list { result ≡ Err faults.List → NamesNone (option_copied sizes.entry) }
+pub fn plan_for(
+    alloc: Global,
+    sizes: Option<&[u8]>,
+    upkeep: Option<&[u8]>,
+    options: Options,
+) -> Result<Plan, PlanFault>
+    ensures ok { IfOk result (λ plan. (numbers : Option (List ℕ)) × AreNamed (option_copied sizes.entry) numbers × (plan.config ≡ asked numbers options) × (fault_of plan.config ≡ None)
+        × AreMomentsNamed (option_copied upkeep.entry) plan.upkeep) }
+    ensures list { result ≡ Err faults.List → IsBadList (option_copied sizes.entry) (option_copied upkeep.entry) }
     ensures configuration { (n : ℕ) → result ≡ Err (faults.Configuration n)
-        → (numbers : Option (List ℕ)) × AreNamed (option_copied sizes.entry) numbers × IsFault n (asked numbers options) }
+        → (numbers : Option (List ℕ)) × (moments : List ℕ) × AreNamed (option_copied sizes.entry) numbers × AreMomentsNamed (option_copied upkeep.entry) moments
+        × IsFault n (asked numbers options) }
 {
     let numbers = named(alloc, sizes)?;
+    let moments = moments_named(alloc, upkeep)?;
     let config = config_of(alloc, numbers, options)?;
-    plan_of(alloc, config)
+    plan_of(config, moments)
 }

@@ -1,30 +1,34 @@
 //! Runs of scripts, and what they leave.
-ghost use Rattle.std.specs.Prelude.{◌≡◌, ◌≢◌, ◌<◌, ◌≤◌, List, ◌∷◌, ◌++◌, [], ℕ, IfOk, IfErr, Some, None, length, slice_index_or, slice_get};
+ghost use Rattle.std.specs.Prelude.{◌≡◌, ◌≢◌, ◌+◌, ◌<◌, ◌≤◌, ◌^◌, ℕ, IfOk, IfErr, Some, None, length, slice_index_or, slice_get};
+ghost use Rattle.std.specs.List.{All};
 ghost use Rattle.mc_item.specs.Config.{fault_of, IsBounded, IsSound};
 ghost use Rattle.mc_board.specs.Histories.{blind};
 ghost use Rattle.mc_board.specs.Views.{AreOwners, locks_of};
-ghost use Rattle.mc_store.specs.Locked.{histories_for};
-ghost use Rattle.mc_driver.specs.Run.{HasFull, IsAccepted, IsRefused, IsStore, histories_left, limits_of, with_callers};
-ghost use Rattle.mc_driver.specs.Stand.{AreItsCalls};
 ghost use Rattle.mc_script.specs.Run.{AreCounted, Leaves};
 ghost use Rattle.mc_script.specs.declared.outcome.Outcome.{Outcome};
 ghost use Rattle.mc_script.specs.declared.outcome.Outcome.TheVariants as outcomes;
-ghost use Rattle.mc_driver.specs.declared.fault.RunFault.TheVariants as faults;
-ghost use Rattle.mc_driver.specs.Called.{AreByCallers, AreWholeTurns, MadeNone};
+ghost use Rattle.mc_script.specs.declared.upkeep.Keeper.TheVariants.{Crawler, Maintainer};
 ghost use Rattle.mc_store.specs.Finals.{AreStripes};
+ghost use Rattle.mc_store.specs.Locked.{histories_for};
 ghost use Rattle.mc_store.specs.Passes.{PassView};
+ghost use Rattle.mc_driver.specs.Called.{AreByCallers, AreWholeTurns, IsCompared};
+ghost use Rattle.mc_driver.specs.Left.{IsKeptUp, IsLeft};
+ghost use Rattle.mc_driver.specs.Run.{HasFull, IsAccepted, IsRefused, IsStore, callers_at_work, histories_left, limits_of, with_callers};
+ghost use Rattle.mc_driver.specs.Stand.{AreItsCalls};
+ghost use Rattle.mc_driver.specs.declared.fault.RunFault.TheVariants as faults;
 
-use crate::caller::Caller;
 use crate::fault::RunFault;
+use crate::jobs::{Ended, jobs_for, run_jobs};
 use mc_board::{Board, Owner, Seen};
 use mc_item::{Config, NoMemory};
 use mc_proto::{Limits, Sink};
-use mc_script::{Both, Outcome, Source, run_script};
+use mc_script::{Outcome, Source};
 use mc_store::{Final, Named, Pass, Store};
 use std::alloc::Global;
 use std::hash::RandomState;
 use std::marker::Brand;
 use std::sync::Wait;
+use std::thread::Threads;
 
 /// What a run of scripts leaves: the store, how each script ended, then how the maintainer and the crawler did, and
 /// the sources and sinks in order.
@@ -35,8 +39,8 @@ pub struct Run<S: Drop, K: Drop> {
     pub ends: Vec<(S, K)>,
 }
 
-// The limits of a configuration's requests.
-fn limits_for(config: &Config) -> Limits
+/// The limits of a configuration's requests.
+pub(crate) fn limits_for(config: &Config) -> Limits
     requires { IsBounded config.now }
     ensures { result ≡ limits_of config.now }
 {
@@ -47,13 +51,14 @@ fn limits_for(config: &Config) -> Limits
     }
 }
 
-// The configuration for one script, where it is sound.
-fn checked(config: Config) -> Result<Config, RunFault>
-    ensures ok { IfOk result (λ c. (c ≡ with_callers config) × (fault_of c ≡ None) × IsBounded c) }
-    ensures err { IfErr result (λ e. (e ≡ faults.Configuration) × (fault_of (with_callers config) ≢ None)) }
+// The configuration for so many scripts, where it is sound.
+fn checked(config: Config, scripts: usize) -> Result<Config, RunFault>
+    requires { scripts ≤ 62 }
+    ensures ok { IfOk result (λ c. (c ≡ with_callers scripts config) × (fault_of c ≡ None) × IsBounded c) }
+    ensures err { IfErr result (λ e. (e ≡ faults.Configuration) × (fault_of (with_callers scripts config) ≢ None)) }
 {
     let mut config = config;
-    config.callers = 3;
+    config.callers = scripts as u32 + 2;
     match config.check() {
         Ok(config) => Ok(config),
         Err(_) => Err(RunFault::Configuration),
@@ -71,120 +76,129 @@ fn board_for(alloc: Global, config: &Config) -> Result<(Board, Vec<Owner>, Seen)
     Board::open(alloc, locks + config.callers as usize)
 }
 
-// What one script leaves: the store, and how the script ended.
-#[derive(Drop)]
-struct Left {
-    ledger: Final,
-    outcome: Outcome,
-}
-
-// Compares passes that made no call with a closed store: no event names their callers. Nothing changes.
-fn compare_idle<N: Named>(ledger: &mut Final, passes: &mut Vec<Pass<N>>)
+// Compares passes with a closed store. Nothing changes.
+fn compare_all<N: Named>(ledger: &mut Final, passes: &mut Vec<Pass<N>>)
     requires board { ledger.old.board ≡ N.board.table }
     requires stripes { AreStripes N.board.table N.config ledger.old.stripes }
-    requires idle { (k : ℕ) (p : PassView) → slice_get passes.old.items k ≡ Some p → p.calls ≡ [] }
     ensures same { ledger.new ≡ ledger.old }
-    ensures none { (k : ℕ) (p : PassView) → slice_get passes.old.items k ≡ Some p → MadeNone p.caller ledger.old.stripes }
+    ensures compared { (k : ℕ) (p : PassView) → slice_get passes.old.items k ≡ Some p → IsCompared p ledger.old }
 {
     for i in 0..passes.len() {
         ledger.compare(&mut passes[i]);
     }
 }
 
-// Runs one script as caller 0 of a new store, on a board and with a configuration that N names, and closes the store.
-fn run_named<N: Named, S: Source, K: Sink>(
-    rt: &impl Wait,
+// How many threads a run starts. One script without upkeep needs none beside the caller's own.
+fn threads_for(scripts: usize, moments: usize) -> usize
+    ensures { 0 < result }
+{
+    if scripts == 1 && moments == 0 { 1 } else { 64 }
+}
+
+// Runs scripts and upkeep as the callers of a new store, on a board and with a configuration that N names, and closes the
+// store.
+fn run_named<N: Named + Send + Sync, S: Source + Send, K: Sink + Send, R: Threads + Wait + Sync>(
+    rt: &R,
     alloc: Global,
     config: Config,
     board: Board,
     owners: Vec<Owner>,
     seen: Seen,
     seed: RandomState,
-    ends: &mut Both<S, K>,
-) -> Result<Left, NoMemory>
+    scripts: Vec<(S, K)>,
+    upkeep: &[u64],
+) -> Result<Run<S, K>, NoMemory>
     requires board { board ≡ N.board }
     requires config { (config ≡ N.config) × IsBounded N.config × IsSound N.config }
     requires locks { locks_of N.board.counts ≡ histories_for N.config }
     requires owners { AreOwners N.board.table (histories_for N.config) owners.items }
     requires seen { seen ≡ record { board = N.board.table; sight = blind } }
-    requires callers { with_callers N.config ≡ N.config }
-    ensures leaves { IfOk result (λ left. Leaves left.outcome (limits_of N.config) (S.coming ends.old.source) (S.coming ends.new.source)
-        (K.taken ends.old.sink) (K.taken ends.new.sink) (AreItsCalls N.config 0 (histories_left left.ledger)) 0) }
-    ensures counted { IfOk result (λ left. AreCounted left.outcome (S.failures ends.old.source) (S.failures ends.new.source)
-        (K.failures ends.old.sink) (K.failures ends.new.sink)) }
-    ensures full { IfOk result (λ left. left.outcome ≡ outcomes.HistoryFull → HasFull N.config (histories_left left.ledger)) }
-    ensures whole { IfOk result (λ left. left.outcome ≡ outcomes.Done → AreWholeTurns N.config 0 (histories_left left.ledger)) }
-    ensures by { IfOk result (λ left. AreByCallers N.config.stripes 1 (histories_left left.ledger)) }
-    ensures store { IfOk result (λ left. IsStore N.config left.ledger) }
+    requires callers { N.config.callers ≡ length scripts.items + 2 }
+    requires early { All (λ moment. moment ≤ 2 ^ 62) upkeep.now }
+    ensures { IfOk result (λ run. IsLeft S.coming S.failures K.taken K.failures N.config upkeep.now scripts.items run.ends.items run.outcomes.items run.ledger) }
 {
     let limits = limits_for(&config);
-    let (store, mut passes) = Store::<N>::open(alloc, config, board, owners, seen, seed)?;
-    let pass = passes.remove(0);
-    let mut calls = Caller::new(alloc, &store, pass);
-    let outcome = run_script(rt, alloc, limits, &mut calls, ends);
-    let mut pass = calls.into_pass();
+    let threads = threads_for(scripts.len(), upkeep.len());
+    let (store, passes) = Store::<N>::open(alloc, config, board, owners, seen, seed)?;
+    let mut ended = Ended::with_room(alloc, passes.len())?;
+    let mut jobs = jobs_for(alloc, &store, passes, scripts)?;
+    run_jobs(rt, alloc, limits, upkeep, threads, jobs.as_mut_slice());
+    ended.end_all(jobs);
+    let Ended {
+        mut passes,
+        outcomes,
+        ends,
+    } = ended;
     let mut ledger = store.close(rt);
-    ledger.compare(&mut pass);
-    compare_idle(&mut ledger, &mut passes);
-    Ok(Left { ledger, outcome })
+    compare_all(&mut ledger, &mut passes);
+    Ok(Run {
+        ledger,
+        outcomes,
+        ends,
+    })
 }
 
-/// Runs scripts against a store of this configuration, whose number of callers is set here: one script for now, and no
-/// upkeep. Each script's bytes come from its source, and its replies go to its sink. `seed` is that of the store's hash;
-/// no reply depends on it.
-pub fn run_scripts<S: Source, K: Sink>(
-    rt: &impl Wait,
+/// Runs scripts, from 1 to 62 of them, against a store of this configuration, whose number of callers is set here, all at
+/// once: each on a thread of its own, and where there are moments of upkeep, the maintainer and the crawler, too. What
+/// can't have a thread is done on the calling one. Script i is caller i; of n scripts the maintainer is caller n, the
+/// crawler caller n + 1. Each script's bytes come from its source, and its replies go to its sink. `seed` is that of the
+/// store's hash; no reply depends on it.
+pub fn run_scripts<S: Source + Send, K: Sink + Send, R: Threads + Wait + Sync>(
+    rt: &R,
     alloc: Global,
     config: Config,
     seed: RandomState,
     scripts: Vec<(S, K)>,
     upkeep: &[u64],
 ) -> Result<Run<S, K>, RunFault>
+    requires early { All (λ moment. moment ≤ 2 ^ 62) upkeep.now }
+
     // When it runs, and why else it doesn't.
-    ensures refused { IfErr result (λ e. IsRefused e (length scripts.items) (length upkeep.now) config) }
-    ensures accepted { IfOk result (λ _. IsAccepted (length scripts.items) (length upkeep.now) config) }
+    ensures refused { IfErr result (λ e. IsRefused e (length scripts.items) config) }
+    ensures accepted { IfOk result (λ _. IsAccepted (length scripts.items) config) }
 
     // What each script leaves: which bytes are still to come, what its sink took, which of its calls stand in the
-    // stripes' histories, and which side failed.
+    // histories, and which side failed.
     ensures leaves { IfOk result (λ run. (i : ℕ) (ends : S × K) (outcome : Outcome) → i < length scripts.items
         → Leaves (slice_index_or run.outcomes.items i outcome) (limits_of config)
         (S.coming (slice_index_or scripts.items i ends).0) (S.coming (slice_index_or run.ends.items i ends).0)
-        (K.taken (slice_index_or scripts.items i ends).1) (K.taken (slice_index_or run.ends.items i ends).1) (AreItsCalls (with_callers config) i (histories_left run.ledger)) i) }
+        (K.taken (slice_index_or scripts.items i ends).1) (K.taken (slice_index_or run.ends.items i ends).1)
+        (AreItsCalls (with_callers (length scripts.items) config) i (histories_left run.ledger)) i) }
     ensures counted { IfOk result (λ run. (i : ℕ) (ends : S × K) (outcome : Outcome) → i < length scripts.items
         → AreCounted (slice_index_or run.outcomes.items i outcome)
         (S.failures (slice_index_or scripts.items i ends).0) (S.failures (slice_index_or run.ends.items i ends).0)
         (K.failures (slice_index_or scripts.items i ends).1) (K.failures (slice_index_or run.ends.items i ends).1)) }
-    ensures full { IfOk result (λ run. (i : ℕ) (outcome : Outcome) → i < length scripts.items
-        → slice_index_or run.outcomes.items i outcome ≡ outcomes.HistoryFull → HasFull config (histories_left run.ledger)) }
 
-    // Whose the events on the stripes are: each names one of the scripts; where that one is done, one of its calls, which
-    // stands in the histories, made the event, at the call's moment.
-    ensures by { IfOk result (λ run. AreByCallers config.stripes (length scripts.items) (histories_left run.ledger)) }
-    ensures whole { IfOk result (λ run. (i : ℕ) (outcome : Outcome) → i < length scripts.items
-        → slice_index_or run.outcomes.items i outcome ≡ outcomes.Done → AreWholeTurns (with_callers config) i (histories_left run.ledger)) }
+    // What upkeep leaves: the calls of the maintainer's and of the crawler's work at the moments.
+    ensures maintained { IfOk result (λ run. (outcome : Outcome)
+        → IsKeptUp Maintainer (with_callers (length scripts.items) config) upkeep.now (length scripts.items)
+        (slice_index_or run.outcomes.items (length scripts.items) outcome) (histories_left run.ledger)) }
+    ensures crawled { IfOk result (λ run. (outcome : Outcome)
+        → IsKeptUp Crawler (with_callers (length scripts.items) config) upkeep.now (length scripts.items + 1)
+        (slice_index_or run.outcomes.items (length scripts.items + 1) outcome) (histories_left run.ledger)) }
 
-    // What else the run leaves: the outcomes of upkeep behind those of the scripts, and the store.
-    ensures outcomes { IfOk result (λ run. (own : List Outcome) × (length own ≡ length scripts.items) × (run.outcomes.items ≡ own ++ outcomes.Done ∷ outcomes.Done ∷ [])) }
+    // What holds of every caller, the maintainer and the crawler too: where its history was full, one is; where it is done,
+    // each event in its name, on whatever stripe, is of one of its calls, which stands in the histories, at the call's
+    // moment. And nobody else made an event.
+    ensures full { IfOk result (λ run. (i : ℕ) (outcome : Outcome) → i < length scripts.items + 2
+        → slice_index_or run.outcomes.items i outcome ≡ outcomes.HistoryFull → HasFull (with_callers (length scripts.items) config) (histories_left run.ledger)) }
+    ensures whole { IfOk result (λ run. (i : ℕ) (outcome : Outcome) → i < length scripts.items + 2
+        → slice_index_or run.outcomes.items i outcome ≡ outcomes.Done → AreWholeTurns (with_callers (length scripts.items) config) i (histories_left run.ledger)) }
+    ensures by { IfOk result (λ run. AreByCallers config.stripes (callers_at_work (length scripts.items) upkeep.now) (histories_left run.ledger)) }
+
+    // How much is left: an outcome for each caller, a source and a sink for each script, and the store.
+    ensures outcomes { IfOk result (λ run. length run.outcomes.items ≡ length scripts.items + 2) }
     ensures ends { IfOk result (λ run. length run.ends.items ≡ length scripts.items) }
-    ensures store { IfOk result (λ run. IsStore config run.ledger) }
+    ensures store { IfOk result (λ run. IsStore (with_callers (length scripts.items) config) run.ledger) }
 {
-    let mut scripts = scripts;
-    if scripts.len() != 1 || !upkeep.is_empty() {
+    let count = scripts.len();
+    if count == 0 || count > 62 {
         return Err(RunFault::Scripts);
     }
-    let config = checked(config)?;
-    let mut outcomes = Vec::with_capacity(alloc, 3)?;
+    let config = checked(config, count)?;
     let (board, owners, seen) = board_for(alloc, &config)?;
-    let (source, sink) = scripts.pop().unwrap();
-    let mut ends = Both { source, sink };
-    let left = run_named::<Brand, S, K>(rt, alloc, config, board, owners, seen, seed, &mut ends)?;
-    scripts.push_reserved((ends.source, ends.sink));
-    outcomes.push_reserved(left.outcome);
-    outcomes.push_reserved(Outcome::Done);
-    outcomes.push_reserved(Outcome::Done);
-    Ok(Run {
-        ledger: left.ledger,
-        outcomes,
-        ends: scripts,
-    })
+    let run = run_named::<Brand, S, K, R>(
+        rt, alloc, config, board, owners, seen, seed, scripts, upkeep,
+    )?;
+    Ok(run)
 }

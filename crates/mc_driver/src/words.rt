@@ -4,8 +4,8 @@ ghost use Rattle.mc_item.specs.Config.{fault_of};
 ghost use Rattle.clap.specs.Walk.{texts};
 ghost use Rattle.clap.specs.Words.{HasKind, app_of, found_of, one_text, rule_of};
 ghost use Rattle.clap.specs.declared.error.Error.{Error as Refusal};
-ghost use Rattle.mc_driver.specs.Asked.{AreAsked, AreFound, IsFault, IsNumberRead, IsYesRead, NamesNone, asked, words_fault_of};
-ghost use Rattle.mc_driver.specs.Words.{mcseg, number_rule, refusals, sizes_in, sizes_rule, stripes_rule, temp_rule};
+ghost use Rattle.mc_driver.specs.Asked.{AreAsked, AreFound, IsBadList, IsFault, IsNumberRead, IsYesRead, asked, words_fault_of};
+ghost use Rattle.mc_driver.specs.Words.{mcseg, number_rule, refusals, sizes_in, sizes_rule, stripes_rule, temp_rule, upkeep_in, upkeep_rule};
 ghost use Rattle.mc_driver.specs.declared.plans.Options.{Options};
 ghost use Rattle.mc_driver.specs.declared.words.WordsFault.TheVariants as words_faults;
 
@@ -19,7 +19,8 @@ use std::alloc::{AllocError, Global};
 pub enum WordsFault {
     /// The reader of the command line refused them, or has its help or version to show.
     Words(Error),
-    /// A list isn't one of numbers below 2^64 with one comma between two.
+    /// A list isn't one of numbers below 2^64 with one comma between two, or upkeep has more than 1,000 moments or one
+    /// above 2^62.
     List,
     /// The configuration has the fault of this number.
     Configuration(u8),
@@ -82,6 +83,20 @@ fn sizes_option<'a>(alloc: Global) -> Arg<'a>
         )
 }
 
+// The option of the moments of upkeep.
+fn upkeep_option<'a>(alloc: Global) -> Arg<'a>
+    ensures rule { rule_of result ≡ upkeep_rule }
+    ensures local { result.global ≡ false }
+{
+    Arg::new(alloc, "upkeep")
+        .long("upkeep")
+        .action(ArgAction::Set)
+        .value_name("m,m,..")
+        .help(
+            "the moments at which the maintainer juggles and the crawler crawls{n}every slab class, beside the scripts: at most 1,000, each at most{n}2^62 [default: none]",
+        )
+}
+
 // An option of one number.
 fn number_option<'a>(alloc: Global, name: &'a str, help: &'a str) -> Arg<'a>
     ensures rule { rule_of result ≡ number_rule name.now }
@@ -125,7 +140,8 @@ fn command_of<'a>(alloc: Global) -> Result<Command<'a>, AllocError>
         .arg(number_option(alloc, "chunks", chunks))?
         .arg(temp_option(alloc))?
         .arg(number_option(alloc, "temp-ttl", temp_ttl))?
-        .arg(number_option(alloc, "events", events))
+        .arg(number_option(alloc, "events", events))?
+        .arg(upkeep_option(alloc))
 }
 
 // The number of stripes that was given.
@@ -162,26 +178,26 @@ fn options_of(matches: &ArgMatches) -> Options
     }
 }
 
-/// The plan that the words ask for, of which the first is the program's name: the usual configuration, but for what
-/// the options say. A bad list comes before a bad configuration.
+/// The plan that the words ask for, of which the first is the program's name: the usual configuration and no upkeep,
+/// but for what the options say. A bad list comes before a bad configuration.
 ///
 /// The error is `Words` where the command line's reader refuses the words or has its help or version to show, or where
-/// it lacks memory; else `List` where the text of the sizes is no list; else `Configuration` where the sizes or a
-/// number are out of their range; and `NoMemory` where a growth was refused.
+/// it lacks memory; else `List` where the text of the sizes or of upkeep is no such list; else `Configuration` where
+/// the sizes or a number are out of their range; and `NoMemory` where a growth was refused.
 pub fn read_words(alloc: Global, words: &[&str]) -> Result<Plan, WordsFault>
     ensures config { IfOk result (λ plan. fault_of plan.config ≡ None) }
     ensures taken { IfOk result (λ plan. refusals (texts words.now) ≡ []) }
     ensures asked { IfOk result (λ plan. (sizes : Option (List ℕ)) × (options : Options)
-        × AreAsked (texts words.now) sizes options × (plan.config ≡ asked sizes options)) }
-    ensures upkeep { IfOk result (λ plan. plan.upkeep ≡ []) }
+        × AreAsked (texts words.now) sizes plan.upkeep options × (plan.config ≡ asked sizes options)) }
     ensures words { (error : Refusal) → result ≡ Err (words_faults.Words error) → HasKind (refusals (texts words.now)) error }
     ensures list { result ≡ Err words_faults.List
-        → (refusals (texts words.now) ≡ []) × NamesNone (sizes_in (texts words.now)) }
+        → (refusals (texts words.now) ≡ []) × IsBadList (sizes_in (texts words.now)) (upkeep_in (texts words.now)) }
     ensures configuration { (n : ℕ) → result ≡ Err (words_faults.Configuration n) → (refusals (texts words.now) ≡ [])
-        × ((sizes : Option (List ℕ)) × (options : Options) × AreAsked (texts words.now) sizes options × IsFault n (asked sizes options)) }
+        × ((sizes : Option (List ℕ)) × (upkeep : List ℕ) × (options : Options) × AreAsked (texts words.now) sizes upkeep options × IsFault n (asked sizes options)) }
 {
     let matches = command_of(alloc)?.try_get_matches_from(words)?;
     let sizes = matches.get_str("sizes").map(|text| text.as_bytes());
+    let upkeep = matches.get_str("upkeep").map(|text| text.as_bytes());
     let options = options_of(&matches);
-    Ok(plan_for(alloc, sizes, options)?)
+    Ok(plan_for(alloc, sizes, upkeep, options)?)
 }

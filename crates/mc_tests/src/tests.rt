@@ -1,14 +1,17 @@
 //! What the tests run: the program over bytes in memory, and a script over pieces.
 mod asking;
+mod at_once;
 mod classes;
 mod crawls;
 mod examples;
 mod failures;
 mod histories;
+mod moments;
 mod moves;
 mod pieces;
 mod places;
 mod plans;
+mod scripts;
 mod stripes;
 mod supplies;
 mod words;
@@ -19,6 +22,7 @@ use std::hash::RandomState;
 use std::process::Abort;
 use std::random::RandomSource;
 use std::sync::Wait;
+use std::thread::Threads;
 
 // A run of the program: its name, the words, the input, and what is wanted of the output, the status and the errors.
 struct Example {
@@ -57,7 +61,7 @@ struct Ran {
 }
 
 // The program on these words and this input.
-fn run_program<R: Abort + Wait + RandomSource>(
+fn run_program<R: Abort + RandomSource + Threads + Wait + Sync>(
     rt: &R,
     alloc: Global,
     words: &[&str],
@@ -84,7 +88,11 @@ fn run_program<R: Abort + Wait + RandomSource>(
 }
 
 // The program answers what an example wants.
-fn holds<R: Abort + Wait + RandomSource>(rt: &R, alloc: Global, example: &Example) {
+fn holds<R: Abort + RandomSource + Threads + Wait + Sync>(
+    rt: &R,
+    alloc: Global,
+    example: &Example,
+) {
     let input = lines(rt, alloc, example.input);
     let output = lines(rt, alloc, example.output);
     let ran = run_program(rt, alloc, example.words, input.as_slice());

@@ -6,6 +6,7 @@ use std::io::{self, ErrorKind, Read, Write};
 use std::process::Abort;
 use std::random::RandomSource;
 use std::sync::Wait;
+use std::thread::Threads;
 
 // A reader of some bytes, behind which it fails or ends.
 #[derive(Drop)]
@@ -215,7 +216,7 @@ static FAILURES: [Failure; 13] = [
 ];
 
 // The program where something fails.
-fn run_failing<R: Abort + Wait + RandomSource>(
+fn run_failing<R: Abort + RandomSource + Threads + Wait + Sync>(
     rt: &R,
     alloc: Global,
     failure: &Failure,

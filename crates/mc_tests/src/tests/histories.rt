@@ -12,6 +12,7 @@ use std::random::RandomSource;
 use std::sync::Wait;
 use std::sync::ledger::{Blank, Ledger};
 use std::test::Fail;
+use std::thread::Threads;
 
 static SCRIPT: &str =
     "set a 7 10 1|x|bogus|incr a 1|gets a b|%at 1010|touch a 0 noreply|set bb 0 0 2 noreply|19|incr bb 1|quit|get a|";
@@ -45,7 +46,7 @@ fn event_text(alloc: Global, event: &StripeEvent) -> Result<String, Fail> {
 }
 
 // Runs the script over a ledger that counts failed writes, and asserts what its history is.
-fn asserts_history<L: Ledger, R: Abort + Wait + RandomSource>(
+fn asserts_history<L: Ledger + Send + Sync, R: Abort + RandomSource + Threads + Wait + Sync>(
     rt: &R,
     alloc: Global,
     input: &[u8],

@@ -12,6 +12,7 @@ use std::random::RandomSource;
 use std::sync::Wait;
 use std::sync::ledger::{Blank, Ledger};
 use std::test::Fail;
+use std::thread::Threads;
 
 static SCRIPT: &str = "set a 0 0 1|1|set b 0 0 1|2|%juggle 1|";
 
@@ -66,7 +67,7 @@ fn cause_at(history: &[StripeEvent], place: usize) -> Option<Cause> {
 }
 
 // Runs the script over a ledger that counts failed writes, and asserts what the histories are.
-fn asserts_histories<L: Ledger, R: Abort + Wait + RandomSource>(
+fn asserts_histories<L: Ledger + Send + Sync, R: Abort + RandomSource + Threads + Wait + Sync>(
     rt: &R,
     alloc: Global,
     input: &[u8],
@@ -86,7 +87,7 @@ fn asserts_histories<L: Ledger, R: Abort + Wait + RandomSource>(
         temp_ttl: None,
         events: None,
     };
-    let Ok(plan) = plan_for(alloc, Some(b"96"), options) else {
+    let Ok(plan) = plan_for(alloc, Some(b"96"), None, options) else {
         panic!(rt; "no plan");
     };
     let Ok(run) = run_scripts(rt, alloc, plan.config, seed_of(rt), scripts, &[]) else {

@@ -12,6 +12,7 @@ use std::process::Abort;
 use std::random::RandomSource;
 use std::sync::Wait;
 use std::sync::ledger::{Blank, Ledger};
+use std::thread::Threads;
 
 // How a script's bytes come and its replies go: the size of pieces, the read that fails, the bytes that one write
 // takes, and the write that fails.
@@ -31,7 +32,7 @@ struct Ended {
 }
 
 // A script over a ledger that counts failed writes.
-fn run_over<L: Ledger, R: Abort + Wait + RandomSource>(
+fn run_over<L: Ledger + Send + Sync, R: Abort + RandomSource + Threads + Wait + Sync>(
     rt: &R,
     alloc: Global,
     config: Config,
@@ -68,7 +69,7 @@ fn run_over<L: Ledger, R: Abort + Wait + RandomSource>(
 }
 
 // A script on a store of the usual configuration.
-fn run_script<R: Abort + Wait + RandomSource>(
+fn run_script<R: Abort + RandomSource + Threads + Wait + Sync>(
     rt: &R,
     alloc: Global,
     input: &[u8],
@@ -82,7 +83,7 @@ fn run_script<R: Abort + Wait + RandomSource>(
 }
 
 // A worked example from a source of its bytes.
-fn run_example<R: Abort + Wait + RandomSource>(
+fn run_example<R: Abort + RandomSource + Threads + Wait + Sync>(
     rt: &R,
     alloc: Global,
     example: &Example,

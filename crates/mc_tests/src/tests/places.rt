@@ -6,6 +6,7 @@ use std::io::{self, ErrorKind, Read, Write};
 use std::process::Abort;
 use std::random::RandomSource;
 use std::sync::Wait;
+use std::thread::Threads;
 
 // A reader that gives at most three bytes of some at a time, behind which it fails or ends.
 #[derive(Drop)]
@@ -58,7 +59,7 @@ impl Write for Narrow {
 }
 
 // The program on a reader, and on two writers with room for so many bytes.
-fn run_narrow<R: Abort + Wait + RandomSource>(
+fn run_narrow<R: Abort + RandomSource + Threads + Wait + Sync>(
     rt: &R,
     alloc: Global,
     words: &[&str],

@@ -7,7 +7,7 @@ use std::process::Abort;
 // events.
 type Shape = (u32, &'static [u64], u64, bool, u64, u64);
 
-// Options, the words that give them, and the plan that they ask for.
+// Options without upkeep, the words that give them, and the plan that they ask for.
 struct Wanted {
     sizes: Option<&'static [u8]>,
     options: Options,
@@ -15,7 +15,7 @@ struct Wanted {
     plan: Result<Shape, PlanFault>,
 }
 
-const NONE: Options = Options {
+pub(crate) const NONE: Options = Options {
     stripes: None,
     chunks: None,
     temp: false,
@@ -288,7 +288,10 @@ fn asserts_plan(rt: &impl Abort, plan: Plan, shape: Shape) {
 
 // Asserts that options give a plan, or the fault that is wanted.
 fn asserts_options(rt: &impl Abort, alloc: Global, wanted: &Wanted) {
-    match (plan_for(alloc, wanted.sizes, wanted.options), wanted.plan) {
+    match (
+        plan_for(alloc, wanted.sizes, None, wanted.options),
+        wanted.plan,
+    ) {
         (Ok(plan), Ok(shape)) => asserts_plan(rt, plan, shape),
         (Err(fault), Err(other)) => assert_eq!(rt; fault, other),
         _ => panic!(rt; "another plan"),
@@ -329,6 +332,8 @@ fn words_that_no_option_takes_are_the_readers(rt: HostRuntime) {
         ["mcseg", "--temp-ttl", "x"].as_slice(),
         ["mcseg", "--temp=yes"].as_slice(),
         ["mcseg", "--temp", "--temp"].as_slice(),
+        ["mcseg", "--upkeep"].as_slice(),
+        ["mcseg", "--upkeep", "1", "--upkeep", "1"].as_slice(),
     ] {
         assert!(rt; matches!(read_words(rt.alloc(), words), Err(WordsFault::Words(_))));
     }

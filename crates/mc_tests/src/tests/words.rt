@@ -2,7 +2,7 @@
 use super::{Example, holds, run_program};
 use std::str;
 
-static EXAMPLES: [Example; 13] = [
+static EXAMPLES: [Example; 18] = [
     Example {
         name: "the version",
         words: &["mcseg", "--version"],
@@ -42,6 +42,46 @@ static EXAMPLES: [Example; 13] = [
         output: "",
         status: 2,
         errors: "mcseg: bad list\n",
+    },
+    Example {
+        name: "moments with a space, before a bad limit of events",
+        words: &["mcseg", "--events", "15", "--upkeep", "1000, 1001"],
+        input: "get a|",
+        output: "",
+        status: 2,
+        errors: "mcseg: bad list\n",
+    },
+    Example {
+        name: "a moment below 0, and sizes that fall",
+        words: &["mcseg", "--upkeep=-1", "--sizes", "96,80"],
+        input: "get a|",
+        output: "",
+        status: 2,
+        errors: "mcseg: bad list\n",
+    },
+    Example {
+        name: "a size below 0, and moments",
+        words: &["mcseg", "--upkeep", "1000", "--sizes=-1"],
+        input: "get a|",
+        output: "",
+        status: 2,
+        errors: "mcseg: bad list\n",
+    },
+    Example {
+        name: "a moment above 2^62",
+        words: &["mcseg", "--upkeep", "4611686018427387905"],
+        input: "get a|",
+        output: "",
+        status: 2,
+        errors: "mcseg: bad list\n",
+    },
+    Example {
+        name: "moments, and too few events",
+        words: &["mcseg", "--upkeep", "1000,1001", "--events", "15"],
+        input: "get a|",
+        output: "",
+        status: 2,
+        errors: "mcseg: bad configuration 7\n",
     },
     Example {
         name: "sizes that fall",
@@ -143,9 +183,10 @@ fn words_that_are_no_options_are_refused(rt: HostRuntime) {
 }
 
 // What a person has to find in the help: each line on standard error, each number, each limit.
-static HELP: [&str; 30] = [
+static HELP: [&str; 34] = [
     "%juggle <class>",
     "%crawl <class>",
+    "%next",
     "--stripes",
     "[default: 1]",
     "--sizes",
@@ -156,10 +197,13 @@ static HELP: [&str; 30] = [
     "--temp-ttl",
     "[default: 61]",
     "--events",
+    "--upkeep",
+    "at most 1,000, each",
     "--version",
     "mcseg: out of memory\n",
     "mcseg: history full",
     "mcseg: bad list",
+    "mcseg: too many scripts",
     "mcseg: bad configuration <number>",
     "1 stripes ",
     "2 sizes ",

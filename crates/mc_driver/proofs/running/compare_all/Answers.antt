@@ -1,10 +1,10 @@
 use Rattle.std.proofs.Common.{◌≡◌, length, slice_get, set, ap, ◌∙◌, subst, sym, below_more, arith}
 use Rattle.std.proofs.lemmas.List.{set-get_or}
 use Rattle.std.proofs.lemmas.Option.{get_or_from_slice_get, slice_get_within}
-use Rattle.mc_store.specs.Finals.{AreItsOwn, AreStripes, FinalView}
+use Rattle.mc_store.specs.Finals.{AreStripes, FinalView}
 use Rattle.mc_store.specs.Passes.{PassView}
-use Rattle.mc_driver.proofs.MadeLemmas.{none_made}
-use Rattle.mc_driver.proofs.running.compare_idle.Goals as goal
+use Rattle.mc_driver.specs.Called.{IsCompared}
+use Rattle.mc_driver.proofs.running.compare_all.Goals as goal
 
 pub loop-i-preserved : goal.loop-i-preserved
 loop-i-preserved g c =
@@ -19,10 +19,10 @@ loop-i-preserved g c =
           (λ p e.
           let is : x ≡ p = c.index_mut.ensures.value ∙ get_or_from_slice_get items c.loop-i.i p x (ap (λ ys. slice_get ys c.loop-i.i) i.1 ∙ e) in
           let stripes = subst (λ (f : FinalView). AreStripes table config f.stripes) (sym i.0) c.requires.stripes in
-          none_made p c.args.ledger.now.stripes (c.requires.idle c.loop-i.i p e)
-          (subst (λ (f : FinalView). AreItsOwn p f.stripes) i.0 (subst (λ (v : PassView). AreItsOwn v c.loop-i.ledger.stripes) is (c.compare.ensures.own stripes)))),
+          let compared : IsCompared x c.loop-i.ledger = record { stripes = c.compare.ensures.stripes; classes = c.compare.ensures.classes; own = c.compare.ensures.own stripes } in
+          subst (λ (f : FinalView). IsCompared p f) i.0 (subst (λ (v : PassView). IsCompared v c.loop-i.ledger) is compared)),
     )
 
-pub returns-clause-none : goal.returns-clause-none
-returns-clause-none g c =
+pub returns-clause-compared : goal.returns-clause-compared
+returns-clause-compared g c =
     λ k p e. let within = slice_get_within c.args.passes.now.items k p e in c.loop-i.invariant.2 k (omega (arith, within, ap length c.loop-i.invariant.1)) p e

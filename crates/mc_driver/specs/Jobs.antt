@@ -1,0 +1,61 @@
+-- What the callers of a run work at, and what their work leaves (own).
+use Rattle.std.specs.Prelude.{ℕ, ◌≡◌, List, [], ◌∷◌, ◌++◌, map}
+use Rattle.mc_item.specs.declared.config.Config.{Config}
+use Rattle.mc_proto.specs.declared.request.Limits.{Limits}
+use Rattle.mc_script.specs.Exchanges.{Exchange}
+use Rattle.mc_script.specs.Run.{AreCounted, Leaves}
+use Rattle.mc_script.specs.Upkeep.{KeepsUp, work_of}
+use Rattle.mc_script.specs.declared.outcome.Outcome.{Outcome}
+use Rattle.mc_script.specs.declared.outcome.Outcome.TheVariants as outcomes
+use Rattle.mc_script.specs.declared.upkeep.Keeper.TheVariants.{Maintainer, Crawler}
+use Rattle.mc_store.specs.Passes.{PassView}
+use Rattle.mc_store.specs.Serving.{HasSeenShort}
+use Rattle.mc_driver.specs.Caller.{AreNoted, MayCall}
+use Rattle.mc_driver.specs.declared.jobs.Work.{Work}
+use Rattle.mc_driver.specs.declared.jobs.Work.TheVariants.{Script, Upkeep}
+
+module _ {S K : Type 0} where
+  -- the work of a script: its source and its sink
+  abbrev pub script_of : S × K → Work S K
+  script_of ends = Script (record { source = ends.0; sink = ends.1 })
+
+  -- the works of a run: its scripts in order, then the maintainer's, then the crawler's
+  abbrev pub works_of : List (S × K) → List (Work S K)
+  works_of scripts = map script_of scripts ++ Upkeep Maintainer ∷ Upkeep Crawler ∷ []
+
+  -- the sources and sinks of those works that are scripts, in order
+  abbrev pub ends_in : List (Work S K) → List (S × K)
+  ends_in [] = []
+  ends_in (Script ends ∷ works) = (ends.source, ends.sink) ∷ ends_in works
+  ends_in (Upkeep keeper ∷ works) = ends_in works
+
+  module _ (coming : S → List ℕ) (reads : S → ℕ) (taken : K → List ℕ) (writes : K → ℕ) where
+    -- what a work leaves, by how it ended: a script's replies and calls, or upkeep at these moments
+    abbrev pub Works : Limits → List ℕ → (List Exchange → Type 0) → ℕ → Outcome → Work S K → Work S K → Type 0
+    Works limits moments notes caller outcome (Script ends) (Script left) =
+        Leaves outcome limits (coming ends.source) (coming left.source) (taken ends.sink) (taken left.sink) notes caller
+        × AreCounted outcome (reads ends.source) (reads left.source) (writes ends.sink) (writes left.sink)
+    Works limits moments notes caller outcome (Upkeep keeper) (Upkeep left) =
+        (left ≡ keeper) × KeepsUp outcome limits (work_of keeper moments) notes caller
+    Works limits moments notes caller outcome (Script ends) (Upkeep left) = ⊥
+    Works limits moments notes caller outcome (Upkeep keeper) (Script left) = ⊥
+
+-- the pass of a caller that may make its first call
+pub record IsAtStart (config : Config) (pass : PassView) : Type 0 where
+  pub may : MayCall config pass
+  pub first : pass.turn ≡ 0
+  pub none : AreNoted config pass []
+
+-- upkeep without moments leaves the pass as it was
+abbrev pub IsIdle : {S K : Type 0} → List ℕ → Work S K → PassView → PassView → Type 0
+IsIdle moments (Script ends) pass pass' = Unit {0}
+IsIdle moments (Upkeep keeper) pass pass' = moments ≡ [] → pass' ≡ pass
+
+module _ {S K : Type 0} (coming : S → List ℕ) (reads : S → ℕ) (taken : K → List ℕ) (writes : K → ℕ) where
+  -- a caller has done its work: what is left of it, and what is known of the caller's pass before and behind it
+  pub record HasWorked (config : Config) (limits : Limits) (moments : List ℕ) (pass pass' : PassView) (outcome : Outcome) (work work' : Work S K) : Type 0 where
+    pub works : Works coming reads taken writes limits moments (AreNoted config pass') pass.caller outcome work work'
+    pub caller : pass'.caller ≡ pass.caller
+    pub full : outcome ≡ outcomes.HistoryFull → HasSeenShort config pass'.sight
+    pub done : outcome ≡ outcomes.Done → MayCall config pass'
+    pub idle : IsIdle moments work pass pass'

@@ -1,0 +1,36 @@
+-- What a run leaves, of each of its callers and of the store (own).
+use Rattle.std.specs.Prelude.{ℕ, ◌≡◌, ◌<◌, ◌+◌, List, length, slice_index_or}
+use Rattle.mc_item.specs.declared.config.Config.{Config}
+use Rattle.mc_script.specs.Run.{AreCounted, Leaves}
+use Rattle.mc_script.specs.Upkeep.{KeepsUp, work_of}
+use Rattle.mc_script.specs.declared.outcome.Outcome.{Outcome}
+use Rattle.mc_script.specs.declared.outcome.Outcome.TheVariants as outcomes
+use Rattle.mc_script.specs.declared.upkeep.Keeper.{Keeper}
+use Rattle.mc_script.specs.declared.upkeep.Keeper.TheVariants.{Maintainer, Crawler}
+use Rattle.mc_store.specs.Finals.{FinalView}
+use Rattle.mc_driver.specs.Called.{AreByCallers, AreWholeTurns}
+use Rattle.mc_driver.specs.Run.{HasFull, IsStore, callers_at_work, histories_left, limits_of}
+use Rattle.mc_driver.specs.Stand.{AreItsCalls, Histories}
+
+-- what upkeep at these moments leaves, by how it ended: its calls stand in the histories, and are all that its caller made
+abbrev pub IsKeptUp : Keeper → Config → List ℕ → ℕ → Outcome → Histories → Type 0
+IsKeptUp keeper config moments caller outcome histories = KeepsUp outcome (limits_of config) (work_of keeper moments) (AreItsCalls config caller histories) caller
+
+module _ {S K : Type 0} (coming : S → List ℕ) (reads : S → ℕ) (taken : K → List ℕ) (writes : K → ℕ) where
+  -- a script's source and sink as they were, as they are left, and how the script ended
+  pub record IsScriptLeft (config : Config) (histories : Histories) (caller : ℕ) (ends left : S × K) (outcome : Outcome) : Type 0 where
+    pub leaves : Leaves outcome (limits_of config) (coming ends.0) (coming left.0) (taken ends.1) (taken left.1) (AreItsCalls config caller histories) caller
+    pub counted : AreCounted outcome (reads ends.0) (reads left.0) (writes ends.1) (writes left.1)
+
+  -- a run is done: scripts with upkeep at these moments, on a store of this configuration
+  pub record IsLeft (config : Config) (moments : List ℕ) (scripts ends : List (S × K)) (ended : List Outcome) (final : FinalView) : Type 0 where
+    pub each : (i : ℕ) (d : S × K) (outcome : Outcome) → i < length scripts
+        → IsScriptLeft config (histories_left final) i (slice_index_or scripts i d) (slice_index_or ends i d) (slice_index_or ended i outcome)
+    pub maintained : (outcome : Outcome) → IsKeptUp Maintainer config moments (length scripts) (slice_index_or ended (length scripts) outcome) (histories_left final)
+    pub crawled : (outcome : Outcome) → IsKeptUp Crawler config moments (length scripts + 1) (slice_index_or ended (length scripts + 1) outcome) (histories_left final)
+    pub full : (i : ℕ) (outcome : Outcome) → i < length scripts + 2 → slice_index_or ended i outcome ≡ outcomes.HistoryFull → HasFull config (histories_left final)
+    pub whole : (i : ℕ) (outcome : Outcome) → i < length scripts + 2 → slice_index_or ended i outcome ≡ outcomes.Done → AreWholeTurns config i (histories_left final)
+    pub by : AreByCallers config.stripes (callers_at_work (length scripts) moments) (histories_left final)
+    pub many : length ended ≡ length scripts + 2
+    pub pairs : length ends ≡ length scripts
+    pub store : IsStore config final

@@ -1,0 +1,184 @@
+//! The callers of a run at work: scripts, the maintainer and the crawler, each on a thread.
+ghost use Rattle.std.specs.Prelude.{◌≡◌, ◌≤◌, ◌<◌, ◌+◌, ◌^◌, ◌++◌, ◌∷◌, [], ℕ, IfOk, length, map, slice_index_or, vec_len, vec_capacity};
+ghost use Rattle.std.specs.List.{All};
+ghost use Rattle.mc_script.specs.Script.{AllThere};
+ghost use Rattle.mc_driver.specs.Jobs.{HasWorked, IsAtStart, ends_in, works_of};
+ghost use Rattle.mc_driver.specs.declared.jobs.Job.{Job};
+ghost use Rattle.mc_evidence.specs.Setting.{IsClass};
+ghost use Rattle.mc_store.specs.Locked.{setting_of};
+
+use crate::caller::Caller;
+use mc_item::NoMemory;
+use mc_proto::{Limits, Sink};
+use mc_script::{Both, Keeper, Outcome, Source, run_script, run_upkeep};
+use mc_store::{Named, Pass, Store};
+use std::alloc::Global;
+use std::sync::Wait;
+use std::thread::{self, Threads};
+
+/// What a caller works at: a script, with its source and its sink, or the upkeep of all slab classes.
+#[derive(Drop)]
+pub(crate) enum Work<S: Drop, K: Drop> {
+    Script(Both<S, K>),
+    Upkeep(Keeper),
+}
+
+/// A caller of a store, what it works at, and how that ended.
+#[derive(Drop)]
+pub(crate) struct Job<'a, N: Named, S: Drop, K: Drop> {
+    pub(crate) calls: Caller<'a, N>,
+    pub(crate) work: Work<S, K>,
+    pub(crate) outcome: Outcome,
+}
+
+// Does a caller's work.
+fn run_job<'a, N: Named, S: Source, K: Sink>(
+    rt: &impl Wait,
+    alloc: Global,
+    limits: Limits,
+    moments: &[u64],
+    job: &mut Job<'a, N, S, K>,
+)
+    requires first { IsAtStart N.config job.old.calls.pass }
+    requires early { All (λ moment. moment ≤ 2 ^ 62) moments.now }
+    requires classes { AllThere (IsClass (setting_of N.config)) limits }
+    ensures { HasWorked S.coming S.failures K.taken K.failures N.config limits moments.now job.old.calls.pass job.new.calls.pass job.new.outcome job.old.work job.new.work }
+{
+    let calls = &mut job.calls;
+    job.outcome = match &mut job.work {
+        Work::Script(ends) => run_script(rt, alloc, limits, calls, ends),
+        Work::Upkeep(keeper) => run_upkeep(rt, limits, calls, *keeper, moments),
+    };
+}
+
+/// Does the work of each caller, all at once: each on a thread of its own, where so many may be started, and else on the
+/// calling thread.
+pub(crate) fn run_jobs<
+    'a,
+    N: Named + Send + Sync,
+    S: Source + Send,
+    K: Sink + Send,
+    R: Threads + Wait + Sync,
+>(
+    rt: &R,
+    alloc: Global,
+    limits: Limits,
+    moments: &[u64],
+    threads: usize,
+    jobs: &mut [Job<'a, N, S, K>],
+)
+    requires threads { 0 < threads }
+    requires first { (i : ℕ) (d : Job N S K) → i < length jobs.old → IsAtStart N.config (slice_index_or jobs.old i d).calls.pass }
+    requires early { All (λ moment. moment ≤ 2 ^ 62) moments.now }
+    requires classes { AllThere (IsClass (setting_of N.config)) limits }
+    ensures many { length jobs.new ≡ length jobs.old }
+    ensures each { (i : ℕ) (d : Job N S K) → i < length jobs.old → HasWorked S.coming S.failures K.taken K.failures N.config limits moments.now
+        (slice_index_or jobs.old i d).calls.pass (slice_index_or jobs.new i d).calls.pass (slice_index_or jobs.new i d).outcome (slice_index_or jobs.old i d).work (slice_index_or jobs.new i d).work }
+{
+    thread::for_each_mut(
+        rt,
+        jobs,
+        threads,
+        &|_, job| {
+            run_job(rt, alloc, limits, moments, job);
+        },
+    );
+}
+
+// The job of a pass, which is still to be done.
+fn job_of<'a, N: Named, S: Source, K: Sink>(
+    alloc: Global,
+    store: &'a Store<N>,
+    pass: Pass<N>,
+    work: Work<S, K>,
+) -> Job<'a, N, S, K>
+    ensures pass { result.calls.pass ≡ pass }
+    ensures work { result.work ≡ work }
+{
+    Job {
+        calls: Caller::new(alloc, store, pass),
+        work,
+        outcome: Outcome::Done,
+    }
+}
+
+/// The jobs of a run: a script for each of the first passes, in order, then the maintainer's and the crawler's.
+pub(crate) fn jobs_for<'a, N: Named, S: Source, K: Sink>(
+    alloc: Global,
+    store: &'a Store<N>,
+    passes: Vec<Pass<N>>,
+    scripts: Vec<(S, K)>,
+) -> Result<Vec<Job<'a, N, S, K>>, NoMemory>
+    requires { length passes.items ≡ length scripts.items + 2 }
+    ensures passes { IfOk result (λ jobs. map (λ job. job.calls.pass) jobs.items ≡ passes.items) }
+    ensures works { IfOk result (λ jobs. map (λ job. job.work) jobs.items ≡ works_of scripts.items) }
+{
+    let mut passes = passes;
+    let mut jobs = Vec::with_capacity(alloc, passes.len())?;
+    for (source, sink) in scripts {
+        let pass = passes.remove(0);
+        let work = Work::Script(Both { source, sink });
+        jobs.push(job_of(alloc, store, pass, work))?;
+    }
+    let first = passes.remove(0);
+    jobs.push(job_of(alloc, store, first, Work::Upkeep(Keeper::Maintainer)))?;
+    let second = passes.remove(0);
+    jobs.push(job_of(alloc, store, second, Work::Upkeep(Keeper::Crawler)))?;
+    Ok(jobs)
+}
+
+/// What jobs leave: the passes, how each ended, and the sources and sinks of the scripts, in order.
+#[derive(Drop)]
+pub(crate) struct Ended<N: Named, S: Drop, K: Drop> {
+    pub(crate) passes: Vec<Pass<N>>,
+    pub(crate) outcomes: Vec<Outcome>,
+    pub(crate) ends: Vec<(S, K)>,
+}
+
+impl<N: Named, S: Source, K: Sink> Ended<N, S, K> {
+    /// Nothing yet, with room for so many jobs.
+    pub(crate) fn with_room(alloc: Global, jobs: usize) -> Result<Ended<N, S, K>, NoMemory>
+        ensures none { IfOk result (λ ended. (ended.passes.items ≡ []) × (ended.outcomes.items ≡ []) × (ended.ends.items ≡ [])) }
+        ensures room { IfOk result (λ ended. (jobs ≤ vec_capacity ended.passes) × (jobs ≤ vec_capacity ended.outcomes) × (jobs ≤ vec_capacity ended.ends)) }
+    {
+        Ok(Ended {
+            passes: Vec::with_capacity(alloc, jobs)?,
+            outcomes: Vec::with_capacity(alloc, jobs)?,
+            ends: Vec::with_capacity(alloc, jobs)?,
+        })
+    }
+
+    // A job more.
+    fn end_one(&mut self, job: Job<'_, N, S, K>)
+        requires room { (vec_len self.old.passes < vec_capacity self.old.passes) × (vec_len self.old.outcomes < vec_capacity self.old.outcomes) × (vec_len self.old.ends < vec_capacity self.old.ends) }
+        ensures passes { self.new.passes.items ≡ self.old.passes.items ++ job.entry.calls.pass ∷ [] }
+        ensures outcomes { self.new.outcomes.items ≡ self.old.outcomes.items ++ job.entry.outcome ∷ [] }
+        ensures ends { self.new.ends.items ≡ self.old.ends.items ++ ends_in (job.entry.work ∷ []) }
+        ensures room { (vec_capacity self.new.passes ≡ vec_capacity self.old.passes) × (vec_capacity self.new.outcomes ≡ vec_capacity self.old.outcomes) × (vec_capacity self.new.ends ≡ vec_capacity self.old.ends) }
+    {
+        let Job {
+            calls,
+            work,
+            outcome,
+        } = job;
+        self.passes.push_reserved(calls.into_pass());
+        self.outcomes.push_reserved(outcome);
+        if let Work::Script(ends) = work {
+            let Both { source, sink } = ends;
+            self.ends.push_reserved((source, sink));
+        }
+    }
+
+    /// All jobs, in order; there has to be room for them.
+    pub(crate) fn end_all(&mut self, jobs: Vec<Job<'_, N, S, K>>)
+        requires none { (self.old.passes.items ≡ []) × (self.old.outcomes.items ≡ []) × (self.old.ends.items ≡ []) }
+        requires room { (length jobs.items ≤ vec_capacity self.old.passes) × (length jobs.items ≤ vec_capacity self.old.outcomes) × (length jobs.items ≤ vec_capacity self.old.ends) }
+        ensures passes { self.new.passes.items ≡ map (λ job. job.calls.pass) jobs.entry.items }
+        ensures outcomes { self.new.outcomes.items ≡ map (λ job. job.outcome) jobs.entry.items }
+        ensures ends { self.new.ends.items ≡ ends_in (map (λ job. job.work) jobs.entry.items) }
+    {
+        for job in jobs {
+            self.end_one(job);
+        }
+    }
+}
