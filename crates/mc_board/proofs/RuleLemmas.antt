@@ -1,6 +1,5 @@
 -- The rule, one event more, and views that change.
 use Rattle.std.proofs.Common.{◌≡◌, ◌≢◌, ℕ, ◌<◌, ◌≤◌, List, [], ◌∷◌, ◌++◌, length, set, cond, eqb, refl, sym, ap, ◌∙◌, subst, ⊎_elim, arith, length-append, eq-eqb, ne_eqb}
-use Rattle.std.proofs.Math.Nat.{le-max_left, le-max_right}
 use mathlib.Core.Option.{Option, some, some-injective, some-ne-none}
 use mathlib.Core.List.{IsPrefix}
 use lib.ListN.{get_elem?}
@@ -25,15 +24,15 @@ ledger counts words history owner = record { counts = counts; words = words; his
 
 -- a lock's first word is one of the words
 pub word_within : (counts : Counts) (lock : ℕ) → lock < locks_of counts → first_word counts lock < words_of counts
-word_within counts lock below = omega (arith, below, le-max_right 1 (locks_of counts))
+word_within counts lock below = omega (arith, below)
 
 -- there is a word
 pub words_some : (counts : Counts) (n : ℕ) → n ≡ words_of counts → 0 < n
-words_some counts n wide = omega (arith, wide, le-max_left 1 (locks_of counts))
+words_some counts n wide = omega (arith, wide)
 
 -- two locks share no word
 pub words_apart : (counts : Counts) (j k : ℕ) → j < locks_of counts → k < locks_of counts → j ≢ k → first_word counts j ≢ first_word counts k
-words_apart counts j k below also apart = apart
+words_apart counts j k below also apart same = apart (omega (arith, same))
 
 -- the histories with one more event of this lock
 abbrev pub added : ℕ → Event → (ℕ → List Event) → ℕ → List Event

@@ -1,7 +1,7 @@
 -- A split and a join keep the rule, and the board opens by it.
 use Rattle.std.proofs.Common.{◌≡◌, ◌≢◌, ℕ, zero, suc, ◌<◌, List, [], ◌∷◌, length, set, cond, eqb, refl, sym, ap, ◌∙◌, subst, ⊎_elim, arith, eq-eqb, ne_eqb, replicate}
 use Rattle.std.proofs.lemmas.List.{get_or-replicate, length-replicate}
-use Rattle.std.specs.Prelude.{max}
+use Rattle.std.specs.Prelude.{◌+◌, ◌*◌}
 use mathlib.Core.Option.{Option, none, some, some-injective, some-ne-none}
 use lib.ListN.{get_elem?}
 use Rattle.atomic_table.specs.Table.{Splits, Joins}
@@ -13,7 +13,7 @@ use Rattle.mc_board.specs.declared.rule.Owned.{Owned}
 use Rattle.mc_board.specs.declared.rule.Known.{Known}
 use Rattle.mc_board.specs.declared.rule.View.{View}
 use Rattle.mc_board.specs.declared.rule.View.TheVariants as views
-use Rattle.mc_board.specs.Views.{locks_of, first_word, words_of}
+use Rattle.mc_board.specs.Views.{line_words, locks_of, first_word, words_of}
 use Rattle.mc_board.specs.Board.{Ledger, IsOwner, Knows}
 use Rattle.mc_board.specs.Steps.{opening_of, newcomer, owning, owned_told, root_after, next_owner, copy_of, told_of, hearing}
 use Rattle.mc_board.proofs.PrefixLemmas.{at_end}
@@ -146,9 +146,9 @@ begins counts =
     one (suc seat) v e = absurd (some-ne-none v (sym e))
 
 -- the same of words that are known to be these
-pub begins_as : (counts : Counts) (locks : ℕ) (words : List ℕ) → locks_of counts ≡ locks → replicate (max 1 locks) 0 ≡ words → Law counts (record { words = words; homes = []; views = opening_of counts ∷ [] })
+pub begins_as : (counts : Counts) (locks : ℕ) (words : List ℕ) → locks_of counts ≡ locks → replicate ((locks + 1) * line_words) 0 ≡ words → Law counts (record { words = words; homes = []; views = opening_of counts ∷ [] })
 begins_as counts locks words all zeros =
-    subst (λ (ws : List ℕ). Law counts (record { words = ws; homes = []; views = opening_of counts ∷ [] })) (ap (λ n. replicate (max 1 n) 0) all ∙ zeros) (begins counts)
+    subst (λ (ws : List ℕ). Law counts (record { words = ws; homes = []; views = opening_of counts ∷ [] })) (ap (λ n. replicate ((n + 1) * line_words) 0) all ∙ zeros) (begins counts)
 
 -- the same at views that are known to be these
 pub opens_as : (counts : Counts) (id : ℕ) (root : Root) (v : View) → v ≡ views.Root root → Splits (Law counts) id v v newcomer

@@ -1,5 +1,5 @@
 -- What a contract sees of a board, of an owner and of a token that has seen (own).
-use Rattle.std.specs.Prelude.{◌≡◌, ℕ, ◌+◌, ◌<◌, List, [], length, max, Some, slice_get}
+use Rattle.std.specs.Prelude.{◌≡◌, ℕ, ◌+◌, ◌*◌, ◌<◌, List, [], length, Some, slice_get}
 use Rattle.atomic_table.specs.Seated.{TableId}
 use Rattle.mc_item.specs.declared.event.Event.{Event}
 use Rattle.mc_board.specs.declared.rule.Counts.{Counts}
@@ -25,13 +25,17 @@ pub record SeenView : Type 0 where
 abbrev pub locks_of : Counts → ℕ
 locks_of counts = counts.stripes + counts.classes + counts.callers
 
--- the first word of a lock. So far each lock has one word
-abbrev pub first_word : Counts → ℕ → ℕ
-first_word counts lock = lock
+-- how many words lie between the first words of two locks: those of a cache line, so no two locks write on the same
+abbrev pub line_words : ℕ
+line_words = 8
 
--- how many words there are. A board without locks has one too, over which tokens are split
+-- the first word of a lock. Word 0 is no lock's: a step that asks for no length reads it
+abbrev pub first_word : Counts → ℕ → ℕ
+first_word counts lock = (lock + 1) * line_words
+
+-- how many words there are: a line for each lock, behind a first one that is no lock's
 abbrev pub words_of : Counts → ℕ
-words_of counts = max 1 (first_word counts (locks_of counts))
+words_of counts = (locks_of counts + 1) * line_words
 
 -- there is an owner for each lock, in the order of the locks, and all histories are empty
 abbrev pub AreOwners : TableId → ℕ → List OwnerView → Type 0

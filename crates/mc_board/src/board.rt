@@ -1,7 +1,7 @@
 //! The words that all threads share.
-ghost use Rattle.std.specs.Prelude.{◌≡◌, ◌<◌, IfOk, [], max};
+ghost use Rattle.std.specs.Prelude.{◌≡◌, ◌<◌, ◌≤◌, ◌+◌, ◌*◌, ◌^◌, IfOk, IfErr, []};
 ghost use Rattle.mc_board.specs.Histories.{blind};
-ghost use Rattle.mc_board.specs.Views.{AreOwners, locks_of, first_word};
+ghost use Rattle.mc_board.specs.Views.{AreOwners, line_words, locks_of, first_word};
 ghost use Rattle.mc_board.specs.declared.rule.View.TheVariants as views;
 
 use crate::owner::Owner;
@@ -20,7 +20,7 @@ pub struct Board {
 }
 
 impl Model for Board {
-    ghost use Rattle.std.specs.Prelude.{◌≡◌};
+    ghost use Rattle.std.specs.Prelude.{◌≡◌, ◌<◌, ◌^◌};
     ghost use Rattle.mc_board.specs.Views.{BoardView, words_of};
 
     ghost Value = { BoardView };
@@ -29,7 +29,8 @@ impl Model for Board {
 
     ghost invariant = { λ b.
         (b.table.shared.key ≡ b.counts)
-        × (b.table.shared.table_id.words ≡ words_of b.counts) };
+        × (b.table.shared.table_id.words ≡ words_of b.counts)
+        × (words_of b.counts < 2 ^ 64) };
 }
 
 impl Board {
@@ -46,7 +47,8 @@ impl Board {
             classes: 0,
             callers: 0,
         };
-        let zeros = vec![in alloc; 0u64; words_for(locks)]?;
+        let words = words_for(locks)?;
+        let zeros = vec![in alloc; 0u64; words]?;
         let (table, mut root) = Words::of_words(alloc, zeros.as_slice(), &counts)?;
         let board = Board { table, counts };
         let seen = Seen::at(board.table.shared.split_seat::<Opens>(&mut root));
@@ -61,15 +63,20 @@ impl Board {
         ensures within { result < self.now.table.words }
     {
         let _ = &self.table;
-        lock
+        (lock + 1) * LINE
     }
 }
 
-// How many words this many locks take.
-fn words_for(locks: usize) -> usize
-    ensures { result ≡ max 1 locks }
+// How many words lie between the first words of two locks: those of a cache line, of 64 bytes.
+const LINE: usize = 8;
+
+// How many words this many locks take. It is an error where there can't be so many.
+fn words_for(locks: usize) -> Result<usize, NoMemory>
+    ensures ok { IfOk result (λ words. words ≡ (locks + 1) * line_words) }
+    ensures err { IfErr result (λ _. 2 ^ 64 ≤ (locks + 1) * line_words) }
 {
-    locks.max(1)
+    let lines = locks.checked_add(1).ok_or(NoMemory)?;
+    lines.checked_mul(LINE).ok_or(NoMemory)
 }
 
 // An owner for each lock, in their order.

@@ -45,6 +45,22 @@ impl<N: Named> Model for Store<N> {
         × (vec_len s.classes ≡ length N.config.sizes) };
 }
 
+// Locks, and waits where it has to. A lock here is held for a microsecond or so, and to sleep and be woken takes longer:
+// so it is tried a few times first, with longer and longer pauses.
+fn wait_for<'a, T: Drop>(rt: &impl Wait, lock: &'a Mutex<T>) -> MutexGuard<'a, T> {
+    let pause = Backoff::new();
+    for _ in 0..TRIES {
+        if let Some(guard) = lock.try_lock() {
+            return guard;
+        }
+        pause.snooze();
+    }
+    lock.lock(rt)
+}
+
+// How often a lock is tried before a thread sleeps: until `Backoff` has no longer pause.
+const TRIES: usize = 11;
+
 impl<N: Named> Store<N> {
     // Locks a stripe. A state of another number than its place's, of which there is none, would be let go and tried again.
     pub(crate) fn lock_stripe<'a>(
@@ -57,7 +73,7 @@ impl<N: Named> Store<N> {
     {
         let pause = Backoff::new();
         for _ in rt.forever() {
-            let guard = self.stripes[stripe.0 as usize].lock(rt);
+            let guard = wait_for(rt, &self.stripes[stripe.0 as usize]);
             if guard.side().number() == stripe {
                 return guard;
             }
@@ -78,7 +94,7 @@ impl<N: Named> Store<N> {
     {
         let pause = Backoff::new();
         for _ in rt.forever() {
-            let guard = self.classes[class.0 as usize - 1].lock(rt);
+            let guard = wait_for(rt, &self.classes[class.0 as usize - 1]);
             if guard.side().number() == class {
                 return guard;
             }

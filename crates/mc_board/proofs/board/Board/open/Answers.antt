@@ -1,5 +1,4 @@
 use Rattle.std.proofs.Common.{rules, ap, arith}
-use Rattle.std.proofs.Math.Nat.{le-max_left}
 use Rattle.mc_board.proofs.ShareKeeps.{begins_as, opens_as}
 use Rattle.mc_board.proofs.board.Board.open.Goals as goal
 
@@ -9,6 +8,6 @@ of_words-requires c = begins_as _ c.args.locks _ (omega arith) (search rules)
 pub split_seat-requires : goal.split_seat-requires
 split_seat-requires c = (
   c.in_ok-table.ensures.2,
-  omega (arith, c.in_ok-table.ensures.0, c.as_slice.ensures.len, c.in_ok-zeros.ensures.len, c.words_for.ensures, le-max_left 1 c.args.locks),
+  omega (arith, c.in_ok-table.ensures.0, c.as_slice.ensures.len, c.in_ok-zeros.ensures.len, c.in_ok-words.ensures),
   opens_as _ _ _ _ (ap (λ m. m.0) c.in_ok-table.ensures.4),
 )
