@@ -10,4 +10,5 @@ pub mod RestLemmas
 pub mod StreamLemmas
 pub mod SplitLemmas
 pub mod PercentLemmas
+mod PlainLemmas
 pub mod TextLemmas

@@ -64,7 +64,7 @@ last_block limits bytes end l lf lack short part =
     none_begins limits bytes (in_block limits bytes (take end bytes) (drop (end + 1) bytes) (line_first bytes end l lf) (line_is bytes end l lack short) (omega (arith, length-drop (end + 1) bytes)))
 
 -- a line and its whole block spell what they ask
-spelt_first : (limits : Limits) (bytes : List ℕ) (end n : ℕ) → end < length bytes → get_or bytes end 0 ≡ 10 → Lacks 10 (take end bytes) → end ≤ 65536
+pub spelt_first : (limits : Limits) (bytes : List ℕ) (end n : ℕ) → end < length bytes → get_or bytes end 0 ≡ 10 → Lacks 10 (take end bytes) → end ≤ 65536
     → n ≡ wanted (says limits (take end bytes)) → end + 1 + n ≤ length bytes
     → Spells limits (take (end + 1 + n) bytes) (asked (says limits (take end bytes)) (take n (drop (end + 1) bytes)))
 spelt_first limits bytes end n l lf lack short is whole =
@@ -89,7 +89,7 @@ next_is (Juggle target) is = cc
 next_is (Crawl target) is = cc
 next_is Quit is = cc
 
-other_is : (r : Request) → is_next r ≡ false → IsOther r
+pub other_is : (r : Request) → is_next r ≡ false → IsOther r
 other_is r off is = let on : is_next r ≡ true = ap is_next is in cc
 
 asks_next : (s : Said) (block : List ℕ) → true ≡ says_next s → asked s block ≡ Next

@@ -1,5 +1,5 @@
 -- The scripts of an input: a line %next in the place of a command begins the next script (own).
-use Rattle.std.specs.Prelude.{◌≡◌, ◌<◌, ◌≤◌, ◌+◌, List, [], ◌∷◌, ◌++◌, ℕ, Bool, true, false, Option, Some, None, All, length, take, drop}
+use Rattle.std.specs.Prelude.{◌≡◌, ◌<◌, ◌≤◌, ◌+◌, ◌⊎◌, List, [], ◌∷◌, ◌++◌, ℕ, Bool, true, false, Option, Some, None, All, length, take, drop}
 use Rattle.mc_proto.specs.Grammar.{Spells, Spelt, Reads, closes, closed}
 use Rattle.mc_proto.specs.declared.request.Limits.{Limits}
 use Rattle.mc_proto.specs.declared.request.Request.{Request}
@@ -78,6 +78,16 @@ is_next (At moment) = false
 is_next (Juggle target) = false
 is_next (Crawl target) = false
 is_next Quit = false
+
+-- a script goes on right behind a line that says this: it is a whole request, which neither begins the next script nor closes the reader
+abbrev pub GoesOn : Said → Type 0
+GoesOn (said.Whole r) = (closes r ≡ false) × (is_next r ≡ false)
+GoesOn (said.Block s) = ⊥
+GoesOn (said.Skip s) = ⊥
+
+-- the letters with which the verbs delete, decr, get, gets, incr and touch begin, and no verb of a block or a directive
+abbrev pub IsPlain : ℕ → Type 0
+IsPlain b = (b ≡ 100) ⊎ (b ≡ 103) ⊎ (b ≡ 105) ⊎ (b ≡ 116)
 
 -- whether a line says that the next script begins
 abbrev pub says_next : Said → Bool

@@ -53,6 +53,13 @@ fn block_len(said: &Said) -> usize
     }
 }
 
+// Whether a line that begins with this byte is passed over without a look at the rest: most lines of most inputs are.
+fn is_plain(byte: u8) -> bool
+    ensures { result ≡ true → scripts.IsPlain byte }
+{
+    byte == b'd' || byte == b'g' || byte == b'i' || byte == b't'
+}
+
 // What stands first. A line and its block are looked at alone.
 fn first_of(alloc: Global, limits: Limits, bytes: &[u8]) -> Result<First, NoMemory>
     ensures { IfOk result (λ f. scripts.StandsFirst limits bytes.now f) }
@@ -60,6 +67,9 @@ fn first_of(alloc: Global, limits: Limits, bytes: &[u8]) -> Result<First, NoMemo
     let end = line_end(bytes);
     if end > MAX_LINE || end == bytes.len() {
         return Ok(First::Last);
+    }
+    if is_plain(bytes[0]) {
+        return Ok(First::More(end + 1));
     }
     let said = said_of(alloc, limits, bytes.split_at(end).0)?;
     let count = end + 1 + block_len(&said);

@@ -1,6 +1,7 @@
 use Rattle.std.proofs.Common.{◌≡◌, ◌<◌, ◌∙◌, length, take, ap, arith, inl, inr}
 use Rattle.mc_proto.specs.Grammar.{wanted}
 use Rattle.mc_proto.specs.Table.{says}
+use Rattle.mc_proto.proofs.PlainLemmas.{plain_first}
 use Rattle.mc_proto.proofs.SplitLemmas.{last_too_long, last_line, last_block, next_first, more_first}
 use Rattle.mc_proto.proofs.splitting.first_of.Goals as goal
 
@@ -38,4 +39,13 @@ returns c =
       omega arith,
       omega arith,
       more_first c.args.limits c.args.bytes.now e.result c.block_len.result c.in_ok-said.said l (e.ensures.found l) e.ensures.before (omega arith) told c.in_ok-said.ensures.fine c.block_len.ensures (omega arith) c.if-says_next.ensures,
+    )
+
+pub returns-then-is_plain : goal.returns-then-is_plain
+returns-then-is_plain c =
+    let e = c.line_end-end in
+    let l : c.line_end-end.result < length c.args.bytes.now = omega arith in (
+      omega arith,
+      omega arith,
+      plain_first c.args.limits c.args.bytes.now e.result l (e.ensures.found l) e.ensures.before (omega arith) (c.is_plain.ensures c.if-is_plain.true),
     )
