@@ -4,6 +4,7 @@ ghost use Rattle.mc_store_tests.specs.Opening.{AreParts};
 
 mod asking;
 mod callers;
+mod cas_loops;
 mod checker;
 mod commands;
 mod counters;
