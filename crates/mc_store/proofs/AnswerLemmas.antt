@@ -20,8 +20,8 @@ use Rattle.mc_stripe.specs.StripeState.{Stripe, cache_now}
 use Rattle.mc_stripe.specs.declared.fate.Fate.{Fate}
 use Rattle.mc_stripe.specs.declared.planning.Plan.{Plan}
 use Rattle.mc_pull.specs.Perform.{call}
-use Rattle.mc_lone.specs.Commands.{IsCut, burial}
-use Rattle.mc_lone.proofs.ReadyLemmas.{plan_fate}
+use Rattle.mc_store.specs.Commands.{IsCut, burial}
+use Rattle.mc_store.proofs.CommandLemmas.{plan_fate}
 use Rattle.mc_store.specs.Callers.{answered_at}
 use Rattle.mc_store.specs.Calls.{IsReplied}
 use Rattle.mc_store.specs.Earned.{IsEarned}

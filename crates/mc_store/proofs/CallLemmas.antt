@@ -17,7 +17,7 @@ use Rattle.mc_evidence.specs.Seen.{classes_seen}
 use Rattle.mc_evidence.proofs.LockLemmas.{stripe_sees_more}
 use Rattle.mc_evidence.proofs.SeenLemmas.{classes_grow}
 use Rattle.mc_stripe.specs.StripeCalls.{KeepsSite}
-use Rattle.mc_lone.specs.Commands.{IsCut}
+use Rattle.mc_store.specs.Commands.{IsCut}
 use Rattle.mc_store.specs.Calls.{IsCutBy, IsReplied, IsRepliedBy, IsSeenGrow}
 use Rattle.mc_store.specs.Locked.{IsLockedStripe, setting_of}
 use Rattle.mc_store.specs.Serving.{HasSeenShort, IsShort}

@@ -19,7 +19,7 @@ use Rattle.mc_rule.specs.Lists.{IsFull, count_of, links_of, lists_of}
 use Rattle.mc_rule.specs.Pairs.{link_to}
 use Rattle.mc_segment.specs.ClassCalls.{Makes, refused_event}
 use Rattle.mc_segment.specs.ClassState.{ClassView}
-use Rattle.mc_lone.proofs.RoomLemmas.{noted_at}
+use Rattle.mc_store.proofs.ShortLemmas.{noted_at}
 use Rattle.mc_store.specs.Locked.{IsLockedClass, locks_for}
 use Rattle.mc_store.specs.Performing.{IsRefusedIn}
 use Rattle.mc_store.specs.Planned.{IsGiven}

@@ -1,3 +1,7 @@
+pub mod CommandLemmas
+pub mod DeadLemmas
+pub mod NeededLemmas
+pub mod ShortLemmas
 pub mod PlaceLemmas
 pub mod CallerLemmas
 pub mod ClosedLemmas

@@ -48,7 +48,7 @@ use Rattle.mc_pull.specs.Settled.{class_events, class_with, cold_events, warm_ev
 use Rattle.mc_pull.specs.Tried.{AreHad, AreTries, IsNoneNear, IsTried, IsTry}
 use Rattle.mc_pull.specs.Walker.{Walker, walker_of}
 use Rattle.mc_pull.proofs.OutcomeLemmas.{Means, done_is, outcome_means}
-use Rattle.mc_lone.proofs.CommandLemmas.{alive_behind}
+use Rattle.mc_store.proofs.CommandLemmas.{alive_behind}
 use Rattle.mc_store.specs.Earned.{HasSearched, HasSearchedForAny}
 use Rattle.mc_store.specs.Looked.{AreOfOthers, HasLooked, IsKnown, IsOfOther}
 

@@ -30,7 +30,7 @@ use Rattle.mc_pull.specs.Lent.{EachPair}
 use Rattle.mc_pull.specs.Question as made
 use Rattle.mc_pull.specs.Sight.{BacksStill, SuitsStill, TellsStill}
 use Rattle.mc_pull.proofs.GrowthLemmas.{class_later}
-use Rattle.mc_lone.proofs.TogetherLemmas.{stripe_made}
+use Rattle.mc_store.proofs.ShortLemmas.{stripe_made}
 use Rattle.mc_store.specs.Callers.{AreCalled}
 use Rattle.mc_store.specs.Locked.{IsLockedClass, IsLockedStripe, class_lock, locks_for, setting_of}
 use Rattle.mc_store.specs.Performing.{IsOneOf}

@@ -29,12 +29,11 @@ use Rattle.mc_stripe.specs.declared.planning.Plan.{Plan}
 use Rattle.mc_pull.specs.Lent.{IsLent, IsLentIf}
 use Rattle.mc_pull.specs.Perform.{AreLent, MayAnswer, call, fate_for}
 use Rattle.mc_pull.specs.Question.{IsStripeOf}
-use Rattle.mc_lone.specs.Needed.{HasClassIf, HaveClasses, HoldsOf, IsNumberOf}
-use Rattle.mc_lone.specs.declared.needed.Needed.{Needed}
-use Rattle.mc_lone.specs.declared.needed.Needed.TheVariants.{One, Two}
-use Rattle.mc_lone.proofs.CommandLemmas.{visible_alive}
-use Rattle.mc_lone.proofs.NeededLemmas.{fate_have}
-use Rattle.mc_lone.proofs.ReadyLemmas.{plan_fate}
+use Rattle.mc_store.specs.Needed.{HasClassIf, HaveClasses, HoldsOf, IsNumberOf}
+use Rattle.mc_store.specs.declared.needed.Needed.{Needed}
+use Rattle.mc_store.specs.declared.needed.Needed.TheVariants.{One, Two}
+use Rattle.mc_store.proofs.CommandLemmas.{plan_fate, visible_alive}
+use Rattle.mc_store.proofs.NeededLemmas.{fate_have}
 use Rattle.mc_store.specs.Locked.{setting_of}
 use Rattle.mc_store.specs.Planned.{GoesBy, IsPlanIn}
 

@@ -24,7 +24,7 @@ use Rattle.mc_stripe.specs.StripeState.{Stripe}
 use Rattle.mc_pull.specs.Perform.{Call, answer_to, call}
 use Rattle.mc_pull.specs.Performed.{IsPerformed, cooled_if, did_event}
 use Rattle.mc_pull.specs.Sight.{KeepsEachSight}
-use Rattle.mc_lone.proofs.ReadyLemmas.{led_same}
+use Rattle.mc_store.proofs.CommandLemmas.{led_same}
 use Rattle.mc_store.specs.Callers.{AreCalled, answered_at, calls_told}
 use Rattle.mc_store.specs.Calls.{IsReplied}
 use Rattle.mc_store.specs.Earned.{IsEarned}

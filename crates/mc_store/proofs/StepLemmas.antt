@@ -23,8 +23,7 @@ use Rattle.mc_pull.specs.Growth as classes
 use Rattle.mc_pull.specs.Perform.{Call}
 use Rattle.mc_pull.specs.Performed.{IsUntouched, MayRefuseCall}
 use Rattle.mc_pull.specs.Sight.{BacksStill, KeepsSights, SuitsStill}
-use Rattle.mc_lone.specs.Commands.{HasShort}
-use Rattle.mc_lone.proofs.PerformLemmas.{all_short}
+use Rattle.mc_store.proofs.ShortLemmas.{HasShort, all_short}
 use Rattle.mc_store.specs.Callers.{AreCalled}
 use Rattle.mc_store.specs.Locked.{IsLockedClass, IsLockedStripe, class_lock, locks_for}
 use Rattle.mc_store.specs.Performing.{IsRefusedIn}

@@ -33,10 +33,8 @@ use Rattle.mc_pull.specs.Perform.{answer_to, call}
 use Rattle.mc_pull.specs.Performed.{cooled_if, events_on_stripe}
 use Rattle.mc_pull.specs.Question.{IsClassOf}
 use Rattle.mc_pull.specs.Walker.{Walker, walker_of}
-use Rattle.mc_lone.specs.Commands.{IsCut, IsSearch, LeadsUp, burial}
-use Rattle.mc_lone.specs.LoneStore.{walker_in}
-use Rattle.mc_lone.proofs.CommandLemmas.{buried_alive, buried_row, searched_alive}
-use Rattle.mc_lone.proofs.ReadyLemmas.{not_dead, searches_none}
+use Rattle.mc_store.specs.Commands.{IsCut, IsSearch, LeadsUp, burial, walker_in}
+use Rattle.mc_store.proofs.CommandLemmas.{buried_alive, buried_row, not_dead, searched_alive, searches_none}
 use Rattle.mc_store.specs.Callers.{answered_at}
 use Rattle.mc_store.specs.Calls.{IsReplied}
 use Rattle.mc_store.specs.Earned.{IsEarned}

@@ -20,7 +20,7 @@ use Rattle.mc_pull.specs.Juggle.{IsJuggle}
 use Rattle.mc_pull.specs.Question.{IsClassOf, IsStripeOf}
 use Rattle.mc_pull.specs.Rounds.{rounds}
 use Rattle.mc_pull.specs.declared.looking.Answer.{Answer}
-use Rattle.mc_lone.specs.Commands.{IsAnswered, IsCut}
+use Rattle.mc_store.specs.Commands.{IsAnswered, IsCut}
 use Rattle.mc_store.specs.Callers.{answered_at, asked_for}
 use Rattle.mc_store.specs.Earned.{IsEarned}
 use Rattle.mc_store.specs.Locked.{class_lock, setting_of}

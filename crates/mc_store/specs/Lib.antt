@@ -1,3 +1,5 @@
+pub mod Commands
+pub mod Needed
 pub mod Callers
 pub mod Naming
 pub mod Sides

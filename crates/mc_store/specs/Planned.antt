@@ -17,8 +17,8 @@ use Rattle.mc_stripe.specs.declared.fate.Fate.{Fate}
 use Rattle.mc_stripe.specs.declared.planning.Plan.{Plan}
 use Rattle.mc_pull.specs.Perform.{GivesRoom, MayAnswer, call, fate_for}
 use Rattle.mc_pull.specs.Question.{IsStripeOf}
-use Rattle.mc_lone.specs.Commands.{IsSearch}
-use Rattle.mc_lone.specs.Needed.{HasClassIf, HaveClasses, IsNumberOf}
+use Rattle.mc_store.specs.Commands.{IsSearch}
+use Rattle.mc_store.specs.Needed.{HasClassIf, HaveClasses, IsNumberOf}
 use Rattle.mc_store.specs.Performing.{IsRefusedIn}
 
 -- a command's plan on a stripe of a store: its need and its fates are of the store's sizes, and all links in it have classes

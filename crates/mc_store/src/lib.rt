@@ -17,6 +17,7 @@ mod lock_no;
 mod locked;
 mod looking;
 mod named;
+mod needed;
 mod opening;
 mod owned_class;
 mod owned_stripe;

@@ -6,8 +6,8 @@ ghost use Rattle.mc_store.specs.Planned.{IsPlanIn};
 
 use crate::locked::LockedStripe;
 use crate::named::Named;
+use crate::needed::{Needed, needed_for};
 use mc_item::{ClassNo, Command, Room};
-use mc_lone::{Needed, needed_for};
 use mc_stripe::{Fate, Plan};
 
 // What a command will need and do at a moment, by one look-up of its key.

@@ -5,7 +5,7 @@ use Rattle.mc_board.specs.Histories.{Grows, HasSeen, list_at}
 use Rattle.mc_board.specs.Views.{SeenView}
 use Rattle.mc_board.specs.declared.rule.Sight.{Sight}
 use Rattle.mc_stripe.specs.StripeCalls.{KeepsSite}
-use Rattle.mc_lone.specs.Commands.{IsCut}
+use Rattle.mc_store.specs.Commands.{IsCut}
 use Rattle.mc_store.specs.Calls.{IsReplied}
 use Rattle.mc_store.specs.Callers.{asked_for}
 use Rattle.mc_store.specs.Passes.{CallerView, PassView}

@@ -1,6 +1,6 @@
 use Rattle.std.proofs.Common.{subst}
 use Rattle.std.specs.Prelude.{IfOk, OnErr}
-use Rattle.mc_lone.specs.Commands.{IsCut}
+use Rattle.mc_store.specs.Commands.{IsCut}
 use Rattle.mc_store.specs.Calls.{IsReplied}
 use Rattle.mc_store.specs.Passes.{CallerView}
 use Rattle.mc_store.specs.Sides.{StripeSide}

@@ -12,8 +12,8 @@ use Rattle.mc_pull.specs.Settled.{lost_event, stripe_events}
 use Rattle.mc_pull.specs.declared.judge.Done.{Done}
 use Rattle.mc_pull.specs.declared.judge.Judge.TheVariants.{Dead}
 use Rattle.mc_pull.proofs.LoneLemmas.{settle_walked}
-use Rattle.mc_lone.proofs.DeadLemmas.{dead_listed, dead_reclaimed, told_dead}
-use Rattle.mc_lone.proofs.GrowLemmas.{err_is}
+use Rattle.mc_store.proofs.DeadLemmas.{dead_listed, dead_reclaimed, told_dead}
+use Rattle.mc_store.proofs.ShortLemmas.{err_is}
 use Rattle.mc_store.specs.Sides.{ClassSide, StripeSide}
 use Rattle.mc_store.specs.declared.locked.LockedStripe.TheInside as stripes
 use Rattle.mc_store.specs.declared.locked.LockedClass.TheInside as classes

@@ -1,9 +1,0 @@
-pub mod TogetherLemmas
-pub mod DeadLemmas
-pub mod StoreLemmas
-pub mod GrowLemmas
-pub mod PerformLemmas
-pub mod CommandLemmas
-pub mod ReadyLemmas
-pub mod NeededLemmas
-pub mod RoomLemmas

@@ -1,4 +1,0 @@
-pub mod LoneStore
-pub mod LoneSteps
-pub mod Commands
-pub mod Needed

@@ -1,5 +1,0 @@
-//! Tests of a store that one thread alone uses.
-#![tactic(auto)]
-
-#[cfg(test)]
-mod tests;

@@ -1,0 +1,63 @@
+-- One command on a store: what may stand in the stripe's history before its answer, and what stands there when it was
+-- answered or broken off (own).
+use Rattle.std.specs.Prelude.{ℕ, ◌≡◌, ◌++◌, ◌⊎◌, List, [], ◌∷◌, Bool, Option, Some, None, length}
+use Rattle.mc_item.specs.Command.{key_of}
+use Rattle.mc_item.specs.declared.answer.Need.{Need}
+use Rattle.mc_item.specs.declared.answer.Need.TheVariants as needs
+use Rattle.mc_item.specs.declared.command.Command.{Command}
+use Rattle.mc_item.specs.declared.config.Config.{Config}
+use Rattle.mc_item.specs.declared.item.ClassNo.{ClassNo}
+use Rattle.mc_item.specs.declared.item.Link.{Link}
+use Rattle.mc_item.specs.declared.item.Who.{Who}
+use Rattle.mc_item.specs.declared.reply.Reply.{Reply}
+use Rattle.mc_item.specs.declared.reply.Room.{Room}
+use Rattle.mc_item.specs.declared.stripe_event.Cause.TheVariants.{Expired}
+use Rattle.mc_item.specs.declared.stripe_event.StripeEvent.{StripeEvent}
+use Rattle.mc_item.specs.declared.stripe_event.StripeEvent.TheVariants as events
+use Rattle.mc_rule.specs.Segment.{rule_of}
+use Rattle.mc_stripe.specs.Plan.{dead_link, visible_row}
+use Rattle.mc_stripe.specs.StripeState.{Stripe, cache_now}
+use Rattle.mc_pull.specs.Lone.{AreMadeBy}
+use Rattle.mc_pull.specs.Performed.{cooled_if}
+use Rattle.mc_pull.specs.Settled.{lost_event}
+use Rattle.mc_pull.specs.Walker.{Walker}
+
+-- the walker of a call in a class of a configuration
+abbrev pub walker_in : Config → Who → ℕ → ClassNo → Walker
+walker_in config who moment class = record { who = who; moment = moment; class = class; rule = rule_of config }
+
+-- the event by which a key's item goes that is dead at a moment, where its link is one, and else none
+abbrev pub burial : Who → List ℕ → ℕ → Option Link → List StripeEvent
+burial who key moment None = []
+burial who key moment (Some link) = lost_event who key (Expired moment) ∷ []
+
+-- the events by which a chunk is looked for: where a new one is needed, those of a walker in its class, and else none
+abbrev pub IsSearch : Config → Who → ℕ → Need → List StripeEvent → Type 0
+IsSearch config who moment (needs.Fresh class) walked = AreMadeBy (walker_in config who moment class) walked
+IsSearch config who moment needs.Nothing walked = walked ≡ []
+IsSearch config who moment needs.Same walked = walked ≡ []
+IsSearch config who moment needs.TooLarge walked = walked ≡ []
+
+-- a stripe's events before a command's answer: its key's dead item goes; then a chunk is looked for, where one is needed
+pub record LeadsUp (config : Config) (who : Who) (command : Command) (moment : ℕ) (s : Stripe) (before : List StripeEvent) : Type 0 where
+  pub walked : List StripeEvent
+  pub split : before ≡ burial who (key_of command) moment (dead_link ((cache_now s).items (key_of command)) moment) ++ walked
+  pub search : IsSearch config who moment (visible_row s command moment).need walked
+
+-- a command was answered at a place of its stripe's history: behind the events that lead up to it stand its own, and at
+-- most the cleared mark of its key's item
+pub record IsAnswered (config : Config) (who : Who) (command : Command) (moment : ℕ) (s s_new : Stripe) (place : ℕ) : Type 0 where
+  pub before : List StripeEvent
+  pub led_up : LeadsUp config who command moment s before
+  pub reply : Reply
+  pub room : Room
+  pub cooled : Bool
+  pub history_is : s_new.history ≡ (s.history ++ before)
+      ++ events.Did (record { who = who; command = command; moment = moment; reply = reply; room = room }) ∷ cooled_if who (key_of command) cooled
+  pub place_is : place ≡ length (s.history ++ before)
+
+-- a command was broken off: nothing of it stands but what leads up to it
+pub record IsCut (config : Config) (who : Who) (command : Command) (moment : ℕ) (s s_new : Stripe) : Type 0 where
+  pub before : List StripeEvent
+  pub led_up : (before ≡ []) ⊎ LeadsUp config who command moment s before
+  pub history_is : s_new.history ≡ s.history ++ before
