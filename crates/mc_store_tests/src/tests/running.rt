@@ -31,8 +31,14 @@ pub(super) enum Ask {
 /// A row of a script: a moment, the letter of a key, what is asked for it, and what that is answered.
 pub(super) type Row = (u32, u8, Ask, &'static str);
 
-// The command of a row, where this cas number was shown last.
-fn command_of<R: Abort>(rt: &R, alloc: Global, letter: u8, ask: Ask, shown: u64) -> Command {
+/// What is asked for the key of one letter, where this cas number was shown last.
+pub(super) fn command_of<R: Abort>(
+    rt: &R,
+    alloc: Global,
+    letter: u8,
+    ask: Ask,
+    shown: u64,
+) -> Command {
     match ask {
         Ask::Get => Command::Get(key(rt, alloc, letter)),
         Ask::Store(verb, flags, text) => {
