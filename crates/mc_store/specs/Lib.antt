@@ -1,5 +1,6 @@
 pub mod Callers
 pub mod Naming
+pub mod Made
 pub mod Sides
 pub mod Locked
 pub mod Passes
