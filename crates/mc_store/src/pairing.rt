@@ -152,7 +152,8 @@ pub(crate) fn perform_alone<N: Named>(
     Ok(copy?.unwrap())
 }
 
-// Makes one command, whose key has no dead item, on its stripe and the class that it needs, which gives the room.
+// Makes one command, whose key has no dead item, on its stripe and the class that it needs, which gives the room. Its caller
+// tells the class of the call.
 pub(crate) fn perform_on_one<N: Named>(
     alloc: Global,
     board: &Board,
@@ -216,7 +217,7 @@ pub(crate) fn perform_on_one<N: Named>(
 }
 
 // Makes one command, whose key has no dead item, on its stripe and the two classes that it needs, the lower first, which
-// give the room.
+// give the room. Its caller tells both of the call.
 pub(crate) fn perform_on_two<N: Named>(
     alloc: Global,
     board: &Board,

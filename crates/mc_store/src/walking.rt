@@ -135,7 +135,7 @@ pub(crate) fn juggle_under<N: Named>(
 }
 
 // The dead item of a key goes, and its entry with it; `link` is the item's, and the class is its link's. After a fault both
-// histories are as they were.
+// histories are as they were. The class learns of the call from the stripe, which was told of it.
 pub(crate) fn bury_under<N: Named>(
     alloc: Global,
     store: &Store<N>,
