@@ -65,7 +65,7 @@ module _ (config : Config) (final : FinalView) (all : AreStripes final.board con
     classes = all_classes.many;
     each_class = λ place c found.
         let under = all_classes.each place c found in
-        record { number_is = ap (λ (n : ℕ). record { 0 = n }) under.number_is; made_with = under.kept.made_with };
+        record { number_is = ap (λ (n : ℕ). record { 0 = n }) under.number_is; made_with = under.kept.held.made_with };
     sound = sound;
     entries = entries;
   }
@@ -84,7 +84,7 @@ module _ (config : Config) (final : FinalView) (all : AreStripes final.board con
         let g = get_some final.classes (class.0 - 1) (omega (arith, is.0, is.1, all_classes.many)) in
         let under = all_classes.each (class.0 - 1) g.0 g.1 in
         let same : g.0.class.number.0 ≡ class.0 = under.number_is ∙ omega (arith, is.0) in
-        let lock : g.0.lock ≡ class_lock config class = under.kept.lock_is ∙ ap (λ (n : ℕ). config.stripes + (n - 1)) same in
+        let lock : g.0.lock ≡ class_lock config class = under.kept.held.lock_is ∙ ap (λ (n : ℕ). config.stripes + (n - 1)) same in
         subst (λ (o : Option ClassSide). IsPrefix (list_at sight.seen (class_lock config class)) (class_told (class_history o))) (sym g.1)
         (subst (λ (k : ℕ). IsPrefix (list_at sight.seen k) (class_told g.0.class.history)) lock (behind_of.each (class.0 - 1) g.0 g.1).seen)
 

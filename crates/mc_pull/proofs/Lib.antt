@@ -10,6 +10,7 @@ pub mod RoundLemmas
 pub mod TriedLemmas
 pub mod KnownLemmas
 pub mod LoneLemmas
+pub mod EventsLemmas
 mod PartLemmas
 mod PerformLemmas
 mod PlacedLemmas

@@ -17,11 +17,13 @@ use Rattle.mc_pull.specs.Pulled.{none_pulled, did_something, plus}
 use Rattle.mc_pull.specs.Rounds.{Rounds, Walks, Repeats}
 use Rattle.mc_pull.specs.Settled.{class_with}
 use Rattle.mc_pull.specs.Walk.{class_at}
+use Rattle.mc_pull.specs.Walker.{Walker}
 
--- what was kept since any earlier gate and history is kept by a survey too
-abbrev pub KeepsSurveys : {S : Type 0} → (S → List ClassEvent → S → List ClassEvent → Type 0) → Type 0
-KeepsSurveys {S} keeps =
-    (first : S) (begun : List ClassEvent) (gate : S) (history : List ClassEvent) (survey : Surveyed) → keeps first begun gate history → keeps first begun gate (history ++ events.Surveyed survey ∷ [])
+-- what was kept for a walker since any earlier gate and history is kept by a survey of the walker's own call too
+abbrev pub KeepsSurveys : {S : Type 0} → (Walker → S → List ClassEvent → S → List ClassEvent → Type 0) → Walker → Type 0
+KeepsSurveys {S} keeps w =
+    (first : S) (begun : List ClassEvent) (gate : S) (history : List ClassEvent) (survey : Surveyed) → survey.who ≡ w.who → survey.moment ≡ w.moment
+    → keeps w first begun gate history → keeps w first begun gate (history ++ events.Surveyed survey ∷ [])
 
 -- a gate serves a class still when it has a survey of it more, and whatever its room is
 pub record OutlastsSurveys {S : Type 0} (serves : S → Config → ClassView → Type 0) : Type 0 where

@@ -179,7 +179,7 @@ fn juggle_temp<G: Gate>(
 ) -> Result<Pulled, Fault>
     requires config { IsClassOf config.now class.old }
     requires gate { G.serves gate.old config.now class.old }
-    requires surveys { KeepsSurveys (G.keeps (walker_of class.old who moment)) }
+    requires surveys { KeepsSurveys G.keeps (walker_of class.old who moment) }
     requires outlasts { OutlastsSurveys G.serves }
     ensures temp { IfOk result (λ sum. (xs : List Answer) × (G.answers gate.new ≡ G.answers gate.old ++ xs) × JugglesTemp (rounds class.old who moment config.now) config.now.temp class.old.history xs (juggling class.new.history sum)) }
     ensures few { IfOk result (λ sum. sum_of sum ≤ 2500) }
@@ -209,7 +209,7 @@ fn juggle_rest<G: Gate>(
     requires small { sum_of total ≤ 2500 }
     requires config { IsClassOf config.now class.old }
     requires gate { G.serves gate.old config.now class.old }
-    requires surveys { KeepsSurveys (G.keeps (walker_of class.old who moment)) }
+    requires surveys { KeepsSurveys G.keeps (walker_of class.old who moment) }
     requires outlasts { OutlastsSurveys G.serves }
     ensures rest { IfOk result (λ sum. (xs : List Answer) × (G.answers gate.new ≡ G.answers gate.old ++ xs) × JugglesRounds (rounds class.old who moment config.now) (juggling class.old.history total) xs (juggling class.new.history sum)) }
     ensures few { IfOk result (λ sum. sum_of sum ≤ 10000) }
@@ -226,7 +226,7 @@ fn juggle_rest<G: Gate>(
 /// Juggles a class: where TEMP is in use, walks along it by a survey, until one did nothing; then rounds by a new survey,
 /// each of which pulls HOT, or else WARM, and COLD, until one did nothing; at most 500 of each. It answers how many
 /// entries were reclaimed and moved, at most 10000 of both. What a gate keeps of a class's history, it must keep of one
-/// with a survey more, and a class that it serves it must serve with a survey more, and with any room. The faults are
+/// with a survey of this call more, and a class that it serves it must serve with a survey more, and with any room. The faults are
 /// the gate's and those of `ClassState::survey`; the events so far then stand.
 pub fn juggle<G: Gate>(
     alloc: Global,
@@ -238,7 +238,7 @@ pub fn juggle<G: Gate>(
 ) -> Result<Moves, Fault>
     requires config { IsClassOf config.now class.old }
     requires gate { G.serves gate.old config.now class.old }
-    requires surveys { KeepsSurveys (G.keeps (walker_of class.old who moment)) }
+    requires surveys { KeepsSurveys G.keeps (walker_of class.old who moment) }
     requires outlasts { OutlastsSurveys G.serves }
     ensures juggle { IfOk result (λ moves. (xs : List Answer) × (G.answers gate.new ≡ G.answers gate.old ++ xs) × IsJuggle (rounds class.old who moment config.now) class.old.history xs class.new.history moves) }
     ensures few { IfOk result (λ moves. moves.reclaimed + moves.moved ≤ 10000) }

@@ -3,15 +3,17 @@ use Rattle.std.proofs.Common.{◌≡◌, ◌<◌, ◌+◌, ℕ, List, [], ◌∷
 use Rattle.mc_item.specs.declared.call_event.Answered as kinds
 use Rattle.mc_item.specs.declared.call_event.CallEvent.{CallEvent}
 use Rattle.mc_item.specs.declared.call_event.CallEvent.TheVariants.{Answered, Asked, Crawled, Juggled}
+use Rattle.mc_item.specs.declared.class_event.ClassEvent.{ClassEvent}
 use Rattle.mc_item.specs.declared.config.Config.{Config}
 use Rattle.mc_item.specs.declared.item.Who.{Who}
 use Rattle.mc_item.specs.declared.stripe_event.Did.{Did}
 use Rattle.mc_item.specs.declared.stripe_event.StripeEvent.{StripeEvent}
 use Rattle.mc_item.specs.declared.stripe_event.StripeEvent.TheVariants as events
 use Rattle.mc_store.specs.Callers.{IsCalled, IsNext, answered_at, moment_of, turns_of, who_of}
-use Rattle.mc_store.specs.Finals.{AreItsOwn, AreStripes, FinalView}
+use Rattle.mc_store.specs.Finals.{AreClasses, AreItsOwn, AreItsOwnInClasses, AreStripes, FinalView}
+use Rattle.mc_store.specs.Made.{IsClassCalled, maker_of}
 use Rattle.mc_store.specs.Passes.{PassView}
-use Rattle.mc_store.specs.Sides.{StripeSide}
+use Rattle.mc_store.specs.Sides.{ClassSide, StripeSide}
 
 -- each event was called
 pub was_called : (config : Config) (final : FinalView) (passes : ℕ → PassView) (number place : ℕ) (s : StripeSide) (event : StripeEvent) → AreStripes final.board config final.stripes
@@ -21,6 +23,16 @@ pub was_called : (config : Config) (final : FinalView) (passes : ℕ → PassVie
 was_called config final passes number place s event all own there at =
     let of = ((all.each number s there).kept.called.each place event at).0 in
     let pass = own (who_of event).caller of in
+    (of, pass.1.each number s place event there at (sym pass.0))
+
+-- and so was each of a class
+pub class_was_called : (config : Config) (final : FinalView) (passes : ℕ → PassView) (number place : ℕ) (s : ClassSide) (event : ClassEvent) → AreClasses final.board config final.classes
+    → ((caller : ℕ) → caller < config.callers → ((passes caller).caller ≡ caller) × AreItsOwnInClasses (passes caller) final.classes)
+    → slice_get final.classes number ≡ Some s → slice_get s.class.history place ≡ Some event
+    → ((maker_of event).caller < config.callers) × IsClassCalled (passes (maker_of event).caller).calls event
+class_was_called config final passes number place s event all own there at =
+    let of = ((all.each number s there).kept.called.each place event at).0 in
+    let pass = own (maker_of event).caller of in
     (of, pass.1.each number s place event there at (sym pass.0))
 
 -- a call is one turn more

@@ -97,7 +97,7 @@ on_ok_always (Err e) p = tt
 -- ---- calls that were begun
 
 -- more is in the history
-begun_more : (xs ys : List CallEvent) (turn moment : ℕ) → IsBegun xs turn moment → IsBegun (xs ++ ys) turn moment
+pub begun_more : (xs ys : List CallEvent) (turn moment : ℕ) → IsBegun xs turn moment → IsBegun (xs ++ ys) turn moment
 begun_more xs ys turn moment b = record {
   before = b.before;
   call = b.call;
@@ -181,7 +181,7 @@ noted_at old new number stripe place is noted r = on_ok_always r (noted ∙ ap (
 -- ---- events that were called
 
 -- what stands at a place of two lists stands in the one or in the other
-get_append : {A : Type 0} (xs ys : List A) (y : A) (k : ℕ) → slice_get (xs ++ ys) k ≡ Some y → (slice_get xs k ≡ Some y) ⊎ ((j : ℕ) × (k ≡ length xs + j) × (slice_get ys j ≡ Some y))
+pub get_append : {A : Type 0} (xs ys : List A) (y : A) (k : ℕ) → slice_get (xs ++ ys) k ≡ Some y → (slice_get xs k ≡ Some y) ⊎ ((j : ℕ) × (k ≡ length xs + j) × (slice_get ys j ≡ Some y))
 get_append [] ys y k e = inr (k, omega arith, e)
 get_append (x ∷ xs) ys y zero e = inl e
 get_append (x ∷ xs) ys y (suc k) e = ⊎_elim

@@ -66,7 +66,7 @@ module _ (table : TableId) (config : Config) (some : 0 < config.stripes) (stripe
       let g = class_there class is in
       let under = all_classes.each (class.0 - 1) g.0 g.1 in
       subst (λ (o : Option ClassSide). ClassKeeps (setting_of config) class (class_history o) (stripes_seen (list_at (class_sight o).seen))) (sym g.1)
-      (subst (λ (k : ClassNo). ClassKeeps (setting_of config) k g.0.class.history (stripes_seen (list_at g.0.sight.seen))) (number_is class is) under.kept.keeps)
+      (subst (λ (k : ClassNo). ClassKeeps (setting_of config) k g.0.class.history (stripes_seen (list_at g.0.sight.seen))) (number_is class is) under.kept.held.keeps)
 
   stripe_saw : (s : ℕ) (class : ClassNo) → s < config.stripes → IsClass (setting_of config) class
       → IsPrefix (classes_seen config.stripes (list_at (stripe_sight (slice_get stripes s)).seen) class) (class_histories classes class)
@@ -74,7 +74,7 @@ module _ (table : TableId) (config : Config) (some : 0 < config.stripes) (stripe
   stripe_saw s class of is =
       let g = stripe_there s of in
       let h = class_there class is in
-      let lock : h.0.lock ≡ class_lock config class = (all_classes.each (class.0 - 1) h.0 h.1).kept.lock_is ∙ ap (class_lock config) (number_is class is) in
+      let lock : h.0.lock ≡ class_lock config class = (all_classes.each (class.0 - 1) h.0 h.1).kept.held.lock_is ∙ ap (class_lock config) (number_is class is) in
       let p = ((behind s g.0 g.1).each (class.0 - 1) h.0 h.1).seen in
       subst (λ (o : Option StripeSide). IsPrefix (classes_seen config.stripes (list_at (stripe_sight o).seen) class) (class_histories classes class)) (sym g.1)
       (subst (λ (o : Option ClassSide). IsPrefix (classes_seen config.stripes (list_at g.0.sight.seen) class) (class_history o)) (sym h.1)

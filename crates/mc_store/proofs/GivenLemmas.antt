@@ -20,7 +20,7 @@ use Rattle.mc_rule.specs.Pairs.{link_to}
 use Rattle.mc_segment.specs.ClassCalls.{Makes, refused_event}
 use Rattle.mc_segment.specs.ClassState.{ClassView}
 use Rattle.mc_store.proofs.ShortLemmas.{noted_at}
-use Rattle.mc_store.specs.Locked.{IsLockedClass, locks_for}
+use Rattle.mc_store.specs.Locked.{IsHeldClass, locks_for}
 use Rattle.mc_store.specs.Performing.{IsRefusedIn}
 use Rattle.mc_store.specs.Planned.{IsGiven}
 use Rattle.mc_store.specs.Serving.{HasSeenShort}
@@ -99,7 +99,7 @@ stripe_length [] = refl
 stripe_length (e ∷ es) = ap suc (stripe_length es)
 
 -- a class whose whole history was seen has no place left
-pub short_class : (table : TableId) (config : Config) (side : ClassSide) (sight : Sight) (v : ClassView) → IsLockedClass table config side → list_at sight.seen side.lock ≡ class_told side.class.history
+pub short_class : (table : TableId) (config : Config) (side : ClassSide) (sight : Sight) (v : ClassView) → IsHeldClass table config side → list_at sight.seen side.lock ≡ class_told side.class.history
     → v.max_events ≡ side.class.max_events → v.history ≡ side.class.history → v.max_events ≤ length v.history → HasSeenShort config sight
 short_class table config side sight v kept told limit_is history_is full = record {
   lock = side.lock;

@@ -21,14 +21,14 @@ use Rattle.mc_pull.specs.Rounds.{rounds}
 use Rattle.mc_pull.specs.declared.looking.Answer.{Answer}
 use Rattle.mc_store.specs.Calls.{IsJuggledBy, IsSeenGrowOf}
 use Rattle.mc_store.specs.Finals.{IsBehindAt}
-use Rattle.mc_store.specs.Locked.{IsLockedClass, class_lock, setting_of}
+use Rattle.mc_store.specs.Locked.{IsHeldClass, class_lock, setting_of}
 use Rattle.mc_store.specs.Serving.{HasSeenShort, MayFailSeen}
 use Rattle.mc_store.specs.Sides.{ClassSide, class_told}
 use Rattle.mc_store.proofs.GateLemmas.{short_seen}
 use Rattle.mc_store.proofs.PairLemmas.{class_sees}
 use Rattle.mc_store.proofs.ServedLemmas.{short_of}
 
-module _ (table : TableId) (config : Config) (class : ClassNo) (before after : Sight) (old new : ClassSide) (old_kept : IsLockedClass table config old) (new_kept : IsLockedClass table config new)
+module _ (table : TableId) (config : Config) (class : ClassNo) (before after : Sight) (old new : ClassSide) (old_kept : IsHeldClass table config old) (new_kept : IsHeldClass table config new)
     (number : old.class.number ≡ class) (grows : classes.Grows old.class new.class) (behind : IsBehindAt before old.lock (class_told old.class.history))
     (told : list_at after.seen new.lock ≡ class_told new.class.history) (all : Grows new.sight after) where
   new_number : new.class.number ≡ class

@@ -28,7 +28,7 @@ use Rattle.mc_pull.specs.Sight.{KeepsSight}
 use Rattle.mc_pull.specs.Walker.{Walker}
 use Rattle.mc_pull.proofs.KnownLemmas.{known}
 use Rattle.mc_store.specs.Looked.{IsKnown}
-use Rattle.mc_store.specs.Locked.{IsLockedClass, IsLockedStripe, HasBegun}
+use Rattle.mc_store.specs.Locked.{IsHeldClass, IsLockedStripe, HasBegun}
 use Rattle.mc_store.specs.Serving.{IsServed, MayFailSeen, class_side}
 use Rattle.mc_store.specs.Sides.{StripeSide, class_told, stripe_told}
 use Rattle.mc_store.proofs.LookedLemmas.{judged_listed}
@@ -66,7 +66,7 @@ module _ (table : TableId) (config : Config) (own : StripeSide) (own_kept : IsLo
   own_now : IsLockedStripe table config (record before { sight = lent_seen.sight })
   own_now = stripe_sees table config before lent_seen.sight more_is before_kept
 
-  class_now : IsLockedClass table config (class_side owner heard c)
+  class_now : IsHeldClass table config (class_side owner heard c)
   class_now = class_sees table config (class_side owner seen c) heard.sight more_of served.kept
 
   agree : AgreeNow c s_lent
@@ -109,7 +109,7 @@ module _ (table : TableId) (config : Config) (own : StripeSide) (own_kept : IsLo
     -- the class can be walked on
     pub class_judged : IsServed table config owner_last last c_new
     class_judged = record {
-      kept = subst (λ (o : OwnerView). IsLockedClass table config (class_side o last c_new)) (sym owner_is)
+      kept = subst (λ (o : OwnerView). IsHeldClass table config (class_side o last c_new)) (sym owner_is)
           (class_stepped table config (record before { sight = lent_seen.sight }) (class_side owner heard c) own_now class_now agree s_new c_new site grows legal lawful agreement still
           lent_last.sight last.sight told_new_is told_of_new_is more_new more_of_new);
       behind = subst (λ (o : OwnerView). IsPrefix o.history (class_told c_new.history)) (sym owner_is) (prefix_self (class_told c_new.history));

@@ -10,6 +10,7 @@ pub mod FinalLemmas
 pub mod CalledLemmas
 pub mod LentLemmas
 pub mod PairLemmas
+pub mod MadeLemmas
 pub mod MeetLemmas
 pub mod RefusedLemmas
 pub mod SaidLemmas

@@ -7,7 +7,8 @@ use Rattle.mc_board.specs.declared.rule.Sight.{Sight}
 use Rattle.mc_pull.specs.Agreeing.{AgreeNow}
 use Rattle.mc_store.specs.Locked.{IsLockedClass, IsLockedStripe}
 use Rattle.mc_store.specs.Sides.{ClassSide, StripeSide, class_told, stripe_told}
-use Rattle.mc_store.proofs.PairLemmas.{class_sees, heard_class, heard_stripe, met, stripe_sees}
+use Rattle.mc_store.proofs.MadeLemmas.{locked_sees}
+use Rattle.mc_store.proofs.PairLemmas.{heard_class, heard_stripe, met, stripe_sees}
 
 -- first the stripe is told, then the class
 module _ (table : TableId) (config : Config) (own own_first own_new : StripeSide) (lent lent_first lent_new : ClassSide) (kept : IsLockedStripe table config own) (kept_of : IsLockedClass table config lent)
@@ -31,12 +32,12 @@ module _ (table : TableId) (config : Config) (own own_first own_new : StripeSide
 
   pub meet_class : IsLockedClass table config lent_new
   meet_class = subst (IsLockedClass table config) (sym class_now)
-      (class_sees table config lent hears_of (subst (λ (s : ClassSide). Grows lent.sight s.sight) class_now (subst (λ (s : ClassSide). Grows s.sight lent_new.sight) same_of more_of)) kept_of)
+      (locked_sees table config lent hears_of (subst (λ (s : ClassSide). Grows lent.sight s.sight) class_now (subst (λ (s : ClassSide). Grows s.sight lent_new.sight) same_of more_of)) kept_of)
 
   pub meet_agree : AgreeNow lent_new.class own_new.stripe
   meet_agree =
       subst (λ (s : StripeSide). AgreeNow lent_new.class s.stripe) (sym stripe_now)
       (subst (λ (s : ClassSide). AgreeNow s.class own.stripe) (sym class_now)
-      (met table config (record own { sight = hears }) (record lent { sight = hears_of }) (subst (IsLockedStripe table config) stripe_now meet_stripe) (subst (IsLockedClass table config) class_now meet_class)
-      (heard_class config own.sight lent.lock lent.class.number lent.class.history kept_of.lock_is)
+      (met table config (record own { sight = hears }) (record lent { sight = hears_of }) (subst (IsLockedStripe table config) stripe_now meet_stripe) (subst (IsLockedClass table config) class_now meet_class).held
+      (heard_class config own.sight lent.lock lent.class.number lent.class.history kept_of.held.lock_is)
       (heard_stripe lent.sight own.lock own.stripe.site.stripe own.stripe.history kept.lock_is)))

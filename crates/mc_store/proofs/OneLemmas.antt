@@ -20,7 +20,7 @@ use Rattle.mc_pull.specs.Perform.{Call}
 use Rattle.mc_pull.specs.Performed.{IsUntouched, MayRefuseCall}
 use Rattle.mc_pull.specs.Sight.{KeepsSights}
 use Rattle.mc_store.specs.Callers.{AreCalled}
-use Rattle.mc_store.specs.Locked.{IsLockedClass, IsLockedStripe, locks_for}
+use Rattle.mc_store.specs.Locked.{IsHeldClass, IsLockedStripe, locks_for}
 use Rattle.mc_store.specs.Performing.{IsRefusedIn}
 use Rattle.mc_store.specs.Serving.{IsShort, class_side}
 use Rattle.mc_store.specs.Sides.{ClassSide, StripeSide, class_told, stripe_told}
@@ -34,7 +34,7 @@ module _ (table : TableId) (config : Config) (c : Call) (s s_new : Stripe) (clas
     (caught : owner_new ≡ record owner { history = stripe_told s_new.history }) (noted : Grows seen_was.sight seen.sight)
     (called : AreCalled (locks_for config) config.callers s.site.stripe s.history (list_at seen_was.sight.seen) → AreCalled (locks_for config) config.callers s_new.site.stripe s_new.history (list_at seen.sight.seen))
     -- the class's tokens, and as it is when it has told the stripe
-    (owner_of new_of : OwnerView) (seen_of : SeenView) (was_of class_first : ClassSide) (class_is : class_side owner_of seen_of class ≡ was_of) (class_kept : IsLockedClass table config was_of)
+    (owner_of new_of : OwnerView) (seen_of : SeenView) (was_of class_first : ClassSide) (class_is : class_side owner_of seen_of class ≡ was_of) (class_kept : IsHeldClass table config was_of)
     (caught_of : new_of ≡ record owner_of { history = class_told w.history }) (same_of : class_first ≡ class_side new_of seen_of w)
     (told : own_first ≡ record (stripe_side owner_new seen s_new) { sight = with_seen seen.sight new_of.lock (class_told w.history) }) (more : Grows seen.sight own_first.sight) (same : own_new ≡ own_first)
     (site : KeepsSite s s_new) (legal : IsLegal s_new.site s_new.history) (grows : EachPair (λ a b. classes.Grows a b) (class ∷ []) (w ∷ [])) where
@@ -60,8 +60,8 @@ module _ (table : TableId) (config : Config) (c : Call) (s s_new : Stripe) (clas
   called_now : AreCalled (locks_for config) config.callers s_new.site.stripe s_new.history (list_at seen.sight.seen)
   called_now = called kept_was.called
 
-  kept_of : IsLockedClass table config lent
-  kept_of = subst (IsLockedClass table config) (sym class_is) class_kept
+  kept_of : IsHeldClass table config lent
+  kept_of = subst (IsHeldClass table config) (sym class_is) class_kept
 
   mid : own_mid ≡ record was { stripe = s_new }
   mid = ap (λ (o : OwnerView). stripe_side o seen s_new) caught
@@ -91,9 +91,9 @@ module _ (table : TableId) (config : Config) (c : Call) (s s_new : Stripe) (clas
         (subst (λ (x : ClassView). IsRefusedIn c.room (x ∷ [])) (sym (ap (λ (x : ClassSide). x.class) (class_is ∙ (class_view ∙ class_same)))) refused) sights more_now)
 
     pub one_class : (class_new : ClassSide) → class_new ≡ record class_first { sight = with_seen class_first.sight own_first.lock (stripe_told own_first.stripe.history) } → Grows class_first.sight class_new.sight
-        → IsLawfulHistoryByLists w.chunks w.rule w.history → IsLockedClass table config class_new
+        → IsLawfulHistoryByLists w.chunks w.rule w.history → IsHeldClass table config class_new
     one_class class_new told_of more_of lawful =
-        subst (IsLockedClass table config) (sym (lent_said lent class_first class_new w own_first own_end (same_of ∙ mid_of) said told_of))
+        subst (IsHeldClass table config) (sym (lent_said lent class_first class_new w own_first own_end (same_of ∙ mid_of) said told_of))
         (class_end table config was kept s_new c site legal called_now lent w kept_of grows.0 lawful agree sights.backed.0 sights.suited.0
         (lent_more lent class_first class_new w own_first own_end (same_of ∙ mid_of) said told_of more_of))
 

@@ -32,7 +32,7 @@ use Rattle.mc_pull.specs.Sight.{BacksStill, SuitsStill, TellsStill}
 use Rattle.mc_pull.proofs.GrowthLemmas.{class_later}
 use Rattle.mc_store.proofs.ShortLemmas.{stripe_made}
 use Rattle.mc_store.specs.Callers.{AreCalled}
-use Rattle.mc_store.specs.Locked.{IsLockedClass, IsLockedStripe, class_lock, locks_for, setting_of}
+use Rattle.mc_store.specs.Locked.{IsHeldClass, IsLockedStripe, class_lock, locks_for, setting_of}
 use Rattle.mc_store.specs.Performing.{IsOneOf}
 use Rattle.mc_store.specs.Sides.{ClassSide, StripeSide, class_told, stripe_told}
 use Rattle.mc_store.proofs.CallerLemmas.{called_sees}
@@ -82,7 +82,7 @@ stripe_sees table config s sight grows kept = record {
 }
 
 -- and so does a class's
-pub class_sees : (table : TableId) (config : Config) (s : ClassSide) (sight : Sight) → Grows s.sight sight → IsLockedClass table config s → IsLockedClass table config (record s { sight = sight })
+pub class_sees : (table : TableId) (config : Config) (s : ClassSide) (sight : Sight) → Grows s.sight sight → IsHeldClass table config s → IsHeldClass table config (record s { sight = sight })
 class_sees table config s sight grows kept = record {
   board_is = kept.board_is;
   lock_is = kept.lock_is;
@@ -102,7 +102,7 @@ site_of_number config s is =
     stripes ∙ ap (λ (sizes : List ℕ). record { stripe = s.site.stripe; stripes = s.site.stripes; sizes = sizes }) (sym is.sizes)
 
 -- ---- a stripe and a class that were told of each other agree
-pub met : (table : TableId) (config : Config) (own : StripeSide) (lent : ClassSide) → IsLockedStripe table config own → IsLockedClass table config lent
+pub met : (table : TableId) (config : Config) (own : StripeSide) (lent : ClassSide) → IsLockedStripe table config own → IsHeldClass table config lent
     → classes_seen config.stripes (list_at own.sight.seen) lent.class.number ≡ lent.class.history → stripes_seen (list_at lent.sight.seen) own.stripe.site.stripe ≡ own.stripe.history
     → AgreeNow lent.class own.stripe
 met table config own lent own_kept lent_kept heard heard_of =
@@ -184,7 +184,7 @@ module _ (table : TableId) (config : Config) (own own_new : StripeSide) (kept : 
 abbrev Bears : Site → Rule → ClassNo → List StripeEvent → List ClassEvent → Type 0
 Bears site rule class seen history = Each (IsBacked site rule class seen) history × Each (IsSuited site class seen) history
 
-module _ (table : TableId) (config : Config) (lent lent_new : ClassSide) (kept : IsLockedClass table config lent) (board : lent_new.board ≡ lent.board) (lock : lent_new.lock ≡ lent.lock)
+module _ (table : TableId) (config : Config) (lent lent_new : ClassSide) (kept : IsHeldClass table config lent) (board : lent_new.board ≡ lent.board) (lock : lent_new.lock ≡ lent.lock)
     (grows : classes.Grows lent.class lent_new.class) (more : Grows lent.sight lent_new.sight) (lawful : IsLawfulHistoryByLists lent_new.class.chunks lent_new.class.rule lent_new.class.history) where
   abbrev seen_of : ℕ → List StripeEvent
   seen_of = stripes_seen (list_at lent_new.sight.seen)
@@ -202,7 +202,7 @@ module _ (table : TableId) (config : Config) (lent lent_new : ClassSide) (kept :
       (subst (λ (r : Rule). Each (IsBacked (site_in (setting_of config) n) r lent.class.number (seen_of n)) lent.class.history) (sym kept.made_with.rule) (before.keeps.backed n of), before.keeps.suited n of)
 
   pub class_put : Each ClearsOnce lent_new.class.history
-      → ((n : ℕ) → n < config.stripes → Bears (site_in (setting_of config) n) lent.class.rule lent.class.number (seen_of n) lent_new.class.history) → IsLockedClass table config lent_new
+      → ((n : ℕ) → n < config.stripes → Bears (site_in (setting_of config) n) lent.class.rule lent.class.number (seen_of n) lent_new.class.history) → IsHeldClass table config lent_new
   class_put once bears =
       let rule : lent.class.rule ≡ rule_of config = kept.made_with.rule in
       let chunks = subst (λ (n : ℕ). IsLawfulHistoryByLists n lent_new.class.rule lent_new.class.history) now_of.chunks lawful in
@@ -222,7 +222,7 @@ module _ (table : TableId) (config : Config) (lent lent_new : ClassSide) (kept :
 
   -- a step of the class alone, of which no stripe is asked anything
   pub class_alone : Each ClearsOnce lent_new.class.history
-      → ((t : Site) (seen : List StripeEvent) → Bears t lent.class.rule lent.class.number seen lent.class.history → Bears t lent.class.rule lent.class.number seen lent_new.class.history) → IsLockedClass table config lent_new
+      → ((t : Site) (seen : List StripeEvent) → Bears t lent.class.rule lent.class.number seen lent.class.history → Bears t lent.class.rule lent.class.number seen lent_new.class.history) → IsHeldClass table config lent_new
   class_alone once still = class_put once (λ n of. still (site_in (setting_of config) n) (seen_of n) (bore n of))
 
   -- a step with a stripe, which was told to the class behind it
@@ -235,7 +235,7 @@ module _ (table : TableId) (config : Config) (lent lent_new : ClassSide) (kept :
         (subst (λ (k : ClassNo). Bears s_new.site lent_new.class.rule k (seen_of s.site.stripe) lent_new.class.history) number_is
         (subst (λ (h : List StripeEvent). Bears s_new.site lent_new.class.rule lent_new.class.number h lent_new.class.history) (sym heard_of) (agree.evidence.backed, agree.suited))))
 
-    pub class_after : BacksStill s.site lent.class lent_new.class → SuitsStill s.site lent.class lent_new.class → IsLockedClass table config lent_new
+    pub class_after : BacksStill s.site lent.class lent_new.class → SuitsStill s.site lent.class lent_new.class → IsHeldClass table config lent_new
     class_after backs suits = class_put agree.once (λ n of. ⊎_elim
         (λ (e : n ≡ s.site.stripe). subst (λ (k : ℕ). Bears (site_in (setting_of config) k) lent.class.rule lent.class.number (seen_of k) lent_new.class.history) (sym e) bears_lent)
         (λ (away : n ≢ s.site.stripe).

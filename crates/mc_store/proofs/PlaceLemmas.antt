@@ -70,4 +70,4 @@ stripes_on table config xs all = record { each = λ k s e. (all.each k s e).kept
 
 -- and so are classes
 pub classes_on : (table : TableId) (config : Config) (xs : List ClassSide) → AreClasses table config xs → AreClassesOn table xs
-classes_on table config xs all = record { each = λ k s e. (all.each k s e).kept.board_is }
+classes_on table config xs all = record { each = λ k s e. (all.each k s e).kept.held.board_is }

@@ -32,7 +32,7 @@ use Rattle.mc_pull.specs.Settled.{IsSettled, class_events, stripe_events}
 use Rattle.mc_pull.specs.Sight.{KeepsSight}
 use Rattle.mc_pull.specs.Walker.{Walker}
 use Rattle.mc_pull.specs.declared.judge.Done.{Done}
-use Rattle.mc_store.specs.Locked.{IsLockedClass, IsLockedStripe, class_lock, setting_of, HasBegun}
+use Rattle.mc_store.specs.Locked.{IsHeldClass, IsLockedStripe, class_lock, setting_of, HasBegun}
 use Rattle.mc_store.specs.Serving.{HasSeenShort, IsShort, MayFailSeen, class_side}
 use Rattle.mc_store.specs.Sides.{ClassSide, StripeSide, class_told, stripe_told}
 use Rattle.mc_store.proofs.CallerLemmas.{called_walked}
@@ -107,7 +107,7 @@ short_of config sight lock class history at is list lack =
     record { lock = lock; of = omega (arith, at, first, last); short = omega (arith, long, lack) }
 
 -- a stripe and a class that agreed stepped together, and were told of each other
-module _ (table : TableId) (config : Config) (own : StripeSide) (lent : ClassSide) (own_kept : IsLockedStripe table config own) (lent_kept : IsLockedClass table config lent) (agree : AgreeNow lent.class own.stripe)
+module _ (table : TableId) (config : Config) (own : StripeSide) (lent : ClassSide) (own_kept : IsLockedStripe table config own) (lent_kept : IsHeldClass table config lent) (agree : AgreeNow lent.class own.stripe)
     (s : Stripe) (c : ClassView) (site : KeepsSite own.stripe s) (grows : classes.Grows lent.class c) (legal : IsLegal s.site s.history) (lawful : IsLawfulHistoryByLists c.chunks c.rule c.history)
     (agreement : KeepsAgreement lent.class c own.stripe s) (still : KeepsSight lent.class c own.stripe s) (sight seen : Sight)
     (told : sight ≡ with_seen own.sight lent.lock (class_told c.history)) (told_of : seen ≡ with_seen lent.sight own.lock (stripe_told s.history))
@@ -141,7 +141,7 @@ module _ (table : TableId) (config : Config) (own : StripeSide) (lent : ClassSid
       (λ other rule list apart. still.told other rule list apart.0)
 
   -- and so does the class's
-  pub class_stepped : IsLockedClass table config (class_at lent c seen)
+  pub class_stepped : IsHeldClass table config (class_at lent c seen)
   class_stepped =
       class_after table config lent (class_at lent c seen) lent_kept refl refl grows more_of lawful own.stripe s own_kept.made_with site agree_now heard_of_now still.backed still.suited
 
@@ -166,7 +166,7 @@ module _ (table : TableId) (config : Config) (own : StripeSide) (lent : ClassSid
   short_seen_of (inr full) = inl (omega (arith, full))
 
 -- a stripe and a class were told of each other
-module _ (table : TableId) (config : Config) (own : StripeSide) (lent : ClassSide) (own_kept : IsLockedStripe table config own) (lent_kept : IsLockedClass table config lent) (sight seen : Sight)
+module _ (table : TableId) (config : Config) (own : StripeSide) (lent : ClassSide) (own_kept : IsLockedStripe table config own) (lent_kept : IsHeldClass table config lent) (sight seen : Sight)
     (told : sight ≡ with_seen own.sight lent.lock (class_told lent.class.history)) (told_of : seen ≡ with_seen lent.sight own.lock (stripe_told own.stripe.history))
     (more : Grows own.sight sight) (more_of : Grows lent.sight seen) where
   -- they agree
@@ -179,7 +179,7 @@ module _ (table : TableId) (config : Config) (own : StripeSide) (lent : ClassSid
       (heard_stripe lent.sight own.lock own.stripe.site.stripe own.stripe.history own_kept.lock_is))
 
 -- ---- a step of both, told behind it by the pair
-module _ (table : TableId) (config : Config) (own : StripeSide) (lent : ClassSide) (own_kept : IsLockedStripe table config own) (lent_kept : IsLockedClass table config lent)
+module _ (table : TableId) (config : Config) (own : StripeSide) (lent : ClassSide) (own_kept : IsLockedStripe table config own) (lent_kept : IsHeldClass table config lent)
     (s : Stripe) (own_owner : OwnerView) (own_seen : SeenView) (own_is : stripe_side own_owner own_seen s ≡ own) (c : ClassView) (owner : OwnerView) (seen : SeenView) (lent_is : class_side owner seen c ≡ lent)
     (agree : AgreeNow c s) (s_new : Stripe) (c_new : ClassView) (site : KeepsSite s s_new) (grows : classes.Grows c c_new) (legal : IsLegal s_new.site s_new.history)
     (lawful : IsLawfulHistoryByLists c_new.chunks c_new.rule c_new.history) (agreement : KeepsAgreement c c_new s s_new) (still : KeepsSight c c_new s s_new)
@@ -190,8 +190,8 @@ module _ (table : TableId) (config : Config) (own : StripeSide) (lent : ClassSid
   own_first : IsLockedStripe table config (stripe_side own_owner own_seen s)
   own_first = subst (IsLockedStripe table config) (sym own_is) own_kept
 
-  lent_first : IsLockedClass table config (class_side owner seen c)
-  lent_first = subst (IsLockedClass table config) (sym lent_is) lent_kept
+  lent_first : IsHeldClass table config (class_side owner seen c)
+  lent_first = subst (IsHeldClass table config) (sym lent_is) lent_kept
 
   pair_told_is : own_new.sight ≡ with_seen own_seen.sight owner.lock (class_told c_new.history)
   pair_told_is = ap (λ (x : StripeSide). x.sight) told ∙ ap (λ (o : OwnerView). with_seen own_seen.sight o.lock (class_told c_new.history)) class_up
@@ -222,9 +222,9 @@ module _ (table : TableId) (config : Config) (own : StripeSide) (lent : ClassSid
       pair_told_is pair_told_of_is more pair_more_of_is w begun walked)
 
   -- and so is the class
-  pub class_paired : IsLockedClass table config lent_last
+  pub class_paired : IsHeldClass table config lent_last
   class_paired =
-      subst (IsLockedClass table config) (sym lent_last_is)
+      subst (IsHeldClass table config) (sym lent_last_is)
       (class_stepped table config (stripe_side own_owner own_seen s) (class_side owner seen c) own_first lent_first agree s_new c_new site grows legal lawful agreement still own_new.sight lent_last.sight
       pair_told_is pair_told_of_is more pair_more_of_is)
 

@@ -20,7 +20,7 @@ use Rattle.mc_pull.specs.Perform.{Call}
 use Rattle.mc_pull.specs.Performed.{IsUntouched, MayRefuseCall}
 use Rattle.mc_pull.specs.Sight.{KeepsSights}
 use Rattle.mc_store.specs.Callers.{AreCalled}
-use Rattle.mc_store.specs.Locked.{IsLockedClass, IsLockedStripe, locks_for}
+use Rattle.mc_store.specs.Locked.{IsHeldClass, IsLockedStripe, locks_for}
 use Rattle.mc_store.specs.Performing.{IsRefusedIn}
 use Rattle.mc_store.specs.Serving.{IsShort, class_side}
 use Rattle.mc_store.specs.Sides.{ClassSide, StripeSide, class_told, stripe_told}
@@ -34,9 +34,9 @@ module _ (table : TableId) (config : Config) (c : Call) (s s_new : Stripe) (low_
     (caught : owner_new ≡ record owner { history = stripe_told s_new.history }) (noted : Grows seen_was.sight seen.sight)
     (called : AreCalled (locks_for config) config.callers s.site.stripe s.history (list_at seen_was.sight.seen) → AreCalled (locks_for config) config.callers s_new.site.stripe s_new.history (list_at seen.sight.seen))
     -- the classes' tokens, and as they are when they have told the stripe
-    (owner_low new_low : OwnerView) (seen_low : SeenView) (was_low low_first : ClassSide) (low_is : class_side owner_low seen_low low_class ≡ was_low) (low_kept : IsLockedClass table config was_low)
+    (owner_low new_low : OwnerView) (seen_low : SeenView) (was_low low_first : ClassSide) (low_is : class_side owner_low seen_low low_class ≡ was_low) (low_kept : IsHeldClass table config was_low)
     (caught_low : new_low ≡ record owner_low { history = class_told v.history }) (same_low : low_first ≡ class_side new_low seen_low v)
-    (owner_high new_high : OwnerView) (seen_high : SeenView) (was_high high_first : ClassSide) (high_is : class_side owner_high seen_high high_class ≡ was_high) (high_kept : IsLockedClass table config was_high)
+    (owner_high new_high : OwnerView) (seen_high : SeenView) (was_high high_first : ClassSide) (high_is : class_side owner_high seen_high high_class ≡ was_high) (high_kept : IsHeldClass table config was_high)
     (caught_high : new_high ≡ record owner_high { history = class_told w.history }) (same_high : high_first ≡ class_side new_high seen_high w)
     (told : own_first ≡ record (stripe_side owner_new seen s_new) { sight = with_seen seen.sight new_low.lock (class_told v.history) }) (more : Grows seen.sight own_first.sight)
     (told_both : own_both ≡ record own_first { sight = with_seen own_first.sight new_high.lock (class_told w.history) }) (more_both : Grows own_first.sight own_both.sight)
@@ -73,11 +73,11 @@ module _ (table : TableId) (config : Config) (c : Call) (s s_new : Stripe) (low_
   called_now : AreCalled (locks_for config) config.callers s_new.site.stripe s_new.history (list_at seen.sight.seen)
   called_now = called kept_was.called
 
-  kept_low : IsLockedClass table config low
-  kept_low = subst (IsLockedClass table config) (sym low_is) low_kept
+  kept_low : IsHeldClass table config low
+  kept_low = subst (IsHeldClass table config) (sym low_is) low_kept
 
-  kept_high : IsLockedClass table config high
-  kept_high = subst (IsLockedClass table config) (sym high_is) high_kept
+  kept_high : IsHeldClass table config high
+  kept_high = subst (IsHeldClass table config) (sym high_is) high_kept
 
   mid : own_mid ≡ record was { stripe = s_new }
   mid = ap (λ (o : OwnerView). stripe_side o seen s_new) caught
@@ -130,16 +130,16 @@ module _ (table : TableId) (config : Config) (c : Call) (s s_new : Stripe) (low_
         (subst (λ (x : ClassView). IsRefusedIn c.room (x ∷ high_class ∷ [])) (sym low_was) (subst (λ (x : ClassView). IsRefusedIn c.room (low_arg.class ∷ x ∷ [])) (sym high_was) refused)) sights more_now)
 
     pub two_low : (low_new : ClassSide) → low_new ≡ record low_first { sight = with_seen low_first.sight own_both.lock (stripe_told own_both.stripe.history) } → Grows low_first.sight low_new.sight
-        → IsLawfulHistoryByLists v.chunks v.rule v.history → IsLockedClass table config low_new
+        → IsLawfulHistoryByLists v.chunks v.rule v.history → IsHeldClass table config low_new
     two_low low_new told_low more_low lawful =
-        subst (IsLockedClass table config) (sym (lent_said low low_first low_new v own_both own_end (same_low ∙ mid_low) said told_low))
+        subst (IsHeldClass table config) (sym (lent_said low low_first low_new v own_both own_end (same_low ∙ mid_low) said told_low))
         (class_end table config was kept s_new c site legal called_now low v kept_low grows.0 lawful (agreements.own.0 met_low) sights.backed.0 sights.suited.0
         (lent_more low low_first low_new v own_both own_end (same_low ∙ mid_low) said told_low more_low))
 
     pub two_high : (high_new : ClassSide) → high_new ≡ record high_first { sight = with_seen high_first.sight own_third.lock (stripe_told own_third.stripe.history) } → Grows high_first.sight high_new.sight
-        → IsLawfulHistoryByLists w.chunks w.rule w.history → IsLockedClass table config high_new
+        → IsLawfulHistoryByLists w.chunks w.rule w.history → IsHeldClass table config high_new
     two_high high_new told_high more_high lawful =
-        subst (IsLockedClass table config) (sym (lent_said high high_first high_new w own_third own_end (same_high ∙ mid_high) (same_third ∙ said) told_high))
+        subst (IsHeldClass table config) (sym (lent_said high high_first high_new w own_third own_end (same_high ∙ mid_high) (same_third ∙ said) told_high))
         (class_end table config was kept s_new c site legal called_now high w kept_high grows.1.0 lawful (agreements.own.1.0 met_high) sights.backed.1.0 sights.suited.1.0
         (lent_more high high_first high_new w own_third own_end (same_high ∙ mid_high) (same_third ∙ said) told_high more_high))
 

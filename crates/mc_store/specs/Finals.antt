@@ -18,6 +18,7 @@ use Rattle.mc_rule.specs.Lists.{found, lists_of, times_in}
 use Rattle.mc_rule.specs.Pairs.{item_after}
 use Rattle.mc_store.specs.Callers.{IsCalled, who_of}
 use Rattle.mc_store.specs.Locked.{IsClassUnder, IsStripeUnder}
+use Rattle.mc_store.specs.Made.{IsClassCalled, maker_of}
 use Rattle.mc_store.specs.Passes.{PassView}
 use Rattle.mc_store.specs.Sides.{ClassSide, StripeSide, class_told, stripe_told}
 
@@ -82,3 +83,8 @@ pub record IsBehindClasses (sight : Sight) (classes : List ClassSide) : Type 0 w
 pub record AreItsOwn (pass : PassView) (stripes : List StripeSide) : Type 0 where
   pub each : (k : ℕ) (s : StripeSide) (place : ℕ) (event : StripeEvent) → slice_get stripes k ≡ Some s → slice_get s.stripe.history place ≡ Some event
       → (who_of event).caller ≡ pass.caller → IsCalled pass.calls k place event
+
+-- each event of the classes' final histories that names a pass's caller was called: the pass's own history has its call
+pub record AreItsOwnInClasses (pass : PassView) (classes : List ClassSide) : Type 0 where
+  pub each : (k : ℕ) (s : ClassSide) (place : ℕ) (event : ClassEvent) → slice_get classes k ≡ Some s → slice_get s.class.history place ≡ Some event
+      → (maker_of event).caller ≡ pass.caller → IsClassCalled pass.calls event

@@ -2,6 +2,7 @@ pub mod Commands
 pub mod Needed
 pub mod Callers
 pub mod Naming
+pub mod Made
 pub mod Sides
 pub mod Locked
 pub mod Passes

@@ -16,6 +16,7 @@ use Rattle.mc_evidence.specs.Setting.{IsClass, Setting}
 use Rattle.mc_store.specs.declared.lock_no.LockNo.{LockNo}
 use Rattle.mc_store.specs.declared.lock_no.LockNo.TheVariants as locks
 use Rattle.mc_store.specs.Callers.{AreCalled, IsBegun, call_events}
+use Rattle.mc_store.specs.Made.{AreCalledInClass}
 use Rattle.mc_store.specs.Sides.{ClassSide, StripeSide}
 
 -- what is fixed for a store of a configuration
@@ -65,14 +66,20 @@ pub record IsLockedStripe (board : TableId) (config : Config) (s : StripeSide) :
   pub keeps : StripeKeeps (setting_of config) s.stripe.site.stripe s.stripe.history (classes_seen config.stripes (list_at s.sight.seen))
   pub called : AreCalled (locks_for config) config.callers s.stripe.site.stripe s.stripe.history (list_at s.sight.seen)
 
--- a class's lock keeps: the class is of this board, under the lock of its number, made with this configuration; its history is
--- lawful, and each of its events has found its partner and the item that it cites in what was seen of the stripes
-pub record IsLockedClass (board : TableId) (config : Config) (s : ClassSide) : Type 0 where
+-- a class is held as its lock asks: it is of this board, under the lock of its number, made with this configuration; its
+-- history is lawful, and each of its events has found its partner and the item that it cites in what was seen of the stripes
+pub record IsHeldClass (board : TableId) (config : Config) (s : ClassSide) : Type 0 where
   pub board_is : s.board ≡ board
   pub lock_is : s.lock ≡ class_lock config s.class.number
   pub is : IsClass (setting_of config) s.class.number
   pub made_with : made.IsClassOf config s.class
   pub keeps : ClassKeeps (setting_of config) s.class.number s.class.history (stripes_seen (list_at s.sight.seen))
+
+-- a class's lock keeps: the class is held as it asks, and each event of its history was called, as what was seen of its
+-- caller's history has it
+pub record IsLockedClass (board : TableId) (config : Config) (s : ClassSide) : Type 0 where
+  pub held : IsHeldClass board config s
+  pub called : AreCalledInClass (locks_for config) config.callers s.class.history (list_at s.sight.seen)
 
 -- what lies under the lock of a stripe's number
 pub record IsStripeUnder (board : TableId) (config : Config) (number : ℕ) (s : StripeSide) : Type 0 where

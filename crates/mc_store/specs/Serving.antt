@@ -9,16 +9,16 @@ use Rattle.mc_board.specs.Histories.{list_at}
 use Rattle.mc_board.specs.Views.{OwnerView, SeenView}
 use Rattle.mc_board.specs.declared.rule.Sight.{Sight}
 use Rattle.mc_segment.specs.ClassState.{ClassView}
-use Rattle.mc_store.specs.Locked.{IsLockedClass, locks_for}
+use Rattle.mc_store.specs.Locked.{IsHeldClass, locks_for}
 use Rattle.mc_store.specs.Sides.{ClassSide, StripeSide, class_told}
 
 -- a class with the tokens that are apart from it
 abbrev pub class_side : OwnerView → SeenView → ClassView → ClassSide
 class_side owner seen c = record { board = owner.board; lock = owner.lock; class = c; sight = seen.sight }
 
--- a class whose tokens are apart from it: with them it is as its lock keeps it, but that the board may lack the last of its events
+-- a class whose tokens are apart from it: with them it is held as its lock asks, but that the board may lack the last of its events
 pub record IsServed (board : TableId) (config : Config) (owner : OwnerView) (seen : SeenView) (c : ClassView) : Type 0 where
-  pub kept : IsLockedClass board config (class_side owner seen c)
+  pub kept : IsHeldClass board config (class_side owner seen c)
   pub behind : IsPrefix owner.history (class_told c.history)
   pub board_is : seen.board ≡ owner.board
 

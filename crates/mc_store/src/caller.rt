@@ -8,6 +8,7 @@ ghost use Rattle.mc_store.specs.Passes.{HasCalled};
 
 use crate::locked::{LockedClass, LockedStripe};
 use crate::named::Named;
+use crate::owned_class::OwnedClass;
 use mc_board::{Board, Owner, Seen};
 use mc_item::{Answered, CallEvent, Logged, StripeNo};
 use std::marker::{Model, PhantomData};
@@ -102,6 +103,17 @@ impl<N: Named> Caller<N> {
         ensures begun { (who : Who) (moment : ℕ) → HasCalled self.old who moment → HasBegun N.config stripe.new.sight who moment }
     {
         self.tell(board, &mut stripe.side.seen);
+    }
+
+    // Tells a class that is out of its lock.
+    pub(crate) fn tell_owned(&mut self, board: &Board, class: &mut OwnedClass)
+        requires board { (board.now.table ≡ N.board.table) × (class.old.board ≡ N.board.table) }
+        ensures same { self.new ≡ self.old }
+        ensures class { class.new ≡ record class.old { sight = class.new.sight } }
+        ensures grows { Grows class.old.sight class.new.sight }
+        ensures begun { (who : Who) (moment : ℕ) → HasCalled self.old who moment → HasBegun N.config class.new.sight who moment }
+    {
+        self.tell(board, &mut class.seen);
     }
 
     // Tells a class under its lock.

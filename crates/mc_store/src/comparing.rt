@@ -62,6 +62,31 @@ pub(crate) fn compare_calls<N: Named>(
     }
 }
 
+// Compares what a class has seen of a caller's history with it. Nothing changes.
+fn compare_class_call<N: Named>(board: &Board, class: &mut OwnedClass, caller: &mut Caller<N>)
+    requires board { (board.now.table ≡ N.board.table) × (class.old.board ≡ N.board.table) }
+    ensures same { (class.new ≡ class.old) × (caller.new ≡ caller.old) }
+    ensures behind { HasSeen (calls_told caller.old.calls) class.old.sight (caller_place N.config caller.old.number) }
+{
+    caller.compare(board, &mut class.seen);
+}
+
+// Compares what each class has seen of a caller's history with it. Nothing changes.
+pub(crate) fn compare_class_calls<N: Named>(
+    board: &Board,
+    classes: &mut Vec<OwnedClass>,
+    caller: &mut Caller<N>,
+)
+    requires board { board.now.table ≡ N.board.table }
+    requires classes { AreClassesOn N.board.table classes.old.items }
+    ensures same { (classes.new.items ≡ classes.old.items) × (caller.new ≡ caller.old) }
+    ensures behind { (k : ℕ) (s : ClassSide) → slice_get classes.old.items k ≡ Some s → HasSeen (calls_told caller.old.calls) s.sight (caller_place N.config caller.old.number) }
+{
+    for i in 0..classes.len() {
+        compare_class_call(board, &mut classes[i], caller);
+    }
+}
+
 // Compares what a stripe has seen of each class with its history. Nothing changes.
 fn compare_from_stripe(board: &Board, stripe: &mut OwnedStripe, classes: &mut Vec<OwnedClass>)
     requires board { stripe.old.board ≡ board.now.table }

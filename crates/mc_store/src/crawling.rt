@@ -9,7 +9,9 @@ ghost use Rattle.mc_crawl.specs.CrawlCount.{IsBalanced, MayCount};
 ghost use Rattle.mc_store.specs.Crawls.{IsCrawledBy, IsSnapshot, ShowsReclaims};
 ghost use Rattle.mc_store.specs.Locked.{setting_of, HasBegun};
 ghost use Rattle.mc_store.specs.Passes.{next_who, caller_of, HasCalled};
-ghost use Rattle.mc_store.specs.Serving.{HasSeenShort, MayFailSeen};
+ghost use Rattle.mc_store.specs.Made.{WalksOwn};
+ghost use Rattle.mc_store.specs.Serving.{HasSeenShort, IsServed, MayFailSeen};
+ghost use Rattle.mc_pull.specs.Question.{IsClassOf};
 ghost use Rattle.mc_store.specs.Callers.{crawling_of};
 
 use crate::gates::Trying;
@@ -19,9 +21,42 @@ use crate::owned_class::catch_up_class;
 use crate::pass::Pass;
 use crate::store::Store;
 use mc_crawl::{crawl_one, snapshot};
-use mc_item::{CallEvent, ClassNo, Fault, Histogram, Link, Who, Worked};
+use mc_item::{CallEvent, ClassNo, Config, Fault, Histogram, Link, Who, Worked};
+use mc_segment::ClassState;
 use std::alloc::Global;
 use std::sync::Wait;
+
+impl<'a, N: Named> Trying<'a, N> {
+    // Crawls one link of a class, as `crawl_one` does. It says of this gate what the call for any gate can't: that it holds
+    // the same references, and that the class has only events of this call more.
+    fn crawl(
+        &mut self,
+        alloc: Global,
+        class: &mut ClassState,
+        link: Link,
+        who: Who,
+        moment: u64,
+        histogram: &mut Histogram,
+        config: &Config,
+    ) -> Result<(), Fault>
+        requires config { IsClassOf config.now class.old }
+        requires names { config.now ≡ N.config }
+        requires served { IsServed N.board.table N.config self.old.owner.now self.old.seen.now class.old }
+        requires begun { HasBegun N.config self.old.seen.now.sight self.old.who self.old.moment }
+        requires counts { MayCount histogram.old }
+        ensures seen { OnOk result (histogram.new.seen ≡ histogram.old.seen + 1) }
+        ensures balanced { IsBalanced histogram.old → IsBalanced histogram.new }
+        ensures reclaims { OnOk result (Reclaims who moment class.old.history class.new.history histogram.old.reclaimed histogram.new.reclaimed) }
+        ensures grows { classes.Grows class.old class.new }
+        ensures fault { IfErr result (MayFailSeen N.config self.new.seen.now.sight class.new) }
+        ensures owner_reference { self.new.owner.ghost_name ≡ self.old.owner.ghost_name }
+        ensures seen_reference { self.new.seen.ghost_name ≡ self.old.seen.ghost_name }
+        ensures served { IsServed N.board.table N.config self.new.owner.now self.new.seen.now class.new }
+        ensures walked { WalksOwn who moment self.old.seen.now.sight self.new.seen.now.sight class.old.history class.new.history }
+    {
+        crawl_one(alloc, class, link, who, moment, histogram, config, self)
+    }
+}
 
 // Crawls one link of a class under its lock: the stripe of its entry is only tried.
 fn crawl_under<N: Named>(
@@ -51,16 +86,8 @@ fn crawl_under<N: Named>(
         who,
         moment,
     };
-    let done = crawl_one(
-        alloc,
-        &mut side.state,
-        link,
-        who,
-        moment,
-        histogram,
-        &store.config,
-        &mut gate,
-    );
+    let config = &store.config;
+    let done = gate.crawl(alloc, &mut side.state, link, who, moment, histogram, config);
     catch_up_class(&side.state, &mut side.owner, &store.board);
     done
 }

@@ -1,9 +1,9 @@
 //! A closed store.
 ghost use Rattle.std.specs.Prelude.{◌≡◌, ◌<◌, ◌≤◌, ◌-◌, length, slice_index_or};
-ghost use Rattle.mc_store.specs.Finals.{AreItsOwn, AreStripes, IsBehindClasses, IsBehindStripes};
+ghost use Rattle.mc_store.specs.Finals.{AreClasses, AreItsOwn, AreItsOwnInClasses, AreStripes, IsBehindClasses, IsBehindStripes};
 ghost use Rattle.mc_store.specs.Sides.{AreClassesOn, AreStripesOn, ClassSide, StripeSide};
 
-use crate::comparing::{compare_calls, compare_classes, compare_stripes};
+use crate::comparing::{compare_calls, compare_class_calls, compare_classes, compare_stripes};
 use crate::named::Named;
 use crate::owned_class::OwnedClass;
 use crate::owned_stripe::OwnedStripe;
@@ -65,18 +65,20 @@ impl Final {
     }
 
     /// Compares a pass of the store with it: what the pass has seen of each lock is a beginning of that one's final
-    /// history, and what it has noted is at most its length. Each event in the stripes' histories that names the pass's caller
-    /// is of a call that the pass made. Nothing changes. It takes no memory and waits for nobody.
+    /// history, and what it has noted is at most its length. Each event in the stripes' and the classes' histories that names
+    /// the pass's caller is of a call that the pass made. Nothing changes. It takes no memory and waits for nobody.
     pub fn compare<N: Named>(&mut self, pass: &mut Pass<N>)
         requires board { self.old.board ≡ N.board.table }
         ensures same { (self.new ≡ self.old) × (pass.new ≡ pass.old) }
         ensures stripes { IsBehindStripes pass.old.sight self.old.stripes }
         ensures classes { IsBehindClasses pass.old.sight self.old.classes }
         ensures own { AreStripes N.board.table N.config self.old.stripes → AreItsOwn pass.old self.old.stripes }
+        ensures own_in_classes { AreClasses N.board.table N.config self.old.classes → AreItsOwnInClasses pass.old self.old.classes }
     {
         let seen = &mut pass.seen;
         compare_stripes(&self.board, &mut self.stripes, seen);
         compare_classes(&self.board, &mut self.classes, seen);
         compare_calls(&self.board, &mut self.stripes, &mut pass.caller);
+        compare_class_calls(&self.board, &mut self.classes, &mut pass.caller);
     }
 }

@@ -1,6 +1,7 @@
 //! Gates of walks under the locks of a store: other stripes are only tried.
-ghost use Rattle.std.specs.Prelude.{◌≡◌, ◌≢◌, ◌++◌, List, IfErr, IfOk, false, true};
+ghost use Rattle.std.specs.Prelude.{◌≡◌, ◌≢◌, ◌≤◌, ◌+◌, ◌++◌, List, IfErr, IfOk, false, true};
 ghost use Rattle.mc_pull.specs.Growth.{Grows};
+ghost use Rattle.mc_pull.specs.Juggle.{IsJuggle};
 ghost use Rattle.mc_pull.specs.Lone.{StripeGrows};
 ghost use Rattle.mc_pull.specs.Question.{IsClassOf};
 ghost use Rattle.mc_pull.specs.Rounds.{IsRoom, rounds};
@@ -10,14 +11,15 @@ ghost use Rattle.mc_store.specs.Earned.{HasSearchedForAny};
 ghost use Rattle.mc_store.specs.Looked.{IsOfCall};
 ghost use Rattle.mc_store.specs.Serving.{IsServed, MayFailSeen};
 ghost use Rattle.mc_store.specs.Locked.{HasBegun};
+ghost use Rattle.mc_store.specs.Made.{WalksOwn};
 
 use crate::judging::judge;
 use crate::locked::LockedStripe;
 use crate::named::Named;
 use crate::store::Store;
 use mc_board::{Owner, Seen};
-use mc_item::{Config, Fault, StripeNo, Who};
-use mc_pull::{Answer, Gate, Look, a_search_in_vain_has_tried, make_room};
+use mc_item::{Config, Fault, Moves, StripeNo, Who};
+use mc_pull::{Answer, Gate, Look, a_search_in_vain_has_tried, juggle, make_room};
 use mc_segment::ClassState;
 use std::alloc::Global;
 
@@ -51,9 +53,38 @@ impl<'a, N: Named> Trying<'a, N> {
     }
 }
 
+impl<'a, N: Named> Trying<'a, N> {
+    // Juggles a class, as `juggle` does. It says of this gate what the call for any gate can't: that it holds the same
+    // references, and that the class has only events of this call more.
+    pub(crate) fn juggle(
+        &mut self,
+        alloc: Global,
+        class: &mut ClassState,
+        who: Who,
+        moment: u64,
+        config: &Config,
+    ) -> Result<Moves, Fault>
+        requires config { IsClassOf config.now class.old }
+        requires names { config.now ≡ N.config }
+        requires served { IsServed N.board.table N.config self.old.owner.now self.old.seen.now class.old }
+        requires begun { HasBegun N.config self.old.seen.now.sight self.old.who self.old.moment }
+        ensures juggle { IfOk result (λ moves. (xs : List Answer) × IsJuggle (rounds class.old who moment config.now) class.old.history xs class.new.history moves) }
+        ensures few { IfOk result (λ moves. moves.reclaimed + moves.moved ≤ 10000) }
+        ensures grows { Grows class.old class.new }
+        ensures fault { IfErr result (MayFailSeen N.config self.new.seen.now.sight class.new) }
+        ensures owner_reference { self.new.owner.ghost_name ≡ self.old.owner.ghost_name }
+        ensures seen_reference { self.new.seen.ghost_name ≡ self.old.seen.ghost_name }
+        ensures served { IsServed N.board.table N.config self.new.owner.now self.new.seen.now class.new }
+        ensures walked { WalksOwn who moment self.old.seen.now.sight self.new.seen.now.sight class.old.history class.new.history }
+    {
+        juggle(alloc, class, who, moment, config, self)
+    }
+}
+
 impl<'a, N: Named> Gate for Trying<'a, N> {
     ghost use Rattle.std.specs.Prelude.{◌≡◌, ◌∷◌, []};
     ghost use Rattle.mc_store.specs.Locked.{HasBegun};
+    ghost use Rattle.mc_store.specs.Made.{WalksOwn};
     ghost use Rattle.mc_store.specs.Serving.{IsServed, MayFailSeen};
 
     ghost answers = { λ g. g.answers.now.items };
@@ -64,7 +95,7 @@ impl<'a, N: Named> Gate for Trying<'a, N> {
 
     ghost faults = { λ g c. MayFailSeen N.config g.seen.now.sight c };
 
-    ghost keeps = { λ w g begun h history. (h.who ≡ g.who) × (h.moment ≡ g.moment) };
+    ghost keeps = { λ w g begun h history. (h.who ≡ g.who) × (h.moment ≡ g.moment) × WalksOwn w.who w.moment g.seen.now.sight h.seen.now.sight begun history };
 
     fn visit(&mut self, stripe: StripeNo, look: &mut Look<'_>) -> Result<bool, Fault> {
         self.answers.reserve(1)?;
@@ -112,6 +143,7 @@ impl<'a, 'b, N: Named> Gate for Holding<'a, 'b, N> {
     ghost use Rattle.mc_pull.specs.Lone.{StripeGrows};
     ghost use Rattle.mc_store.specs.Looked.{HasLooked, IsOfCall};
     ghost use Rattle.mc_store.specs.Locked.{HasBegun};
+    ghost use Rattle.mc_store.specs.Made.{WalksOwn};
     ghost use Rattle.mc_store.specs.Serving.{IsServed, MayFailSeen};
 
     ghost answers = { λ g. g.others.answers.now.items };
@@ -122,7 +154,7 @@ impl<'a, 'b, N: Named> Gate for Holding<'a, 'b, N> {
 
     ghost faults = { λ g c. MayFailSeen N.config g.others.seen.now.sight c };
 
-    ghost keeps = { λ w g begun h history. StripeGrows w g.own.now.stripe h.own.now.stripe × (IsOfCall w g.others.who g.others.moment → IsOfCall w h.others.who h.others.moment × HasLooked N.config.stripes w g.own.now.stripe g.others.answers.now.items h.others.answers.now.items begun history) };
+    ghost keeps = { λ w g begun h history. StripeGrows w g.own.now.stripe h.own.now.stripe × (IsOfCall w g.others.who g.others.moment → IsOfCall w h.others.who h.others.moment × HasLooked N.config.stripes w g.own.now.stripe g.others.answers.now.items h.others.answers.now.items begun history) × WalksOwn w.who w.moment g.others.seen.now.sight h.others.seen.now.sight begun history };
 
     fn visit(&mut self, stripe: StripeNo, look: &mut Look<'_>) -> Result<bool, Fault> {
         if !self.lends(stripe, look) {
@@ -179,6 +211,7 @@ impl<'a, 'b, N: Named> Holding<'a, 'b, N> {
         ensures seen_reference { self.new.others.seen.ghost_name ≡ self.old.others.seen.ghost_name }
         ensures served { IsServed N.board.table N.config self.new.others.owner.now self.new.others.seen.now class.new }
         ensures stripe { StripeGrows (walker_of class.old who moment) self.old.own.now.stripe self.new.own.now.stripe }
+        ensures walked { WalksOwn who moment self.old.others.seen.now.sight self.new.others.seen.now.sight class.old.history class.new.history }
         ensures tried { IfOk result (λ found. found ≡ false → IsOfCall (walker_of class.old who moment) self.old.others.who self.old.others.moment → HasSearchedForAny N.config.stripes self.old.own.now.stripe who moment class.new.history) }
     {
         a_search_in_vain_has_tried();

@@ -3,6 +3,7 @@ ghost use Rattle.std.specs.Prelude.{◌≡◌, ◌<◌, ◌++◌, ℕ, List, IsS
 ghost use Rattle.mc_item.specs.Cache.{visible_items};
 ghost use Rattle.mc_item.specs.Stripe.{cache_of};
 ghost use Rattle.mc_item.specs.declared.call_event.CallEvent.{CallEvent};
+ghost use Rattle.mc_item.specs.declared.class_event.ClassEvent.{ClassEvent};
 ghost use Rattle.mc_item.specs.declared.command.Command.{Command};
 ghost use Rattle.mc_item.specs.declared.config.Config.{Config};
 ghost use Rattle.mc_item.specs.declared.item.Item.{Item};
@@ -17,13 +18,14 @@ ghost use Rattle.mc_evidence.specs.Sound.{IsSoundStore};
 ghost use Rattle.mc_board.specs.Histories.{Grows};
 ghost use Rattle.mc_board.specs.declared.rule.Sight.{Sight};
 ghost use Rattle.mc_store.specs.Calls.{IsRepliedBy};
-ghost use Rattle.mc_store.specs.Finals.{AreStripes, FinalView, IsBehindStripes, class_histories, stripe_histories, AreItsOwn};
+ghost use Rattle.mc_store.specs.Finals.{AreClasses, AreItsOwn, AreItsOwnInClasses, AreStripes, FinalView, IsBehindStripes, class_histories, stripe_histories};
 ghost use Rattle.mc_store.specs.Headline.{IsBorneOut};
 ghost use Rattle.mc_store.specs.Locked.{setting_of};
 ghost use Rattle.mc_item.specs.declared.stripe_event.Did.{Did};
 ghost use Rattle.mc_store.specs.Callers.{IsCalled, who_of};
 ghost use Rattle.mc_store.specs.Passes.{PassView};
-ghost use Rattle.mc_store.specs.Sides.{StripeSide};
+ghost use Rattle.mc_store.specs.Made.{IsClassCalled, maker_of};
+ghost use Rattle.mc_store.specs.Sides.{ClassSide, StripeSide};
 
 /// Whatever a pass's command was answered, a closed store bears it out: where what the pass has seen since begins the final
 /// histories, the reply stands in one event of its stripe's legal history, behind all that the pass had seen before the call.
@@ -58,6 +60,17 @@ pub fn each_event_of_a_closed_store_was_called()
         → ((caller : ℕ) → caller < config.callers → ((passes caller).caller ≡ caller) × AreItsOwn (passes caller) final.stripes)
         → slice_get final.stripes number ≡ Some s → slice_get s.stripe.history place ≡ Some event
         → ((who_of event).caller < config.callers) × IsCalled (passes (who_of event).caller).calls number place event }
+{}
+
+/// Each event on a slab class of a closed store was called: it names one of the store's callers, and where each caller's pass
+/// was compared with what is left, that one's own history has the call, with its turn and, where the event has a moment, with
+/// that moment handed in.
+pub fn each_class_event_of_a_closed_store_was_called()
+    ensures { (config : Config) (final : FinalView) (passes : ℕ → PassView) (number place : ℕ) (s : ClassSide) (event : ClassEvent)
+        → AreClasses final.board config final.classes
+        → ((caller : ℕ) → caller < config.callers → ((passes caller).caller ≡ caller) × AreItsOwnInClasses (passes caller) final.classes)
+        → slice_get final.classes number ≡ Some s → slice_get s.class.history place ≡ Some event
+        → ((maker_of event).caller < config.callers) × IsClassCalled (passes (maker_of event).caller).calls event }
 {}
 
 /// A turn is answered once: two answered commands of a closed store that name one caller and one turn are the same event.

@@ -98,6 +98,17 @@ impl OwnedClass {
         stripe.tell(board, &mut self.seen);
     }
 
+    // The class learns all that a stripe has seen.
+    pub(crate) fn learn(&mut self, board: &Board, stripe: &mut OwnedStripe)
+        requires board { (self.old.board ≡ board.now.table) × (stripe.old.board ≡ board.now.table) }
+        ensures stripe { stripe.new ≡ stripe.old }
+        ensures class { self.new ≡ record self.old { sight = self.new.sight } }
+        ensures grows { Grows self.old.sight self.new.sight }
+        ensures learnt { Grows stripe.old.sight self.new.sight }
+    {
+        self.seen.learn(board, &mut stripe.seen);
+    }
+
     // Tells a token the whole history, and all that the class has seen of other locks.
     pub(crate) fn share(&mut self, board: &Board, seen: &mut Seen)
         requires board { (self.old.board ≡ board.now.table) × (seen.old.board ≡ board.now.table) }

@@ -1,6 +1,6 @@
 //! Steps on a stripe and classes under their locks: before each step they are told of each other, behind it the board
 //! has the new events, and they are told of each other again.
-ghost use Rattle.std.specs.Prelude.{◌≡◌, ◌≤◌, ◌<◌, ◌+◌, ◌^◌, ◌∷◌, [], Bool, ◌++◌, IfOk, OnOk, OnErr, IsErrOf, length};
+ghost use Rattle.std.specs.Prelude.{ℕ, ◌≡◌, ◌≤◌, ◌<◌, ◌+◌, ◌^◌, ◌∷◌, [], Bool, ◌++◌, IfOk, OnOk, OnErr, IsErrOf, length};
 ghost use mathlib.Core.List.{IsPrefix};
 ghost use Rattle.mc_item.specs.declared.fault.Fault.TheVariants.{HistoryFull};
 ghost use Rattle.mc_evidence.specs.Seen.{classes_seen};
@@ -14,7 +14,7 @@ ghost use Rattle.mc_pull.specs.Growth as classes;
 ghost use Rattle.mc_pull.specs.Perform as words;
 ghost use Rattle.mc_pull.specs.Perform.{AreLent, GivesRoom, MayAnswer, call};
 ghost use Rattle.mc_store.specs.Callers.{IsCall, answered_at, call_events, calls_told};
-ghost use Rattle.mc_store.specs.Locked.{caller_place};
+ghost use Rattle.mc_store.specs.Locked.{HasBegun, caller_place};
 ghost use Rattle.mc_store.specs.Performing.{IsMade, IsRefusedIn};
 ghost use Rattle.mc_store.specs.Serving.{IsShort};
 ghost use Rattle.mc_store.specs.Sides.{class_told, stripe_told};
@@ -45,22 +45,27 @@ pub(crate) fn meet<N: Named>(board: &Board, own: &mut LockedStripe<N>, lent: &mu
     lent.side.hear(board, &mut own.side);
 }
 
-// Notes in a full class that no chunk was found, and answers the place of that event in its history.
+// Notes in a full class that no chunk was found, and answers the place of that event in its history. The class learns of the
+// call from the stripe, which was told of it.
 pub(crate) fn refuse<N: Named>(
     board: &Board,
+    own: &mut LockedStripe<N>,
     lent: &mut LockedClass<N>,
     who: Who,
 ) -> Result<u64, Fault>
     requires board { board.now ≡ N.board }
+    requires begun { (moment : ℕ) × HasBegun N.config own.old.sight who moment }
     requires full { IsFull lent.old.class.chunks (lists_of lent.old.class.history) }
     ensures place { IfOk result (λ place. place ≡ length lent.old.class.history) }
     ensures refused { OnOk result (Makes lent.old.class lent.new.class (refused_event who)) }
     ensures err { OnErr result (Stays lent.old.class lent.new.class) }
+    ensures own { own.new ≡ own.old }
     ensures full { IsErrOf result HistoryFull → lent.new.class.max_events ≤ length lent.new.class.history }
 {
     let place = lent.side.state.refuse(who);
     lent.side.state.law();
     catch_up_class(&lent.side.state, &mut lent.side.owner, board);
+    lent.side.learn(board, &mut own.side);
     place
 }
 
@@ -147,7 +152,8 @@ pub(crate) fn perform_alone<N: Named>(
     Ok(copy?.unwrap())
 }
 
-// Makes one command, whose key has no dead item, on its stripe and the class that it needs, which gives the room.
+// Makes one command, whose key has no dead item, on its stripe and the class that it needs, which gives the room. Its caller
+// tells the class of the call.
 pub(crate) fn perform_on_one<N: Named>(
     alloc: Global,
     board: &Board,
@@ -206,11 +212,12 @@ pub(crate) fn perform_on_one<N: Named>(
     catch_up_class(&class.side.state, &mut class.side.owner, board);
     own.side.hear(board, &mut class.side);
     class.side.hear(board, &mut own.side);
+    caller.tell_owned(board, &mut class.side);
     Ok(copy?.unwrap())
 }
 
 // Makes one command, whose key has no dead item, on its stripe and the two classes that it needs, the lower first, which
-// give the room.
+// give the room. Its caller tells both of the call.
 pub(crate) fn perform_on_two<N: Named>(
     alloc: Global,
     board: &Board,
@@ -276,5 +283,7 @@ pub(crate) fn perform_on_two<N: Named>(
     own.side.hear(board, &mut high.side);
     low.side.hear(board, &mut own.side);
     high.side.hear(board, &mut own.side);
+    caller.tell_owned(board, &mut low.side);
+    caller.tell_owned(board, &mut high.side);
     Ok(copy?.unwrap())
 }

@@ -55,6 +55,7 @@ fn search_on<N: Named>(
     ensures goes { IfOk result (GoesBy N.config own.new.stripe command.now moment) }
     ensures tried { OnOk result (IsFull lent.new.class.chunks (lists_of lent.new.class.history) → HasSearched N.config.stripes (record { 0 = own.old.stripe.site.stripe }) who (key_of command.now) lent.new.class.history) }
     ensures searched { IsSearched N.config who command.now moment own.old.stripe own.new.stripe }
+    ensures begun { HasBegun N.config own.new.sight who moment }
     ensures number { lent.new.class.number ≡ lent.old.class.number }
     ensures site { KeepsSite own.old.stripe own.new.stripe }
     ensures full { IsErrOf result HistoryFull → IsShort N.config own.new }
@@ -97,6 +98,7 @@ fn fresh_room<N: Named>(
     who: Who,
     class: ClassNo,
 ) -> Result<Room, Fault>
+    requires begun { (moment : ℕ) × HasBegun N.config own.old.sight who moment }
     ensures same { own.new.stripe ≡ own.old.stripe }
     ensures fits { IfOk result (λ room. Fits (needs.Fresh class) room own.old.stripe.history) }
     ensures given { IfOk result (λ room. IsGiven who room lent.new.class) }
@@ -109,7 +111,7 @@ fn fresh_room<N: Named>(
     if !lent.side().state().is_full() {
         return Ok(next_on(own, lent, who));
     }
-    let place = refuse(&store.board, lent, who)?;
+    let place = refuse(&store.board, own, lent, who)?;
     meet(&store.board, own, lent);
     Ok(Room::Refused { class, place })
 }
@@ -123,6 +125,7 @@ fn room_on<N: Named>(
     who: Who,
     need: Need,
 ) -> Result<Room, Fault>
+    requires begun { (moment : ℕ) × HasBegun N.config own.old.sight who moment }
     ensures same { own.new.stripe ≡ own.old.stripe }
     ensures fits { IfOk result (λ room. Fits need room own.old.stripe.history) }
     ensures given { IfOk result (λ room. IsGiven who room lent.new.class) }

@@ -15,6 +15,7 @@ ghost use Rattle.mc_pull.specs.declared.looking.Answer.{Answer};
 ghost use Rattle.mc_store.specs.Earned.{HasSearchedForAny};
 ghost use Rattle.mc_store.specs.Serving.{IsServed, IsShort, MayFailSeen};
 ghost use Rattle.mc_store.specs.Locked.{HasBegun};
+ghost use Rattle.mc_store.specs.Made.{WalksOwn};
 ghost use Rattle.mc_board.specs.Histories.{Grows};
 
 use crate::gates::{Holding, Trying};
@@ -26,7 +27,7 @@ use crate::pairing::meet;
 use crate::store::Store;
 use mc_board::{Owner, Seen};
 use mc_item::{Fault, Key, Link, Moves, Who};
-use mc_pull::{Judge, juggle, settle};
+use mc_pull::{Judge, settle};
 use mc_segment::ClassState;
 use std::alloc::Global;
 
@@ -48,6 +49,7 @@ fn make_room_with<N: Named>(
     ensures served { IsServed N.board.table N.config owner.new seen.new class.new }
     ensures stripe { StripeGrows (walker_of class.old who moment) own.old.stripe own.new.stripe }
     ensures tried { IfOk result (λ found. found ≡ false → HasSearchedForAny N.config.stripes own.old.stripe who moment class.new.history) }
+    ensures walked { WalksOwn who moment seen.old.sight seen.new.sight class.old.history class.new.history }
     ensures fault { IfErr result (MayFailSeen N.config seen.new.sight class.new) }
 {
     let mut answers = Vec::new(alloc);
@@ -81,6 +83,7 @@ pub(crate) fn make_room_under<N: Named>(
     ensures class { classes.Grows class.old.class class.new.class }
     ensures stripe { StripeGrows (walker_of class.old.class who moment) own.old.stripe own.new.stripe }
     ensures tried { IfOk result (λ found. found ≡ false → HasSearchedForAny N.config.stripes own.old.stripe who moment class.new.class.history) }
+    ensures begun { HasBegun N.config own.new.sight who moment }
     ensures full { IsErrOf result HistoryFull → IsShort N.config own.new }
 {
     let board = &store.board;
@@ -126,20 +129,13 @@ pub(crate) fn juggle_under<N: Named>(
         who,
         moment,
     };
-    let moves = juggle(
-        alloc,
-        &mut side.state,
-        who,
-        moment,
-        &store.config,
-        &mut gate,
-    );
+    let moves = gate.juggle(alloc, &mut side.state, who, moment, &store.config);
     catch_up_class(&side.state, &mut side.owner, &store.board);
     moves
 }
 
 // The dead item of a key goes, and its entry with it; `link` is the item's, and the class is its link's. After a fault both
-// histories are as they were.
+// histories are as they were. The class learns of the call from the stripe, which was told of it.
 pub(crate) fn bury_under<N: Named>(
     alloc: Global,
     store: &Store<N>,
@@ -180,6 +176,7 @@ pub(crate) fn bury_under<N: Named>(
     catch_up_class(&class.side.state, &mut class.side.owner, board);
     own.side.hear(board, &mut class.side);
     class.side.hear(board, &mut own.side);
+    class.side.learn(board, &mut own.side);
     done?;
     Ok(())
 }

@@ -1,4 +1,4 @@
-use Rattle.std.proofs.Common.{List, ◌≡◌, ◌++◌, sym, subst}
+use Rattle.std.proofs.Common.{List, ◌≡◌, ◌++◌, sym, subst, refl}
 use Rattle.std.specs.Prelude.{IfOk}
 use Rattle.mc_item.specs.declared.class_event.ClassEvent.{ClassEvent}
 use Rattle.mc_segment.specs.ClassState.{ClassView}
@@ -28,4 +28,4 @@ pub returns-clause-kept : goal.returns-clause-kept
 returns-clause-kept g c = λ first begun k.
     kept_later g.G.Gate.keeps c.args.who c.args.moment c.args.class.now c.survey_class.new.class c.in_ok-survey.ensures.grows _ _ _ _ c.juggle_rounds.ensures.kept first begun
     (subst (λ (h : List ClassEvent). g.G.Gate.keeps (walker_of c.args.class.now c.args.who c.args.moment) first begun c.args.gate.now h) (sym (c.in_ok-survey.ensures.history c.args.config.now))
-    (c.requires.surveys first begun c.args.gate.now c.args.class.now.history _ k))
+    (c.requires.surveys first begun c.args.gate.now c.args.class.now.history _ refl refl k))

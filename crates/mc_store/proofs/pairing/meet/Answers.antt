@@ -29,4 +29,4 @@ returns-clause-told g c =
 pub returns-clause-heard : goal.returns-clause-heard
 returns-clause-heard g c =
     class_seen g.N.Named.config c.hear-2.new.stripe.sight c.args.lent.now.lock c.args.lent.now.class.number c.args.lent.now.class.history
-    (subst (λ (x : ClassSide). x.lock ≡ class_lock g.N.Named.config x.class.number) c.lent.view_is c.lent.invariant.lock_is) (returns-clause-told g c)
+    (subst (λ (x : ClassSide). x.lock ≡ class_lock g.N.Named.config x.class.number) c.lent.view_is c.lent.invariant.held.lock_is) (returns-clause-told g c)

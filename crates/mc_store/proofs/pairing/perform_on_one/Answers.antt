@@ -1,7 +1,12 @@
-use Rattle.std.proofs.Common.{rules, ◌≡◌, ◌∷◌, [], Err, ap, sym, ◌∙◌, length}
+use Rattle.std.proofs.Common.{rules, ◌≡◌, ◌∷◌, [], Err, ap, sym, ◌∙◌, length, subst}
 use Rattle.mc_item.specs.declared.fault.Fault.TheVariants.{HistoryFull}
 use Rattle.mc_pull.specs.Perform.{call}
-use Rattle.mc_store.specs.Sides.{StripeSide}
+use Rattle.mc_segment.specs.ClassState.{ClassView}
+use Rattle.mc_store.specs.Locked.{IsLockedClass}
+use Rattle.mc_store.specs.Made.{GainsOwn}
+use Rattle.mc_store.specs.Serving.{class_side}
+use Rattle.mc_store.specs.Sides.{ClassSide, StripeSide}
+use Rattle.mc_store.proofs.MadeLemmas.{gains_performed, locked_told, noted_called}
 use Rattle.mc_store.proofs.CallerLemmas.{called_performed}
 use Rattle.mc_store.proofs.LentLemmas.{class_behind, lent_grow, own_behind}
 use Rattle.mc_store.proofs.OneLemmas.{one_class, one_full, one_stripe}
@@ -40,7 +45,7 @@ invariant_of-own g c =
     c.requires.asked place made.ensures.site put.ensures.grows made.result made.ensures.made made.ensures.err put.ensures.of put.ensures.told put.ensures.noted in
     one_stripe g.N.Named.board.table g.N.Named.config cl raw.state made.new.stripe raw_of.state w
     raw.owner put.new.owner raw.seen put.new.seen c.own.inside.side c.hear.new.self c.hear-2.new.stripe own_is c.own.invariant put.ensures.owner put.ensures.grows called
-    raw_of.owner c.catch_up_class.new.owner raw_of.seen c.class.inside.side c.hear.new.class (ap (λ i. i.side) c.class-inside.view_is) c.class.invariant c.catch_up_class.ensures c.hear.ensures.class
+    raw_of.owner c.catch_up_class.new.owner raw_of.seen c.class.inside.side c.hear.new.class (ap (λ i. i.side) c.class-inside.view_is) c.class.invariant.held c.catch_up_class.ensures c.hear.ensures.class
     c.hear.ensures.told c.hear.ensures.grows c.hear-2.ensures.stripe made.ensures.site c.history.ensures.legal grows
     c.args.class.now c.meet.new.lent c.class.view_is c.meet.ensures.lent c.meet.new.own c.own.view_is c.meet.ensures.met made.ensures.agreement made.ensures.sight
     c.requires.refused
@@ -58,12 +63,18 @@ invariant_of-class g c =
     let place : c.events-place.result ≡ length raw.state.history = c.events-place.ensures ∙ sym (ap (λ (x : StripeSide). length x.stripe.history) own_is) in
     let called = called_performed g.N.Named.config raw.state made.new.stripe cl (raw_of.state ∷ []) (w ∷ []) raw.seen.sight put.new.seen.sight c.args.caller.now put.new.caller c.events-place.result
     c.requires.asked place made.ensures.site put.ensures.grows made.result made.ensures.made made.ensures.err put.ensures.of put.ensures.told put.ensures.noted in
-    one_class g.N.Named.board.table g.N.Named.config cl raw.state made.new.stripe raw_of.state w
+    let held = one_class g.N.Named.board.table g.N.Named.config cl raw.state made.new.stripe raw_of.state w
     raw.owner put.new.owner raw.seen put.new.seen c.own.inside.side c.hear.new.self c.hear-2.new.stripe own_is c.own.invariant put.ensures.owner put.ensures.grows called
-    raw_of.owner c.catch_up_class.new.owner raw_of.seen c.class.inside.side c.hear.new.class (ap (λ i. i.side) c.class-inside.view_is) c.class.invariant c.catch_up_class.ensures c.hear.ensures.class
+    raw_of.owner c.catch_up_class.new.owner raw_of.seen c.class.inside.side c.hear.new.class (ap (λ i. i.side) c.class-inside.view_is) c.class.invariant.held c.catch_up_class.ensures c.hear.ensures.class
     c.hear.ensures.told c.hear.ensures.grows c.hear-2.ensures.stripe made.ensures.site c.history.ensures.legal grows
     c.args.class.now c.meet.new.lent c.class.view_is c.meet.ensures.lent c.meet.new.own c.own.view_is c.meet.ensures.met made.ensures.agreement made.ensures.sight
-    c.hear-2.new.self c.hear-2.ensures.told c.hear-2.ensures.grows c.law.ensures.lawful
+    c.hear-2.new.self c.hear-2.ensures.told c.hear-2.ensures.grows c.law.ensures.lawful in
+    let gains = (gains_performed raw.state made.new.stripe cl (raw_of.state ∷ []) (w ∷ []) made.result made.ensures.made made.ensures.err).0 in
+    locked_told g.N.Named.board.table g.N.Named.config (class_side raw_of.owner raw_of.seen raw_of.state) c.hear.new.class c.hear-2.new.self c.tell_owned.new.class c.args.who c.args.moment
+    (subst (IsLockedClass g.N.Named.board.table g.N.Named.config) (sym (ap (λ i. i.side) c.class-inside.view_is)) c.class.invariant)
+    (subst (λ (v : ClassView). GainsOwn c.args.who c.args.moment raw_of.state.history v.history) (sym (ap (λ (x : ClassSide). x.class) c.hear.ensures.class)) gains)
+    (ap (λ (x : ClassSide). x.sight) c.hear.ensures.class) (ap (λ (x : ClassSide). x.class) c.hear-2.ensures.told) c.hear-2.ensures.grows held c.tell_owned.ensures.class c.tell_owned.ensures.grows
+    (c.tell_owned.ensures.begun c.args.who c.args.moment (noted_called c.args.caller.now put.new.caller c.args.who c.args.command c.args.moment made.new.stripe.site.stripe c.events-place.result c.requires.asked made.result put.ensures.noted put.ensures.unnoted))
 
 pub returns-in_err-copy-clause-full : goal.returns-in_err-copy-clause-full
 returns-in_err-copy-clause-full g c =
@@ -83,7 +94,7 @@ returns-in_err-copy-clause-full g c =
     let is : c.perform_fated-copy.result ≡ Err HistoryFull = cc (c.in_err-copy.was, fault, full) in
     one_full g.N.Named.board.table g.N.Named.config cl raw.state made.new.stripe raw_of.state w
     raw.owner put.new.owner raw.seen put.new.seen c.own.inside.side c.hear.new.self c.hear-2.new.stripe own_is c.own.invariant put.ensures.owner put.ensures.grows called
-    raw_of.owner c.catch_up_class.new.owner raw_of.seen c.class.inside.side c.hear.new.class (ap (λ i. i.side) c.class-inside.view_is) c.class.invariant c.catch_up_class.ensures c.hear.ensures.class
+    raw_of.owner c.catch_up_class.new.owner raw_of.seen c.class.inside.side c.hear.new.class (ap (λ i. i.side) c.class-inside.view_is) c.class.invariant.held c.catch_up_class.ensures c.hear.ensures.class
     c.hear.ensures.told c.hear.ensures.grows c.hear-2.ensures.stripe made.ensures.site c.history.ensures.legal grows
     made.result made.ensures.err made.ensures.refusal is
 
@@ -102,7 +113,7 @@ invariant_of-own-2 g c =
     c.requires.asked place made.ensures.site put.ensures.grows made.result made.ensures.made made.ensures.err put.ensures.of put.ensures.told put.ensures.noted in
     one_stripe g.N.Named.board.table g.N.Named.config cl raw.state made.new.stripe raw_of.state w
     raw.owner put.new.owner raw.seen put.new.seen c.own.inside.side c.hear.new.self c.hear-2.new.stripe own_is c.own.invariant put.ensures.owner put.ensures.grows called
-    raw_of.owner c.catch_up_class.new.owner raw_of.seen c.class.inside.side c.hear.new.class (ap (λ i. i.side) c.class-inside.view_is) c.class.invariant c.catch_up_class.ensures c.hear.ensures.class
+    raw_of.owner c.catch_up_class.new.owner raw_of.seen c.class.inside.side c.hear.new.class (ap (λ i. i.side) c.class-inside.view_is) c.class.invariant.held c.catch_up_class.ensures c.hear.ensures.class
     c.hear.ensures.told c.hear.ensures.grows c.hear-2.ensures.stripe made.ensures.site c.history.ensures.legal grows
     c.args.class.now c.meet.new.lent c.class.view_is c.meet.ensures.lent c.meet.new.own c.own.view_is c.meet.ensures.met made.ensures.agreement made.ensures.sight
     c.requires.refused
@@ -120,12 +131,18 @@ invariant_of-class-2 g c =
     let place : c.events-place.result ≡ length raw.state.history = c.events-place.ensures ∙ sym (ap (λ (x : StripeSide). length x.stripe.history) own_is) in
     let called = called_performed g.N.Named.config raw.state made.new.stripe cl (raw_of.state ∷ []) (w ∷ []) raw.seen.sight put.new.seen.sight c.args.caller.now put.new.caller c.events-place.result
     c.requires.asked place made.ensures.site put.ensures.grows made.result made.ensures.made made.ensures.err put.ensures.of put.ensures.told put.ensures.noted in
-    one_class g.N.Named.board.table g.N.Named.config cl raw.state made.new.stripe raw_of.state w
+    let held = one_class g.N.Named.board.table g.N.Named.config cl raw.state made.new.stripe raw_of.state w
     raw.owner put.new.owner raw.seen put.new.seen c.own.inside.side c.hear.new.self c.hear-2.new.stripe own_is c.own.invariant put.ensures.owner put.ensures.grows called
-    raw_of.owner c.catch_up_class.new.owner raw_of.seen c.class.inside.side c.hear.new.class (ap (λ i. i.side) c.class-inside.view_is) c.class.invariant c.catch_up_class.ensures c.hear.ensures.class
+    raw_of.owner c.catch_up_class.new.owner raw_of.seen c.class.inside.side c.hear.new.class (ap (λ i. i.side) c.class-inside.view_is) c.class.invariant.held c.catch_up_class.ensures c.hear.ensures.class
     c.hear.ensures.told c.hear.ensures.grows c.hear-2.ensures.stripe made.ensures.site c.history.ensures.legal grows
     c.args.class.now c.meet.new.lent c.class.view_is c.meet.ensures.lent c.meet.new.own c.own.view_is c.meet.ensures.met made.ensures.agreement made.ensures.sight
-    c.hear-2.new.self c.hear-2.ensures.told c.hear-2.ensures.grows c.law.ensures.lawful
+    c.hear-2.new.self c.hear-2.ensures.told c.hear-2.ensures.grows c.law.ensures.lawful in
+    let gains = (gains_performed raw.state made.new.stripe cl (raw_of.state ∷ []) (w ∷ []) made.result made.ensures.made made.ensures.err).0 in
+    locked_told g.N.Named.board.table g.N.Named.config (class_side raw_of.owner raw_of.seen raw_of.state) c.hear.new.class c.hear-2.new.self c.tell_owned.new.class c.args.who c.args.moment
+    (subst (IsLockedClass g.N.Named.board.table g.N.Named.config) (sym (ap (λ i. i.side) c.class-inside.view_is)) c.class.invariant)
+    (subst (λ (v : ClassView). GainsOwn c.args.who c.args.moment raw_of.state.history v.history) (sym (ap (λ (x : ClassSide). x.class) c.hear.ensures.class)) gains)
+    (ap (λ (x : ClassSide). x.sight) c.hear.ensures.class) (ap (λ (x : ClassSide). x.class) c.hear-2.ensures.told) c.hear-2.ensures.grows held c.tell_owned.ensures.class c.tell_owned.ensures.grows
+    (c.tell_owned.ensures.begun c.args.who c.args.moment (noted_called c.args.caller.now put.new.caller c.args.who c.args.command c.args.moment made.new.stripe.site.stripe c.events-place.result c.requires.asked made.result put.ensures.noted put.ensures.unnoted))
 
 pub returns-in_err-copy-clause-sees : goal.returns-in_err-copy-clause-sees
 returns-in_err-copy-clause-sees g c =

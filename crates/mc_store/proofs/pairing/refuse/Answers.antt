@@ -1,9 +1,12 @@
-use Rattle.std.proofs.Common.{ap, sym, subst}
-use Rattle.mc_board.specs.Histories.{list_at}
+use Rattle.std.proofs.Common.{ap, refl, sym, subst}
+use Rattle.mc_board.specs.Histories.{Grows, list_at}
 use Rattle.mc_board.specs.Views.{OwnerView}
 use Rattle.mc_board.proofs.PrefixLemmas.{prefix_self}
-use Rattle.mc_store.specs.Locked.{IsLockedClass}
-use Rattle.mc_store.specs.Sides.{ClassSide}
+use Rattle.mc_store.specs.Locked.{HasBegun, IsLockedClass}
+use Rattle.mc_store.specs.Serving.{class_side}
+use Rattle.mc_store.specs.Sides.{ClassSide, StripeSide}
+use Rattle.mc_store.proofs.CallerLemmas.{begun_sees}
+use Rattle.mc_store.proofs.MadeLemmas.{gains_refused, locked_told}
 use Rattle.mc_store.proofs.LentLemmas.{class_behind}
 use Rattle.mc_store.proofs.RefusedLemmas.{refusal_grows, refused_after}
 use Rattle.mc_store.proofs.pairing.refuse.Goals as goal
@@ -16,11 +19,20 @@ catch_up_class-requires-clause-behind g c =
 
 pub invariant_of-lent : goal.invariant_of-lent
 invariant_of-lent g c =
+    let table = g.N.Named.board.table in
+    let config = g.N.Named.config in
     let raw = c.lent-inside.inside.0.0 in
     let owner = c.catch_up_class.new.owner in
-    let old : ClassSide = record { board = raw.owner.board; lock = raw.owner.lock; class = raw.state; sight = raw.seen.sight } in
-    let new : ClassSide = record { board = owner.board; lock = owner.lock; class = c.refuse-place.new.self; sight = raw.seen.sight } in
-    refused_after g.N.Named.board.table g.N.Named.config old new c.args.who
-    (subst (IsLockedClass g.N.Named.board.table g.N.Named.config) (sym (ap (λ i. i.side) c.lent-inside.view_is)) c.lent.invariant)
-    (ap (λ (o : OwnerView). o.board) c.catch_up_class.ensures) (ap (λ (o : OwnerView). o.lock) c.catch_up_class.ensures) (record { at = λ lock. prefix_self (list_at raw.seen.sight.seen lock) }) c.law.ensures.lawful
-    c.refuse-place.result c.refuse-place.ensures.ok c.refuse-place.ensures.err
+    let old : ClassSide = class_side raw.owner raw.seen raw.state in
+    let mid : ClassSide = class_side owner raw.seen c.refuse-place.new.self in
+    let kept = subst (IsLockedClass table config) (sym (ap (λ i. i.side) c.lent-inside.view_is)) c.lent.invariant in
+    let none : Grows raw.seen.sight raw.seen.sight = record { at = λ lock. prefix_self (list_at raw.seen.sight.seen lock) } in
+    let held = refused_after table config old mid c.args.who kept.held
+    (ap (λ (o : OwnerView). o.board) c.catch_up_class.ensures) (ap (λ (o : OwnerView). o.lock) c.catch_up_class.ensures) none c.law.ensures.lawful
+    c.refuse-place.result c.refuse-place.ensures.ok c.refuse-place.ensures.err in
+    let moment = c.requires.begun.0 in
+    let begun = subst (λ (x : StripeSide). HasBegun config x.sight c.args.who moment) (sym c.own.view_is) c.requires.begun.1 in
+    locked_told table config old mid mid c.learn.new.self c.args.who moment kept
+    (gains_refused raw.state c.refuse-place.new.self c.args.who moment c.refuse-place.result c.refuse-place.ensures.ok c.refuse-place.ensures.err)
+    refl refl none held c.learn.ensures.class c.learn.ensures.grows
+    (begun_sees config c.own.inside.side.sight c.learn.new.self.sight c.args.who moment c.learn.ensures.learnt begun)

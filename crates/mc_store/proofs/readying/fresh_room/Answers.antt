@@ -3,6 +3,7 @@ use Rattle.mc_rule.specs.Lists.{IsFull, lists_of}
 use Rattle.mc_segment.specs.ClassState.{ClassView}
 use Rattle.mc_store.specs.Earned.{HasSearched}
 use Rattle.mc_store.specs.Sides.{ClassSide}
+use Rattle.mc_store.proofs.CallerLemmas.{begun_sees}
 use Rattle.mc_store.proofs.EarnedLemmas.{earned_noted}
 use Rattle.mc_store.proofs.readying.fresh_room.Goals as goal
 
@@ -18,3 +19,8 @@ returns-clause-earned g c = λ key tried.
     let before = subst (λ (v : ClassView). HasSearched g.N.Named.config.stripes (record { 0 = c.args.own.now.stripe.site.stripe }) c.args.who key v.history) (sym met) (tried full) in
     earned_noted g.N.Named.config c.args.own.now.stripe.site.stripe c.args.who key c.meet.new.lent.class c.refuse.new.lent.class c.meet-2.new.own.sight c.args.class c.in_ok-place.place number c.in_ok-place.ensures.refused
     c.in_ok-place.ensures.place before c.meet-2.ensures.heard
+
+pub refuse-requires-clause-begun : goal.refuse-requires-clause-begun
+refuse-requires-clause-begun g c =
+    let begun = c.requires.begun in
+    (begun.0, begun_sees g.N.Named.config c.args.own.now.sight c.meet.new.own.sight c.args.who begun.0 c.meet.ensures.grows begun.1)

@@ -17,3 +17,6 @@ returns-clause-earned g c =
     let same = ap (λ (t : Site). t.stripe) c.search_on.ensures.site.site in
     subst (λ (n : ℕ). IsEarnedIn config n c.args.who key c.room_on.new.own.sight c.in_ok-room.room) same
     (c.in_ok-room.ensures.earned key (λ full. subst (λ (n : ℕ). HasSearched config.stripes (record { 0 = n }) c.args.who key c.search_on.new.lent.class.history) (sym same) (c.in_ok-found.ensures.tried full)))
+
+pub room_on-requires : goal.room_on-requires
+room_on-requires g c = record { begun = (c.args.moment, c.search_on.ensures.begun) }

@@ -19,7 +19,10 @@ use Rattle.mc_store.specs.declared.locked.LockedStripe.TheInside as stripes
 use Rattle.mc_store.specs.declared.locked.LockedClass.TheInside as classes
 use Rattle.mc_store.proofs.ServedLemmas.{class_paired, class_told_more, settled_grows, settled_told, short_paired, stripe_paired}
 use Rattle.mc_store.proofs.walking.bury_under.Goals as goal
-use Rattle.mc_store.specs.Locked.{HasBegun}
+use Rattle.mc_store.specs.Locked.{HasBegun, IsLockedClass}
+use Rattle.mc_store.specs.Made.{GainsOwn}
+use Rattle.mc_store.specs.Serving.{class_side}
+use Rattle.mc_store.proofs.MadeLemmas.{gains_settled, locked_told}
 use Rattle.mc_store.proofs.CallerLemmas.{begun_sees}
 use Rattle.mc_store.proofs.PairLemmas.{grows_trans}
 use Rattle.mc_board.specs.Histories.{Grows}
@@ -64,10 +67,10 @@ invariant_of-own g c =
     (begun_sees g.N.Named.config c.args.own.now.sight c.meet.new.own.sight c.args.who c.args.moment c.meet.ensures.grows c.requires.begun) in
     let walked = settle_walked _ _ _ _ q c.settle-done.ensures.site c.settle-done.ensures.agreement c.settle-done.result c.settle-done.ensures.settled c.settle-done.ensures.err in
     let grows = settled_grows _ _ _ _ q c.settle-done.result c.settle-done.ensures.settled c.settle-done.ensures.err in
-    stripe_paired g.N.Named.board.table g.N.Named.config c.own.inside.side c.class.inside.side c.own.invariant c.class.invariant own.state own.owner own.seen own_is lent.state lent.owner lent.seen lent_is
+    stripe_paired g.N.Named.board.table g.N.Named.config c.own.inside.side c.class.inside.side c.own.invariant c.class.invariant.held own.state own.owner own.seen own_is lent.state lent.owner lent.seen lent_is
     agree c.settle-done.new.stripe c.settle-done.new.class c.settle-done.ensures.site grows c.history-2.ensures.legal c.law-2.ensures.lawful c.settle-done.ensures.agreement c.settle-done.ensures.sight
-    c.catch_up_stripe.new.owner c.catch_up_stripe.ensures c.catch_up_class.new.owner c.catch_up_class.ensures c.hear.new.self c.hear-2.new.stripe c.hear.new.class c.hear-2.new.self
-    c.hear.ensures.class c.hear.ensures.told c.hear.ensures.grows c.hear-2.ensures.stripe c.hear-2.ensures.told c.hear-2.ensures.grows _ begun walked.grows
+    c.catch_up_stripe.new.owner c.catch_up_stripe.ensures c.catch_up_class.new.owner c.catch_up_class.ensures c.hear.new.self c.learn.new.stripe c.hear.new.class c.hear-2.new.self
+    c.hear.ensures.class c.hear.ensures.told c.hear.ensures.grows (c.learn.ensures.stripe ∙ c.hear-2.ensures.stripe) c.hear-2.ensures.told c.hear-2.ensures.grows _ begun walked.grows
 
 pub invariant_of-class : goal.invariant_of-class
 invariant_of-class g c =
@@ -80,10 +83,22 @@ invariant_of-class g c =
     let agree : AgreeNow lent.state own.state = subst (λ (s : Stripe). AgreeNow lent.state s) (sym s_is) (subst (λ (v : ClassView). AgreeNow v c.meet.new.own.stripe) (sym c_is) c.meet.ensures.met) in
     let q = question c.args.who c.args.link.number Dead c.args.moment in
     let grows = settled_grows _ _ _ _ q c.settle-done.result c.settle-done.ensures.settled c.settle-done.ensures.err in
-    class_paired g.N.Named.board.table g.N.Named.config c.own.inside.side c.class.inside.side c.own.invariant c.class.invariant own.state own.owner own.seen own_is lent.state lent.owner lent.seen lent_is
+    let held = class_paired g.N.Named.board.table g.N.Named.config c.own.inside.side c.class.inside.side c.own.invariant c.class.invariant.held own.state own.owner own.seen own_is lent.state lent.owner lent.seen lent_is
     agree c.settle-done.new.stripe c.settle-done.new.class c.settle-done.ensures.site grows c.history-2.ensures.legal c.law-2.ensures.lawful c.settle-done.ensures.agreement c.settle-done.ensures.sight
     c.catch_up_stripe.new.owner c.catch_up_stripe.ensures c.catch_up_class.new.owner c.catch_up_class.ensures c.hear.new.self c.hear-2.new.stripe c.hear.new.class c.hear-2.new.self
-    c.hear.ensures.class c.hear.ensures.told c.hear.ensures.grows c.hear-2.ensures.stripe c.hear-2.ensures.told c.hear-2.ensures.grows
+    c.hear.ensures.class c.hear.ensures.told c.hear.ensures.grows c.hear-2.ensures.stripe c.hear-2.ensures.told c.hear-2.ensures.grows in
+    let who = c.args.who in
+    let moment = c.args.moment in
+    let begun = subst (λ (x : StripeSide). HasBegun g.N.Named.config x.sight who moment) (sym (own_is ∙ c.own.view_is))
+    (begun_sees g.N.Named.config c.args.own.now.sight c.meet.new.own.sight who moment c.meet.ensures.grows c.requires.begun) in
+    let told = grows_trans own.seen.sight c.hear.new.self.sight c.learn.new.self.sight c.hear.ensures.grows
+    (subst (λ (x : StripeSide). Grows x.sight c.learn.new.self.sight) c.hear-2.ensures.stripe c.learn.ensures.learnt) in
+    let gains = gains_settled lent.state c.settle-done.new.class own.state c.settle-done.new.stripe q c.settle-done.result c.settle-done.ensures.settled c.settle-done.ensures.err in
+    locked_told g.N.Named.board.table g.N.Named.config (class_side lent.owner lent.seen lent.state) c.hear.new.class c.hear-2.new.self c.learn.new.self who moment
+    (subst (IsLockedClass g.N.Named.board.table g.N.Named.config) (sym lent_is) c.class.invariant)
+    (subst (λ (v : ClassView). GainsOwn who moment lent.state.history v.history) (sym (ap (λ (x : ClassSide). x.class) c.hear.ensures.class)) gains)
+    (ap (λ (x : ClassSide). x.sight) c.hear.ensures.class) (ap (λ (x : ClassSide). x.class) c.hear-2.ensures.told) c.hear-2.ensures.grows held c.learn.ensures.class c.learn.ensures.grows
+    (begun_sees g.N.Named.config own.seen.sight c.learn.new.self.sight who moment told begun)
 
 pub invariant_of-own-2 : goal.invariant_of-own-2
 invariant_of-own-2 g c =
@@ -99,10 +114,10 @@ invariant_of-own-2 g c =
     (begun_sees g.N.Named.config c.args.own.now.sight c.meet.new.own.sight c.args.who c.args.moment c.meet.ensures.grows c.requires.begun) in
     let walked = settle_walked _ _ _ _ q c.settle-done.ensures.site c.settle-done.ensures.agreement c.settle-done.result c.settle-done.ensures.settled c.settle-done.ensures.err in
     let grows = settled_grows _ _ _ _ q c.settle-done.result c.settle-done.ensures.settled c.settle-done.ensures.err in
-    stripe_paired g.N.Named.board.table g.N.Named.config c.own.inside.side c.class.inside.side c.own.invariant c.class.invariant own.state own.owner own.seen own_is lent.state lent.owner lent.seen lent_is
+    stripe_paired g.N.Named.board.table g.N.Named.config c.own.inside.side c.class.inside.side c.own.invariant c.class.invariant.held own.state own.owner own.seen own_is lent.state lent.owner lent.seen lent_is
     agree c.settle-done.new.stripe c.settle-done.new.class c.settle-done.ensures.site grows c.history-2.ensures.legal c.law-2.ensures.lawful c.settle-done.ensures.agreement c.settle-done.ensures.sight
-    c.catch_up_stripe.new.owner c.catch_up_stripe.ensures c.catch_up_class.new.owner c.catch_up_class.ensures c.hear.new.self c.hear-2.new.stripe c.hear.new.class c.hear-2.new.self
-    c.hear.ensures.class c.hear.ensures.told c.hear.ensures.grows c.hear-2.ensures.stripe c.hear-2.ensures.told c.hear-2.ensures.grows _ begun walked.grows
+    c.catch_up_stripe.new.owner c.catch_up_stripe.ensures c.catch_up_class.new.owner c.catch_up_class.ensures c.hear.new.self c.learn.new.stripe c.hear.new.class c.hear-2.new.self
+    c.hear.ensures.class c.hear.ensures.told c.hear.ensures.grows (c.learn.ensures.stripe ∙ c.hear-2.ensures.stripe) c.hear-2.ensures.told c.hear-2.ensures.grows _ begun walked.grows
 
 pub invariant_of-class-2 : goal.invariant_of-class-2
 invariant_of-class-2 g c =
@@ -115,10 +130,22 @@ invariant_of-class-2 g c =
     let agree : AgreeNow lent.state own.state = subst (λ (s : Stripe). AgreeNow lent.state s) (sym s_is) (subst (λ (v : ClassView). AgreeNow v c.meet.new.own.stripe) (sym c_is) c.meet.ensures.met) in
     let q = question c.args.who c.args.link.number Dead c.args.moment in
     let grows = settled_grows _ _ _ _ q c.settle-done.result c.settle-done.ensures.settled c.settle-done.ensures.err in
-    class_paired g.N.Named.board.table g.N.Named.config c.own.inside.side c.class.inside.side c.own.invariant c.class.invariant own.state own.owner own.seen own_is lent.state lent.owner lent.seen lent_is
+    let held = class_paired g.N.Named.board.table g.N.Named.config c.own.inside.side c.class.inside.side c.own.invariant c.class.invariant.held own.state own.owner own.seen own_is lent.state lent.owner lent.seen lent_is
     agree c.settle-done.new.stripe c.settle-done.new.class c.settle-done.ensures.site grows c.history-2.ensures.legal c.law-2.ensures.lawful c.settle-done.ensures.agreement c.settle-done.ensures.sight
     c.catch_up_stripe.new.owner c.catch_up_stripe.ensures c.catch_up_class.new.owner c.catch_up_class.ensures c.hear.new.self c.hear-2.new.stripe c.hear.new.class c.hear-2.new.self
-    c.hear.ensures.class c.hear.ensures.told c.hear.ensures.grows c.hear-2.ensures.stripe c.hear-2.ensures.told c.hear-2.ensures.grows
+    c.hear.ensures.class c.hear.ensures.told c.hear.ensures.grows c.hear-2.ensures.stripe c.hear-2.ensures.told c.hear-2.ensures.grows in
+    let who = c.args.who in
+    let moment = c.args.moment in
+    let begun = subst (λ (x : StripeSide). HasBegun g.N.Named.config x.sight who moment) (sym (own_is ∙ c.own.view_is))
+    (begun_sees g.N.Named.config c.args.own.now.sight c.meet.new.own.sight who moment c.meet.ensures.grows c.requires.begun) in
+    let told = grows_trans own.seen.sight c.hear.new.self.sight c.learn.new.self.sight c.hear.ensures.grows
+    (subst (λ (x : StripeSide). Grows x.sight c.learn.new.self.sight) c.hear-2.ensures.stripe c.learn.ensures.learnt) in
+    let gains = gains_settled lent.state c.settle-done.new.class own.state c.settle-done.new.stripe q c.settle-done.result c.settle-done.ensures.settled c.settle-done.ensures.err in
+    locked_told g.N.Named.board.table g.N.Named.config (class_side lent.owner lent.seen lent.state) c.hear.new.class c.hear-2.new.self c.learn.new.self who moment
+    (subst (IsLockedClass g.N.Named.board.table g.N.Named.config) (sym lent_is) c.class.invariant)
+    (subst (λ (v : ClassView). GainsOwn who moment lent.state.history v.history) (sym (ap (λ (x : ClassSide). x.class) c.hear.ensures.class)) gains)
+    (ap (λ (x : ClassSide). x.sight) c.hear.ensures.class) (ap (λ (x : ClassSide). x.class) c.hear-2.ensures.told) c.hear-2.ensures.grows held c.learn.ensures.class c.learn.ensures.grows
+    (begun_sees g.N.Named.config own.seen.sight c.learn.new.self.sight who moment told begun)
 
 pub returns-in_err-done-clause-full : goal.returns-in_err-done-clause-full
 returns-in_err-done-clause-full g c = λ is.
@@ -132,10 +159,10 @@ returns-in_err-done-clause-full g c = λ is.
     let q = question c.args.who c.args.link.number Dead c.args.moment in
     let grows = settled_grows _ _ _ _ q c.settle-done.result c.settle-done.ensures.settled c.settle-done.ensures.err in
     let same : c.in_err-done.field-0.0 ≡ HistoryFull = err_is c.in_err-done.field-0.0 _ c.from_residual.ensures.1 is in
-    short_paired g.N.Named.board.table g.N.Named.config c.own.inside.side c.class.inside.side c.own.invariant c.class.invariant own.state own.owner own.seen own_is lent.state lent.owner lent.seen lent_is
+    short_paired g.N.Named.board.table g.N.Named.config c.own.inside.side c.class.inside.side c.own.invariant c.class.invariant.held own.state own.owner own.seen own_is lent.state lent.owner lent.seen lent_is
     agree c.settle-done.new.stripe c.settle-done.new.class c.settle-done.ensures.site grows c.history-2.ensures.legal c.law-2.ensures.lawful c.settle-done.ensures.agreement c.settle-done.ensures.sight
-    c.catch_up_stripe.new.owner c.catch_up_stripe.ensures c.catch_up_class.new.owner c.catch_up_class.ensures c.hear.new.self c.hear-2.new.stripe c.hear.new.class c.hear-2.new.self
-    c.hear.ensures.class c.hear.ensures.told c.hear.ensures.grows c.hear-2.ensures.stripe c.hear-2.ensures.told c.hear-2.ensures.grows
+    c.catch_up_stripe.new.owner c.catch_up_stripe.ensures c.catch_up_class.new.owner c.catch_up_class.ensures c.hear.new.self c.learn.new.stripe c.hear.new.class c.hear-2.new.self
+    c.hear.ensures.class c.hear.ensures.told c.hear.ensures.grows (c.learn.ensures.stripe ∙ c.hear-2.ensures.stripe) c.hear-2.ensures.told c.hear-2.ensures.grows
     (subst (MayFail c.settle-done.new.class c.settle-done.new.stripe) same c.in_err-done.ensures.full)
 
 pub returns-clause-lost : goal.returns-clause-lost
@@ -153,7 +180,7 @@ returns-clause-lost g c =
     let of : c.args.link.class ≡ lent.state.number = sym c.requires.class ∙ sym (ap (λ (v : ClassView). v.number) (c_is ∙ ap (λ (x : ClassSide). x.class) c.meet.ensures.lent)) in
     let q = question c.args.who c.args.link.number Dead c.args.moment in
     let made = dead_reclaimed lent.state own.state c.args.key.now c.args.moment c.args.link dead of c.history.ensures.legal c.law.ensures.lawful agree c.args.who in
-    let last : c.hear-2.new.stripe.stripe ≡ c.settle-done.new.stripe = ap (λ (x : StripeSide). x.stripe) (c.hear-2.ensures.stripe ∙ c.hear.ensures.told) in
+    let last : c.learn.new.stripe.stripe ≡ c.settle-done.new.stripe = ap (λ (x : StripeSide). x.stripe) ((c.learn.ensures.stripe ∙ c.hear-2.ensures.stripe) ∙ c.hear.ensures.told) in
     ap (λ (s : Stripe). s.history) last
     ∙ (c.in_ok-done.ensures.settled.stripe
     ∙ (ap (λ (es : List StripeEvent). own.state.history ++ es) (ap (λ (d : Done). stripe_events lent.state q d) (c.in_ok-done.ensures.done ∙ made.0) ∙ made.1)
@@ -162,11 +189,11 @@ returns-clause-lost g c =
 pub returns-in_err-done-clause-sees : goal.returns-in_err-done-clause-sees
 returns-in_err-done-clause-sees g c =
     let own_is = ap (λ (l : stripes.Inside g.row.N.Denot). l.side) c.own-inside.view_is in
-    subst (λ (x : StripeSide). Grows c.args.own.now.sight x.sight) (sym c.hear-2.ensures.stripe)
+    subst (λ (x : StripeSide). Grows c.args.own.now.sight x.sight) (sym (c.learn.ensures.stripe ∙ c.hear-2.ensures.stripe))
     (grows_trans c.args.own.now.sight c.meet.new.own.sight c.hear.new.self.sight c.meet.ensures.grows (subst (λ (x : StripeSide). Grows x.sight c.hear.new.self.sight) (own_is ∙ c.own.view_is) c.hear.ensures.grows))
 
 pub returns-clause-sees : goal.returns-clause-sees
 returns-clause-sees g c =
     let own_is = ap (λ (l : stripes.Inside g.row.N.Denot). l.side) c.own-inside.view_is in
-    subst (λ (x : StripeSide). Grows c.args.own.now.sight x.sight) (sym c.hear-2.ensures.stripe)
+    subst (λ (x : StripeSide). Grows c.args.own.now.sight x.sight) (sym (c.learn.ensures.stripe ∙ c.hear-2.ensures.stripe))
     (grows_trans c.args.own.now.sight c.meet.new.own.sight c.hear.new.self.sight c.meet.ensures.grows (subst (λ (x : StripeSide). Grows x.sight c.hear.new.self.sight) (own_is ∙ c.own.view_is) c.hear.ensures.grows))

@@ -1,19 +1,18 @@
-use Rattle.std.proofs.Common.{◌≡◌, List, ap, ◌∙◌, subst}
+use Rattle.std.proofs.Common.{◌≡◌, List, ap, ◌∙◌, subst, sym}
 use Rattle.mc_item.specs.declared.config.Config.{Config}
 use Rattle.mc_item.specs.declared.counts.Moves.{Moves}
+use Rattle.mc_board.specs.Views.{OwnerView}
 use Rattle.mc_segment.specs.ClassState.{ClassView}
 use Rattle.mc_pull.specs.Juggle.{IsJuggle}
 use Rattle.mc_pull.specs.Rounds.{rounds}
 use Rattle.mc_pull.specs.declared.looking.Answer.{Answer}
+use Rattle.mc_store.specs.Locked.{HasBegun, IsLockedClass}
+use Rattle.mc_store.specs.Serving.{class_side}
 use Rattle.mc_store.specs.Sides.{ClassSide}
-use Rattle.mc_store.proofs.GateLemmas.{ok_more, served_room, served_survey}
+use Rattle.mc_store.proofs.CallerLemmas.{begun_sees}
+use Rattle.mc_store.proofs.GateLemmas.{ok_more}
+use Rattle.mc_store.proofs.MadeLemmas.{locked_gains}
 use Rattle.mc_store.proofs.walking.juggle_under.Goals as goal
-
-pub juggle-moves-requires-clause-outlasts : goal.juggle-moves-requires-clause-outlasts
-juggle-moves-requires-clause-outlasts g c = record {
-  survey = λ gate config v who moment room s. (s.0, served_survey g.N.Named.board.table g.N.Named.config gate.owner.now gate.seen.now v who moment room s.1, s.2);
-  room = λ gate config v room s. (s.0, served_room g.N.Named.board.table g.N.Named.config gate.owner.now gate.seen.now v room s.1, s.2);
-}
 
 pub returns-clause-juggle : goal.returns-clause-juggle
 returns-clause-juggle g c =
@@ -21,5 +20,17 @@ returns-clause-juggle g c =
     let with : c.store.inside.config ≡ g.N.Named.config = c.store.invariant.1 in
     let P : ClassView → Config → Moves → Type 0 = λ v config moves. (xs : List Answer) × IsJuggle (rounds v c.args.who c.args.moment config) v.history xs c.juggle-moves.new.class.history moves in
     ok_more c.juggle-moves.result _ (P c.args.class.now.class g.N.Named.config)
-    (λ moves made. subst (λ (v : ClassView). P v g.N.Named.config moves) of (subst (λ (config : Config). P c.side.inside.state config moves) with (made.0, made.2)))
+    (λ moves made. subst (λ (v : ClassView). P v g.N.Named.config moves) of (subst (λ (config : Config). P c.side.inside.state config moves) with made))
     c.juggle-moves.ensures.juggle
+
+pub invariant_of-class : goal.invariant_of-class
+invariant_of-class g c =
+    let table = g.N.Named.board.table in
+    let config = g.N.Named.config in
+    let made = c.juggle-moves in
+    let old : ClassSide = class_side c.side.inside.owner c.side.inside.seen c.side.inside.state in
+    let new : ClassSide = class_side made.new.self.owner.now made.new.self.seen.now made.new.class in
+    let begun = subst (λ (x : ClassSide). HasBegun config x.sight c.args.who c.args.moment) (sym (c.side.view_is ∙ c.class.view_is)) c.requires.begun in
+    subst (IsLockedClass table config) (sym (ap (λ (o : OwnerView). class_side o made.new.self.seen.now made.new.class) c.catch_up_class.ensures))
+    (locked_gains table config old new c.args.who c.args.moment (subst (IsLockedClass table config) (sym c.side.view_is) c.class.invariant) made.ensures.served.kept
+    (begun_sees config old.sight new.sight c.args.who c.args.moment made.ensures.walked.sees begun) made.ensures.walked.sees made.ensures.walked.gains)

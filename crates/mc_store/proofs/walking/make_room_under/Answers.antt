@@ -3,7 +3,7 @@ use Rattle.mc_segment.specs.ClassState.{ClassView}
 use Rattle.mc_stripe.specs.StripeState.{Stripe}
 use Rattle.mc_board.proofs.SeenLemmas.{list_at_same}
 use Rattle.mc_board.specs.Histories.{list_at}
-use Rattle.mc_board.specs.Views.{OwnerView}
+use Rattle.mc_board.specs.Views.{OwnerView, SeenView}
 use Rattle.mc_board.specs.declared.rule.Sight.{Sight}
 use Rattle.mc_pull.specs.Lone.{StripeGrows}
 use Rattle.mc_pull.specs.Rounds.{IsRoom, rounds}
@@ -16,7 +16,9 @@ use Rattle.mc_store.proofs.GateLemmas.{ok_more, room_full}
 use Rattle.mc_store.proofs.PairLemmas.{grows_trans}
 use Rattle.mc_store.proofs.ServedLemmas.{stripe_heard}
 use Rattle.mc_store.proofs.walking.make_room_under.Goals as goal
-use Rattle.mc_store.specs.Locked.{HasBegun}
+use Rattle.mc_store.specs.Locked.{HasBegun, IsLockedClass}
+use Rattle.mc_store.specs.Serving.{class_side}
+use Rattle.mc_store.proofs.MadeLemmas.{locked_gains}
 use Rattle.mc_store.proofs.CallerLemmas.{begun_sees}
 
 pub invariant_of-own : goal.invariant_of-own
@@ -66,3 +68,31 @@ pub make_room_with-found-requires-clause-begun : goal.make_room_with-found-requi
 make_room_with-found-requires-clause-begun g c =
     subst (λ (x : ClassSide). HasBegun g.N.Named.config x.sight c.args.who c.args.moment) (sym (c.side.view_is ∙ c.class.view_is))
     (begun_sees g.N.Named.config c.args.own.now.sight c.learn_from.new.self.sight c.args.who c.args.moment c.learn_from.ensures.learnt c.requires.begun)
+
+pub invariant_of-class : goal.invariant_of-class
+invariant_of-class g c =
+    let table = g.N.Named.board.table in
+    let config = g.N.Named.config in
+    let made = c.make_room_with-found in
+    let new = made.new in
+    let old : ClassSide = class_side c.side.inside.owner c.side.inside.seen c.side.inside.state in
+    let mid : ClassSide = class_side new.owner new.seen new.class in
+    let begun = subst (λ (x : ClassSide). HasBegun config x.sight c.args.who c.args.moment) (sym (c.side.view_is ∙ c.class.view_is))
+    (begun_sees config c.args.own.now.sight c.learn_from.new.self.sight c.args.who c.args.moment c.learn_from.ensures.learnt c.requires.begun) in
+    let last : c.hear.new.class ≡ mid =
+    c.hear.ensures.class
+    ∙ (ap (λ (x : SeenView). class_side c.catch_up_class.new.owner x new.class) c.learn.ensures.other ∙ ap (λ (o : OwnerView). class_side o new.seen new.class) c.catch_up_class.ensures) in
+    subst (IsLockedClass table config) (sym last)
+    (locked_gains table config old mid c.args.who c.args.moment (subst (IsLockedClass table config) (sym c.side.view_is) c.class.invariant) made.ensures.served.kept
+    (begun_sees config old.sight mid.sight c.args.who c.args.moment made.ensures.walked.sees begun) made.ensures.walked.sees made.ensures.walked.gains)
+
+pub returns-clause-begun : goal.returns-clause-begun
+returns-clause-begun g c =
+    let config = g.N.Named.config in
+    let begun = subst (λ (x : ClassSide). HasBegun config x.sight c.args.who c.args.moment) (sym (c.side.view_is ∙ c.class.view_is))
+    (begun_sees config c.args.own.now.sight c.learn_from.new.self.sight c.args.who c.args.moment c.learn_from.ensures.learnt c.requires.begun) in
+    let seen = c.make_room_with-found.new.seen.sight in
+    let told = c.learn.new.self.sight in
+    begun_sees g.N.Named.config c.side.inside.seen.sight c.hear.new.self.sight c.args.who c.args.moment
+    (grows_trans c.side.inside.seen.sight seen c.hear.new.self.sight c.make_room_with-found.ensures.walked.sees (grows_trans seen told c.hear.new.self.sight c.learn.ensures.theirs c.hear.ensures.grows))
+    begun

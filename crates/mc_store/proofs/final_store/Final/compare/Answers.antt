@@ -3,9 +3,9 @@ use Rattle.mc_board.specs.Histories.{HasSeen}
 use Rattle.mc_store.specs.Callers.{calls_told}
 use Rattle.mc_store.specs.Finals.{FinalView}
 use Rattle.mc_store.specs.Locked.{caller_place}
-use Rattle.mc_store.specs.Passes.{PassView}
-use Rattle.mc_store.specs.Sides.{StripeSide}
-use Rattle.mc_store.proofs.FinalLemmas.{its_own}
+use Rattle.mc_store.specs.Passes.{CallerView, PassView}
+use Rattle.mc_store.specs.Sides.{ClassSide, StripeSide}
+use Rattle.mc_store.proofs.FinalLemmas.{its_own, its_own_in_classes}
 use Rattle.mc_store.proofs.final_store.Final.compare.Goals as goal
 
 pub returns-clause-own : goal.returns-clause-own
@@ -16,3 +16,13 @@ returns-clause-own g c = λ are.
     (λ k s e.
     subst (λ (p : PassView). HasSeen (calls_told p.calls) s.sight (caller_place config p.caller)) c.pass.view_is
     (c.compare_calls.ensures.behind k s (ap (λ (ys : List StripeSide). slice_get ys k) same ∙ e)))
+
+pub returns-clause-own_in_classes : goal.returns-clause-own_in_classes
+returns-clause-own_in_classes g c = λ are.
+    let config = g.N.Named.config in
+    let same : c.compare_classes.new.classes.items ≡ c.args.self.now.classes = c.compare_classes.ensures.same.0 ∙ ap (λ (f : FinalView). f.classes) c.self.view_is in
+    its_own_in_classes g.N.Named.board.table config c.args.pass.now c.args.self.now.classes are
+    (λ k s e.
+    subst (λ (p : PassView). HasSeen (calls_told p.calls) s.sight (caller_place config p.caller)) c.pass.view_is
+    (subst (λ (v : CallerView). HasSeen (calls_told v.calls) s.sight (caller_place config v.number)) c.compare_calls.ensures.same.1
+    (c.compare_class_calls.ensures.behind k s (ap (λ (ys : List ClassSide). slice_get ys k) same ∙ e))))

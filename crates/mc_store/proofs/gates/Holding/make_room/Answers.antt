@@ -6,6 +6,7 @@ use Rattle.mc_store.specs.Earned.{HasSearchedForAny}
 use Rattle.mc_store.specs.Looked.{IsOfCall}
 use Rattle.mc_store.proofs.GateLemmas.{grew_itself, ok_more}
 use Rattle.mc_store.proofs.LookedLemmas.{looked_itself, tried_any}
+use Rattle.mc_store.proofs.MadeLemmas.{walks_none}
 use Rattle.mc_store.proofs.gates.Holding.make_room.Goals as goal
 
 pub returns-clause-stripe : goal.returns-clause-stripe
@@ -13,7 +14,8 @@ returns-clause-stripe g c =
     let w = walker_of c.args.class.now c.args.who c.args.moment in
     let own = c.args.self.now.own.now.stripe in
     let first = looked_itself g.N.Named.config.stripes w own c.args.self.now.others.answers.now.items c.args.class.now.history in
-    (c.make_room.ensures.kept c.args.self.now c.args.class.now.history (grew_itself w own, λ of. (of, first))).0
+    let walked = walks_none c.args.who c.args.moment c.args.self.now.others.seen.now.sight c.args.class.now.history in
+    (c.make_room.ensures.kept c.args.self.now c.args.class.now.history (grew_itself w own, λ of. (of, first), walked)).0
 
 pub returns-clause-room : goal.returns-clause-room
 returns-clause-room g c =
@@ -28,8 +30,17 @@ returns-clause-tried g c =
     let xs = c.args.self.now.others.answers.now.items in
     let after = c.make_room.new.class.history in
     let first = looked_itself config.stripes w own xs c.args.class.now.history in
-    let kept = c.make_room.ensures.kept c.args.self.now c.args.class.now.history (grew_itself w own, λ of. (of, first)) in
+    let walked = walks_none c.args.who c.args.moment c.args.self.now.others.seen.now.sight c.args.class.now.history in
+    let kept = c.make_room.ensures.kept c.args.self.now c.args.class.now.history (grew_itself w own, λ of. (of, first), walked) in
     ok_more c.make_room.result _ (λ (found : Bool). found ≡ false → IsOfCall w c.args.self.now.others.who c.args.self.now.others.moment → HasSearchedForAny config.stripes own c.args.who c.args.moment after)
     (λ found made vain of.
     tried_any config c.args.config.now c.args.class.now c.args.who c.args.moment own xs c.make_room.new.gate.others.answers.now.items made.0 after found c.requires.names c.a_search_in_vain_has_tried.ensures (kept.1 of).1 made.1 made.2 vain)
     c.make_room.ensures.room
+
+pub returns-clause-walked : goal.returns-clause-walked
+returns-clause-walked g c =
+    let w = walker_of c.args.class.now c.args.who c.args.moment in
+    let own = c.args.self.now.own.now.stripe in
+    let first = looked_itself g.N.Named.config.stripes w own c.args.self.now.others.answers.now.items c.args.class.now.history in
+    let walked = walks_none c.args.who c.args.moment c.args.self.now.others.seen.now.sight c.args.class.now.history in
+    (c.make_room.ensures.kept c.args.self.now c.args.class.now.history (grew_itself w own, λ of. (of, first), walked)).2

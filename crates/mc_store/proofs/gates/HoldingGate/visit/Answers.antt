@@ -1,5 +1,6 @@
 use Rattle.std.proofs.Common.{◌≡◌, ◌∷◌, ◌++◌, [], List, ◌∙◌, ap, refl, subst, sym}
 use Rattle.mc_item.specs.declared.config.Config.{Config}
+use Rattle.mc_board.specs.Histories.{Grows}
 use Rattle.mc_board.specs.Views.{SeenView}
 use Rattle.mc_store.specs.Locked.{HasBegun}
 use Rattle.mc_store.proofs.CallerLemmas.{asked_here, begun_sees}
@@ -14,6 +15,7 @@ use Rattle.mc_store.specs.Looked.{IsOfCall}
 use Rattle.mc_store.specs.Sides.{StripeSide}
 use Rattle.mc_store.proofs.GateLemmas.{grew_on}
 use Rattle.mc_store.proofs.LookedLemmas.{known_at, looked_away, looked_both, looked_here, same_after}
+use Rattle.mc_store.proofs.MadeLemmas.{gains_judged, gains_none, walks_none, walks_on}
 use Rattle.mc_store.proofs.gates.HoldingGate.visit.Goals as goal
 
 pub returns-then-not-lends-clause-kept : goal.returns-then-not-lends-clause-kept
@@ -22,7 +24,7 @@ returns-then-not-lends-clause-kept g c = λ first begun kept.
     let s = c.args.self.now.own.now.stripe in
     let q = question_of look.ask in
     let w = walker_of look.class.now look.ask.who look.ask.moment in
-    let same = c.visit.ensures.kept c.args.self.now.others look.class.now.history (refl, refl) in
+    let same = c.visit.ensures.kept c.args.self.now.others look.class.now.history (refl, refl, walks_none look.ask.who look.ask.moment c.args.self.now.others.seen.now.sight look.class.now.history) in
     let keyed = subst (λ (k : Config). HasKeyOf c.args.stripe k look.class.now q) c.requires.gate.0 c.requires.key in (
       kept.0,
       λ of.
@@ -32,6 +34,7 @@ returns-then-not-lends-clause-kept g c = λ first begun kept.
                 (looked_away look.class.now q g.N.Named.config w s c.args.stripe c.args.self.now.others.answers.now.items c.visit.new.self.answers.now.items c.visit.new.look.class.now c.visit.new.look.judged c.visit.result
                 c.requires.judge keyed (c.lends.ensures.other c.if-not-lends.true was.0.0 was.0.1) c.visit.ensures.answer c.visit.ensures.class c.visit.ensures.err),
           ),
+      walks_on look.ask.who look.ask.moment _ _ _ _ _ _ kept.2 same.2.sees same.2.gains,
     )
 
 pub returns-in_err-judge-clause-kept : goal.returns-in_err-judge-clause-kept
@@ -48,6 +51,8 @@ returns-in_err-judge-clause-kept g c = λ first begun kept.
             looked_both g.N.Named.config.stripes w _ _ _ _ _ _ _ _ was.1 kept.0
                 (same_after look.class.now q g.N.Named.config.stripes w s c.args.self.now.others.answers.now.items c.reserve.new.self.items c.judge.new.look.class.now c.in_err-judge.ensures.err c.reserve.ensures.items),
           ),
+      walks_on look.ask.who look.ask.moment _ _ _ _ _ _ kept.2 (subst (λ (v : SeenView). Grows v.sight c.judge.new.seen.sight) c.learn.ensures.same c.judge.ensures.sees)
+          (gains_none look.ask.who look.ask.moment look.class.now.history c.judge.new.look.class.now.history (ap (λ (v : ClassView). v.history) c.in_err-judge.ensures.err)),
     )
 
 pub returns-clause-kept : goal.returns-clause-kept
@@ -68,6 +73,8 @@ returns-clause-kept g c = λ first begun kept.
                 (looked_here look.class.now q g.N.Named.config s c.args.stripe c.args.self.now.others.answers.now.items c.push_reserved.new.self.items c.judge.new.look.class.now.history c.judge.new.look.judged known answered
                 (ap (λ (v : ClassView). v.history) c.in_ok-judge.ensures.class)),
           ),
+      walks_on look.ask.who look.ask.moment _ _ _ _ _ _ kept.2 (subst (λ (v : SeenView). Grows v.sight c.judge.new.seen.sight) c.learn.ensures.same c.judge.ensures.sees)
+          (gains_judged look.class.now c.judge.new.look.class.now q c.judge.new.look.judged c.in_ok-judge.ensures.class),
     )
 
 pub judge-requires-clause-begun : goal.judge-requires-clause-begun

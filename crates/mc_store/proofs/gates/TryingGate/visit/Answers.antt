@@ -3,10 +3,13 @@ use Rattle.mc_item.specs.declared.config.Config.{Config}
 use Rattle.mc_item.specs.declared.item.StripeNo.{StripeNo}
 use Rattle.mc_pull.specs.Looks.{IsJudgedIf}
 use Rattle.mc_pull.specs.Question.{question_of}
+use Rattle.mc_board.specs.Histories.{Grows}
 use Rattle.mc_board.specs.Views.{SeenView}
+use Rattle.mc_segment.specs.ClassState.{ClassView}
 use Rattle.mc_store.specs.Locked.{HasBegun}
 use Rattle.mc_store.specs.Sides.{StripeSide}
 use Rattle.mc_store.proofs.CallerLemmas.{asked_here, begun_sees}
+use Rattle.mc_store.proofs.MadeLemmas.{gains_judged, gains_none, walks_on}
 use Rattle.mc_store.proofs.gates.TryingGate.visit.Goals as goal
 
 pub judge-requires-clause-begun : goal.judge-requires-clause-begun
@@ -37,3 +40,19 @@ returns-clause-judged g c =
     let number : record { 0 = c.learn.new.self.stripe.site.stripe } ≡ c.args.stripe = ap (λ (n : ℕ). record { 0 = n }) seen ∙ sym (c.is_numbered.ensures c.if-not-is_numbered.false) in
     subst (λ (k : Config). IsJudgedIf k c.args.stripe look.class.now (question_of look.ask) c.judge.new.look.judged) (sym c.requires.gate.0)
     (subst (λ (n : StripeNo). IsJudgedIf g.N.Named.config n look.class.now (question_of look.ask) c.judge.new.look.judged) number c.in_ok-judge.ensures.judged)
+
+pub returns-in_err-judge-clause-kept : goal.returns-in_err-judge-clause-kept
+returns-in_err-judge-clause-kept g c = λ first begun kept.
+    let look = c.args.look.now in
+    let sees = subst (λ (v : SeenView). Grows v.sight c.judge.new.seen.sight) c.learn.ensures.same c.judge.ensures.sees in (
+      kept.0,
+      kept.1,
+      walks_on look.ask.who look.ask.moment _ _ _ _ _ _ kept.2 sees
+          (gains_none look.ask.who look.ask.moment look.class.now.history c.judge.new.look.class.now.history (ap (λ (v : ClassView). v.history) c.in_err-judge.ensures.err)),
+    )
+
+pub returns-clause-kept : goal.returns-clause-kept
+returns-clause-kept g c = λ first begun kept.
+    let look = c.args.look.now in
+    let sees = subst (λ (v : SeenView). Grows v.sight c.judge.new.seen.sight) c.learn.ensures.same c.judge.ensures.sees in
+    (kept.0, kept.1, walks_on look.ask.who look.ask.moment _ _ _ _ _ _ kept.2 sees (gains_judged look.class.now c.judge.new.look.class.now (question_of look.ask) c.judge.new.look.judged c.in_ok-judge.ensures.class))

@@ -1,6 +1,6 @@
 use Rattle.std.proofs.Common.{subst, sym}
 use Rattle.mc_store.specs.Locked.{IsLockedClass}
-use Rattle.mc_store.proofs.PairLemmas.{class_sees}
+use Rattle.mc_store.proofs.MadeLemmas.{locked_sees}
 use Rattle.mc_store.specs.Serving.{class_side}
 use Rattle.mc_store.proofs.locked.LockedClass.learn_from.Goals as goal
 
@@ -9,4 +9,4 @@ invariant_of-self g c =
     let table = g.N.Named.board.table in
     let config = g.N.Named.config in
     let side = c.side.inside in
-    class_sees table config (class_side side.owner side.seen side.state) c.learn.new.self.sight c.learn.ensures.mine (subst (IsLockedClass table config) (sym c.side.view_is) c.self.invariant)
+    locked_sees table config (class_side side.owner side.seen side.state) c.learn.new.self.sight c.learn.ensures.mine (subst (IsLockedClass table config) (sym c.side.view_is) c.self.invariant)

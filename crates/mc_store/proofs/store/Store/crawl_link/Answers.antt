@@ -7,7 +7,7 @@ use Rattle.mc_segment.specs.ClassState.{ClassView}
 use Rattle.mc_pull.specs.Growth as classes
 use Rattle.mc_store.specs.Crawls.{ShowsReclaims}
 use Rattle.mc_store.specs.Finals.{IsBehindAt}
-use Rattle.mc_store.specs.Locked.{IsLockedClass}
+use Rattle.mc_store.specs.Locked.{IsHeldClass}
 use Rattle.mc_store.specs.Passes.{PassView, HasCalled, caller_of}
 use Rattle.mc_store.specs.Sides.{ClassSide, class_told}
 use Rattle.mc_store.proofs.CrawledLemmas.{on_ok_more, shows_one}
@@ -20,9 +20,9 @@ returns-clause-reclaims g c =
     let table = g.N.Named.board.table in
     let old = c.compare.new.self in
     let same : old ≡ c.own.inside.side = c.compare.ensures.same.0 in
-    let old_kept : IsLockedClass table config old = subst (IsLockedClass table config) (sym same) c.own.invariant in
+    let old_kept : IsHeldClass table config old = subst (IsHeldClass table config) (sym same) c.own.invariant.held in
     let new = c.crawl_under-done.new.class in
-    let new_kept : IsLockedClass table config new = subst (IsLockedClass table config) c.own-2.view_is c.own-2.invariant in
+    let new_kept : IsHeldClass table config new = subst (IsHeldClass table config) c.own-2.view_is c.own-2.invariant.held in
     let cls : c.tell_class.new.class.class ≡ old.class = ap (λ (x : ClassSide). x.class) c.tell_class.ensures.class in
     let grows = subst (λ (v : ClassView). classes.Grows v new.class) cls c.crawl_under-done.ensures.class in
     let number : old.class.number ≡ c.args.class = ap (λ (x : ClassSide). x.class.number) (same ∙ (c.own.view_is ∙ c.deref_mut-own.ensures.value)) ∙ c.lock_class-guard.ensures in
@@ -47,9 +47,9 @@ returns-clause-full g c = λ is.
     let table = g.N.Named.board.table in
     let old = c.compare.new.self in
     let same : old ≡ c.own.inside.side = c.compare.ensures.same.0 in
-    let old_kept : IsLockedClass table config old = subst (IsLockedClass table config) (sym same) c.own.invariant in
+    let old_kept : IsHeldClass table config old = subst (IsHeldClass table config) (sym same) c.own.invariant.held in
     let new = c.crawl_under-done.new.class in
-    let new_kept : IsLockedClass table config new = subst (IsLockedClass table config) c.own-2.view_is c.own-2.invariant in
+    let new_kept : IsHeldClass table config new = subst (IsHeldClass table config) c.own-2.view_is c.own-2.invariant.held in
     let cls : c.tell_class.new.class.class ≡ old.class = ap (λ (x : ClassSide). x.class) c.tell_class.ensures.class in
     let grows = subst (λ (v : ClassView). classes.Grows v new.class) cls c.crawl_under-done.ensures.class in
     let number : old.class.number ≡ c.args.class = ap (λ (x : ClassSide). x.class.number) (same ∙ (c.own.view_is ∙ c.deref_mut-own.ensures.value)) ∙ c.lock_class-guard.ensures in

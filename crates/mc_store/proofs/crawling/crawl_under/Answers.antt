@@ -1,0 +1,20 @@
+use Rattle.std.proofs.Common.{ap, ◌∙◌, subst, sym}
+use Rattle.mc_board.specs.Views.{OwnerView}
+use Rattle.mc_store.specs.Locked.{HasBegun, IsLockedClass}
+use Rattle.mc_store.specs.Serving.{class_side}
+use Rattle.mc_store.specs.Sides.{ClassSide}
+use Rattle.mc_store.proofs.CallerLemmas.{begun_sees}
+use Rattle.mc_store.proofs.MadeLemmas.{locked_gains}
+use Rattle.mc_store.proofs.crawling.crawl_under.Goals as goal
+
+pub invariant_of-class : goal.invariant_of-class
+invariant_of-class g c =
+    let table = g.N.Named.board.table in
+    let config = g.N.Named.config in
+    let made = c.crawl-done in
+    let old : ClassSide = class_side c.side.inside.owner c.side.inside.seen c.side.inside.state in
+    let new : ClassSide = class_side made.new.self.owner.now made.new.self.seen.now made.new.class in
+    let begun = subst (λ (x : ClassSide). HasBegun config x.sight c.args.who c.args.moment) (sym (c.side.view_is ∙ c.class.view_is)) c.requires.begun in
+    subst (IsLockedClass table config) (sym (ap (λ (o : OwnerView). class_side o made.new.self.seen.now made.new.class) c.catch_up_class.ensures))
+    (locked_gains table config old new c.args.who c.args.moment (subst (IsLockedClass table config) (sym c.side.view_is) c.class.invariant) made.ensures.served.kept
+    (begun_sees config old.sight new.sight c.args.who c.args.moment made.ensures.walked.sees begun) made.ensures.walked.sees made.ensures.walked.gains)

@@ -1,0 +1,62 @@
+-- Events of slab classes: who made each, at which moment, and that its caller's history has the call (own).
+use Rattle.std.specs.Prelude.{◌≡◌, ◌<◌, ◌+◌, ◌++◌, ℕ, List, [], ◌∷◌, Some, slice_get}
+use Rattle.mc_item.specs.declared.call_event.CallEvent.{CallEvent}
+use Rattle.mc_item.specs.declared.class_event.ClassEvent.{ClassEvent}
+use Rattle.mc_item.specs.declared.class_event.ClassEvent.TheVariants as events
+use Rattle.mc_item.specs.declared.event.Event.{Event}
+use Rattle.mc_item.specs.declared.item.Who.{Who}
+use Rattle.mc_board.specs.Histories.{Grows}
+use Rattle.mc_board.specs.declared.rule.Sight.{Sight}
+use Rattle.mc_store.specs.Callers.{IsBegun, call_events}
+
+-- who made an event of a class
+abbrev pub maker_of : ClassEvent → Who
+maker_of (events.Linked e) = e.who
+maker_of (events.Unlinked e) = e.who
+maker_of (events.Shifted e) = e.who
+maker_of (events.Evicted e) = e.who
+maker_of (events.Reclaimed e) = e.who
+maker_of (events.Surveyed e) = e.who
+maker_of (events.Refused e) = e.who
+
+-- an event of a class that names a moment names this one
+abbrev pub IsTimed : ClassEvent → ℕ → Type 0
+IsTimed (events.Linked e) moment = e.moment ≡ moment
+IsTimed (events.Unlinked e) moment = Unit {0}
+IsTimed (events.Shifted e) moment = e.moment ≡ moment
+IsTimed (events.Evicted e) moment = Unit {0}
+IsTimed (events.Reclaimed e) moment = e.moment ≡ moment
+IsTimed (events.Surveyed e) moment = e.moment ≡ moment
+IsTimed (events.Refused e) moment = Unit {0}
+
+-- an event of a class was made by this call, at this moment
+abbrev pub IsOwnEvent : Who → ℕ → ClassEvent → Type 0
+IsOwnEvent who moment e = (maker_of e ≡ who) × IsTimed e moment
+
+-- each of these events was
+abbrev pub AreOwnEvents : Who → ℕ → List ClassEvent → Type 0
+AreOwnEvents who moment [] = Unit {0}
+AreOwnEvents who moment (e ∷ es) = IsOwnEvent who moment e × AreOwnEvents who moment es
+
+-- a class's history has only events of this call more, at its end
+pub record GainsOwn (who : Who) (moment : ℕ) (before after : List ClassEvent) : Type 0 where
+  pub events : List ClassEvent
+  pub history_is : after ≡ before ++ events
+  pub each : AreOwnEvents who moment events
+
+-- a walk of this call has seen more, and its class's history has only events of the call more
+pub record WalksOwn (who : Who) (moment : ℕ) (before after : Sight) (history history_new : List ClassEvent) : Type 0 where
+  pub sees : Grows before after
+  pub gains : GainsOwn who moment history history_new
+
+-- an event of a class was called: its caller's history has, for its turn, a call that was handed the event's moment
+pub record IsClassCalled (calls : List CallEvent) (event : ClassEvent) : Type 0 where
+  pub moment : ℕ
+  pub begun : IsBegun calls (maker_of event).turn moment
+  pub timed : IsTimed event moment
+
+-- each event of a class's history was called, by one of so many callers, as far as that one's history was seen; the histories
+-- of callers come behind so many others
+pub record AreCalledInClass (others callers : ℕ) (history : List ClassEvent) (seen : ℕ → List Event) : Type 0 where
+  pub each : (place : ℕ) (event : ClassEvent) → slice_get history place ≡ Some event
+      → ((maker_of event).caller < callers) × IsClassCalled (call_events (seen (others + (maker_of event).caller))) event
