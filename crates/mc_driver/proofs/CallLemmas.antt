@@ -3,17 +3,11 @@ use Rattle.std.proofs.Common.{◌≡◌, ◌<◌, ◌≤◌, ℕ, List, [], ◌�
 use Rattle.std.specs.Prelude.{IfOk, OnErr, Some, cond, nat_eq, true, OnOk}
 use Rattle.std.specs.List.{slice_get}
 use Rattle.std.proofs.lemmas.List.Elements.{filter-append}
-use mathlib.Core.List.{IsPrefix}
-use Rattle.std.proofs.Math.Nat.{mod-lt}
 use Rattle.mc_item.specs.Command.{key_of}
-use Rattle.mc_item.specs.Measure.{fnv1a}
 use Rattle.mc_item.specs.declared.call_event.CallEvent.{CallEvent}
-use Rattle.mc_item.specs.declared.class_event.ClassEvent.{ClassEvent}
 use Rattle.mc_item.specs.declared.command.Command.{Command}
 use Rattle.mc_item.specs.declared.config.Config.{Config}
 use Rattle.mc_item.specs.declared.counts.Moves.{Moves}
-use Rattle.mc_item.specs.declared.event.Event.{Event}
-use Rattle.mc_item.specs.declared.event.Event.TheVariants as board_events
 use Rattle.mc_item.specs.declared.fault.Fault.{Fault}
 use Rattle.mc_item.specs.declared.item.ClassNo.{ClassNo}
 use Rattle.mc_item.specs.declared.item.Who.{Who}
@@ -24,115 +18,25 @@ use Rattle.mc_item.specs.declared.stripe_event.StripeEvent.TheVariants as events
 use Rattle.mc_board.specs.Histories.{Grows, list_at}
 use Rattle.mc_board.specs.declared.rule.Sight.{Sight}
 use Rattle.mc_board.proofs.PrefixLemmas.{prefix_length}
-use Rattle.mc_evidence.specs.Seen.{class_events, stripe_events}
+use Rattle.mc_evidence.specs.Seen.{stripe_events}
 use Rattle.mc_evidence.specs.Setting.{IsClass}
-use Rattle.mc_evidence.proofs.SeenLemmas.{class_events-map, classes_grow, stripe_events-map, stripes_grow}
+use Rattle.mc_evidence.proofs.SeenLemmas.{stripe_events-map}
 use Rattle.mc_proto.specs.Answers.{Moved, Replied, Counted}
-use Rattle.mc_pull.specs.Juggle.{IsJuggle}
 use Rattle.mc_pull.specs.Performed.{cooled_if}
-use Rattle.mc_pull.specs.Rounds.{Rounds, rounds}
-use Rattle.mc_rule.specs.Segment.{Rule}
 use Rattle.mc_script.specs.Calls.{Adds, AddsUp}
 use Rattle.mc_script.specs.Exchanges.{Asks, Exchange, Juggles, exchange, Crawls}
-use Rattle.mc_segment.specs.ClassState.{ClassView, chunks_for, class_view, opened}
 use Rattle.mc_store.specs.Callers.{answered_at, asked_for, juggling_of, moment_of, crawling_of}
 use Rattle.mc_store.specs.Calls.{IsJuggledBy, IsRepliedBy, IsCutBy}
-use Rattle.mc_store.specs.Locked.{setting_of, class_lock}
-use Rattle.mc_store.specs.Passes.{PassView}
-use Rattle.mc_store.specs.Sides.{class_told}
+use Rattle.mc_store.specs.Locked.{setting_of}
+use Rattle.mc_store.specs.Passes.{PassView, next_who}
 use Rattle.mc_driver.specs.Caller.{AreAt, AreNoted, AreRising, IsAt, histories_seen, places_in}
-use Rattle.mc_driver.specs.Noted.{NotesCommand, NotesJuggling, answered_event, NotesCrawling}
-use Rattle.mc_driver.specs.Stand.{calls_at, is_command_at, stripe_number}
+use Rattle.mc_driver.specs.Stand.{calls_at, is_command_at, nothing_seen, stripe_number}
 use Rattle.mc_driver.proofs.NotedLemmas.{at_later, at_push_if, get_next, places_in-push, rising_push_if, stripe_begins, places_in-call}
+use Rattle.mc_driver.proofs.BetweenLemmas.{crawled_between, juggled_between, replied_between, seen_grow}
 use Rattle.mc_driver.proofs.OnlyLemmas.{is_same}
-use Rattle.mc_driver.proofs.StandLemmas.{ArePlaced-append, Grow, Stand-append, stand_later}
+use Rattle.mc_driver.proofs.StandLemmas.{stand_more, stand_same}
 use Rattle.mc_item.specs.declared.counts.Histogram.{Histogram}
-use Rattle.mc_store.specs.Crawls.{HasReclaims, IsCrawledBy}
-
--- what a pass has seen grows
-pub seen_grow : (config : Config) (old new : Sight) → Grows old new → Grow config (histories_seen config old) (histories_seen config new)
-seen_grow config old new grows = record {
-  stripes = λ number below. stripes_grow (list_at old.seen) (list_at new.seen) grows.at number;
-  classes = λ class is. classes_grow config.stripes (list_at old.seen) (list_at new.seen) grows.at class;
-}
-
--- a command that was replied to stands in what the pass has seen
-pub replied_stands : (config : Config) (before after : Sight) (calls calls_new : List CallEvent) (who : Who) (command : Command) (moment : ℕ) (reply : Reply)
-    → IsRepliedBy config (stripe_number config.stripes command) before after calls calls_new who command moment reply
-    → NotesCommand ((histories_seen config after).stripes (stripe_number config.stripes command)) who command moment reply
-replied_stands config before after calls calls_new who command moment reply by =
-    let answered = by.replied.answered in
-    let seen : stripe_events (list_at after.seen (stripe_number config.stripes command)) ≡ by.new.history = ap stripe_events by.grew.now ∙ stripe_events-map by.new.history in
-    record {
-      before = by.old.history ++ answered.before;
-      room = answered.room;
-      behind = cooled_if who (key_of command) answered.cooled;
-      split = seen ∙ (answered.history_is
-          ∙ ap (λ (r : Reply). (by.old.history ++ answered.before) ++ answered_event who command moment r answered.room ∷ cooled_if who (key_of command) answered.cooled) by.replied.reply_is);
-    }
-
--- a class by its parts, without events
-parts_same : (n n' : ClassNo) (chunks chunks' events events' : ℕ) (rule rule' : Rule) → n ≡ n' → chunks ≡ chunks' → events ≡ events' → rule ≡ rule'
-    → class_view n chunks events rule [] 0 ≡ class_view n' chunks' events' rule' [] 0
-parts_same n n' chunks chunks' events events' rule rule' a b c d =
-    ap (λ (x : ClassNo). class_view x chunks events rule [] 0) a ∙ ap (λ (x : ℕ). class_view n' x events rule [] 0) b
-    ∙ ap (λ (x : ℕ). class_view n' chunks' x rule [] 0) c ∙ ap (λ (x : Rule). class_view n' chunks' events' x [] 0) d
-
--- juggling that was done stands in what the pass has seen
-pub juggled_stands : (config : Config) (class : ClassNo) (before after : Sight) (who : Who) (moment : ℕ) (moves : Moves)
-    → IsJuggledBy config class before after who moment moves → NotesJuggling config ((histories_seen config after).classes class) who class moment moves
-juggled_stands config class before after who moment moves by =
-    let c = by.old in
-    let seen : (histories_seen config after).classes class ≡ c.history ++ by.own = ap class_events by.grew.now ∙ class_events-map (c.history ++ by.own) in
-    let made = by.grew.made_with in
-    let number = by.grew.number_is in
-    let same = parts_same c.number class c.chunks (chunks_for config class) c.max_events config.max_events c.rule (opened config class).rule
-    number (made.chunks ∙ ap (chunks_for config) number) made.max_events made.rule in
-    record {
-      before = c.history;
-      own = by.own;
-      behind = [];
-      split = seen ∙ sym (append-nil (c.history ++ by.own));
-      answers = by.answers;
-      juggled = subst (λ (r : Rounds). IsJuggle r c.history by.answers (c.history ++ by.own) moves) (ap (λ (v : ClassView). rounds v who moment config) same) by.juggle;
-    }
-
--- what was seen of a class alone has the same reclaims
-reclaims_told : (who : Who) (moment many : ℕ) (es : List Event) → HasReclaims who moment many es → HasReclaims who moment many (class_told (class_events es))
-reclaims_told who moment many [] none = none
-reclaims_told who moment many (board_events.Stripe e ∷ es) some = reclaims_told who moment many es some
-reclaims_told who moment many (board_events.Call e ∷ es) some = reclaims_told who moment many es some
-reclaims_told who moment many (board_events.Class e ∷ es) (inl some) = inl (reclaims_told who moment many es some)
-reclaims_told who moment many (board_events.Class e ∷ es) (inr t) = inr (t.0, (t.1.0, t.1.1, reclaims_told who moment t.1.0 es t.1.2))
-
--- events before others change nothing
-reclaims_behind : (who : Who) (moment many : ℕ) (xs ys : List Event) → HasReclaims who moment many ys → HasReclaims who moment many (xs ++ ys)
-reclaims_behind who moment many [] ys some = some
-reclaims_behind who moment many (board_events.Stripe e ∷ xs) ys some = reclaims_behind who moment many xs ys some
-reclaims_behind who moment many (board_events.Call e ∷ xs) ys some = reclaims_behind who moment many xs ys some
-reclaims_behind who moment many (board_events.Class e ∷ xs) ys some = inl (reclaims_behind who moment many xs ys some)
-
--- a crawl that was made stands in what the pass has seen
-pub crawled_stands : (config : Config) (class : ClassNo) (before after : Sight) (who : Who) (moment : ℕ) (histogram : Histogram) → IsClass (setting_of config) class
-    → IsCrawledBy config class before after who moment histogram → NotesCrawling ((histories_seen config after).classes class) who moment histogram
-crawled_stands config class before after who moment histogram is by =
-    let snapshot = by.snapshot in
-    let shown = by.reclaims in
-    let list = list_at after.seen (class_lock config class) in
-    let begins : IsPrefix (class_events (class_told snapshot.history)) (class_events list) = classes_grow config.stripes (λ lock. class_told snapshot.history) (λ lock. list) (λ lock. snapshot.now) class in
-    let many : histogram.reclaimed ≡ shown.many = shown.count_is ∙ omega arith in
-    record {
-      at = snapshot.history;
-      behind = begins.0;
-      split = sym (ap (λ (h : List ClassEvent). h ++ begins.0) (sym (class_events-map snapshot.history)) ∙ begins.1);
-      seen = snapshot.count_is;
-      balanced = by.balanced;
-      reclaims =
-          reclaims_told who moment histogram.reclaimed list
-          (subst (λ (l : List Event). HasReclaims who moment histogram.reclaimed l) shown.events_are
-          (reclaims_behind who moment histogram.reclaimed (list_at before.seen (class_lock config class)) shown.events
-          (subst (λ (k : ℕ). HasReclaims who moment k shown.events) (sym many) shown.reclaims)));
-    }
+use Rattle.mc_store.specs.Crawls.{IsCrawledBy}
 
 -- where a reply was noted, and what stands there
 module _ (config : Config) (old new : PassView) (command : Command) (moment : ℕ) (reply : Reply)
@@ -210,9 +114,8 @@ pub replied_adds : (config : Config) (old new : PassView) (command : Command) (m
     → Adds (AreNoted config old) (AreNoted config new) (exchange old.caller old.turn (Asks command) moment (Replied reply) ∷ [])
 replied_adds config old new command moment reply some same grows by = record {
   at = λ calls noted. record {
-    placed = ArePlaced-append config calls _ noted.placed (mod-lt (fnv1a (key_of command)) some, tt);
-    stand = Stand-append config (histories_seen config new.sight) calls _ (stand_later config _ _ calls (seen_grow config old.sight new.sight grows) noted.placed noted.stand)
-        (replied_stands config old.sight new.sight old.calls new.calls _ command moment reply by, tt);
+    stand = stand_more config nothing_seen (histories_seen config old.sight) (histories_seen config new.sight) calls _ noted.stand
+        (replied_between config old.sight new.sight old.calls new.calls (next_who old) command moment reply some grows by);
     at = λ n below.
         subst (λ (k : ℕ). AreAt (stripe_events (list_at new.sight.seen n)) k (places_in n new.calls) (calls_at config.stripes n (calls ++ exchange old.caller old.turn (Asks command) moment (Replied reply) ∷ []))) (sym same)
         (noted_at config old new command moment reply by calls noted grows n below);
@@ -241,9 +144,8 @@ pub juggled_adds : (config : Config) (old new : PassView) (class : ClassNo) (mom
     → Adds (AreNoted config old) (AreNoted config new) (exchange old.caller old.turn (Juggles class) moment (Moved moves) ∷ [])
 juggled_adds config old new class moment moves is caller noted_as grows by = let same = kept_places old new moment (juggling_of class moment) refl noted_as in record {
   at = λ calls noted. record {
-    placed = ArePlaced-append config calls _ noted.placed (is, tt);
-    stand = Stand-append config (histories_seen config new.sight) calls _ (stand_later config _ _ calls (seen_grow config old.sight new.sight grows) noted.placed noted.stand)
-        (juggled_stands config class old.sight new.sight _ moment moves by, tt);
+    stand = stand_more config nothing_seen (histories_seen config old.sight) (histories_seen config new.sight) calls _ noted.stand
+        (juggled_between config class old.sight new.sight (next_who old) moment moves is grows by);
     at = λ n below. kept_at config old new calls _ caller same grows noted n below refl;
     rising = λ n below. subst (AreRising 0) (sym (same n)) (noted.rising n below);
   };
@@ -255,9 +157,8 @@ pub crawled_adds : (config : Config) (old new : PassView) (class : ClassNo) (mom
     → Adds (AreNoted config old) (AreNoted config new) (exchange old.caller old.turn (Crawls class) moment (Counted histogram) ∷ [])
 crawled_adds config old new class moment histogram is caller noted_as grows by = let same = kept_places old new moment (crawling_of class moment) refl noted_as in record {
   at = λ calls noted. record {
-    placed = ArePlaced-append config calls _ noted.placed (is, tt);
-    stand = Stand-append config (histories_seen config new.sight) calls _ (stand_later config _ _ calls (seen_grow config old.sight new.sight grows) noted.placed noted.stand)
-        (crawled_stands config class old.sight new.sight _ moment histogram is by, tt);
+    stand = stand_more config nothing_seen (histories_seen config old.sight) (histories_seen config new.sight) calls _ noted.stand
+        (crawled_between config class old.sight new.sight (next_who old) moment histogram is grows by);
     at = λ n below. kept_at config old new calls _ caller same grows noted n below refl;
     rising = λ n below. subst (AreRising 0) (sym (same n)) (noted.rising n below);
   };
@@ -267,8 +168,7 @@ crawled_adds config old new class moment histogram is caller noted_as grows by =
 pub none_adds : (config : Config) (old new : PassView) → new.caller ≡ old.caller → ((n : ℕ) → places_in n new.calls ≡ places_in n old.calls) → Grows old.sight new.sight → Adds (AreNoted config old) (AreNoted config new) []
 none_adds config old new caller same grows = record {
   at = λ calls noted. record {
-    placed = ArePlaced-append config calls [] noted.placed tt;
-    stand = Stand-append config (histories_seen config new.sight) calls [] (stand_later config _ _ calls (seen_grow config old.sight new.sight grows) noted.placed noted.stand) tt;
+    stand = stand_same config nothing_seen (histories_seen config old.sight) (histories_seen config new.sight) calls (seen_grow config old.sight new.sight grows) noted.stand;
     at = λ n below. kept_at config old new calls [] caller same grows noted n below refl;
     rising = λ n below. subst (AreRising 0) (sym (same n)) (noted.rising n below);
   };

@@ -15,6 +15,7 @@ use Rattle.mc_store.proofs.PlaceLemmas.{get_some}
 use Rattle.mc_driver.specs.Jobs.{HasWorked, IsAtStart, ends_in, script_of, works_of}
 use Rattle.mc_driver.specs.declared.jobs.Work.{Work}
 use Rattle.mc_driver.specs.declared.jobs.Work.TheVariants.{Script, Upkeep}
+use Rattle.mc_driver.proofs.StandLemmas.{grow_nothing}
 
 module _ {S K : Type 0} (coming : S → List ℕ) (reads : S → ℕ) (taken : K → List ℕ) (writes : K → ℕ) (config : Config) (limits : Limits) (moments : List ℕ) where
   -- the caller of this number has worked: what it was to do and what it left, how that ended, and its pass behind it
@@ -164,7 +165,7 @@ starts : (config : Config) (caller : ℕ) → 0 < config.stripes → IsAtStart c
 starts config caller some = record {
   may = record { some = some; made = record { each = λ turn call at. absurd (cc at) }; turns = refl };
   first = refl;
-  none = record { placed = tt; stand = tt; at = λ n below. tt; rising = λ n below. tt };
+  none = record { stand = grow_nothing config _; at = λ n below. tt; rising = λ n below. tt };
 }
 
 -- each job begins with such a pass

@@ -13,10 +13,9 @@ use Rattle.mc_item.specs.declared.stripe_event.StripeEvent.TheVariants as events
 use Rattle.mc_board.specs.Histories.{list_at}
 use Rattle.mc_board.specs.declared.rule.Sight.{Sight}
 use Rattle.mc_board.proofs.PrefixLemmas.{prefix_length}
-use Rattle.mc_evidence.specs.Seen.{class_events, stripe_events}
+use Rattle.mc_evidence.specs.Seen.{stripe_events}
 use Rattle.mc_evidence.specs.Setting.{IsClass}
 use Rattle.mc_evidence.specs.Sound.{IsSoundStore}
-use Rattle.mc_evidence.proofs.SeenLemmas.{class_events-map, classes_grow}
 use Rattle.mc_item.specs.Stripe.{IsLegal}
 use Rattle.mc_script.specs.Exchanges.{Exchange}
 use Rattle.mc_store.specs.Finals.{AreClasses, AreExactlyEntries, AreItsOwn, AreStripes, FinalView, IsBehindClasses, IsBehindStripes, class_histories, class_history, stripe_histories, stripe_history}
@@ -28,14 +27,10 @@ use Rattle.mc_store.proofs.PlaceLemmas.{get_some}
 use Rattle.mc_store.proofs.ServedLemmas.{map_length}
 use Rattle.mc_driver.specs.Caller.{AreAt, AreNoted, histories_seen, places_in}
 use Rattle.mc_driver.specs.Run.{HasFull, IsStore, histories_left}
-use Rattle.mc_driver.specs.Stand.{AreItsCalls, Stand, calls_at}
-use Rattle.mc_driver.proofs.NotedLemmas.{at_later, called_place, stripe_begins}
+use Rattle.mc_driver.specs.Stand.{AreItsCalls, Grow, Stand, calls_at, nothing_seen}
+use Rattle.mc_driver.proofs.NotedLemmas.{at_later, called_place, class_begins, stripe_begins}
 use Rattle.mc_driver.proofs.OnlyLemmas.{only_these}
-use Rattle.mc_driver.proofs.StandLemmas.{Grow, stand_later}
-
--- what begins a class's history on the board shows a beginning of it
-class_begins : (list : List Event) (es : List ClassEvent) → IsPrefix list (class_told es) → IsPrefix (class_events list) es
-class_begins list es p = subst (IsPrefix (class_events list)) (class_events-map es) (classes_grow 0 (λ lock. list) (λ lock. class_told es) (λ lock. p) (record { 0 = 0 }))
+use Rattle.mc_driver.proofs.StandLemmas.{stand_later}
 
 -- a site by its parts
 site_is : (s : Site) (stripe stripes : ℕ) (sizes : List ℕ) → s.stripe ≡ stripe → s.stripes ≡ stripes → s.sizes ≡ sizes → s ≡ record { stripe = stripe; stripes = stripes; sizes = sizes }
@@ -116,8 +111,8 @@ module _ (config : Config) (final : FinalView) (all : AreStripes final.board con
     -- the calls that the pass has noted stand in it, and of the caller there are only these
     pub left_calls : (pass : PassView) → pass.sight ≡ sight → AreItsOwn pass final.stripes → (calls : List Exchange) → AreNoted config pass calls → AreItsCalls config pass.caller (histories_left final) calls
     left_calls pass is own calls noted = record {
-      stand = stand_later config (histories_seen config sight) (histories_left final) calls left_grows noted.placed
-          (subst (λ (t : Sight). Stand config (histories_seen config t) calls) is noted.stand);
+      stand = stand_later config nothing_seen (histories_seen config sight) (histories_left final) calls left_grows
+          (subst (λ (t : Sight). Stand config nothing_seen (histories_seen config t) calls) is noted.stand);
       only = record {
         at = λ number below.
             let g = get_some final.stripes number (omega (arith, below, all.many)) in

@@ -1,4 +1,5 @@
 pub mod StandLemmas
+pub mod BetweenLemmas
 pub mod CallLemmas
 pub mod MadeLemmas
 pub mod OnlyLemmas

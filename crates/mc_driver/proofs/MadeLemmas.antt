@@ -2,8 +2,6 @@
 use Rattle.std.proofs.Common.{◌≡◌, ◌⊎◌, ◌<◌, ◌+◌, ℕ, zero, suc, List, [], ◌∷◌, ◌++◌, Some, Result, Ok, Err, refl, sym, ap, ◌∙◌, subst, inl, inr, ⊎_elim, arith, length, length-append, append-nil}
 use Rattle.std.specs.Prelude.{IfOk, OnOk, slice_get}
 use Rattle.std.proofs.lemmas.Bool.{cases_lt}
-use Rattle.mc_item.specs.Command.{key_of}
-use Rattle.mc_item.specs.Measure.{fnv1a}
 use Rattle.mc_item.specs.declared.call_event.CallEvent.{CallEvent}
 use Rattle.mc_item.specs.declared.call_event.CallEvent.TheVariants as calls
 use Rattle.mc_item.specs.declared.command.Command.{Command}
@@ -17,23 +15,21 @@ use Rattle.mc_item.specs.declared.stripe_event.StripeEvent.{StripeEvent}
 use Rattle.mc_item.specs.declared.stripe_event.StripeEvent.TheVariants as events
 use Rattle.mc_board.specs.Histories.{Grows}
 use Rattle.mc_evidence.specs.Setting.{IsClass}
-use Rattle.mc_proto.specs.Answers.{Moved, Replied, Counted}
-use Rattle.mc_script.specs.Exchanges.{Asks, Juggles, exchange, Crawls}
+use Rattle.mc_script.specs.Exchanges.{Exchange}
 use Rattle.mc_store.specs.Callers.{IsOf, answered_at, asked_for, juggling_of, moment_of, turns_of, who_of, crawling_of}
 use Rattle.mc_store.specs.Calls.{IsJuggledBy, IsRepliedBy}
 use Rattle.mc_store.specs.Finals.{AreItsOwn, AreStripes, FinalView, stripe_histories, stripe_history}
 use Rattle.mc_store.specs.Locked.{setting_of}
-use Rattle.mc_store.specs.Passes.{PassView}
+use Rattle.mc_store.specs.Passes.{PassView, next_who}
 use Rattle.mc_store.specs.Sides.{StripeSide}
 use Rattle.mc_store.proofs.PlaceLemmas.{get_some}
 use Rattle.mc_driver.specs.Called.{AreByCallers, AreWholeTurns, IsAtMoment, MadeNone}
 use Rattle.mc_driver.specs.Caller.{IsMade, MayCall, histories_seen}
 use Rattle.mc_driver.specs.Run.{callers_at_work, histories_left}
-use Rattle.mc_driver.specs.Stand.{Histories, stripe_number}
-use Rattle.mc_driver.proofs.CallLemmas.{juggled_stands, replied_stands, seen_grow, crawled_stands}
+use Rattle.mc_driver.specs.Stand.{Grow, Histories, StandsBetween, nothing_seen, stripe_number}
+use Rattle.mc_driver.proofs.BetweenLemmas.{crawled_between, juggled_between, replied_between, seen_grow}
 use Rattle.mc_driver.proofs.NotedLemmas.{get_next}
-use Rattle.mc_driver.proofs.StandLemmas.{Grow, stands_as_later}
-use Rattle.std.proofs.Math.Nat.{mod-lt}
+use Rattle.mc_driver.proofs.StandLemmas.{grow_nothing, stands_as_later, stands_as_less}
 use Rattle.mc_item.specs.declared.counts.Histogram.{Histogram}
 use Rattle.mc_store.specs.Crawls.{IsCrawledBy}
 
@@ -80,9 +76,20 @@ made_later : (config : Config) (old new : Histories) (who : Who) (call : CallEve
 made_later config old new who call grow made = record {
   exchange = made.exchange;
   placed = made.placed;
-  stands = stands_as_later config old new made.exchange.who made.exchange.moment made.exchange.call made.exchange.answer grow made.placed made.stands;
+  stands = stands_as_later config nothing_seen old new made.exchange.who made.exchange.moment made.exchange.call made.exchange.answer grow made.placed made.stands;
   who_is = made.who_is;
   moment_is = made.moment_is;
+}
+
+-- a call that stands between two histories was made
+made_between : (config : Config) (seen reached : Histories) (exchange : Exchange) (call : CallEvent) → StandsBetween config seen reached exchange → moment_of call ≡ Some exchange.moment
+    → IsMade config reached exchange.who call
+made_between config seen reached exchange call between moment = record {
+  exchange = exchange;
+  placed = between.placed;
+  stands = stands_as_less config nothing_seen seen reached exchange.who exchange.moment exchange.call exchange.answer (grow_nothing config seen) between.placed between.stands;
+  who_is = refl;
+  moment_is = moment;
 }
 
 -- one more call was made
@@ -117,26 +124,16 @@ replied_may config old new command moment reply may caller turn grows by =
     ap turns_of by.replied.noted
     ∙ (turns_of-append (old.calls ++ asked ∷ []) (last ∷ [])
     ∙ (append-nil (turns_of (old.calls ++ asked ∷ [])) ∙ turns_of-append old.calls (asked ∷ []))) in
-    may_more config old new asked may caller turn grows turns (record {
-      exchange = exchange old.caller old.turn (Asks command) moment (Replied reply);
-      placed = mod-lt (fnv1a (key_of command)) may.some;
-      stands = replied_stands config old.sight new.sight old.calls new.calls (record { caller = old.caller; turn = old.turn }) command moment reply by;
-      who_is = refl;
-      moment_is = refl;
-    })
+    may_more config old new asked may caller turn grows turns
+    (made_between config (histories_seen config old.sight) (histories_seen config new.sight) _ asked (replied_between config old.sight new.sight old.calls new.calls (next_who old) command moment reply may.some grows by) refl)
 
 -- and so was juggling
 pub juggled_may : (config : Config) (old new : PassView) (class : ClassNo) (moment : ℕ) (r : Result Moves Fault) → MayCall config old → IsClass (setting_of config) class → new.caller ≡ old.caller
     → OnOk r (new.turn ≡ old.turn + 1) → OnOk r (new.calls ≡ old.calls ++ juggling_of class moment ∷ []) → Grows old.sight new.sight
     → IfOk r (IsJuggledBy config class old.sight new.sight (record { caller = old.caller; turn = old.turn }) moment) → OnOk r (MayCall config new)
 juggled_may config old new class moment (Ok moves) may is caller turn noted grows by =
-    may_more config old new (juggling_of class moment) may caller turn grows (ap turns_of noted ∙ turns_of-append old.calls (juggling_of class moment ∷ [])) (record {
-      exchange = exchange old.caller old.turn (Juggles class) moment (Moved moves);
-      placed = is;
-      stands = juggled_stands config class old.sight new.sight (record { caller = old.caller; turn = old.turn }) moment moves by;
-      who_is = refl;
-      moment_is = refl;
-    })
+    may_more config old new (juggling_of class moment) may caller turn grows (ap turns_of noted ∙ turns_of-append old.calls (juggling_of class moment ∷ []))
+    (made_between config (histories_seen config old.sight) (histories_seen config new.sight) _ (juggling_of class moment) (juggled_between config class old.sight new.sight (next_who old) moment moves is grows by) refl)
 juggled_may config old new class moment (Err fault) may is caller turn noted grows by = tt
 
 -- and so was a crawl
@@ -144,13 +141,8 @@ pub crawled_may : (config : Config) (old new : PassView) (class : ClassNo) (mome
     → OnOk r (new.turn ≡ old.turn + 1) → OnOk r (new.calls ≡ old.calls ++ crawling_of class moment ∷ []) → Grows old.sight new.sight
     → IfOk r (IsCrawledBy config class old.sight new.sight (record { caller = old.caller; turn = old.turn }) moment) → OnOk r (MayCall config new)
 crawled_may config old new class moment (Ok histogram) may is caller turn noted grows by =
-    may_more config old new (crawling_of class moment) may caller turn grows (ap turns_of noted ∙ turns_of-append old.calls (crawling_of class moment ∷ [])) (record {
-      exchange = exchange old.caller old.turn (Crawls class) moment (Counted histogram);
-      placed = is;
-      stands = crawled_stands config class old.sight new.sight (record { caller = old.caller; turn = old.turn }) moment histogram is by;
-      who_is = refl;
-      moment_is = refl;
-    })
+    may_more config old new (crawling_of class moment) may caller turn grows (ap turns_of noted ∙ turns_of-append old.calls (crawling_of class moment ∷ []))
+    (made_between config (histories_seen config old.sight) (histories_seen config new.sight) _ (crawling_of class moment) (crawled_between config class old.sight new.sight (next_who old) moment histogram is grows by) refl)
 crawled_may config old new class moment (Err fault) may is caller turn noted grows by = tt
 
 -- ---- what a closed store has

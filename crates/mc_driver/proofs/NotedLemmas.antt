@@ -6,13 +6,14 @@ use Rattle.std.proofs.lemmas.Option.{slice_get_within}
 use mathlib.Core.List.{IsPrefix}
 use Rattle.mc_item.specs.declared.call_event.CallEvent.{CallEvent}
 use Rattle.mc_item.specs.declared.call_event.CallEvent.TheVariants as calls
+use Rattle.mc_item.specs.declared.class_event.ClassEvent.{ClassEvent}
 use Rattle.mc_item.specs.declared.event.Event.{Event}
 use Rattle.mc_item.specs.declared.stripe_event.StripeEvent.{StripeEvent}
-use Rattle.mc_evidence.specs.Seen.{stripe_events}
-use Rattle.mc_evidence.proofs.SeenLemmas.{stripe_events-map, stripes_grow}
+use Rattle.mc_evidence.specs.Seen.{class_events, stripe_events}
+use Rattle.mc_evidence.proofs.SeenLemmas.{class_events-map, classes_grow, stripe_events-map, stripes_grow}
 use Rattle.mc_script.specs.Exchanges.{Exchange}
 use Rattle.mc_store.specs.Callers.{IsCall, answered_at, IsCalled, IsNext, moment_of}
-use Rattle.mc_store.specs.Sides.{stripe_told}
+use Rattle.mc_store.specs.Sides.{class_told, stripe_told}
 use Rattle.mc_driver.specs.Caller.{AreAt, AreRising, IsAt, places_in}
 use Rattle.mc_driver.proofs.OnlyLemmas.{IsOneOf, is_yes}
 use Rattle.mc_item.specs.declared.stripe_event.Did.{Did}
@@ -21,6 +22,10 @@ use Rattle.mc_item.specs.declared.stripe_event.StripeEvent.TheVariants as events
 -- what begins a stripe's history on the board shows a beginning of it
 pub stripe_begins : (list : List Event) (es : List StripeEvent) → IsPrefix list (stripe_told es) → IsPrefix (stripe_events list) es
 stripe_begins list es p = subst (IsPrefix (stripe_events list)) (stripe_events-map es) (stripes_grow (λ lock. list) (λ lock. stripe_told es) (λ lock. p) 0)
+
+-- and what begins a class's shows a beginning of that
+pub class_begins : (list : List Event) (es : List ClassEvent) → IsPrefix list (class_told es) → IsPrefix (class_events list) es
+class_begins list es p = subst (IsPrefix (class_events list)) (class_events-map es) (classes_grow 0 (λ lock. list) (λ lock. class_told es) (λ lock. p) (record { 0 = 0 }))
 
 -- what stands at a place goes on standing there
 get_front : {X : Type 0} (xs more : List X) (k : ℕ) (x : X) → slice_get xs k ≡ Some x → slice_get (xs ++ more) k ≡ Some x

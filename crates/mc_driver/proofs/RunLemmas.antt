@@ -7,7 +7,9 @@ use Rattle.mc_item.specs.declared.config.Config.{Config}
 use Rattle.mc_script.specs.Exchanges.{Exchange}
 use Rattle.mc_script.specs.Upkeep.{KeepsUp, work_of}
 use Rattle.mc_script.specs.declared.ends.Both.{Both}
+use Rattle.mc_proto.specs.declared.request.Limits.{Limits}
 use Rattle.mc_script.specs.declared.outcome.Outcome.{Outcome}
+use Rattle.mc_script.specs.declared.outcome.Outcome.TheVariants as outcomes
 use Rattle.mc_script.specs.declared.upkeep.Keeper.{Keeper}
 use Rattle.mc_script.specs.declared.upkeep.Keeper.TheVariants.{Maintainer, Crawler}
 use Rattle.mc_store.specs.Finals.{AreClasses, AreStripes, FinalView}
@@ -22,6 +24,19 @@ use Rattle.mc_driver.specs.declared.jobs.Work.TheVariants.{Script, Upkeep}
 use Rattle.mc_driver.proofs.EndedLemmas.{full_left, none_left, whole_left, works_left}
 use Rattle.mc_driver.proofs.JobLemmas.{AreScripts, HasWorkedAt, crawler_at, ends_at, ends_many, maintainer_at, script_at, worked_at, works_many}
 use Rattle.mc_driver.proofs.MadeLemmas.{by_working}
+
+-- nothing has no item
+nothing_split : {A : Type 0} (xs : List A) (x : A) (ys : List A) → [] ≡ xs ++ x ∷ ys → ⊥
+nothing_split [] x ys is = absurd (cc is)
+nothing_split (z ∷ zs) x ys is = absurd (cc is)
+
+-- where there is no work none was broken off
+none_broken : (outcome : Outcome) (limits : Limits) (notes : List Exchange → Type 0) (caller : ℕ) → KeepsUp outcome limits [] notes caller → outcome ≡ outcomes.Done
+none_broken outcomes.Done limits notes caller kept = refl
+none_broken outcomes.Memory limits notes caller off = absurd (nothing_split _ _ _ off.asked)
+none_broken outcomes.HistoryFull limits notes caller off = absurd (nothing_split _ _ _ off.asked)
+none_broken outcomes.Input limits notes caller none = absurd none
+none_broken outcomes.Output limits notes caller none = absurd none
 
 some_is : {A : Type 0} {a b : A} → Some a ≡ Some b → a ≡ b
 some_is e = cc
@@ -86,6 +101,12 @@ module _ {S K : Type 0} (coming : S → List ℕ) (reads : S → ℕ) (taken : K
         let k = upkeep_works (AreItsCalls config i (histories_left final)) i w.outcome keeper w.work' (left_at i below (Upkeep keeper) there) in
         subst (λ (o : Outcome). IsKeptUp keeper config moments i o (histories_left final)) (sym (get_or_from_slice_get ended i w.outcome outcome w.ended)) k.1
 
+    -- without moments it is done
+    kept_idle : (i : ℕ) (keeper : Keeper) (outcome : Outcome) → i < length scripts + 2 → slice_get (works_of scripts) i ≡ Some (Upkeep keeper) → moments ≡ [] → slice_index_or ended i outcome ≡ outcomes.Done
+    kept_idle i keeper outcome below there none =
+        none_broken (slice_index_or ended i outcome) (limits_of config) (AreItsCalls config i (histories_left final)) i
+        (subst (λ (ms : List ℕ). IsKeptUp keeper config ms i (slice_index_or ended i outcome) (histories_left final)) none (kept_left i keeper outcome below there))
+
     -- it stands where it stood
     upkeep_stays : (i : ℕ) (keeper : Keeper) → i < length scripts + 2 → slice_get (works_of scripts) i ≡ Some (Upkeep keeper) → slice_get after i ≡ Some (Upkeep keeper)
     upkeep_stays i keeper below there =
@@ -109,6 +130,10 @@ module _ {S K : Type 0} (coming : S → List ℕ) (reads : S → ℕ) (taken : K
               subst (λ (es : List (S × K)). IsScriptLeft coming reads taken writes config (histories_left final) i (slice_index_or scripts i d) (slice_index_or es i d) (slice_index_or ended i outcome)) (sym is) (script_left i d outcome below);
           maintained = λ outcome. kept_left (length scripts) Maintainer outcome (omega arith) (maintainer_at scripts);
           crawled = λ outcome. kept_left (length scripts + 1) Crawler outcome (omega arith) crawler;
+          idle = λ none. record {
+            maintainer = λ outcome. kept_idle (length scripts) Maintainer outcome (omega arith) (maintainer_at scripts) none;
+            crawler = λ outcome. kept_idle (length scripts + 1) Crawler outcome (omega arith) crawler none;
+          };
           full = λ i outcome below so.
               let w = worked i below in
               full_left coming reads taken writes config (limits_of config) moments final all all_classes i w.pass w.outcome w.work w.work' w.has (compared i w.pass w.passed)

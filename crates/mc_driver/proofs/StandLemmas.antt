@@ -1,41 +1,61 @@
--- Calls that stand in histories go on standing where these grow.
-use Rattle.std.proofs.Common.{◌<◌, ℕ, List, [], ◌∷◌, ◌++◌, sym, ap, ◌∙◌, append_assoc, subst, refl, inl, inr}
+-- Calls that stand in histories go on standing where these grow, and behind less that was seen.
+use Rattle.std.proofs.Common.{◌<◌, ◌≡◌, ℕ, List, [], ◌∷◌, ◌++◌, sym, ap, ◌∙◌, append-nil, append_assoc, subst, refl, inl, inr}
 use mathlib.Core.List.{IsPrefix}
 use Rattle.mc_item.specs.declared.class_event.ClassEvent.{ClassEvent}
 use Rattle.mc_item.specs.declared.command.Command.{Command}
 use Rattle.mc_item.specs.declared.config.Config.{Config}
+use Rattle.mc_item.specs.declared.counts.Histogram.{Histogram}
 use Rattle.mc_item.specs.declared.counts.Moves.{Moves}
 use Rattle.mc_item.specs.declared.item.ClassNo.{ClassNo}
 use Rattle.mc_item.specs.declared.item.Who.{Who}
 use Rattle.mc_item.specs.declared.reply.Reply.{Reply}
 use Rattle.mc_item.specs.declared.stripe_event.StripeEvent.{StripeEvent}
-use Rattle.mc_evidence.specs.Setting.{IsClass}
+use Rattle.mc_board.proofs.PrefixLemmas.{prefix_nil, prefix_self, prefix_trans}
 use Rattle.mc_proto.specs.Answers.{Answer, Moved, Replied, Counted}
 use Rattle.mc_script.specs.Exchanges.{Asks, Call, Exchange, Juggles, Crawls}
-use Rattle.mc_store.specs.Locked.{setting_of}
-use Rattle.mc_driver.specs.Caller.{ArePlaced, IsPlaced}
-use Rattle.mc_driver.specs.Noted.{NotesCommand, NotesJuggling, answered_event, NotesCrawling}
-use Rattle.mc_driver.specs.Stand.{Histories, Stand, StandsAs, stripe_number}
-use Rattle.mc_item.specs.declared.counts.Histogram.{Histogram}
 use Rattle.mc_store.specs.Crawls.{HasReclaims}
 use Rattle.mc_store.specs.Sides.{class_told}
+use Rattle.mc_driver.specs.Noted.{NotesCommand, NotesCrawling, NotesJuggling, answered_event}
+use Rattle.mc_driver.specs.Stand.{Grow, Histories, IsPlaced, Stand, StandsAs, StandsBetween, nothing_seen, stripe_number}
+
+-- ---- histories that grow
+
+-- histories are a beginning of themselves
+grow_self : (config : Config) (histories : Histories) → Grow config histories histories
+grow_self config histories = record { stripes = λ number below. prefix_self (histories.stripes number); classes = λ class is. prefix_self (histories.classes class) }
+
+-- a beginning of a beginning is one
+pub grow_trans : (config : Config) (a b c : Histories) → Grow config a b → Grow config b c → Grow config a c
+grow_trans config a b c first second = record {
+  stripes = λ number below. prefix_trans (a.stripes number) (b.stripes number) (c.stripes number) (first.stripes number below) (second.stripes number below);
+  classes = λ class is. prefix_trans (a.classes class) (b.classes class) (c.classes class) (first.classes class is) (second.classes class is);
+}
+
+-- who has seen nothing has seen a beginning of all
+pub grow_nothing : (config : Config) (histories : Histories) → Grow config nothing_seen histories
+grow_nothing config histories = record { stripes = λ number below. prefix_nil (histories.stripes number); classes = λ class is. prefix_nil (histories.classes class) }
+
+-- ---- longer histories
 
 -- a longer history notes the command that its beginning does
-NotesCommand-append : (history more : List StripeEvent) (who : Who) (command : Command) (moment : ℕ) (reply : Reply) → NotesCommand history who command moment reply → NotesCommand (history ++ more) who command moment reply
-NotesCommand-append history more who command moment reply noted = record {
+NotesCommand-append : (seen history more : List StripeEvent) (who : Who) (command : Command) (moment : ℕ) (reply : Reply) → NotesCommand seen history who command moment reply
+    → NotesCommand seen (history ++ more) who command moment reply
+NotesCommand-append seen history more who command moment reply noted = record {
   before = noted.before;
   room = noted.room;
   behind = noted.behind ++ more;
+  past = noted.past;
   split = ap (λ (h : List StripeEvent). h ++ more) noted.split ∙ append_assoc noted.before (answered_event who command moment reply noted.room ∷ noted.behind) more;
 }
 
 -- and the juggling
-NotesJuggling-append : (config : Config) (history more : List ClassEvent) (who : Who) (class : ClassNo) (moment : ℕ) (moves : Moves) → NotesJuggling config history who class moment moves
-    → NotesJuggling config (history ++ more) who class moment moves
-NotesJuggling-append config history more who class moment moves noted = record {
+NotesJuggling-append : (config : Config) (seen history more : List ClassEvent) (who : Who) (class : ClassNo) (moment : ℕ) (moves : Moves) → NotesJuggling config seen history who class moment moves
+    → NotesJuggling config seen (history ++ more) who class moment moves
+NotesJuggling-append config seen history more who class moment moves noted = record {
   before = noted.before;
   own = noted.own;
   behind = noted.behind ++ more;
+  past = noted.past;
   split = ap (λ (h : List ClassEvent). h ++ more) noted.split ∙ append_assoc (noted.before ++ noted.own) noted.behind more;
   answers = noted.answers;
   juggled = noted.juggled;
@@ -51,54 +71,123 @@ reclaims_more who moment many [] ys none = subst (λ (k : ℕ). HasReclaims who 
 reclaims_more who moment many (x ∷ xs) ys (inl some) = inl (reclaims_more who moment many xs ys some)
 reclaims_more who moment many (x ∷ xs) ys (inr t) = inr (t.0, (t.1.0, t.1.1, reclaims_more who moment t.1.0 xs ys t.1.2))
 
+-- nor has one with events before it
+reclaims_behind : (who : Who) (moment many : ℕ) (xs ys : List ClassEvent) → HasReclaims who moment many (class_told ys) → HasReclaims who moment many (class_told (xs ++ ys))
+reclaims_behind who moment many [] ys some = some
+reclaims_behind who moment many (x ∷ xs) ys some = inl (reclaims_behind who moment many xs ys some)
+
 -- and the crawl
-NotesCrawling-append : (history more : List ClassEvent) (who : Who) (moment : ℕ) (histogram : Histogram) → NotesCrawling history who moment histogram → NotesCrawling (history ++ more) who moment histogram
-NotesCrawling-append history more who moment histogram noted = record {
+NotesCrawling-append : (seen history more : List ClassEvent) (who : Who) (moment : ℕ) (histogram : Histogram) → NotesCrawling seen history who moment histogram
+    → NotesCrawling seen (history ++ more) who moment histogram
+NotesCrawling-append seen history more who moment histogram noted = record {
   at = noted.at;
   behind = noted.behind ++ more;
+  past = noted.past;
   split = ap (λ (h : List ClassEvent). h ++ more) noted.split ∙ append_assoc noted.at noted.behind more;
-  seen = noted.seen;
+  entries = noted.entries;
   balanced = noted.balanced;
-  reclaims = reclaims_more who moment histogram.reclaimed history more noted.reclaims;
+  since = noted.since ++ more;
+  since_is = ap (λ (h : List ClassEvent). h ++ more) noted.since_is ∙ append_assoc seen noted.since more;
+  reclaims = reclaims_more who moment histogram.reclaimed noted.since more noted.reclaims;
 }
 
--- no history of a stripe or a class of a configuration is another, but it may be longer
-pub record Grow (config : Config) (old new : Histories) : Type 0 where
-  pub stripes : (number : ℕ) → number < config.stripes → IsPrefix (old.stripes number) (new.stripes number)
-  pub classes : (number : ClassNo) → IsClass (setting_of config) number → IsPrefix (old.classes number) (new.classes number)
-
 -- a call that stands goes on standing where histories grow
-pub stands_as_later : (config : Config) (old new : Histories) (who : Who) (moment : ℕ) (call : Call) (answer : Answer) → Grow config old new → IsPlaced config call
-    → StandsAs config old who moment call answer → StandsAs config new who moment call answer
-stands_as_later config old new who moment (Asks command) (Replied reply) grow placed stands =
+pub stands_as_later : (config : Config) (seen old new : Histories) (who : Who) (moment : ℕ) (call : Call) (answer : Answer) → Grow config old new → IsPlaced config call
+    → StandsAs config seen old who moment call answer → StandsAs config seen new who moment call answer
+stands_as_later config seen old new who moment (Asks command) (Replied reply) grow placed stands =
     let number = stripe_number config.stripes command in
     let longer = grow.stripes number placed in
-    subst (λ (h : List StripeEvent). NotesCommand h who command moment reply) longer.1 (NotesCommand-append (old.stripes number) longer.0 who command moment reply stands)
-stands_as_later config old new who moment (Juggles class) (Moved moves) grow placed stands =
+    subst (λ (h : List StripeEvent). NotesCommand (seen.stripes number) h who command moment reply) longer.1 (NotesCommand-append (seen.stripes number) (old.stripes number) longer.0 who command moment reply stands)
+stands_as_later config seen old new who moment (Juggles class) (Moved moves) grow placed stands =
     let longer = grow.classes class placed in
-    subst (λ (h : List ClassEvent). NotesJuggling config h who class moment moves) longer.1 (NotesJuggling-append config (old.classes class) longer.0 who class moment moves stands)
-stands_as_later config old new who moment (Crawls class) (Counted histogram) grow placed stands =
+    subst (λ (h : List ClassEvent). NotesJuggling config (seen.classes class) h who class moment moves) longer.1 (NotesJuggling-append config (seen.classes class) (old.classes class) longer.0 who class moment moves stands)
+stands_as_later config seen old new who moment (Crawls class) (Counted histogram) grow placed stands =
     let longer = grow.classes class placed in
-    subst (λ (h : List ClassEvent). NotesCrawling h who moment histogram) longer.1 (NotesCrawling-append (old.classes class) longer.0 who moment histogram stands)
-stands_as_later config old new who moment (Asks command) (Moved moves) grow placed stands = absurd stands
-stands_as_later config old new who moment (Asks command) (Counted histogram) grow placed stands = absurd stands
-stands_as_later config old new who moment (Juggles class) (Counted histogram) grow placed stands = absurd stands
-stands_as_later config old new who moment (Crawls class) (Replied reply) grow placed stands = absurd stands
-stands_as_later config old new who moment (Crawls class) (Moved moves) grow placed stands = absurd stands
-stands_as_later config old new who moment (Juggles class) (Replied reply) grow placed stands = absurd stands
+    subst (λ (h : List ClassEvent). NotesCrawling (seen.classes class) h who moment histogram) longer.1 (NotesCrawling-append (seen.classes class) (old.classes class) longer.0 who moment histogram stands)
+stands_as_later config seen old new who moment (Asks command) (Moved moves) grow placed stands = absurd stands
+stands_as_later config seen old new who moment (Asks command) (Counted histogram) grow placed stands = absurd stands
+stands_as_later config seen old new who moment (Juggles class) (Counted histogram) grow placed stands = absurd stands
+stands_as_later config seen old new who moment (Crawls class) (Replied reply) grow placed stands = absurd stands
+stands_as_later config seen old new who moment (Crawls class) (Moved moves) grow placed stands = absurd stands
+stands_as_later config seen old new who moment (Juggles class) (Replied reply) grow placed stands = absurd stands
 
--- and so do several
-pub stand_later : (config : Config) (old new : Histories) (calls : List Exchange) → Grow config old new → ArePlaced config calls → Stand config old calls → Stand config new calls
-stand_later config old new [] grow placed stand = tt
-stand_later config old new (call ∷ calls) grow placed stand =
-    (stands_as_later config old new call.who call.moment call.call call.answer grow placed.0 stand.0, stand_later config old new calls grow placed.1 stand.1)
+-- ---- less that was seen
 
--- more calls that stand
-pub Stand-append : (config : Config) (histories : Histories) (xs ys : List Exchange) → Stand config histories xs → Stand config histories ys → Stand config histories (xs ++ ys)
-Stand-append config histories [] ys first second = second
-Stand-append config histories (x ∷ xs) ys first second = (first.0, Stand-append config histories xs ys first.1 second)
+-- what stands behind what was seen stands behind a beginning of it
+NotesCommand-less : (less seen history : List StripeEvent) (who : Who) (command : Command) (moment : ℕ) (reply : Reply) → IsPrefix less seen → NotesCommand seen history who command moment reply
+    → NotesCommand less history who command moment reply
+NotesCommand-less less seen history who command moment reply begins noted = record {
+  before = noted.before;
+  room = noted.room;
+  behind = noted.behind;
+  past = prefix_trans less seen noted.before begins noted.past;
+  split = noted.split;
+}
 
--- and whose stripes and classes are there
-pub ArePlaced-append : (config : Config) (xs ys : List Exchange) → ArePlaced config xs → ArePlaced config ys → ArePlaced config (xs ++ ys)
-ArePlaced-append config [] ys first second = second
-ArePlaced-append config (x ∷ xs) ys first second = (first.0, ArePlaced-append config xs ys first.1 second)
+NotesJuggling-less : (config : Config) (less seen history : List ClassEvent) (who : Who) (class : ClassNo) (moment : ℕ) (moves : Moves) → IsPrefix less seen → NotesJuggling config seen history who class moment moves
+    → NotesJuggling config less history who class moment moves
+NotesJuggling-less config less seen history who class moment moves begins noted = record {
+  before = noted.before;
+  own = noted.own;
+  behind = noted.behind;
+  past = prefix_trans less seen noted.before begins noted.past;
+  split = noted.split;
+  answers = noted.answers;
+  juggled = noted.juggled;
+}
+
+NotesCrawling-less : (less seen history : List ClassEvent) (who : Who) (moment : ℕ) (histogram : Histogram) → IsPrefix less seen → NotesCrawling seen history who moment histogram → NotesCrawling less history who moment histogram
+NotesCrawling-less less seen history who moment histogram begins noted = record {
+  at = noted.at;
+  behind = noted.behind;
+  past = prefix_trans less seen noted.at begins noted.past;
+  split = noted.split;
+  entries = noted.entries;
+  balanced = noted.balanced;
+  since = begins.0 ++ noted.since;
+  since_is = noted.since_is ∙ ap (λ (h : List ClassEvent). h ++ noted.since) (sym begins.1) ∙ append_assoc less begins.0 noted.since;
+  reclaims = reclaims_behind who moment histogram.reclaimed begins.0 noted.since noted.reclaims;
+}
+
+pub stands_as_less : (config : Config) (less seen histories : Histories) (who : Who) (moment : ℕ) (call : Call) (answer : Answer) → Grow config less seen → IsPlaced config call
+    → StandsAs config seen histories who moment call answer → StandsAs config less histories who moment call answer
+stands_as_less config less seen histories who moment (Asks command) (Replied reply) grow placed stands =
+    let number = stripe_number config.stripes command in
+    NotesCommand-less (less.stripes number) (seen.stripes number) (histories.stripes number) who command moment reply (grow.stripes number placed) stands
+stands_as_less config less seen histories who moment (Juggles class) (Moved moves) grow placed stands =
+    NotesJuggling-less config (less.classes class) (seen.classes class) (histories.classes class) who class moment moves (grow.classes class placed) stands
+stands_as_less config less seen histories who moment (Crawls class) (Counted histogram) grow placed stands =
+    NotesCrawling-less (less.classes class) (seen.classes class) (histories.classes class) who moment histogram (grow.classes class placed) stands
+stands_as_less config less seen histories who moment (Asks command) (Moved moves) grow placed stands = absurd stands
+stands_as_less config less seen histories who moment (Asks command) (Counted histogram) grow placed stands = absurd stands
+stands_as_less config less seen histories who moment (Juggles class) (Counted histogram) grow placed stands = absurd stands
+stands_as_less config less seen histories who moment (Crawls class) (Replied reply) grow placed stands = absurd stands
+stands_as_less config less seen histories who moment (Crawls class) (Moved moves) grow placed stands = absurd stands
+stands_as_less config less seen histories who moment (Juggles class) (Replied reply) grow placed stands = absurd stands
+
+-- ---- calls in turn
+
+-- a call that stands behind what was seen stands between a beginning of it and what was reached
+between_less : (config : Config) (less seen reached : Histories) (call : Exchange) → Grow config less seen → StandsBetween config seen reached call → StandsBetween config less reached call
+between_less config less seen reached call grow between = record {
+  grew = grow_trans config less seen reached grow between.grew;
+  placed = between.placed;
+  stands = stands_as_less config less seen reached call.who call.moment call.call call.answer grow between.placed between.stands;
+  evidence = between.evidence;
+}
+
+-- calls that stand in turn go on doing so where histories grow
+pub stand_later : (config : Config) (seen old new : Histories) (calls : List Exchange) → Grow config old new → Stand config seen old calls → Stand config seen new calls
+stand_later config seen old new [] grow stand = grow_trans config seen old new stand grow
+stand_later config seen old new (call ∷ calls) grow stand =
+    record { reached = stand.reached; between = stand.between; behind = stand_later config stand.reached old new calls grow stand.behind }
+
+-- one call more at the end, from the histories that the others stand in to those that it has reached
+pub stand_more : (config : Config) (seen old new : Histories) (calls : List Exchange) (call : Exchange) → Stand config seen old calls → StandsBetween config old new call → Stand config seen new (calls ++ call ∷ [])
+stand_more config seen old new [] call stand between = record { reached = new; between = between_less config seen old new call stand between; behind = grow_self config new }
+stand_more config seen old new (first ∷ calls) call stand between =
+    record { reached = stand.reached; between = stand.between; behind = stand_more config stand.reached old new calls call stand.behind between }
+
+-- no call more
+pub stand_same : (config : Config) (seen old new : Histories) (calls : List Exchange) → Grow config old new → Stand config seen old calls → Stand config seen new (calls ++ [])
+stand_same config seen old new calls grow stand = subst (Stand config seen new) (sym (append-nil calls)) (stand_later config seen old new calls grow stand)

@@ -9,12 +9,10 @@ use Rattle.mc_item.specs.declared.stripe_event.StripeEvent.TheVariants as events
 use Rattle.mc_board.specs.declared.rule.Sight.{Sight}
 use Rattle.mc_board.specs.Histories.{list_at}
 use Rattle.mc_evidence.specs.Seen.{classes_seen, stripes_seen}
-use Rattle.mc_evidence.specs.Setting.{IsClass}
-use Rattle.mc_script.specs.Exchanges.{Asks, Call, Exchange, Juggles, Crawls}
-use Rattle.mc_store.specs.Locked.{setting_of}
+use Rattle.mc_script.specs.Exchanges.{Exchange}
 use Rattle.mc_store.specs.Passes.{PassView}
 use Rattle.mc_driver.specs.Noted.{exchange_of}
-use Rattle.mc_driver.specs.Stand.{Histories, Stand, calls_at, stripe_number, Stands}
+use Rattle.mc_driver.specs.Stand.{Histories, IsPlaced, Stand, Stands, calls_at, nothing_seen}
 use Rattle.mc_item.specs.declared.item.Who.{Who}
 use Rattle.mc_store.specs.Callers.{moment_of, turns_of}
 
@@ -22,17 +20,6 @@ use Rattle.mc_store.specs.Callers.{moment_of, turns_of}
 abbrev pub histories_seen : Config → Sight → Histories
 histories_seen config sight =
     record { stripes = stripes_seen (list_at sight.seen); classes = classes_seen config.stripes (list_at sight.seen) }
-
--- a call's stripe or class is there
-abbrev pub IsPlaced : Config → Call → Type 0
-IsPlaced config (Asks command) = stripe_number config.stripes command < config.stripes
-IsPlaced config (Juggles class) = IsClass (setting_of config) class
-IsPlaced config (Crawls class) = IsClass (setting_of config) class
-
--- each of these calls' is
-abbrev pub ArePlaced : Config → List Exchange → Type 0
-ArePlaced config [] = Unit {0}
-ArePlaced config (call ∷ calls) = IsPlaced config call.call × ArePlaced config calls
 
 -- at this place of a stripe's history stands the answer to a call of this caller
 pub record IsAt (history : List StripeEvent) (caller place : ℕ) (call : Exchange) : Type 0 where
@@ -61,11 +48,10 @@ places_in number (calls.Juggled worked ∷ more) = places_in number more
 places_in number (calls.Crawled worked ∷ more) = places_in number more
 places_in number (calls.Answered answered ∷ more) = if nat_eq answered.stripe.0 number then answered.place ∷ places_in number more else places_in number more
 
--- these calls, with their answers, stand in what the caller's pass has seen, and of each stripe the caller's history has the
--- places of just those that are the stripe's commands
+-- these calls, with their answers, stand in turn in what the caller's pass has seen, and of each stripe the caller's history
+-- has the places of just those that are the stripe's commands
 pub record AreNoted (config : Config) (pass : PassView) (calls : List Exchange) : Type 0 where
-  pub placed : ArePlaced config calls
-  pub stand : Stand config (histories_seen config pass.sight) calls
+  pub stand : Stand config nothing_seen (histories_seen config pass.sight) calls
   pub at : (number : ℕ) → number < config.stripes → AreAt (stripes_seen (list_at pass.sight.seen) number) pass.caller (places_in number pass.calls) (calls_at config.stripes number calls)
   pub rising : (number : ℕ) → number < config.stripes → AreRising 0 (places_in number pass.calls)
 

@@ -4,7 +4,7 @@ use Rattle.mc_item.specs.declared.config.Config.{Config}
 use Rattle.mc_proto.specs.declared.request.Limits.{Limits}
 use Rattle.mc_script.specs.Exchanges.{Exchange}
 use Rattle.mc_script.specs.Run.{AreCounted, Leaves}
-use Rattle.mc_script.specs.Upkeep.{KeepsUp, work_of}
+use Rattle.mc_script.specs.Upkeep.{KeepsUp, many_calls, work_of}
 use Rattle.mc_script.specs.declared.outcome.Outcome.{Outcome}
 use Rattle.mc_script.specs.declared.outcome.Outcome.TheVariants as outcomes
 use Rattle.mc_script.specs.declared.upkeep.Keeper.TheVariants.{Maintainer, Crawler}
@@ -51,6 +51,11 @@ abbrev pub IsIdle : {S K : Type 0} → List ℕ → Work S K → PassView → Pa
 IsIdle moments (Script ends) pass pass' = Unit {0}
 IsIdle moments (Upkeep keeper) pass pass' = moments ≡ [] → pass' ≡ pass
 
+-- upkeep that was done has had a turn for each call of its work
+abbrev pub HasHadTurns : {S K : Type 0} → Limits → List ℕ → Outcome → Work S K → PassView → Type 0
+HasHadTurns limits moments outcome (Script ends) pass = Unit {0}
+HasHadTurns limits moments outcome (Upkeep keeper) pass = outcome ≡ outcomes.Done → pass.turn ≡ many_calls limits keeper moments
+
 module _ {S K : Type 0} (coming : S → List ℕ) (reads : S → ℕ) (taken : K → List ℕ) (writes : K → ℕ) where
   -- a caller has done its work: what is left of it, and what is known of the caller's pass before and behind it
   pub record HasWorked (config : Config) (limits : Limits) (moments : List ℕ) (pass pass' : PassView) (outcome : Outcome) (work work' : Work S K) : Type 0 where
@@ -58,4 +63,5 @@ module _ {S K : Type 0} (coming : S → List ℕ) (reads : S → ℕ) (taken : K
     pub caller : pass'.caller ≡ pass.caller
     pub full : outcome ≡ outcomes.HistoryFull → HasSeenShort config pass'.sight
     pub done : outcome ≡ outcomes.Done → MayCall config pass'
+    pub turns : HasHadTurns limits moments outcome work pass'
     pub idle : IsIdle moments work pass pass'

@@ -1,5 +1,5 @@
 -- What a run leaves, of each of its callers and of the store (own).
-use Rattle.std.specs.Prelude.{ℕ, ◌≡◌, ◌<◌, ◌+◌, List, length, slice_index_or}
+use Rattle.std.specs.Prelude.{ℕ, ◌≡◌, ◌<◌, ◌+◌, List, [], length, slice_index_or}
 use Rattle.mc_item.specs.declared.config.Config.{Config}
 use Rattle.mc_script.specs.Run.{AreCounted, Leaves}
 use Rattle.mc_script.specs.Upkeep.{KeepsUp, work_of}
@@ -12,9 +12,15 @@ use Rattle.mc_driver.specs.Called.{AreByCallers, AreWholeTurns}
 use Rattle.mc_driver.specs.Run.{HasFull, IsStore, callers_at_work, histories_left, limits_of}
 use Rattle.mc_driver.specs.Stand.{AreItsCalls, Histories}
 
--- what upkeep at these moments leaves, by how it ended: its calls stand in the histories, and are all that its caller made
+-- what upkeep at these moments leaves, by how it ended: its calls stand in the histories in turn, and on stripes its caller
+-- made no command
 abbrev pub IsKeptUp : Keeper → Config → List ℕ → ℕ → Outcome → Histories → Type 0
 IsKeptUp keeper config moments caller outcome histories = KeepsUp outcome (limits_of config) (work_of keeper moments) (AreItsCalls config caller histories) caller
+
+-- of this many scripts and of upkeep, the maintainer and the crawler are done
+pub record AreKeepersDone (scripts : ℕ) (ended : List Outcome) : Type 0 where
+  pub maintainer : (outcome : Outcome) → slice_index_or ended scripts outcome ≡ outcomes.Done
+  pub crawler : (outcome : Outcome) → slice_index_or ended (scripts + 1) outcome ≡ outcomes.Done
 
 module _ {S K : Type 0} (coming : S → List ℕ) (reads : S → ℕ) (taken : K → List ℕ) (writes : K → ℕ) where
   -- a script's source and sink as they were, as they are left, and how the script ended
@@ -28,6 +34,7 @@ module _ {S K : Type 0} (coming : S → List ℕ) (reads : S → ℕ) (taken : K
         → IsScriptLeft config (histories_left final) i (slice_index_or scripts i d) (slice_index_or ends i d) (slice_index_or ended i outcome)
     pub maintained : (outcome : Outcome) → IsKeptUp Maintainer config moments (length scripts) (slice_index_or ended (length scripts) outcome) (histories_left final)
     pub crawled : (outcome : Outcome) → IsKeptUp Crawler config moments (length scripts + 1) (slice_index_or ended (length scripts + 1) outcome) (histories_left final)
+    pub idle : moments ≡ [] → AreKeepersDone (length scripts) ended
     pub full : (i : ℕ) (outcome : Outcome) → i < length scripts + 2 → slice_index_or ended i outcome ≡ outcomes.HistoryFull → HasFull config (histories_left final)
     pub whole : (i : ℕ) (outcome : Outcome) → i < length scripts + 2 → slice_index_or ended i outcome ≡ outcomes.Done → AreWholeTurns config i (histories_left final)
     pub by : AreByCallers config.stripes (callers_at_work (length scripts) moments) (histories_left final)

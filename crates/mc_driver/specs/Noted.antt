@@ -1,6 +1,7 @@
--- What the histories of a store note: exchanges, each where it was answered (own).
+-- What the histories of a store note: exchanges, each where it was answered, behind what its caller had seen (own).
 use Rattle.std.specs.Prelude.{ℕ, ◌≡◌, List, [], ◌∷◌, ◌++◌}
 use Rattle.std.specs.List.{flat_map}
+use mathlib.Core.List.{IsPrefix}
 use Rattle.mc_item.specs.declared.class_event.ClassEvent.{ClassEvent}
 use Rattle.mc_item.specs.declared.command.Command.{Command}
 use Rattle.mc_item.specs.declared.config.Config.{Config}
@@ -42,28 +43,34 @@ exchanges_in history = flat_map exchanges_noted history
 abbrev pub answered_event : Who → Command → ℕ → Reply → Room → StripeEvent
 answered_event who command moment reply room = events.Did (record { who = who; command = command; moment = moment; reply = reply; room = room })
 
--- a stripe's history has this answered command
-pub record NotesCommand (history : List StripeEvent) (who : Who) (command : Command) (moment : ℕ) (reply : Reply) : Type 0 where
+-- a stripe's history has this answered command, behind what was seen of it
+pub record NotesCommand (seen history : List StripeEvent) (who : Who) (command : Command) (moment : ℕ) (reply : Reply) : Type 0 where
   pub before : List StripeEvent
   pub room : Room
   pub behind : List StripeEvent
+  pub past : IsPrefix seen before
   pub split : history ≡ before ++ answered_event who command moment reply room ∷ behind
 
--- a class's history has a call's crawl, with these counts: so many entries were there at one point, each counts as one kind,
--- and what was reclaimed stands there, by this call and of its moment
-pub record NotesCrawling (history : List ClassEvent) (who : Who) (moment : ℕ) (histogram : Histogram) : Type 0 where
-  pub at : List ClassEvent
-  pub behind : List ClassEvent
-  pub split : history ≡ at ++ behind
-  pub seen : histogram.seen ≡ count_of (lists_of at)
-  pub balanced : IsBalanced histogram
-  pub reclaims : HasReclaims who moment histogram.reclaimed (class_told history)
-
--- a class's history has a call's juggling, with these moves: its surveys and the events of its walks stand together
-pub record NotesJuggling (config : Config) (history : List ClassEvent) (who : Who) (class : ClassNo) (moment : ℕ) (moves : Moves) : Type 0 where
+-- a class's history has a call's juggling, with these moves, behind what was seen of it: its surveys and the events of its
+-- walks stand together
+pub record NotesJuggling (config : Config) (seen history : List ClassEvent) (who : Who) (class : ClassNo) (moment : ℕ) (moves : Moves) : Type 0 where
   pub before : List ClassEvent
   pub own : List ClassEvent
   pub behind : List ClassEvent
+  pub past : IsPrefix seen before
   pub split : history ≡ (before ++ own) ++ behind
   pub answers : List GateAnswer
   pub juggled : IsJuggle (rounds (opened config class) who moment config) before answers (before ++ own) moves
+
+-- a class's history has a call's crawl, with these counts: so many entries were there at one point, behind what was seen of
+-- it, each counts as one kind, and what was reclaimed stands behind what was seen, by this call and of its moment
+pub record NotesCrawling (seen history : List ClassEvent) (who : Who) (moment : ℕ) (histogram : Histogram) : Type 0 where
+  pub at : List ClassEvent
+  pub behind : List ClassEvent
+  pub past : IsPrefix seen at
+  pub split : history ≡ at ++ behind
+  pub entries : histogram.seen ≡ count_of (lists_of at)
+  pub balanced : IsBalanced histogram
+  pub since : List ClassEvent
+  pub since_is : history ≡ seen ++ since
+  pub reclaims : HasReclaims who moment histogram.reclaimed (class_told since)

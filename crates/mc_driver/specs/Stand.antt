@@ -1,6 +1,8 @@
--- A caller's calls in the histories of a store: each stands there, and they are all that it made (own).
+-- A caller's calls in the histories of a store: each stands there, behind all that its caller had seen in the calls before
+-- it, and its commands are all that it made on stripes (own).
 use Rattle.std.specs.Prelude.{ℕ, ◌≡◌, ◌<◌, Bool, false, List, [], ◌∷◌, nat_eq}
 use Rattle.std.specs.List.{filter}
+use mathlib.Core.List.{IsPrefix}
 use Rattle.mc_item.specs.Command.{key_of}
 use Rattle.mc_item.specs.Measure.{stripe_of}
 use Rattle.mc_item.specs.declared.class_event.ClassEvent.{ClassEvent}
@@ -9,8 +11,11 @@ use Rattle.mc_item.specs.declared.config.Config.{Config}
 use Rattle.mc_item.specs.declared.item.ClassNo.{ClassNo}
 use Rattle.mc_item.specs.declared.item.Who.{Who}
 use Rattle.mc_item.specs.declared.stripe_event.StripeEvent.{StripeEvent}
+use Rattle.mc_evidence.specs.Locks.{ClassKeeps, StripeKeeps}
+use Rattle.mc_evidence.specs.Setting.{IsClass}
 use Rattle.mc_proto.specs.Answers.{Answer, Moved, Replied, Counted}
 use Rattle.mc_script.specs.Exchanges.{Asks, Call, Exchange, Juggles, Crawls}
+use Rattle.mc_store.specs.Locked.{setting_of}
 use Rattle.mc_driver.specs.Noted.{NotesCommand, NotesJuggling, exchanges_in, NotesCrawling}
 
 -- the histories of a store: of its stripes, by their numbers from 0, and of its classes, by theirs from 1
@@ -18,31 +23,74 @@ pub record Histories : Type 0 where
   pub stripes : ℕ → List StripeEvent
   pub classes : ClassNo → List ClassEvent
 
+-- the histories as a caller has seen them that has made no call: all are empty
+abbrev pub nothing_seen : Histories
+nothing_seen = record { stripes = λ number. []; classes = λ class. [] }
+
+-- histories grow: of each stripe and each class of a configuration the first is a beginning of the second
+pub record Grow (config : Config) (old new : Histories) : Type 0 where
+  pub stripes : (number : ℕ) → number < config.stripes → IsPrefix (old.stripes number) (new.stripes number)
+  pub classes : (number : ClassNo) → IsClass (setting_of config) number → IsPrefix (old.classes number) (new.classes number)
+
 -- the number of a command's stripe, of so many: that of its key
 abbrev pub stripe_number : ℕ → Command → ℕ
 stripe_number stripes command = (stripe_of (key_of command) stripes).0
 
--- a call with its answer stands in the histories: a command in its stripe's, juggling and a crawl in their class's
-abbrev pub StandsAs : Config → Histories → Who → ℕ → Call → Answer → Type 0
-StandsAs config histories who moment (Asks command) (Replied reply) =
-    NotesCommand (histories.stripes (stripe_number config.stripes command)) who command moment reply
-StandsAs config histories who moment (Juggles class) (Moved moves) = NotesJuggling config (histories.classes class) who class moment moves
-StandsAs config histories who moment (Crawls class) (Counted histogram) = NotesCrawling (histories.classes class) who moment histogram
-StandsAs config histories who moment (Asks command) (Moved moves) = ⊥
-StandsAs config histories who moment (Asks command) (Counted histogram) = ⊥
-StandsAs config histories who moment (Juggles class) (Replied reply) = ⊥
-StandsAs config histories who moment (Juggles class) (Counted histogram) = ⊥
-StandsAs config histories who moment (Crawls class) (Replied reply) = ⊥
-StandsAs config histories who moment (Crawls class) (Moved moves) = ⊥
+-- a call's stripe or class is there
+abbrev pub IsPlaced : Config → Call → Type 0
+IsPlaced config (Asks command) = stripe_number config.stripes command < config.stripes
+IsPlaced config (Juggles class) = IsClass (setting_of config) class
+IsPlaced config (Crawls class) = IsClass (setting_of config) class
 
--- an exchange stands in the histories, with who made it, its call, its moment and its answer
+-- a call with its answer stands in the histories, behind what was seen of its own: a command in its stripe's, juggling and a
+-- crawl in their class's
+abbrev pub StandsAs : Config → Histories → Histories → Who → ℕ → Call → Answer → Type 0
+StandsAs config seen histories who moment (Asks command) (Replied reply) =
+    let number = stripe_number config.stripes command in
+    NotesCommand (seen.stripes number) (histories.stripes number) who command moment reply
+StandsAs config seen histories who moment (Juggles class) (Moved moves) = NotesJuggling config (seen.classes class) (histories.classes class) who class moment moves
+StandsAs config seen histories who moment (Crawls class) (Counted histogram) = NotesCrawling (seen.classes class) (histories.classes class) who moment histogram
+StandsAs config seen histories who moment (Asks command) (Moved moves) = ⊥
+StandsAs config seen histories who moment (Asks command) (Counted histogram) = ⊥
+StandsAs config seen histories who moment (Juggles class) (Replied reply) = ⊥
+StandsAs config seen histories who moment (Juggles class) (Counted histogram) = ⊥
+StandsAs config seen histories who moment (Crawls class) (Replied reply) = ⊥
+StandsAs config seen histories who moment (Crawls class) (Moved moves) = ⊥
+
+-- an exchange stands in the histories, behind what was seen, with who made it, its call, its moment and its answer
+abbrev pub StandsBehind : Config → Histories → Histories → Exchange → Type 0
+StandsBehind config seen histories call = StandsAs config seen histories call.who call.moment call.call call.answer
+
+-- it stands there at any place
 abbrev pub Stands : Config → Histories → Exchange → Type 0
-Stands config histories call = StandsAs config histories call.who call.moment call.call call.answer
+Stands config histories call = StandsBehind config nothing_seen histories call
 
--- each of these does
-abbrev pub Stand : Config → Histories → List Exchange → Type 0
-Stand config histories [] = Unit {0}
-Stand config histories (call ∷ calls) = Stands config histories call × Stand config histories calls
+-- the others of these histories are evidence of the one that a command or juggling stands in: the partner of each of its
+-- events stands there
+abbrev pub HasEvidence : Config → Histories → Call → Type 0
+HasEvidence config reached (Asks command) =
+    let number = stripe_number config.stripes command in
+    StripeKeeps (setting_of config) number (reached.stripes number) reached.classes
+HasEvidence config reached (Juggles class) = ClassKeeps (setting_of config) class (reached.classes class) reached.stripes
+HasEvidence config reached (Crawls class) = Unit {0}
+
+-- by this call its caller came from the histories that it had seen to those that it has reached: the call stands between
+pub record StandsBetween (config : Config) (seen reached : Histories) (call : Exchange) : Type 0 where
+  pub grew : Grow config seen reached
+  pub placed : IsPlaced config call.call
+  pub stands : StandsBehind config seen reached call
+  pub evidence : HasEvidence config reached call.call
+
+-- a call stands first behind what was seen, and the later ones stand behind what its caller has reached by it
+pub record StandsFirst (config : Config) (seen : Histories) (call : Exchange) (later : Histories → Type 0) : Type 0 where
+  pub reached : Histories
+  pub between : StandsBetween config seen reached call
+  pub behind : later reached
+
+-- behind what was seen, these calls stand in the histories in turn: each behind all that its caller had seen in those before
+abbrev pub Stand : Config → Histories → Histories → List Exchange → Type 0
+Stand config seen histories [] = Grow config seen histories
+Stand config seen histories (call ∷ calls) = StandsFirst config seen call (λ reached. Stand config reached histories calls)
 
 -- whether a call is a command of this stripe, of so many
 abbrev pub is_command_at : ℕ → ℕ → Call → Bool
@@ -62,7 +110,8 @@ calls_by caller history = filter (λ call. nat_eq call.who.caller caller) (excha
 pub record AreOnly (stripes caller : ℕ) (histories : Histories) (calls : List Exchange) : Type 0 where
   pub at : (number : ℕ) → number < stripes → calls_by caller (histories.stripes number) ≡ calls_at stripes number calls
 
--- what is known of a caller's calls, whoever else makes any: they stand, and of the caller there are only these
+-- what is known of a caller's calls, whoever else makes any: they stand in turn, and of the caller's name stripes have only
+-- those of them that are commands
 pub record AreItsCalls (config : Config) (caller : ℕ) (histories : Histories) (calls : List Exchange) : Type 0 where
-  pub stand : Stand config histories calls
+  pub stand : Stand config nothing_seen histories calls
   pub only : AreOnly config.stripes caller histories calls

@@ -51,8 +51,8 @@ fn run_job<'a, N: Named, S: Source, K: Sink>(
     };
 }
 
-/// Does the work of each caller, all at once: each on a thread of its own, where so many may be started, and else on the
-/// calling thread.
+/// Does the work of each caller, all at once: each on a thread of its own, where so many may be taken. Where a thread can't
+/// be had, the one that was to start it does its work.
 pub(crate) fn run_jobs<
     'a,
     N: Named + Send + Sync,

@@ -1,5 +1,5 @@
 //! Runs of scripts, and what they leave.
-ghost use Rattle.std.specs.Prelude.{◌≡◌, ◌≢◌, ◌+◌, ◌<◌, ◌≤◌, ◌^◌, ℕ, IfOk, IfErr, Some, None, length, slice_index_or, slice_get};
+ghost use Rattle.std.specs.Prelude.{◌≡◌, ◌≢◌, ◌+◌, ◌<◌, ◌≤◌, ◌^◌, ℕ, [], IfOk, IfErr, Some, None, length, slice_index_or, slice_get};
 ghost use Rattle.std.specs.List.{All};
 ghost use Rattle.mc_item.specs.Config.{fault_of, IsBounded, IsSound};
 ghost use Rattle.mc_board.specs.Histories.{blind};
@@ -12,7 +12,7 @@ ghost use Rattle.mc_store.specs.Finals.{AreStripes};
 ghost use Rattle.mc_store.specs.Locked.{histories_for};
 ghost use Rattle.mc_store.specs.Passes.{PassView};
 ghost use Rattle.mc_driver.specs.Called.{AreByCallers, AreWholeTurns, IsCompared};
-ghost use Rattle.mc_driver.specs.Left.{IsKeptUp, IsLeft};
+ghost use Rattle.mc_driver.specs.Left.{AreKeepersDone, IsKeptUp, IsLeft};
 ghost use Rattle.mc_driver.specs.Run.{HasFull, IsAccepted, IsRefused, IsStore, callers_at_work, histories_left, limits_of, with_callers};
 ghost use Rattle.mc_driver.specs.Stand.{AreItsCalls};
 ghost use Rattle.mc_driver.specs.declared.fault.RunFault.TheVariants as faults;
@@ -88,9 +88,13 @@ fn compare_all<N: Named>(ledger: &mut Final, passes: &mut Vec<Pass<N>>)
     }
 }
 
-// How many threads a run starts. One script without upkeep needs none beside the caller's own.
+// How many threads a run may take: one for each caller, the maintainer and the crawler too. One script without upkeep needs
+// none beside the calling one.
 fn threads_for(scripts: usize, moments: usize) -> usize
-    ensures { 0 < result }
+    requires { scripts ≤ 62 }
+    ensures some { 0 < result }
+    ensures one { scripts ≡ 1 → moments ≡ 0 → result ≡ 1 }
+    ensures each { (scripts ≡ 1 → moments ≡ 0 → ⊥) → scripts + 2 ≤ result }
 {
     if scripts == 1 && moments == 0 { 1 } else { 64 }
 }
@@ -139,10 +143,10 @@ fn run_named<N: Named + Send + Sync, S: Source + Send, K: Sink + Send, R: Thread
 }
 
 /// Runs scripts, from 1 to 62 of them, against a store of this configuration, whose number of callers is set here, all at
-/// once: each on a thread of its own, and where there are moments of upkeep, the maintainer and the crawler, too. What
-/// can't have a thread is done on the calling one. Script i is caller i; of n scripts the maintainer is caller n, the
-/// crawler caller n + 1. Each script's bytes come from its source, and its replies go to its sink. `seed` is that of the
-/// store's hash; no reply depends on it.
+/// once: each on a thread of its own, and where there are moments of upkeep, the maintainer and the crawler, too. Where a
+/// thread can't be had, the one that was to start it does its work. Script i is caller i; of n scripts the maintainer is
+/// caller n, the crawler caller n + 1. Each script's bytes come from its source, and its replies go to its sink. `seed` is
+/// that of the store's hash; no reply depends on it.
 pub fn run_scripts<S: Source + Send, K: Sink + Send, R: Threads + Wait + Sync>(
     rt: &R,
     alloc: Global,
@@ -158,7 +162,7 @@ pub fn run_scripts<S: Source + Send, K: Sink + Send, R: Threads + Wait + Sync>(
     ensures accepted { IfOk result (λ _. IsAccepted (length scripts.items) config) }
 
     // What each script leaves: which bytes are still to come, what its sink took, which of its calls stand in the
-    // histories, and which side failed.
+    // histories, each behind all that the script had seen in those before, and which side failed.
     ensures leaves { IfOk result (λ run. (i : ℕ) (ends : S × K) (outcome : Outcome) → i < length scripts.items
         → Leaves (slice_index_or run.outcomes.items i outcome) (limits_of config)
         (S.coming (slice_index_or scripts.items i ends).0) (S.coming (slice_index_or run.ends.items i ends).0)
@@ -169,17 +173,19 @@ pub fn run_scripts<S: Source + Send, K: Sink + Send, R: Threads + Wait + Sync>(
         (S.failures (slice_index_or scripts.items i ends).0) (S.failures (slice_index_or run.ends.items i ends).0)
         (K.failures (slice_index_or scripts.items i ends).1) (K.failures (slice_index_or run.ends.items i ends).1)) }
 
-    // What upkeep leaves: the calls of the maintainer's and of the crawler's work at the moments.
+    // What upkeep leaves: the calls of the maintainer's and of the crawler's work at the moments, in turn. Without moments
+    // both are done.
     ensures maintained { IfOk result (λ run. (outcome : Outcome)
         → IsKeptUp Maintainer (with_callers (length scripts.items) config) upkeep.now (length scripts.items)
         (slice_index_or run.outcomes.items (length scripts.items) outcome) (histories_left run.ledger)) }
     ensures crawled { IfOk result (λ run. (outcome : Outcome)
         → IsKeptUp Crawler (with_callers (length scripts.items) config) upkeep.now (length scripts.items + 1)
         (slice_index_or run.outcomes.items (length scripts.items + 1) outcome) (histories_left run.ledger)) }
+    ensures idle { IfOk result (λ run. upkeep.now ≡ [] → AreKeepersDone (length scripts.items) run.outcomes.items) }
 
     // What holds of every caller, the maintainer and the crawler too: where its history was full, one is; where it is done,
     // each event in its name, on whatever stripe, is of one of its calls, which stands in the histories, at the call's
-    // moment. And nobody else made an event.
+    // moment. And nobody else made an event on a stripe.
     ensures full { IfOk result (λ run. (i : ℕ) (outcome : Outcome) → i < length scripts.items + 2
         → slice_index_or run.outcomes.items i outcome ≡ outcomes.HistoryFull → HasFull (with_callers (length scripts.items) config) (histories_left run.ledger)) }
     ensures whole { IfOk result (λ run. (i : ℕ) (outcome : Outcome) → i < length scripts.items + 2

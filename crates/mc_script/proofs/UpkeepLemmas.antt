@@ -1,6 +1,7 @@
 -- Upkeep on its way, one moment further.
-use Rattle.std.proofs.Common.{◌≡◌, ◌+◌, ◌<◌, ℕ, suc, List, [], ◌∷◌, ◌++◌, refl, sym, ap, ◌∙◌, append_assoc, arith, subst, length, take, drop, false}
+use Rattle.std.proofs.Common.{◌≡◌, ◌+◌, ◌<◌, ℕ, suc, List, [], ◌∷◌, ◌++◌, refl, sym, ap, ◌∙◌, append_assoc, arith, subst, length, length-append, take, drop, false}
 use Rattle.std.specs.Prelude.{slice_index_or}
+use Rattle.std.specs.List.{flat_map}
 use Rattle.std.proofs.Math.Seq.{take-suc}
 use Rattle.std.proofs.lemmas.List.{take-append-drop}
 use Rattle.mc_item.specs.declared.fault.Fault.{Fault}
@@ -11,8 +12,8 @@ use Rattle.mc_script.specs.Calls.{Answers, Fails}
 use Rattle.mc_script.specs.Exchanges.{Exchange}
 use Rattle.mc_script.specs.Progress.{HasAnswered}
 use Rattle.mc_script.specs.Run.{first_moment}
-use Rattle.mc_script.specs.Script.{Answered, answered, ends, moment_after, requests_of}
-use Rattle.mc_script.specs.Upkeep.{HasBrokenOff, HasKeptUp, WorksAll, directive_of, work_of}
+use Rattle.mc_script.specs.Script.{Answered, answered, calls_of, ends, moment_after, requests_of, turn_behind}
+use Rattle.mc_script.specs.Upkeep.{HasBrokenOff, HasKeptUp, WorksAll, directive_of, many_calls, work_of}
 use Rattle.mc_script.specs.declared.upkeep.Keeper.{Keeper}
 use Rattle.mc_script.specs.declared.upkeep.Keeper.TheVariants.{Maintainer, Crawler}
 use Rattle.mc_script.proofs.CallLemmas.{makes_none}
@@ -107,6 +108,20 @@ kept_fails fault limits keeper moments later all notes notes' caller caller' tur
 -- all of it was done
 pub kept_all : (limits : Limits) (keeper : Keeper) (moments : List ℕ) (notes : List Exchange → Type 0) (caller turn : ℕ) → HasKept limits keeper moments notes caller turn → HasKeptUp limits (work_of keeper moments) notes caller
 kept_all limits keeper moments notes caller turn kept = record { answered = kept.answered; asked = kept.asked; whole = kept.state.whole; calls = kept.state.notes_all }
+
+-- the turn behind requests is that many calls further
+turn_many : (limits : Limits) (turn : ℕ) (all : List Answered) → turn_behind limits turn all ≡ turn + length (flat_map (calls_of limits) (requests_of all))
+turn_many limits turn [] = omega arith
+turn_many limits turn (a ∷ more) =
+    let rest = turn_many limits (turn + length (calls_of limits a.request)) more in
+    omega (arith, rest, length-append (calls_of limits a.request) (flat_map (calls_of limits) (requests_of more)))
+
+-- who did all of the work has had a turn for each of its calls
+pub kept_turns : (limits : Limits) (keeper : Keeper) (moments all : List ℕ) (notes : List Exchange → Type 0) (caller turn : ℕ) → HasKept limits keeper moments notes caller turn → moments ≡ all → turn ≡ many_calls limits keeper all
+kept_turns limits keeper moments all notes caller turn kept is =
+    let turns = turn_many limits 0 kept.answered in
+    let had : turn ≡ length (flat_map (calls_of limits) (requests_of kept.answered)) = omega (arith, kept.state.turn_is, turns) in
+    had ∙ ap (λ (rs : List Request). length (flat_map (calls_of limits) rs)) kept.asked ∙ ap (many_calls limits keeper) is
 
 -- one item more is taken
 pub taken_more : (xs : List ℕ) (n d : ℕ) → n < length xs → take n xs ++ slice_index_or xs n d ∷ [] ≡ take (n + 1) xs

@@ -1,5 +1,6 @@
 -- Upkeep: the work of the maintainer and of the crawler beside scripts, and what it leaves, by how it ended (own).
 use Rattle.std.specs.Prelude.{ℕ, ◌≡◌, List, [], ◌∷◌, ◌++◌, length}
+use Rattle.std.specs.List.{flat_map}
 use Rattle.mc_item.specs.declared.fault.Fault.{Fault}
 use Rattle.mc_item.specs.declared.fault.Fault.TheVariants as faults
 use Rattle.mc_proto.specs.Answers.{Answer}
@@ -25,6 +26,10 @@ directive_of Crawler = requests.Crawl All
 abbrev pub work_of : Keeper → List ℕ → List Request
 work_of keeper [] = []
 work_of keeper (moment ∷ moments) = requests.At moment ∷ directive_of keeper ∷ work_of keeper moments
+
+-- how many calls a keeper's work at these moments is
+abbrev pub many_calls : Limits → Keeper → List ℕ → ℕ
+many_calls limits keeper moments = length (flat_map (calls_of limits) (work_of keeper moments))
 
 -- a keeper's work at one moment was done: its calls were made
 pub record WorksAll (limits : Limits) (keeper : Keeper) (caller turn turn' moment : ℕ) (notes notes' : List Exchange → Type 0) : Type 0 where

@@ -1,4 +1,4 @@
-//! A script's run, from bytes to bytes, over whatever answers its calls.
+//! A script's run, from bytes to bytes, and upkeep beside scripts, over whatever answers their calls.
 #![tactic(auto)]
 
 mod answering;

@@ -4,7 +4,7 @@ ghost use Rattle.std.specs.List.{All};
 ghost use Rattle.mc_item.specs.declared.fault.Fault.TheVariants as faults;
 ghost use Rattle.mc_script.specs.Calls.{Fails};
 ghost use Rattle.mc_script.specs.Script.{AllThere};
-ghost use Rattle.mc_script.specs.Upkeep.{KeepsUp, WorksAll, directive_of, work_of};
+ghost use Rattle.mc_script.specs.Upkeep.{KeepsUp, WorksAll, directive_of, many_calls, work_of};
 ghost use Rattle.mc_script.specs.declared.outcome.Outcome.TheVariants as outcomes;
 
 use crate::calls::Calls;
@@ -74,6 +74,7 @@ pub fn run_upkeep<C: Calls>(
     ensures caller { C.caller calls.new ≡ C.caller calls.old }
     ensures full { result ≡ outcomes.HistoryFull → C.is_full calls.new }
     ensures done { result ≡ outcomes.Done → C.may_call calls.new }
+    ensures turns { result ≡ outcomes.Done → C.turn calls.new ≡ many_calls limits keeper moments.now }
     ensures idle { moments.now ≡ [] → calls.new ≡ calls.old }
 {
     for i in 0..moments.len() {

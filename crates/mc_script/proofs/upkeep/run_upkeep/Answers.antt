@@ -1,7 +1,7 @@
 use Rattle.std.proofs.Common.{◌∙◌, ap, arith, drop, length, refl, slice_index_or, subst, suc, take}
 use Rattle.std.proofs.lemmas.List.{take_all}
 use Rattle.mc_script.specs.Upkeep.{HasKeptUp, work_of}
-use Rattle.mc_script.proofs.UpkeepLemmas.{HasKept, cut_at, kept_all, kept_fails, kept_more, kept_none, taken_more}
+use Rattle.mc_script.proofs.UpkeepLemmas.{HasKept, cut_at, kept_all, kept_fails, kept_more, kept_none, kept_turns, taken_more}
 use Rattle.mc_script.proofs.upkeep.run_upkeep.Goals as goal
 
 pub loop-i-init : goal.loop-i-init
@@ -40,6 +40,10 @@ pub returns-clause-leaves : goal.returns-clause-leaves
 returns-clause-leaves g c =
     subst (λ ms. HasKeptUp c.args.limits (work_of c.args.keeper ms) (g.C.Calls.notes c.loop-i.calls) (g.C.Calls.caller c.args.calls.now)) (take_all c.loop-i.i c.args.moments.now c.loop-i-test.false)
     (kept_all c.args.limits c.args.keeper (take c.loop-i.i c.args.moments.now) (g.C.Calls.notes c.loop-i.calls) (g.C.Calls.caller c.args.calls.now) (g.C.Calls.turn c.loop-i.calls) c.loop-i.invariant.kept)
+
+pub returns-clause-turns : goal.returns-clause-turns
+returns-clause-turns g c = λ done.
+    kept_turns c.args.limits c.args.keeper (take c.loop-i.i c.args.moments.now) c.args.moments.now (g.C.Calls.notes c.loop-i.calls) (g.C.Calls.caller c.args.calls.now) (g.C.Calls.turn c.loop-i.calls) c.loop-i.invariant.kept (take_all c.loop-i.i c.args.moments.now c.loop-i-test.false)
 
 pub returns-clause-idle : goal.returns-clause-idle
 returns-clause-idle g c = λ none. c.loop-i.invariant.idle (omega (arith, ap length none, c.loop-i.auto.i-end))
