@@ -14,3 +14,6 @@ pub mod ReadingLemmas
 pub mod JobLemmas
 pub mod EndedLemmas
 pub mod RunLemmas
+pub mod InputLemmas
+pub mod PieceLemmas
+pub mod CutLemmas

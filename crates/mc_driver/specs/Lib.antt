@@ -7,3 +7,4 @@ pub mod Run
 pub mod Left
 pub mod Words
 pub mod Asked
+pub mod Input

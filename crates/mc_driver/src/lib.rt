@@ -2,12 +2,16 @@
 #![tactic(auto)]
 
 mod caller;
+mod cutting;
 mod fault;
 mod help;
+mod input;
 mod jobs;
 mod memory;
 mod plans;
+mod printing;
 mod program;
+mod reading;
 mod running;
 mod words;
 

@@ -1,17 +1,22 @@
 //! The program, over any reader and writers.
-ghost use Rattle.std.specs.Prelude.{◌≡◌, ◌≤◌, ◌^◌, length};
-ghost use Rattle.std.specs.List.{All};
+ghost use Rattle.std.specs.Prelude.{◌≡◌, ◌≤◌, ◌<◌, ◌^◌, []};
+ghost use Rattle.std.specs.List.{All, flat_map};
+ghost use Rattle.clap.specs.Words.{kind_of};
+ghost use Rattle.clap.specs.Walk.{texts};
+ghost use Rattle.clap.specs.declared.error.kind.ErrorKind.TheVariants.{OutOfMemory};
 ghost use Rattle.mc_item.specs.Config.{IsBounded};
+ghost use Rattle.mc_script.specs.declared.outcome.Outcome.TheVariants.{Done};
+ghost use Rattle.mc_driver.specs.Input.{HasServed, IsAnswered};
+ghost use Rattle.mc_driver.specs.Words.{refusals};
 
+use crate::cutting::{MOST_SCRIPTS, run_cut};
 use crate::fault::RunFault;
-use crate::memory::{Kept, Pieces};
 use crate::plans::Plan;
-use crate::running::{Run, limits_for, run_scripts};
+use crate::printing::print_scripts;
+use crate::reading::read_pieces;
 use crate::words::{WordsFault, read_words};
 use clap::Error;
 use clap::error::ErrorKind;
-use mc_item::NoMemory;
-use mc_proto::{Limits, lacks_directives, split_scripts};
 use mc_script::Outcome;
 use std::alloc::Global;
 use std::collections::VecDeque;
@@ -19,18 +24,9 @@ use std::hash::RandomState;
 use std::io::{self, Read, Write};
 use std::marker::Brand;
 use std::mem;
-use std::sync::ledger::{Blank, Book, Ledger, Share};
+use std::sync::ledger::{Blank, Ledger};
 use std::sync::{Mutex, Wait};
 use std::thread::Threads;
-
-// How many bytes are read at a time, so that the requests of so many alone are in memory at once.
-const PIECE: usize = 65536;
-
-// How many reads may be full before the input has to have ended; one more is a failed read.
-const MOST_READS: u64 = 1 << 32;
-
-// How many scripts may run at once.
-const MOST_SCRIPTS: usize = 62;
 
 const MEMORY: &[u8] = b"mcseg: out of memory\n";
 
@@ -61,12 +57,9 @@ fn print_all<W: Write>(writer: &mut W, text: &[u8]) -> io::Result<()> {
 }
 
 // What the reader of the command line says: help and version go to the output, refusals to the errors.
-fn say_words<W: Write, E: Write>(
-    alloc: Global,
-    error: &Error,
-    writer: &mut W,
-    errors: &mut E,
-) -> u8 {
+fn say_words<W: Write, E: Write>(alloc: Global, error: &Error, writer: &mut W, errors: &mut E) -> u8
+    ensures { kind_of error.now ≡ OutOfMemory → 0 < result }
+{
     if let ErrorKind::OutOfMemory = error.kind() {
         return say_line(errors, MEMORY, 1);
     }
@@ -83,7 +76,9 @@ fn say_words<W: Write, E: Write>(
 }
 
 // What is wrong with a configuration, by its number.
-fn say_configuration<E: Write>(alloc: Global, number: u8, errors: &mut E) -> u8 {
+fn say_configuration<E: Write>(alloc: Global, number: u8, errors: &mut E) -> u8
+    ensures { 0 < result }
+{
     match format!(in alloc; "mcseg: bad configuration {number}\n") {
         Ok(text) => say_line(errors, text.as_bytes(), 2),
         Err(_) => say_line(errors, MEMORY, 1),
@@ -91,7 +86,9 @@ fn say_configuration<E: Write>(alloc: Global, number: u8, errors: &mut E) -> u8 
 }
 
 // The status of a script that ended so, and its line on standard error. A sink in memory fails where memory does.
-fn say_outcome<E: Write>(outcome: Outcome, errors: &mut E) -> u8 {
+fn say_outcome<E: Write>(outcome: Outcome, errors: &mut E) -> u8
+    ensures { result ≡ 0 → outcome ≡ Done }
+{
     match outcome {
         Outcome::Done => 0,
         Outcome::Memory => say_line(errors, MEMORY, 1),
@@ -102,111 +99,30 @@ fn say_outcome<E: Write>(outcome: Outcome, errors: &mut E) -> u8 {
 }
 
 // The status of a run: what went wrong first decides, in the order of the scripts, then of the maintainer and the crawler.
-fn say_outcomes<E: Write>(outcomes: &[Outcome], errors: &mut E) -> u8 {
+fn say_outcomes<E: Write>(outcomes: &[Outcome], errors: &mut E) -> u8
+    ensures { result ≡ 0 → All (λ outcome. outcome ≡ Done) outcomes.now }
+{
     for outcome in outcomes {
-        if *outcome != Outcome::Done {
-            return say_outcome(*outcome, errors);
+        let status = say_outcome(*outcome, errors);
+        if status != 0 {
+            return status;
         }
     }
     0
 }
 
-// Reads to the end, in pieces. A piece that isn't full was cut by the end; a terminal that is asked again would go on.
-fn read_pieces<R: Read>(alloc: Global, reader: &mut R) -> io::Result<VecDeque<Vec<u8>>> {
-    let mut pieces = VecDeque::new(alloc);
-    for _ in 0..MOST_READS {
-        let mut piece = Vec::with_capacity(alloc, PIECE)?;
-        let came = reader.by_ref().take(PIECE as u64).read_to_end(&mut piece)?;
-        if came != 0 {
-            pieces.push_back(piece)?;
-        }
-        if came < PIECE {
-            return Ok(pieces);
-        }
-    }
-    Err(io::Error::from(io::ErrorKind::TimedOut))
-}
-
-// Whether no byte of an input is a `%`, as each directive has one.
-fn has_none(input: &VecDeque<Vec<u8>>) -> bool {
-    for piece in input.iter() {
-        if !lacks_directives(piece.as_slice()) {
-            return false;
-        }
-    }
-    true
-}
-
-// The bytes of an input in one piece.
-fn joined(alloc: Global, input: VecDeque<Vec<u8>>) -> Result<Vec<u8>, NoMemory> {
-    let mut bytes = Vec::new(alloc);
-    for piece in input {
-        bytes.extend_from_slice(piece.as_slice())?;
-    }
-    Ok(bytes)
-}
-
-// A source of these bytes, in pieces.
-fn source_of(alloc: Global, bytes: &[u8]) -> Result<Pieces, NoMemory> {
-    let mut pieces = VecDeque::new(alloc);
-    for piece in bytes.chunks(PIECE) {
-        pieces.push_back(Vec::from_slice(alloc, piece)?)?;
-    }
-    Ok(Pieces::new(pieces))
-}
-
-// The sources of an input's scripts. Without a directive there is one script, whose pieces are those that came.
-fn sources_of(
-    alloc: Global,
-    limits: Limits,
-    input: VecDeque<Vec<u8>>,
-) -> Result<Vec<Pieces>, NoMemory> {
-    let mut sources = Vec::new(alloc);
-    if has_none(&input) {
-        sources.push(Pieces::new(input))?;
-        return Ok(sources);
-    }
-    let bytes = joined(alloc, input)?;
-    for script in split_scripts(alloc, bytes.as_slice(), limits)? {
-        sources.push(source_of(alloc, script.as_slice())?)?;
-    }
-    Ok(sources)
-}
-
-// Scripts of these sources, each with a sink in memory, whose failures stand in one book.
-fn scripts_of<'a, R: Wait, L: Ledger>(
-    rt: &'a R,
-    alloc: Global,
-    sources: Vec<Pieces>,
-    book: &'a Mutex<Book<L>>,
-    share: Share<L>,
-) -> Result<Vec<(Pieces, Kept<'a, R, L>)>, NoMemory>
-    requires parts { length sources.items ≤ share.parts }
-    requires none { share.amount ≡ 0 }
+// Why an input wasn't run.
+fn say_fault<E: Write>(fault: RunFault, errors: &mut E) -> u8
+    ensures { 0 < result }
 {
-    let mut share = share;
-    let mut scripts = Vec::new(alloc);
-    for source in sources {
-        let part = share.split_off(1, 0);
-        scripts.push((source, Kept::new(rt, alloc, book, part)))?;
+    match fault {
+        RunFault::NoMemory => say_line(errors, MEMORY, 1),
+        RunFault::Configuration => say_line(errors, CONFIGURATION, 2),
+        RunFault::Scripts => say_line(errors, SCRIPTS, 2),
     }
-    Ok(scripts)
 }
 
-// Prints what the scripts of a run replied, script by script.
-fn print_run<R: Wait, L: Ledger, W: Write>(
-    writer: &mut W,
-    run: &Run<Pieces, Kept<'_, R, L>>,
-) -> io::Result<()> {
-    for end in run.ends.as_slice() {
-        for piece in end.1.pieces.as_slice() {
-            writer.write_all(piece.as_slice())?;
-        }
-    }
-    writer.flush()
-}
-
-// Runs the scripts that were read, and prints what they replied.
+// Runs the scripts of an input that was read, and prints what they replied.
 fn run_input<R: Threads + Wait + Sync, L: Ledger + Send + Sync, W: Write, E: Write>(
     rt: &R,
     alloc: Global,
@@ -222,40 +138,33 @@ fn run_input<R: Threads + Wait + Sync, L: Ledger + Send + Sync, W: Write, E: Wri
     requires some { 62 ≤ blank.parts }
     requires bounded { IsBounded plan.config }
     requires early { All (λ moment. moment ≤ 2 ^ 62) plan.upkeep }
+    ensures { result ≡ 0 → IsAnswered plan.config plan.upkeep (flat_map (λ v. v.items) input.items) (W.contents writer.old) (W.contents writer.new) }
 {
     let Plan { config, upkeep } = plan;
-    let Ok(sources) = sources_of(alloc, limits_for(&config), input) else {
-        return say_line(errors, MEMORY, 1);
-    };
-    if sources.len() > MOST_SCRIPTS {
-        return say_line(errors, SCRIPTS, 2);
-    }
     let (book, share) = blank.open::<L>();
     let book = Mutex::new(book);
-    let Ok(scripts) = scripts_of(rt, alloc, sources, &book, share) else {
-        return say_line(errors, MEMORY, 1);
+    let upkeep = upkeep.as_slice();
+    let run = match run_cut(rt, alloc, config, seed, input, upkeep, &book, share) {
+        Ok(run) => run,
+        Err(fault) => return say_fault(fault, errors),
     };
-    match run_scripts(rt, alloc, config, seed, scripts, upkeep.as_slice()) {
-        Err(RunFault::NoMemory) => say_line(errors, MEMORY, 1),
-        Err(RunFault::Configuration) => say_line(errors, CONFIGURATION, 2),
-        Err(RunFault::Scripts) => say_line(errors, SCRIPTS, 2),
-        Ok(run) => {
-            if print_run(writer, &run).is_err() {
-                return say_line(errors, OUTPUT, 3);
-            }
-            let status = say_outcomes(run.outcomes.as_slice(), errors);
-            // Freeing a history event by event is a tenth of the work: its memory goes with the process.
-            mem::forget(run);
-            status
-        }
-    }
+    let Ok(()) = print_scripts(writer, run.ends.as_slice()) else {
+        return say_line(errors, OUTPUT, 3);
+    };
+    let status = say_outcomes(run.outcomes.as_slice(), errors);
+    // Freeing a history event by event is a tenth of the work: its memory goes with the process.
+    mem::forget(run);
+    status
 }
 
 /// The whole program: reads the words and the input, runs the scripts of the input at once, with the upkeep that the
 /// words ask for, prints the scripts' replies in order, and answers the exit status: 0 where all went well, 1 for want of
 /// memory or a full history, 2 for words that are refused or too many scripts, 3 where reading or writing failed. Where
-/// several scripts went wrong the first of them decides, then the maintainer, then the crawler. The words begin with the program's name. `seed` is that of the store's
-/// hash; no reply depends on it. The memory of the store isn't freed: it goes with the process.
+/// several scripts went wrong the first of them decides, then the maintainer, then the crawler. The words begin with the
+/// program's name. `seed` is that of the store's hash; no reply depends on it. The memory of the store isn't freed: it
+/// goes with the process.
+///
+/// Where the words are taken and the status is 0, all that the reader had to give is answered, as the words ask.
 pub fn run_words<T: Threads + Wait + Sync, R: Read, W: Write, E: Write>(
     rt: &T,
     alloc: Global,
@@ -264,7 +173,10 @@ pub fn run_words<T: Threads + Wait + Sync, R: Read, W: Write, E: Write>(
     reader: &mut R,
     writer: &mut W,
     errors: &mut E,
-) -> u8 {
+) -> u8
+    ensures { result ≡ 0 → refusals (texts words.now) ≡ []
+        → HasServed (texts words.now) (R.remaining reader.old) (W.contents writer.old) (W.contents writer.new) }
+{
     let plan = match read_words(alloc, words) {
         Ok(plan) => plan,
         Err(WordsFault::Words(error)) => {

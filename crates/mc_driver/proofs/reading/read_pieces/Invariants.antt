@@ -1,0 +1,7 @@
+use Rattle.std.specs.List.{flat_map}
+use Rattle.std.specs.Io.KnownBytes.{Consumes}
+use Rattle.mc_driver.proofs.reading.read_pieces.Given as goal
+
+-- the pieces so far were the reader's
+abbrev pub invariant-loop : goal.invariant-loop
+invariant-loop g l = Consumes (g.R.Read.remaining l.fn.reader) (g.R.Read.remaining l.reader) (flat_map (λ v. v.items) l.pieces.items)

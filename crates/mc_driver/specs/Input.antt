@@ -1,0 +1,65 @@
+-- An input: the scripts that it is cut into, what a run of it leaves, and what the program does with it (own).
+use Rattle.std.specs.Prelude.{ℕ, ◌≡◌, ◌<◌, List, [], Option, IfSome, length, map}
+use Rattle.std.specs.List.{All, flat_map}
+use Rattle.std.specs.Io.KnownBytes.{Appends}
+use Rattle.clap.specs.Words.{Text}
+use Rattle.mc_item.specs.declared.config.Config.{Config}
+use Rattle.mc_proto.specs.Scripts as cut
+use Rattle.mc_script.specs.declared.outcome.Outcome.{Outcome}
+use Rattle.mc_script.specs.declared.outcome.Outcome.TheVariants.{Done}
+use Rattle.mc_store.specs.Finals.{FinalView}
+use Rattle.mc_driver.specs.Asked.{AreAsked, asked}
+use Rattle.mc_driver.specs.Left.{IsLeft}
+use Rattle.mc_driver.specs.Run.{IsAccepted, IsRunnable, limits_of, with_callers}
+use Rattle.mc_driver.specs.declared.fault.RunFault.{RunFault}
+use Rattle.mc_driver.specs.declared.fault.RunFault.TheVariants as refusals
+use Rattle.mc_driver.specs.declared.plans.Options.{Options}
+
+-- what a script has printed, in memory: its bytes, and how often there was no room for more
+pub record Printed : Type 0 where
+  pub bytes : List ℕ
+  pub misses : ℕ
+
+-- the bytes of a script that are to come, and what it has printed
+abbrev pub ToAndFrom : Type 0
+ToAndFrom = List ℕ × Printed
+
+-- scripts in memory are run, with upkeep at these moments: each from its bytes to what it prints, and all on one store
+abbrev pub AreRun : Config → List ℕ → List ToAndFrom → List ToAndFrom → List Outcome → FinalView → Type 0
+AreRun = IsLeft (λ bytes. bytes) (λ bytes. 0) (λ printed. printed.bytes) (λ printed. printed.misses)
+
+-- a run of an input, with upkeep at these moments: the scripts that it is cut into are run, each from its own bytes and with
+-- nothing printed, and what they print, one after the other, is this
+pub record IsRunOf (config : Config) (moments input printed : List ℕ) (ended : List Outcome) (final : FinalView) : Type 0 where
+  pub scripts : List ToAndFrom
+  pub accepted : IsAccepted (length scripts) config
+  pub are : cut.AreScripts (limits_of config) input (map (λ script. script.0) scripts)
+  pub fresh : All (λ script. script.1.bytes ≡ []) scripts
+  pub left : List ToAndFrom
+  pub run : AreRun (with_callers (length scripts) config) moments scripts left ended final
+  pub texts : printed ≡ flat_map (λ script. script.1.bytes) left
+
+-- why an input isn't run: it is cut into more than 62 scripts, or the configuration isn't sound for so many, or memory was wanting
+abbrev pub IsUnrun : RunFault → Config → List ℕ → Type 0
+IsUnrun refusals.Scripts config input = (scripts : List (List ℕ)) × cut.AreScripts (limits_of config) input scripts × (62 < length scripts)
+IsUnrun refusals.Configuration config input = (scripts : List (List ℕ)) × cut.AreScripts (limits_of config) input scripts × (IsRunnable (length scripts) config → ⊥)
+IsUnrun refusals.NoMemory config input = Unit {0}
+
+-- an input is answered: it is run, every caller is done, and what its scripts print stands behind what the writer held
+pub record IsAnswered (config : Config) (moments input : List ℕ) (held holds : Option (List ℕ)) : Type 0 where
+  pub printed : List ℕ
+  pub ended : List Outcome
+  pub final : FinalView
+  pub run : IsRunOf config moments input printed ended final
+  pub done : All (λ outcome. outcome ≡ Done) ended
+  pub written : Appends held holds printed
+
+-- the program does its work: what its words ask for is found, and all bytes that the reader has to give are answered so
+pub record HasServed (words : List Text) (coming held holds : Option (List ℕ)) : Type 0 where
+  pub sizes : Option (List ℕ)
+  pub moments : List ℕ
+  pub options : Options
+  pub are_asked : AreAsked words sizes moments options
+  pub input : List ℕ
+  pub whole : IfSome coming (λ bytes. input ≡ bytes)
+  pub answered : IsAnswered (asked sizes options) moments input held holds

@@ -1,0 +1,32 @@
+//! Prints what scripts replied.
+ghost use Rattle.std.specs.Prelude.{OnOk};
+ghost use Rattle.std.specs.List.{flat_map};
+ghost use Rattle.std.specs.Io.KnownBytes.{Appends};
+
+use crate::memory::{Kept, Pieces};
+use std::io::{self, Write};
+use std::sync::Wait;
+use std::sync::ledger::Ledger;
+
+// Writes pieces one after the other.
+fn print_pieces<W: Write>(writer: &mut W, pieces: &[Vec<u8>]) -> io::Result<()>
+    ensures { OnOk result (Appends (W.contents writer.old) (W.contents writer.new) (flat_map (λ v. v.items) pieces.now)) }
+{
+    for piece in pieces {
+        writer.write_all(piece.as_slice())?;
+    }
+    Ok(())
+}
+
+/// Prints what scripts replied, script by script, and hands on what the writer may hold back.
+pub(crate) fn print_scripts<R: Wait, L: Ledger, W: Write>(
+    writer: &mut W,
+    ends: &[(Pieces, Kept<'_, R, L>)],
+) -> io::Result<()>
+    ensures { OnOk result (Appends (W.contents writer.old) (W.contents writer.new) (flat_map (λ e. flat_map (λ v. v.items) e.1.pieces.items) ends.now)) }
+{
+    for end in ends {
+        print_pieces(writer, end.1.pieces.as_slice())?;
+    }
+    writer.flush()
+}
