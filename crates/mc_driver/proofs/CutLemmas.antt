@@ -13,7 +13,7 @@ use Rattle.mc_script.specs.declared.upkeep.Keeper.TheVariants.{Crawler, Maintain
 use Rattle.mc_store.specs.Finals.{FinalView}
 use Rattle.mc_driver.specs.Called.{AreByCallers, AreWholeTurns}
 use Rattle.mc_driver.specs.Input.{AreRun, IsRunOf, IsUnrun, Printed, ToAndFrom}
-use Rattle.mc_driver.specs.Left.{IsKeptUp, IsLeft, IsScriptLeft}
+use Rattle.mc_driver.specs.Left.{AreKeepersDone, IsKeptUp, IsLeft, IsScriptLeft}
 use Rattle.mc_driver.specs.Run.{HasFull, IsAccepted, IsRefused, IsRunnable, callers_at_work, histories_left, limits_of, with_callers}
 use Rattle.mc_driver.specs.declared.fault.RunFault.{RunFault}
 use Rattle.mc_driver.specs.declared.fault.RunFault.TheVariants as refusals
@@ -52,6 +52,7 @@ module _ {K : Type 0} (taken : K → List ℕ) (writes : K → ℕ) where
       each = script_shown;
       maintained = subst (λ n. (outcome : Outcome) → IsKeptUp Maintainer config moments n (slice_index_or ended n outcome) (histories_left final)) (sym many) left.maintained;
       crawled = subst (λ n. (outcome : Outcome) → IsKeptUp Crawler config moments (n + 1) (slice_index_or ended (n + 1) outcome) (histories_left final)) (sym many) left.crawled;
+      idle = subst (λ n. moments ≡ [] → AreKeepersDone n ended) (sym many) left.idle;
       full = subst (λ n. (i : ℕ) (outcome : Outcome) → i < n + 2 → slice_index_or ended i outcome ≡ outcomes.HistoryFull → HasFull config (histories_left final)) (sym many) left.full;
       whole = subst (λ n. (i : ℕ) (outcome : Outcome) → i < n + 2 → slice_index_or ended i outcome ≡ outcomes.Done → AreWholeTurns config i (histories_left final)) (sym many) left.whole;
       by = subst (λ n. AreByCallers config.stripes (callers_at_work n moments) (histories_left final)) (sym many) left.by;

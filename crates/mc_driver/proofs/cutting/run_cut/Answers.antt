@@ -17,6 +17,7 @@ returns-clause-ok g c =
       each = λ i d outcome below. record { leaves = run.leaves i d outcome below; counted = run.counted i d outcome below };
       maintained = run.maintained;
       crawled = run.crawled;
+      idle = run.idle;
       full = run.full;
       whole = run.whole;
       by = run.by;
