@@ -1,5 +1,5 @@
 -- A run of the scripts that an input is cut into is a run of the input.
-use Rattle.std.proofs.Common.{◌≡◌, ◌∙◌, ◌+◌, ◌<◌, ◌≤◌, ℕ, List, [], ◌∷◌, ap, arith, length, map, subst, subst₂, sym, refl}
+use Rattle.std.proofs.Common.{◌≡◌, ◌∙◌, ◌+◌, ◌<◌, ℕ, List, [], ◌∷◌, ap, arith, length, map, subst, subst₂, sym, refl}
 use Rattle.std.specs.Prelude.{slice_index_or}
 use Rattle.std.specs.List.{All, flat_map}
 use Rattle.std.proofs.lemmas.List.{get_or-map, length-map}
@@ -12,11 +12,9 @@ use Rattle.mc_script.specs.declared.outcome.Outcome.TheVariants as outcomes
 use Rattle.mc_script.specs.declared.upkeep.Keeper.TheVariants.{Crawler, Maintainer}
 use Rattle.mc_store.specs.Finals.{FinalView}
 use Rattle.mc_driver.specs.Called.{AreByCallers, AreWholeTurns}
-use Rattle.mc_driver.specs.Input.{AreRun, IsRunOf, IsUnrun, Printed, ToAndFrom}
+use Rattle.mc_driver.specs.Input.{AreRun, IsRunOf, Printed, ToAndFrom}
 use Rattle.mc_driver.specs.Left.{AreKeepersDone, IsKeptUp, IsLeft, IsScriptLeft}
-use Rattle.mc_driver.specs.Run.{HasFull, IsAccepted, IsRefused, IsRunnable, callers_at_work, histories_left, limits_of, with_callers}
-use Rattle.mc_driver.specs.declared.fault.RunFault.{RunFault}
-use Rattle.mc_driver.specs.declared.fault.RunFault.TheVariants as refusals
+use Rattle.mc_driver.specs.Run.{HasFull, IsAccepted, callers_at_work, histories_left, limits_of, with_callers}
 
 -- there is an item where there are some
 an_item : {X : Type 0} (xs : List X) (i : ℕ) → i < length xs → X
@@ -75,10 +73,3 @@ module _ {K : Type 0} (taken : K → List ℕ) (writes : K → ℕ) where
     run = subst (λ n. AreRun (with_callers n config) moments (map shown scripts) (map shown ends) ended final) (sym (length-map scripts shown)) (all_shown (with_callers (length scripts) config) moments scripts ends ended final left);
     texts = sym (flat_map-map (λ (s : ToAndFrom). s.1.bytes) shown ends);
   }
-
--- why no script of an input is run
-pub unrun : (fault : RunFault) (config : Config) (input : List ℕ) (sources : List (List ℕ)) (n : ℕ) → n ≡ length sources → cut.AreScripts (limits_of config) input sources → n ≤ 62 → IsRefused fault n config → IsUnrun fault config input
-unrun refusals.NoMemory config input sources n many are few refused = tt
-unrun refusals.Configuration config input sources n many are few refused = (sources, are, λ can. refused.1 (subst (λ k. IsRunnable k config) (sym many) can))
-unrun refusals.Scripts config input [] n many are few refused = absurd are
-unrun refusals.Scripts config input (s ∷ ss) n many are few refused = absurd (refused (omega (arith, many), few))

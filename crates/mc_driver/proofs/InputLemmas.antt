@@ -1,5 +1,5 @@
 -- The pieces of an input, and the scripts that it is cut into.
-use Rattle.std.proofs.Common.{◌≡◌, ◌∙◌, ◌<◌, ℕ, List, [], ◌∷◌, ◌++◌, ap, append_assoc, arith, sym, subst, length, length-append, map}
+use Rattle.std.proofs.Common.{◌≡◌, ◌∙◌, ℕ, List, [], ◌∷◌, ◌++◌, ap, append_assoc, sym, subst, map}
 use Rattle.std.proofs.lemmas.List.{map-append}
 use Rattle.std.specs.List.{flat_map}
 use Rattle.mc_proto.specs.Lines.{Lacks}
@@ -24,10 +24,6 @@ lacks_rest f b x all rest split l = lacks_behind b (f x) (flat_map f rest) (subs
 -- one item, pushed to none
 pub only_one : {X : Type 0} (none one : List X) (x y : X) → none ≡ [] → one ≡ none ++ x ∷ [] → x ≡ y → one ≡ y ∷ []
 only_one none one x y empty is same = is ∙ ap (λ xs. xs ++ x ∷ []) empty ∙ ap (λ z. z ∷ []) same
-
--- the items so far are fewer than all
-pub fewer : {X : Type 0} (all yielded rest : List X) (x : X) → all ≡ yielded ++ x ∷ rest → length yielded < length all
-fewer all yielded rest x is = omega (arith, ap length is, length-append yielded (x ∷ rest))
 
 -- what is shown of the items so far, and those that are left, are all, and so they are with one item more
 pub front_more : {X Y : Type 0} (f : Y → X) (old new : List Y) (y : Y) (all rest left : List X) → new ≡ old ++ y ∷ [] → rest ≡ f y ∷ left → map f old ++ rest ≡ all → map f new ++ left ≡ all
