@@ -10,6 +10,7 @@ use crate::naming::NamesEvent;
 use crate::rule::Place;
 use crate::seen::Seen;
 use crate::steps::{Adds, Compares, Hears, Tells};
+use mc_history::History;
 use mc_item::Logged;
 use std::marker::{Brand, Model};
 
@@ -83,14 +84,17 @@ impl Owner {
 
     /// Adds each event of the list, in order, that stands behind those that the history has: the history, which is a
     /// beginning of the list, then is the list. It has at most 2^32 events. It takes no memory and waits for nobody.
-    pub fn catch_up<E: Logged>(&mut self, board: &Board, events: &[E])
+    pub fn catch_up<E: Logged + Drop>(&mut self, board: &Board, events: &History<E>)
         requires board { self.old.board ≡ board.now.table }
-        requires behind { IsPrefix self.old.history (map E.entry events.now) }
-        requires room { length events.now ≤ 2 ^ 32 }
-        ensures history { self.new ≡ record self.old { history = map E.entry events.now } }
+        requires behind { IsPrefix self.old.history (map E.entry events.now.items) }
+        requires room { length events.now.items ≤ 2 ^ 32 }
+        ensures history { self.new ≡ record self.old { history = map E.entry events.now.items } }
     {
         for place in self.len()..events.len() {
-            self.append(board, &events[place]);
+            let Some(event) = events.get(place) else {
+                unreachable!();
+            };
+            self.append(board, event);
         }
     }
 

@@ -2,6 +2,7 @@
 //! row of calls.
 mod class_lists;
 mod growing_histories;
+mod histories_in_pieces;
 mod room_made;
 mod walks;
 

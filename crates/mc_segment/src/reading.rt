@@ -9,6 +9,7 @@ ghost use Rattle.mc_item.specs.declared.lists.Seg.{Seg};
 ghost use Rattle.mc_rule.specs.Lawful.{is_named, IsIn, IsListed, IsLawfulHistoryByLists};
 
 use crate::state::ClassState;
+use mc_history::History;
 use mc_item::{ClassEvent, ClassNo, Entry, Key, NoMemory, Passed, Seg};
 
 impl ClassState {
@@ -20,10 +21,10 @@ impl ClassState {
     }
 
     /// All that happened, oldest first.
-    pub fn history(&self) -> &[ClassEvent]
-        ensures { result.now ≡ self.now.history }
+    pub fn history(&self) -> &History<ClassEvent>
+        ensures { result.now.items ≡ self.now.history }
     {
-        self.history.as_slice()
+        &self.history
     }
 
     /// The number of the next new entry: entries are numbered from 0, and no number is used again.

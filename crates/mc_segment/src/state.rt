@@ -4,6 +4,7 @@ ghost use Rattle.mc_item.specs.Config.{IsSound};
 ghost use Rattle.mc_segment.specs.ClassState.{opened, with_room, HasPlaces, MayRefuse};
 
 use crate::arena::Arena;
+use mc_history::History;
 use mc_item::{ClassEvent, ClassNo, Config, Fault, KeyBuffer, NoMemory};
 use std::alloc::Global;
 use std::marker::Model;
@@ -22,20 +23,20 @@ pub struct ClassState {
     pub(crate) hot_factor: u64,
     pub(crate) warm_factor: u64,
     pub(crate) lists: Arena,
-    pub(crate) history: Vec<ClassEvent>,
+    pub(crate) history: History<ClassEvent>,
     pub(crate) spares: Vec<KeyBuffer>,
     pub(crate) alloc: Global,
 }
 
 impl Model for ClassState {
-    ghost use Rattle.std.specs.Prelude.{◌-◌, min, vec_len, vec_capacity};
+    ghost use Rattle.std.specs.Prelude.{min, vec_len};
     ghost use Rattle.mc_segment.specs.ClassState.{ClassView, class_view, rule_with, IsReplay};
 
     ghost Value = { ClassView };
 
     ghost view = { λ s. class_view s.number s.chunks s.max_events
         (rule_with s.temp s.temp_ttl s.hot_percent s.warm_percent s.hot_factor s.warm_factor) s.history.items
-        (min s.lists.room (min (vec_capacity s.history - vec_len s.history) (vec_len s.spares))) };
+        (min s.lists.room (min s.history.room (vec_len s.spares))) };
 
     ghost invariant = { λ s. IsReplay s.lists s.chunks s.max_events
         (rule_with s.temp s.temp_ttl s.hot_percent s.warm_percent s.hot_factor s.warm_factor) s.history.items };
@@ -71,7 +72,7 @@ impl ClassState {
             hot_factor: config.hot_factor,
             warm_factor: config.warm_factor,
             lists: Arena::new(alloc),
-            history: Vec::new(alloc),
+            history: History::new(alloc),
             spares: Vec::new(alloc),
             alloc,
         }

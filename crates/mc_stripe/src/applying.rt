@@ -1,5 +1,5 @@
 //! Commands on a stripe.
-ghost use Rattle.std.specs.Prelude.{◌≡◌, ◌≤◌, ◌<◌, ◌+◌, ◌^◌, ℕ, Option, None, false, IfOk, IfErr, OnOk, OnErr, Some, if◌then◌else◌, ◌⊎◌, IsErrOf, ◌↔◌, ◌++◌, ◌∷◌, [], length, vec_len, vec_capacity};
+ghost use Rattle.std.specs.Prelude.{◌≡◌, ◌≤◌, ◌<◌, ◌+◌, ◌^◌, ℕ, Option, None, false, IfOk, IfErr, OnOk, OnErr, Some, if◌then◌else◌, ◌⊎◌, IsErrOf, ◌↔◌, ◌++◌, ◌∷◌, [], length};
 ghost use Rattle.mc_item.specs.Answer.{row_of};
 ghost use Rattle.mc_item.specs.Cache.{answer_of};
 ghost use Rattle.mc_item.specs.Command.{key_of};
@@ -17,6 +17,7 @@ ghost use Rattle.mc_stripe.specs.StripeCalls.{KeepsSite, Gains, Notes};
 use crate::alone::answer_alone;
 use crate::answering::answer_item;
 use crate::state::{StripeState, is_full};
+use mc_history::History;
 use mc_item::{Command, Did, Fault, Need, Reply, Room, StripeEvent, Verb, Who};
 
 // Whether a command's need depends on the item under its key.
@@ -42,17 +43,16 @@ fn asks_for_item(command: &Command) -> bool
 // A command that was answered is one event more, at the end. There is room for it.
 #[inline(always)]
 fn push_answer(
-    history: &mut Vec<StripeEvent>,
+    history: &mut History<StripeEvent>,
     who: Who,
     command: Command,
     moment: u64,
     reply: Reply,
     room: Room,
 )
-    requires { vec_len history.old < vec_capacity history.old }
+    requires { 0 < history.old.room }
     ensures items { history.new.items ≡ history.old.items ++ events.Did (record { who = who; command = command; moment = moment; reply = reply; room = room }) ∷ [] }
-    ensures len { vec_len history.new ≡ vec_len history.old + 1 }
-    ensures capacity { vec_capacity history.new ≡ vec_capacity history.old }
+    ensures room { history.old.room ≡ history.new.room + 1 }
 {
     history.push_reserved(StripeEvent::Did(Did {
         who,
@@ -121,7 +121,7 @@ impl StripeState {
         ensures site { KeepsSite self.old self.new }
         ensures room { self.old.room ≤ self.new.room + 1 }
     {
-        if is_full(self.history.as_slice(), self.limit) {
+        if is_full(&self.history, self.limit) {
             return Err(Fault::HistoryFull);
         }
         self.items.reserve(1)?;
@@ -174,7 +174,7 @@ impl StripeState {
         ensures site { KeepsSite self.old self.new }
         ensures room { self.old.room ≤ self.new.room + 1 }
     {
-        if is_full(self.history.as_slice(), self.limit) {
+        if is_full(&self.history, self.limit) {
             return Err(Fault::HistoryFull);
         }
         self.history.reserve(1)?;

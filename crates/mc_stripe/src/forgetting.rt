@@ -37,7 +37,7 @@ impl StripeState {
         ensures site { KeepsSite self.old self.new }
         ensures room { self.old.room ≤ self.new.room + 1 }
     {
-        if is_full(self.history.as_slice(), self.limit) {
+        if is_full(&self.history, self.limit) {
             return Err(Fault::HistoryFull);
         }
         self.history.reserve(1)?;
@@ -91,7 +91,7 @@ impl StripeState {
         ensures site { KeepsSite self.old self.new }
         ensures room { self.old.room ≤ self.new.room + 1 }
     {
-        if is_full(self.history.as_slice(), self.limit) {
+        if is_full(&self.history, self.limit) {
             return Err(Fault::HistoryFull);
         }
         self.history.reserve(1)?;

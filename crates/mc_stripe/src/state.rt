@@ -9,6 +9,7 @@ ghost use Rattle.mc_item.specs.declared.fault.Fault.TheVariants as faults;
 ghost use Rattle.mc_stripe.specs.StripeState.{HasBounds, cache_now, reply_noted};
 ghost use Rattle.mc_stripe.specs.StripeCalls.{KeepsSite};
 
+use mc_history::History;
 use mc_item::{
     ClassSizes, Config, Fault, Item, Key, Reply, Site, StripeEvent, StripeNo, stripe_of,
 };
@@ -27,26 +28,26 @@ pub struct StripeState {
     pub(crate) limit: u64,
     pub(crate) versions: u64,
     pub(crate) items: HashMap<Key, Item, RandomState>,
-    pub(crate) history: Vec<StripeEvent>,
+    pub(crate) history: History<StripeEvent>,
 }
 
 impl Model for StripeState {
-    ghost use Rattle.std.specs.Prelude.{◌-◌, min, nat_eq, vec_len, vec_capacity};
+    ghost use Rattle.std.specs.Prelude.{min, nat_eq};
     ghost use Rattle.std.specs.Cmp.Lexicographic.{pointwise};
     ghost use Rattle.std.specs.HashMap.{get, spare};
     ghost use Rattle.mc_stripe.specs.StripeState.{Stripe, stripe, IsKept};
 
     ghost Value = { Stripe };
 
-    ghost view = { λ s. stripe s.site s.limit s.history.items (min (spare s.items) (vec_capacity s.history - vec_len s.history)) };
+    ghost view = { λ s. stripe s.site s.limit s.history.items (min (spare s.items) s.history.room) };
 
     ghost invariant = { λ s. IsKept s.site s.limit s.history.items s.versions (get (pointwise nat_eq) s.items) };
 }
 
 // Whether a history of this limit has no place left.
 #[inline(always)]
-pub(crate) fn is_full(history: &[StripeEvent], limit: u64) -> bool
-    ensures { MatchBool result (limit ≤ length history.now) (length history.now < limit) }
+pub(crate) fn is_full(history: &History<StripeEvent>, limit: u64) -> bool
+    ensures { MatchBool result (limit ≤ length history.now.items) (length history.now.items < limit) }
 {
     history.len() as u64 >= limit
 }
@@ -71,7 +72,7 @@ impl StripeState {
             limit: config.max_events,
             versions: 0,
             items: HashMap::with_hasher(alloc, seed),
-            history: Vec::new(alloc),
+            history: History::new(alloc),
         }
     }
 
@@ -97,13 +98,13 @@ impl StripeState {
     }
 
     /// All that happened, oldest first.
-    pub fn history(&self) -> &[StripeEvent]
-        ensures value { result.now ≡ self.now.history }
+    pub fn history(&self) -> &History<StripeEvent>
+        ensures value { result.now.items ≡ self.now.history }
         ensures legal { IsLegal self.now.site self.now.history }
         ensures within { length self.now.history ≤ self.now.limit }
         ensures bounds { HasBounds self.now.site self.now.limit }
     {
-        self.history.as_slice()
+        &self.history
     }
 
     /// The reply that the event at a place of the history notes, where it is there and a command's.

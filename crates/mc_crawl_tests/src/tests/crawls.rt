@@ -4,9 +4,15 @@ use super::lending::{
     World, ask, asserts_counts, asserts_minutes, crawl, key, opened, store, unlink, usual,
 };
 use mc_crawl::snapshot;
+use mc_history::History;
 use mc_item::{Cause, ClassEvent, Command, StripeEvent};
 use std::process::Abort;
 use std::test::Fail;
+
+// The last event of a history.
+fn last_in<E: Drop>(history: &History<E>) -> Option<&E> {
+    history.get(history.len().checked_sub(1)?)
+}
 
 // Asserts that the last events are the reclaiming of this number and the loss of the key of this letter, dead at a
 // moment, where the stripe had so many events before.
@@ -18,14 +24,14 @@ fn asserts_reclaimed<R: Abort>(
     moment: u64,
     at: u64,
 ) {
-    match world.class.history().last() {
+    match last_in(world.class.history()) {
         Some(ClassEvent::Reclaimed(e)) => {
             assert_eq!(rt; e.who, WHO);
             assert_eq!(rt; (e.number, e.moment, e.at), (number, moment, at));
         }
         _ => assert!(rt; false, "no entry was reclaimed"),
     }
-    match world.stripe.history().last() {
+    match last_in(world.stripe.history()) {
         Some(StripeEvent::Lost(e)) => {
             assert_eq!(rt; e.who, WHO);
             assert_eq!(rt; e.key.bytes(), [letter].as_slice());

@@ -8,6 +8,7 @@ ghost use Rattle.mc_crawl_tests.specs.Lending.{IsLending};
 
 use super::WHO;
 use mc_crawl::{Histogram, crawl_lone, kinds_add_up};
+use mc_history::History;
 use mc_item::{
     ClassNo, Command, Config, Key, Link, Moves, Need, Numbers, Room, StripeEvent, StripeNo, Value,
     Verb,
@@ -85,18 +86,23 @@ fn gives(event: &StripeEvent, link: Link) -> bool
 }
 
 // Whether no event gives the link.
-fn is_unnamed(events: &[StripeEvent], link: Link) -> bool
-    ensures { result ≡ true → IsUnnamed link events.now }
+fn is_unnamed(events: &History<StripeEvent>, link: Link) -> bool
+    ensures { result ≡ true → IsUnnamed link events.now.items }
 {
-    match events {
-        [] => true,
-        [first, ..] => !gives(first, link) && is_unnamed(&events[1..], link),
+    for place in 0..events.len() {
+        let Some(event) = events.get(place) else {
+            return false;
+        };
+        if gives(event, link) {
+            return false;
+        }
     }
+    true
 }
 
 // The room for a need: where a chunk is needed, the link of this number.
-fn room_for(need: Need, events: &[StripeEvent], number: u64) -> Option<Room>
-    ensures { IfSome result (λ room. Fits need room events.now) }
+fn room_for(need: Need, events: &History<StripeEvent>, number: u64) -> Option<Room>
+    ensures { IfSome result (λ room. Fits need room events.now.items) }
 {
     match need {
         Need::Fresh(class) => {

@@ -4,6 +4,7 @@ ghost use Rattle.mc_board.specs.Views.{locks_of};
 
 use super::WHO;
 use mc_board::{Board, Owner, Seen};
+use mc_history::History;
 use mc_item::{ClassEvent, Cooled, Key, Logged, StripeEvent, Unlinked};
 use std::alloc::Global;
 use std::process::Abort;
@@ -97,10 +98,10 @@ fn three_appended_events_are_counted(rt: HostRuntime) -> Result<(), Fail> {
 }
 
 // Lets an owner without events catch up with a list, and once more.
-fn catch_up_twice<E: Logged>(board: &Board, owner: &mut Owner, events: &[E])
+fn catch_up_twice<E: Logged + Drop>(board: &Board, owner: &mut Owner, events: &History<E>)
     requires board { owner.old.board ≡ board.now.table }
     requires empty { owner.old.history ≡ [] }
-    requires few { length events.now ≤ 2 ^ 32 }
+    requires few { length events.now.items ≤ 2 ^ 32 }
     ensures { (owner.new.board ≡ owner.old.board) × (owner.new.lock ≡ owner.old.lock) }
 {
     owner.catch_up(board, events);
@@ -118,10 +119,13 @@ fn an_owner_catches_up_with_a_list(rt: HostRuntime) -> Result<(), Fail> {
         who: WHO,
         number: 2,
     });
-    let events = vec![in rt.alloc(); first, second]?;
+    let mut events = History::new(rt.alloc());
+    events.reserve(2)?;
+    events.push_reserved(first);
+    events.push_reserved(second);
     let (board, mut owners, mut token) = Board::open(rt.alloc(), 3)?;
     assert_eq!(rt; owners.len(), 3);
-    catch_up_twice(&board, &mut owners[2], events.as_slice());
+    catch_up_twice(&board, &mut owners[2], &events);
     asserts_counts(&rt, &board, &mut token, [0, 0, 2]);
     Ok(())
 }

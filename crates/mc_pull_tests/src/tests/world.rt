@@ -6,6 +6,7 @@ ghost use Rattle.mc_stripe.specs.StripeState.{cache_now};
 ghost use Rattle.mc_pull_tests.specs.World.{IsWorld};
 
 use super::WHO;
+use mc_history::History;
 use mc_item::{
     Cause, ClassEvent, ClassNo, Command, Config, Key, Link, Moves, Need, Numbers, Room, Seg,
     StripeEvent, StripeNo, Value, Verb,
@@ -83,18 +84,23 @@ fn gives(event: &StripeEvent, link: Link) -> bool
 }
 
 /// Whether no event gives the link.
-pub(super) fn is_unnamed(events: &[StripeEvent], link: Link) -> bool
-    ensures { result ≡ true → IsUnnamed link events.now }
+pub(super) fn is_unnamed(events: &History<StripeEvent>, link: Link) -> bool
+    ensures { result ≡ true → IsUnnamed link events.now.items }
 {
-    match events {
-        [] => true,
-        [first, ..] => !gives(first, link) && is_unnamed(&events[1..], link),
+    for place in 0..events.len() {
+        let Some(event) = events.get(place) else {
+            return false;
+        };
+        if gives(event, link) {
+            return false;
+        }
     }
+    true
 }
 
 // The room for a need: the link of this number, where a chunk is needed.
-fn room_for(need: Need, events: &[StripeEvent], number: u64) -> Option<Room>
-    ensures { IfSome result (λ room. Fits need room events.now) }
+fn room_for(need: Need, events: &History<StripeEvent>, number: u64) -> Option<Room>
+    ensures { IfSome result (λ room. Fits need room events.now.items) }
 {
     match need {
         Need::Fresh(class) => {
@@ -202,10 +208,15 @@ pub(super) fn asserts_list<R: Abort>(rt: &R, world: &World, seg: Seg, wanted: &[
     assert_eq!(rt; numbers.as_slice(), wanted);
 }
 
+/// The last event of a history.
+pub(super) fn last_in<E: Drop>(history: &History<E>) -> Option<&E> {
+    history.get(history.len().checked_sub(1)?)
+}
+
 /// What a class's last event says.
 pub(super) fn last_of_class(world: &World) -> Result<String, Fail> {
     let alloc = world.alloc;
-    match world.class.history().last() {
+    match last_in(world.class.history()) {
         Some(ClassEvent::Evicted(e)) => {
             Ok(format!(in alloc;
                 "evicts {} past {:?} at {}",
@@ -237,7 +248,7 @@ pub(super) fn last_of_class(world: &World) -> Result<String, Fail> {
 /// What a stripe's last event says.
 pub(super) fn last_of_stripe(world: &World) -> Result<String, Fail> {
     let alloc = world.alloc;
-    match world.stripe.history().last() {
+    match last_in(world.stripe.history()) {
         Some(StripeEvent::Lost(e)) => match e.cause {
             Cause::Expired(moment) => Ok(format!(in alloc;
                 "loses {:?} dead at {moment}",

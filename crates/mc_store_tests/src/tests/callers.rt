@@ -4,6 +4,7 @@ ghost use Rattle.mc_store_tests.specs.Opening.{AreParts};
 
 use super::asking::{ask, get, juggle, set};
 use super::opening::{Parts, four_stripes, opened};
+use mc_history::History;
 use mc_item::{ClassNo, StripeEvent, StripeNo};
 use mc_store::{Final, Named, Pass, Store};
 use std::alloc::Global;
@@ -12,10 +13,10 @@ use std::process::Abort;
 use std::sync::Wait;
 
 // How many answered commands of a history name a caller.
-fn named_in(history: &[StripeEvent], caller: u32) -> u64 {
+fn named_in(history: &History<StripeEvent>, caller: u32) -> u64 {
     let mut many = 0u64;
-    for event in history {
-        if let StripeEvent::Did(did) = event {
+    for place in 0..history.len() {
+        if let Some(StripeEvent::Did(did)) = history.get(place) {
             if did.who.caller == caller {
                 many = many.saturating_add(1);
             }

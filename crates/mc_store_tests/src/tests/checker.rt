@@ -6,6 +6,7 @@ ghost use Rattle.mc_store_tests.specs.Opening.{AreParts};
 use super::opening::{Parts, opened, parts_for, two_classes};
 use super::plain::Plain;
 use super::playing::{COMMANDS, Call, PLAYERS, work};
+use mc_history::History;
 use mc_item::{Cause, ClassEvent, ClassNo, Did, Lost, Room, StripeEvent, StripeNo};
 use mc_store::{Final, Named};
 use std::alloc::Global;
@@ -130,11 +131,12 @@ fn replay_one<R: Abort>(
     ledger: &Final,
     plain: &mut Plain,
     threads: &mut Vec<Vec<Call>>,
-    history: &[StripeEvent],
+    history: &History<StripeEvent>,
 )
     requires { length ledger.now.classes ≡ 2 }
 {
-    for event in history {
+    for place in 0..history.len() {
+        let event = history.get(place).expect(rt, "an event");
         check_event(rt, alloc, ledger, plain, threads, event);
     }
 }

@@ -5,6 +5,7 @@ ghost use Rattle.mc_stripe.specs.StripeState.{cache_now};
 
 use super::plain::{item_text, plain, reply_text, version_count};
 use super::{Asked, WHO, b, command_of};
+use mc_history::History;
 use mc_item::{Command, Fault, Key, Link, StripeEvent};
 use mc_stripe::{Need, Room, StripeState};
 use std::alloc::Global;
@@ -27,18 +28,23 @@ fn gives(event: &StripeEvent, link: Link) -> bool
 }
 
 // Whether no event gives the link.
-fn is_unnamed(events: &[StripeEvent], link: Link) -> bool
-    ensures { result ≡ true → IsUnnamed link events.now }
+fn is_unnamed(events: &History<StripeEvent>, link: Link) -> bool
+    ensures { result ≡ true → IsUnnamed link events.now.items }
 {
-    match events {
-        [] => true,
-        [first, ..] => !gives(first, link) && is_unnamed(&events[1..], link),
+    for place in 0..events.len() {
+        let Some(event) = events.get(place) else {
+            return false;
+        };
+        if gives(event, link) {
+            return false;
+        }
     }
+    true
 }
 
 // The room for a need: a link of this number, or a refusal.
-fn room_for(need: Need, events: &[StripeEvent], number: u64, full: bool) -> Option<Room>
-    ensures { IfSome result (λ room. Fits need room events.now) }
+fn room_for(need: Need, events: &History<StripeEvent>, number: u64, full: bool) -> Option<Room>
+    ensures { IfSome result (λ room. Fits need room events.now.items) }
 {
     match need {
         Need::Fresh(class) => {
@@ -108,7 +114,7 @@ fn answered(
         return Ok(None);
     }
     let events = stripe.history();
-    let versions = version_count(events) as u64;
+    let versions = version_count(events);
     let need = stripe.need(&command, moment);
     let Some(room) = room_for(need, events, events.len() as u64, full) else {
         return Ok(None);

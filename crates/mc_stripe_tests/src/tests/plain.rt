@@ -1,6 +1,7 @@
 //! The plain program of the table of commands, for stripe 1 of 4, beside which a stripe is held.
 ghost use Rattle.std.specs.Prelude.{◌≤◌, ◌^◌};
 
+use mc_history::History;
 use mc_item::{
     Change, ClassSizes, Command, Expiry, Fault, Item, Marks, NoMemory, Reply, Room, Site,
     StripeEvent, Value,
@@ -71,8 +72,14 @@ fn makes_version(event: &StripeEvent) -> bool {
 }
 
 /// How many new versions the events made.
-pub(super) fn version_count(events: &[StripeEvent]) -> usize {
-    events.iter().filter(|event| makes_version(event)).count()
+pub(super) fn version_count(events: &History<StripeEvent>) -> u64 {
+    let mut versions = 0u64;
+    for place in 0..events.len() {
+        if events.get(place).is_some_and(|event| makes_version(event)) {
+            versions = versions.saturating_add(1);
+        }
+    }
+    versions
 }
 
 /// The texts of the reply to a command and of the item that it leaves, after a number of versions.

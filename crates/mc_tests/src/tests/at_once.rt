@@ -5,6 +5,7 @@ ghost use Rattle.std.specs.List.{All};
 use super::supplies::Pieces;
 use super::{lines, seed_of};
 use mc_driver::{Outcome, Run, RunFault, Source, SourceFault, run_scripts};
+use mc_history::History;
 use mc_item::{ClassEvent, ClassNo, Config, Key, Numbers, Reply, StripeEvent, StripeNo};
 use mc_proto::{Sink, SinkFault};
 use std::alloc::Global;
@@ -210,10 +211,10 @@ fn equal_scripts<'a, R: Abort>(
 }
 
 // The numbers that a stripe's commands answered.
-fn numbers_of(rt: &impl Abort, alloc: Global, history: &[StripeEvent]) -> Vec<u64> {
+fn numbers_of(rt: &impl Abort, alloc: Global, history: &History<StripeEvent>) -> Vec<u64> {
     let mut numbers = Vec::new(alloc);
-    for event in history {
-        if let StripeEvent::Did(did) = event {
+    for place in 0..history.len() {
+        if let Some(StripeEvent::Did(did)) = history.get(place) {
             if let Reply::Number(number) = &did.reply {
                 numbers.push(*number).expect(rt, "memory");
             }
@@ -267,10 +268,10 @@ fn no_script_and_63_are_refused(rt: HostRuntime) {
 }
 
 // The caller and the moment of each survey of a class.
-fn surveys_of(rt: &impl Abort, alloc: Global, history: &[ClassEvent]) -> Vec<(u32, u64)> {
+fn surveys_of(rt: &impl Abort, alloc: Global, history: &History<ClassEvent>) -> Vec<(u32, u64)> {
     let mut surveys = Vec::new(alloc);
-    for event in history {
-        if let ClassEvent::Surveyed(survey) = event {
+    for place in 0..history.len() {
+        if let Some(ClassEvent::Surveyed(survey)) = history.get(place) {
             surveys
                 .push((survey.who.caller, survey.moment))
                 .expect(rt, "memory");

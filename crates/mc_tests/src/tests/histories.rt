@@ -66,7 +66,8 @@ fn asserts_history<L: Ledger + Send + Sync, R: Abort + RandomSource + Threads + 
     assert_eq!(rt; run.outcomes.as_slice(), [Outcome::Done; 3].as_slice());
     let history = run.ledger.stripe(StripeNo(0)).history();
     assert_eq!(rt; history.len(), HISTORY.len());
-    for (event, want) in history.iter().zip(HISTORY.as_slice()) {
+    for (place, want) in HISTORY.iter().enumerate() {
+        let event = history.get(place).expect(rt, "an event");
         let text = event_text(alloc, event)?;
         assert_eq!(rt; text.as_str(), *want);
     }

@@ -4,6 +4,7 @@ ghost use Rattle.std.specs.Prelude.{◌≡◌, ◌<◌};
 use super::supplies::{Pieces, Slow};
 use super::{lines, seed_of};
 use mc_driver::{Options, Outcome, plan_for, run_scripts};
+use mc_history::History;
 use mc_item::{Cause, ClassEvent, ClassNo, StripeEvent, StripeNo};
 use std::alloc::Global;
 use std::marker::Brand;
@@ -59,7 +60,7 @@ fn event_text(alloc: Global, event: &ClassEvent) -> Result<String, Fail> {
 }
 
 // The cause for which the event at a place of the stripe's history lost an item, where it did.
-fn cause_at(history: &[StripeEvent], place: usize) -> Option<Cause> {
+fn cause_at(history: &History<StripeEvent>, place: usize) -> Option<Cause> {
     match history.get(place) {
         Some(StripeEvent::Lost(lost)) => Some(lost.cause),
         _ => None,
@@ -105,7 +106,8 @@ fn asserts_histories<L: Ledger + Send + Sync, R: Abort + RandomSource + Threads 
     );
     let history = run.ledger.class(ClassNo(1)).history();
     assert_eq!(rt; history.len(), CLASS.len());
-    for (event, want) in history.iter().zip(CLASS.as_slice()) {
+    for (place, want) in CLASS.iter().enumerate() {
+        let event = history.get(place).expect(rt, "an event");
         let text = event_text(alloc, event)?;
         assert_eq!(rt; text.as_str(), *want);
     }

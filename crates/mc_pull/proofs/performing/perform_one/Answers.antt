@@ -1,6 +1,5 @@
-use Rattle.std.proofs.Common.{◌++◌, ◌∷◌, [], List, ap, sym, ◌∙◌, refl, Bool, ◌+◌}
+use Rattle.std.proofs.Common.{◌++◌, ◌∷◌, [], length, ap, sym, ◌∙◌, refl, Bool, ℕ, ◌+◌}
 use Rattle.mc_pull.specs.Parts.{part_for}
-use Rattle.mc_item.specs.declared.stripe_event.StripeEvent.{StripeEvent}
 use Rattle.mc_pull.specs.Perform.{call}
 use Rattle.mc_pull.specs.Performed.{part_in, events_on_stripe, MayRefuseCall}
 use Rattle.mc_pull.proofs.PerformLemmas.{handed_on, warms_active, part_is, refused_first, refused_stripe, any_one, made_in}
@@ -20,7 +19,7 @@ returns-clause-made c =
     let is = part_is s cl v c.key.result.now c.args.fate c.in_ok-part.part c.in_ok-part.ensures.part c.key.ensures c.requires.fate in
     record {
       stripe = c.in_ok-copy.ensures.events ∙ ap (λ (b : Bool). s.history ++ events_on_stripe s cl b) (c.is_warming-cooling.ensures ∙ any_one s cl v c.in_ok-part.part is);
-      classes = (made_in v c.prepare.new.class c.make.new.class c.args.who c.args.moment _ _ c.in_ok-part.part (part_in s cl v) c.in_ok-part.ensures.same c.make.ensures is (ap (λ (h : List StripeEvent). Rattle.std.specs.Prelude.length h + 1) c.history.ensures.value), tt);
+      classes = (made_in v c.prepare.new.class c.make.new.class c.args.who c.args.moment _ _ c.in_ok-part.part (part_in s cl v) c.in_ok-part.ensures.same c.make.ensures is (ap (λ (n : ℕ). n + 1) (c.len.ensures ∙ ap length c.history.ensures.value)), tt);
     }
 
 pub returns-in_err-part-clause-refusal : goal.returns-in_err-part-clause-refusal

@@ -1,5 +1,4 @@
-use Rattle.std.proofs.Common.{◌++◌, ◌∷◌, [], List, ap, sym, ◌∙◌, refl, Bool, ◌+◌}
-use Rattle.mc_item.specs.declared.stripe_event.StripeEvent.{StripeEvent}
+use Rattle.std.proofs.Common.{◌++◌, ◌∷◌, [], length, ap, sym, ◌∙◌, refl, Bool, ℕ, ◌+◌}
 use Rattle.mc_pull.specs.Perform.{call}
 use Rattle.mc_pull.specs.Performed.{part_in, events_on_stripe}
 use Rattle.mc_pull.proofs.PerformLemmas.{handed_on, warms_either, part_is, any_two, made_in}
@@ -28,7 +27,7 @@ returns-clause-made c =
     let w = c.args.high.now in
     let is = part_is s cl v c.key.result.now c.args.fate c.in_ok-first.first c.in_ok-first.ensures.part c.key.ensures fate_is in
     let is2 = part_is s cl w c.key-2.result.now c.args.fate c.in_ok-second.second c.in_ok-second.ensures.part c.key-2.ensures fate_is in
-    let at_is = ap (λ (h : List StripeEvent). Rattle.std.specs.Prelude.length h + 1) c.history.ensures.value in
+    let at_is = ap (λ (n : ℕ). n + 1) (c.len.ensures ∙ ap length c.history.ensures.value) in
     record {
       stripe = c.in_ok-copy.ensures.events ∙ ap (λ (b : Bool). s.history ++ events_on_stripe s cl b) (c.is_either_warming-cooling.ensures ∙ any_two s cl v w c.in_ok-first.first c.in_ok-second.second is is2);
       classes = (

@@ -1,4 +1,4 @@
-use Rattle.std.proofs.Common.{◌≡◌, subst, sym, ap, ◌∙◌, List, ℕ, length}
+use Rattle.std.proofs.Common.{◌≡◌, subst, sym, ap, ◌∙◌, List, ℕ}
 use Rattle.std.specs.Prelude.{IsSomeAnd}
 use Rattle.mc_item.specs.declared.class_event.Why.{Why}
 use Rattle.mc_item.specs.declared.lists.Seg.TheVariants.{Cold}
@@ -23,7 +23,7 @@ shift-requires c =
     let may = subst (λ (j : Judge). MayJudgeBy v ask.who ask.number ask.moment j) judge c.requires.asked.judge in
     let made = subst (λ (j : Judge). done_of v cache (question ask.who ask.number j ask.moment) ≡ done.ToCold) judge c.requires.done in
     let seg = c.law.ensures.lists c.args.seg ask.number may.listed in
-    let at = length c.history.result.now in
+    let at = c.len-at.result in
     let P : Why → List ℕ → Type 0 = λ why passed. IsSomeAnd (segment_of ask.number (lists_of v.history)) (λ from_seg. MayCome v (shifted_event ask.who ask.number Cold why ask.moment passed at from_seg)) in
     let why_is = c.cold_why-why.ensures ∙ ap (λ (r : Rule). cold_why r (lists_of v.history) c.args.seg c.args.mode) (sym c.requires.asked.class.rule) in
     let move = cold_may v ask.who ask.number ask.moment c.args.passed.now at cache c.args.seg c.args.mode seg may made in

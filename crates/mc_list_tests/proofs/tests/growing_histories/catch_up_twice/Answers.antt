@@ -7,10 +7,10 @@ use Rattle.mc_list_tests.proofs.tests.growing_histories.catch_up_twice.Goals as 
 
 pub catch_up-requires-clause-behind : goal.catch_up-requires-clause-behind
 catch_up-requires-clause-behind g c =
-    let all = map g.E.Logged.entry c.args.events.now in
+    let all = map g.E.Logged.entry c.args.events.now.items in
     subst (λ (h : List Event). IsPrefix h all) (sym c.requires.empty) (prefix_nil all)
 
 pub catch_up-requires-2-clause-behind : goal.catch_up-requires-2-clause-behind
 catch_up-requires-2-clause-behind g c =
-    let all = map g.E.Logged.entry c.args.events.now in
+    let all = map g.E.Logged.entry c.args.events.now.items in
     subst (λ (h : List Event). IsPrefix h all) (sym (ap (λ (o : OwnerView). o.history) c.catch_up.ensures.history)) (prefix_self all)

@@ -24,7 +24,7 @@ invariant_of-self-2 c =
     let moment = c.args.moment in
     let items = get (pointwise nat_eq) c.self.inside.items in
     let cache = cache_of site c.self.inside.history.items in
-    let few : length c.self.inside.history.items < c.self.inside.limit = omega (arith, rw c.if-is_full.false at c.is_full.ensures, ap length c.as_slice.ensures.value) in
+    let few : length c.self.inside.history.items < c.self.inside.limit = omega (arith, rw c.if-is_full.false at c.is_full.ensures) in
     let stripe = subst (λ (s : Stripe). stripe_of key s.site.stripes ≡ record { 0 = s.site.stripe }) (sym c.self.view_is) c.requires.stripe in
     let item_is : items key ≡ cache.items key = c.self.invariant.items_are key in
     let leaves = subst (λ (o : Option Item). LeavesChunks key o (row_of site cache.versions o command moment) moment) item_is

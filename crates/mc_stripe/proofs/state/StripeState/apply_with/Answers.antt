@@ -34,7 +34,7 @@ invariant_of-self-2 c =
     let command = c.args.command in
     let moment = c.args.moment in
     let reserved = get (pointwise nat_eq) c.reserve.new.self in
-    let few : length c.self.inside.history.items < c.self.inside.limit = omega (arith, rw c.if-is_full.false at c.is_full.ensures, ap length c.as_slice.ensures.value) in
+    let few : length c.self.inside.history.items < c.self.inside.limit = omega (arith, rw c.if-is_full.false at c.is_full.ensures) in
     let stripe = subst (λ (s : Stripe). stripe_of key s.site.stripes ≡ record { 0 = s.site.stripe }) back c.requires.stripe in
     let alive = subst (λ (s : Stripe). IsAlive ((cache_now s).items key) moment) back c.requires.alive in
     let fits = subst (λ (s : Stripe). Fits (row_of s.site (cache_now s).versions ((cache_now s).items key) command moment).need c.args.room s.history) back c.requires.fits in

@@ -11,7 +11,7 @@ use Rattle.mc_stripe.proofs.state.StripeState.lose.Goals as goal
 
 pub invariant_of-self-2 : goal.invariant_of-self-2
 invariant_of-self-2 c =
-    let few : length c.self.inside.history.items < c.self.inside.limit = omega (arith, rw c.if-is_full.false at c.is_full.ensures, ap length c.as_slice.ensures.value) in
+    let few : length c.self.inside.history.items < c.self.inside.limit = omega (arith, rw c.if-is_full.false at c.is_full.ensures) in
     let may = subst (λ (s : Stripe). MayLose ((cache_now s).items c.args.key) c.args.cause) (sym c.self.view_is) c.requires in
     lost_kept c.self.inside.site c.self.inside.limit c.self.inside.history.items c.push_reserved.new.self.items c.self.inside.versions
     (get (pointwise nat_eq) c.self.inside.items) (get (pointwise nat_eq) c.remove.new.items)

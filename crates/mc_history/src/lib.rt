@@ -1,0 +1,7 @@
+//! A history's events in memory: a list that only grows, in pieces, so that no growth copies what stands in it.
+#![tactic(auto)]
+
+mod history;
+mod pieces;
+
+pub use history::History;

@@ -1,5 +1,0 @@
-use Rattle.std.proofs.Common.{length}
-use Rattle.mc_pull_tests.proofs.tests.world.+is_unnamed.Given as goal
-
-abbrev pub decreases-is_unnamed : goal.decreases-is_unnamed
-decreases-is_unnamed l = length l.events.now
