@@ -87,6 +87,9 @@ pub fn stripe_of(key: &Key, stripes: u32) -> StripeNo
     requires { 0 < stripes }
     ensures { result ≡ measure.stripe_of key.now stripes }
 {
+    if stripes == 1 {
+        return StripeNo(0);
+    }
     StripeNo(fnv1a(key.bytes()) % stripes)
 }
 
