@@ -48,23 +48,12 @@ fn joined(alloc: Global, input: VecDeque<Vec<u8>>) -> Result<Vec<u8>, NoMemory>
     Ok(text)
 }
 
-// The scripts of a text, which is gone when they are cut from it.
-fn scripts_in(alloc: Global, limits: Limits, text: Vec<u8>) -> Result<Vec<Vec<u8>>, NoMemory>
-    ensures { IfOk result (λ scripts. AreScripts limits text.items (map (λ s. s.items) scripts.items)) }
-{
-    split_scripts(alloc, text.as_slice(), limits)
-}
-
-// A source of a script's bytes, in pieces. A script of one piece is that piece.
-fn source_of(alloc: Global, script: Vec<u8>) -> Result<Pieces, NoMemory>
-    ensures { IfOk result (λ source. source ≡ script.items) }
+// A source of a script's bytes, which are copied, in pieces.
+fn source_of(alloc: Global, script: &[u8]) -> Result<Pieces, NoMemory>
+    ensures { IfOk result (λ source. source ≡ script.now) }
 {
     let mut pieces = VecDeque::new(alloc);
-    if script.len() <= PIECE {
-        pieces.push_back(script)?;
-        return Ok(Pieces::new(pieces));
-    }
-    let mut rest = script.as_slice();
+    let mut rest = script;
     while rest.len() > PIECE {
         let (piece, behind) = rest.split_at(PIECE);
         pieces.push_back(Vec::from_slice(alloc, piece)?)?;
@@ -74,7 +63,19 @@ fn source_of(alloc: Global, script: Vec<u8>) -> Result<Pieces, NoMemory>
     Ok(Pieces::new(pieces))
 }
 
-/// The sources of an input's scripts, in order. Without a directive there is one script, whose pieces are those that came.
+// The sources of the scripts that a text is cut into.
+fn sources_in(alloc: Global, limits: Limits, text: &[u8]) -> Result<Vec<Pieces>, NoMemory>
+    ensures { IfOk result (λ sources. AreScripts limits text.now sources.items) }
+{
+    let mut sources = Vec::new(alloc);
+    for script in split_scripts(alloc, text, limits)? {
+        sources.push(source_of(alloc, script)?)?;
+    }
+    Ok(sources)
+}
+
+/// The sources of an input's scripts, in order. Without a directive there is one script, whose pieces are those that came;
+/// else the input is joined, and each script copied from it.
 pub(crate) fn sources_of(
     alloc: Global,
     limits: Limits,
@@ -82,16 +83,13 @@ pub(crate) fn sources_of(
 ) -> Result<Vec<Pieces>, NoMemory>
     ensures { IfOk result (λ sources. AreScripts limits (flat_map (λ v. v.items) input.items) sources.items) }
 {
-    let mut sources = Vec::new(alloc);
     if has_none(&input) {
+        let mut sources = Vec::new(alloc);
         sources.push(Pieces::new(input))?;
         return Ok(sources);
     }
     let text = joined(alloc, input)?;
-    for script in scripts_in(alloc, limits, text)? {
-        sources.push(source_of(alloc, script)?)?;
-    }
-    Ok(sources)
+    sources_in(alloc, limits, text.as_slice())
 }
 
 /// Scripts of these sources, in order, each with a sink in memory, whose failures stand in one book.

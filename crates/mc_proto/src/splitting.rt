@@ -109,18 +109,22 @@ pub fn lacks_directives(bytes: &[u8]) -> bool
 }
 
 /// The scripts of an input, as they would be read one after the other. A `%next` within a block is part of the block,
-/// and nothing behind a line that is too long begins a script. Each script is copied once; the lines between them are
-/// dropped.
-pub fn split_scripts(alloc: Global, bytes: &[u8], limits: Limits) -> Result<Vec<Vec<u8>>, NoMemory>
-    ensures { IfOk result (λ v. scripts.AreScripts limits bytes.now (map (λ s. s.items) v.items)) }
+/// and nothing behind a line that is too long begins a script. No byte is copied; the lines between the scripts are part
+/// of none.
+pub fn split_scripts<'a>(
+    alloc: Global,
+    bytes: &'a [u8],
+    limits: Limits,
+) -> Result<Vec<&'a [u8]>, NoMemory>
+    ensures { IfOk result (λ v. scripts.AreScripts limits bytes.now (map (λ s. s.now) v.items)) }
 {
     let mut scripts = Vec::new(alloc);
     let mut rest = bytes;
     while let Some(end) = first_end(alloc, limits, rest)? {
         let (script, behind) = rest.split_at(end.script);
-        scripts.push(Vec::from_slice(alloc, script)?)?;
+        scripts.push(script)?;
         rest = behind.split_at(end.line).1;
     }
-    scripts.push(Vec::from_slice(alloc, rest)?)?;
+    scripts.push(rest)?;
     Ok(scripts)
 }

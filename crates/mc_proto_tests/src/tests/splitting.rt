@@ -8,9 +8,8 @@ use std::process::Abort;
 fn split(rt: &impl Abort, alloc: Global, input: &[u8]) -> Vec<u8> {
     let scripts = split_scripts(alloc, input, limits()).expect(rt, "memory");
     let mut out = Vec::new(alloc);
-    for script in scripts.as_slice() {
-        out.extend_from_slice(script.as_slice())
-            .expect(rt, "memory");
+    for script in scripts {
+        out.extend_from_slice(script).expect(rt, "memory");
         out.push(b'|').expect(rt, "memory");
     }
     out
