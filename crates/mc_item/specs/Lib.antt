@@ -1,5 +1,4 @@
 pub mod Key
-pub mod Value
 pub mod Item
 pub mod Command
 pub mod Measure

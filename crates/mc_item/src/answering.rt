@@ -22,7 +22,7 @@ use std::alloc::Global;
 
 // The answer to `get`.
 #[inline(always)]
-fn get_answer(alloc: Global, found: Option<&Item>) -> Result<Answer, NoMemory>
+fn get_answer(found: Option<&Item>) -> Result<Answer, NoMemory>
     ensures { IfOk result (λ a. (room : Room) → a ≡ (answers.get_row (option_copied found.entry)).answer room) }
 {
     match found {
@@ -33,7 +33,7 @@ fn get_answer(alloc: Global, found: Option<&Item>) -> Result<Answer, NoMemory>
         Some(item) => Ok(Answer {
             reply: Reply::Value {
                 flags: item.flags,
-                value: item.value.copy(alloc)?,
+                value: item.value.copy()?,
                 cas: item.cas,
             },
             change: Change::Hit(item.marks.hit()),
@@ -148,7 +148,7 @@ impl Site {
         ensures { IfOk result (λ a. a ≡ (answers.row_of self.now versions (option_copied found.entry) command.now moment).answer room) }
     {
         match command {
-            Command::Get(_) => get_answer(alloc, found),
+            Command::Get(_) => get_answer(found),
             Command::Store {
                 verb,
                 key,
@@ -163,7 +163,7 @@ impl Site {
                 };
                 let cost = cost(key.bytes().len() as u64, value.bytes().len() as u64);
                 let class = self.class_for(known, cost);
-                self.store_answer(alloc, versions, class, *verb, found, &content, room)
+                self.store_answer(versions, class, *verb, found, &content, room)
             }
             Command::Huge { verb, .. } => Ok(huge_answer(let_go(*verb))),
             Command::Incr(key, delta) => {

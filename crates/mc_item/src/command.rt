@@ -81,7 +81,7 @@ impl Command {
                 key: key.copy(alloc)?,
                 flags: *flags,
                 exptime: *exptime,
-                value: value.copy(alloc)?,
+                value: value.copy()?,
             }),
             Command::Huge { verb, key } => Ok(Command::Huge {
                 verb: *verb,

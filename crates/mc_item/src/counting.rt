@@ -75,7 +75,7 @@ fn padded_text(alloc: Global, number: u64, len: usize) -> Result<Value, NoMemory
     if digits < len {
         push_spaces(&mut bytes, len - digits)?;
     }
-    Ok(Value::from_vec(bytes))
+    Value::of(alloc, bytes)
 }
 
 // Spaces at the end.
@@ -89,7 +89,7 @@ fn push_spaces(bytes: &mut Vec<u8>, count: usize) -> Result<(), NoMemory>
 }
 
 impl Item {
-    /// Counts in place, where the value is a number, the new one isn't longer, and its bytes stand here alone: the
+    /// Counts in place, where the value is a number, the new one isn't longer, and no copy of it shares its bytes: the
     /// number then, with this cas number. Else nothing changes. It takes no memory.
     #[inline(always)]
     pub fn count(&mut self, step: Step, cas: u64) -> Option<u64>

@@ -4,7 +4,6 @@ ghost use Rattle.std.specs.Prelude.{◌≡◌, IfOk};
 use crate::fault::NoMemory;
 use crate::item::{ClassNo, Link};
 use crate::value::Value;
-use std::alloc::Global;
 
 /// A reply (protocol.txt, by the commands).
 #[derive(Debug, Drop)]
@@ -44,13 +43,13 @@ pub enum Room {
 
 impl Reply {
     /// An equal reply.
-    pub fn copy(&self, alloc: Global) -> Result<Reply, NoMemory>
+    pub fn copy(&self) -> Result<Reply, NoMemory>
         ensures { IfOk result (λ reply. reply ≡ self.now) }
     {
         match self {
             Reply::Value { flags, value, cas } => Ok(Reply::Value {
                 flags: *flags,
-                value: value.copy(alloc)?,
+                value: value.copy()?,
                 cas: *cas,
             }),
             Reply::Miss => Ok(Reply::Miss),

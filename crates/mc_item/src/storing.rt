@@ -17,7 +17,6 @@ use crate::fault::NoMemory;
 use crate::item::{ClassNo, Expiry, Item, Link, Marks};
 use crate::reply::{Reply, Room};
 use crate::value::Value;
-use std::alloc::Global;
 
 /// The parts of a new version that its command decides.
 #[derive(Drop)]
@@ -107,7 +106,6 @@ impl Site {
     #[inline(always)]
     pub fn renew(
         &self,
-        alloc: Global,
         versions: u64,
         item: &mut Item,
         content: &Content<'_>,
@@ -117,7 +115,7 @@ impl Site {
         ensures ok { OnOk result (item.new ≡ answers.version_of self.now versions content.now.flags content.now.value.now content.now.expiry link) }
         ensures err { OnErr result (item.new ≡ item.old) }
     {
-        let value = content.value.copy(alloc)?;
+        let value = content.value.copy()?;
         item.flags = content.flags;
         item.value = value;
         item.expiry = content.expiry;
@@ -133,7 +131,6 @@ impl Site {
     // A new version, or the answer of a refusal.
     fn stored(
         &self,
-        alloc: Global,
         versions: u64,
         verb: Verb,
         content: &Content<'_>,
@@ -148,7 +145,7 @@ impl Site {
                 reply: Reply::Stored,
                 change: Change::Renewed(Item {
                     flags: content.flags,
-                    value: content.value.copy(alloc)?,
+                    value: content.value.copy()?,
                     expiry: content.expiry,
                     cas: self.cas_of(versions),
                     link,
@@ -172,7 +169,6 @@ impl Site {
     /// The answer to a storage command. The cas number of a new version is below 2^64.
     pub fn store_answer(
         &self,
-        alloc: Global,
         versions: u64,
         class: Option<ClassNo>,
         verb: Verb,
@@ -190,20 +186,20 @@ impl Site {
             });
         }
         match verb {
-            Verb::Set => self.stored(alloc, versions, verb, content, room),
+            Verb::Set => self.stored(versions, verb, content, room),
             Verb::Add => match found {
                 Some(_) => Ok(declined(Reply::NotStored)),
-                None => self.stored(alloc, versions, verb, content, room),
+                None => self.stored(versions, verb, content, room),
             },
             Verb::Replace => match found {
-                Some(_) => self.stored(alloc, versions, verb, content, room),
+                Some(_) => self.stored(versions, verb, content, room),
                 None => Ok(declined(Reply::NotStored)),
             },
             Verb::Cas(unique) => match found {
                 None => Ok(declined(Reply::NotFound)),
                 Some(item) => {
                     if item.cas == unique {
-                        self.stored(alloc, versions, verb, content, room)
+                        self.stored(versions, verb, content, room)
                     } else {
                         Ok(declined(Reply::Exists))
                     }

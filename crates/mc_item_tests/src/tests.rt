@@ -66,7 +66,8 @@ pub(super) fn key(rt: &impl Abort, alloc: Global, bytes: &[u8]) -> Key {
 
 /// A value of these bytes.
 pub(super) fn value(rt: &impl Abort, alloc: Global, bytes: &[u8]) -> Value {
-    Value::from_vec(Vec::from_slice(alloc, bytes).expect(rt, "memory"))
+    let bytes = Vec::from_slice(alloc, bytes).expect(rt, "memory");
+    Value::of(alloc, bytes).expect(rt, "memory")
 }
 
 /// A storage command of the key `k`, of flags 7 and ten seconds.

@@ -150,7 +150,7 @@ fn stored_of(alloc: Global, start: Start, mut block: Vec<u8>) -> Result<Request,
                 key: start.key,
                 flags: start.flags,
                 exptime: start.exptime,
-                value: Value::sharing(alloc, block)?,
+                value: Value::of(alloc, block)?,
             },
             quiet: start.quiet,
         })

@@ -79,7 +79,7 @@ fn no_visits(alloc: Global, page: &Key) -> Result<Command, NoMemory> {
         key: page.copy(alloc)?,
         flags: 0,
         exptime: 0,
-        value: Value::from_vec(Vec::from_slice(alloc, b"0")?),
+        value: Value::of(alloc, Vec::from_slice(alloc, b"0")?)?,
     })
 }
 

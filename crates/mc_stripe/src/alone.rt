@@ -42,7 +42,6 @@ fn touches(plan: &Plan) -> bool
 // made on its way.
 #[inline(always)]
 fn get_alone(
-    alloc: Global,
     items: &mut HashMap<Key, Item, RandomState>,
     key: &Key,
     moment: u64,
@@ -58,18 +57,17 @@ fn get_alone(
     ensures spare { spare items.new ≡ spare items.old }
 {
     let Some(item) = items.get_mut(key) else {
-        return Ok(Some(told(alloc, Reply::Miss, copies)?));
+        return Ok(Some(told(Reply::Miss, copies)?));
     };
     if item.dead(moment) || wakes(item) {
         return Ok(None);
     }
-    Ok(Some(answer_hit(alloc, item, copies)?))
+    Ok(Some(answer_hit(item, copies)?))
 }
 
 // The answer to a command whose key has no item; nothing is answered for storage commands.
 #[inline(always)]
 fn absent_alone(
-    alloc: Global,
     command: &Command,
     copies: bool,
 ) -> Result<Option<Answered>, NoMemory>
@@ -83,7 +81,7 @@ fn absent_alone(
         Command::Incr(_, _) | Command::Decr(_, _) | Command::Touch(_, _) | Command::Delete(_) =>
             Reply::NotFound,
     };
-    Ok(Some(told(alloc, noted, copies)?))
+    Ok(Some(told(noted, copies)?))
 }
 
 // The answer to a command that finds an item, by the general way, where it touches no chunk. Else nothing is answered,
@@ -152,7 +150,7 @@ fn other_alone(
     ensures spare { spare items.new ≡ spare items.old }
 {
     let Some(item) = items.get_mut(command.key()) else {
-        return absent_alone(alloc, command, copies);
+        return absent_alone(command, copies);
     };
     if item.dead(moment) {
         return Ok(None);
@@ -188,7 +186,7 @@ pub(crate) fn answer_alone(
     ensures spare { spare items.new ≡ spare items.old }
 {
     match command {
-        Command::Get(key) => get_alone(alloc, items, key, moment, copies),
+        Command::Get(key) => get_alone(items, key, moment, copies),
         Command::Store { .. } | Command::Huge { .. } => Ok(None),
         Command::Incr(_, _) | Command::Decr(_, _) | Command::Touch(_, _) | Command::Delete(_) =>
             other_alone(alloc, site, versions, items, command, moment, copies),

@@ -43,7 +43,7 @@ pub(crate) fn answer_item(
         return answer_absent(alloc, site, versions, items, command, moment, room, copies);
     };
     if let Some(answered) = answer_over(
-        alloc, site, versions, item, command, moment, room, copies,
+        site, versions, item, command, moment, room, copies,
     )? {
         return Ok(answered);
     }

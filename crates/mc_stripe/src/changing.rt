@@ -26,11 +26,11 @@ pub(crate) struct Answered {
 
 /// A copy of a reply, where one is asked for.
 #[inline(always)]
-pub(crate) fn copy_if(alloc: Global, reply: &Reply, copies: bool) -> Result<Option<Reply>, NoMemory>
+pub(crate) fn copy_if(reply: &Reply, copies: bool) -> Result<Option<Reply>, NoMemory>
     ensures { IfOk result (λ copy. copy ≡ (if copies then Some reply.now else None)) }
 {
     if copies {
-        Ok(Some(reply.copy(alloc)?))
+        Ok(Some(reply.copy()?))
     } else {
         Ok(None)
     }
@@ -38,12 +38,12 @@ pub(crate) fn copy_if(alloc: Global, reply: &Reply, copies: bool) -> Result<Opti
 
 /// A reply that adds no version, with a copy where one is asked for.
 #[inline(always)]
-pub(crate) fn told(alloc: Global, noted: Reply, copies: bool) -> Result<Answered, NoMemory>
+pub(crate) fn told(noted: Reply, copies: bool) -> Result<Answered, NoMemory>
     ensures noted { IfOk result (λ a. a.noted ≡ noted) }
     ensures copy { IfOk result (λ a. a.copy ≡ (if copies then Some noted else None)) }
     ensures added { IfOk result (λ a. a.added ≡ 0) }
 {
-    let copy = copy_if(alloc, &noted, copies)?;
+    let copy = copy_if(&noted, copies)?;
     Ok(Answered {
         noted,
         copy,
@@ -106,7 +106,7 @@ fn effect_of(
     let Answer { reply, change } = site.answer(
         alloc, versions, found, command, moment, known, room,
     )?;
-    let copy = copy_if(alloc, &reply, copies)?;
+    let copy = copy_if(&reply, copies)?;
     let added = versions_of(&change);
     Ok(Effect {
         answered: Answered {

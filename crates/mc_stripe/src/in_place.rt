@@ -17,11 +17,10 @@ use crate::changing::{Answered, told};
 use mc_item::{
     Command, Content, Item, Key, NoMemory, Reply, Room, Site, Step, expiry_of, stores_over,
 };
-use std::alloc::Global;
 
 // The answer to a get that finds its key's item, which is hit.
 #[inline(always)]
-pub(crate) fn answer_hit(alloc: Global, item: &mut Item, copies: bool) -> Result<Answered, NoMemory>
+pub(crate) fn answer_hit(item: &mut Item, copies: bool) -> Result<Answered, NoMemory>
     ensures noted { IfOk result (λ a. a.noted ≡ replies.Value item.old.flags item.old.value item.old.cas) }
     ensures copy { IfOk result (λ a. a.copy ≡ (if copies then Some a.noted else None)) }
     ensures added { IfOk result (λ a. a.added ≡ 0) }
@@ -30,10 +29,10 @@ pub(crate) fn answer_hit(alloc: Global, item: &mut Item, copies: bool) -> Result
 {
     let noted = Reply::Value {
         flags: item.flags,
-        value: item.value.copy(alloc)?,
+        value: item.value.copy()?,
         cas: item.cas,
     };
-    let answered = told(alloc, noted, copies)?;
+    let answered = told(noted, copies)?;
     item.marks = item.marks.hit();
     Ok(answered)
 }
@@ -42,7 +41,6 @@ pub(crate) fn answer_hit(alloc: Global, item: &mut Item, copies: bool) -> Result
 // stands in the old one's place. Nothing is answered for other commands, and nothing changes.
 #[inline(always)]
 pub(crate) fn answer_over(
-    alloc: Global,
     site: &Site,
     versions: u64,
     item: &mut Item,
@@ -81,7 +79,7 @@ pub(crate) fn answer_over(
         value,
         expiry: expiry_of(*exptime, moment),
     };
-    site.renew(alloc, versions, item, &content, link)?;
+    site.renew(versions, item, &content, link)?;
     Ok(Some(Answered {
         noted: Reply::Stored,
         copy: if copies { Some(Reply::Stored) } else { None },

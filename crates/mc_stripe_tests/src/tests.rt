@@ -72,7 +72,7 @@ fn store(alloc: Global, verb: Verb, key: Key, text: &str) -> Result<Command, Fai
         key,
         flags: 7,
         exptime: 0,
-        value: Value::from_vec(bytes),
+        value: Value::of(alloc, bytes)?,
     })
 }
 

@@ -163,7 +163,7 @@ pub(super) fn store<R: Abort>(rt: &R, world: &mut World, letter: u8, exptime: i6
         key: key(rt, alloc, letter),
         flags: 0,
         exptime,
-        value: Value::from_vec(text),
+        value: Value::of(alloc, text).expect(rt, "a value"),
     };
     ask(rt, world, command, moment);
     let key = key(rt, alloc, letter);

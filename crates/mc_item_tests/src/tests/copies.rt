@@ -63,7 +63,7 @@ fn copies_of_commands(rt: HostRuntime) {
 
 // The copy of a reply is shown so.
 fn copies_a_reply(rt: &impl Abort, alloc: Global, reply: Reply, want: &str) {
-    let copy = reply.copy(alloc).expect(rt, "memory");
+    let copy = reply.copy().expect(rt, "memory");
     let text = format!(in alloc; "{copy:?}").expect(rt, "memory");
     assert_eq!(rt; text.as_str(), want);
 }
@@ -95,21 +95,21 @@ fn copies_of_replies(rt: HostRuntime) {
 // A value of these bytes, its copy after the value is gone, and the copy's copy have just these bytes.
 fn copies_a_value(rt: &impl Abort, alloc: Global, bytes: &[u8]) {
     let owned = Vec::from_slice(alloc, bytes).expect(rt, "memory");
-    let value = Value::sharing(alloc, owned).expect(rt, "memory");
+    let value = Value::of(alloc, owned).expect(rt, "memory");
     assert_eq!(rt; value.bytes(), bytes);
-    let copy = value.copy(alloc).expect(rt, "memory");
+    let copy = value.copy().expect(rt, "memory");
     drop(value);
     assert_eq!(rt; copy.bytes(), bytes);
-    let again = copy.copy(alloc).expect(rt, "memory");
+    let again = copy.copy().expect(rt, "memory");
     assert_eq!(rt; again.bytes(), bytes);
 }
 
 #[test]
-fn copies_of_values_on_both_sides_of_64_bytes(rt: HostRuntime) {
+fn copies_of_values_outlive_them(rt: HostRuntime) {
     let alloc = rt.alloc();
     let mut bytes = [b'x'; 1001];
     bytes[1000] = b'y';
-    for count in [1, 2, 64, 65, 66, 1001] {
+    for count in [0, 1, 2, 64, 1001] {
         copies_a_value(&rt, alloc, &bytes[1001 - count..]);
     }
 }

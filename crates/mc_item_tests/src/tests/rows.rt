@@ -23,7 +23,7 @@ fn stores(
         expiry: Expiry::At(1010),
     };
     let answer = site()
-        .store_answer(alloc, 5, class, verb, found, &content, room)
+        .store_answer(5, class, verb, found, &content, room)
         .expect(rt, "memory");
     shows(rt, alloc, &answer, want);
 }
@@ -122,7 +122,7 @@ fn a_renewed_item_is_the_new_version(rt: HostRuntime) {
         expiry: Expiry::At(1010),
     };
     site()
-        .renew(alloc, 5, &mut held, &content, link)
+        .renew(5, &mut held, &content, link)
         .expect(&rt, "memory");
     shows_item(
         &rt,
@@ -163,7 +163,7 @@ fn items_count_in_place_where_the_number_fits(rt: HostRuntime) {
     let mut spaced = [b' '; 65];
     spaced[0] = b'9';
     let owned = Vec::from_slice(alloc, spaced.as_slice()).expect(&rt, "memory");
-    let shared = Value::sharing(alloc, owned).expect(&rt, "memory");
+    let shared = Value::of(alloc, owned).expect(&rt, "memory");
     counts_in_place(
         &rt,
         value(&rt, alloc, b"10"),

@@ -11,9 +11,10 @@ use std::alloc::Global;
 use std::process::Abort;
 
 fn value(rt: &impl Abort, alloc: Global, bytes: &[u8]) -> Reply {
+    let bytes = Vec::from_slice(alloc, bytes).expect(rt, "memory");
     Reply::Value {
         flags: 4_294_967_295,
-        value: Value::from_vec(Vec::from_slice(alloc, bytes).expect(rt, "memory")),
+        value: Value::of(alloc, bytes).expect(rt, "memory"),
         cas: 18_446_744_073_709_551_615,
     }
 }

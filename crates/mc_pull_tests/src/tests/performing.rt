@@ -234,7 +234,7 @@ fn set<R: Abort>(rt: &R, world: &mut World, letter: u8, room: Room) -> String
         key: key(rt, alloc, letter),
         flags: 0,
         exptime: 0,
-        value: Value::from_vec(text),
+        value: Value::of(alloc, text).expect(rt, "a value"),
     };
     let reply = make(rt, world, command, 1000, room).expect(rt, "a reply");
     format!(in alloc; "{reply:?}").expect(rt, "a text")

@@ -148,7 +148,7 @@ fn store<R: Abort>(rt: &R, world: &mut World, letter: u8, bytes: u64, exptime: i
         key: key(rt, alloc, letter),
         flags: 0,
         exptime,
-        value: Value::from_vec(text),
+        value: Value::of(alloc, text).expect(rt, "a value"),
     };
     ask(rt, world, command, moment);
     let key = key(rt, alloc, letter);

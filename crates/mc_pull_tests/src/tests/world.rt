@@ -161,7 +161,7 @@ pub(super) fn set<R: Abort>(rt: &R, world: &mut World, letter: u8, exptime: i64,
         key: key(rt, alloc, letter),
         flags: 0,
         exptime,
-        value: Value::from_vec(text),
+        value: Value::of(alloc, text).expect(rt, "a value"),
     };
     ask(rt, world, command, moment);
 }

@@ -28,7 +28,7 @@ pub(super) fn store<R: Abort>(
         key: key(rt, alloc, letter),
         flags,
         exptime,
-        value: Value::from_vec(bytes),
+        value: Value::of(alloc, bytes).expect(rt, "a value"),
     }
 }
 

@@ -3,6 +3,7 @@
 ghost use Rattle.std.specs.Prelude.{◌≡◌, length};
 ghost use Rattle.mc_store_tests.specs.Opening.{AreParts};
 
+use super::class_checker::check_classes;
 use super::opening::{Parts, opened, parts_for, two_classes};
 use super::plain::Plain;
 use super::playing::{COMMANDS, Call, PLAYERS, work};
@@ -197,6 +198,7 @@ fn play<N: Named + Send + Sync, R: Threads + Abort + Wait + Sync>(
     ).expect(rt, "room for threads");
     let ledger = store.close(rt);
     replay(rt, alloc, &ledger, stripes, &mut threads);
+    check_classes(rt, alloc, &ledger, stripes);
     check_found(rt, &threads);
 }
 

@@ -145,11 +145,14 @@ impl Plain {
     fn get<R: Abort>(&self, rt: &R, key: &[u8]) -> Reply {
         match self.find(key) {
             None => Reply::Miss,
-            Some(kept) => Reply::Value {
-                flags: kept.flags,
-                value: Value::from_vec(copied(rt, self.alloc, kept.value.as_slice())),
-                cas: kept.cas,
-            },
+            Some(kept) => {
+                let bytes = copied(rt, self.alloc, kept.value.as_slice());
+                Reply::Value {
+                    flags: kept.flags,
+                    value: Value::of(self.alloc, bytes).expect(rt, "a value"),
+                    cas: kept.cas,
+                }
+            }
         }
     }
 

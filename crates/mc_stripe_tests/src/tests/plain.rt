@@ -34,27 +34,27 @@ fn with(item: &Item, expiry: Expiry, marks: Marks, value: Value, cas: u64) -> It
 }
 
 // An item with another expiry and other marks.
-fn marked(alloc: Global, item: &Item, expiry: Expiry, marks: Marks) -> Result<Item, NoMemory> {
-    let value = item.value.copy(alloc)?;
+fn marked(item: &Item, expiry: Expiry, marks: Marks) -> Result<Item, NoMemory> {
+    let value = item.value.copy()?;
     Ok(with(item, expiry, marks, value, item.cas))
 }
 
 // What a change makes of an item.
-fn changed(alloc: Global, item: &Item, change: Change) -> Result<Option<Item>, NoMemory> {
+fn changed(item: &Item, change: Change) -> Result<Option<Item>, NoMemory> {
     match change {
         Change::Goes => Ok(None),
         Change::Renewed(renewed) => Ok(Some(renewed)),
-        Change::Stays => Ok(Some(marked(alloc, item, item.expiry, item.marks)?)),
-        Change::Hit(marks) => Ok(Some(marked(alloc, item, item.expiry, marks)?)),
-        Change::Touched(expiry, marks) => Ok(Some(marked(alloc, item, expiry, marks)?)),
+        Change::Stays => Ok(Some(marked(item, item.expiry, item.marks)?)),
+        Change::Hit(marks) => Ok(Some(marked(item, item.expiry, marks)?)),
+        Change::Touched(expiry, marks) => Ok(Some(marked(item, expiry, marks)?)),
         Change::Counted(value, cas) => Ok(Some(with(item, item.expiry, item.marks, value, cas))),
     }
 }
 
 // What a change leaves of an item that may be absent.
-fn left(alloc: Global, found: Option<&Item>, change: Change) -> Result<Option<Item>, NoMemory> {
+fn left(found: Option<&Item>, change: Change) -> Result<Option<Item>, NoMemory> {
     match found {
-        Some(item) => changed(alloc, item, change),
+        Some(item) => changed(item, change),
         None => match change {
             Change::Renewed(item) => Ok(Some(item)),
             _ => Ok(None),
@@ -101,7 +101,7 @@ pub(super) fn plain(
     };
     let answer = site.answer(alloc, versions, found, command, moment, None, room)?;
     let reply = reply_text(alloc, &answer.reply)?;
-    let item = left(alloc, found, answer.change)?;
+    let item = left(found, answer.change)?;
     let text = item_text(alloc, item.as_ref())?;
     Ok((reply, text))
 }

@@ -1,9 +1,0 @@
--- What a value holds.
-use Rattle.std.specs.Prelude.{ℕ, List}
-use Rattle.mc_item.specs.declared.value.Held.{Held}
-use Rattle.mc_item.specs.declared.value.Held.TheVariants.{Alone, Shared}
-
--- The bytes of a value, wherever they are.
-abbrev pub held_bytes : Held → List ℕ
-held_bytes (Alone bytes) = bytes.items
-held_bytes (Shared bytes) = bytes.value.items
