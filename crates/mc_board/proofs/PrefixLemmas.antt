@@ -23,13 +23,13 @@ pub prefix_trans : {A : Type 0} (xs ys zs : List A) → IsPrefix xs ys → IsPre
 prefix_trans xs ys zs p q = subst (IsPrefix xs) q.1 (prefix_more xs ys q.0 p)
 
 -- the next element of a list makes a beginning of it longer
-pub prefix_next : {A B : Type 0} (f : A → B) (xs : List B) (ys : List A) (y : A) → IsPrefix xs (map f ys) → length xs < length ys → y ≡ get_or ys (length xs) y → IsPrefix (xs ++ f y ∷ []) (map f ys)
-prefix_next f [] [] y p lt e = absurd (omega (arith, lt))
-prefix_next f [] (z ∷ ys) y p lt e = (map f ys, ap (λ v. f v ∷ map f ys) e)
-prefix_next f (x ∷ xs) [] y p lt e = absurd (omega (arith, lt))
-prefix_next f (x ∷ xs) (z ∷ ys) y p lt e =
-    let heads : x ≡ f z = cc (p.1) in
-    let r = prefix_next f xs ys y (p.0, cc (p.1)) (omega (arith, lt)) e in
+pub prefix_next : {A : Type 0} (xs ys : List A) (d : A) → IsPrefix xs ys → length xs < length ys → IsPrefix (xs ++ get_or ys (length xs) d ∷ []) ys
+prefix_next [] [] d p lt = absurd (omega (arith, lt))
+prefix_next [] (y ∷ ys) d p lt = (ys, refl)
+prefix_next (x ∷ xs) [] d p lt = absurd (omega (arith, lt))
+prefix_next (x ∷ xs) (y ∷ ys) d p lt =
+    let heads : x ≡ y = cc (p.1) in
+    let r = prefix_next xs ys d (p.0, cc (p.1)) (omega (arith, lt)) in
     (r.0, cc (heads, r.1))
 
 -- a beginning that is as long is the whole list

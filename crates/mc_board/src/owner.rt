@@ -1,8 +1,8 @@
 //! The owner of a lock's history.
-ghost use Rattle.std.specs.Prelude.{◌≡◌, ◌<◌, ◌≤◌, ◌+◌, ◌^◌, ◌++◌, ◌∷◌, [], length, map};
+ghost use Rattle.std.specs.Prelude.{◌≡◌, ◌<◌, ◌≤◌, ◌+◌, ◌^◌, ◌++◌, ◌∷◌, [], get_or, length, map};
 ghost use mathlib.Core.List.{IsPrefix};
 ghost use Rattle.mc_board.specs.Histories.{with_seen, Grows, HasSeen, HasNoted};
-ghost use Rattle.mc_board.specs.Steps.{owned_of, owned_with, owned_told};
+ghost use Rattle.mc_board.specs.Steps.{owned_of, owned_with, owned_told, some_event};
 ghost use Rattle.mc_board.specs.declared.rule.View.TheVariants as views;
 
 use crate::board::Board;
@@ -91,11 +91,21 @@ impl Owner {
         ensures history { self.new ≡ record self.old { history = map E.entry events.now.items } }
     {
         for place in self.len()..events.len() {
-            let Some(event) = events.get(place) else {
-                unreachable!();
-            };
-            self.append(board, event);
+            self.append_at(board, events, place);
         }
+    }
+
+    // Adds the list's event at that place.
+    #[inline(always)]
+    fn append_at<E: Logged + Drop>(&mut self, board: &Board, events: &History<E>, place: usize)
+        requires board { self.old.board ≡ board.now.table }
+        requires room { length self.old.history + 1 < 2 ^ 64 }
+        ensures history { self.new ≡ record self.old {
+          history = self.old.history ++ get_or (map E.entry events.now.items) place some_event ∷ [];
+        } }
+    {
+        add::<Brand, (&History<E>, usize)>(board, self.word, &mut self.place, &(events, place));
+        self.events += 1;
     }
 
     /// Compares the history with a token: what the token has seen of this lock begins the history, and what it has
@@ -127,16 +137,16 @@ impl Owner {
     }
 }
 
-// The step that adds the event that N names.
-fn add<N: NamesEvent, E: Logged>(board: &Board, word: usize, place: &mut Place, event: &E)
+// The step that adds the event that N names. No byte of what it is named by is read: only proofs need it.
+#[inline(always)]
+fn add<N: NamesEvent, A>(board: &Board, word: usize, place: &mut Place, _named_by: &A)
     requires board { place.old.table_id ≡ board.now.table }
     requires owner { place.old.me ≡ (views.Owner (owned_of place.old.me.0), []) }
     requires word { ((owned_of place.old.me.0).word ≡ word) × (word < board.now.table.words) }
     requires room { length (owned_of place.old.me.0).history + 1 < 2 ^ 64 }
-    requires event { N.entry ≡ E.entry event.now }
     ensures place { (place.new.table_id ≡ place.old.table_id) × (place.new.id ≡ place.old.id) }
     ensures added { place.new.me
-        ≡ (views.Owner (owned_with (owned_of place.old.me.0) (E.entry event.now)), []) }
+        ≡ (views.Owner (owned_with (owned_of place.old.me.0) N.entry), []) }
 {
     board.table.shared.fetch_add::<Adds<N>>(place, word, 1);
 }

@@ -1,4 +1,4 @@
 use Rattle.mc_board.proofs.owner.Owner.append.Given as goal
 
 abbrev pub ghosts-add : goal.ghosts-add
-ghosts-add g a = record { entry = g.E.Logged.entry a.event.now }
+ghosts-add g a = record { entry = g.E.Logged.entry a._named_by.now }
