@@ -160,10 +160,8 @@ fn counts_in_place(
 #[test]
 fn items_count_in_place_where_the_number_fits(rt: HostRuntime) {
     let alloc = rt.alloc();
-    let mut spaced = [b' '; 65];
-    spaced[0] = b'9';
-    let owned = Vec::from_slice(alloc, spaced.as_slice()).expect(&rt, "memory");
-    let shared = Value::of(alloc, owned).expect(&rt, "memory");
+    let shared = value(&rt, alloc, b"9 ");
+    let copy = shared.copy().expect(&rt, "memory");
     counts_in_place(
         &rt,
         value(&rt, alloc, b"10"),
@@ -182,7 +180,8 @@ fn items_count_in_place_where_the_number_fits(rt: HostRuntime) {
     );
     counts_in_place(&rt, value(&rt, alloc, b"9"), Step::Up(1), None, b"9", 6);
     counts_in_place(&rt, value(&rt, alloc, b"x"), Step::Up(1), None, b"x", 6);
-    counts_in_place(&rt, shared, Step::Up(1), None, &spaced, 6);
+    counts_in_place(&rt, shared, Step::Up(1), None, b"9 ", 6);
+    assert_eq!(rt; copy.bytes(), b"9 ".as_slice());
 }
 
 #[test]
