@@ -67,10 +67,7 @@ fn get_alone(
 
 // The answer to a command whose key has no item; nothing is answered for storage commands.
 #[inline(always)]
-fn absent_alone(
-    command: &Command,
-    copies: bool,
-) -> Result<Option<Answered>, NoMemory>
+fn absent_alone(command: &Command, copies: bool) -> Result<Option<Answered>, NoMemory>
     ensures chunks { IfOk result (λ answered. OnSome answered ((site : Site) (n moment : ℕ) → LeavesChunks (key_of command.now) None (row_of site n None command.now moment) moment)) }
     ensures ok { IfOk result (λ answered. IfSome answered (λ a. (a.added ≡ 0) × (a.copy ≡ (if copies then Some a.noted else None)) × ((site : Site) (n moment : ℕ) → (row_of site n None command.now moment).answer rooms.Keep ≡ answers.answer a.noted changes.Stays))) }
     ensures back { IfOk result (λ answered. IfNone answered (IsStorage command.now)) }

@@ -42,9 +42,7 @@ pub(crate) fn answer_item(
     let Some(item) = items.get_mut(key) else {
         return answer_absent(alloc, site, versions, items, command, moment, room, copies);
     };
-    if let Some(answered) = answer_over(
-        site, versions, item, command, moment, room, copies,
-    )? {
+    if let Some(answered) = answer_over(site, versions, item, command, moment, room, copies)? {
         return Ok(answered);
     }
     let (answered, stays) = answer_found(

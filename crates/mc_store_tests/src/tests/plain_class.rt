@@ -267,7 +267,10 @@ impl PlainClass {
         let mut place = 0u64;
         for kept in list {
             let entry = class.from_tail(seg, place).expect(rt, "an entry");
-            assert_eq!(rt; (entry.number, entry.cost, entry.time), (kept.number, kept.cost, kept.time));
+            assert_eq!(rt;
+                (entry.number, entry.cost, entry.time),
+                (kept.number, kept.cost, kept.time)
+            );
             assert_eq!(rt; entry.key.bytes(), kept.key.as_slice());
             place = place.saturating_add(1);
         }
