@@ -6,11 +6,6 @@ pub mod OnlyLemmas
 pub mod NotedLemmas
 pub mod LeavesLemmas
 pub mod LeftLemmas
-pub mod StartLemmas
-pub mod WordLemmas
-pub mod OptionLemmas
-pub mod PassLemmas
-pub mod ReadingLemmas
 pub mod JobLemmas
 pub mod EndedLemmas
 pub mod RunLemmas

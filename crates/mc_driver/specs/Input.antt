@@ -8,12 +8,12 @@ use Rattle.mc_proto.specs.Scripts as cut
 use Rattle.mc_script.specs.declared.outcome.Outcome.{Outcome}
 use Rattle.mc_script.specs.declared.outcome.Outcome.TheVariants.{Done}
 use Rattle.mc_store.specs.Finals.{FinalView}
-use Rattle.mc_driver.specs.Asked.{AreAsked, asked}
+use Rattle.mc_options.specs.Asked.{AreAsked, asked}
 use Rattle.mc_driver.specs.Left.{IsLeft}
 use Rattle.mc_driver.specs.Run.{IsAccepted, IsRunnable, limits_of, with_callers}
 use Rattle.mc_driver.specs.declared.fault.RunFault.{RunFault}
 use Rattle.mc_driver.specs.declared.fault.RunFault.TheVariants as refusals
-use Rattle.mc_driver.specs.declared.plans.Options.{Options}
+use Rattle.mc_options.specs.declared.plans.Options.{Options}
 
 -- what a script has printed, in memory: its bytes, and how often there was no room for more
 pub record Printed : Type 0 where

@@ -5,6 +5,4 @@ pub mod Caller
 pub mod Jobs
 pub mod Run
 pub mod Left
-pub mod Words
-pub mod Asked
 pub mod Input

@@ -7,16 +7,15 @@ ghost use Rattle.clap.specs.declared.error.kind.ErrorKind.TheVariants.{OutOfMemo
 ghost use Rattle.mc_item.specs.Config.{IsBounded};
 ghost use Rattle.mc_script.specs.declared.outcome.Outcome.TheVariants.{Done};
 ghost use Rattle.mc_driver.specs.Input.{HasServed, IsAnswered};
-ghost use Rattle.mc_driver.specs.Words.{refusals};
+ghost use Rattle.mc_options.specs.Words.{refusals};
 
 use crate::cutting::{MOST_SCRIPTS, run_cut};
 use crate::fault::RunFault;
-use crate::plans::Plan;
 use crate::printing::print_scripts;
 use crate::reading::read_pieces;
-use crate::words::{WordsFault, read_words};
 use clap::Error;
 use clap::error::ErrorKind;
+use mc_options::{Plan, WordsFault, read_words};
 use mc_script::Outcome;
 use std::alloc::Global;
 use std::collections::VecDeque;

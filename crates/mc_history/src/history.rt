@@ -68,6 +68,7 @@ impl<E: Drop> History<E> {
     }
 
     /// Adds an event at the end, where there is room for it. It takes no memory.
+    #[inline(always)]
     pub fn push_reserved(&mut self, event: E)
         requires room { 0 < self.old.room }
         ensures items { self.new.items ≡ self.old.items ++ event ∷ [] }

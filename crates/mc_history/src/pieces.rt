@@ -52,6 +52,7 @@ pub(crate) fn make_pieces<E: Drop>(
 }
 
 // Adds an event behind the others, of which there are so many.
+#[inline(always)]
 pub(crate) fn push_event<E: Drop>(pieces: &mut Vec<Vec<E>>, count: usize, event: E)
     requires kept { IsKept count pieces.old.items }
     requires room { count < 4096 * length pieces.old.items }

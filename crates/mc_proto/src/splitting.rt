@@ -108,6 +108,16 @@ pub fn lacks_directives(bytes: &[u8]) -> bool
     }
 }
 
+// The same; lines are looked at only where a byte is a percent sign.
+fn end_of_first(alloc: Global, limits: Limits, bytes: &[u8]) -> Result<Option<End>, NoMemory>
+    ensures { IfOk result (λ e. scripts.EndsFirst limits bytes.now e) }
+{
+    if lacks_directives(bytes) {
+        return Ok(None);
+    }
+    first_end(alloc, limits, bytes)
+}
+
 /// The scripts of an input, as they would be read one after the other. A `%next` within a block is part of the block,
 /// and nothing behind a line that is too long begins a script. No byte is copied; the lines between the scripts are part
 /// of none.
@@ -120,7 +130,7 @@ pub fn split_scripts<'a>(
 {
     let mut scripts = Vec::new(alloc);
     let mut rest = bytes;
-    while let Some(end) = first_end(alloc, limits, rest)? {
+    while let Some(end) = end_of_first(alloc, limits, rest)? {
         let (script, behind) = rest.split_at(end.script);
         scripts.push(script)?;
         rest = behind.split_at(end.line).1;

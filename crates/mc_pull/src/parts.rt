@@ -38,6 +38,7 @@ pub(crate) enum Part {
 }
 
 // Whether a class has the entry of a number, and of this key.
+#[inline(always)]
 fn is_for(class: &ClassState, key: &Key, number: u64) -> bool
     ensures value { result ≡ words.is_for key.now (entry_of number (lists_of class.now.history)) }
     ensures listed { result ≡ true → IsListed number (lists_of class.now.history) }
@@ -49,6 +50,7 @@ fn is_for(class: &ClassState, key: &Key, number: u64) -> bool
 }
 
 // The number of a link, where the class has its entry.
+#[inline(always)]
 fn number_in(class: &ClassState, key: &Key, link: Option<Link>) -> Option<u64>
     ensures value { result ≡ words.number_in class.now key.now link }
     ensures listed { IfSome result (λ number. IsListed number (lists_of class.now.history)) }
@@ -93,6 +95,7 @@ fn is_cold(class: &ClassState, number: u64) -> bool
 }
 
 // The part of a new version.
+#[inline(always)]
 fn new_part(
     alloc: Global,
     class: &ClassState,
@@ -146,6 +149,7 @@ fn hit_part(class: &ClassState, number: Option<u64>) -> Part
 }
 
 /// A class's part of a command.
+#[inline(always)]
 pub(crate) fn part_of(
     alloc: Global,
     class: &ClassState,

@@ -61,6 +61,7 @@ fn answer_kept<N: Named>(
 }
 
 // Makes a command that needs a chunk of the class that is locked, by its plan.
+#[inline(always)]
 fn answer_on_one<N: Named>(
     alloc: Global,
     store: &Store<N>,
@@ -94,6 +95,7 @@ fn answer_on_one<N: Named>(
 }
 
 // Makes a command that needs a chunk of one of the two classes that are locked, the lower first, by its plan.
+#[inline(never)]
 fn answer_on_two<N: Named>(
     alloc: Global,
     store: &Store<N>,
@@ -139,6 +141,7 @@ fn answer_on_two<N: Named>(
 
 // Makes a command that needs a chunk, by its plan: the classes of the new version and of the item that it replaces are
 // locked, the lower first. A plan that needs no class, of which there is none here, would be waited for.
+#[inline(always)]
 fn answer_fresh<N: Named>(
     alloc: Global,
     store: &Store<N>,
@@ -185,6 +188,7 @@ fn answer_fresh<N: Named>(
 }
 
 // Makes a command whose key has no dead item, by its plan.
+#[inline(always)]
 pub(crate) fn answer_by_plan<N: Named>(
     alloc: Global,
     store: &Store<N>,

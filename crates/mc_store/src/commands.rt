@@ -33,6 +33,7 @@ use std::alloc::Global;
 use std::sync::Wait;
 
 // The dead item of a command's key goes, under the lock of its link's class too; `link` is the item's.
+#[inline(never)]
 fn bury_locked<N: Named>(
     alloc: Global,
     store: &Store<N>,
@@ -58,6 +59,7 @@ fn bury_locked<N: Named>(
 }
 
 // The dead item of a command's key goes, where there is one, and the command is planned behind that.
+#[inline(always)]
 fn plan_alive<N: Named>(
     alloc: Global,
     store: &Store<N>,
@@ -88,6 +90,7 @@ fn plan_alive<N: Named>(
 }
 
 // One command by its plan, on the stripe of its key, which is under its lock.
+#[inline(always)]
 fn command_planned<N: Named>(
     alloc: Global,
     store: &Store<N>,
@@ -114,6 +117,7 @@ fn command_planned<N: Named>(
 }
 
 // The same, once the stripe is told that the command was asked for.
+#[inline(always)]
 fn command_told<N: Named>(
     alloc: Global,
     store: &Store<N>,

@@ -18,6 +18,7 @@ pub(crate) enum Needed {
 }
 
 // The link that a room is, where it is one.
+#[inline(always)]
 fn link_of(room: Room) -> Option<Link>
     ensures { result ≡ words.link_of room }
 {
@@ -29,6 +30,7 @@ fn link_of(room: Room) -> Option<Link>
 }
 
 // The classes of two links, which may be one.
+#[inline(always)]
 fn needed_for_both(fresh: Link, old: Link) -> Needed
     ensures lent { HoldsOf result (λ vs. IsLent vs fresh × IsLent vs old) }
     ensures among { (many : ℕ) → IsNumberOf many fresh.class → IsNumberOf many old.class → AreAmong many result }
@@ -44,6 +46,7 @@ fn needed_for_both(fresh: Link, old: Link) -> Needed
 }
 
 // The classes of a new version's link and of the item that it replaces, where there are such.
+#[inline(always)]
 fn needed_for_new(fresh: Option<Link>, old: Option<Link>) -> Needed
     ensures lent { HoldsOf result (λ vs. IsLentIf vs fresh × IsLentIf vs old) }
     ensures among { (many : ℕ) → HasClassIf many fresh → HasClassIf many old → AreAmong many result }
@@ -61,6 +64,7 @@ fn needed_for_new(fresh: Option<Link>, old: Option<Link>) -> Needed
 }
 
 // The classes that a command of this fate needs, where it is given this room.
+#[inline(always)]
 pub(crate) fn needed_for(fate: Fate, room: Room) -> Needed
     ensures lent { HoldsOf result (λ vs. AreLent vs room fate) }
     ensures among { (many : ℕ) → HaveClasses many room fate → AreAmong many result }

@@ -47,6 +47,7 @@ pub(crate) fn meet<N: Named>(board: &Board, own: &mut LockedStripe<N>, lent: &mu
 
 // Notes in a full class that no chunk was found, and answers the place of that event in its history. The class learns of the
 // call from the stripe, which was told of it.
+#[inline(never)]
 pub(crate) fn refuse<N: Named>(
     board: &Board,
     own: &mut LockedStripe<N>,
@@ -71,6 +72,7 @@ pub(crate) fn refuse<N: Named>(
 
 // The board gets the events of a command from its stripe. Where the command was answered, its caller notes at which place,
 // and the stripe is told so.
+#[inline(always)]
 fn put_answer<N: Named>(
     board: &Board,
     caller: &mut Caller<N>,
@@ -154,6 +156,7 @@ pub(crate) fn perform_alone<N: Named>(
 
 // Makes one command, whose key has no dead item, on its stripe and the class that it needs, which gives the room. Its caller
 // tells the class of the call.
+#[inline(always)]
 pub(crate) fn perform_on_one<N: Named>(
     alloc: Global,
     board: &Board,
@@ -218,6 +221,7 @@ pub(crate) fn perform_on_one<N: Named>(
 
 // Makes one command, whose key has no dead item, on its stripe and the two classes that it needs, the lower first, which
 // give the room. Its caller tells both of the call.
+#[inline(never)]
 pub(crate) fn perform_on_two<N: Named>(
     alloc: Global,
     board: &Board,

@@ -27,6 +27,7 @@ use std::alloc::Global;
 use std::sync::Wait;
 
 // Makes a command that is given no room, on the classes that its fate needs.
+#[inline(never)]
 pub(crate) fn perform_kept<N: Named>(
     alloc: Global,
     store: &Store<N>,
@@ -79,6 +80,7 @@ pub(crate) fn perform_kept<N: Named>(
 
 // Makes a command in a room that one class gives. A fate that needs another class, of which there is none here, would be
 // waited for.
+#[inline(always)]
 pub(crate) fn finish_one<N: Named>(
     alloc: Global,
     store: &Store<N>,
@@ -126,6 +128,7 @@ pub(crate) fn finish_one<N: Named>(
 }
 
 // Makes a command in a room that two classes give, the lower first; the same.
+#[inline(never)]
 pub(crate) fn finish_two<N: Named>(
     alloc: Global,
     store: &Store<N>,

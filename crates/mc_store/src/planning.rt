@@ -11,6 +11,7 @@ use mc_item::{ClassNo, Command, Room};
 use mc_stripe::{Fate, Plan};
 
 // What a command will need and do at a moment, by one look-up of its key.
+#[inline(always)]
 pub(crate) fn plan_under<N: Named>(own: &LockedStripe<N>, command: &Command, moment: u64) -> Plan
     requires early { moment ≤ 2 ^ 62 }
     ensures { IsPlanIn N.config own.now.stripe command.now moment result }
@@ -43,6 +44,7 @@ fn is_same(number: ClassNo, class: ClassNo) -> bool
 }
 
 // Whether a command of this fate, where it is given this room, needs no class but this one.
+#[inline(always)]
 pub(crate) fn suffices_one(class: ClassNo, room: Room, fate: Fate) -> bool
     ensures { IsTrue result → (v : ClassView) → v.number ≡ class → AreLent (v ∷ []) room fate }
 {

@@ -26,6 +26,7 @@ use std::alloc::Global;
 use std::sync::Wait;
 
 // Goes on where a class has this number, and else waits for ever.
+#[inline(always)]
 fn expect<N: Named>(rt: &impl Wait, lent: &LockedClass<N>, class: ClassNo)
     ensures number { lent.now.class.number ≡ class }
     ensures kept { IsLockedClass N.board.table N.config lent.now }
@@ -37,6 +38,7 @@ fn expect<N: Named>(rt: &impl Wait, lent: &LockedClass<N>, class: ClassNo)
 
 // A chunk is looked for in a class, where none is free, and the command is planned again behind that. A class of another
 // number, of which there is none here, would be waited for.
+#[inline(always)]
 fn search_on<N: Named>(
     alloc: Global,
     store: &Store<N>,
@@ -69,6 +71,7 @@ fn search_on<N: Named>(
 }
 
 // The next link of a class that has a chunk free, and that was told of the stripe.
+#[inline(always)]
 fn next_on<N: Named>(own: &LockedStripe<N>, lent: &LockedClass<N>, who: Who) -> Room
     requires met { AgreeNow lent.now.class own.now.stripe }
     requires free { IsFull lent.now.class.chunks (lists_of lent.now.class.history) → ⊥ }
@@ -90,6 +93,7 @@ fn next_on<N: Named>(own: &LockedStripe<N>, lent: &LockedClass<N>, who: Who) -> 
 
 // The room that a class gives: its next link, where a chunk is free, and else a refusal that it notes, and tells the stripe of.
 // A class of another number, of which there is none here, would be waited for.
+#[inline(always)]
 fn fresh_room<N: Named>(
     store: &Store<N>,
     rt: &impl Wait,
@@ -117,6 +121,7 @@ fn fresh_room<N: Named>(
 }
 
 // The room that a need is given.
+#[inline(always)]
 fn room_on<N: Named>(
     store: &Store<N>,
     rt: &impl Wait,
@@ -143,6 +148,7 @@ fn room_on<N: Named>(
 
 // The room and the fate of a command that needs a chunk of a class under its lock: one is looked for where none is free,
 // and then the class gives the room.
+#[inline(always)]
 pub(crate) fn ready_on<N: Named>(
     alloc: Global,
     store: &Store<N>,

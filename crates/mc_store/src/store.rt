@@ -58,8 +58,8 @@ fn wait_for<'a, T: Drop>(rt: &impl Wait, lock: &'a Mutex<T>) -> MutexGuard<'a, T
     lock.lock(rt)
 }
 
-// How often a lock is tried before a thread sleeps: until `Backoff` has no longer pause.
-const TRIES: usize = 11;
+// How often a lock is tried before a thread sleeps: the last 25 times the processor is yielded, for some microseconds more.
+const TRIES: usize = 32;
 
 impl<N: Named> Store<N> {
     // Locks a stripe. A state of another number than its place's, of which there is none, would be let go and tried again.

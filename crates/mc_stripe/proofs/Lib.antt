@@ -1,1 +1,2 @@
 pub mod StateLemmas
+pub mod NotedLemmas

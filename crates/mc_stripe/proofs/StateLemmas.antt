@@ -134,3 +134,13 @@ chunkless_fits (needs.Fresh class) before chunkless = chunkless
 chunkless_fits needs.Nothing before chunkless = tt
 chunkless_fits needs.Same before chunkless = tt
 chunkless_fits needs.TooLarge before chunkless = tt
+
+-- a room that fits what a command needs by the history is of a class only where a chunk of that class is needed by the items
+pub given_room : (site : Site) (limit : ℕ) (history : List StripeEvent) (versions : ℕ) (items reserved : List ℕ → Option Item) (key : List ℕ) (command : Command) (moment : ℕ) (room : Room)
+    → IsKept site limit history versions items → ((q : List ℕ) → reserved q ≡ items q)
+    → Fits (row_of site (cache_of site history).versions ((cache_of site history).items key) command moment).need room history
+    → IsOfNeed (row_of site versions (reserved key) command moment).need room
+given_room site limit history versions items reserved key command moment room kept same fits =
+    let given = fits_class (row_of site (cache_of site history).versions ((cache_of site history).items key) command moment).need room history fits in
+    subst (λ (o : Option Item). IsOfNeed (row_of site versions o command moment).need room) (sym (same key ∙ kept.items_are key))
+    (subst (λ (n : ℕ). IsOfNeed (row_of site n ((cache_of site history).items key) command moment).need room) (sym kept.versions_are) given)

@@ -1,13 +1,11 @@
 -- A stripe as contracts see it, and what its fields keep.
-use Rattle.std.specs.Prelude.{ℕ, ◌≡◌, ◌<◌, ◌≤◌, ◌^◌, List, Option, Some, None, length}
+use Rattle.std.specs.Prelude.{ℕ, ◌≡◌, ◌<◌, ◌≤◌, ◌^◌, List, Option, length}
 use Rattle.std.specs.List.{All}
 use Rattle.mc_item.specs.Cache.{Cache}
 use Rattle.mc_item.specs.Stripe.{cache_of, IsLegal}
 use Rattle.mc_item.specs.declared.answer.Site.{Site}
 use Rattle.mc_item.specs.declared.item.Item.{Item}
-use Rattle.mc_item.specs.declared.reply.Reply.{Reply}
 use Rattle.mc_item.specs.declared.stripe_event.StripeEvent.{StripeEvent}
-use Rattle.mc_item.specs.declared.stripe_event.StripeEvent.TheVariants as events
 
 -- a stripe: what is fixed, how many events its history may have, the history, oldest first, and how many more
 -- events need no memory
@@ -24,13 +22,6 @@ stripe site limit history room = record { site = site; limit = limit; history = 
 -- the cache that a stripe's history leaves
 abbrev pub cache_now : Stripe → Cache
 cache_now s = cache_of s.site s.history
-
--- the reply that an event notes, where it is there and a command's
-abbrev pub reply_noted : Option StripeEvent → Option Reply
-reply_noted None = None
-reply_noted (Some (events.Did did)) = Some did.reply
-reply_noted (Some (events.Lost lost)) = None
-reply_noted (Some (events.Cooled cooled)) = None
 
 -- the bounds of what a stripe is made with: its number is one of at most 64 stripes, each size is at most 2^20, and
 -- its history may have at most 2^32 events

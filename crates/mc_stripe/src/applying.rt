@@ -1,5 +1,5 @@
 //! Commands on a stripe.
-ghost use Rattle.std.specs.Prelude.{◌≡◌, ◌≤◌, ◌<◌, ◌+◌, ◌^◌, ℕ, Option, None, false, IfOk, IfErr, OnOk, OnErr, Some, if◌then◌else◌, ◌⊎◌, IsErrOf, ◌↔◌, ◌++◌, ◌∷◌, [], length};
+ghost use Rattle.std.specs.Prelude.{◌≡◌, ◌≤◌, ◌+◌, ◌^◌, ℕ, Option, None, false, IfOk, IfErr, OnOk, OnErr, Some, if◌then◌else◌, ◌⊎◌, IsErrOf, ◌↔◌, length};
 ghost use Rattle.mc_item.specs.Answer.{row_of};
 ghost use Rattle.mc_item.specs.Cache.{answer_of};
 ghost use Rattle.mc_item.specs.Command.{key_of};
@@ -16,9 +16,9 @@ ghost use Rattle.mc_stripe.specs.StripeCalls.{KeepsSite, Gains, Notes};
 
 use crate::alone::answer_alone;
 use crate::answering::answer_item;
+use crate::noting::push_answer;
 use crate::state::{StripeState, is_full};
-use mc_history::History;
-use mc_item::{Command, Did, Fault, Need, Reply, Room, StripeEvent, Verb, Who};
+use mc_item::{Command, Fault, Need, Reply, Room, Verb, Who};
 
 // Whether a command's need depends on the item under its key.
 fn asks_for_item(command: &Command) -> bool
@@ -38,29 +38,6 @@ fn asks_for_item(command: &Command) -> bool
         Command::Touch(_, _) => false,
         Command::Delete(_) => false,
     }
-}
-
-// A command that was answered is one event more, at the end. There is room for it.
-#[inline(always)]
-fn push_answer(
-    history: &mut History<StripeEvent>,
-    who: Who,
-    command: Command,
-    moment: u64,
-    reply: Reply,
-    room: Room,
-)
-    requires { 0 < history.old.room }
-    ensures items { history.new.items ≡ history.old.items ++ events.Did (record { who = who; command = command; moment = moment; reply = reply; room = room }) ∷ [] }
-    ensures room { history.old.room ≡ history.new.room + 1 }
-{
-    history.push_reserved(StripeEvent::Did(Did {
-        who,
-        command,
-        moment,
-        reply,
-        room,
-    }));
 }
 
 impl StripeState {

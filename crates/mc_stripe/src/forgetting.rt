@@ -11,8 +11,9 @@ ghost use Rattle.mc_stripe.specs.StripeState.{cache_now};
 ghost use Rattle.mc_stripe.specs.StripeCalls.{KeepsSite, Gains};
 
 use crate::changing::remove;
+use crate::noted::Noted;
 use crate::state::{StripeState, is_full};
-use mc_item::{Cause, ClassNo, Cooled, Fault, Item, Key, Lost, StripeEvent, Who};
+use mc_item::{Cause, ClassNo, Cooled, Fault, Item, Key, Lost, Who};
 use std::collections::HashMap;
 use std::hash::RandomState;
 
@@ -43,7 +44,7 @@ impl StripeState {
         self.history.reserve(1)?;
         remove(&mut self.items, &key);
         self.history
-            .push_reserved(StripeEvent::Lost(Lost { who, key, cause }));
+            .push_reserved(Noted::lost(Lost { who, key, cause }));
         Ok(())
     }
 
@@ -97,7 +98,7 @@ impl StripeState {
         self.history.reserve(1)?;
         cool_item(&mut self.items, &key);
         self.history
-            .push_reserved(StripeEvent::Cooled(Cooled { who, key }));
+            .push_reserved(Noted::cooled(Cooled { who, key }));
         Ok(())
     }
 }

@@ -9,10 +9,14 @@ mod fate;
 mod forgetting;
 mod in_place;
 mod new_versions;
+mod noted;
+mod noting;
+mod parts;
 mod planning;
 mod state;
 
 pub use fate::Fate;
 pub use mc_item::{Need, Room};
+pub use noted::Noted;
 pub use planning::Plan;
 pub use state::StripeState;

@@ -1,18 +1,16 @@
 //! The state of a stripe.
 ghost use Rattle.std.specs.Prelude.{◌≡◌, ◌≤◌, ◌<◌, ◌+◌, ◌^◌, [], OnOk, OnErr, IsErrOf, IsTrue, MatchBool, ◌↔◌, length};
-ghost use Rattle.std.specs.List.{slice_get};
 ghost use Rattle.std.specs.Option.{option_copied};
 ghost use Rattle.mc_item.specs.Config.{IsBounded};
 ghost use Rattle.mc_item.specs.Measure as measure;
 ghost use Rattle.mc_item.specs.Stripe.{IsLegal};
 ghost use Rattle.mc_item.specs.declared.fault.Fault.TheVariants as faults;
-ghost use Rattle.mc_stripe.specs.StripeState.{HasBounds, cache_now, reply_noted};
+ghost use Rattle.mc_stripe.specs.StripeState.{HasBounds, cache_now};
 ghost use Rattle.mc_stripe.specs.StripeCalls.{KeepsSite};
 
+use crate::noted::Noted;
 use mc_history::History;
-use mc_item::{
-    ClassSizes, Config, Fault, Item, Key, Reply, Site, StripeEvent, StripeNo, stripe_of,
-};
+use mc_item::{ClassSizes, Config, Fault, Item, Key, Site, StripeNo, stripe_of};
 use std::alloc::Global;
 use std::collections::HashMap;
 use std::hash::RandomState;
@@ -28,7 +26,7 @@ pub struct StripeState {
     pub(crate) limit: u64,
     pub(crate) versions: u64,
     pub(crate) items: HashMap<Key, Item, RandomState>,
-    pub(crate) history: History<StripeEvent>,
+    pub(crate) history: History<Noted>,
 }
 
 impl Model for StripeState {
@@ -46,7 +44,7 @@ impl Model for StripeState {
 
 // Whether a history of this limit has no place left.
 #[inline(always)]
-pub(crate) fn is_full(history: &History<StripeEvent>, limit: u64) -> bool
+pub(crate) fn is_full(history: &History<Noted>, limit: u64) -> bool
     ensures { MatchBool result (limit ≤ length history.now.items) (length history.now.items < limit) }
 {
     history.len() as u64 >= limit
@@ -97,26 +95,14 @@ impl StripeState {
         self.items.get(key)
     }
 
-    /// All that happened, oldest first.
-    pub fn history(&self) -> &History<StripeEvent>
+    /// All that happened, oldest first, as it lies in memory.
+    pub fn history(&self) -> &History<Noted>
         ensures value { result.now.items ≡ self.now.history }
         ensures legal { IsLegal self.now.site self.now.history }
         ensures within { length self.now.history ≤ self.now.limit }
         ensures bounds { HasBounds self.now.site self.now.limit }
     {
         &self.history
-    }
-
-    /// The reply that the event at a place of the history notes, where it is there and a command's.
-    pub fn reply_at(&self, place: u64) -> Option<&Reply>
-        ensures { option_copied result ≡ reply_noted (slice_get self.now.history place) }
-    {
-        match self.history.get(place as usize) {
-            Some(StripeEvent::Did(did)) => Some(&did.reply),
-            Some(StripeEvent::Lost(_)) => None,
-            Some(StripeEvent::Cooled(_)) => None,
-            None => None,
-        }
     }
 
     /// Makes room for n more events, of which each call that takes no memory then needs one.

@@ -6,6 +6,7 @@ mod alone;
 mod calls;
 mod histories;
 mod items;
+mod noted;
 mod plain;
 mod plans;
 mod table;

@@ -31,8 +31,9 @@ fn asserts_reclaimed<R: Abort>(
         }
         _ => assert!(rt; false, "no entry was reclaimed"),
     }
-    match last_in(world.stripe.history()) {
-        Some(StripeEvent::Lost(e)) => {
+    let last = last_in(world.stripe.history()).expect(rt, "an event");
+    match last.event(world.alloc).expect(rt, "a copy") {
+        StripeEvent::Lost(e) => {
             assert_eq!(rt; e.who, WHO);
             assert_eq!(rt; e.key.bytes(), [letter].as_slice());
             assert_eq!(rt; e.cause, Cause::Expired(moment));

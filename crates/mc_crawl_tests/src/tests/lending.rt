@@ -15,7 +15,7 @@ use mc_item::{
 };
 use mc_pull::Lone;
 use mc_segment::ClassState;
-use mc_stripe::StripeState;
+use mc_stripe::{Noted, StripeState};
 use std::alloc::Global;
 use std::hash::RandomState;
 use std::process::Abort;
@@ -70,30 +70,31 @@ pub(super) fn opened<R: Abort + RandomSource>(
     })
 }
 
-// Whether an event gives the link to a new version.
-fn gives(event: &StripeEvent, link: Link) -> bool
-    ensures { result ≡ false → link_named event.now ≢ Some link }
+// Whether an event gives the link to a new version, or can't be read without memory.
+fn gives(alloc: Global, noted: &Noted, link: Link) -> bool
+    ensures { result ≡ false → link_named noted.now ≢ Some link }
 {
-    match event {
-        StripeEvent::Did(did) => match did.room {
+    match noted.event(alloc) {
+        Ok(StripeEvent::Did(did)) => match did.room {
             Room::At(given) => given == link,
             Room::Keep => false,
             Room::Refused { .. } => false,
         },
-        StripeEvent::Lost(_) => false,
-        StripeEvent::Cooled(_) => false,
+        Ok(StripeEvent::Lost(_)) => false,
+        Ok(StripeEvent::Cooled(_)) => false,
+        Err(_) => true,
     }
 }
 
 // Whether no event gives the link.
-fn is_unnamed(events: &History<StripeEvent>, link: Link) -> bool
+fn is_unnamed(alloc: Global, events: &History<Noted>, link: Link) -> bool
     ensures { result ≡ true → IsUnnamed link events.now.items }
 {
     for place in 0..events.len() {
-        let Some(event) = events.get(place) else {
+        let Some(noted) = events.get(place) else {
             return false;
         };
-        if gives(event, link) {
+        if gives(alloc, noted, link) {
             return false;
         }
     }
@@ -101,13 +102,13 @@ fn is_unnamed(events: &History<StripeEvent>, link: Link) -> bool
 }
 
 // The room for a need: where a chunk is needed, the link of this number.
-fn room_for(need: Need, events: &History<StripeEvent>, number: u64) -> Option<Room>
+fn room_for(alloc: Global, need: Need, events: &History<Noted>, number: u64) -> Option<Room>
     ensures { IfSome result (λ room. Fits need room events.now.items) }
 {
     match need {
         Need::Fresh(class) => {
             let link = Link { class, number };
-            if is_unnamed(events, link) {
+            if is_unnamed(alloc, events, link) {
                 Some(Room::At(link))
             } else {
                 None
@@ -134,13 +135,14 @@ pub(super) fn ask<R: Abort>(rt: &R, world: &mut World, command: Command, moment:
     requires world { IsLending world.old.config world.old.class world.old.stripe }
     ensures world { IsLending world.new.config world.new.class world.new.stripe }
 {
+    let alloc = world.alloc;
     let stripe = &mut world.stripe;
     let number = world.class.next_number();
     assert!(rt; moment <= 1 << 62);
     assert!(rt; stripe.owns(command.key()));
     assert!(rt; !is_dead(stripe, command.key(), moment));
     let need = stripe.need(&command, moment);
-    let room = room_for(need, stripe.history(), number).expect(rt, "room");
+    let room = room_for(alloc, need, stripe.history(), number).expect(rt, "room");
     stripe
         .apply_with(WHO, command, moment, room, false)
         .expect(rt, "an answer");

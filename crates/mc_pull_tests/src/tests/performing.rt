@@ -20,16 +20,17 @@ use mc_item::{
 use mc_pull::{Lent, fate_for, perform, perform_fated};
 use mc_segment::ClassState;
 use mc_stripe::{Fate, StripeState};
+use std::alloc::Global;
 use std::process::Abort;
 use std::test::Fail;
 
 // Whether a room fits a need.
-fn fits(need: Need, room: Room, stripe: &StripeState) -> bool
+fn fits(alloc: Global, need: Need, room: Room, stripe: &StripeState) -> bool
     ensures { result ≡ true → Fits need room stripe.now.history }
 {
     match need {
         Need::Fresh(class) => match room {
-            Room::At(link) => link.class == class && is_unnamed(stripe.history(), link),
+            Room::At(link) => link.class == class && is_unnamed(alloc, stripe.history(), link),
             Room::Refused { class: other, .. } => other == class,
             Room::Keep => false,
         },
@@ -108,7 +109,13 @@ fn are_lent(class: &ClassState, room: Room, fate: Fate) -> bool
 }
 
 // Whether a stripe may answer a command.
-fn may_answer(stripe: &StripeState, command: &Command, moment: u64, room: Room) -> bool
+fn may_answer(
+    alloc: Global,
+    stripe: &StripeState,
+    command: &Command,
+    moment: u64,
+    room: Room,
+) -> bool
     ensures { result ≡ true → (who : Who) → MayAnswer stripe.now (call who command.now moment room) }
 {
     let key = command.key();
@@ -116,7 +123,7 @@ fn may_answer(stripe: &StripeState, command: &Command, moment: u64, room: Room) 
         return false;
     }
     let need = stripe.need(command, moment);
-    if !fits(need, room, stripe) {
+    if !fits(alloc, need, room, stripe) {
         return false;
     }
     true
@@ -146,6 +153,7 @@ fn is_enough(
 
 // Whether a command may be made on a stripe and a class.
 fn may(
+    alloc: Global,
     class: &ClassState,
     stripe: &StripeState,
     who: Who,
@@ -157,7 +165,7 @@ fn may(
     requires { IsWorld config.now class.now stripe.now }
     ensures { result ≡ true → MayPerform config.now stripe.now (call who command.now moment room) (class.now ∷ []) }
 {
-    if !may_answer(stripe, command, moment, room) {
+    if !may_answer(alloc, stripe, command, moment, room) {
         return false;
     }
     if !gives(class, who, room) {
@@ -184,7 +192,7 @@ fn make<R: Abort>(
     let stripe = &mut world.stripe;
     let class = &mut world.class;
     let config = &world.config;
-    assert!(rt; may(class, stripe, WHO, &command, moment, room, config));
+    assert!(rt; may(alloc, class, stripe, WHO, &command, moment, room, config));
     let lent = Lent::One(class);
     perform(alloc, stripe, lent, WHO, command, moment, room, config)
 }
@@ -204,7 +212,7 @@ fn make_fated<R: Abort>(
     let stripe = &mut world.stripe;
     let class = &mut world.class;
     let config = &world.config;
-    assert!(rt; may(class, stripe, WHO, &command, moment, room, config));
+    assert!(rt; may(alloc, class, stripe, WHO, &command, moment, room, config));
     let fate = fate_for(stripe, &command, moment, room, config);
     let lent = Lent::One(class);
     let copy = perform_fated(

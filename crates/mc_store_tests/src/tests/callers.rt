@@ -7,16 +7,18 @@ use super::opening::{Parts, four_stripes, opened};
 use mc_history::History;
 use mc_item::{ClassNo, StripeEvent, StripeNo};
 use mc_store::{Final, Named, Pass, Store};
+use mc_stripe::Noted;
 use std::alloc::Global;
 use std::marker::Brand;
 use std::process::Abort;
 use std::sync::Wait;
 
 // How many answered commands of a history name a caller.
-fn named_in(history: &History<StripeEvent>, caller: u32) -> u64 {
+fn named_in<R: Abort>(rt: &R, alloc: Global, history: &History<Noted>, caller: u32) -> u64 {
     let mut many = 0u64;
     for place in 0..history.len() {
-        if let Some(StripeEvent::Did(did)) = history.get(place) {
+        let noted = history.get(place).expect(rt, "an event");
+        if let StripeEvent::Did(did) = noted.event(alloc).expect(rt, "a copy") {
             if did.who.caller == caller {
                 many = many.saturating_add(1);
             }
@@ -26,13 +28,13 @@ fn named_in(history: &History<StripeEvent>, caller: u32) -> u64 {
 }
 
 // How many answered commands of a closed store of four stripes name a caller.
-fn named(ledger: &Final, caller: u32) -> u64
+fn named<R: Abort>(rt: &R, alloc: Global, ledger: &Final, caller: u32) -> u64
     requires { length ledger.now.stripes ≡ 4 }
 {
     let mut many = 0u64;
     for stripe in 0..4u32 {
         let history = ledger.stripe(StripeNo(stripe)).history();
-        many = many.saturating_add(named_in(history, caller));
+        many = many.saturating_add(named_in(rt, alloc, history, caller));
     }
     many
 }
@@ -76,9 +78,9 @@ fn check_named<N: Named, R: Abort + Wait>(rt: &R, alloc: Global, parts: Parts)
     ledger.compare(&mut first);
     ledger.compare(&mut second);
     ledger.compare(&mut third);
-    assert_eq!(rt; named(&ledger, 0), 4);
-    assert_eq!(rt; named(&ledger, 1), 7);
-    assert_eq!(rt; named(&ledger, 2), 0);
+    assert_eq!(rt; named(rt, alloc, &ledger, 0), 4);
+    assert_eq!(rt; named(rt, alloc, &ledger, 1), 7);
+    assert_eq!(rt; named(rt, alloc, &ledger, 2), 0);
 }
 
 // As many answered commands name a caller as its pass was answered.

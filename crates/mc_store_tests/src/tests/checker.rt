@@ -10,6 +10,7 @@ use super::playing::{COMMANDS, Call, PLAYERS, work};
 use mc_history::History;
 use mc_item::{Cause, ClassEvent, ClassNo, Did, Lost, Room, StripeEvent, StripeNo};
 use mc_store::{Final, Named};
+use mc_stripe::Noted;
 use std::alloc::Global;
 use std::fmt::Debug;
 use std::marker::Brand;
@@ -132,13 +133,14 @@ fn replay_one<R: Abort>(
     ledger: &Final,
     plain: &mut Plain,
     threads: &mut Vec<Vec<Call>>,
-    history: &History<StripeEvent>,
+    history: &History<Noted>,
 )
     requires { length ledger.now.classes ≡ 2 }
 {
     for place in 0..history.len() {
-        let event = history.get(place).expect(rt, "an event");
-        check_event(rt, alloc, ledger, plain, threads, event);
+        let noted = history.get(place).expect(rt, "an event");
+        let event = noted.event(alloc).expect(rt, "a copy");
+        check_event(rt, alloc, ledger, plain, threads, &event);
     }
 }
 

@@ -43,8 +43,9 @@ fn all_given<R: Abort>(rt: &R, alloc: Global, ledger: &Final, stripes: u32) -> V
     for stripe in 0..stripes {
         let history = ledger.stripe(StripeNo(stripe)).history();
         for place in 0..history.len() {
-            if let Some(StripeEvent::Did(did)) = history.get(place) {
-                note_given(rt, alloc, &mut given, did);
+            let noted = history.get(place).expect(rt, "an event");
+            if let StripeEvent::Did(did) = noted.event(alloc).expect(rt, "a copy") {
+                note_given(rt, alloc, &mut given, &did);
             }
         }
     }

@@ -6,36 +6,37 @@ ghost use Rattle.mc_stripe.specs.StripeState.{cache_now};
 use super::plain::{item_text, plain, reply_text, version_count};
 use super::{Asked, WHO, b, command_of};
 use mc_history::History;
-use mc_item::{Command, Fault, Key, Link, StripeEvent};
-use mc_stripe::{Need, Room, StripeState};
+use mc_item::{Command, Fault, Key, Link, NoMemory, Reply, StripeEvent, Who};
+use mc_stripe::{Need, Noted, Room, StripeState};
 use std::alloc::Global;
 use std::process::Abort;
 use std::test::Fail;
 
-// Whether an event gives the link to a new version.
-fn gives(event: &StripeEvent, link: Link) -> bool
-    ensures { result ≡ false → link_named event.now ≢ Some link }
+// Whether an event gives the link to a new version, or can't be read without memory.
+fn gives(alloc: Global, noted: &Noted, link: Link) -> bool
+    ensures { result ≡ false → link_named noted.now ≢ Some link }
 {
-    match event {
-        StripeEvent::Did(did) => match did.room {
+    match noted.event(alloc) {
+        Ok(StripeEvent::Did(did)) => match did.room {
             Room::At(given) => given == link,
             Room::Keep => false,
             Room::Refused { .. } => false,
         },
-        StripeEvent::Lost(_) => false,
-        StripeEvent::Cooled(_) => false,
+        Ok(StripeEvent::Lost(_)) => false,
+        Ok(StripeEvent::Cooled(_)) => false,
+        Err(_) => true,
     }
 }
 
 // Whether no event gives the link.
-fn is_unnamed(events: &History<StripeEvent>, link: Link) -> bool
+fn is_unnamed(alloc: Global, events: &History<Noted>, link: Link) -> bool
     ensures { result ≡ true → IsUnnamed link events.now.items }
 {
     for place in 0..events.len() {
-        let Some(event) = events.get(place) else {
+        let Some(noted) = events.get(place) else {
             return false;
         };
-        if gives(event, link) {
+        if gives(alloc, noted, link) {
             return false;
         }
     }
@@ -43,15 +44,21 @@ fn is_unnamed(events: &History<StripeEvent>, link: Link) -> bool
 }
 
 // The room for a need: a link of this number, or a refusal.
-fn room_for(need: Need, events: &History<StripeEvent>, number: u64, full: bool) -> Option<Room>
+fn room_for(
+    alloc: Global,
+    need: Need,
+    events: &History<Noted>,
+    number: u64,
+    full: bool,
+) -> Option<Room>
     ensures { IfSome result (λ room. Fits need room events.now.items) }
 {
     match need {
         Need::Fresh(class) => {
             let link = Link { class, number };
             if full {
-                Some(Room::Refused { class, place: 0 })
-            } else if is_unnamed(events, link) {
+                Some(Room::Refused { class, place: 77 })
+            } else if is_unnamed(alloc, events, link) {
                 Some(Room::At(link))
             } else {
                 None
@@ -114,9 +121,9 @@ fn answered(
         return Ok(None);
     }
     let events = stripe.history();
-    let versions = version_count(events);
+    let versions = version_count(alloc, events)?;
     let need = stripe.need(&command, moment);
-    let Some(room) = room_for(need, events, events.len() as u64, full) else {
+    let Some(room) = room_for(alloc, need, events, events.len() as u64, full) else {
         return Ok(None);
     };
     if versions > 16 {
@@ -128,6 +135,28 @@ fn answered(
     let left = item_text(alloc, stripe.find(&key))?;
     let reply = reply_text(alloc, &reply)?;
     Ok(Some(Texts { plain, reply, left }))
+}
+
+/// Answers a caller's command at a moment. A new version's link has the number of its event; where the class is full, the
+/// event at place 77 says so.
+pub(super) fn makes(
+    alloc: Global,
+    stripe: &mut StripeState,
+    who: Who,
+    command: Command,
+    moment: u64,
+    full: bool,
+) -> Result<(), Fail> {
+    if moment > 1_000_000 || !stripe.owns(command.key()) || is_dead(stripe, command.key(), moment) {
+        return Err(Fail::from("no call"));
+    }
+    let events = stripe.history();
+    let need = stripe.need(&command, moment);
+    let Some(room) = room_for(alloc, need, events, events.len() as u64, full) else {
+        return Err(Fail::from("no room"));
+    };
+    let _reply = stripe.apply(who, command, moment, room)?;
+    Ok(())
 }
 
 /// Whether a get of the key `b` is refused since the history is full.
@@ -149,7 +178,7 @@ pub(super) fn cools_without_memory(alloc: Global, stripe: &mut StripeState) -> R
         return Ok(false);
     }
     let need = stripe.need(&command, 1000);
-    let Some(room) = room_for(need, stripe.history(), 0, false) else {
+    let Some(room) = room_for(alloc, need, stripe.history(), 0, false) else {
         return Ok(false);
     };
     let _reply = stripe.apply(WHO, command, 1000, room)?;
@@ -199,6 +228,15 @@ pub(super) fn is_refused_alone(alloc: Global, stripe: &mut StripeState) -> Resul
     }
 }
 
+/// The reply that an event notes, where it is a command's.
+fn reply_in(alloc: Global, noted: &Noted) -> Result<Option<Reply>, NoMemory> {
+    match noted.event(alloc)? {
+        StripeEvent::Did(did) => Ok(Some(did.reply)),
+        StripeEvent::Lost(_) => Ok(None),
+        StripeEvent::Cooled(_) => Ok(None),
+    }
+}
+
 /// Asserts the text of the reply that the last event notes.
 pub(super) fn asserts_last<R: Abort>(
     rt: &R,
@@ -206,14 +244,13 @@ pub(super) fn asserts_last<R: Abort>(
     stripe: &StripeState,
     want: &str,
 ) -> Result<(), Fail> {
-    let count = stripe.history().len() as u64;
-    let last = if count == 0 {
-        None
-    } else {
-        stripe.reply_at(count - 1)
+    let history = stripe.history();
+    let last = match history.get(history.len().saturating_sub(1)) {
+        Some(noted) => reply_in(alloc, noted)?,
+        None => None,
     };
     let text = match last {
-        Some(reply) => reply_text(alloc, reply)?,
+        Some(reply) => reply_text(alloc, &reply)?,
         None => format!(in alloc; "none")?,
     };
     assert_eq!(rt; text.as_str(), want);

@@ -6,6 +6,7 @@ use mc_item::{
     Change, ClassSizes, Command, Expiry, Fault, Item, Marks, NoMemory, Reply, Room, Site,
     StripeEvent, Value,
 };
+use mc_stripe::Noted;
 use std::alloc::Global;
 
 /// An item's text, where there is one.
@@ -63,23 +64,25 @@ fn left(found: Option<&Item>, change: Change) -> Result<Option<Item>, NoMemory> 
 }
 
 // Whether an event made a new version: one that a command stored, or that is a new number.
-fn makes_version(event: &StripeEvent) -> bool {
-    match event {
-        StripeEvent::Did(did) => matches!(&did.reply, Reply::Stored | Reply::Number(_)),
-        StripeEvent::Lost(_) => false,
-        StripeEvent::Cooled(_) => false,
+fn makes_version(alloc: Global, noted: &Noted) -> Result<bool, NoMemory> {
+    match noted.event(alloc)? {
+        StripeEvent::Did(did) => Ok(matches!(&did.reply, Reply::Stored | Reply::Number(_))),
+        StripeEvent::Lost(_) => Ok(false),
+        StripeEvent::Cooled(_) => Ok(false),
     }
 }
 
 /// How many new versions the events made.
-pub(super) fn version_count(events: &History<StripeEvent>) -> u64 {
+pub(super) fn version_count(alloc: Global, events: &History<Noted>) -> Result<u64, NoMemory> {
     let mut versions = 0u64;
     for place in 0..events.len() {
-        if events.get(place).is_some_and(|event| makes_version(event)) {
-            versions = versions.saturating_add(1);
+        if let Some(noted) = events.get(place) {
+            if makes_version(alloc, noted)? {
+                versions = versions.saturating_add(1);
+            }
         }
     }
-    versions
+    Ok(versions)
 }
 
 /// The texts of the reply to a command and of the item that it leaves, after a number of versions.

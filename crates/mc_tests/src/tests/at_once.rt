@@ -8,6 +8,7 @@ use mc_driver::{Outcome, Run, RunFault, Source, SourceFault, run_scripts};
 use mc_history::History;
 use mc_item::{ClassEvent, ClassNo, Config, Key, Numbers, Reply, StripeEvent, StripeNo};
 use mc_proto::{Sink, SinkFault};
+use mc_stripe::Noted;
 use std::alloc::Global;
 use std::process::Abort;
 use std::random::RandomSource;
@@ -211,12 +212,13 @@ fn equal_scripts<'a, R: Abort>(
 }
 
 // The numbers that a stripe's commands answered.
-fn numbers_of(rt: &impl Abort, alloc: Global, history: &History<StripeEvent>) -> Vec<u64> {
+fn numbers_of(rt: &impl Abort, alloc: Global, history: &History<Noted>) -> Vec<u64> {
     let mut numbers = Vec::new(alloc);
     for place in 0..history.len() {
-        if let Some(StripeEvent::Did(did)) = history.get(place) {
-            if let Reply::Number(number) = &did.reply {
-                numbers.push(*number).expect(rt, "memory");
+        let noted = history.get(place).expect(rt, "an event");
+        if let StripeEvent::Did(did) = noted.event(alloc).expect(rt, "memory") {
+            if let Reply::Number(number) = did.reply {
+                numbers.push(number).expect(rt, "memory");
             }
         }
     }

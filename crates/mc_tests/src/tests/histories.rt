@@ -31,7 +31,7 @@ static HISTORY: [&str; 8] = [
 ];
 
 // An event in short.
-fn event_text(alloc: Global, event: &StripeEvent) -> Result<String, Fail> {
+fn event_text(alloc: Global, event: StripeEvent) -> Result<String, Fail> {
     match event {
         StripeEvent::Did(did) => Ok(format!(in alloc;
             "caller {}, turn {}, moment {}: {:?}; {:?}; {:?}",
@@ -67,8 +67,8 @@ fn asserts_history<L: Ledger + Send + Sync, R: Abort + RandomSource + Threads + 
     let history = run.ledger.stripe(StripeNo(0)).history();
     assert_eq!(rt; history.len(), HISTORY.len());
     for (place, want) in HISTORY.iter().enumerate() {
-        let event = history.get(place).expect(rt, "an event");
-        let text = event_text(alloc, event)?;
+        let noted = history.get(place).expect(rt, "an event");
+        let text = event_text(alloc, noted.event(alloc)?)?;
         assert_eq!(rt; text.as_str(), *want);
     }
     Ok(())

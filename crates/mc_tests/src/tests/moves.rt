@@ -3,9 +3,11 @@ ghost use Rattle.std.specs.Prelude.{◌≡◌, ◌<◌};
 
 use super::supplies::{Pieces, Slow};
 use super::{lines, seed_of};
-use mc_driver::{Options, Outcome, plan_for, run_scripts};
+use mc_driver::{Outcome, run_scripts};
 use mc_history::History;
 use mc_item::{Cause, ClassEvent, ClassNo, StripeEvent, StripeNo};
+use mc_options::{Options, plan_for};
+use mc_stripe::Noted;
 use std::alloc::Global;
 use std::marker::Brand;
 use std::process::Abort;
@@ -60,9 +62,9 @@ fn event_text(alloc: Global, event: &ClassEvent) -> Result<String, Fail> {
 }
 
 // The cause for which the event at a place of the stripe's history lost an item, where it did.
-fn cause_at(history: &History<StripeEvent>, place: usize) -> Option<Cause> {
-    match history.get(place) {
-        Some(StripeEvent::Lost(lost)) => Some(lost.cause),
+fn cause_at(alloc: Global, history: &History<Noted>, place: usize) -> Option<Cause> {
+    match history.get(place)?.event(alloc) {
+        Ok(StripeEvent::Lost(lost)) => Some(lost.cause),
         _ => None,
     }
 }
@@ -98,7 +100,7 @@ fn asserts_histories<L: Ledger + Send + Sync, R: Abort + RandomSource + Threads 
     let stripe = run.ledger.stripe(StripeNo(0)).history();
     assert_eq!(rt; stripe.len(), 3);
     assert_eq!(rt;
-        cause_at(stripe, 1),
+        cause_at(alloc, stripe, 1),
         Some(Cause::Taken {
             class: ClassNo(1),
             place: 2

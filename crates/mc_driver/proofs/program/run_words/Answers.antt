@@ -1,7 +1,7 @@
 use Rattle.std.proofs.Common.{subst}
 use Rattle.std.specs.List.{flat_map}
 use Rattle.mc_item.proofs.ConfigLemmas.{bounded}
-use Rattle.mc_driver.proofs.PassLemmas.{moments_early}
+use Rattle.mc_options.proofs.PlanLemmas.{moments_early}
 use Rattle.mc_driver.specs.Input.{IsAnswered}
 use Rattle.mc_driver.proofs.program.run_words.Goals as goal
 

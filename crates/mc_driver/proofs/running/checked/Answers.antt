@@ -2,7 +2,7 @@ use Rattle.std.proofs.Common.{◌≡◌, None, sym, subst}
 use Rattle.mc_item.specs.Config.{fault_of}
 use Rattle.mc_item.specs.declared.config.Config.{Config}
 use Rattle.mc_driver.specs.Run.{with_callers}
-use Rattle.mc_driver.proofs.StartLemmas.{check_passed}
+use Rattle.mc_options.proofs.PlanLemmas.{check_passed}
 use Rattle.mc_driver.proofs.running.checked.Goals as goal
 
 pub returns-in-Ok-clause-ok : goal.returns-in-Ok-clause-ok

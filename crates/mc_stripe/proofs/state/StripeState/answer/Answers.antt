@@ -6,15 +6,25 @@ use Rattle.mc_item.specs.Answer.{row_of}
 use Rattle.mc_item.specs.Command.{key_of}
 use Rattle.mc_item.specs.Measure.{stripe_of}
 use Rattle.mc_item.specs.Stripe.{cache_of}
+use Rattle.mc_item.specs.declared.answer.Answer.{Answer}
 use Rattle.mc_item.specs.declared.item.Item.{Item}
 use Rattle.mc_item.specs.declared.reply.Reply.{Reply}
 use Rattle.mc_item.specs.declared.reply.Room.TheVariants as rooms
 use Rattle.mc_item.specs.declared.stripe_event.StripeEvent.{StripeEvent}
 use Rattle.mc_item.specs.declared.stripe_event.StripeEvent.TheVariants as events
 use Rattle.mc_stripe.specs.Alone.{LeavesChunks}
+use Rattle.mc_stripe.specs.Noted.{IsNotable}
 use Rattle.mc_stripe.specs.StripeState.{Stripe}
+use Rattle.mc_stripe.proofs.NotedLemmas.{row_notable}
 use Rattle.mc_stripe.proofs.StateLemmas.{chunkless_fits, command_kept}
 use Rattle.mc_stripe.proofs.state.StripeState.answer.Goals as goal
+
+pub push_answer-requires-clause-notable : goal.push_answer-requires-clause-notable
+push_answer-requires-clause-notable c =
+    let found = get (pointwise nat_eq) c.self.inside.items (key_of c.args.command) in
+    let ok = rw c.in-Some.is at c.in_ok-told.ensures.ok in
+    subst (λ (r : Reply). IsNotable c.args.command r rooms.Keep) (sym (ok.2 ∙ ap (λ (a : Answer). a.reply) ok.1))
+    (row_notable c.self.inside.site c.self.inside.versions found c.args.command c.args.moment rooms.Keep tt)
 
 pub invariant_of-self-2 : goal.invariant_of-self-2
 invariant_of-self-2 c =

@@ -1,30 +1,40 @@
 use Rattle.std.proofs.Common.{◌≡◌, ◌<◌, length, ap, ◌∙◌, sym, refl, List, subst, arith, ◌++◌, ◌∷◌, []}
-use Rattle.std.specs.Prelude.{ℕ, Option, nat_eq}
+use Rattle.std.specs.Prelude.{nat_eq}
 use Rattle.std.specs.Cmp.Lexicographic.{pointwise}
 use Rattle.std.specs.HashMap.{get}
 use Rattle.mc_item.specs.Answer.{row_of}
 use Rattle.mc_item.specs.Command.{key_of}
 use Rattle.mc_item.specs.Measure.{stripe_of}
-use Rattle.mc_item.specs.Stripe.{IsAlive, Fits, cache_of}
-use Rattle.mc_item.specs.declared.item.Item.{Item}
+use Rattle.mc_item.specs.Stripe.{IsAlive, Fits}
+use Rattle.mc_item.specs.declared.answer.Answer.{Answer}
 use Rattle.mc_item.specs.declared.reply.Reply.{Reply}
 use Rattle.mc_item.specs.declared.stripe_event.StripeEvent.{StripeEvent}
 use Rattle.mc_item.specs.declared.stripe_event.StripeEvent.TheVariants as events
 use Rattle.mc_stripe.specs.StripeState.{Stripe, cache_now}
-use Rattle.mc_stripe.specs.Rooms.{IsOfNeed}
-use Rattle.mc_stripe.proofs.StateLemmas.{command_kept, fits_class}
+use Rattle.mc_stripe.specs.Noted.{IsNotable}
+use Rattle.mc_stripe.proofs.NotedLemmas.{row_notable}
+use Rattle.mc_stripe.proofs.StateLemmas.{command_kept, given_room}
 use Rattle.mc_stripe.proofs.state.StripeState.apply_with.Goals as goal
 
 pub answer_item-requires-clause-need : goal.answer_item-requires-clause-need
 answer_item-requires-clause-need c =
-    let site = c.self.inside.site in
     let key = key_of c.args.command in
-    let cache = cache_of site c.self.inside.history.items in
     let fits = subst (λ (s : Stripe). Fits (row_of s.site (cache_now s).versions ((cache_now s).items key) c.args.command c.args.moment).need c.args.room s.history) (sym c.self.view_is) c.requires.fits in
-    let given = fits_class (row_of site cache.versions (cache.items key) c.args.command c.args.moment).need c.args.room c.self.inside.history.items fits in
-    let item_is = c.in_ok-reserve.ensures.entries.2 key ∙ c.self.invariant.items_are key in
-    subst (λ (o : Option Item). IsOfNeed (row_of site c.self.inside.versions o c.args.command c.args.moment).need c.args.room) (sym item_is)
-    (subst (λ (n : ℕ). IsOfNeed (row_of site n (cache.items key) c.args.command c.args.moment).need c.args.room) (sym c.self.invariant.versions_are) given)
+    given_room c.self.inside.site c.self.inside.limit c.self.inside.history.items c.self.inside.versions
+    (get (pointwise nat_eq) c.self.inside.items) (get (pointwise nat_eq) c.reserve.new.self) key c.args.command c.args.moment c.args.room
+    c.self.invariant c.in_ok-reserve.ensures.entries.2 fits
+
+pub push_answer-requires-clause-notable : goal.push_answer-requires-clause-notable
+push_answer-requires-clause-notable c =
+    let key = key_of c.args.command in
+    let reserved = get (pointwise nat_eq) c.reserve.new.self in
+    let fits = subst (λ (s : Stripe). Fits (row_of s.site (cache_now s).versions ((cache_now s).items key) c.args.command c.args.moment).need c.args.room s.history) (sym c.self.view_is) c.requires.fits in
+    let given = given_room c.self.inside.site c.self.inside.limit c.self.inside.history.items c.self.inside.versions
+    (get (pointwise nat_eq) c.self.inside.items) reserved key c.args.command c.args.moment c.args.room
+    c.self.invariant c.in_ok-reserve.ensures.entries.2 fits in
+    let ok = c.in_ok-answered.ensures.ok in
+    subst (λ (r : Reply). IsNotable c.args.command r c.args.room) (sym (ok.2 ∙ ap (λ (a : Answer). a.reply) ok.1))
+    (row_notable c.self.inside.site c.self.inside.versions (reserved key) c.args.command c.args.moment c.args.room given)
 
 pub invariant_of-self-2 : goal.invariant_of-self-2
 invariant_of-self-2 c =

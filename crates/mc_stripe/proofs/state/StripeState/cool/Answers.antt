@@ -4,7 +4,6 @@ use Rattle.std.specs.Cmp.Lexicographic.{pointwise}
 use Rattle.std.specs.HashMap.{get}
 use Rattle.std.specs.Prelude.{IsSomeAnd, true}
 use Rattle.mc_item.specs.declared.stripe_event.StripeEvent.{StripeEvent}
-use Rattle.mc_item.specs.declared.stripe_event.StripeEvent.TheVariants as events
 use Rattle.mc_stripe.specs.StripeState.{Stripe, cache_now}
 use Rattle.mc_stripe.proofs.StateLemmas.{cooled_kept}
 use Rattle.mc_stripe.proofs.state.StripeState.cool.Goals as goal
@@ -17,4 +16,4 @@ invariant_of-self-2 c =
     (get (pointwise nat_eq) c.self.inside.items) (get (pointwise nat_eq) c.cool_item.new.items)
     (record { who = c.args.who; key = c.args.key })
     c.self.invariant few may c.cool_item.ensures.items
-    (c.push_reserved.ensures.items ∙ ap (λ (h : List StripeEvent). h ++ events.Cooled (record { who = c.args.who; key = c.args.key }) ∷ []) c.reserve.ensures.items)
+    (c.push_reserved.ensures.items ∙ ap (λ (h : List StripeEvent). h ++ c.cooled.result ∷ []) c.reserve.ensures.items ∙ ap (λ (e : StripeEvent). c.self.inside.history.items ++ e ∷ []) c.cooled.ensures)

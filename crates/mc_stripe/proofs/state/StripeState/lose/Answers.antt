@@ -4,7 +4,6 @@ use Rattle.std.specs.Cmp.Lexicographic.{pointwise}
 use Rattle.std.specs.HashMap.{get}
 use Rattle.mc_item.specs.Stripe.{MayLose}
 use Rattle.mc_item.specs.declared.stripe_event.StripeEvent.{StripeEvent}
-use Rattle.mc_item.specs.declared.stripe_event.StripeEvent.TheVariants as events
 use Rattle.mc_stripe.specs.StripeState.{Stripe, cache_now}
 use Rattle.mc_stripe.proofs.StateLemmas.{lost_kept}
 use Rattle.mc_stripe.proofs.state.StripeState.lose.Goals as goal
@@ -17,4 +16,4 @@ invariant_of-self-2 c =
     (get (pointwise nat_eq) c.self.inside.items) (get (pointwise nat_eq) c.remove.new.items)
     (record { who = c.args.who; key = c.args.key; cause = c.args.cause })
     c.self.invariant few may c.remove.ensures.items
-    (c.push_reserved.ensures.items ∙ ap (λ (h : List StripeEvent). h ++ events.Lost (record { who = c.args.who; key = c.args.key; cause = c.args.cause }) ∷ []) c.reserve.ensures.items)
+    (c.push_reserved.ensures.items ∙ ap (λ (h : List StripeEvent). h ++ c.lost.result ∷ []) c.reserve.ensures.items ∙ ap (λ (e : StripeEvent). c.self.inside.history.items ++ e ∷ []) c.lost.ensures)

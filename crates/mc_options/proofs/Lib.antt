@@ -1,0 +1,5 @@
+pub mod PlanLemmas
+pub mod WordLemmas
+pub mod OptionLemmas
+pub mod PassLemmas
+pub mod ReadingLemmas

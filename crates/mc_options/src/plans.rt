@@ -1,0 +1,244 @@
+//! Plans: what the options ask for.
+ghost use Rattle.std.specs.Prelude.{◌≡◌, ℕ, List, IfOk, Err, Option, None, MatchOption};
+ghost use Rattle.std.specs.Bool.{Decides};
+ghost use Rattle.std.specs.Option.{option_copied, option_map};
+ghost use Rattle.mc_item.specs.Config.{fault_of};
+ghost use Rattle.mc_options.specs.Asked.{AreMoments, AreMomentsNamed, AreNamed, IsBadList, IsFault, IsListOf, IsNoList, NamesNoMoments, NamesNone, asked, fault_number};
+ghost use Rattle.mc_options.specs.declared.plans.PlanFault.TheVariants as faults;
+
+use mc_item::{Config, ConfigFault, NoMemory, Numbers, number_of};
+use std::alloc::Global;
+
+// How many moments of upkeep there may be.
+const MOST_MOMENTS: usize = 1000;
+
+// The last moment.
+const MAX_MOMENT: u64 = 1 << 62;
+
+/// What is asked for: a store's configuration, and the moments of upkeep.
+#[derive(Drop)]
+pub struct Plan {
+    pub config: Config,
+    pub upkeep: Numbers,
+}
+
+/// What the options ask for, but those of the sizes and of upkeep: none where an option is absent.
+#[derive(Clone, Copy, Debug, PartialEq, Eq)]
+pub struct Options {
+    /// How many stripes the store has, instead of 1.
+    pub stripes: Option<u32>,
+    /// How many chunks every class has, instead of 1,024.
+    pub chunks: Option<u64>,
+    /// Whether items that expire soon begin in TEMP.
+    pub temp: bool,
+    /// Within how many seconds an item expires that begins in TEMP, instead of 61.
+    pub temp_ttl: Option<u64>,
+    /// How many events a history may hold, instead of 1,048,576.
+    pub events: Option<u64>,
+}
+
+/// Why there is no plan.
+#[derive(Clone, Copy, Debug, PartialEq, Eq)]
+pub enum PlanFault {
+    /// A list isn't one of numbers below 2^64 with one comma between two, or upkeep has more than 1,000 moments or one
+    /// above 2^62.
+    List,
+    /// The configuration has the fault of this number: 1 for its stripes, 2 sizes, 3 chunks, 4 percents, 5 factors,
+    /// 6 callers, 7 events.
+    Configuration(u8),
+    /// A growth was refused.
+    NoMemory,
+}
+
+impl From<NoMemory> for PlanFault {
+    ghost from_gives = { λ _ e. e ≡ faults.NoMemory };
+
+    fn from(_e: NoMemory) -> PlanFault {
+        PlanFault::NoMemory
+    }
+}
+
+// The numbers of a list with one comma between two.
+fn list_in(alloc: Global, text: &[u8]) -> Result<Option<Vec<u64>>, NoMemory>
+    ensures { IfOk result (λ list. MatchOption list (IsNoList text.now) (λ numbers. IsListOf text.now numbers.items)) }
+{
+    let mut numbers = Vec::new(alloc);
+    for digits in text.split(|byte| *byte == b',') {
+        match number_of(digits) {
+            Some(number) => numbers.push(number)?,
+            None => {
+                return Ok(None);
+            }
+        }
+    }
+    Ok(Some(numbers))
+}
+
+// The fault's number, in the order in which faults are looked at.
+fn fault_number(fault: ConfigFault) -> u8
+    ensures { result ≡ fault_number fault }
+{
+    match fault {
+        ConfigFault::Stripes => 1,
+        ConfigFault::Sizes => 2,
+        ConfigFault::Chunks => 3,
+        ConfigFault::Percent => 4,
+        ConfigFault::Factor => 5,
+        ConfigFault::Callers => 6,
+        ConfigFault::Events => 7,
+    }
+}
+
+// The numbers that an option names, where it is given.
+fn named(alloc: Global, text: Option<&[u8]>) -> Result<Option<Vec<u64>>, PlanFault>
+    ensures ok { IfOk result (λ numbers. AreNamed (option_copied text.entry) (option_map (λ v. v.items) numbers)) }
+    ensures list { result ≡ Err faults.List → NamesNone (option_copied text.entry) }
+    ensures sound { (n : ℕ) → result ≡ Err (faults.Configuration n) → ⊥ }
+{
+    let Some(text) = text else {
+        return Ok(None);
+    };
+    match list_in(alloc, text)? {
+        Some(numbers) => Ok(Some(numbers)),
+        None => Err(PlanFault::List),
+    }
+}
+
+// Whether these may be moments of upkeep.
+fn are_moments(numbers: &[u64]) -> bool
+    ensures { Decides result (AreMoments numbers.now) }
+{
+    numbers.len() <= MOST_MOMENTS && numbers.iter().all(|moment| *moment <= MAX_MOMENT)
+}
+
+// The moments that the option of upkeep names, none where it isn't given.
+fn moments_named(alloc: Global, text: Option<&[u8]>) -> Result<Numbers, PlanFault>
+    ensures ok { IfOk result (λ moments. AreMomentsNamed (option_copied text.entry) moments) }
+    ensures list { result ≡ Err faults.List → NamesNoMoments (option_copied text.entry) }
+    ensures sound { (n : ℕ) → result ≡ Err (faults.Configuration n) → ⊥ }
+{
+    match named(alloc, text)? {
+        None => Ok(Numbers::from_vec(Vec::new(alloc))),
+        Some(moments) => {
+            if are_moments(&moments) {
+                Ok(Numbers::from_vec(moments))
+            } else {
+                Err(PlanFault::List)
+            }
+        }
+    }
+}
+
+// The configuration with these sizes and 1,024 chunks for each, where sizes are given.
+fn with_sizes(alloc: Global, given: Config, sizes: Option<Vec<u64>>) -> Result<Config, NoMemory>
+    ensures { IfOk result (λ config. config ≡ Rattle.mc_options.specs.Asked.with_sizes (option_map (λ v. v.items) sizes) given) }
+{
+    let Some(sizes) = sizes else {
+        return Ok(given);
+    };
+    let mut config = given;
+    config.chunks = Numbers::from_vec(vec![in alloc; 1024; sizes.len()]?);
+    config.sizes = Numbers::from_vec(sizes);
+    Ok(config)
+}
+
+// The configuration with this many stripes, where a number is given.
+fn with_stripes(given: Config, stripes: Option<u32>) -> Config
+    ensures { result ≡ Rattle.mc_options.specs.Asked.with_stripes stripes given }
+{
+    let Some(stripes) = stripes else {
+        return given;
+    };
+    let mut config = given;
+    config.stripes = stripes;
+    config
+}
+
+// The configuration with this many chunks for every class, where a number is given.
+fn with_chunks(alloc: Global, given: Config, chunks: Option<u64>) -> Result<Config, NoMemory>
+    ensures { IfOk result (λ config. config ≡ Rattle.mc_options.specs.Asked.with_chunks chunks given) }
+{
+    let Some(limit) = chunks else {
+        return Ok(given);
+    };
+    let mut config = given;
+    let classes = config.sizes.as_slice().len();
+    config.chunks = Numbers::from_vec(vec![in alloc; limit; classes]?);
+    Ok(config)
+}
+
+// The configuration with this life in TEMP, where one is given.
+fn with_temp_ttl(given: Config, seconds: Option<u64>) -> Config
+    ensures { result ≡ Rattle.mc_options.specs.Asked.with_temp_ttl seconds given }
+{
+    let Some(seconds) = seconds else {
+        return given;
+    };
+    let mut config = given;
+    config.temp_ttl = seconds;
+    config
+}
+
+// The configuration with this limit of events, where one is given.
+fn with_events(given: Config, events: Option<u64>) -> Config
+    ensures { result ≡ Rattle.mc_options.specs.Asked.with_events events given }
+{
+    let Some(events) = events else {
+        return given;
+    };
+    let mut config = given;
+    config.max_events = events;
+    config
+}
+
+// The configuration that is asked for.
+fn config_of(alloc: Global, sizes: Option<Vec<u64>>, options: Options) -> Result<Config, NoMemory>
+    ensures { IfOk result (λ config. config ≡ asked (option_map (λ v. v.items) sizes) options) }
+{
+    let sized = with_sizes(alloc, Config::usual(alloc, 3)?, sizes)?;
+    let striped = with_stripes(sized, options.stripes);
+    let mut config = with_chunks(alloc, striped, options.chunks)?;
+    config.temp = options.temp;
+    let config = with_temp_ttl(config, options.temp_ttl);
+    Ok(with_events(config, options.events))
+}
+
+// The plan of a configuration and of moments of upkeep, where the configuration is sound.
+fn plan_of(config: Config, upkeep: Numbers) -> Result<Plan, PlanFault>
+    ensures config { IfOk result (λ plan. (plan.config ≡ config) × (fault_of config ≡ None)) }
+    ensures upkeep { IfOk result (λ plan. plan.upkeep ≡ upkeep) }
+    ensures list { result ≡ Err faults.List → ⊥ }
+    ensures fault { (n : ℕ) → result ≡ Err (faults.Configuration n) → IsFault n config }
+{
+    match config.check() {
+        Ok(config) => Ok(Plan { config, upkeep }),
+        Err(fault) => Err(PlanFault::Configuration(fault_number(fault))),
+    }
+}
+
+/// The plan of the options, each of which may be absent: the usual configuration of one stripe and 3 callers, and no
+/// upkeep. `sizes` is the text of the slab classes' sizes in bytes, as "96,1024": decimal numbers with one comma
+/// between two and nothing else, instead of the usual 43; each class has 1,024 chunks. `upkeep` is such a text of the
+/// moments at which the maintainer and the crawler work: at most 1,000, each at most 2^62. What the other options ask
+/// for, `options` says.
+///
+/// The error is `List` where a text is no such list, whatever the other options are; else `Configuration` where the
+/// sizes or a number are out of their range; and `NoMemory` where a growth was refused.
+pub fn plan_for(
+    alloc: Global,
+    sizes: Option<&[u8]>,
+    upkeep: Option<&[u8]>,
+    options: Options,
+) -> Result<Plan, PlanFault>
+    ensures ok { IfOk result (λ plan. (numbers : Option (List ℕ)) × AreNamed (option_copied sizes.entry) numbers × (plan.config ≡ asked numbers options) × (fault_of plan.config ≡ None)
+        × AreMomentsNamed (option_copied upkeep.entry) plan.upkeep) }
+    ensures list { result ≡ Err faults.List → IsBadList (option_copied sizes.entry) (option_copied upkeep.entry) }
+    ensures configuration { (n : ℕ) → result ≡ Err (faults.Configuration n)
+        → (numbers : Option (List ℕ)) × (moments : List ℕ) × AreNamed (option_copied sizes.entry) numbers × AreMomentsNamed (option_copied upkeep.entry) moments
+        × IsFault n (asked numbers options) }
+{
+    let numbers = named(alloc, sizes)?;
+    let moments = moments_named(alloc, upkeep)?;
+    let config = config_of(alloc, numbers, options)?;
+    plan_of(config, moments)
+}
