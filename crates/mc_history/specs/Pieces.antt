@@ -1,7 +1,9 @@
--- A list that lies in pieces of one length.
-use Rattle.std.specs.Prelude.{ℕ, ◌≡◌, ◌-◌, ◌*◌, ◌^◌, ◌≤◌, List, [], ◌∷◌, ◌++◌, Vec, length, min, vec_capacity, refl}
+-- A history's events, and the pieces that they lie in.
+use Rattle.std.specs.Prelude.{ℕ, ◌≡◌, ◌+◌, ◌-◌, ◌*◌, ◌^◌, ◌<◌, ◌≤◌, List, ◌++◌, Vec, length, vec_capacity, refl}
+use Rattle.std.specs.List.{All, flat_map}
 use Rattle.std.specs.Coded.{Coded, code_by, coded×, coded_ℕ, coded_list}
 use Rattle.std.specs.declared.alloc.Global.{Global}
+use Rattle.mc_history.specs.declared.pieces.Pieces.{Pieces}
 
 -- a history: its events, oldest first, and how many more need no memory
 pub record Events (E : Type 0) : Type 0 where
@@ -13,17 +15,33 @@ abbrev pub events_code : {E : Type 0} → Coded E → Coded (Events E)
 events_code {E} code =
     code_by (List E × ℕ) (coded× (coded_list code) coded_ℕ) (λ h. (h.items, h.room)) (λ p. record { items = p.0; room = p.1 }) (λ _. refl)
 
--- the events of all pieces, one piece after another
-abbrev pub events_of : {E : Type 0} → List (Vec E Global) → List E
-events_of [] = []
-events_of (p ∷ ps) = p.items ++ events_of ps
+-- the events of the full pieces, one piece after another, and then those of the last
+abbrev pub events_of : {E : Type 0} → Pieces E → List E
+events_of ps = flat_map (λ p. p.items) ps.full.items ++ ps.last.items
 
--- so many events lie in pieces that have room for `size` each: a piece is full before the next has one
-abbrev pub AreFilled : {E : Type 0} → ℕ → ℕ → List (Vec E Global) → Type 0
-AreFilled size count [] = count ≡ 0
-AreFilled size count (p ∷ ps) = (length p.items ≡ min size count) × (size ≤ vec_capacity p) × AreFilled size (count - size) ps
+-- the places that the last piece has left, and 4,096 in each piece ahead
+abbrev pub room_of : {E : Type 0} → Pieces E → ℕ
+room_of ps = vec_capacity ps.last - length ps.last.items + 4096 * length ps.ahead.items
 
--- what a history keeps: so many events lie in its pieces, and each has a place of 64 bits
-pub record IsKept {E : Type 0} (count : ℕ) (pieces : List (Vec E Global)) : Type 0 where
-  pub filled : AreFilled 4096 count pieces
-  pub places : 4096 * length pieces ≤ 2 ^ 63
+-- a full piece has 4,096 events
+abbrev pub IsFull : {E : Type 0} → Vec E Global → Type 0
+IsFull p = length p.items ≡ 4096
+
+-- a piece ahead has no event, and places for 4,096
+pub record IsAhead {E : Type 0} (p : Vec E Global) : Type 0 where
+  pub none : length p.items ≡ 0
+  pub places : vec_capacity p ≡ 4096
+
+-- pieces are sound: the last has no places or 4,096, those ahead find room behind the full ones, and all places together
+-- can be counted
+pub record IsSound {E : Type 0} (ps : Pieces E) : Type 0 where
+  pub full : All IsFull ps.full.items
+  pub last : 0 < vec_capacity ps.last → vec_capacity ps.last ≡ 4096
+  pub ahead : All IsAhead ps.ahead.items
+  pub behind : length ps.full.items + length ps.ahead.items ≤ vec_capacity ps.full
+  pub places : 4096 * (length ps.full.items + length ps.ahead.items) + vec_capacity ps.last ≤ 2 ^ 63
+
+-- what a history keeps: its pieces are sound, and the last has a place left where there are pieces ahead
+pub record IsKept {E : Type 0} (ps : Pieces E) : Type 0 where
+  pub sound : IsSound ps
+  pub place : 0 < length ps.ahead.items → length ps.last.items < vec_capacity ps.last

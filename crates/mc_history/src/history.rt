@@ -3,7 +3,7 @@ ghost use Rattle.std.specs.Prelude.{◌≡◌, ◌+◌, ◌<◌, ◌≤◌, [], 
 ghost use Rattle.std.specs.Option.{option_copied};
 ghost use Rattle.std.specs.List.{slice_get};
 
-use crate::pieces::{PIECE_LEN, event_at, make_pieces, push_event};
+use crate::pieces::Pieces;
 use std::alloc::{AllocError, Global};
 use std::marker::Model;
 
@@ -11,22 +11,20 @@ use std::marker::Model;
 /// the events, and how many more need no memory.
 #[derive(Drop)]
 pub struct History<E> {
-    pieces: Vec<Vec<E>>,
-    count: usize,
+    pieces: Pieces<E>,
     alloc: Global,
 }
 
 impl<E> Model for History<E> {
-    ghost use Rattle.std.specs.Prelude.{◌-◌, ◌*◌, length};
-    ghost use Rattle.mc_history.specs.Pieces.{Events, events_code, events_of, IsKept};
+    ghost use Rattle.mc_history.specs.Pieces.{Events, events_code, events_of, room_of, IsKept};
 
     ghost Value = { Events E };
 
     ghost coded = { events_code E.code };
 
-    ghost view = { λ h. record { items = events_of h.pieces.items; room = 4096 * length h.pieces.items - h.count } };
+    ghost view = { λ h. record { items = events_of h.pieces; room = room_of h.pieces } };
 
-    ghost invariant = { λ h. IsKept h.count h.pieces.items };
+    ghost invariant = { λ h. IsKept h.pieces };
 }
 
 impl<E: Drop> History<E> {
@@ -36,8 +34,7 @@ impl<E: Drop> History<E> {
         ensures room { result.room ≡ 0 }
     {
         History {
-            pieces: Vec::new(alloc),
-            count: 0,
+            pieces: Pieces::new(alloc),
             alloc,
         }
     }
@@ -46,25 +43,28 @@ impl<E: Drop> History<E> {
     pub fn len(&self) -> usize
         ensures { result ≡ length self.now.items }
     {
-        self.count
+        self.pieces.len()
     }
 
     /// The event at a place; the first is at place 0. There is none at or behind the end.
     pub fn get(&self, place: usize) -> Option<&E>
         ensures { option_copied result ≡ slice_get self.now.items place }
     {
-        event_at(&self.pieces, place)
+        self.pieces.get(place)
     }
 
     /// Makes room for n more events. It is an error where memory is refused; the events stay, and so does their room.
+    #[inline(always)]
     pub fn reserve(&mut self, n: usize) -> Result<(), AllocError>
         ensures items { self.new.items ≡ self.old.items }
         ensures ok { OnOk result (n ≤ self.new.room) }
         ensures room { self.old.room ≤ self.new.room }
         ensures succeeds { n ≤ self.old.room → IsOk result }
     {
-        let wanted = self.count.checked_add(n).ok_or(AllocError)?;
-        make_pieces(&mut self.pieces, self.alloc, wanted)
+        if n <= self.pieces.left() {
+            return Ok(());
+        }
+        self.pieces.make_room(self.alloc, n)
     }
 
     /// Adds an event at the end, where there is room for it. It takes no memory.
@@ -74,7 +74,6 @@ impl<E: Drop> History<E> {
         ensures items { self.new.items ≡ self.old.items ++ event ∷ [] }
         ensures room { self.old.room ≡ self.new.room + 1 }
     {
-        push_event(&mut self.pieces, self.count, event);
-        self.count += 1;
+        self.pieces.push_reserved(event);
     }
 }

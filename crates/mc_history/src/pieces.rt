@@ -1,16 +1,29 @@
 //! The pieces that a history lies in.
-ghost use Rattle.std.specs.Prelude.{◌≡◌, ◌+◌, ◌*◌, ◌^◌, ◌<◌, ◌≤◌, ℕ, ◌∷◌, ◌++◌, [], length, OnOk, IsOk};
+ghost use Rattle.std.specs.Prelude.{◌≡◌, ◌+◌, ◌*◌, ◌^◌, ◌<◌, ◌≤◌, ◌∷◌, ◌++◌, [], length, vec_capacity, OnOk, IsOk};
 ghost use Rattle.std.specs.Option.{option_copied};
 ghost use Rattle.std.specs.List.{slice_get};
-ghost use Rattle.mc_history.specs.Pieces.{events_of, IsKept};
+ghost use Rattle.mc_history.specs.Pieces.{events_of, room_of, IsSound, IsKept};
 
 use std::alloc::{AllocError, Global};
+use std::mem;
 
 /// How many events share a piece.
-pub(crate) const PIECE_LEN: usize = 4_096;
+const PIECE_LEN: usize = 4_096;
 
-/// How many pieces there can be: as many as events have places of 64 bits.
-const MOST_PIECES: usize = 1 << 51;
+/// How many places for events there can be, so that sums of them are numbers of 64 bits.
+const MOST_PLACES: usize = 1 << 63;
+
+/// The pieces of a history. The one that the next event comes into stands apart, so that adding an event touches no
+/// other.
+#[derive(Drop)]
+pub(crate) struct Pieces<E> {
+    // The piece that the next event comes into. It has no memory before the first event.
+    last: Vec<E>,
+    // The pieces before it, oldest first.
+    full: Vec<Vec<E>>,
+    // Pieces without events, where there is more room than in the last.
+    ahead: Vec<Vec<E>>,
+}
 
 // What stands at a place of a list.
 #[inline(always)]
@@ -20,48 +33,138 @@ fn item_at<T>(items: &[T], place: usize) -> Option<&T>
     items.get(place)
 }
 
-// The event at a place.
-pub(crate) fn event_at<E: Drop>(pieces: &Vec<Vec<E>>, place: usize) -> Option<&E>
-    requires kept { (count : ℕ) × IsKept count pieces.now.items }
-    ensures { option_copied result ≡ slice_get (events_of pieces.now.items) place }
-{
-    let piece = item_at(pieces.as_slice(), place / PIECE_LEN)?;
-    item_at(piece.as_slice(), place % PIECE_LEN)
-}
+impl<E: Drop> Pieces<E> {
+    // No events, and room for none. It takes no memory.
+    pub(crate) fn new(alloc: Global) -> Pieces<E>
+        ensures kept { IsKept result }
+        ensures events { events_of result ≡ [] }
+        ensures room { room_of result ≡ 0 }
+    {
+        Pieces {
+            last: Vec::new(alloc),
+            full: Vec::new(alloc),
+            ahead: Vec::new(alloc),
+        }
+    }
 
-// Makes pieces without events until all have room for this many.
-pub(crate) fn make_pieces<E: Drop>(
-    pieces: &mut Vec<Vec<E>>,
-    alloc: Global,
-    wanted: usize,
-) -> Result<(), AllocError>
-    ensures kept { (count : ℕ) → IsKept count pieces.old.items → IsKept count pieces.new.items }
-    ensures events { events_of pieces.new.items ≡ events_of pieces.old.items }
-    ensures longer { length pieces.old.items ≤ length pieces.new.items }
-    ensures ok { OnOk result (wanted ≤ 4096 * length pieces.new.items) }
-    ensures succeeds { wanted ≤ 4096 * length pieces.old.items → IsOk result }
-{
-    let least = wanted.div_ceil(PIECE_LEN);
-    'making: while pieces.len() < least {
-        if MOST_PIECES <= pieces.len() {
+    // How many events there are.
+    #[inline(always)]
+    pub(crate) fn len(&self) -> usize
+        requires kept { IsKept self.now }
+        ensures value { result ≡ length (events_of self.now) }
+        ensures places { result + room_of self.now ≤ 2 ^ 63 }
+    {
+        PIECE_LEN * self.full.len() + self.last.len()
+    }
+
+    // The event at a place.
+    pub(crate) fn get(&self, place: usize) -> Option<&E>
+        requires kept { IsKept self.now }
+        ensures { option_copied result ≡ slice_get (events_of self.now) place }
+    {
+        match item_at(self.full.as_slice(), place / PIECE_LEN) {
+            Some(piece) => item_at(piece.as_slice(), place % PIECE_LEN),
+            None => item_at(self.last.as_slice(), place - PIECE_LEN * self.full.len()),
+        }
+    }
+
+    // How many places the last piece has left.
+    #[inline(always)]
+    pub(crate) fn left(&self) -> usize
+        ensures { result + length self.now.last.items ≡ vec_capacity self.now.last }
+    {
+        self.last.capacity() - self.last.len()
+    }
+
+    // How many more events need no memory.
+    fn room(&self) -> usize
+        requires kept { IsKept self.now }
+        ensures { result ≡ room_of self.now }
+    {
+        self.left() + PIECE_LEN * self.ahead.len()
+    }
+
+    // Makes room for n more events, piece by piece until there is enough.
+    #[cold]
+    #[inline(never)]
+    pub(crate) fn make_room(&mut self, alloc: Global, n: usize) -> Result<(), AllocError>
+        requires kept { IsKept self.old }
+        ensures kept { IsKept self.new }
+        ensures events { events_of self.new ≡ events_of self.old }
+        ensures ok { OnOk result (n ≤ room_of self.new) }
+        ensures room { room_of self.old ≤ room_of self.new }
+        ensures succeeds { n ≤ room_of self.old → IsOk result }
+    {
+        if MOST_PLACES - self.len() < n {
             return Err(AllocError);
         }
-        pieces.push(Vec::with_capacity(alloc, PIECE_LEN)?)?;
+        'making: while self.room() < n {
+            self.make_piece(alloc)?;
+        }
+        Ok(())
     }
-    Ok(())
-}
 
-// Adds an event behind the others, of which there are so many.
-#[inline(always)]
-pub(crate) fn push_event<E: Drop>(pieces: &mut Vec<Vec<E>>, count: usize, event: E)
-    requires kept { IsKept count pieces.old.items }
-    requires room { count < 4096 * length pieces.old.items }
-    ensures kept { IsKept (count + 1) pieces.new.items }
-    ensures events { events_of pieces.new.items ≡ events_of pieces.old.items ++ event ∷ [] }
-    ensures longer { length pieces.new.items ≡ length pieces.old.items }
-{
-    let Some(piece) = pieces.get_mut(count / PIECE_LEN) else {
-        unreachable!();
-    };
-    piece.push_reserved(event);
+    // Makes a piece ahead, and room for it among the full ones. Where the last has no place left, it becomes the last.
+    fn make_piece(&mut self, alloc: Global) -> Result<(), AllocError>
+        requires kept { IsKept self.old }
+        requires few { length (events_of self.old) + room_of self.old < 2 ^ 63 }
+        ensures kept { IsKept self.new }
+        ensures events { events_of self.new ≡ events_of self.old }
+        ensures ok { OnOk result (room_of self.new ≡ room_of self.old + 4096) }
+        ensures room { room_of self.old ≤ room_of self.new }
+    {
+        self.full.reserve(self.ahead.len() + 1)?;
+        self.ahead.reserve(1)?;
+        self.ahead
+            .push_reserved(Vec::with_capacity(alloc, PIECE_LEN)?);
+        self.turn_if_full();
+        Ok(())
+    }
+
+    // Adds an event at the end, where there is room for it. A piece is turned over when its last event has come, and not
+    // before the next one, which so goes straight to its place.
+    #[inline(always)]
+    pub(crate) fn push_reserved(&mut self, event: E)
+        requires kept { IsKept self.old }
+        requires room { 0 < room_of self.old }
+        ensures kept { IsKept self.new }
+        ensures events { events_of self.new ≡ events_of self.old ++ event ∷ [] }
+        ensures room { room_of self.old ≡ room_of self.new + 1 }
+    {
+        self.last.push_reserved(event);
+        self.turn_if_full();
+    }
+
+    // Turns over where the last piece has no place left.
+    #[inline(always)]
+    fn turn_if_full(&mut self)
+        requires sound { IsSound self.old }
+        ensures kept { IsKept self.new }
+        ensures events { events_of self.new ≡ events_of self.old }
+        ensures room { room_of self.new ≡ room_of self.old }
+    {
+        if self.left() == 0 {
+            self.turn_over();
+        }
+    }
+
+    // A piece ahead, if there is one, becomes the last. What was the last is full, or has no memory.
+    #[cold]
+    #[inline(never)]
+    fn turn_over(&mut self)
+        requires sound { IsSound self.old }
+        requires full { length self.old.last.items ≡ vec_capacity self.old.last }
+        ensures kept { IsKept self.new }
+        ensures events { events_of self.new ≡ events_of self.old }
+        ensures room { room_of self.new ≡ room_of self.old }
+    {
+        if self.ahead.is_empty() {
+            return;
+        }
+        let next = self.ahead.take_last();
+        let done = mem::replace(&mut self.last, next);
+        if !done.is_empty() {
+            self.full.push_reserved(done);
+        }
+    }
 }
