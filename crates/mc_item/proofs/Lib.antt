@@ -3,3 +3,4 @@ pub mod NumberLemmas
 pub mod ConfigLemmas
 pub mod StripeLemmas
 pub mod CountsLemmas
+pub mod ShortLemmas

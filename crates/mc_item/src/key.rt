@@ -142,6 +142,7 @@ impl Key {
     }
 
     /// An equal key. That of a key of at most 30 bytes takes no memory.
+    #[inline(always)]
     pub fn copy(&self, alloc: Global) -> Result<Key, NoMemory>
         ensures { IfOk result (λ key. key ≡ self.now) }
     {
@@ -174,8 +175,12 @@ impl PartialEq for Key {
 
     ghost laws = { partial_equiv_from_equiv nat_list_eq_equiv };
 
+    #[inline(always)]
     fn eq(&self, other: &Key) -> bool {
-        self.bytes() == other.bytes()
+        match (&self.bytes, &other.bytes) {
+            (Named::Short(bytes), Named::Short(others)) => bytes.equals(others),
+            _ => self.bytes() == other.bytes(),
+        }
     }
 }
 

@@ -1,5 +1,6 @@
 //! The bytes of a short key, which lie where the key lies.
-ghost use Rattle.std.specs.Prelude.{◌≡◌, ◌≤◌, length};
+ghost use Rattle.std.specs.Prelude.{◌≡◌, ◌≤◌, ◌↔◌, IsTrue, length, take, drop};
+ghost use Rattle.std.specs.Int.{to_le_bytes, w64};
 
 use std::fmt::{self, Debug, Formatter, Write};
 use std::marker::Model;
@@ -22,6 +23,34 @@ impl Model for ShortBytes {
     ghost view = { λ s. take s.count s.bytes };
 
     ghost invariant = { λ s. s.count ≤ 30 };
+}
+
+// Eight of the bytes from a place on, as one number.
+#[inline(always)]
+fn word_at(bytes: &[u8; 30], at: usize) -> u64
+    requires { at ≤ 22 }
+    ensures { to_le_bytes w64 result ≡ take 8 (drop at bytes.now) }
+{
+    let mut word = [0; 8];
+    word.copy_from_slice(&bytes[at..at + 8]);
+    u64::from_le_bytes(word)
+}
+
+// Whether these are the same bytes.
+#[inline(always)]
+fn are_same(bytes: &[u8; 30], others: &[u8; 30]) -> bool
+    ensures { IsTrue result ↔ (bytes.now ≡ others.now) }
+{
+    if word_at(bytes, 0) != word_at(others, 0) {
+        return false;
+    }
+    if word_at(bytes, 8) != word_at(others, 8) {
+        return false;
+    }
+    if word_at(bytes, 16) != word_at(others, 16) {
+        return false;
+    }
+    word_at(bytes, 22) == word_at(others, 22)
 }
 
 impl ShortBytes {
@@ -48,6 +77,20 @@ impl ShortBytes {
             count: self.count,
             bytes: self.bytes,
         }
+    }
+
+    /// Whether these are the same bytes. Mostly they are, and so are the zeros behind them: then eight are compared at a
+    /// time.
+    #[inline(always)]
+    pub(crate) fn equals(&self, other: &ShortBytes) -> bool
+        ensures { IsTrue result ↔ (self.now ≡ other.now) }
+    {
+        if self.count == other.count {
+            if are_same(&self.bytes, &other.bytes) {
+                return true;
+            }
+        }
+        self.as_slice() == other.as_slice()
     }
 
     /// The bytes.
