@@ -100,11 +100,8 @@ key_is_token t h =
     ap tokens (sym (append-nil t)) ∙ run_on [] t [] (bytes_lack t parts.1) ∙ end_run t [] (some_length t parts.0) (λ g. absurd (omega arith))
 
 -- the tokens of a get of one key that is spelled with one space
-pub lone_tokens : (line verb token : List ℕ) → verb ≡ take 4 line → token ≡ drop 4 line → verb ≡ codes "get " → is_key token ≡ true → tokens line ≡ codes "get" ∷ token ∷ []
-lone_tokens line verb token front back word k =
-    let is : line ≡ codes "get " ++ token =
-    sym (take-append-drop 4 line) ∙ ap (λ (t : List ℕ). t ++ drop 4 line) (sym front ∙ word) ∙ ap (λ (t : List ℕ). codes "get " ++ t) (sym back) in
-    ap tokens is ∙ ap (λ (ts : List (List ℕ)). codes "get" ∷ ts) (key_is_token token k)
+pub lone_tokens : (line token : List ℕ) → line ≡ codes "get " ++ token → is_key token ≡ true → tokens line ≡ codes "get" ∷ token ∷ []
+lone_tokens line token is k = ap tokens is ∙ ap (λ (ts : List (List ℕ)). codes "get" ∷ ts) (key_is_token token k)
 
 digit_is_no_space : (b : ℕ) → is_digit b ≡ true → b ≡ 32 → ⊥
 digit_is_no_space b h is = let no : is_digit 32 ≡ true = rw is at h in absurd (cc)

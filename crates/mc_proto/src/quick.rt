@@ -1,5 +1,5 @@
 //! The lines that come most often, read in one pass: get of one key, set, incr and decr, each with single spaces.
-ghost use Rattle.std.specs.Prelude.{◌≡◌, ◌∷◌, [], ◌<◌, ◌≤◌, ◌^◌, IfOk, IfSome, codes, if◌then◌else◌, pos, false};
+ghost use Rattle.std.specs.Prelude.{◌≡◌, ◌∷◌, ◌++◌, [], ◌<◌, ◌≤◌, ◌^◌, ◌↔◌, IfOk, IsTrue, IfSome, codes, if◌then◌else◌, pos, false};
 ghost use Rattle.mc_item.specs.declared.command.Verb.TheVariants as stores;
 ghost use Rattle.mc_proto.specs.Grammar.{IsFine};
 ghost use Rattle.mc_proto.specs.Lines.{tokens};
@@ -17,20 +17,26 @@ use crate::token::{key_of, next_number, next_token, without_cr};
 use mc_item::{Key, NoMemory, Verb};
 use std::alloc::Global;
 
+// What comes after `get` and one space, where a line begins so.
+#[inline(always)]
+fn after_get(line: &[u8]) -> Option<&[u8]>
+    ensures { IfSome result (λ rest. line.now ≡ codes "get " ++ rest.now) }
+{
+    let [b'g', b'e', b't', b' ', rest @ ..] = line else {
+        return None;
+    };
+    Some(rest)
+}
+
 /// The key of a line that is `get`, one space and a key, and not more; of other lines nothing is said.
 #[inline(always)]
 pub fn lone_get(alloc: Global, line: &[u8]) -> Result<Option<Key>, NoMemory>
     ensures value { IfOk result (λ found. IfSome found (λ key. (limits : Limits) → table.says limits line.now ≡ said.Whole (requests.Get (key ∷ []) false))) }
     ensures fine { (limits : Limits) → IfOk result (λ found. IfSome found (λ key. IsFine limits (said.Whole (requests.Get (key ∷ []) false)))) }
 {
-    let line = without_cr(line);
-    if line.len() < 5 {
+    let Some(token) = after_get(without_cr(line)) else {
         return Ok(None);
-    }
-    let (verb, token) = line.split_at(4);
-    if verb != b"get ".as_slice() {
-        return Ok(None);
-    }
+    };
     match key_of(alloc, token)? {
         Some(key) => Ok(Some(key)),
         None => Ok(None),
@@ -42,14 +48,21 @@ pub fn lone_get(alloc: Global, line: &[u8]) -> Result<Option<Key>, NoMemory>
 fn after_set(line: &[u8]) -> Option<&[u8]>
     ensures { IfSome result (λ rest. tokens line.now ≡ codes "set" ∷ tokens rest.now) }
 {
-    if line.len() < 4 {
+    let [b's', b'e', b't', b' ', rest @ ..] = line else {
         return None;
-    }
-    let (verb, rest) = line.split_at(4);
-    if verb != b"set ".as_slice() {
-        return None;
-    }
+    };
     Some(rest)
+}
+
+// Whether these are one space and the word that makes a line quiet.
+#[inline(always)]
+fn is_noreply(rest: &[u8]) -> bool
+    ensures { IsTrue result ↔ (rest.now ≡ codes " noreply") }
+{
+    match rest {
+        [b' ', b'n', b'o', b'r', b'e', b'p', b'l', b'y'] => true,
+        _ => false,
+    }
 }
 
 // What is left of a line that has no further token, or one space and the word that makes it quiet; of others nothing
@@ -61,7 +74,7 @@ fn quiet_end(rest: &[u8]) -> Option<bool>
     if rest.is_empty() {
         return Some(false);
     }
-    if rest != b" noreply".as_slice() {
+    if !is_noreply(rest) {
         return None;
     }
     Some(true)
@@ -129,17 +142,11 @@ pub fn quick_set(alloc: Global, limits: Limits, line: &[u8]) -> Result<Option<Sa
 fn after_count(line: &[u8]) -> Option<(bool, &[u8])>
     ensures { IfSome result (λ x. tokens line.now ≡ (if x.0 then codes "incr" else codes "decr") ∷ tokens x.1.now) }
 {
-    if line.len() < 5 {
-        return None;
+    match line {
+        [b'i', b'n', b'c', b'r', b' ', rest @ ..] => Some((true, rest)),
+        [b'd', b'e', b'c', b'r', b' ', rest @ ..] => Some((false, rest)),
+        _ => None,
     }
-    let (verb, rest) = line.split_at(5);
-    if verb == b"incr ".as_slice() {
-        return Some((true, rest));
-    }
-    if verb == b"decr ".as_slice() {
-        return Some((false, rest));
-    }
-    None
 }
 
 /// A line `incr` or `decr` of a key and a number, one space behind the verb; of other lines nothing is said.

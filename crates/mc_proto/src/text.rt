@@ -9,6 +9,7 @@ use mc_item::{Histogram, Key, Moves, NoMemory, Reply};
 use std::alloc::Global;
 
 // Adds parts of a text, all of them or none.
+#[inline(always)]
 fn push_parts(out: &mut Vec<u8>, parts: &[&[u8]]) -> Result<(), NoMemory>
     ensures ok { OnOk result (out.new.items ≡ out.old.items ++ flat_map (λ part. part.now) parts.now) }
     ensures err { OnErr result (out.new.items ≡ out.old.items) }
@@ -27,6 +28,7 @@ fn push_parts(out: &mut Vec<u8>, parts: &[&[u8]]) -> Result<(), NoMemory>
 }
 
 // Adds a text whole or not at all.
+#[inline(always)]
 fn push_text(out: &mut Vec<u8>, text: &[u8]) -> Result<(), NoMemory>
     ensures ok { OnOk result (out.new.items ≡ out.old.items ++ text.now) }
     ensures err { OnErr result (out.new.items ≡ out.old.items) }

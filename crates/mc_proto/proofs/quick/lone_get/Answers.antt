@@ -1,4 +1,4 @@
-use Rattle.std.proofs.Common.{◌≡◌, ◌∷◌, [], ◌∙◌, ℕ, List, Bool, true, false, rules, sym, ap, codes}
+use Rattle.std.proofs.Common.{◌≡◌, ◌∷◌, [], ◌∙◌, ℕ, List, Bool, true, false, sym, ap, codes}
 use Rattle.std.specs.Prelude.{◌&&◌, if◌then◌else◌}
 use Rattle.mc_proto.specs.Lines.{tokens, no_cr, is_key}
 use Rattle.mc_proto.specs.Table.{says, tokens_say, bad}
@@ -17,11 +17,9 @@ lone_says limits line token key ts k is =
     ∙ ap (λ (b : Bool). if b && true then said.Whole (requests.Get (token ∷ []) false) else bad faults.Format false) k
     ∙ ap (λ (t : List ℕ). said.Whole (requests.Get (t ∷ []) false)) (sym is)
 
-pub returns-in-Some-clause-value : goal.returns-in-Some-clause-value
-returns-in-Some-clause-value c = λ limits.
-    let line = c.without_cr-line.result.now in
-    let token = c.split_at.result.1.now in
-    let key = key_some token c.in-Some.key (sym c.in-Some.is ∙ c.in_ok-key.ensures) in
-    let word : c.split_at.result.0.now ≡ codes "get " = search rules in
-    lone_says limits c.args.line.now token c.in-Some.key
-    (ap tokens (sym c.without_cr-line.ensures) ∙ lone_tokens line c.split_at.result.0.now token c.split_at.ensures.front c.split_at.ensures.back word key.0) key.0 key.1
+pub returns-in-Some-2-clause-value : goal.returns-in-Some-2-clause-value
+returns-in-Some-2-clause-value c = λ limits.
+    let token = c.in-Some.token.now in
+    let key = key_some token c.in-Some-2.key (sym c.in-Some-2.is ∙ c.in_ok-key.ensures) in
+    lone_says limits c.args.line.now token c.in-Some-2.key
+    (ap tokens (sym c.without_cr.ensures) ∙ lone_tokens c.without_cr.result.now token c.in-Some.ensures key.0) key.0 key.1
