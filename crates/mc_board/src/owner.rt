@@ -64,6 +64,7 @@ impl Owner {
 
     /// Adds the event at the end of the history, in one atomic step. The history has fewer than 2^64 - 1 events before.
     /// It takes no memory and waits for nobody.
+    #[inline(always)]
     pub fn append<E: Logged>(&mut self, board: &Board, event: &E)
         requires board { self.old.board ≡ board.now.table }
         requires room { length self.old.history + 1 < 2 ^ 64 }
@@ -84,6 +85,7 @@ impl Owner {
 
     /// Adds each event of the list, in order, that stands behind those that the history has: the history, which is a
     /// beginning of the list, then is the list. It has at most 2^32 events. It takes no memory and waits for nobody.
+    #[inline(always)]
     pub fn catch_up<E: Logged + Drop>(&mut self, board: &Board, events: &History<E>)
         requires board { self.old.board ≡ board.now.table }
         requires behind { IsPrefix self.old.history (map E.entry events.now.items) }
@@ -121,6 +123,7 @@ impl Owner {
 
     /// Tells a token the whole history: afterwards it has seen that of this lock, and of all other locks what it had
     /// seen. What it had seen of this lock begins the history.
+    #[inline(always)]
     pub fn tell(&mut self, board: &Board, seen: &mut Seen)
         requires board { (self.old.board ≡ board.now.table) × (seen.old.board ≡ board.now.table) }
         ensures same { self.new ≡ self.old }
@@ -152,6 +155,7 @@ fn add<N: NamesEvent, A>(board: &Board, word: usize, place: &mut Place, _named_b
 }
 
 // The owner is told what the token has seen, and compares it with its history.
+#[inline(always)]
 fn hear(board: &Board, word: usize, place: &mut Place, seen: &mut Seen)
     requires board { (place.old.table_id ≡ board.now.table) × (seen.old.board ≡ board.now.table) }
     requires owner { place.old.me ≡ (views.Owner (owned_of place.old.me.0), []) }

@@ -84,6 +84,7 @@ impl Arena {
     }
 
     /// Makes room for n more numbers.
+    #[inline(always)]
     pub fn reserve(&mut self, n: usize) -> Result<(), AllocError>
         requires few { n ≤ 2 ^ 32 }
         ensures same { (self.new.lists ≡ self.old.lists) × (self.new.next ≡ self.old.next) }

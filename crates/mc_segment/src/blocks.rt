@@ -10,6 +10,7 @@ use std::alloc::{AllocError, Global};
 pub(crate) const BLOCK_LEN: u64 = 16;
 
 // A block of empty slots.
+#[inline(never)]
 pub(crate) fn new_block(alloc: Global) -> Result<Vec<Option<Place>>, AllocError>
     ensures { IfOk result (λ block. (length block.items ≡ 16) × ((o : ℕ) → place_in block.items o ≡ None)) }
 {

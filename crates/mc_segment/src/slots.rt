@@ -10,6 +10,7 @@ use crate::blocks::{BLOCK_LEN, is_free, new_block};
 use std::alloc::{AllocError, Global};
 
 // Makes blocks until there are this many.
+#[inline(always)]
 pub(crate) fn make_blocks(
     slots: &mut Vec<Vec<Option<Place>>>,
     alloc: Global,

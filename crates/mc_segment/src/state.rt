@@ -43,6 +43,7 @@ impl Model for ClassState {
 }
 
 // Makes buffers until there are this many.
+#[inline(always)]
 fn fill(spares: &mut Vec<KeyBuffer>, alloc: Global, n: usize) -> Result<(), NoMemory>
     ensures kept { vec_len spares.old ≤ vec_len spares.new }
     ensures ok { OnOk result (n ≤ vec_len spares.new) }
@@ -79,6 +80,7 @@ impl ClassState {
     }
 
     // Whether the history has places for n more events.
+    #[inline(always)]
     pub(crate) fn has_places(&self, n: usize) -> bool
         ensures { IsTrue result ↔ HasPlaces self.now n }
     {
@@ -87,6 +89,7 @@ impl ClassState {
 
     /// Makes room for n events: the next n calls that make one take no memory. `HistoryFull` where the history has
     /// fewer places left than n, which is looked at first; `NoMemory` only where the room was less than n.
+    #[inline(always)]
     pub fn reserve(&mut self, n: usize) -> Result<(), Fault>
         ensures same { self.new ≡ with_room self.old self.new.room }
         ensures ok { OnOk result (n ≤ self.new.room) }

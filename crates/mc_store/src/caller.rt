@@ -70,6 +70,7 @@ impl<N: Named> Caller<N> {
     }
 
     // Notes that a command was answered by the event at a place of a stripe's history, and tells a token the whole history.
+    #[inline(always)]
     pub(crate) fn note(&mut self, board: &Board, stripe: StripeNo, place: u64, seen: &mut Seen)
         requires board { (board.now.table ≡ N.board.table) × (seen.old.board ≡ N.board.table) }
         requires room { length self.old.calls + 1 < 2 ^ 64 }
@@ -84,6 +85,7 @@ impl<N: Named> Caller<N> {
     }
 
     // Tells a token the whole history: it has then seen each call that was begun.
+    #[inline(always)]
     fn tell(&mut self, board: &Board, seen: &mut Seen)
         requires board { (board.now.table ≡ N.board.table) × (seen.old.board ≡ N.board.table) }
         ensures same { self.new ≡ self.old }
@@ -95,6 +97,7 @@ impl<N: Named> Caller<N> {
     }
 
     // Tells a stripe under its lock.
+    #[inline(always)]
     pub(crate) fn tell_stripe(&mut self, board: &Board, stripe: &mut LockedStripe<N>)
         requires board { board.now.table ≡ N.board.table }
         ensures same { self.new ≡ self.old }
@@ -106,6 +109,7 @@ impl<N: Named> Caller<N> {
     }
 
     // Tells a class that is out of its lock.
+    #[inline(always)]
     pub(crate) fn tell_owned(&mut self, board: &Board, class: &mut OwnedClass)
         requires board { (board.now.table ≡ N.board.table) × (class.old.board ≡ N.board.table) }
         ensures same { self.new ≡ self.old }

@@ -17,9 +17,9 @@ use std::marker::Model;
 /// catches up.
 #[derive(Drop)]
 pub(crate) struct OwnedClass {
-    pub(crate) state: ClassState,
     pub(crate) owner: Owner,
     pub(crate) seen: Seen,
+    pub(crate) state: ClassState,
 }
 
 impl Model for OwnedClass {
@@ -36,6 +36,7 @@ impl Model for OwnedClass {
 }
 
 // Adds to the board each event of the class that it doesn't have yet.
+#[inline(always)]
 pub(crate) fn catch_up_class(state: &ClassState, owner: &mut Owner, board: &Board)
     requires board { owner.old.board ≡ board.now.table }
     requires behind { IsPrefix owner.old.history (class_told state.now.history) }
@@ -79,6 +80,7 @@ impl OwnedClass {
     }
 
     // Tells a token the whole history.
+    #[inline(always)]
     pub(crate) fn tell(&mut self, board: &Board, seen: &mut Seen)
         requires board { (self.old.board ≡ board.now.table) × (seen.old.board ≡ board.now.table) }
         ensures same { self.new ≡ self.old }
@@ -89,6 +91,7 @@ impl OwnedClass {
     }
 
     // The class is told a stripe's whole history.
+    #[inline(always)]
     pub(crate) fn hear(&mut self, board: &Board, stripe: &mut OwnedStripe)
         requires board { (self.old.board ≡ board.now.table) × (stripe.old.board ≡ board.now.table) }
         ensures stripe { stripe.new ≡ stripe.old }

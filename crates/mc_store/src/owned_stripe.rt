@@ -17,9 +17,9 @@ use std::marker::Model;
 /// catches up.
 #[derive(Drop)]
 pub(crate) struct OwnedStripe {
-    pub(crate) state: StripeState,
     pub(crate) owner: Owner,
     pub(crate) seen: Seen,
+    pub(crate) state: StripeState,
 }
 
 impl Model for OwnedStripe {
@@ -36,6 +36,7 @@ impl Model for OwnedStripe {
 }
 
 // Adds to the board each event of the stripe that it doesn't have yet.
+#[inline(always)]
 pub(crate) fn catch_up_stripe(state: &StripeState, owner: &mut Owner, board: &Board)
     requires board { owner.old.board ≡ board.now.table }
     requires behind { IsPrefix owner.old.history (stripe_told state.now.history) }
@@ -85,6 +86,7 @@ impl OwnedStripe {
     }
 
     // Tells a token the whole history.
+    #[inline(always)]
     pub(crate) fn tell(&mut self, board: &Board, seen: &mut Seen)
         requires board { (self.old.board ≡ board.now.table) × (seen.old.board ≡ board.now.table) }
         ensures same { self.new ≡ self.old }
@@ -95,6 +97,7 @@ impl OwnedStripe {
     }
 
     // The stripe is told a class's whole history.
+    #[inline(always)]
     pub(crate) fn hear(&mut self, board: &Board, class: &mut OwnedClass)
         requires board { (self.old.board ≡ board.now.table) × (class.old.board ≡ board.now.table) }
         ensures class { class.new ≡ class.old }

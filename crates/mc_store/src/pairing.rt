@@ -32,6 +32,7 @@ use mc_stripe::{Fate, StripeState};
 use std::alloc::Global;
 
 // A stripe and a class are told of each other: each has then seen the other's whole history, and the histories agree.
+#[inline(always)]
 pub(crate) fn meet<N: Named>(board: &Board, own: &mut LockedStripe<N>, lent: &mut LockedClass<N>)
     requires board { board.now ≡ N.board }
     ensures own { own.new ≡ record own.old { sight = own.new.sight } }

@@ -47,6 +47,7 @@ impl<N: Named> Model for Store<N> {
 
 // Locks, and waits where it has to. A lock here is held for a microsecond or so, and to sleep and be woken takes longer:
 // so it is tried a few times first, with longer and longer pauses.
+#[inline(always)]
 fn wait_for<'a, T: Drop>(rt: &impl Wait, lock: &'a Mutex<T>) -> MutexGuard<'a, T> {
     let pause = Backoff::new();
     for _ in 0..TRIES {
@@ -84,6 +85,7 @@ impl<N: Named> Store<N> {
     }
 
     // Locks a class. A state of another number than its place's, of which there is none, would be let go and tried again.
+    #[inline(always)]
     pub(crate) fn lock_class<'a>(
         &'a self,
         rt: &impl Wait,

@@ -1,2 +1,2 @@
 pub mod StateLemmas
-pub mod NotedLemmas
+pub mod StoredLemmas

@@ -6,4 +6,4 @@ pub mod StripeCalls
 pub mod Plan
 pub mod Alone
 pub mod Rooms
-pub mod Noted
+pub mod Stored

@@ -1,6 +1,6 @@
 //! The events of a stripe's history as they lie in memory, each in 96 bytes.
 ghost use Rattle.std.specs.Prelude.{◌≡◌, IfOk};
-ghost use Rattle.mc_stripe.specs.Noted.{event_of};
+ghost use Rattle.mc_stripe.specs.Stored.{event_of};
 ghost use Rattle.mc_stripe.specs.declared.noted.Form.TheVariants as forms;
 
 use crate::parts::{
@@ -89,7 +89,7 @@ pub struct Noted {
 
 impl Model for Noted {
     ghost use Rattle.mc_item.specs.declared.stripe_event.StripeEvent.{StripeEvent};
-    ghost use Rattle.mc_stripe.specs.Noted.{event_of};
+    ghost use Rattle.mc_stripe.specs.Stored.{event_of};
 
     ghost Value = { StripeEvent };
 

@@ -5,10 +5,12 @@ ghost use Rattle.mc_item.specs.declared.reply.Reply.TheVariants as replies;
 ghost use Rattle.mc_item.specs.declared.reply.Room.TheVariants as rooms;
 ghost use Rattle.mc_item.specs.declared.stripe_event.StripeEvent.TheVariants as events;
 ghost use Rattle.mc_stripe.specs.declared.parts.VerbKind.TheVariants as kinds;
-ghost use Rattle.mc_stripe.specs.Noted.{IsNotable, IsNumberless, IsOfGet, IsValueless, command_of, did_of, verb_of};
+ghost use Rattle.mc_stripe.specs.Stored.{IsNotable, IsNumberless, IsOfGet, IsValueless, command_of, did_of, verb_of};
 
 use crate::noted::{Form, HitParts, Noted, OtherParts, PutParts};
-use crate::parts::{CommandKind, VerbKind, reply_parts, room_parts, verb_parts};
+use crate::parts::{
+    CommandKind, ReplyKind, RoomKind, VerbKind, reply_parts, room_parts, verb_parts,
+};
 use mc_history::History;
 use mc_item::{Command, Cooled, Key, Lost, Reply, Room, Value, Verb, Who};
 
@@ -68,6 +70,34 @@ impl Noted {
             form: Form::Hit {
                 caller: who.caller,
                 flags,
+                parts,
+            },
+        }
+    }
+
+    // A get of an absent key.
+    #[inline(always)]
+    fn missed(who: Who, key: Key, moment: u64) -> Noted
+        ensures { result ≡ did_of who (commands.Get key) moment replies.Miss rooms.Keep }
+    {
+        let turn = who.turn;
+        let parts = OtherParts {
+            turn,
+            moment,
+            told: 0,
+            number: 0,
+            amount: 0,
+            exptime: 0,
+            key,
+        };
+        Noted {
+            form: Form::Other {
+                kind: CommandKind::Get,
+                verb: VerbKind::Set,
+                reply: ReplyKind::Miss,
+                room: RoomKind::Keep,
+                caller: who.caller,
+                class: 0,
                 parts,
             },
         }
@@ -202,10 +232,8 @@ fn push_got(history: &mut History<Noted>, who: Who, key: Key, moment: u64, reply
         Reply::Value { flags, value, cas } => {
             history.push_reserved(Noted::hit(who, key, moment, flags, value, cas))
         }
-        reply => {
-            let asked = without_verb(CommandKind::Get, key, 0, 0);
-            push_other(history, who, asked, moment, reply, room)
-        }
+        Reply::Miss => history.push_reserved(Noted::missed(who, key, moment)),
+        _ => unreachable!(),
     }
 }
 

@@ -1,7 +1,7 @@
 //! Verbs, replies and rooms in parts: a kind of one byte, and the numbers that go with it.
 ghost use Rattle.std.specs.Prelude.{◌≡◌};
-ghost use Rattle.mc_stripe.specs.Noted as flat;
-ghost use Rattle.mc_stripe.specs.Noted.{IsValueless, IsNumberless};
+ghost use Rattle.mc_stripe.specs.Stored as flat;
+ghost use Rattle.mc_stripe.specs.Stored.{IsValueless, IsNumberless};
 
 use mc_item::{ClassNo, Command, Key, Link, Reply, Room, Verb};
 

@@ -77,6 +77,7 @@ fn alive(found: Option<&Item>, moment: u64) -> Option<&Item>
 
 impl Plan {
     /// What becomes of chunks where the command is given this room.
+    #[inline(always)]
     pub fn fate(&self, room: Room) -> Fate
         ensures fate { (key : List ℕ) (found : Option Item) (row : Row) → Foresees key found row self.now → result ≡ fate_of key found (row.answer room).change }
         ensures held { (sizes : List ℕ) → AreHeld sizes self.now → IsHeld sizes result }

@@ -21,12 +21,12 @@ use std::marker::Model;
 /// depends on it, and where it is drawn anew for each run, no list of colliding keys can be made beforehand.
 #[derive(Drop)]
 pub struct StripeState {
-    pub(crate) alloc: Global,
-    pub(crate) site: Site,
     pub(crate) limit: u64,
     pub(crate) versions: u64,
-    pub(crate) items: HashMap<Key, Item, RandomState>,
     pub(crate) history: History<Noted>,
+    pub(crate) items: HashMap<Key, Item, RandomState>,
+    pub(crate) alloc: Global,
+    pub(crate) site: Site,
 }
 
 impl Model for StripeState {
@@ -61,16 +61,16 @@ impl StripeState {
         ensures history { result.history ≡ [] }
     {
         StripeState {
+            limit: config.max_events,
+            versions: 0,
+            history: History::new(alloc),
+            items: HashMap::with_hasher(alloc, seed),
             alloc,
             site: Site {
                 stripe: number.0,
                 stripes: config.stripes,
                 sizes: ClassSizes::of(config.sizes.as_slice()),
             },
-            limit: config.max_events,
-            versions: 0,
-            items: HashMap::with_hasher(alloc, seed),
-            history: History::new(alloc),
         }
     }
 
@@ -106,6 +106,7 @@ impl StripeState {
     }
 
     /// Makes room for n more events, of which each call that takes no memory then needs one.
+    #[inline(always)]
     pub fn reserve(&mut self, n: usize) -> Result<(), Fault>
         ensures ok { OnOk result (n ≤ self.new.room) }
         ensures full { IsErrOf result faults.HistoryFull ↔ (self.old.limit < length self.old.history + n) }

@@ -13,9 +13,9 @@ use Rattle.mc_item.specs.declared.reply.Room.TheVariants as rooms
 use Rattle.mc_item.specs.declared.stripe_event.StripeEvent.{StripeEvent}
 use Rattle.mc_item.specs.declared.stripe_event.StripeEvent.TheVariants as events
 use Rattle.mc_stripe.specs.Alone.{LeavesChunks}
-use Rattle.mc_stripe.specs.Noted.{IsNotable}
+use Rattle.mc_stripe.specs.Stored.{IsNotable}
 use Rattle.mc_stripe.specs.StripeState.{Stripe}
-use Rattle.mc_stripe.proofs.NotedLemmas.{row_notable}
+use Rattle.mc_stripe.proofs.StoredLemmas.{row_notable}
 use Rattle.mc_stripe.proofs.StateLemmas.{chunkless_fits, command_kept}
 use Rattle.mc_stripe.proofs.state.StripeState.answer.Goals as goal
 

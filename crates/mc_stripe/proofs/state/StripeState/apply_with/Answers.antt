@@ -11,8 +11,8 @@ use Rattle.mc_item.specs.declared.reply.Reply.{Reply}
 use Rattle.mc_item.specs.declared.stripe_event.StripeEvent.{StripeEvent}
 use Rattle.mc_item.specs.declared.stripe_event.StripeEvent.TheVariants as events
 use Rattle.mc_stripe.specs.StripeState.{Stripe, cache_now}
-use Rattle.mc_stripe.specs.Noted.{IsNotable}
-use Rattle.mc_stripe.proofs.NotedLemmas.{row_notable}
+use Rattle.mc_stripe.specs.Stored.{IsNotable}
+use Rattle.mc_stripe.proofs.StoredLemmas.{row_notable}
 use Rattle.mc_stripe.proofs.StateLemmas.{command_kept, given_room}
 use Rattle.mc_stripe.proofs.state.StripeState.apply_with.Goals as goal
 

@@ -88,10 +88,11 @@ abbrev pub IsNumberless : Reply → Type 0
 IsNumberless (replies.Number number) = ⊥
 IsNumberless reply = Unit {0}
 
--- the answer to a get: a value is given without a room
+-- the answer to a get: a value or a miss, given without a room
 abbrev pub IsOfGet : Reply → Room → Type 0
 IsOfGet (replies.Value flags value cas) room = room ≡ rooms.Keep
-IsOfGet reply room = Unit {0}
+IsOfGet replies.Miss room = room ≡ rooms.Keep
+IsOfGet reply room = ⊥
 
 -- an answer that can lie in memory: of a value only a get's, of a number none of a storage command
 abbrev pub IsNotable : Command → Reply → Room → Type 0

@@ -20,7 +20,7 @@ use Rattle.mc_item.specs.declared.reply.Reply.{Reply}
 use Rattle.mc_item.specs.declared.reply.Reply.TheVariants as replies
 use Rattle.mc_item.specs.declared.reply.Room.{Room}
 use Rattle.mc_item.specs.declared.reply.Room.TheVariants as rooms
-use Rattle.mc_stripe.specs.Noted.{IsNotable, IsNumberless, IsValueless}
+use Rattle.mc_stripe.specs.Stored.{IsNotable, IsNumberless, IsValueless}
 use Rattle.mc_stripe.specs.Rooms.{IsOfNeed}
 
 -- a reply of one word: neither a value nor a number
@@ -76,7 +76,7 @@ nothing_kept rooms.Keep given = refl
 -- an answer of the table, in a room of the class that is needed, can lie in a history
 pub row_notable : (site : Site) (n : ℕ) (found : Option Item) (command : Command) (moment : ℕ) (room : Room)
     → IsOfNeed (row_of site n found command moment).need room → IsNotable command ((row_of site n found command moment).answer room).reply room
-row_notable site n None (Get key) moment room given = tt
+row_notable site n None (Get key) moment room given = nothing_kept room given
 row_notable site n (Some item) (Get key) moment room given = nothing_kept room given
 row_notable site n found (Store verb key flags exptime value) moment room given =
     store_word (class_of site.sizes (cost_of key value)) verb found (version_of site n flags value (expiry_of exptime moment)) room
