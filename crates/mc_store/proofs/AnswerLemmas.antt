@@ -19,6 +19,7 @@ use Rattle.mc_stripe.specs.StripeCalls.{KeepsSite}
 use Rattle.mc_stripe.specs.StripeState.{Stripe, cache_now}
 use Rattle.mc_stripe.specs.declared.fate.Fate.{Fate}
 use Rattle.mc_stripe.specs.declared.planning.Plan.{Plan}
+use Rattle.mc_pull.specs.Agreeing.{AgreeNow}
 use Rattle.mc_pull.specs.Perform.{call}
 use Rattle.mc_store.specs.Commands.{IsCut, burial}
 use Rattle.mc_store.proofs.CommandLemmas.{plan_fate}
@@ -33,14 +34,15 @@ use Rattle.mc_store.proofs.UnderLemmas.{cut_behind, cut_from, replied_behind, re
 
 -- a plan's room and fate are ready, where a class gives the room
 pub ready_in : (config : Config) (who : Who) (command : Command) (moment : ℕ) (s s_new : Stripe) (v : ClassView) (plan : Plan) (room : Room) (fate : Fate) → GoesBy config s command moment plan → s_new ≡ s → Fits plan.need room s.history
-    → ((key : List ℕ) (found : Option Item) (row : Row) → Foresees key found row plan → fate ≡ fate_of key found (row.answer room).change) → ((sizes : List ℕ) → AreHeld sizes plan → IsHeld sizes fate) → IsGiven who room v
+    → ((key : List ℕ) (found : Option Item) (row : Row) → Foresees key found row plan → fate ≡ fate_of key found (row.answer room).change) → ((sizes : List ℕ) → AreHeld sizes plan → IsHeld sizes fate) → IsGiven who room v → AgreeNow v s_new
     → IsReadyOn config s_new v who command moment room fate
-ready_in config who command moment s s_new v plan room fate goes same fits of held given =
+ready_in config who command moment s s_new v plan room fate goes same fits of held given met =
     subst (λ (t : Stripe). IsReadyOn config t v who command moment room fate) (sym same) (record {
       answer = may_answer_in config s who command moment plan goes room fits;
       fate_is = plan_fate s who command moment room plan fate goes.planned.is goes.alive of;
       held = held config.sizes goes.planned.held;
       given = given;
+      met = subst (AgreeNow v) same met;
     })
 
 -- a stripe that has only seen more was searched as before

@@ -78,17 +78,17 @@ module _ (table : TableId) (config : Config) (c : Call) (s s_new : Stripe) (clas
   more_now : Grows was.sight own_end.sight
   more_now = own_more was own_mid own_first s_new lent lent_mid w mid mid_of told more
 
-  -- the class as it was lent, which met the stripe before the command
-  module _ (class_arg class_met : ClassSide) (class_view : was_of ≡ class_met) (class_same : class_met ≡ record class_arg { sight = class_met.sight }) (own_met : StripeSide) (own_view : own ≡ own_met)
-      (met : AgreeNow class_met.class own_met.stripe) (agreements : KeepsAgreements c s s_new (class ∷ []) (w ∷ [])) (sights : KeepsSights c s s_new (class ∷ []) (w ∷ [])) where
+  -- the class and the stripe as they were lent, which met before the command
+  module _ (class_arg : ClassSide) (class_view : was_of ≡ class_arg) (own_arg : StripeSide) (own_view : own ≡ own_arg)
+      (met : AgreeNow class_arg.class own_arg.stripe) (agreements : KeepsAgreements c s s_new (class ∷ []) (w ∷ [])) (sights : KeepsSights c s s_new (class ∷ []) (w ∷ [])) where
     agree : AgreeNow w s_new
-    agree = agreements.own.0 (subst (λ (x : ClassSide). AgreeNow x.class s) (sym (class_is ∙ class_view)) (subst (λ (x : StripeSide). AgreeNow class_met.class x.stripe) (sym (own_is ∙ own_view)) met))
+    agree = agreements.own.0 (subst (λ (x : ClassSide). AgreeNow x.class s) (sym (class_is ∙ class_view)) (subst (λ (x : StripeSide). AgreeNow class_arg.class x.stripe) (sym (own_is ∙ own_view)) met))
 
     pub one_stripe : IsRefusedIn c.room (class_arg.class ∷ []) → IsLockedStripe table config own_new
     one_stripe refused =
         subst (IsLockedStripe table config) (sym (same ∙ said))
         (one_end table config was kept s_new c site legal called_now lent w kept_of grows.0 agree
-        (subst (λ (x : ClassView). IsRefusedIn c.room (x ∷ [])) (sym (ap (λ (x : ClassSide). x.class) (class_is ∙ (class_view ∙ class_same)))) refused) sights more_now)
+        (subst (λ (x : ClassView). IsRefusedIn c.room (x ∷ [])) (sym (ap (λ (x : ClassSide). x.class) (class_is ∙ class_view))) refused) sights more_now)
 
     pub one_class : (class_new : ClassSide) → class_new ≡ record class_first { sight = with_seen class_first.sight own_first.lock (stripe_told own_first.stripe.history) } → Grows class_first.sight class_new.sight
         → IsLawfulHistoryByLists w.chunks w.rule w.history → IsHeldClass table config class_new

@@ -44,11 +44,10 @@ use Rattle.mc_store.proofs.LentLemmas.{one_or_apart}
 pub grows_trans : (a b c : Sight) → Grows a b → Grows b c → Grows a c
 grows_trans a b c first more = record { at = λ lock. prefix_trans (list_at a.seen lock) (list_at b.seen lock) (list_at c.seen lock) (first.at lock) (more.at lock) }
 
--- what a stripe has seen behind a step: it met classes, its answer was noted, and it was told of the classes
-pub seen_on : (first : Sight) (met : StripeSide) (mid noted : Sight) (told last : StripeSide) → Grows first met.sight → mid ≡ met.sight → Grows mid noted → Grows noted told.sight → last ≡ told → Grows first last.sight
-seen_on first met mid noted told last more same noting telling is =
-    subst (λ (x : StripeSide). Grows first x.sight) (sym is)
-    (grows_trans first noted told.sight (grows_trans first mid noted (subst (Grows first) (sym same) more) noting) telling)
+-- what a stripe that met classes has seen behind a step: its answer was noted, and it was told of the classes
+pub seen_on : (met : StripeSide) (mid noted : Sight) (told last : StripeSide) → mid ≡ met.sight → Grows mid noted → Grows noted told.sight → last ≡ told → Grows met.sight last.sight
+seen_on met mid noted told last same noting telling is =
+    subst (λ (x : StripeSide). Grows met.sight x.sight) (sym is) (grows_trans met.sight noted told.sight (subst (λ (s : Sight). Grows s noted) same noting) telling)
 
 -- who was told a class's whole history has seen it
 pub heard_class : (config : Config) (s : Sight) (lock : ℕ) (class : ClassNo) (es : List ClassEvent) → lock ≡ class_lock config class

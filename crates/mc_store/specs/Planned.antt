@@ -15,6 +15,7 @@ use Rattle.mc_stripe.specs.Plan.{AreHeld, IsHeld, IsPlan, visible_row}
 use Rattle.mc_stripe.specs.StripeState.{Stripe, cache_now}
 use Rattle.mc_stripe.specs.declared.fate.Fate.{Fate}
 use Rattle.mc_stripe.specs.declared.planning.Plan.{Plan}
+use Rattle.mc_pull.specs.Agreeing.{AgreeNow}
 use Rattle.mc_pull.specs.Perform.{GivesRoom, MayAnswer, call, fate_for}
 use Rattle.mc_pull.specs.Question.{IsStripeOf}
 use Rattle.mc_store.specs.Commands.{IsSearch}
@@ -50,9 +51,11 @@ pub record IsGiven (who : Who) (room : Room) (v : ClassView) : Type 0 where
   pub others : (w : ClassView) → w.number ≢ v.number → GivesRoom who room w
   pub refused : IsRefusedIn room (v ∷ [])
 
--- a command may be made on its stripe with this room, which a class gives, and this is its fate
+-- a command may be made on its stripe with this room, which a class gives whose history agrees with the stripe's, and this
+-- is its fate
 pub record IsReadyOn (config : Config) (s : Stripe) (v : ClassView) (who : Who) (command : Command) (moment : ℕ) (room : Room) (fate : Fate) : Type 0 where
   pub answer : MayAnswer s (call who command moment room)
   pub fate_is : fate ≡ fate_for s (call who command moment room)
   pub held : IsHeld config.sizes fate
   pub given : IsGiven who room v
+  pub met : AgreeNow v s

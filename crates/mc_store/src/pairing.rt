@@ -155,8 +155,8 @@ pub(crate) fn perform_alone<N: Named>(
     Ok(copy?.unwrap())
 }
 
-// Makes one command, whose key has no dead item, on its stripe and the class that it needs, which gives the room. Its caller
-// tells the class of the call.
+// Makes one command, whose key has no dead item, on its stripe and the class that it needs, which gives the room. The two
+// were told of each other before. Its caller tells the class of the call.
 #[inline(always)]
 pub(crate) fn perform_on_one<N: Named>(
     alloc: Global,
@@ -177,6 +177,7 @@ pub(crate) fn perform_on_one<N: Named>(
     requires fate { fate ≡ words.fate_for own.old.stripe (call who command moment room) }
     requires held { IsHeld N.config.sizes fate }
     requires gives { GivesRoom who room class.old.class }
+    requires met { AgreeNow class.old.class own.old.stripe }
     requires lent { AreLent (class.old.class ∷ []) room fate }
     requires refused { IsRefusedIn room (class.old.class ∷ []) }
     ensures made { IfOk result (IsMade own.old.stripe own.new.stripe (call who command moment room)) }
@@ -187,7 +188,6 @@ pub(crate) fn perform_on_one<N: Named>(
     ensures site { KeepsSite own.old.stripe own.new.stripe }
     ensures full { IsErrOf result HistoryFull → IsShort N.config own.new }
 {
-    meet(board, own, class);
     let place = own.side.events();
     let lent = Lent::One(&mut class.side.state);
     let copy = perform_fated(

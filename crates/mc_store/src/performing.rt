@@ -4,6 +4,7 @@ ghost use Rattle.mc_item.specs.declared.fault.Fault.TheVariants.{HistoryFull};
 ghost use Rattle.mc_item.specs.declared.reply.Room.TheVariants as rooms;
 ghost use Rattle.mc_stripe.specs.Plan.{IsHeld};
 ghost use Rattle.mc_stripe.specs.StripeCalls.{KeepsSite};
+ghost use Rattle.mc_pull.specs.Agreeing.{AgreeNow};
 ghost use Rattle.mc_pull.specs.Perform as words;
 ghost use Rattle.mc_pull.specs.Perform.{GivesRoom, MayAnswer, call};
 ghost use Rattle.mc_board.specs.Histories.{Grows};
@@ -17,7 +18,7 @@ use crate::caller::Caller;
 use crate::locked::{LockedClass, LockedStripe};
 use crate::named::Named;
 use crate::needed::{Needed, needed_for};
-use crate::pairing::{perform_alone, perform_on_one, perform_on_two};
+use crate::pairing::{meet, perform_alone, perform_on_one, perform_on_two};
 use crate::planning::{suffice_two, suffices_one};
 use crate::store::Store;
 use crate::waiting::wait_for_ever;
@@ -62,6 +63,7 @@ pub(crate) fn perform_kept<N: Named>(
         Needed::One(number) => {
             let mut guard = store.lock_class(rt, number);
             let class = &mut *guard;
+            meet(board, own, class);
             perform_on_one(
                 alloc, board, own, class, caller, who, command, moment, room, fate, config,
             )
@@ -78,8 +80,8 @@ pub(crate) fn perform_kept<N: Named>(
     }
 }
 
-// Makes a command in a room that one class gives. A fate that needs another class, of which there is none here, would be
-// waited for.
+// Makes a command in a room that one class gives; stripe and class were told of each other before. A fate that needs another
+// class, of which there is none here, would be waited for.
 #[inline(always)]
 pub(crate) fn finish_one<N: Named>(
     alloc: Global,
@@ -99,6 +101,7 @@ pub(crate) fn finish_one<N: Named>(
     requires fate { fate ≡ words.fate_for own.old.stripe (call who command moment room) }
     requires held { IsHeld N.config.sizes fate }
     requires gives { GivesRoom who room class.old.class }
+    requires met { AgreeNow class.old.class own.old.stripe }
     requires refused { IsRefusedIn room (class.old.class ∷ []) }
     ensures made { IfOk result (IsMade own.old.stripe own.new.stripe (call who command moment room)) }
     ensures noted { OnOk result (caller.new ≡ record caller.old { calls = caller.old.calls ++ answered_at own.old.stripe.site.stripe (length own.old.stripe.history) ∷ [] }) }

@@ -4,6 +4,7 @@ ghost use Rattle.mc_item.specs.Command.{key_of};
 ghost use Rattle.mc_item.specs.Stripe.{Fits};
 ghost use Rattle.mc_item.specs.declared.answer.Need.TheVariants as needs;
 ghost use Rattle.mc_item.specs.declared.fault.Fault.TheVariants.{HistoryFull};
+ghost use Rattle.mc_board.specs.Histories.{list_at};
 ghost use Rattle.mc_stripe.specs.StripeCalls.{KeepsSite};
 ghost use Rattle.mc_pull.specs.Agreeing.{AgreeNow};
 ghost use Rattle.mc_rule.specs.Lists.{IsFull, lists_of};
@@ -11,6 +12,7 @@ ghost use Rattle.mc_store.specs.Earned.{HasSearched, IsEarnedIn};
 ghost use Rattle.mc_store.specs.Locked.{IsLockedClass, HasBegun};
 ghost use Rattle.mc_store.specs.Planned.{GoesBy, IsGiven, IsReadyOn, IsSearched};
 ghost use Rattle.mc_store.specs.Serving.{IsShort};
+ghost use Rattle.mc_store.specs.Sides.{class_told};
 
 use crate::locked::{LockedClass, LockedStripe};
 use crate::named::Named;
@@ -91,8 +93,9 @@ fn next_on<N: Named>(own: &LockedStripe<N>, lent: &LockedClass<N>, who: Who) -> 
     })
 }
 
-// The room that a class gives: its next link, where a chunk is free, and else a refusal that it notes, and tells the stripe of.
-// A class of another number, of which there is none here, would be waited for.
+// The room that a class gives, which was told of the stripe, and the stripe of it: its next link, where a chunk is free, and
+// else a refusal that it notes, behind which they are told of each other again. A class of another number, of which there is
+// none here, would be waited for.
 #[inline(always)]
 fn fresh_room<N: Named>(
     store: &Store<N>,
@@ -103,7 +106,10 @@ fn fresh_room<N: Named>(
     class: ClassNo,
 ) -> Result<Room, Fault>
     requires begun { (moment : ℕ) × HasBegun N.config own.old.sight who moment }
+    requires met { AgreeNow lent.old.class own.old.stripe }
+    requires told { list_at own.old.sight.seen lent.old.lock ≡ class_told lent.old.class.history }
     ensures same { own.new.stripe ≡ own.old.stripe }
+    ensures met { OnOk result (AgreeNow lent.new.class own.new.stripe) }
     ensures fits { IfOk result (λ room. Fits (needs.Fresh class) room own.old.stripe.history) }
     ensures given { IfOk result (λ room. IsGiven who room lent.new.class) }
     ensures earned { IfOk result (λ room. (key : List ℕ) → (IsFull lent.old.class.chunks (lists_of lent.old.class.history) → HasSearched N.config.stripes (record { 0 = own.old.stripe.site.stripe }) who key lent.old.class.history) → IsEarnedIn N.config own.old.stripe.site.stripe who key own.new.sight room) }
@@ -111,7 +117,6 @@ fn fresh_room<N: Named>(
     ensures full { IsErrOf result HistoryFull → IsShort N.config own.new }
 {
     expect(rt, lent, class);
-    meet(&store.board, own, lent);
     if !lent.side().state().is_full() {
         return Ok(next_on(own, lent, who));
     }
@@ -120,7 +125,7 @@ fn fresh_room<N: Named>(
     Ok(Room::Refused { class, place })
 }
 
-// The room that a need is given.
+// The room that a need is given, where stripe and class were told of each other.
 #[inline(always)]
 fn room_on<N: Named>(
     store: &Store<N>,
@@ -131,7 +136,10 @@ fn room_on<N: Named>(
     need: Need,
 ) -> Result<Room, Fault>
     requires begun { (moment : ℕ) × HasBegun N.config own.old.sight who moment }
+    requires met { AgreeNow lent.old.class own.old.stripe }
+    requires told { list_at own.old.sight.seen lent.old.lock ≡ class_told lent.old.class.history }
     ensures same { own.new.stripe ≡ own.old.stripe }
+    ensures met { OnOk result (AgreeNow lent.new.class own.new.stripe) }
     ensures fits { IfOk result (λ room. Fits need room own.old.stripe.history) }
     ensures given { IfOk result (λ room. IsGiven who room lent.new.class) }
     ensures earned { IfOk result (λ room. (key : List ℕ) → (IsFull lent.old.class.chunks (lists_of lent.old.class.history) → HasSearched N.config.stripes (record { 0 = own.old.stripe.site.stripe }) who key lent.old.class.history) → IsEarnedIn N.config own.old.stripe.site.stripe who key own.new.sight room) }
@@ -147,7 +155,7 @@ fn room_on<N: Named>(
 }
 
 // The room and the fate of a command that needs a chunk of a class under its lock: one is looked for where none is free,
-// and then the class gives the room.
+// stripe and class are told of each other, and then the class gives the room.
 #[inline(always)]
 pub(crate) fn ready_on<N: Named>(
     alloc: Global,
@@ -174,6 +182,7 @@ pub(crate) fn ready_on<N: Named>(
     let found = search_on(
         alloc, store, rt, own, lent, who, command, moment, plan, class,
     )?;
+    meet(&store.board, own, lent);
     let room = room_on(store, rt, own, lent, who, found.need)?;
     Ok((room, found.fate(room)))
 }

@@ -47,7 +47,7 @@ invariant_of-own g c =
     raw.owner put.new.owner raw.seen put.new.seen c.own.inside.side c.hear.new.self c.hear-2.new.stripe own_is c.own.invariant put.ensures.owner put.ensures.grows called
     raw_of.owner c.catch_up_class.new.owner raw_of.seen c.class.inside.side c.hear.new.class (ap (λ i. i.side) c.class-inside.view_is) c.class.invariant.held c.catch_up_class.ensures c.hear.ensures.class
     c.hear.ensures.told c.hear.ensures.grows c.hear-2.ensures.stripe made.ensures.site c.history.ensures.legal grows
-    c.args.class.now c.meet.new.lent c.class.view_is c.meet.ensures.lent c.meet.new.own c.own.view_is c.meet.ensures.met made.ensures.agreement made.ensures.sight
+    c.args.class.now c.class.view_is c.args.own.now c.own.view_is c.requires.met made.ensures.agreement made.ensures.sight
     c.requires.refused
 
 pub invariant_of-class : goal.invariant_of-class
@@ -67,7 +67,7 @@ invariant_of-class g c =
     raw.owner put.new.owner raw.seen put.new.seen c.own.inside.side c.hear.new.self c.hear-2.new.stripe own_is c.own.invariant put.ensures.owner put.ensures.grows called
     raw_of.owner c.catch_up_class.new.owner raw_of.seen c.class.inside.side c.hear.new.class (ap (λ i. i.side) c.class-inside.view_is) c.class.invariant.held c.catch_up_class.ensures c.hear.ensures.class
     c.hear.ensures.told c.hear.ensures.grows c.hear-2.ensures.stripe made.ensures.site c.history.ensures.legal grows
-    c.args.class.now c.meet.new.lent c.class.view_is c.meet.ensures.lent c.meet.new.own c.own.view_is c.meet.ensures.met made.ensures.agreement made.ensures.sight
+    c.args.class.now c.class.view_is c.args.own.now c.own.view_is c.requires.met made.ensures.agreement made.ensures.sight
     c.hear-2.new.self c.hear-2.ensures.told c.hear-2.ensures.grows c.law.ensures.lawful in
     let gains = (gains_performed raw.state made.new.stripe cl (raw_of.state ∷ []) (w ∷ []) made.result made.ensures.made made.ensures.err).0 in
     locked_told g.N.Named.board.table g.N.Named.config (class_side raw_of.owner raw_of.seen raw_of.state) c.hear.new.class c.hear-2.new.self c.tell_owned.new.class c.args.who c.args.moment
@@ -115,7 +115,7 @@ invariant_of-own-2 g c =
     raw.owner put.new.owner raw.seen put.new.seen c.own.inside.side c.hear.new.self c.hear-2.new.stripe own_is c.own.invariant put.ensures.owner put.ensures.grows called
     raw_of.owner c.catch_up_class.new.owner raw_of.seen c.class.inside.side c.hear.new.class (ap (λ i. i.side) c.class-inside.view_is) c.class.invariant.held c.catch_up_class.ensures c.hear.ensures.class
     c.hear.ensures.told c.hear.ensures.grows c.hear-2.ensures.stripe made.ensures.site c.history.ensures.legal grows
-    c.args.class.now c.meet.new.lent c.class.view_is c.meet.ensures.lent c.meet.new.own c.own.view_is c.meet.ensures.met made.ensures.agreement made.ensures.sight
+    c.args.class.now c.class.view_is c.args.own.now c.own.view_is c.requires.met made.ensures.agreement made.ensures.sight
     c.requires.refused
 
 pub invariant_of-class-2 : goal.invariant_of-class-2
@@ -135,7 +135,7 @@ invariant_of-class-2 g c =
     raw.owner put.new.owner raw.seen put.new.seen c.own.inside.side c.hear.new.self c.hear-2.new.stripe own_is c.own.invariant put.ensures.owner put.ensures.grows called
     raw_of.owner c.catch_up_class.new.owner raw_of.seen c.class.inside.side c.hear.new.class (ap (λ i. i.side) c.class-inside.view_is) c.class.invariant.held c.catch_up_class.ensures c.hear.ensures.class
     c.hear.ensures.told c.hear.ensures.grows c.hear-2.ensures.stripe made.ensures.site c.history.ensures.legal grows
-    c.args.class.now c.meet.new.lent c.class.view_is c.meet.ensures.lent c.meet.new.own c.own.view_is c.meet.ensures.met made.ensures.agreement made.ensures.sight
+    c.args.class.now c.class.view_is c.args.own.now c.own.view_is c.requires.met made.ensures.agreement made.ensures.sight
     c.hear-2.new.self c.hear-2.ensures.told c.hear-2.ensures.grows c.law.ensures.lawful in
     let gains = (gains_performed raw.state made.new.stripe cl (raw_of.state ∷ []) (w ∷ []) made.result made.ensures.made made.ensures.err).0 in
     locked_told g.N.Named.board.table g.N.Named.config (class_side raw_of.owner raw_of.seen raw_of.state) c.hear.new.class c.hear-2.new.self c.tell_owned.new.class c.args.who c.args.moment
@@ -149,7 +149,7 @@ returns-in_err-copy-clause-sees g c =
     let raw = c.own-inside.inside.0.0 in
     let own_is = ap (λ i. i.side) c.own-inside.view_is in
     let put = c.put_answer in
-    seen_on c.args.own.now.sight c.meet.new.own raw.seen.sight put.new.seen.sight c.hear.new.self c.hear-2.new.stripe c.meet.ensures.grows (ap (λ (x : StripeSide). x.sight) (own_is ∙ c.own.view_is)) put.ensures.grows c.hear.ensures.grows
+    seen_on c.args.own.now raw.seen.sight put.new.seen.sight c.hear.new.self c.hear-2.new.stripe (ap (λ (x : StripeSide). x.sight) (own_is ∙ c.own.view_is)) put.ensures.grows c.hear.ensures.grows
     c.hear-2.ensures.stripe
 
 pub returns-clause-sees : goal.returns-clause-sees
@@ -157,5 +157,5 @@ returns-clause-sees g c =
     let raw = c.own-inside.inside.0.0 in
     let own_is = ap (λ i. i.side) c.own-inside.view_is in
     let put = c.put_answer in
-    seen_on c.args.own.now.sight c.meet.new.own raw.seen.sight put.new.seen.sight c.hear.new.self c.hear-2.new.stripe c.meet.ensures.grows (ap (λ (x : StripeSide). x.sight) (own_is ∙ c.own.view_is)) put.ensures.grows c.hear.ensures.grows
+    seen_on c.args.own.now raw.seen.sight put.new.seen.sight c.hear.new.self c.hear-2.new.stripe (ap (λ (x : StripeSide). x.sight) (own_is ∙ c.own.view_is)) put.ensures.grows c.hear.ensures.grows
     c.hear-2.ensures.stripe

@@ -246,15 +246,17 @@ returns-in_err-copy-clause-sees g c =
     let raw = c.own-inside.inside.0.0 in
     let own_is = ap (λ i. i.side) c.own-inside.view_is in
     let put = c.put_answer in
-    seen_on c.args.own.now.sight c.meet-2.new.own raw.seen.sight put.new.seen.sight c.hear-2.new.self c.hear-4.new.stripe (grows_trans c.args.own.now.sight c.meet.new.own.sight c.meet-2.new.own.sight c.meet.ensures.grows c.meet-2.ensures.grows)
+    grows_trans c.args.own.now.sight c.meet-2.new.own.sight c.hear-4.new.stripe.sight (grows_trans c.args.own.now.sight c.meet.new.own.sight c.meet-2.new.own.sight c.meet.ensures.grows c.meet-2.ensures.grows)
+    (seen_on c.meet-2.new.own raw.seen.sight put.new.seen.sight c.hear-2.new.self c.hear-4.new.stripe
     (ap (λ (x : StripeSide). x.sight) (own_is ∙ c.own.view_is)) put.ensures.grows (grows_trans put.new.seen.sight c.hear.new.self.sight c.hear-2.new.self.sight c.hear.ensures.grows c.hear-2.ensures.grows)
-    (c.hear-4.ensures.stripe ∙ c.hear-3.ensures.stripe)
+    (c.hear-4.ensures.stripe ∙ c.hear-3.ensures.stripe))
 
 pub returns-clause-sees : goal.returns-clause-sees
 returns-clause-sees g c =
     let raw = c.own-inside.inside.0.0 in
     let own_is = ap (λ i. i.side) c.own-inside.view_is in
     let put = c.put_answer in
-    seen_on c.args.own.now.sight c.meet-2.new.own raw.seen.sight put.new.seen.sight c.hear-2.new.self c.hear-4.new.stripe (grows_trans c.args.own.now.sight c.meet.new.own.sight c.meet-2.new.own.sight c.meet.ensures.grows c.meet-2.ensures.grows)
+    grows_trans c.args.own.now.sight c.meet-2.new.own.sight c.hear-4.new.stripe.sight (grows_trans c.args.own.now.sight c.meet.new.own.sight c.meet-2.new.own.sight c.meet.ensures.grows c.meet-2.ensures.grows)
+    (seen_on c.meet-2.new.own raw.seen.sight put.new.seen.sight c.hear-2.new.self c.hear-4.new.stripe
     (ap (λ (x : StripeSide). x.sight) (own_is ∙ c.own.view_is)) put.ensures.grows (grows_trans put.new.seen.sight c.hear.new.self.sight c.hear-2.new.self.sight c.hear.ensures.grows c.hear-2.ensures.grows)
-    (c.hear-4.ensures.stripe ∙ c.hear-3.ensures.stripe)
+    (c.hear-4.ensures.stripe ∙ c.hear-3.ensures.stripe))
