@@ -1,4 +1,5 @@
 pub mod Key
+pub mod Value
 pub mod Item
 pub mod Command
 pub mod Measure

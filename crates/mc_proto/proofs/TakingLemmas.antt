@@ -1,7 +1,8 @@
 -- What each part of a piece makes of the reading so far.
-use Rattle.std.proofs.Common.{◌≡◌, ◌++◌, ◌∷◌, [], ◌+◌, ◌<◌, ◌≤◌, ℕ, List, length, refl, ap, sym, ◌∙◌, arith, append_assoc, take, drop, get_or, Bool, true, false, subst, inl, inr, take-append-drop, append-nil, length-append}
+use Rattle.std.proofs.Common.{◌≡◌, ◌++◌, ◌∷◌, [], ◌+◌, ◌<◌, ◌≤◌, ℕ, List, length, refl, ap, sym, ◌∙◌, arith, append_assoc, take, drop, get_or, Bool, true, false, subst, inl, inr, take-append-drop, append-nil, length-append, ◌-◌, length-drop}
 use Rattle.std.specs.Prelude.{if◌then◌else◌, nat_eq, option_to_list}
 use Rattle.std.specs.Cmp.Lexicographic.{pointwise}
+use Rattle.std.proofs.Math.Seq.{take-add}
 use Rattle.std.proofs.lemmas.List.{take_more, take_all, take-append-le, length-take-le}
 use Rattle.mc_proto.specs.Lines.{Lacks}
 use Rattle.mc_proto.specs.declared.request.Limits.{Limits}
@@ -155,6 +156,29 @@ block_done limits u v block stream piece rs s n a le long none =
       means = ap (λ (x : Said). asked x (block ++ take n piece)) (sym st.3);
     }))
     (refl, tt, omega arith) (stored_open s (block ++ take n piece) (pointwise nat_eq (drop s.count (block ++ take n piece)) (13 ∷ 10 ∷ []))))
+
+-- a block behind a line in the same piece, where the piece cuts it
+pub first_more : (limits : Limits) (stream piece : List ℕ) (rs : List Request) (s : Start) (begin : ℕ) → After limits (Block s []) [] (stream ++ take begin piece) rs → begin ≤ length piece → length piece < begin + (s.count + 2)
+    → After limits (Block s (drop begin piece)) [] (stream ++ take (length piece) piece) rs
+first_more limits stream piece rs s begin a within l =
+    let behind = drop begin piece in
+    let long : length behind ≡ length piece - begin = length-drop begin piece in
+    let whole : (stream ++ take begin piece) ++ take (length behind) behind ≡ stream ++ take (length piece) piece =
+    append_assoc stream (take begin piece) (take (length behind) behind)
+    ∙ ap (λ (t : List ℕ). stream ++ (take begin piece ++ t)) (take_all (length behind) behind (omega arith))
+    ∙ ap (λ (t : List ℕ). stream ++ t) (take-append-drop begin piece ∙ sym (take_all (length piece) piece (omega arith))) in
+    subst (λ (t : List ℕ). After limits (Block s behind) [] t rs) whole (block_more limits [] [] [] (stream ++ take begin piece) behind rs s a (omega (arith, long)))
+
+-- and where it lies whole in the piece
+pub first_done : (limits : Limits) (stream piece : List ℕ) (rs : List Request) (s : Start) (begin : ℕ) → After limits (Block s []) [] (stream ++ take begin piece) rs → begin + (s.count + 2) ≤ length piece
+    → After limits Line [] (stream ++ take (begin + (s.count + 2)) piece) (rs ++ stored s (take (s.count + 2) (drop begin piece)) ∷ [])
+first_done limits stream piece rs s begin a within =
+    let n = s.count + 2 in
+    let behind = drop begin piece in
+    let long : length behind ≡ length piece - begin = length-drop begin piece in
+    let whole : (stream ++ take begin piece) ++ take n behind ≡ stream ++ take (begin + n) piece =
+    append_assoc stream (take begin piece) (take n behind) ∙ ap (λ (t : List ℕ). stream ++ t) (sym (take-add begin n piece)) in
+    subst (λ (t : List ℕ). After limits Line [] t (rs ++ stored s (take n behind) ∷ [])) whole (block_done limits [] [] [] (stream ++ take begin piece) behind rs s n a (omega (arith, long)) (omega arith) refl)
 
 pub skip_more : (limits : Limits) (u v stream piece : List ℕ) (rs : List Request) (s : Start) (left now : ℕ) → After limits (Skip s left) u stream rs → length piece + now ≡ left → 0 < now
     → After limits (Skip s now) v (stream ++ take (length piece) piece) rs

@@ -1,8 +1,8 @@
 //! What a part of a piece makes of where a reader stands.
-ghost use Rattle.std.specs.Prelude.{◌≡◌, ◌++◌, [], ◌+◌, ◌-◌, ◌<◌, ◌≤◌, ℕ, List, IfOk, OnOk, All, length, take, option_to_list};
+ghost use Rattle.std.specs.Prelude.{◌≡◌, ◌++◌, [], ◌+◌, ◌-◌, ◌<◌, ◌≤◌, ℕ, List, IfOk, OnOk, All, length, take};
 ghost use Rattle.mc_proto.specs.Grammar.{stored, skipped, IsFine, IsModerate};
 ghost use Rattle.mc_proto.specs.Table.{says};
-ghost use Rattle.mc_proto.specs.Reader.{After, IsSound, state_after, request_after};
+ghost use Rattle.mc_proto.specs.Reader.{After, IsSound};
 ghost use Rattle.mc_proto.specs.declared.request.Limits.{Limits};
 ghost use Rattle.mc_proto.specs.declared.request.Request.{Request};
 ghost use Rattle.mc_proto.specs.declared.state.State.{State};
@@ -13,7 +13,7 @@ use crate::quick::lone_get;
 use crate::request::{Keys, Limits, LineFault, Request};
 use crate::state::{Part, Said, Start, State};
 use crate::token::line_end;
-use bytes::BytesMut;
+use bytes::{Bytes, BytesMut};
 use mc_item::{Command, NoMemory, Value};
 use std::alloc::Global;
 use std::mem;
@@ -58,34 +58,64 @@ fn said_at(
     said_behind(alloc, limits, line, front)
 }
 
-// What a whole line makes of where the reader stands, and of the requests. Room for its whole block is taken at once.
-fn take_said(
+// The request of a block that is whole. Its bytes become the value, without a copy.
+fn stored_of(alloc: Global, start: Start, mut block: Bytes) -> Result<Request, NoMemory>
+    requires { length block ≡ start.count + 2 }
+    ensures value { IfOk result (λ r. r ≡ stored start block) }
+    ensures moderate { (limits : Limits) → IfOk result (λ r. IsModerate limits r) }
+{
+    let count = start.count as usize;
+    let bytes = block.as_slice();
+    if bytes[count] == b'\r' && bytes[count + 1] == b'\n' {
+        block.truncate(count);
+        Ok(Request::One {
+            command: Command::Store {
+                verb: start.verb,
+                key: start.key,
+                flags: start.flags,
+                exptime: start.exptime,
+                value: Value::of_part(alloc, block)?,
+            },
+            quiet: start.quiet,
+        })
+    } else {
+        Ok(Request::Bad {
+            why: LineFault::Chunk,
+            quiet: start.quiet,
+        })
+    }
+}
+
+// Takes what a piece has of the block behind a line that ends there, and says up to where. A block that lies whole in the
+// piece isn't copied; of another one the room is taken at once.
+#[inline(always)]
+fn take_first(
     alloc: Global,
-    _limits: Limits,
     state: &mut State,
     requests: &mut Vec<Request>,
-    said: Said,
-) -> Result<(), NoMemory>
+    start: Start,
+    piece: &Bytes,
+    begin: usize,
+) -> Result<usize, NoMemory>
     requires line { state.old ≡ Line }
-    requires fine { IsFine _limits said }
-    ensures state { OnOk result (state.new ≡ state_after said) }
-    ensures requests { OnOk result (requests.new.items ≡ requests.old.items ++ option_to_list (request_after said)) }
-    ensures moderate { OnOk result (All (IsModerate _limits) requests.old.items → All (IsModerate _limits) requests.new.items) }
+    requires within { (0 < begin) × (begin ≤ length piece.now) }
+    requires count { start.count ≤ 2147483645 }
+    ensures taken { IfOk result (λ n. (0 < n) × (n ≤ length piece.now)) }
+    ensures sound { OnOk result (IsSound state.new []) }
+    ensures moderate { (limits : Limits) → OnOk result (All (IsModerate limits) requests.old.items → All (IsModerate limits) requests.new.items) }
+    ensures reads { IfOk result (λ n. (limits : Limits) (stream : List ℕ) (before : List Request) → After limits (State.Block start []) [] (stream ++ take begin piece.now) (before ++ requests.old.items)
+        → After limits state.new [] (stream ++ take n piece.now) (before ++ requests.new.items)) }
 {
-    match said {
-        Said::Whole(request) => {
-            requests.push(request)?;
-        }
-        Said::Block(start) => {
-            let bytes = Vec::with_capacity(alloc, start.count as usize + 2)?;
-            *state = State::Block(start, Part { bytes });
-        }
-        Said::Skip(start) => {
-            let left = start.count + 2;
-            *state = State::Skip(start, left);
-        }
+    let wanted = start.count as usize + 2;
+    if piece.len() - begin < wanted {
+        let mut bytes = Vec::with_capacity(alloc, wanted)?;
+        bytes.extend_from_slice(piece.as_slice().split_at(begin).1)?;
+        *state = State::Block(start, Part { bytes });
+        return Ok(piece.len());
     }
-    Ok(())
+    let block = piece.slice(begin..begin + wanted)?;
+    requests.push(stored_of(alloc, start, block)?)?;
+    Ok(begin + wanted)
 }
 
 // Takes bytes of a line, up to its LF, and says how many.
@@ -95,7 +125,7 @@ fn take_line(
     state: &mut State,
     line: &mut BytesMut,
     requests: &mut Vec<Request>,
-    piece: &[u8],
+    piece: &Bytes,
 ) -> Result<usize, NoMemory>
     requires some { 0 < length piece.now }
     requires line { state.old ≡ Line }
@@ -106,7 +136,8 @@ fn take_line(
     ensures reads { IfOk result (λ n. (stream : List ℕ) (before : List Request) → After limits Line line.old.items stream (before ++ requests.old.items)
         → After limits state.new line.new.items (stream ++ take n piece.now) (before ++ requests.new.items)) }
 {
-    let end = line_end(piece);
+    let bytes = piece.as_slice();
+    let end = line_end(bytes);
     if line.len() + end > MAX_LINE {
         line.clear();
         requests.push(Request::Bad {
@@ -114,13 +145,13 @@ fn take_line(
             quiet: false,
         })?;
         *state = State::Closed;
-        return Ok(piece.len());
+        return Ok(bytes.len());
     }
-    if end == piece.len() {
-        line.extend_from_slice(piece)?;
+    if end == bytes.len() {
+        line.extend_from_slice(bytes)?;
         return Ok(end);
     }
-    let front = piece.split_at(end).0;
+    let front = bytes.split_at(end).0;
     if line.is_empty() {
         if let Some(key) = lone_get(alloc, front)? {
             requests.push(Request::Get {
@@ -130,35 +161,17 @@ fn take_line(
             return Ok(end + 1);
         }
     }
-    let said = said_at(alloc, limits, line, front)?;
-    take_said(alloc, limits, state, requests, said)?;
-    Ok(end + 1)
-}
-
-// The request of a block that is whole. Its bytes become the value, without a copy.
-fn stored_of(alloc: Global, start: Start, mut block: Vec<u8>) -> Result<Request, NoMemory>
-    requires { length block.items ≡ start.count + 2 }
-    ensures value { IfOk result (λ r. r ≡ stored start block.items) }
-    ensures moderate { (limits : Limits) → IfOk result (λ r. IsModerate limits r) }
-{
-    let count = start.count as usize;
-    if block[count] == b'\r' && block[count + 1] == b'\n' {
-        block.truncate(count);
-        Ok(Request::One {
-            command: Command::Store {
-                verb: start.verb,
-                key: start.key,
-                flags: start.flags,
-                exptime: start.exptime,
-                value: Value::of(alloc, block)?,
-            },
-            quiet: start.quiet,
-        })
-    } else {
-        Ok(Request::Bad {
-            why: LineFault::Chunk,
-            quiet: start.quiet,
-        })
+    match said_at(alloc, limits, line, front)? {
+        Said::Whole(request) => {
+            requests.push(request)?;
+            Ok(end + 1)
+        }
+        Said::Block(start) => take_first(alloc, state, requests, start, piece, end + 1),
+        Said::Skip(start) => {
+            let left = start.count + 2;
+            *state = State::Skip(start, left);
+            Ok(end + 1)
+        }
     }
 }
 
@@ -188,7 +201,8 @@ fn take_block(
         return Ok(piece.len());
     }
     bytes.extend_from_slice(piece.split_at(wanted).0)?;
-    requests.push(stored_of(alloc, start, bytes)?)?;
+    let block = Bytes::from_vec(bytes)?;
+    requests.push(stored_of(alloc, start, block)?)?;
     Ok(wanted)
 }
 
@@ -232,7 +246,7 @@ pub fn take_part(
     state: &mut State,
     line: &mut BytesMut,
     requests: &mut Vec<Request>,
-    piece: &[u8],
+    piece: &Bytes,
 ) -> Result<usize, NoMemory>
     requires some { 0 < length piece.now }
     requires sound { IsSound state.old line.old.items }
@@ -255,9 +269,10 @@ pub fn take_part(
         State::Block(_, _) => {}
         State::Skip(_, _) => {}
     }
+    let bytes = piece.as_slice();
     match mem::replace(state, State::Line) {
-        State::Block(start, part) => take_block(alloc, state, requests, start, part, piece),
-        State::Skip(start, left) => take_skipped(state, requests, start, left, piece),
+        State::Block(start, part) => take_block(alloc, state, requests, start, part, bytes),
+        State::Skip(start, left) => take_skipped(state, requests, start, left, bytes),
         State::Line => unreachable!(),
         State::Closed => unreachable!(),
         State::Failed => unreachable!(),

@@ -9,7 +9,6 @@ use mc_item::{Histogram, Key, Moves, NoMemory, Reply};
 use std::alloc::Global;
 
 // Adds parts of a text, all of them or none.
-#[inline(always)]
 fn push_parts(out: &mut Vec<u8>, parts: &[&[u8]]) -> Result<(), NoMemory>
     ensures ok { OnOk result (out.new.items ≡ out.old.items ++ flat_map (λ part. part.now) parts.now) }
     ensures err { OnErr result (out.new.items ≡ out.old.items) }
@@ -28,7 +27,6 @@ fn push_parts(out: &mut Vec<u8>, parts: &[&[u8]]) -> Result<(), NoMemory>
 }
 
 // Adds a text whole or not at all.
-#[inline(always)]
 fn push_text(out: &mut Vec<u8>, text: &[u8]) -> Result<(), NoMemory>
     ensures ok { OnOk result (out.new.items ≡ out.old.items ++ text.now) }
     ensures err { OnErr result (out.new.items ≡ out.old.items) }
@@ -109,11 +107,20 @@ pub fn push_end(out: &mut Vec<u8>) -> Result<(), NoMemory>
 }
 
 /// Adds a value's text up to its key: `VALUE` and the key. After an `Err` nothing is added.
+#[inline(always)]
 pub fn push_value_head(out: &mut Vec<u8>, key: &[u8]) -> Result<(), NoMemory>
     ensures ok { OnOk result (out.new.items ≡ out.old.items ++ texts.value_head key.now) }
     ensures err { OnErr result (out.new.items ≡ out.old.items) }
 {
-    push_parts(out, &[b"VALUE ".as_slice(), key])
+    let before = out.len();
+    push_text(out, b"VALUE ".as_slice())?;
+    match push_text(out, key) {
+        Ok(()) => Ok(()),
+        Err(fault) => {
+            out.truncate(before);
+            Err(fault)
+        }
+    }
 }
 
 // Adds a value's flags between two spaces; 0, which is usual, needs no digits.

@@ -1,5 +1,6 @@
 //! Copies are equal in each part.
 use crate::tests::{key, store, value};
+use bytes::Bytes;
 use mc_item::{Command, Reply, Value, Verb};
 use std::alloc::Global;
 use std::process::Abort;
@@ -104,6 +105,27 @@ fn copies_a_value(rt: &impl Abort, alloc: Global, bytes: &[u8]) {
     assert_eq!(rt; again.bytes(), bytes);
 }
 
+// The value of bytes within a larger block, its copy after both are gone, and the copy's copy have just these bytes.
+fn copies_a_part(rt: &impl Abort, alloc: Global, bytes: &[u8]) {
+    let mut block = Vec::from_slice(alloc, b"<").expect(rt, "memory");
+    block.extend_from_slice(bytes).expect(rt, "memory");
+    block.push(b'>').expect(rt, "memory");
+    let mut rest = Bytes::from_vec(block).expect(rt, "memory");
+    rest.advance(rest.len().min(1));
+    let part = rest
+        .split_to(bytes.len().min(rest.len()))
+        .expect(rt, "memory");
+    let value = Value::of_part(alloc, part).expect(rt, "memory");
+    assert_eq!(rt; value.bytes(), bytes);
+    assert_eq!(rt; rest.as_slice(), b">".as_slice());
+    drop(rest);
+    let copy = value.copy().expect(rt, "memory");
+    drop(value);
+    assert_eq!(rt; copy.bytes(), bytes);
+    let again = copy.copy().expect(rt, "memory");
+    assert_eq!(rt; again.bytes(), bytes);
+}
+
 #[test]
 fn copies_of_values_outlive_them(rt: HostRuntime) {
     let alloc = rt.alloc();
@@ -111,5 +133,6 @@ fn copies_of_values_outlive_them(rt: HostRuntime) {
     bytes[1000] = b'y';
     for count in [0, 1, 2, 64, 1001] {
         copies_a_value(&rt, alloc, &bytes[1001 - count..]);
+        copies_a_part(&rt, alloc, &bytes[1001 - count..]);
     }
 }

@@ -5,12 +5,12 @@ use Rattle.mc_proto.specs.declared.request.Request.{Request}
 use Rattle.mc_proto.proofs.reader.read_piece.Given as goal
 
 -- what came of the piece before `rest` has been read
-abbrev pub invariant-loop-rest : goal.invariant-loop-rest
-invariant-loop-rest l = record {
+abbrev pub invariant-loop-alloc : goal.invariant-loop-alloc
+invariant-loop-alloc l = record {
   sound : IsSound l.state l.line.items;
   moderate : All (IsModerate l.limits) l.requests.items;
   read : (front : List ℕ) × (l.fn.piece ≡ front ++ l.rest) × ((stream : List ℕ) (requests : List Request) → After l.limits l.fn.state l.fn.line.items stream requests → After l.limits l.state l.line.items (stream ++ front) (requests ++ l.requests.items));
 }
 
-abbrev pub decreases-loop-rest : goal.decreases-loop-rest
-decreases-loop-rest l = length l.rest
+abbrev pub decreases-loop-alloc : goal.decreases-loop-alloc
+decreases-loop-alloc l = length l.rest

@@ -1,42 +1,55 @@
-use Rattle.std.proofs.Common.{◌≡◌, ◌++◌, ◌∷◌, [], ◌+◌, ◌<◌, ◌∙◌, arith, sym, ap, take, List, ℕ, length, false, refl, rules}
-use Rattle.std.specs.Prelude.{option_to_list}
+use Rattle.std.proofs.Common.{◌≡◌, ◌≤◌, ◌++◌, ◌∷◌, [], ◌+◌, ◌<◌, ◌∙◌, arith, sym, ap, subst, take, get_or, List, ℕ, length, false, refl, rules, Result, Ok, Err}
+use Rattle.std.specs.Prelude.{IfOk}
 use Rattle.std.proofs.lemmas.List.{take_all}
+use Rattle.mc_proto.specs.Lines.{Lacks}
 use Rattle.mc_proto.specs.Table.{says}
-use Rattle.mc_proto.specs.Reader.{state_after, request_after}
 use Rattle.mc_proto.specs.declared.request.LineFault.TheVariants.{LineTooLong}
+use Rattle.mc_proto.specs.declared.request.Request.{Request}
 use Rattle.mc_proto.specs.declared.request.Request.TheVariants.{Bad, Get}
-use Rattle.mc_proto.specs.declared.state.Said.TheVariants.{Whole}
+use Rattle.mc_proto.specs.declared.state.Said.TheVariants.{Whole, Block, Skip}
 use Rattle.mc_proto.specs.Grammar.{IsFine}
+use Rattle.mc_proto.specs.Reader.{After}
+use Rattle.mc_proto.specs.declared.state.State.TheVariants as states
 use Rattle.mc_proto.specs.declared.state.State.TheVariants.{Line, Closed}
-use Rattle.mc_proto.proofs.TakingLemmas.{behind, too_long, line_more, line_done}
+use Rattle.mc_proto.proofs.TakingLemmas.{behind, too_long, line_blocks, line_more, line_done, line_skips}
 use Rattle.mc_proto.proofs.taking.take_line.Goals as goal
+
+-- what holds of what was answered, where one fact follows from another
+ok_follows : {X E : Type 0} (r : Result X E) (P Q : X → Type 0) → ((x : X) → P x → Q x) → IfOk r P → IfOk r Q
+ok_follows (Ok x) P Q follows p = follows x p
+ok_follows (Err e) P Q follows p = tt
+
+-- the end of a line within the bytes of a piece
+end_within : (bytes piece : List ℕ) (end : ℕ) → bytes ≡ piece → end ≤ length bytes → end ≤ length piece
+end_within bytes piece end same within = subst (λ (t : List ℕ). end ≤ length t) same within
+
+end_lacks : (bytes piece : List ℕ) (end : ℕ) → bytes ≡ piece → Lacks 10 (take end bytes) → Lacks 10 (take end piece)
+end_lacks bytes piece end same lack = subst (λ (t : List ℕ). Lacks 10 (take end t)) same lack
+
+end_found : (bytes piece : List ℕ) (end : ℕ) → bytes ≡ piece → (end < length bytes → get_or bytes end 0 ≡ 10) → end < length piece → get_or piece end 0 ≡ 10
+end_found bytes piece end same found = subst (λ (t : List ℕ). end < length t → get_or t end 0 ≡ 10) same found
 
 pub returns-then-len-end-gt-MAX_LINE-clause-reads : goal.returns-then-len-end-gt-MAX_LINE-clause-reads
 returns-then-len-end-gt-MAX_LINE-clause-reads c = λ stream before a.
     let e = c.line_end-end in
-    behind c.args.limits Closed _ (stream ++ take (length c.args.piece.now) c.args.piece.now) before c.args.requests.now.items (Bad LineTooLong false ∷ []) _ c.in_ok-push.ensures.items
-    (too_long c.args.limits c.args.line.now.items _ stream c.args.piece.now (before ++ c.args.requests.now.items) e.result a e.ensures.within e.ensures.before (omega arith))
+    let p = c.args.piece.now in
+    let same = c.as_slice-bytes.ensures in
+    rw same
+    (behind c.args.limits Closed _ (stream ++ take (length p) p) before c.args.requests.now.items (Bad LineTooLong false ∷ []) _ c.in_ok-push.ensures.items
+    (too_long c.args.limits c.args.line.now.items _ stream p (before ++ c.args.requests.now.items) e.result a (end_within _ p e.result same e.ensures.within) (end_lacks _ p e.result same e.ensures.before) (omega arith)))
 
-pub returns-then-end-piece-clause-reads : goal.returns-then-end-piece-clause-reads
-returns-then-end-piece-clause-reads c = λ stream before a.
+pub returns-then-end-bytes-clause-reads : goal.returns-then-end-bytes-clause-reads
+returns-then-end-bytes-clause-reads c = λ stream before a.
     let e = c.line_end-end in
-    let whole : take c.line_end-end.result c.args.piece.now ≡ c.args.piece.now = take_all c.line_end-end.result c.args.piece.now (omega arith) in
-    let is : c.extend_from_slice.new.self.items ≡ c.args.line.now.items ++ take c.line_end-end.result c.args.piece.now =
-    c.in_ok-extend_from_slice.ensures.ok ∙ ap (λ (t : List ℕ). c.args.line.now.items ++ t) (sym whole) in
+    let p = c.args.piece.now in
+    let same = c.as_slice-bytes.ensures in
+    let long = ap length same in
+    let whole : take e.result p ≡ p = take_all e.result p (omega (arith, long)) in
+    let is : c.extend_from_slice.new.self.items ≡ c.args.line.now.items ++ take e.result p =
+    c.in_ok-extend_from_slice.ensures.ok ∙ ap (λ (t : List ℕ). c.args.line.now.items ++ t) (same ∙ sym whole) in
     let at : c.args.state.now ≡ Line = c.requires.line in
-    rw (is, at) (line_more c.args.limits c.args.line.now.items stream c.args.piece.now (before ++ c.args.requests.now.items) e.result a e.ensures.within e.ensures.before (omega arith))
-
-pub returns-clause-reads : goal.returns-clause-reads
-returns-clause-reads c = λ stream before a.
-    let e = c.line_end-end in
-    let l : c.line_end-end.result < length c.args.piece.now = omega arith in
-    let told : c.in_ok-said.said ≡ says c.args.limits (c.args.line.now.items ++ take c.line_end-end.result c.args.piece.now) =
-    c.in_ok-said.ensures.value ∙ ap (λ (t : List ℕ). says c.args.limits (c.args.line.now.items ++ t)) c.split_at.ensures.front in
-    let state : c.take_said.new.state ≡ state_after c.in_ok-said.said = c.in_ok-take_said.ensures.state in
-    rw state
-    (behind c.args.limits (state_after c.in_ok-said.said) _ (stream ++ take (c.line_end-end.result + 1) c.args.piece.now) before c.args.requests.now.items
-    (option_to_list (request_after c.in_ok-said.said)) _ c.in_ok-take_said.ensures.requests
-    (line_done c.args.limits c.args.line.now.items c.said_at.new.line.items stream c.args.piece.now (before ++ c.args.requests.now.items) e.result c.in_ok-said.said a l (e.ensures.found l) e.ensures.before (omega arith) told c.in_ok-said.ensures.fine c.in_ok-said.ensures.none))
+    rw (is, at)
+    (line_more c.args.limits c.args.line.now.items stream p (before ++ c.args.requests.now.items) e.result a (end_within _ p e.result same e.ensures.within) (end_lacks _ p e.result same e.ensures.before) (omega arith))
 
 none_left : (xs : List ℕ) → length xs ≡ 0 → xs ≡ []
 none_left [] h = refl
@@ -45,14 +58,63 @@ none_left (x ∷ xs) h = absurd (omega arith)
 pub returns-in-Some-clause-reads : goal.returns-in-Some-clause-reads
 returns-in-Some-clause-reads c = λ stream before a.
     let e = c.line_end-end in
-    let l : c.line_end-end.result < length c.args.piece.now = omega arith in
+    let p = c.args.piece.now in
+    let same = c.as_slice-bytes.ensures in
+    let long = ap length same in
+    let l : e.result < length p = omega (arith, long) in
+    let front = c.split_at.ensures.front ∙ ap (take e.result) same in
     let empty : c.args.line.now.items ≡ [] = none_left c.args.line.now.items (search rules) in
     let value : says c.args.limits c.split_at.result.0.now ≡ Whole (Get (c.in-Some.key ∷ []) false) = (rw c.in-Some.is at c.in_ok-key.ensures.value) c.args.limits in
     let fine : IsFine c.args.limits (Whole (Get (c.in-Some.key ∷ []) false)) = (rw c.in-Some.is at c.in_ok-key.ensures.fine) c.args.limits in
-    let told : Whole (Get (c.in-Some.key ∷ []) false) ≡ says c.args.limits (c.args.line.now.items ++ take c.line_end-end.result c.args.piece.now) =
-    sym value ∙ ap (says c.args.limits) c.split_at.ensures.front ∙ ap (λ (t : List ℕ). says c.args.limits (t ++ take c.line_end-end.result c.args.piece.now)) (sym empty) in
+    let told : Whole (Get (c.in-Some.key ∷ []) false) ≡ says c.args.limits (c.args.line.now.items ++ take e.result p) =
+    sym value ∙ ap (says c.args.limits) front ∙ ap (λ (t : List ℕ). says c.args.limits (t ++ take e.result p)) (sym empty) in
     let at : c.args.state.now ≡ Line = c.requires.line in
     rw at
-    (behind c.args.limits Line _ (stream ++ take (c.line_end-end.result + 1) c.args.piece.now) before c.args.requests.now.items
+    (behind c.args.limits Line _ (stream ++ take (e.result + 1) p) before c.args.requests.now.items
     (Get (c.in-Some.key ∷ []) false ∷ []) _ (c.in_ok-push-2.ensures.items ∙ ap (λ (ks : List (List ℕ)). c.args.requests.now.items ++ Get ks false ∷ []) c.one.ensures)
-    (line_done c.args.limits c.args.line.now.items c.args.line.now.items stream c.args.piece.now (before ++ c.args.requests.now.items) e.result (Whole (Get (c.in-Some.key ∷ []) false)) a l (e.ensures.found l) e.ensures.before (omega arith) told fine empty))
+    (line_done c.args.limits c.args.line.now.items c.args.line.now.items stream p (before ++ c.args.requests.now.items) e.result (Whole (Get (c.in-Some.key ∷ []) false)) a l (end_found _ p e.result same e.ensures.found l) (end_lacks _ p e.result same e.ensures.before) (omega arith) told fine empty))
+
+pub returns-in_ok-push-in-Whole-clause-reads : goal.returns-in_ok-push-in-Whole-clause-reads
+returns-in_ok-push-in-Whole-clause-reads c = λ stream before a.
+    let e = c.line_end-end in
+    let p = c.args.piece.now in
+    let same = c.as_slice-bytes.ensures in
+    let long = ap length same in
+    let l : e.result < length p = omega (arith, long) in
+    let front = c.split_at.ensures.front ∙ ap (take e.result) same in
+    let told = sym c.in-Whole.is ∙ c.in_ok-request.ensures.value ∙ ap (λ (t : List ℕ). says c.args.limits (c.args.line.now.items ++ t)) front in
+    let fine : IsFine c.args.limits (Whole c.in-Whole.request) = rw c.in-Whole.is at c.in_ok-request.ensures.fine in
+    let at : c.args.state.now ≡ Line = c.requires.line in
+    rw at
+    (behind c.args.limits Line _ (stream ++ take (e.result + 1) p) before c.args.requests.now.items (c.in-Whole.request ∷ []) _ c.in_ok-push-in-Whole.ensures.items
+    (line_done c.args.limits c.args.line.now.items c.said_at.new.line.items stream p (before ++ c.args.requests.now.items) e.result (Whole c.in-Whole.request) a l (end_found _ p e.result same e.ensures.found l) (end_lacks _ p e.result same e.ensures.before) (omega arith) told fine c.in_ok-request.ensures.none))
+
+pub returns-in-Block-clause-moderate : goal.returns-in-Block-clause-moderate
+returns-in-Block-clause-moderate c = c.take_first.ensures.moderate c.args.limits
+
+pub returns-in-Block-clause-reads : goal.returns-in-Block-clause-reads
+returns-in-Block-clause-reads c =
+    let e = c.line_end-end in
+    let p = c.args.piece.now in
+    let same = c.as_slice-bytes.ensures in
+    let long = ap length same in
+    let l : e.result < length p = omega (arith, long) in
+    let front = c.split_at.ensures.front ∙ ap (take e.result) same in
+    let told = sym c.in-Block.is ∙ c.in_ok-request.ensures.value ∙ ap (λ (t : List ℕ). says c.args.limits (c.args.line.now.items ++ t)) front in
+    rw c.in_ok-request.ensures.none
+    (ok_follows c.take_first.result _ _
+    (λ n taken stream before a. taken c.args.limits stream before
+    (line_blocks c.args.limits c.args.line.now.items stream p (before ++ c.args.requests.now.items) e.result c.in-Block.start a l (end_found _ p e.result same e.ensures.found l) (end_lacks _ p e.result same e.ensures.before) (omega arith) told))
+    c.take_first.ensures.reads)
+
+pub returns-in-Skip-clause-reads : goal.returns-in-Skip-clause-reads
+returns-in-Skip-clause-reads c = λ stream before a.
+    let e = c.line_end-end in
+    let p = c.args.piece.now in
+    let same = c.as_slice-bytes.ensures in
+    let long = ap length same in
+    let l : e.result < length p = omega (arith, long) in
+    let front = c.split_at.ensures.front ∙ ap (take e.result) same in
+    let told = sym c.in-Skip.is ∙ c.in_ok-request.ensures.value ∙ ap (λ (t : List ℕ). says c.args.limits (c.args.line.now.items ++ t)) front in
+    rw c.in_ok-request.ensures.none
+    (line_skips c.args.limits c.args.line.now.items stream p (before ++ c.args.requests.now.items) e.result c.in-Skip.start a l (end_found _ p e.result same e.ensures.found l) (end_lacks _ p e.result same e.ensures.before) (omega arith) told)

@@ -1,0 +1,9 @@
+-- The bytes of a value.
+use Rattle.std.specs.Prelude.{ℕ, List}
+use Rattle.mc_item.specs.declared.value.Held.{Held}
+use Rattle.mc_item.specs.declared.value.Held.TheVariants.{Alone, Within}
+
+-- the bytes of a value, wherever they are
+abbrev pub held_bytes : Held → List ℕ
+held_bytes (Alone bytes) = bytes.items
+held_bytes (Within bytes) = bytes
