@@ -175,10 +175,11 @@ none_adds config old new caller same grows = record {
 }
 
 -- as a call answers it: a reply is noted
-pub replied_ok : (config : Config) (old new : PassView) (command : Command) (moment : ℕ) (reply : Reply) → 0 < config.stripes → new.caller ≡ old.caller → Grows old.sight new.sight
-    → IsRepliedBy config (stripe_number config.stripes command) old.sight new.sight old.calls new.calls (record { caller = old.caller; turn = old.turn }) command moment reply
-    → (r : Reply) × (Some reply ≡ Some r) × Adds (AreNoted config old) (AreNoted config new) (exchange old.caller old.turn (Asks command) moment (Replied r) ∷ [])
-replied_ok config old new command moment reply some same grows by = (reply, refl, replied_adds config old new command moment reply some same grows by)
+pub replied_ok : (config : Config) (old new : PassView) (command : Command) (moment : ℕ) (r : Result Reply Fault) → 0 < config.stripes → new.caller ≡ old.caller → Grows old.sight new.sight
+    → IfOk r (IsRepliedBy config (stripe_number config.stripes command) old.sight new.sight old.calls new.calls (record { caller = old.caller; turn = old.turn }) command moment)
+    → IfOk r (λ reply. Adds (AreNoted config old) (AreNoted config new) (exchange old.caller old.turn (Asks command) moment (Replied reply) ∷ []))
+replied_ok config old new command moment (Ok reply) some same grows by = replied_adds config old new command moment reply some same grows by
+replied_ok config old new command moment (Err fault) some same grows by = tt
 
 -- juggling is noted where it was done
 pub juggled_ok : (config : Config) (old new : PassView) (class : ClassNo) (moment : ℕ) (r : Result Moves Fault) → IsClass (setting_of config) class → new.caller ≡ old.caller → OnOk r (new.calls ≡ old.calls ++ juggling_of class moment ∷ []) → Grows old.sight new.sight
@@ -214,13 +215,9 @@ pub crawled_kinds : (config : Config) (class : ClassNo) (before after : Sight) (
 crawled_kinds config class before after who moment (Ok histogram) by = by.balanced
 crawled_kinds config class before after who moment (Err fault) by = tt
 
-pub command_failed : (config : Config) (old new : PassView) (who : Who) (command : Command) (moment number : ℕ) → new.caller ≡ old.caller
-    → (new ≡ old) ⊎ IsCutBy config number old.sight new.sight old.calls new.calls who command moment → Grows old.sight new.sight → Adds (AreNoted config old) (AreNoted config new) []
-command_failed config old new who command moment number caller cut grows =
+pub command_failed : (config : Config) (old new : PassView) (who : Who) (command : Command) (moment number : ℕ) (r : Result Reply Fault) → new.caller ≡ old.caller
+    → OnErr r ((new ≡ old) ⊎ IsCutBy config number old.sight new.sight old.calls new.calls who command moment) → Grows old.sight new.sight → OnErr r (Adds (AreNoted config old) (AreNoted config new) [])
+command_failed config old new who command moment number (Ok reply) caller cut grows = tt
+command_failed config old new who command moment number (Err fault) caller cut grows =
     none_adds config old new caller (cut_places old new moment (asked_for command moment) refl
     (⊎_elim (λ (same : new ≡ old). inl same) (λ (c : IsCutBy config number old.sight new.sight old.calls new.calls who command moment). inr c.noted) cut)) grows
-
--- what holds whatever was answered holds of a failure
-pub on_err_always : {X E P : Type 0} (r : Result X E) → P → OnErr r P
-on_err_always (Ok x) holds = tt
-on_err_always (Err e) holds = holds

@@ -115,9 +115,9 @@ may_more config old new call may caller turn grows turns made = record {
 }
 
 -- a command that was answered was made to its end
-pub replied_may : (config : Config) (old new : PassView) (command : Command) (moment : ℕ) (reply : Reply) → MayCall config old → new.caller ≡ old.caller → new.turn ≡ old.turn + 1 → Grows old.sight new.sight
-    → IsRepliedBy config (stripe_number config.stripes command) old.sight new.sight old.calls new.calls (record { caller = old.caller; turn = old.turn }) command moment reply → MayCall config new
-replied_may config old new command moment reply may caller turn grows by =
+pub replied_may : (config : Config) (old new : PassView) (command : Command) (moment : ℕ) (r : Result Reply Fault) → MayCall config old → new.caller ≡ old.caller → OnOk r (new.turn ≡ old.turn + 1) → Grows old.sight new.sight
+    → IfOk r (IsRepliedBy config (stripe_number config.stripes command) old.sight new.sight old.calls new.calls (record { caller = old.caller; turn = old.turn }) command moment) → OnOk r (MayCall config new)
+replied_may config old new command moment (Ok reply) may caller turn grows by =
     let asked = asked_for command moment in
     let last = answered_at by.old.site.stripe by.replied.place in
     let turns : turns_of new.calls ≡ turns_of old.calls ++ asked ∷ [] =
@@ -126,6 +126,7 @@ replied_may config old new command moment reply may caller turn grows by =
     ∙ (append-nil (turns_of (old.calls ++ asked ∷ [])) ∙ turns_of-append old.calls (asked ∷ []))) in
     may_more config old new asked may caller turn grows turns
     (made_between config (histories_seen config old.sight) (histories_seen config new.sight) _ asked (replied_between config old.sight new.sight old.calls new.calls (next_who old) command moment reply may.some grows by) refl)
+replied_may config old new command moment (Err fault) may caller turn grows by = tt
 
 -- and so was juggling
 pub juggled_may : (config : Config) (old new : PassView) (class : ClassNo) (moment : ℕ) (r : Result Moves Fault) → MayCall config old → IsClass (setting_of config) class → new.caller ≡ old.caller

@@ -8,14 +8,12 @@ use mc_store::{Named, Pass, Store};
 use std::alloc::Global;
 use std::sync::Wait;
 
-/// A caller of a store, with its pass. The reply to its last command is kept, and that command's key.
+/// A caller of a store, with its pass.
 #[derive(Drop)]
 pub(crate) struct Caller<'a, N: Named> {
     alloc: Global,
     store: &'a Store<N>,
     pass: Pass<N>,
-    key: Vec<u8>,
-    last: Option<Reply>,
 }
 
 impl<'a, N: Named> Caller<'a, N> {
@@ -23,13 +21,7 @@ impl<'a, N: Named> Caller<'a, N> {
     pub fn new(alloc: Global, store: &'a Store<N>, pass: Pass<N>) -> Caller<'a, N>
         ensures pass { result.pass ≡ pass }
     {
-        Caller {
-            alloc,
-            store,
-            pass,
-            key: Vec::new(alloc),
-            last: None,
-        }
+        Caller { alloc, store, pass }
     }
 
     /// The pass, as the caller leaves it.
@@ -70,23 +62,14 @@ impl<'a, N: Named> Calls for Caller<'a, N> {
 
     ghost notes = { λ s calls. AreNoted N.config s.pass calls };
 
-    ghost last = { λ s. s.last };
-
-    ghost asked = { λ s. s.key.items };
-
     ghost is_full = { λ s. HasSeenShort N.config s.pass.sight };
 
     ghost may_call = { λ s. MayCall N.config s.pass };
 
-    fn command(&mut self, rt: &impl Wait, command: Command, moment: u64) -> Result<(), Fault> {
+    fn command(&mut self, rt: &impl Wait, command: Command, moment: u64) -> Result<Reply, Fault> {
         self.check_turn()?;
-        self.key.clear();
-        self.key.extend_from_slice(command.key().bytes())?;
-        let reply = self
-            .store
-            .command(self.alloc, rt, &mut self.pass, command, moment)?;
-        self.last = Some(reply);
-        Ok(())
+        self.store
+            .command(self.alloc, rt, &mut self.pass, command, moment)
     }
 
     fn juggle(&mut self, rt: &impl Wait, class: ClassNo, moment: u64) -> Result<Moves, Fault> {
@@ -99,13 +82,5 @@ impl<'a, N: Named> Calls for Caller<'a, N> {
         self.check_turn()?;
         self.store
             .crawl(self.alloc, rt, &mut self.pass, class, moment)
-    }
-
-    fn reply(&self) -> &Reply {
-        self.last.as_ref().unwrap()
-    }
-
-    fn key(&self) -> &[u8] {
-        self.key.as_slice()
     }
 }

@@ -18,7 +18,8 @@ use mc_proto::{
 };
 use std::sync::Wait;
 
-// One key of a get, with its value's text, where there is one.
+// One key of a get, with its value's text, where there is one. The text is begun before the key goes into the call, and
+// taken back on a miss, so no key is copied.
 fn answer_key<C: Calls>(
     rt: &impl Wait,
     calls: &mut C,
@@ -37,11 +38,12 @@ fn answer_key<C: Calls>(
     ensures front { Begins text.old.items text.new.items }
     ensures full { IsErrOf result faults.HistoryFull → C.is_full calls.new }
 {
-    calls.command(rt, Command::Get(key), moment)?;
-    let reply = calls.reply();
-    if let Reply::Value { .. } = reply {
-        push_value_head(text, calls.key())?;
-        push_value_tail(text, reply, with_cas)?;
+    let start = text.len();
+    push_value_head(text, key.bytes())?;
+    let reply = calls.command(rt, Command::Get(key), moment)?;
+    match &reply {
+        Reply::Value { .. } => push_value_tail(text, &reply, with_cas)?,
+        _ => text.truncate(start),
     }
     Ok(())
 }
@@ -151,8 +153,8 @@ fn answer_one<C: Calls>(
     ensures front { Begins text.old.items text.new.items }
     ensures full { IsErrOf result faults.HistoryFull → C.is_full calls.new }
 {
-    calls.command(rt, command, moment)?;
-    push_unless(text, calls.reply(), quiet)?;
+    let reply = calls.command(rt, command, moment)?;
+    push_unless(text, &reply, quiet)?;
     Ok(())
 }
 

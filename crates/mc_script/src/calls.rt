@@ -1,9 +1,7 @@
 //! A caller's turns at whatever answers commands.
-ghost use Rattle.std.specs.Prelude.{Option, Some, IsSome, ◌≡◌, ◌≤◌, ◌<◌, ◌+◌, ◌^◌, ◌∷◌, ℕ, List, [], IfOk, OnErr, OnOk, IsErrOf};
-ghost use Rattle.mc_item.specs.Command.{key_of};
+ghost use Rattle.std.specs.Prelude.{◌≡◌, ◌≤◌, ◌<◌, ◌+◌, ◌^◌, ◌∷◌, ℕ, List, [], IfOk, OnErr, OnOk, IsErrOf};
 ghost use Rattle.mc_item.specs.declared.fault.Fault.TheVariants as faults;
 ghost use Rattle.mc_item.specs.declared.item.ClassNo.{ClassNo};
-ghost use Rattle.mc_item.specs.declared.reply.Reply.{Reply};
 ghost use Rattle.mc_proto.specs.Answers.{Counted, Moved, Replied};
 ghost use Rattle.mc_script.specs.Calls.{Adds, AddsUp};
 ghost use Rattle.mc_script.specs.Exchanges.{Asks, Crawls, Exchange, Juggles, exchange};
@@ -27,25 +25,19 @@ pub trait Calls: Drop {
 
     ghost notes: { Self → List Exchange → Type 0 };
 
-    ghost last: { Self → Option Reply };
-
-    ghost asked: { Self → List ℕ };
-
     ghost is_full: { Self → Type 0 };
 
     ghost may_call: { Self → Type 0 };
 
-    /// Makes one command's call at a moment.
-    fn command(&mut self, rt: &impl Wait, command: Command, moment: u64) -> Result<(), Fault>
+    /// Makes one command's call at a moment, and answers its reply.
+    fn command(&mut self, rt: &impl Wait, command: Command, moment: u64) -> Result<Reply, Fault>
         requires may { may_call self.old }
         requires early { moment ≤ 2 ^ 62 }
         ensures may { OnOk result (may_call self.new) }
         ensures place { place self.new ≡ place self.old }
         ensures caller { caller self.new ≡ caller self.old }
         ensures turn { OnOk result (turn self.new ≡ turn self.old + 1) }
-        ensures ok { OnOk result ((reply : Reply) × (last self.new ≡ Some reply)
-            × Adds (notes self.old) (notes self.new) (exchange (caller self.old) (turn self.old) (Asks command) moment (Replied reply) ∷ [])) }
-        ensures key { OnOk result (asked self.new ≡ key_of command) }
+        ensures ok { IfOk result (λ reply. Adds (notes self.old) (notes self.new) (exchange (caller self.old) (turn self.old) (Asks command) moment (Replied reply) ∷ [])) }
         ensures err { OnErr result (Adds (notes self.old) (notes self.new) []) }
         ensures full { IsErrOf result faults.HistoryFull → is_full self.new };
 
@@ -78,13 +70,4 @@ pub trait Calls: Drop {
         ensures kinds { IfOk result AddsUp }
         ensures err { OnErr result (Adds (notes self.old) (notes self.new) []) }
         ensures full { IsErrOf result faults.HistoryFull → is_full self.new };
-
-    /// The reply to the last command, where nothing was called since.
-    fn reply(&self) -> &Reply
-        requires { IsSome (last self.now) }
-        ensures { last self.now ≡ Some result.now };
-
-    /// The key of the last command, where nothing was called since.
-    fn key(&self) -> &[u8]
-        ensures { result.now ≡ asked self.now };
 }

@@ -200,7 +200,7 @@ pub fn run_script<E: Ends, C: Calls>(
             Ok(None) => return Outcome::Done,
             Err(fault) => return Outcome::from(fault),
         };
-        let requests = match reader.feed(piece.as_slice()) {
+        let requests = match reader.take(piece) {
             Ok(requests) => requests,
             Err(_) => return Outcome::Memory,
         };

@@ -25,8 +25,6 @@ struct Noted<'a, R: Abort> {
     fails: Option<u64>,
     classes: Vec<u32>,
     moments: Vec<u64>,
-    key: Vec<u8>,
-    reply: Reply,
 }
 
 impl<R: Abort> Noted<'_, R> {
@@ -40,7 +38,7 @@ impl<R: Abort> Noted<'_, R> {
 }
 
 impl<R: Abort> Calls for Noted<'_, R> {
-    ghost use Rattle.std.specs.Prelude.{Some, length};
+    ghost use Rattle.std.specs.Prelude.{length};
 
     ghost Place = { Unit {0} };
 
@@ -54,25 +52,22 @@ impl<R: Abort> Calls for Noted<'_, R> {
 
     ghost notes = { λ m calls. length calls ≡ m.made };
 
-    ghost last = { λ m. Some m.reply };
-
-    ghost asked = { λ m. m.key.items };
-
     ghost is_full = { λ m. Unit {0} };
 
     ghost may_call = { λ m. Unit {0} };
 
-    fn command(&mut self, _rt: &impl Wait, command: Command, _moment: u64) -> Result<(), Fault> {
+    fn command(
+        &mut self,
+        _rt: &impl Wait,
+        _command: Command,
+        _moment: u64,
+    ) -> Result<Reply, Fault> {
         if self.is_failing() {
             return Err(Fault::NoMemory);
         }
         assert!(self.rt; self.made < 99);
-        self.key.clear();
-        self.key
-            .extend_from_slice(command.key().bytes())
-            .expect(self.rt, "memory");
         self.made += 1;
-        Ok(())
+        Ok(Reply::Miss)
     }
 
     fn juggle(&mut self, _rt: &impl Wait, class: ClassNo, moment: u64) -> Result<Moves, Fault> {
@@ -110,14 +105,6 @@ impl<R: Abort> Calls for Noted<'_, R> {
         histogram.gone = 100_000 * number;
         histogram.seen = 111_111 * number;
         Ok(histogram)
-    }
-
-    fn reply(&self) -> &Reply {
-        &self.reply
-    }
-
-    fn key(&self) -> &[u8] {
-        self.key.as_slice()
     }
 }
 
@@ -193,8 +180,6 @@ fn run_noted<R: Abort + Wait>(rt: &R, alloc: Global, script: &[u8], fails: Optio
         fails,
         classes: Vec::new(alloc),
         moments: Vec::new(alloc),
-        key: Vec::new(alloc),
-        reply: Reply::Miss,
     };
     let mut ends = Both {
         source: Whole {

@@ -66,15 +66,13 @@ impl<L: Ledger> Ends for Watched<'_, L> {
 #[derive(Drop)]
 struct Misses {
     made: u64,
-    key: Vec<u8>,
-    reply: Reply,
 }
 
 // So many calls may be made.
 const MOST: u64 = 3;
 
 impl Calls for Misses {
-    ghost use Rattle.std.specs.Prelude.{Some, ◌≤◌, length};
+    ghost use Rattle.std.specs.Prelude.{◌≤◌, length};
     ghost use Rattle.mc_tests.specs.declared.tests.asking.TheConstants.{MOST};
 
     ghost Place = { Unit {0} };
@@ -89,22 +87,21 @@ impl Calls for Misses {
 
     ghost notes = { λ m calls. length calls ≡ m.made };
 
-    ghost last = { λ m. Some m.reply };
-
-    ghost asked = { λ m. m.key.items };
-
     ghost is_full = { λ m. MOST ≤ m.made };
 
     ghost may_call = { λ m. Unit {0} };
 
-    fn command(&mut self, _rt: &impl Wait, command: Command, _moment: u64) -> Result<(), Fault> {
+    fn command(
+        &mut self,
+        _rt: &impl Wait,
+        _command: Command,
+        _moment: u64,
+    ) -> Result<Reply, Fault> {
         if self.made >= MOST {
             return Err(Fault::HistoryFull);
         }
-        self.key.clear();
-        self.key.extend_from_slice(command.key().bytes())?;
         self.made += 1;
-        Ok(())
+        Ok(Reply::Miss)
     }
 
     fn juggle(&mut self, _rt: &impl Wait, _class: ClassNo, _moment: u64) -> Result<Moves, Fault> {
@@ -130,14 +127,6 @@ impl Calls for Misses {
         self.made += 1;
         Ok(Histogram::new())
     }
-
-    fn reply(&self) -> &Reply {
-        &self.reply
-    }
-
-    fn key(&self) -> &[u8] {
-        self.key.as_slice()
-    }
 }
 
 // How a script ended, how many bytes were taken at each read, and which are still to come.
@@ -160,11 +149,7 @@ fn run_watched<L: Ledger>(
     requires parts { blank.parts ≡ L.parts }
     requires part { 0 < blank.parts }
 {
-    let mut calls = Misses {
-        made: 0,
-        key: Vec::new(alloc),
-        reply: Reply::Miss,
-    };
+    let mut calls = Misses { made: 0 };
     let mut ends = Watched {
         source: Pieces::new(alloc, SCRIPT, size, read),
         sink: Slow::<L>::new(alloc, 2, None, blank),

@@ -4,21 +4,19 @@ use Rattle.mc_item.specs.declared.fault.Fault.TheVariants as faults
 use Rattle.mc_proto.specs.Answers.{Replied}
 use Rattle.mc_script.specs.Calls.{FailsKey}
 use Rattle.mc_script.specs.Exchanges.{Asks}
-use Rattle.mc_script.proofs.CallLemmas.{breaks_end, makes_one}
+use Rattle.mc_script.proofs.CallLemmas.{adds_none, breaks_end, breaks_none, makes_one}
 use Rattle.mc_script.proofs.answering.answer_key.Goals as goal
 
 pub returns-in_err-push_value_head-clause-err : goal.returns-in_err-push_value_head-clause-err
 returns-in_err-push_value_head-clause-err g c =
-    let noted = c.in_ok-command.ensures.ok in
-    let made = makes_one (Asks (commands.Get c.args.key)) (Replied noted.0) (g.C.Calls.caller c.args.calls.now) (g.C.Calls.turn c.args.calls.now) (g.C.Calls.turn c.command.new.self) c.args.moment (g.C.Calls.notes c.args.calls.now) (g.C.Calls.notes c.command.new.self) tt noted.2 c.in_ok-command.ensures.turn in
-    let failed : FailsKey faults.NoMemory c.args.key (g.C.Calls.caller c.args.calls.now) (g.C.Calls.turn c.args.calls.now) c.args.moment (g.C.Calls.notes c.args.calls.now) (g.C.Calls.notes c.command.new.self) =
-    breaks_end _ _ _ _ _ _ _ _ made in
+    let notes = g.C.Calls.notes c.args.calls.now in
+    let failed : FailsKey faults.NoMemory c.args.key (g.C.Calls.caller c.args.calls.now) (g.C.Calls.turn c.args.calls.now) c.args.moment notes notes =
+    breaks_none _ _ _ _ _ _ (adds_none notes) in
     search rules
 
-pub returns-in_err-push_value_tail-clause-err : goal.returns-in_err-push_value_tail-clause-err
-returns-in_err-push_value_tail-clause-err g c =
-    let noted = c.in_ok-command.ensures.ok in
-    let made = makes_one (Asks (commands.Get c.args.key)) (Replied noted.0) (g.C.Calls.caller c.args.calls.now) (g.C.Calls.turn c.args.calls.now) (g.C.Calls.turn c.command.new.self) c.args.moment (g.C.Calls.notes c.args.calls.now) (g.C.Calls.notes c.command.new.self) tt noted.2 c.in_ok-command.ensures.turn in
+pub returns-in_err-push_value_tail-in-Value-clause-err : goal.returns-in_err-push_value_tail-in-Value-clause-err
+returns-in_err-push_value_tail-in-Value-clause-err g c =
+    let made = makes_one (Asks (commands.Get c.args.key)) (Replied c.in_ok-reply.reply) (g.C.Calls.caller c.args.calls.now) (g.C.Calls.turn c.args.calls.now) (g.C.Calls.turn c.command.new.self) c.args.moment (g.C.Calls.notes c.args.calls.now) (g.C.Calls.notes c.command.new.self) tt c.in_ok-reply.ensures.ok c.in_ok-reply.ensures.turn in
     let failed : FailsKey faults.NoMemory c.args.key (g.C.Calls.caller c.args.calls.now) (g.C.Calls.turn c.args.calls.now) c.args.moment (g.C.Calls.notes c.args.calls.now) (g.C.Calls.notes c.command.new.self) =
     breaks_end _ _ _ _ _ _ _ _ made in
     search rules

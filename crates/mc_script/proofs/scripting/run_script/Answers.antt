@@ -47,8 +47,8 @@ returns-in-Err-clause-counted g c =
     subst (λ (o : Outcome). AreCounted o (g.E.Ends.reads c.args.ends.now) (g.E.Ends.reads c.piece.new.self) (g.E.Ends.writes c.args.ends.now) (g.E.Ends.writes c.piece.new.self)) (sym c.from.ensures)
     (subst (λ (n : ℕ). n < g.E.Ends.reads c.piece.new.self) i.reads c.in-Err.ensures.err.0, c.in-Err.ensures.writes ∙ i.writes)
 
-pub returns-in-Err-feed-clause-leaves : goal.returns-in-Err-feed-clause-leaves
-returns-in-Err-feed-clause-leaves g c =
+pub returns-in-Err-take-clause-leaves : goal.returns-in-Err-take-clause-leaves
+returns-in-Err-take-clause-leaves g c =
     let came = rw c.in-Ok-Some.field-0-is at c.in-Ok-Some.ensures.ok in
     subst (λ (t : List ℕ). Leaves outcomes.Memory c.args.limits (g.E.Ends.coming c.args.ends.now) (g.E.Ends.coming c.piece.new.self) (g.E.Ends.taken c.args.ends.now) t (g.C.Calls.notes c.loop.calls) (g.C.Calls.caller c.args.calls.now)) (sym c.in-Ok-Some.ensures.taken)
     (inr (way_starves c.args.limits c.loop.reader.state c.loop.reader.unread (g.E.Ends.coming c.args.ends.now) (g.E.Ends.coming c.loop.ends) _ (g.E.Ends.coming c.piece.new.self) (g.E.Ends.taken c.args.ends.now) (g.E.Ends.taken c.loop.ends) c.loop.text.items _ _ _ _ c.loop.invariant.way c.loop.invariant.none came.0))
@@ -61,8 +61,8 @@ pub returns-in-Some-answer_piece-clause-leaves : goal.returns-in-Some-answer_pie
 returns-in-Some-answer_piece-clause-leaves g c =
     let i = c.loop.invariant in
     let came = rw c.in-Ok-Some.field-0-is at c.in-Ok-Some.ensures.ok in
-    let come = way_comes c.args.limits c.loop.reader.limits c.feed.new.self.limits c.loop.reader.state c.feed.new.self.state c.loop.reader.unread c.feed.new.self.unread (g.E.Ends.coming c.args.ends.now) (g.E.Ends.coming c.loop.ends) (g.E.Ends.coming c.piece.new.self) (g.E.Ends.taken c.args.ends.now) (g.E.Ends.taken c.loop.ends)
-    c.loop.text.items c.as_slice.result.now _ _ _ _ c.in-Ok.requests.items c.loop.invariant.way c.loop.invariant.limits c.in-Ok.ensures.limits c.in-Ok.ensures.reads (came.0 ∙ ap (λ (t : List ℕ). t ++ g.E.Ends.coming c.piece.new.self) (sym c.as_slice.ensures.value)) in
+    let come = way_comes c.args.limits c.loop.reader.limits c.take.new.self.limits c.loop.reader.state c.take.new.self.state c.loop.reader.unread c.take.new.self.unread (g.E.Ends.coming c.args.ends.now) (g.E.Ends.coming c.loop.ends) (g.E.Ends.coming c.piece.new.self) (g.E.Ends.taken c.args.ends.now) (g.E.Ends.taken c.loop.ends)
+    c.loop.text.items c.in-Ok-Some.piece.items _ _ _ _ c.in-Ok.requests.items c.loop.invariant.way c.loop.invariant.limits c.in-Ok.ensures.limits c.in-Ok.ensures.reads came.0 in
     let has = answered_at c.args.limits c.loop.invariant.way.done (g.E.Ends.taken c.args.ends.now) (g.E.Ends.taken c.loop.ends) (g.E.Ends.taken c.piece.new.self) c.loop.text.items (g.C.Calls.notes c.loop.calls) (g.C.Calls.caller c.args.calls.now) (g.C.Calls.caller c.loop.calls) _ _ c.loop.invariant.way.state_of c.in-Ok-Some.ensures.taken c.loop.invariant.caller in
     let left = rw c.in-Some-answer_piece.is at (c.answer_piece.ensures.leaves (g.E.Ends.coming c.args.ends.now) (g.E.Ends.taken c.args.ends.now) c.loop.invariant.way.done come has) in
     let here = subst (λ (t : List ℕ). Leaves c.in-Some-answer_piece.outcome c.args.limits (g.E.Ends.coming c.args.ends.now) t (g.E.Ends.taken c.args.ends.now) (g.E.Ends.taken c.answer_piece.new.ends) (g.C.Calls.notes c.answer_piece.new.calls) (g.C.Calls.caller c.loop.calls)) (sym c.answer_piece.ensures.coming) left in
@@ -72,8 +72,8 @@ pub loop-preserved : goal.loop-preserved
 unfolding way_comes
 loop-preserved g c =
     let came = rw c.in-Ok-Some.field-0-is at c.in-Ok-Some.ensures.ok in
-    let come = way_comes c.args.limits c.loop.reader.limits c.feed.new.self.limits c.loop.reader.state c.feed.new.self.state c.loop.reader.unread c.feed.new.self.unread (g.E.Ends.coming c.args.ends.now) (g.E.Ends.coming c.loop.ends) (g.E.Ends.coming c.piece.new.self) (g.E.Ends.taken c.args.ends.now) (g.E.Ends.taken c.loop.ends)
-    c.loop.text.items c.as_slice.result.now _ _ _ _ c.in-Ok.requests.items c.loop.invariant.way c.loop.invariant.limits c.in-Ok.ensures.limits c.in-Ok.ensures.reads (came.0 ∙ ap (λ (t : List ℕ). t ++ g.E.Ends.coming c.piece.new.self) (sym c.as_slice.ensures.value)) in
+    let come = way_comes c.args.limits c.loop.reader.limits c.take.new.self.limits c.loop.reader.state c.take.new.self.state c.loop.reader.unread c.take.new.self.unread (g.E.Ends.coming c.args.ends.now) (g.E.Ends.coming c.loop.ends) (g.E.Ends.coming c.piece.new.self) (g.E.Ends.taken c.args.ends.now) (g.E.Ends.taken c.loop.ends)
+    c.loop.text.items c.in-Ok-Some.piece.items _ _ _ _ c.in-Ok.requests.items c.loop.invariant.way c.loop.invariant.limits c.in-Ok.ensures.limits c.in-Ok.ensures.reads came.0 in
     let has = answered_at c.args.limits c.loop.invariant.way.done (g.E.Ends.taken c.args.ends.now) (g.E.Ends.taken c.loop.ends) (g.E.Ends.taken c.piece.new.self) c.loop.text.items (g.C.Calls.notes c.loop.calls) (g.C.Calls.caller c.args.calls.now) (g.C.Calls.caller c.loop.calls) _ _ c.loop.invariant.way.state_of c.in-Ok-Some.ensures.taken c.loop.invariant.caller in
     let goes = rw c.in-None-answer_piece.is at (c.answer_piece.ensures.leaves (g.E.Ends.coming c.args.ends.now) (g.E.Ends.taken c.args.ends.now) c.loop.invariant.way.done come has) in
     let on = subst (λ (n : ℕ). GoesOn c.args.limits (g.E.Ends.taken c.args.ends.now) (g.E.Ends.taken c.answer_piece.new.ends) c.answer_piece.new.text.items (g.C.Calls.notes c.answer_piece.new.calls) n (g.C.Calls.turn c.answer_piece.new.calls) c.answer_piece.new.moment c.loop.invariant.way.done c.in-Ok.requests.items) c.loop.invariant.caller goes in
@@ -88,6 +88,6 @@ loop-preserved g c =
       over = c.answer_piece.ensures.over ∙ came.1 ∙ c.loop.invariant.over;
       limits = c.in-Ok.ensures.limits ∙ c.loop.invariant.limits;
       none = on.out;
-      way = subst (λ (t : List ℕ). IsOnWay c.args.limits c.feed.new.self.state c.feed.new.self.unread (g.E.Ends.coming c.args.ends.now) t (g.E.Ends.taken c.args.ends.now) (g.E.Ends.taken c.answer_piece.new.ends) c.answer_piece.new.text.items (g.C.Calls.notes c.answer_piece.new.calls) (g.C.Calls.caller c.args.calls.now) (g.C.Calls.turn c.answer_piece.new.calls) c.answer_piece.new.moment) (sym c.answer_piece.ensures.coming)
+      way = subst (λ (t : List ℕ). IsOnWay c.args.limits c.take.new.self.state c.take.new.self.unread (g.E.Ends.coming c.args.ends.now) t (g.E.Ends.taken c.args.ends.now) (g.E.Ends.taken c.answer_piece.new.ends) c.answer_piece.new.text.items (g.C.Calls.notes c.answer_piece.new.calls) (g.C.Calls.caller c.args.calls.now) (g.C.Calls.turn c.answer_piece.new.calls) c.answer_piece.new.moment) (sym c.answer_piece.ensures.coming)
           (way_goes_on c.args.limits (g.E.Ends.coming c.args.ends.now) (g.E.Ends.coming c.piece.new.self) (g.E.Ends.taken c.args.ends.now) (g.E.Ends.taken c.answer_piece.new.ends) c.answer_piece.new.text.items (g.C.Calls.notes c.answer_piece.new.calls) (g.C.Calls.caller c.args.calls.now) (g.C.Calls.turn c.answer_piece.new.calls) c.answer_piece.new.moment c.loop.invariant.way.done c.in-Ok.requests.items come on);
     }

@@ -16,9 +16,9 @@ none_holds false is = refl
 
 pub run_script-outcome-requires-clause-asks : goal.run_script-outcome-requires-clause-asks
 run_script-outcome-requires-clause-asks g c = λ e out reads writes over.
-    let bytes = subst (λ (b : List ℕ). IsOut LIMITS b e.source.rest.now c.new-3.result.little.bytes.items e.sink.little.bytes.items) c.new-2.ensures.bytes out in
+    let bytes = subst (λ (b : List ℕ). IsOut LIMITS b e.source.rest.now c.new-2.result.little.bytes.items e.sink.little.bytes.items) c.new.ensures.bytes out in
     record {
-      out = subst (λ (t : List ℕ). IsOut LIMITS SCRIPT.now e.source.rest.now t e.sink.little.bytes.items) c.new-3.ensures bytes;
-      fine = none_holds e.source.failed (reads ∙ ap count c.new-2.ensures.fine);
+      out = subst (λ (t : List ℕ). IsOut LIMITS SCRIPT.now e.source.rest.now t e.sink.little.bytes.items) c.new-2.ensures bytes;
+      fine = none_holds e.source.failed (reads ∙ ap count c.new.ensures.fine);
       more = none_holds e.ended over;
     }
