@@ -1,5 +1,5 @@
 //! One stream at every cut, and the limits of lines and keys.
-use crate::tests::show::{limits, read, show};
+use crate::tests::show::{limits, read, read_given, show};
 use mc_proto::{Reader, Rest};
 use std::alloc::Global;
 use std::process::Abort;
@@ -14,6 +14,18 @@ fn each_kind_of_request_at_every_cut(rt: HostRuntime) {
         let (seen, rest) = read(&rt, rt.alloc(), input, size);
         assert_eq!(rt; seen.as_slice(), want);
         assert_eq!(rt; rest, Rest::Block);
+    }
+}
+
+#[test]
+fn pieces_that_are_given_away_read_alike(rt: HostRuntime) {
+    let input =
+        b"set a 7 0 5\r\nhello\r\nget a\r\nset b 0 0 2 noreply\r\n\r\n\r\nset c 0 0 1\r\nxyz\nadd d 0 0 0\r\n\r\nset e 0 0 3\r\nab".as_slice();
+    let want = b"set a 7 0 hello;get a;~set b 0 0 \r\n;chunk;error;add d 0 0 ;".as_slice();
+    for size in 1..input.len() + 1 {
+        let (seen, rest) = read_given(&rt, rt.alloc(), input, size);
+        assert_eq!(rt; seen.as_slice(), want, "in pieces of {size}");
+        assert_eq!(rt; rest, Rest::Block, "in pieces of {size}");
     }
 }
 

@@ -171,3 +171,24 @@ pub(super) fn read(rt: &impl Abort, alloc: Global, input: &[u8], size: usize) ->
     }
     (out, reader.end())
 }
+
+/// The same, of pieces that are given away.
+pub(super) fn read_given(
+    rt: &impl Abort,
+    alloc: Global,
+    input: &[u8],
+    size: usize,
+) -> (Vec<u8>, Rest)
+    requires { 0 < size }
+{
+    let mut reader = Reader::new(alloc, limits());
+    let mut out = Vec::new(alloc);
+    for bytes in input.chunks(size) {
+        let piece = Vec::from_slice(alloc, bytes).expect(rt, "memory");
+        let requests = reader.take(piece).expect(rt, "memory");
+        for request in requests {
+            show(rt, &mut out, request);
+        }
+    }
+    (out, reader.end())
+}
