@@ -7,6 +7,7 @@ mod directive;
 mod get;
 mod laws;
 mod line;
+mod piece;
 mod quick;
 mod reader;
 mod request;

@@ -6,6 +6,7 @@ ghost use Rattle.mc_proto.specs.declared.request.Request.{Request};
 ghost use Rattle.mc_proto.specs.declared.state.State.{State};
 ghost use Rattle.mc_proto.specs.declared.state.State.TheVariants.{Line, Failed, Closed};
 
+use crate::piece::Piece;
 use crate::request::{Limits, Request, Rest};
 use crate::state::State;
 use crate::taking::take_part;
@@ -20,44 +21,26 @@ fn room_for(bytes: usize) -> usize {
 }
 
 // Reads a whole piece: the requests that became whole with it.
-fn read_piece(
+fn read_piece<P: Piece>(
     alloc: Global,
     limits: Limits,
     state: &mut State,
     line: &mut BytesMut,
-    piece: Bytes,
+    piece: P,
 ) -> Result<Vec<Request>, NoMemory>
     requires sound { IsSound state.old line.old.items }
     ensures sound { OnOk result (IsSound state.new line.new.items) }
     ensures moderate { IfOk result (λ v. All (IsModerate limits) v.items) }
     ensures reads { IfOk result (λ v. (stream : List ℕ) (requests : List Request) → After limits state.old line.old.items stream requests
-        → After limits state.new line.new.items (stream ++ piece) (requests ++ v.items)) }
+        → After limits state.new line.new.items (stream ++ P.unread piece) (requests ++ v.items)) }
 {
-    let mut requests = Vec::with_capacity(alloc, room_for(piece.len()))?;
+    let mut requests = Vec::with_capacity(alloc, room_for(piece.bytes().len()))?;
     let mut rest = piece;
-    while !rest.is_empty() {
+    while !rest.bytes().is_empty() {
         let taken = take_part(alloc, limits, state, line, &mut requests, &rest)?;
-        rest.advance(taken);
+        rest.pass(taken);
     }
     Ok(requests)
-}
-
-// The same of a piece that is given away: it becomes one block, which values share.
-fn read_given(
-    alloc: Global,
-    limits: Limits,
-    state: &mut State,
-    line: &mut BytesMut,
-    piece: Vec<u8>,
-) -> Result<Vec<Request>, NoMemory>
-    requires sound { IsSound state.old line.old.items }
-    ensures sound { OnOk result (IsSound state.new line.new.items) }
-    ensures moderate { IfOk result (λ v. All (IsModerate limits) v.items) }
-    ensures reads { IfOk result (λ v. (stream : List ℕ) (requests : List Request) → After limits state.old line.old.items stream requests
-        → After limits state.new line.new.items (stream ++ piece.items) (requests ++ v.items)) }
-{
-    let block = Bytes::from_vec(piece)?;
-    read_piece(alloc, limits, state, line, block)
 }
 
 /// Reads requests from pieces of bytes, cut anywhere. It keeps the bytes of one unfinished line or block; of a block
@@ -94,36 +77,11 @@ impl Reader {
         }
     }
 
-    /// The requests that are whole with these bytes, which come behind those of earlier calls. After a line of 65,537
-    /// bytes without an LF nothing is read. After `NoMemory` each call answers `NoMemory`. The piece is copied once; who can
-    /// give it away calls `take`.
-    pub fn feed(&mut self, piece: &[u8]) -> Result<Vec<Request>, NoMemory>
+    // Reads a piece, given away or lent.
+    fn read<P: Piece>(&mut self, piece: P) -> Result<Vec<Request>, NoMemory>
         ensures limits { self.new.limits ≡ self.old.limits }
         ensures reads { IfOk result (λ v. (stream : List ℕ) (requests : List Request) → After self.old.limits self.old.state self.old.unread stream requests
-            → After self.new.limits self.new.state self.new.unread (stream ++ piece.now) (requests ++ v.items)) }
-        ensures closed { self.old.state ≡ Closed → (IfOk result (λ v. v.items ≡ []) × (self.new ≡ self.old) × IsOk result) }
-        ensures moderate { IfOk result (λ v. All (IsModerate self.old.limits) v.items) }
-        ensures err { OnErr result (self.new.state ≡ Failed) }
-        ensures failed { self.old.state ≡ Failed → IsErr result }
-    {
-        if let State::Closed = &self.state {
-            return Ok(Vec::new(self.alloc));
-        }
-        match Vec::from_slice(self.alloc, piece) {
-            Ok(bytes) => self.take(bytes),
-            Err(_) => {
-                self.state = State::Failed;
-                Err(NoMemory)
-            }
-        }
-    }
-
-    /// The same, of a piece that is given away and isn't copied: the value of a block that lies whole in it is a part of
-    /// it, and keeps it in memory.
-    pub fn take(&mut self, piece: Vec<u8>) -> Result<Vec<Request>, NoMemory>
-        ensures limits { self.new.limits ≡ self.old.limits }
-        ensures reads { IfOk result (λ v. (stream : List ℕ) (requests : List Request) → After self.old.limits self.old.state self.old.unread stream requests
-            → After self.new.limits self.new.state self.new.unread (stream ++ piece.items) (requests ++ v.items)) }
+            → After self.new.limits self.new.state self.new.unread (stream ++ P.unread piece) (requests ++ v.items)) }
         ensures closed { self.old.state ≡ Closed → (IfOk result (λ v. v.items ≡ []) × (self.new ≡ self.old) × IsOk result) }
         ensures moderate { IfOk result (λ v. All (IsModerate self.old.limits) v.items) }
         ensures err { OnErr result (self.new.state ≡ Failed) }
@@ -138,7 +96,7 @@ impl Reader {
             }
             State::Line | State::Block(_, _) | State::Skip(_, _) => {}
         }
-        match read_given(
+        match read_piece(
             self.alloc,
             self.limits,
             &mut self.state,
@@ -149,6 +107,44 @@ impl Reader {
             Err(fault) => {
                 self.state = State::Failed;
                 Err(fault)
+            }
+        }
+    }
+
+    /// The requests that are whole with these bytes, which come behind those of earlier calls. After a line of 65,537
+    /// bytes without an LF nothing is read. After `NoMemory` each call answers `NoMemory`. Of the piece is copied what is
+    /// kept: an unfinished line or block, and values; who can give it away calls `take`.
+    pub fn feed(&mut self, piece: &[u8]) -> Result<Vec<Request>, NoMemory>
+        ensures limits { self.new.limits ≡ self.old.limits }
+        ensures reads { IfOk result (λ v. (stream : List ℕ) (requests : List Request) → After self.old.limits self.old.state self.old.unread stream requests
+            → After self.new.limits self.new.state self.new.unread (stream ++ piece.now) (requests ++ v.items)) }
+        ensures closed { self.old.state ≡ Closed → (IfOk result (λ v. v.items ≡ []) × (self.new ≡ self.old) × IsOk result) }
+        ensures moderate { IfOk result (λ v. All (IsModerate self.old.limits) v.items) }
+        ensures err { OnErr result (self.new.state ≡ Failed) }
+        ensures failed { self.old.state ≡ Failed → IsErr result }
+    {
+        self.read(piece)
+    }
+
+    /// The same, of a piece that is given away and isn't copied: the value of a block that lies whole in it is a part of
+    /// it, and keeps it in memory.
+    pub fn take(&mut self, piece: Vec<u8>) -> Result<Vec<Request>, NoMemory>
+        ensures limits { self.new.limits ≡ self.old.limits }
+        ensures reads { IfOk result (λ v. (stream : List ℕ) (requests : List Request) → After self.old.limits self.old.state self.old.unread stream requests
+            → After self.new.limits self.new.state self.new.unread (stream ++ piece.items) (requests ++ v.items)) }
+        ensures closed { self.old.state ≡ Closed → (IfOk result (λ v. v.items ≡ []) × (self.new ≡ self.old) × IsOk result) }
+        ensures moderate { IfOk result (λ v. All (IsModerate self.old.limits) v.items) }
+        ensures err { OnErr result (self.new.state ≡ Failed) }
+        ensures failed { self.old.state ≡ Failed → IsErr result }
+    {
+        if let State::Closed = &self.state {
+            return Ok(Vec::new(self.alloc));
+        }
+        match Bytes::from_vec(piece) {
+            Ok(block) => self.read(block),
+            Err(_) => {
+                self.state = State::Failed;
+                Err(NoMemory)
             }
         }
     }

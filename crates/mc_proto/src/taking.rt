@@ -1,19 +1,24 @@
 //! What a part of a piece makes of where a reader stands.
-ghost use Rattle.std.specs.Prelude.{◌≡◌, ◌++◌, [], ◌+◌, ◌-◌, ◌<◌, ◌≤◌, ℕ, List, IfOk, OnOk, All, length, take};
+ghost use Rattle.std.specs.Prelude.{◌≡◌, ◌++◌, [], ◌+◌, ◌-◌, ◌<◌, ◌≤◌, ◌∷◌, ℕ, List, IfOk, OnOk, All, length, take, drop, nat_eq};
+ghost use Rattle.std.specs.Cmp.Lexicographic.{pointwise};
+ghost use Rattle.mc_item.specs.declared.command.Command.TheVariants as commands;
 ghost use Rattle.mc_proto.specs.Grammar.{stored, skipped, IsFine, IsModerate};
 ghost use Rattle.mc_proto.specs.Table.{says};
 ghost use Rattle.mc_proto.specs.Reader.{After, IsSound};
 ghost use Rattle.mc_proto.specs.declared.request.Limits.{Limits};
+ghost use Rattle.mc_proto.specs.declared.request.LineFault.TheVariants.{Chunk};
 ghost use Rattle.mc_proto.specs.declared.request.Request.{Request};
+ghost use Rattle.mc_proto.specs.declared.request.Request.TheVariants.{Bad, One};
 ghost use Rattle.mc_proto.specs.declared.state.State.{State};
 ghost use Rattle.mc_proto.specs.declared.state.State.TheVariants.{Line};
 
 use crate::line::said_of;
+use crate::piece::Piece;
 use crate::quick::lone_get;
 use crate::request::{Keys, Limits, LineFault, Request};
 use crate::state::{Part, Said, Start, State};
 use crate::token::line_end;
-use bytes::{Bytes, BytesMut};
+use bytes::BytesMut;
 use mc_item::{Command, NoMemory, Value};
 use std::alloc::Global;
 use std::mem;
@@ -58,85 +63,130 @@ fn said_at(
     said_behind(alloc, limits, line, front)
 }
 
-// The request of a block that is whole. Its bytes become the value, without a copy.
-fn stored_of(alloc: Global, start: Start, mut block: Bytes) -> Result<Request, NoMemory>
-    requires { length block ≡ start.count + 2 }
-    ensures value { IfOk result (λ r. r ≡ stored start block) }
-    ensures moderate { (limits : Limits) → IfOk result (λ r. IsModerate limits r) }
+// Whether a block of so many bytes and two more ends with CR LF.
+#[inline(always)]
+fn ends_well(block: &[u8], count: usize) -> bool
+    requires { length block.now ≡ count + 2 }
+    ensures { result ≡ pointwise nat_eq (drop count block.now) (13 ∷ 10 ∷ []) }
 {
-    let count = start.count as usize;
-    let bytes = block.as_slice();
-    if bytes[count] == b'\r' && bytes[count + 1] == b'\n' {
-        block.truncate(count);
-        Ok(Request::One {
-            command: Command::Store {
-                verb: start.verb,
-                key: start.key,
-                flags: start.flags,
-                exptime: start.exptime,
-                value: Value::of_part(alloc, block)?,
-            },
-            quiet: start.quiet,
-        })
-    } else {
-        Ok(Request::Bad {
-            why: LineFault::Chunk,
-            quiet: start.quiet,
-        })
+    block[count] == b'\r' && block[count + 1] == b'\n'
+}
+
+// The request that stores a value.
+#[inline(always)]
+fn store(start: Start, value: Value) -> Request
+    ensures { result ≡ One (commands.Store start.verb start.key start.flags start.exptime value) start.quiet }
+{
+    Request::One {
+        command: Command::Store {
+            verb: start.verb,
+            key: start.key,
+            flags: start.flags,
+            exptime: start.exptime,
+            value,
+        },
+        quiet: start.quiet,
     }
 }
 
-// Takes what a piece has of the block behind a line that ends there, and says up to where. A block that lies whole in the
-// piece isn't copied; of another one the room is taken at once.
+// The request of a block that does not end with CR LF.
 #[inline(always)]
-fn take_first(
+fn bad_chunk(start: Start) -> Request
+    ensures { result ≡ Bad Chunk start.quiet }
+{
+    Request::Bad {
+        why: LineFault::Chunk,
+        quiet: start.quiet,
+    }
+}
+
+// The request of a block that lies whole in a piece, which makes its value.
+#[inline(always)]
+fn stored_in<P: Piece>(
+    alloc: Global,
+    start: Start,
+    piece: &P,
+    begin: usize,
+) -> Result<Request, NoMemory>
+    requires { begin + (start.count + 2) ≤ length (P.unread piece.now) }
+    ensures value { IfOk result (λ r. r ≡ stored start (take (start.count + 2) (drop begin (P.unread piece.now)))) }
+    ensures moderate { (limits : Limits) → IfOk result (λ r. IsModerate limits r) }
+{
+    let count = start.count as usize;
+    let block = &piece.bytes()[begin..begin + count + 2];
+    if !ends_well(block, count) {
+        return Ok(bad_chunk(start));
+    }
+    let value = piece.value_at(alloc, begin, begin + count)?;
+    Ok(store(start, value))
+}
+
+// The request of a block that pieces share. Its bytes become the value, without a copy.
+fn stored_of(alloc: Global, start: Start, mut block: Vec<u8>) -> Result<Request, NoMemory>
+    requires { length block.items ≡ start.count + 2 }
+    ensures value { IfOk result (λ r. r ≡ stored start block.items) }
+    ensures moderate { (limits : Limits) → IfOk result (λ r. IsModerate limits r) }
+{
+    let count = start.count as usize;
+    if !ends_well(block.as_slice(), count) {
+        return Ok(bad_chunk(start));
+    }
+    block.truncate(count);
+    let value = Value::of(alloc, block)?;
+    Ok(store(start, value))
+}
+
+// Takes what a piece has of a block that begins in it, and says up to where. The value of one that lies whole in the piece
+// is made of the piece; of another one the room is taken at once.
+#[inline(always)]
+fn take_begun<P: Piece>(
     alloc: Global,
     state: &mut State,
     requests: &mut Vec<Request>,
     start: Start,
-    piece: &Bytes,
+    piece: &P,
     begin: usize,
 ) -> Result<usize, NoMemory>
     requires line { state.old ≡ Line }
-    requires within { (0 < begin) × (begin ≤ length piece.now) }
+    requires within { (0 < begin) × (begin ≤ length (P.unread piece.now)) }
     requires count { start.count ≤ 2147483645 }
-    ensures taken { IfOk result (λ n. (0 < n) × (n ≤ length piece.now)) }
+    ensures taken { IfOk result (λ n. (0 < n) × (n ≤ length (P.unread piece.now))) }
     ensures sound { OnOk result (IsSound state.new []) }
     ensures moderate { (limits : Limits) → OnOk result (All (IsModerate limits) requests.old.items → All (IsModerate limits) requests.new.items) }
-    ensures reads { IfOk result (λ n. (limits : Limits) (stream : List ℕ) (before : List Request) → After limits (State.Block start []) [] (stream ++ take begin piece.now) (before ++ requests.old.items)
-        → After limits state.new [] (stream ++ take n piece.now) (before ++ requests.new.items)) }
+    ensures reads { IfOk result (λ n. (limits : Limits) (stream : List ℕ) (before : List Request) → After limits (State.Block start []) [] (stream ++ take begin (P.unread piece.now)) (before ++ requests.old.items)
+        → After limits state.new [] (stream ++ take n (P.unread piece.now)) (before ++ requests.new.items)) }
 {
     let wanted = start.count as usize + 2;
-    if piece.len() - begin < wanted {
+    let all = piece.bytes();
+    if all.len() - begin < wanted {
         let mut bytes = Vec::with_capacity(alloc, wanted)?;
-        bytes.extend_from_slice(piece.as_slice().split_at(begin).1)?;
+        bytes.extend_from_slice(all.split_at(begin).1)?;
         *state = State::Block(start, Part { bytes });
-        return Ok(piece.len());
+        return Ok(all.len());
     }
-    let block = piece.slice(begin..begin + wanted)?;
-    requests.push(stored_of(alloc, start, block)?)?;
+    requests.push(stored_in(alloc, start, piece, begin)?)?;
     Ok(begin + wanted)
 }
 
 // Takes bytes of a line, up to its LF, and says how many.
-fn take_line(
+fn take_line<P: Piece>(
     alloc: Global,
     limits: Limits,
     state: &mut State,
     line: &mut BytesMut,
     requests: &mut Vec<Request>,
-    piece: &Bytes,
+    piece: &P,
 ) -> Result<usize, NoMemory>
-    requires some { 0 < length piece.now }
+    requires some { 0 < length (P.unread piece.now) }
     requires line { state.old ≡ Line }
     requires sound { IsSound Line line.old.items }
-    ensures taken { IfOk result (λ n. (0 < n) × (n ≤ length piece.now)) }
+    ensures taken { IfOk result (λ n. (0 < n) × (n ≤ length (P.unread piece.now))) }
     ensures sound { OnOk result (IsSound state.new line.new.items) }
     ensures moderate { OnOk result (All (IsModerate limits) requests.old.items → All (IsModerate limits) requests.new.items) }
     ensures reads { IfOk result (λ n. (stream : List ℕ) (before : List Request) → After limits Line line.old.items stream (before ++ requests.old.items)
-        → After limits state.new line.new.items (stream ++ take n piece.now) (before ++ requests.new.items)) }
+        → After limits state.new line.new.items (stream ++ take n (P.unread piece.now)) (before ++ requests.new.items)) }
 {
-    let bytes = piece.as_slice();
+    let bytes = piece.bytes();
     let end = line_end(bytes);
     if line.len() + end > MAX_LINE {
         line.clear();
@@ -166,7 +216,7 @@ fn take_line(
             requests.push(request)?;
             Ok(end + 1)
         }
-        Said::Block(start) => take_first(alloc, state, requests, start, piece, end + 1),
+        Said::Block(start) => take_begun(alloc, state, requests, start, piece, end + 1),
         Said::Skip(start) => {
             let left = start.count + 2;
             *state = State::Skip(start, left);
@@ -201,8 +251,7 @@ fn take_block(
         return Ok(piece.len());
     }
     bytes.extend_from_slice(piece.split_at(wanted).0)?;
-    let block = Bytes::from_vec(bytes)?;
-    requests.push(stored_of(alloc, start, block)?)?;
+    requests.push(stored_of(alloc, start, bytes)?)?;
     Ok(wanted)
 }
 
@@ -240,36 +289,36 @@ fn take_skipped(
 
 /// Takes a part of a piece, up to the end of a line or a block, and says how many bytes that were. A request that
 /// became whole comes behind the others.
-pub fn take_part(
+pub fn take_part<P: Piece>(
     alloc: Global,
     limits: Limits,
     state: &mut State,
     line: &mut BytesMut,
     requests: &mut Vec<Request>,
-    piece: &Bytes,
+    piece: &P,
 ) -> Result<usize, NoMemory>
-    requires some { 0 < length piece.now }
+    requires some { 0 < length (P.unread piece.now) }
     requires sound { IsSound state.old line.old.items }
-    ensures taken { IfOk result (λ n. (0 < n) × (n ≤ length piece.now)) }
+    ensures taken { IfOk result (λ n. (0 < n) × (n ≤ length (P.unread piece.now))) }
     ensures sound { OnOk result (IsSound state.new line.new.items) }
     ensures moderate { OnOk result (All (IsModerate limits) requests.old.items → All (IsModerate limits) requests.new.items) }
     ensures reads { IfOk result (λ n. (stream : List ℕ) (before : List Request) → After limits state.old line.old.items stream (before ++ requests.old.items)
-        → After limits state.new line.new.items (stream ++ take n piece.now) (before ++ requests.new.items)) }
+        → After limits state.new line.new.items (stream ++ take n (P.unread piece.now)) (before ++ requests.new.items)) }
 {
     match state {
         State::Line => {
             return take_line(alloc, limits, state, line, requests, piece);
         }
         State::Closed => {
-            return Ok(piece.len());
+            return Ok(piece.bytes().len());
         }
         State::Failed => {
-            return Ok(piece.len());
+            return Ok(piece.bytes().len());
         }
         State::Block(_, _) => {}
         State::Skip(_, _) => {}
     }
-    let bytes = piece.as_slice();
+    let bytes = piece.bytes();
     match mem::replace(state, State::Line) {
         State::Block(start, part) => take_block(alloc, state, requests, start, part, bytes),
         State::Skip(start, left) => take_skipped(state, requests, start, left, bytes),

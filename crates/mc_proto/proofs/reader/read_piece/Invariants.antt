@@ -6,11 +6,11 @@ use Rattle.mc_proto.proofs.reader.read_piece.Given as goal
 
 -- what came of the piece before `rest` has been read
 abbrev pub invariant-loop-alloc : goal.invariant-loop-alloc
-invariant-loop-alloc l = record {
+invariant-loop-alloc g l = record {
   sound : IsSound l.state l.line.items;
   moderate : All (IsModerate l.limits) l.requests.items;
-  read : (front : List ℕ) × (l.fn.piece ≡ front ++ l.rest) × ((stream : List ℕ) (requests : List Request) → After l.limits l.fn.state l.fn.line.items stream requests → After l.limits l.state l.line.items (stream ++ front) (requests ++ l.requests.items));
+  read : (front : List ℕ) × (g.P.Piece.unread l.fn.piece ≡ front ++ g.P.Piece.unread l.rest) × ((stream : List ℕ) (requests : List Request) → After l.limits l.fn.state l.fn.line.items stream requests → After l.limits l.state l.line.items (stream ++ front) (requests ++ l.requests.items));
 }
 
 abbrev pub decreases-loop-alloc : goal.decreases-loop-alloc
-decreases-loop-alloc l = length l.rest
+decreases-loop-alloc g l = length (g.P.Piece.unread l.rest)

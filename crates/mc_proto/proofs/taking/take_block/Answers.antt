@@ -21,7 +21,7 @@ returns-clause-reads c = λ limits stream before a.
     c.in_ok-extend_from_slice-2.ensures.items ∙ ap (λ (t : List ℕ). c.part.inside.bytes.items ++ t) c.split_at.ensures.front
     ∙ ap (λ (t : List ℕ). t ++ take (c.args.start.count + 2 - c.len.result) c.args.piece.now) was in
     let asked : c.in_ok-stored_of.field-0 ≡ stored c.args.start (c.args.part ++ take (c.args.start.count + 2 - c.len.result) c.args.piece.now) =
-    c.in_ok-stored_of.ensures.value ∙ ap (stored c.args.start) (c.in_ok-block.ensures.ok ∙ is) in
+    c.in_ok-stored_of.ensures.value ∙ ap (stored c.args.start) is in
     let at : c.args.state.now ≡ Line = c.requires.line in
     rw at
     (behind limits Line [] (stream ++ take (c.args.start.count + 2 - c.len.result) c.args.piece.now) before c.args.requests.now.items

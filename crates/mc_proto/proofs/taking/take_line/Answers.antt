@@ -4,12 +4,9 @@ use Rattle.std.proofs.lemmas.List.{take_all}
 use Rattle.mc_proto.specs.Lines.{Lacks}
 use Rattle.mc_proto.specs.Table.{says}
 use Rattle.mc_proto.specs.declared.request.LineFault.TheVariants.{LineTooLong}
-use Rattle.mc_proto.specs.declared.request.Request.{Request}
 use Rattle.mc_proto.specs.declared.request.Request.TheVariants.{Bad, Get}
-use Rattle.mc_proto.specs.declared.state.Said.TheVariants.{Whole, Block, Skip}
+use Rattle.mc_proto.specs.declared.state.Said.TheVariants.{Whole}
 use Rattle.mc_proto.specs.Grammar.{IsFine}
-use Rattle.mc_proto.specs.Reader.{After}
-use Rattle.mc_proto.specs.declared.state.State.TheVariants as states
 use Rattle.mc_proto.specs.declared.state.State.TheVariants.{Line, Closed}
 use Rattle.mc_proto.proofs.TakingLemmas.{behind, too_long, line_blocks, line_more, line_done, line_skips}
 use Rattle.mc_proto.proofs.taking.take_line.Goals as goal
@@ -30,19 +27,19 @@ end_found : (bytes piece : List ℕ) (end : ℕ) → bytes ≡ piece → (end < 
 end_found bytes piece end same found = subst (λ (t : List ℕ). end < length t → get_or t end 0 ≡ 10) same found
 
 pub returns-then-len-end-gt-MAX_LINE-clause-reads : goal.returns-then-len-end-gt-MAX_LINE-clause-reads
-returns-then-len-end-gt-MAX_LINE-clause-reads c = λ stream before a.
+returns-then-len-end-gt-MAX_LINE-clause-reads g c = λ stream before a.
     let e = c.line_end-end in
-    let p = c.args.piece.now in
-    let same = c.as_slice-bytes.ensures in
+    let p = g.P.Piece.unread c.args.piece.now in
+    let same = c.bytes-bytes.ensures in
     rw same
     (behind c.args.limits Closed _ (stream ++ take (length p) p) before c.args.requests.now.items (Bad LineTooLong false ∷ []) _ c.in_ok-push.ensures.items
     (too_long c.args.limits c.args.line.now.items _ stream p (before ++ c.args.requests.now.items) e.result a (end_within _ p e.result same e.ensures.within) (end_lacks _ p e.result same e.ensures.before) (omega arith)))
 
 pub returns-then-end-bytes-clause-reads : goal.returns-then-end-bytes-clause-reads
-returns-then-end-bytes-clause-reads c = λ stream before a.
+returns-then-end-bytes-clause-reads g c = λ stream before a.
     let e = c.line_end-end in
-    let p = c.args.piece.now in
-    let same = c.as_slice-bytes.ensures in
+    let p = g.P.Piece.unread c.args.piece.now in
+    let same = c.bytes-bytes.ensures in
     let long = ap length same in
     let whole : take e.result p ≡ p = take_all e.result p (omega (arith, long)) in
     let is : c.extend_from_slice.new.self.items ≡ c.args.line.now.items ++ take e.result p =
@@ -56,10 +53,10 @@ none_left [] h = refl
 none_left (x ∷ xs) h = absurd (omega arith)
 
 pub returns-in-Some-clause-reads : goal.returns-in-Some-clause-reads
-returns-in-Some-clause-reads c = λ stream before a.
+returns-in-Some-clause-reads g c = λ stream before a.
     let e = c.line_end-end in
-    let p = c.args.piece.now in
-    let same = c.as_slice-bytes.ensures in
+    let p = g.P.Piece.unread c.args.piece.now in
+    let same = c.bytes-bytes.ensures in
     let long = ap length same in
     let l : e.result < length p = omega (arith, long) in
     let front = c.split_at.ensures.front ∙ ap (take e.result) same in
@@ -75,10 +72,10 @@ returns-in-Some-clause-reads c = λ stream before a.
     (line_done c.args.limits c.args.line.now.items c.args.line.now.items stream p (before ++ c.args.requests.now.items) e.result (Whole (Get (c.in-Some.key ∷ []) false)) a l (end_found _ p e.result same e.ensures.found l) (end_lacks _ p e.result same e.ensures.before) (omega arith) told fine empty))
 
 pub returns-in_ok-push-in-Whole-clause-reads : goal.returns-in_ok-push-in-Whole-clause-reads
-returns-in_ok-push-in-Whole-clause-reads c = λ stream before a.
+returns-in_ok-push-in-Whole-clause-reads g c = λ stream before a.
     let e = c.line_end-end in
-    let p = c.args.piece.now in
-    let same = c.as_slice-bytes.ensures in
+    let p = g.P.Piece.unread c.args.piece.now in
+    let same = c.bytes-bytes.ensures in
     let long = ap length same in
     let l : e.result < length p = omega (arith, long) in
     let front = c.split_at.ensures.front ∙ ap (take e.result) same in
@@ -90,28 +87,28 @@ returns-in_ok-push-in-Whole-clause-reads c = λ stream before a.
     (line_done c.args.limits c.args.line.now.items c.said_at.new.line.items stream p (before ++ c.args.requests.now.items) e.result (Whole c.in-Whole.request) a l (end_found _ p e.result same e.ensures.found l) (end_lacks _ p e.result same e.ensures.before) (omega arith) told fine c.in_ok-request.ensures.none))
 
 pub returns-in-Block-clause-moderate : goal.returns-in-Block-clause-moderate
-returns-in-Block-clause-moderate c = c.take_first.ensures.moderate c.args.limits
+returns-in-Block-clause-moderate g c = c.take_begun.ensures.moderate c.args.limits
 
 pub returns-in-Block-clause-reads : goal.returns-in-Block-clause-reads
-returns-in-Block-clause-reads c =
+returns-in-Block-clause-reads g c =
     let e = c.line_end-end in
-    let p = c.args.piece.now in
-    let same = c.as_slice-bytes.ensures in
+    let p = g.P.Piece.unread c.args.piece.now in
+    let same = c.bytes-bytes.ensures in
     let long = ap length same in
     let l : e.result < length p = omega (arith, long) in
     let front = c.split_at.ensures.front ∙ ap (take e.result) same in
     let told = sym c.in-Block.is ∙ c.in_ok-request.ensures.value ∙ ap (λ (t : List ℕ). says c.args.limits (c.args.line.now.items ++ t)) front in
     rw c.in_ok-request.ensures.none
-    (ok_follows c.take_first.result _ _
+    (ok_follows c.take_begun.result _ _
     (λ n taken stream before a. taken c.args.limits stream before
     (line_blocks c.args.limits c.args.line.now.items stream p (before ++ c.args.requests.now.items) e.result c.in-Block.start a l (end_found _ p e.result same e.ensures.found l) (end_lacks _ p e.result same e.ensures.before) (omega arith) told))
-    c.take_first.ensures.reads)
+    c.take_begun.ensures.reads)
 
 pub returns-in-Skip-clause-reads : goal.returns-in-Skip-clause-reads
-returns-in-Skip-clause-reads c = λ stream before a.
+returns-in-Skip-clause-reads g c = λ stream before a.
     let e = c.line_end-end in
-    let p = c.args.piece.now in
-    let same = c.as_slice-bytes.ensures in
+    let p = g.P.Piece.unread c.args.piece.now in
+    let same = c.bytes-bytes.ensures in
     let long = ap length same in
     let l : e.result < length p = omega (arith, long) in
     let front = c.split_at.ensures.front ∙ ap (take e.result) same in
