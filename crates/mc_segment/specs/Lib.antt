@@ -3,5 +3,6 @@ pub mod Links
 pub mod Nodes
 pub mod Slots
 pub mod Arena
+pub mod ClassStored
 pub mod ClassState
 pub mod ClassCalls

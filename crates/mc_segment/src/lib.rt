@@ -7,6 +7,8 @@ mod ends;
 mod leaving;
 mod linking;
 mod looks;
+mod noted;
+mod noting;
 mod reading;
 mod shifting;
 mod slots;
@@ -15,5 +17,6 @@ mod steps;
 mod surveying;
 
 pub use mc_item::Passed;
+pub use noted::ClassNoted;
 pub use state::ClassState;
 pub use surveying::Survey;
