@@ -1,6 +1,6 @@
 //! The events of a class's history as they lie in memory, each in 80 bytes.
 ghost use Rattle.std.specs.Prelude.{◌≡◌, IfOk};
-ghost use Rattle.mc_segment.specs.ClassStored.{amount_of, class_event_of, few_of, moved_of};
+ghost use Rattle.mc_segment.specs.ClassStored.{class_event_of, few_of, moved_of};
 ghost use Rattle.mc_segment.specs.declared.noted.ClassForm.TheVariants as forms;
 
 use mc_item::{
@@ -235,7 +235,11 @@ impl ClassNoted {
             ClassForm::Forced { way, caller, parts } => {
                 moved_event(Why::Forced, *way, *caller, parts)
             }
-            ClassForm::Evicted { passed, caller, parts } => taken_event(*passed, *caller, parts),
+            ClassForm::Evicted {
+                passed,
+                caller,
+                parts,
+            } => taken_event(*passed, *caller, parts),
             ClassForm::Unlinked(Unlinked { who, number }) => {
                 let (who, number) = (*who, *number);
                 ClassEvent::Unlinked(Unlinked { who, number })

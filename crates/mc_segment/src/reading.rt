@@ -8,9 +8,10 @@ ghost use Rattle.mc_rule.specs.Segment.{numbers_of, numbers_behind};
 ghost use Rattle.mc_item.specs.declared.lists.Seg.{Seg};
 ghost use Rattle.mc_rule.specs.Lawful.{is_named, IsIn, IsListed, IsLawfulHistoryByLists};
 
+use crate::noted::ClassNoted;
 use crate::state::ClassState;
 use mc_history::History;
-use mc_item::{ClassEvent, ClassNo, Entry, Key, NoMemory, Passed, Seg};
+use mc_item::{ClassNo, Entry, Key, NoMemory, Passed, Seg};
 
 impl ClassState {
     /// The class's number.
@@ -21,7 +22,7 @@ impl ClassState {
     }
 
     /// All that happened, oldest first.
-    pub fn history(&self) -> &History<ClassEvent>
+    pub fn history(&self) -> &History<ClassNoted>
         ensures { result.now.items ≡ self.now.history }
     {
         &self.history

@@ -6,7 +6,7 @@ ghost use Rattle.mc_segment.specs.ClassState.{HasPlaces};
 ghost use Rattle.mc_segment.specs.ClassCalls.{shifted_event, MayCome, Makes, Stays, MayEnd};
 
 use crate::state::ClassState;
-use mc_item::{Fault, Passed, Seg, Shifted, Who, Why};
+use mc_item::{Fault, Passed, Seg, Who, Why};
 
 impl ClassState {
     /// An entry goes from the segment that it is in to the head of another, or of its own. A hit or an active entry's
@@ -52,16 +52,7 @@ impl ClassState {
         ensures refusal { MayEnd self.old result }
         ensures room { self.old.room ≤ self.new.room + 1 }
     {
-        self.turn(Shifted {
-            who,
-            number,
-            from_seg,
-            to_seg,
-            why,
-            moment,
-            passed,
-            at,
-        })
+        self.turn(who, number, from_seg, to_seg, why, moment, passed, at)
     }
 
     /// The same as `shift_from`, where room was made: it takes no memory and can't be refused.

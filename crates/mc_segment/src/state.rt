@@ -4,8 +4,9 @@ ghost use Rattle.mc_item.specs.Config.{IsSound};
 ghost use Rattle.mc_segment.specs.ClassState.{opened, with_room, HasPlaces, MayRefuse};
 
 use crate::arena::Arena;
+use crate::noted::ClassNoted;
 use mc_history::History;
-use mc_item::{ClassEvent, ClassNo, Config, Fault, KeyBuffer, NoMemory};
+use mc_item::{ClassNo, Config, Fault, KeyBuffer, NoMemory};
 use std::alloc::Global;
 use std::marker::Model;
 
@@ -23,7 +24,7 @@ pub struct ClassState {
     pub(crate) hot_factor: u64,
     pub(crate) warm_factor: u64,
     pub(crate) lists: Arena,
-    pub(crate) history: History<ClassEvent>,
+    pub(crate) history: History<ClassNoted>,
     pub(crate) spares: Vec<KeyBuffer>,
     pub(crate) alloc: Global,
 }

@@ -4,10 +4,11 @@ ghost use Rattle.std.specs.Prelude.{◌≡◌, ◌+◌, ◌<◌, ◌≤◌, ◌=
 ghost use Rattle.mc_item.specs.declared.class_event.ClassEvent.TheVariants as events;
 ghost use Rattle.mc_rule.specs.Lists.{lists_of, links_of, links_in, count_of, lists_after, unlinked};
 ghost use Rattle.mc_rule.specs.Lawful.{names, IsListed};
-ghost use Rattle.mc_segment.specs.ClassCalls.{MayCome, Makes, Stays, MayEnd};
+ghost use Rattle.mc_segment.specs.ClassCalls.{shifted_event, MayCome, Makes, Stays, MayEnd};
 
+use crate::noted::ClassNoted;
 use crate::state::ClassState;
-use mc_item::{ClassEvent, Entry, Fault, Key, KeyBuffer, Linked, NoMemory, Seg, Shifted, Who};
+use mc_item::{Entry, Fault, Key, KeyBuffer, NoMemory, Passed, Seg, Who, Why};
 use std::alloc::Global;
 
 // A copy of a key: where it lies if it is short, else in a buffer that was kept, else of the key's own size.
@@ -71,20 +72,14 @@ impl ClassState {
             time: moment,
         };
         self.lists.push(seg, entry);
-        self.history.push_reserved(ClassEvent::Linked(Linked {
-            who,
-            number,
-            key,
-            cost,
-            seg,
-            moment,
-        }));
+        self.history
+            .push_reserved(ClassNoted::linked(who, number, key, cost, seg, moment));
         Ok(number)
     }
 
     // Takes an entry out of its list for an event that does so.
     #[inline(always)]
-    pub(crate) fn leave(&mut self, number: u64, event: ClassEvent) -> Result<(), Fault>
+    pub(crate) fn leave(&mut self, number: u64, event: ClassNoted) -> Result<(), Fault>
         requires there { IsListed number (lists_of self.old.history) }
         requires lawful { MayCome self.old event }
         requires leaves { lists_after (lists_of self.old.history) event ≡ unlinked number (lists_of self.old.history) }
@@ -106,9 +101,19 @@ impl ClassState {
     }
 
     // Moves an entry to a list's head.
-    pub(crate) fn turn(&mut self, shifted: Shifted) -> Result<(), Fault>
-        requires lawful { MayCome self.old (events.Shifted shifted) }
-        ensures ok { OnOk result (Makes self.old self.new (events.Shifted shifted)) }
+    pub(crate) fn turn(
+        &mut self,
+        who: Who,
+        number: u64,
+        from_seg: Seg,
+        to_seg: Seg,
+        why: Why,
+        moment: u64,
+        passed: Passed,
+        at: u64,
+    ) -> Result<(), Fault>
+        requires lawful { MayCome self.old (shifted_event who number to_seg why moment passed at from_seg) }
+        ensures ok { OnOk result (Makes self.old self.new (shifted_event who number to_seg why moment passed at from_seg)) }
         ensures err { OnErr result (Stays self.old self.new) }
         ensures refusal { MayEnd self.old result }
         ensures room { self.old.room ≤ self.new.room + 1 }
@@ -118,19 +123,14 @@ impl ClassState {
         }
         self.history.reserve(1)?;
         self.lists.law();
-        self.lists.move_to(
-            shifted.number,
-            shifted.from_seg,
-            shifted.to_seg,
-            shifted.why,
-            shifted.moment,
-        );
-        self.history.push_reserved(ClassEvent::Shifted(shifted));
+        self.lists.move_to(number, from_seg, to_seg, why, moment);
+        let event = ClassNoted::shifted(who, number, from_seg, to_seg, why, moment, passed, at);
+        self.history.push_reserved(event);
         Ok(())
     }
 
     // Notes an event that moves no entry, and answers its place.
-    pub(crate) fn note(&mut self, event: ClassEvent) -> Result<u64, Fault>
+    pub(crate) fn note(&mut self, event: ClassNoted) -> Result<u64, Fault>
         requires lawful { MayCome self.old event }
         requires stays { lists_after (lists_of self.old.history) event ≡ lists_of self.old.history }
         requires links { links_in event ≡ 0 }
