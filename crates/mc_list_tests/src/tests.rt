@@ -1,5 +1,6 @@
 //! What the tests share: the one who calls. Also what a class shows of itself, each as one assertion, so that a test is a
 //! row of calls.
+mod class_events;
 mod class_lists;
 mod growing_histories;
 mod histories_in_pieces;

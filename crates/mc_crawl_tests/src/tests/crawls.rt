@@ -24,8 +24,9 @@ fn asserts_reclaimed<R: Abort>(
     moment: u64,
     at: u64,
 ) {
-    match last_in(world.class.history()) {
-        Some(ClassEvent::Reclaimed(e)) => {
+    let noted = last_in(world.class.history()).expect(rt, "an event");
+    match noted.event(world.alloc).expect(rt, "a copy") {
+        ClassEvent::Reclaimed(e) => {
             assert_eq!(rt; e.who, WHO);
             assert_eq!(rt; (e.number, e.moment, e.at), (number, moment, at));
         }

@@ -13,7 +13,7 @@ use std::alloc::Global;
 use std::process::Abort;
 use std::test::Fail;
 
-fn checked(config: Config) -> Result<Config, Fail>
+pub(super) fn checked(config: Config) -> Result<Config, Fail>
     ensures { IfOk result (λ c. IsSound c × (c ≡ config)) }
 {
     Ok(config.check()?)

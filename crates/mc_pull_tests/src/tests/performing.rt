@@ -11,7 +11,7 @@ ghost use Rattle.mc_pull_tests.specs.World.{IsWorld};
 use super::WHO;
 use super::walks::{six, six_of};
 use super::world::{
-    World, asserts_list, is_unnamed, key, last_of_class, last_of_stripe, opened, usual,
+    World, asserts_list, event_at, is_unnamed, key, last_of_class, last_of_stripe, opened, usual,
 };
 use mc_item::{
     ClassEvent, ClassNo, Command, Config, Fault, Key, Link, Need, Reply, Room, Seg, Value, Verb,
@@ -51,7 +51,7 @@ fn is_dead(stripe: &StripeState, key: &Key, moment: u64) -> bool
 }
 
 // Whether a class gives a room.
-fn gives(class: &ClassState, who: Who, room: Room) -> bool
+fn gives(alloc: Global, class: &ClassState, who: Who, room: Room) -> bool
     ensures { result ≡ true → GivesRoom who room class.now }
 {
     match room {
@@ -60,7 +60,7 @@ fn gives(class: &ClassState, who: Who, room: Room) -> bool
                 && link.number == class.next_number()
                 && class.count() < class.chunks()
         }
-        Room::Refused { place, .. } => match class.history().get(place as usize) {
+        Room::Refused { place, .. } => match event_at(alloc, class, place) {
             Some(ClassEvent::Refused(refused)) => refused.who == who,
             _ => false,
         },
@@ -168,7 +168,7 @@ fn may(
     if !may_answer(alloc, stripe, command, moment, room) {
         return false;
     }
-    if !gives(class, who, room) {
+    if !gives(alloc, class, who, room) {
         return false;
     }
     if !is_enough(class, stripe, command, moment, room, config) {
@@ -264,16 +264,16 @@ fn asserts_lengths<R: Abort>(rt: &R, world: &World, class: usize, stripe: usize)
 }
 
 // Whether the class's event at a place is a new entry of this number.
-fn is_linked(world: &World, place: usize, number: u64) -> bool {
-    match world.class.history().get(place) {
+fn is_linked(world: &World, place: u64, number: u64) -> bool {
+    match event_at(world.alloc, &world.class, place) {
         Some(ClassEvent::Linked(linked)) => linked.number == number,
         _ => false,
     }
 }
 
 // Whether the class's event at a place is the end of the entry of this number.
-fn is_unlinked(world: &World, place: usize, number: u64) -> bool {
-    match world.class.history().get(place) {
+fn is_unlinked(world: &World, place: u64, number: u64) -> bool {
+    match event_at(world.alloc, &world.class, place) {
         Some(ClassEvent::Unlinked(unlinked)) => unlinked.number == number,
         _ => false,
     }

@@ -5,7 +5,7 @@ ghost use Rattle.mc_pull_tests.specs.World.{IsWorld};
 
 use super::WHO;
 use super::plain_lists::{Lists, Piece, Shares};
-use super::world::{World, ask, key, opened, usual};
+use super::world::{World, ask, event_at, key, opened, usual};
 use mc_item::{ClassEvent, Command, Passed, Seg, Value, Verb, Who};
 use mc_pull::{Done, Judge, Mode, settle};
 use mc_segment::{ClassState, Survey};
@@ -206,10 +206,10 @@ pub(super) fn ask_one<R: Abort>(rt: &R, game: &mut Game, dice: &mut u64) {
 }
 
 // Whether a survey is noted in a class's history.
-fn is_noted(class: &ClassState, who: Who, moment: u64, survey: Survey) -> bool
+fn is_noted(alloc: Global, class: &ClassState, who: Who, moment: u64, survey: Survey) -> bool
     ensures { result ≡ true → IsSurveyIn class.now.history who moment survey }
 {
-    match class.history().get(survey.place as usize) {
+    match event_at(alloc, class, survey.place) {
         Some(ClassEvent::Surveyed(noted)) => {
             noted.who == who
                 && noted.moment == moment
@@ -221,11 +221,11 @@ fn is_noted(class: &ClassState, who: Who, moment: u64, survey: Survey) -> bool
 }
 
 // Whether a list may be judged so.
-fn may_walk(class: &ClassState, seg: Seg, mode: Mode, who: Who, moment: u64) -> bool
+fn may_walk(alloc: Global, class: &ClassState, seg: Seg, mode: Mode, who: Who, moment: u64) -> bool
     ensures { result ≡ true → MayWalk class.now seg mode who moment × IsFullFor class.now mode }
 {
     match mode {
-        Mode::Plain(survey) => is_noted(class, who, moment, survey),
+        Mode::Plain(survey) => is_noted(alloc, class, who, moment, survey),
         Mode::Evict => class.is_full() && seg == Seg::Cold,
         Mode::Force => class.is_full() && seg == Seg::Hot,
     }
@@ -244,7 +244,7 @@ pub(super) fn judge<R: Abort>(
 {
     let alloc = world.alloc;
     let class = &mut world.class;
-    assert!(rt; may_walk(class, seg, mode, WHO, moment));
+    assert!(rt; may_walk(alloc, class, seg, mode, WHO, moment));
     let number = class.from_tail(seg, 0).expect(rt, "a tail").number;
     let judge = Judge::Walk {
         seg,

@@ -9,7 +9,7 @@ use super::plain_table::Row::{
 use super::plain_table::{Row, Way, done_of};
 use super::random_classes::{Game, ask_one, begun, judge, letter_of, link_one, roll};
 use super::walks::events;
-use super::world::{World, key, last_in};
+use super::world::{World, key, last_event};
 use mc_item::Seg::{Cold, Hot, Temp, Warm};
 use mc_item::{ClassEvent, Seg, Why};
 use mc_pull::Mode;
@@ -112,7 +112,7 @@ fn events_of(row: Row) -> (usize, usize) {
 
 // Whether the class's last event says why, where a row moves an entry: for bytes or age it cites the survey.
 fn is_said(world: &World, row: Row, survey: Survey) -> bool {
-    let why = match last_in(world.class.history()) {
+    let why = match last_event(world) {
         Some(ClassEvent::Shifted(shifted)) => Some(shifted.why),
         _ => None,
     };

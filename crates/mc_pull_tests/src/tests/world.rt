@@ -1,5 +1,5 @@
 //! A store of one stripe and one class, filled by hand.
-ghost use Rattle.std.specs.Prelude.{◌≡◌, ◌≢◌, IfOk, IfSome, Some, true, false};
+ghost use Rattle.std.specs.Prelude.{◌≡◌, ◌≢◌, IfOk, IfSome, Some, true, false, slice_get};
 ghost use Rattle.mc_item.specs.Config.{IsSound, IsBounded};
 ghost use Rattle.mc_item.specs.Stripe.{Fits, IsAlive, IsUnnamed, link_named};
 ghost use Rattle.mc_stripe.specs.StripeState.{cache_now};
@@ -210,15 +210,28 @@ pub(super) fn asserts_list<R: Abort>(rt: &R, world: &World, seg: Seg, wanted: &[
     assert_eq!(rt; numbers.as_slice(), wanted);
 }
 
-/// The last event of a history.
-pub(super) fn last_in<E: Drop>(history: &History<E>) -> Option<&E> {
+// The last event of a history.
+fn last_in<E: Drop>(history: &History<E>) -> Option<&E> {
     history.get(history.len().checked_sub(1)?)
+}
+
+/// The event at a place of a class's history, where it is there and can be read.
+pub(super) fn event_at(alloc: Global, class: &ClassState, place: u64) -> Option<ClassEvent>
+    ensures { IfSome result (λ event. slice_get class.now.history place ≡ Some event) }
+{
+    let noted = class.history().get(place as usize)?;
+    noted.event(alloc).ok()
+}
+
+/// The last event of a class, where there is one and it can be read.
+pub(super) fn last_event(world: &World) -> Option<ClassEvent> {
+    last_in(world.class.history())?.event(world.alloc).ok()
 }
 
 /// What a class's last event says.
 pub(super) fn last_of_class(world: &World) -> Result<String, Fail> {
     let alloc = world.alloc;
-    match last_in(world.class.history()) {
+    match last_event(world) {
         Some(ClassEvent::Evicted(e)) => {
             Ok(format!(in alloc;
                 "evicts {} past {:?} at {}",

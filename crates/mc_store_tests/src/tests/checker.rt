@@ -49,22 +49,23 @@ fn find_call<R: Abort>(rt: &R, alloc: Global, threads: &mut Vec<Vec<Call>>, did:
     check_call(rt, alloc, call, did);
 }
 
-// The event at a place of a class's history, where the class is one of the two.
-fn event_of(ledger: &Final, class: ClassNo, place: u64) -> Option<&ClassEvent>
+// The event at a place of a class's history, where the class is one of the two and there is memory for a copy.
+fn event_of(alloc: Global, ledger: &Final, class: ClassNo, place: u64) -> Option<ClassEvent>
     requires { length ledger.now.classes ≡ 2 }
 {
     if class.0 != 1 && class.0 != 2 {
         return None;
     }
-    ledger.class(class).history().get(place as usize)
+    let noted = ledger.class(class).history().get(place as usize)?;
+    noted.event(alloc).ok()
 }
 
 // Whether a command found no chunk, as the event that it cites says.
-fn is_refused(ledger: &Final, room: Room) -> bool
+fn is_refused(alloc: Global, ledger: &Final, room: Room) -> bool
     requires { length ledger.now.classes ≡ 2 }
 {
     match room {
-        Room::Refused { class, place } => match event_of(ledger, class, place) {
+        Room::Refused { class, place } => match event_of(alloc, ledger, class, place) {
             Some(ClassEvent::Refused(_)) => true,
             _ => false,
         },
@@ -73,13 +74,13 @@ fn is_refused(ledger: &Final, room: Room) -> bool
 }
 
 // Whether an item was dead where that is said, and else its chunk was taken by an eviction, as the event that is cited says.
-fn is_lost(ledger: &Final, plain: &mut Plain, lost: &Lost) -> bool
+fn is_lost(alloc: Global, ledger: &Final, plain: &mut Plain, lost: &Lost) -> bool
     requires { length ledger.now.classes ≡ 2 }
 {
     let was_there = plain.lose(lost.key.bytes(), lost.cause);
     match lost.cause {
         Cause::Expired(_) => was_there,
-        Cause::Taken { class, place } => match event_of(ledger, class, place) {
+        Cause::Taken { class, place } => match event_of(alloc, ledger, class, place) {
             Some(ClassEvent::Evicted(_)) => was_there,
             _ => false,
         },
@@ -90,7 +91,7 @@ fn is_lost(ledger: &Final, plain: &mut Plain, lost: &Lost) -> bool
 fn check_reply<R: Abort>(rt: &R, alloc: Global, ledger: &Final, plain: &mut Plain, did: &Did)
     requires { length ledger.now.classes ≡ 2 }
 {
-    let refused = is_refused(ledger, did.room);
+    let refused = is_refused(alloc, ledger, did.room);
     let wanted = plain.answer(rt, &did.command, did.moment, refused);
     let is_wanted = is_same(rt, alloc, &did.reply, &wanted);
     assert!(rt;
@@ -118,7 +119,7 @@ fn check_event<R: Abort>(
             find_call(rt, alloc, threads, did);
         }
         StripeEvent::Lost(lost) => {
-            assert!(rt; is_lost(ledger, plain, lost));
+            assert!(rt; is_lost(alloc, ledger, plain, lost));
         }
         StripeEvent::Cooled(cooled) => {
             assert!(rt; plain.has(cooled.key.bytes()));

@@ -72,10 +72,11 @@ fn replay_class<R: Abort>(rt: &R, alloc: Global, class: &ClassState, given: &mut
     let mut plain = PlainClass::new(alloc, class.chunks());
     let history = class.history();
     for place in 0..history.len() {
-        let event = history.get(place).expect(rt, "an event");
-        plain.next(rt, event, history);
+        let noted = history.get(place).expect(rt, "an event");
+        let event = noted.event(alloc).expect(rt, "a copy");
+        plain.next(rt, &event, history);
         if let ClassEvent::Linked(linked) = event {
-            find_given(rt, given, class.number(), linked);
+            find_given(rt, given, class.number(), &linked);
         }
     }
     plain.compare(rt, class);

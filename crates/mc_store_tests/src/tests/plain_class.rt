@@ -2,7 +2,7 @@
 //! an event may not happen.
 use mc_history::History;
 use mc_item::{ClassEvent, Evicted, Linked, Seg, Shifted, Surveyed, Who, Why};
-use mc_segment::ClassState;
+use mc_segment::{ClassNoted, ClassState};
 use std::alloc::Global;
 use std::process::Abort;
 
@@ -71,13 +71,15 @@ fn check_tail<R: Abort>(rt: &R, list: &[Kept], number: u64, passed: &[u64]) {
 // Ends the test where the event at a place of the history isn't a survey by this call at this moment.
 fn check_survey<R: Abort>(
     rt: &R,
-    history: &History<ClassEvent>,
+    alloc: Global,
+    history: &History<ClassNoted>,
     place: u64,
     who: Who,
     moment: u64,
 ) {
-    match history.get(place as usize) {
-        Some(ClassEvent::Surveyed(survey)) => {
+    let noted = history.get(place as usize).expect(rt, "an event");
+    match noted.event(alloc).expect(rt, "a copy") {
+        ClassEvent::Surveyed(survey) => {
             assert_eq!(rt; survey.who, who);
             assert_eq!(rt; survey.moment, moment);
         }
@@ -170,7 +172,7 @@ impl PlainClass {
     }
 
     // Ends the test where a move has not the lists, the neighbours and the ground that its reason asks for.
-    fn check_move<R: Abort>(&self, rt: &R, shifted: &Shifted, history: &History<ClassEvent>) {
+    fn check_move<R: Abort>(&self, rt: &R, shifted: &Shifted, history: &History<ClassNoted>) {
         let from_seg = shifted.from_seg;
         let goal = match shifted.why {
             Why::Hit | Why::Active => Seg::Warm,
@@ -186,7 +188,7 @@ impl PlainClass {
             Why::Active => assert!(rt; from_seg != Seg::Temp),
             Why::Over(place) | Why::Old(place) => {
                 assert!(rt; from_seg == Seg::Hot || from_seg == Seg::Warm);
-                check_survey(rt, history, place, shifted.who, shifted.moment);
+                check_survey(rt, self.alloc, history, place, shifted.who, shifted.moment);
             }
             Why::Forced => {
                 assert_eq!(rt; from_seg, Seg::Hot);
@@ -202,7 +204,7 @@ impl PlainClass {
     }
 
     // An entry goes to the head of another list, or of its own. A hit sets its time, and so does the move of an active one.
-    fn shift<R: Abort>(&mut self, rt: &R, shifted: &Shifted, history: &History<ClassEvent>) {
+    fn shift<R: Abort>(&mut self, rt: &R, shifted: &Shifted, history: &History<ClassNoted>) {
         self.check_move(rt, shifted, history);
         let mut kept = self
             .take(shifted.from_seg, shifted.number)
@@ -247,7 +249,7 @@ impl PlainClass {
         &mut self,
         rt: &R,
         event: &ClassEvent,
-        history: &History<ClassEvent>,
+        history: &History<ClassNoted>,
     ) {
         match event {
             ClassEvent::Linked(linked) => self.link(rt, linked),

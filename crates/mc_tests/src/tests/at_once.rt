@@ -8,6 +8,7 @@ use mc_driver::{Outcome, Run, RunFault, Source, SourceFault, run_scripts};
 use mc_history::History;
 use mc_item::{ClassEvent, ClassNo, Config, Key, Numbers, Reply, StripeEvent, StripeNo};
 use mc_proto::{Sink, SinkFault};
+use mc_segment::ClassNoted;
 use mc_stripe::Noted;
 use std::alloc::Global;
 use std::process::Abort;
@@ -270,10 +271,11 @@ fn no_script_and_63_are_refused(rt: HostRuntime) {
 }
 
 // The caller and the moment of each survey of a class.
-fn surveys_of(rt: &impl Abort, alloc: Global, history: &History<ClassEvent>) -> Vec<(u32, u64)> {
+fn surveys_of(rt: &impl Abort, alloc: Global, history: &History<ClassNoted>) -> Vec<(u32, u64)> {
     let mut surveys = Vec::new(alloc);
     for place in 0..history.len() {
-        if let Some(ClassEvent::Surveyed(survey)) = history.get(place) {
+        let noted = history.get(place).expect(rt, "an event");
+        if let ClassEvent::Surveyed(survey) = noted.event(alloc).expect(rt, "memory") {
             surveys
                 .push((survey.who.caller, survey.moment))
                 .expect(rt, "memory");

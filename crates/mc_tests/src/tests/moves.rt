@@ -7,6 +7,7 @@ use mc_driver::{Outcome, run_scripts};
 use mc_history::History;
 use mc_item::{Cause, ClassEvent, ClassNo, StripeEvent, StripeNo};
 use mc_options::{Options, plan_for};
+use mc_segment::ClassNoted;
 use mc_stripe::Noted;
 use std::alloc::Global;
 use std::marker::Brand;
@@ -31,8 +32,8 @@ static CLASS: [&str; 6] = [
 ];
 
 // An event of a class in short.
-fn event_text(alloc: Global, event: &ClassEvent) -> Result<String, Fail> {
-    match event {
+fn event_text(alloc: Global, noted: &ClassNoted) -> Result<String, Fail> {
+    match noted.event(alloc)? {
         ClassEvent::Linked(e) => Ok(format!(in alloc;
             "turn {}: {} linked in {:?}",
             e.who.turn, e.number, e.seg
@@ -109,8 +110,8 @@ fn asserts_histories<L: Ledger + Send + Sync, R: Abort + RandomSource + Threads 
     let history = run.ledger.class(ClassNo(1)).history();
     assert_eq!(rt; history.len(), CLASS.len());
     for (place, want) in CLASS.iter().enumerate() {
-        let event = history.get(place).expect(rt, "an event");
-        let text = event_text(alloc, event)?;
+        let noted = history.get(place).expect(rt, "an event");
+        let text = event_text(alloc, noted)?;
         assert_eq!(rt; text.as_str(), *want);
     }
     Ok(())
