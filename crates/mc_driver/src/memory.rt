@@ -1,14 +1,14 @@
 //! A source and a sink in memory.
 ghost use Rattle.std.specs.Prelude.{◌≡◌, ◌<◌, ◌+◌, ◌++◌, [], OnOk, OnErr, length};
 ghost use Rattle.std.specs.List.{flat_map};
+ghost use Rattle.mc_proto.specs.Gathered.{bytes_of};
 
 use mc_item::NoMemory;
-use mc_proto::{Sink, SinkFault};
+use mc_proto::{ReplyText, Sink, SinkFault, TextPart};
 use mc_script::{Source, SourceFault};
 use std::alloc::Global;
 use std::collections::VecDeque;
 use std::marker::Model;
-use std::mem;
 use std::sync::ledger::{Book, Ledger, Share};
 use std::sync::{Mutex, Wait};
 
@@ -50,24 +50,13 @@ impl Source for Pieces {
 const ROOM: usize = 81920;
 
 // Keeps a copy of some bytes behind the pieces.
-fn keep_copy(alloc: Global, pieces: &mut Vec<Vec<u8>>, bytes: &[u8]) -> Result<(), NoMemory>
-    ensures ok { OnOk result (flat_map (λ v. v.items) pieces.new.items ≡ flat_map (λ v. v.items) pieces.old.items ++ bytes.now) }
+fn keep_copy(alloc: Global, pieces: &mut Vec<TextPart>, bytes: &[u8]) -> Result<(), NoMemory>
+    ensures ok { OnOk result (bytes_of pieces.new.items ≡ bytes_of pieces.old.items ++ bytes.now) }
     ensures err { OnErr result (pieces.new.items ≡ pieces.old.items) }
 {
     let piece = Vec::from_slice(alloc, bytes)?;
     pieces.reserve(1)?;
-    pieces.push_reserved(piece);
-    Ok(())
-}
-
-// Keeps a text behind the pieces, without a copy, and leaves an empty one.
-fn keep_whole(alloc: Global, pieces: &mut Vec<Vec<u8>>, text: &mut Vec<u8>) -> Result<(), NoMemory>
-    ensures ok { OnOk result ((flat_map (λ v. v.items) pieces.new.items ≡ flat_map (λ v. v.items) pieces.old.items ++ text.old.items) × (text.new.items ≡ [])) }
-    ensures err { OnErr result (pieces.new.items ≡ pieces.old.items) }
-{
-    let empty = Vec::with_capacity(alloc, ROOM)?;
-    pieces.reserve(1)?;
-    pieces.push_reserved(mem::replace(text, empty));
+    pieces.push_reserved(TextPart::Own(piece));
     Ok(())
 }
 
@@ -76,7 +65,7 @@ fn keep_whole(alloc: Global, pieces: &mut Vec<Vec<u8>>, text: &mut Vec<u8>) -> R
 #[derive(Drop)]
 pub struct Kept<'a, R: Wait, L: Ledger> {
     /// What it has taken, in pieces.
-    pub pieces: Vec<Vec<u8>>,
+    pub pieces: Vec<TextPart>,
     rt: &'a R,
     alloc: Global,
     book: &'a Mutex<Book<L>>,
@@ -116,7 +105,7 @@ impl<'a, R: Wait, L: Ledger> Kept<'a, R, L> {
 }
 
 impl<'a, R: Wait, L: Ledger> Sink for Kept<'a, R, L> {
-    ghost taken = { λ s. flat_map (λ v. v.items) s.pieces.items };
+    ghost taken = { λ s. bytes_of s.pieces.items };
 
     ghost failures = { λ s. s.share.amount };
 
@@ -127,8 +116,8 @@ impl<'a, R: Wait, L: Ledger> Sink for Kept<'a, R, L> {
         }
     }
 
-    fn put_whole(&mut self, text: &mut Vec<u8>) -> Result<(), SinkFault> {
-        match keep_whole(self.alloc, &mut self.pieces, text) {
+    fn put_whole(&mut self, text: &mut ReplyText) -> Result<(), SinkFault> {
+        match text.move_behind(&mut self.pieces, ROOM) {
             Ok(()) => Ok(()),
             Err(_) => Err(self.fail()),
         }

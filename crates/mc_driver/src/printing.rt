@@ -2,18 +2,20 @@
 ghost use Rattle.std.specs.Prelude.{OnOk};
 ghost use Rattle.std.specs.List.{flat_map};
 ghost use Rattle.std.specs.Io.KnownBytes.{Appends};
+ghost use Rattle.mc_proto.specs.Gathered.{bytes_of};
 
 use crate::memory::{Kept, Pieces};
+use mc_proto::TextPart;
 use std::io::{self, Write};
 use std::sync::Wait;
 use std::sync::ledger::Ledger;
 
 // Writes pieces one after the other.
-fn print_pieces<W: Write>(writer: &mut W, pieces: &[Vec<u8>]) -> io::Result<()>
-    ensures { OnOk result (Appends (W.contents writer.old) (W.contents writer.new) (flat_map (λ v. v.items) pieces.now)) }
+fn print_pieces<W: Write>(writer: &mut W, pieces: &[TextPart]) -> io::Result<()>
+    ensures { OnOk result (Appends (W.contents writer.old) (W.contents writer.new) (bytes_of pieces.now)) }
 {
     for piece in pieces {
-        writer.write_all(piece.as_slice())?;
+        writer.write_all(piece.bytes())?;
     }
     Ok(())
 }
@@ -23,7 +25,7 @@ pub(crate) fn print_scripts<R: Wait, L: Ledger, W: Write>(
     writer: &mut W,
     ends: &[(Pieces, Kept<'_, R, L>)],
 ) -> io::Result<()>
-    ensures { OnOk result (Appends (W.contents writer.old) (W.contents writer.new) (flat_map (λ e. flat_map (λ v. v.items) e.1.pieces.items) ends.now)) }
+    ensures { OnOk result (Appends (W.contents writer.old) (W.contents writer.new) (flat_map (λ e. bytes_of e.1.pieces.items) ends.now)) }
 {
     for end in ends {
         print_pieces(writer, end.1.pieces.as_slice())?;

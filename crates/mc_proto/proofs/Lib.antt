@@ -12,3 +12,4 @@ pub mod SplitLemmas
 pub mod PercentLemmas
 mod PlainLemmas
 pub mod TextLemmas
+mod GatheringLemmas

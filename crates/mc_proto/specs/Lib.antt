@@ -7,3 +7,4 @@ pub mod Reader
 pub mod Scripts
 pub mod Text
 pub mod Answers
+pub mod Gathered

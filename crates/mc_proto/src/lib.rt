@@ -4,6 +4,7 @@
 
 mod command;
 mod directive;
+mod gathering;
 mod get;
 mod laws;
 mod line;
@@ -21,6 +22,7 @@ mod text;
 mod token;
 mod verb;
 
+pub use gathering::{LONG, ReplyText, TextPart};
 pub use laws::{
     a_line_is_its_tokens, after_is_reading, every_stream_reads, no_spelling_begins_another,
     one_reading, one_splitting, reading_goes_on, scripts_read_alone,

@@ -1,6 +1,9 @@
 //! Where the texts of replies go.
 ghost use Rattle.std.specs.Prelude.{[], ◌≡◌, ◌++◌, ◌<◌, ◌≤◌, ℕ, List, IfOk, OnOk, OnErr, length, take};
+ghost use Rattle.mc_proto.specs.Gathered.{bytes_of};
 ghost use Rattle.mc_proto.specs.Text.{IsBeginning};
+
+use crate::gathering::{ReplyText, TextPart};
 
 /// A write failed.
 #[derive(Clone, Copy, Debug, PartialEq, Eq)]
@@ -21,7 +24,7 @@ pub trait Sink: Drop {
         ensures count { failures self.old ≤ failures self.new };
 
     /// Takes a whole text, and leaves an empty one. After a fault a beginning of it was taken, and nothing else.
-    fn put_whole(&mut self, text: &mut Vec<u8>) -> Result<(), SinkFault>
+    fn put_whole(&mut self, text: &mut ReplyText) -> Result<(), SinkFault>
         ensures ok { OnOk result ((taken self.new ≡ taken self.old ++ text.old.items) × (text.new.items ≡ [])) }
         ensures fine { OnOk result (failures self.new ≡ failures self.old) }
         ensures err { OnErr result ((failures self.old < failures self.new) × IsBeginning (taken self.old) (taken self.new) text.old.items) }
@@ -30,14 +33,29 @@ pub trait Sink: Drop {
 
 /// Writes a whole text piece by piece, and clears it: the body of a `put_whole` for a sink over another one, which keeps
 /// no text itself.
-pub fn write_whole<K: Sink>(sink: &mut K, text: &mut Vec<u8>) -> Result<(), SinkFault>
+pub fn write_whole<K: Sink>(sink: &mut K, text: &mut ReplyText) -> Result<(), SinkFault>
     ensures ok { OnOk result ((K.taken sink.new ≡ K.taken sink.old ++ text.old.items) × (text.new.items ≡ [])) }
     ensures fine { OnOk result (K.failures sink.new ≡ K.failures sink.old) }
     ensures err { OnErr result ((K.failures sink.old < K.failures sink.new) × IsBeginning (K.taken sink.old) (K.taken sink.new) text.old.items) }
     ensures count { K.failures sink.old ≤ K.failures sink.new }
 {
-    write_reply(sink, text.as_slice())?;
-    text.clear();
+    let (parts, last) = text.lying();
+    write_parts(sink, parts)?;
+    write_reply(sink, last)?;
+    text.truncate(0);
+    Ok(())
+}
+
+// Writes the parts of a text one after the other. After a fault a beginning of them is written, and nothing else.
+fn write_parts<K: Sink>(sink: &mut K, parts: &[TextPart]) -> Result<(), SinkFault>
+    ensures ok { OnOk result (K.taken sink.new ≡ K.taken sink.old ++ bytes_of parts.now) }
+    ensures fine { OnOk result (K.failures sink.new ≡ K.failures sink.old) }
+    ensures err { OnErr result ((K.failures sink.old < K.failures sink.new) × IsBeginning (K.taken sink.old) (K.taken sink.new) (bytes_of parts.now)) }
+    ensures count { K.failures sink.old ≤ K.failures sink.new }
+{
+    for part in parts {
+        write_reply(sink, part.bytes())?;
+    }
     Ok(())
 }
 

@@ -185,6 +185,33 @@ fn push_cas_tail(out: &mut Vec<u8>, flags: u32, value: &[u8], cas: u64) -> Resul
     )
 }
 
+/// Adds what stands between a value's key and its bytes: flags, number of bytes, and with `gets` the cas number. After an
+/// `Err` nothing is added.
+pub(crate) fn push_value_line(
+    out: &mut Vec<u8>,
+    flags: u32,
+    len: usize,
+    cas: u64,
+    with_cas: bool,
+) -> Result<(), NoMemory>
+    ensures ok { OnOk result (out.new.items ≡ out.old.items ++ (codes " " ++ decimal flags ++ codes " " ++ decimal len ++ texts.cas_text with_cas cas ++ texts.crlf)) }
+    ensures err { OnErr result (out.new.items ≡ out.old.items) }
+{
+    let mut for_flags = Buffer::new();
+    let mut for_len = Buffer::new();
+    let mut for_cas = Buffer::new();
+    let flags = for_flags.format(flags).as_bytes();
+    let len = for_len.format(len).as_bytes();
+    let cas = for_cas.format(cas).as_bytes();
+    let space = b" ".as_slice();
+    let crlf = b"\r\n".as_slice();
+    if with_cas {
+        push_parts(out, &[space, flags, space, len, space, cas, crlf])
+    } else {
+        push_parts(out, &[space, flags, space, len, crlf])
+    }
+}
+
 // More bytes than a value's text has round the value, with the end of a get. Room for all is made before the first
 // part, so that a long text grows at most once and isn't copied with the value in it.
 const AROUND: usize = 64;

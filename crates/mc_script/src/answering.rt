@@ -12,10 +12,7 @@ use crate::calls::Calls;
 use crate::crawling::answer_crawl;
 use crate::juggling::answer_juggle;
 use mc_item::{Command, Fault, Key, NoMemory, Reply};
-use mc_proto::{
-    Keys, Limits, LineFault, Request, push_end, push_fault, push_reply, push_value_head,
-    push_value_tail,
-};
+use mc_proto::{Keys, Limits, LineFault, ReplyText, Request};
 use std::sync::Wait;
 
 // One key of a get, with its value's text, where there is one. The text is begun before the key goes into the call, and
@@ -23,7 +20,7 @@ use std::sync::Wait;
 fn answer_key<C: Calls>(
     rt: &impl Wait,
     calls: &mut C,
-    text: &mut Vec<u8>,
+    text: &mut ReplyText,
     key: Key,
     with_cas: bool,
     moment: u64,
@@ -39,10 +36,10 @@ fn answer_key<C: Calls>(
     ensures full { IsErrOf result faults.HistoryFull → C.is_full calls.new }
 {
     let start = text.len();
-    push_value_head(text, key.bytes())?;
+    text.push_value_head(key.bytes())?;
     let reply = calls.command(rt, Command::Get(key), moment)?;
     match &reply {
-        Reply::Value { .. } => push_value_tail(text, &reply, with_cas)?,
+        Reply::Value { .. } => text.push_value_tail(&reply, with_cas)?,
         _ => text.truncate(start),
     }
     Ok(())
@@ -52,7 +49,7 @@ fn answer_key<C: Calls>(
 fn answer_keys<C: Calls>(
     rt: &impl Wait,
     calls: &mut C,
-    text: &mut Vec<u8>,
+    text: &mut ReplyText,
     keys: Vec<Key>,
     with_cas: bool,
     moment: u64,
@@ -70,7 +67,7 @@ fn answer_keys<C: Calls>(
     for key in keys {
         answer_key(rt, calls, text, key, with_cas, moment)?;
     }
-    push_end(text)?;
+    text.push_end()?;
     Ok(())
 }
 
@@ -78,7 +75,7 @@ fn answer_keys<C: Calls>(
 fn answer_lone_key<C: Calls>(
     rt: &impl Wait,
     calls: &mut C,
-    text: &mut Vec<u8>,
+    text: &mut ReplyText,
     key: Key,
     with_cas: bool,
     moment: u64,
@@ -94,7 +91,7 @@ fn answer_lone_key<C: Calls>(
     ensures full { IsErrOf result faults.HistoryFull → C.is_full calls.new }
 {
     answer_key(rt, calls, text, key, with_cas, moment)?;
-    push_end(text)?;
+    text.push_end()?;
     Ok(())
 }
 
@@ -102,7 +99,7 @@ fn answer_lone_key<C: Calls>(
 fn answer_get<C: Calls>(
     rt: &impl Wait,
     calls: &mut C,
-    text: &mut Vec<u8>,
+    text: &mut ReplyText,
     keys: Keys,
     with_cas: bool,
     moment: u64,
@@ -124,21 +121,21 @@ fn answer_get<C: Calls>(
 }
 
 // A reply's text, unless it is quiet.
-fn push_unless(text: &mut Vec<u8>, reply: &Reply, quiet: bool) -> Result<(), NoMemory>
+fn push_unless(text: &mut ReplyText, reply: &Reply, quiet: bool) -> Result<(), NoMemory>
     ensures ok { OnOk result (text.new.items ≡ text.old.items ++ (if quiet then [] else reply_text reply.now)) }
     ensures err { OnErr result (text.new.items ≡ text.old.items) }
 {
     if quiet {
         return Ok(());
     }
-    push_reply(text, reply)
+    text.push_reply(reply)
 }
 
 // Any other command.
 fn answer_one<C: Calls>(
     rt: &impl Wait,
     calls: &mut C,
-    text: &mut Vec<u8>,
+    text: &mut ReplyText,
     command: Command,
     quiet: bool,
     moment: u64,
@@ -159,12 +156,12 @@ fn answer_one<C: Calls>(
 }
 
 // The text of a refused line or block, unless it is quiet.
-fn refuse(text: &mut Vec<u8>, why: LineFault, quiet: bool) -> Result<(), Fault>
+fn refuse(text: &mut ReplyText, why: LineFault, quiet: bool) -> Result<(), Fault>
     ensures ok { OnOk result (text.new.items ≡ text.old.items ++ (if quiet then [] else fault_text why)) }
     ensures err { IfErr result (λ e. (e ≡ faults.NoMemory) × (text.new.items ≡ text.old.items)) }
 {
     if !quiet {
-        push_fault(text, why)?;
+        text.push_fault(why)?;
     }
     Ok(())
 }
@@ -174,7 +171,7 @@ fn answer_whole<C: Calls>(
     rt: &impl Wait,
     limits: Limits,
     calls: &mut C,
-    text: &mut Vec<u8>,
+    text: &mut ReplyText,
     request: Request,
     moment: &mut u64,
 ) -> Result<(), Fault>
@@ -212,7 +209,7 @@ pub fn answer_request<C: Calls>(
     rt: &impl Wait,
     limits: Limits,
     calls: &mut C,
-    text: &mut Vec<u8>,
+    text: &mut ReplyText,
     request: Request,
     moment: &mut u64,
 ) -> Result<(), Fault>

@@ -9,7 +9,7 @@ ghost use Rattle.mc_script.specs.Script.{AllThere, classes_from, classes_of};
 
 use crate::calls::Calls;
 use mc_item::{ClassNo, Fault, Histogram};
-use mc_proto::{Limits, Target, push_histogram};
+use mc_proto::{Limits, ReplyText, Target};
 use std::sync::Wait;
 
 // So many classes from one on, in rising number. The answer is the sum of their histograms.
@@ -71,7 +71,7 @@ pub fn answer_crawl<C: Calls>(
     rt: &impl Wait,
     limits: Limits,
     calls: &mut C,
-    text: &mut Vec<u8>,
+    text: &mut ReplyText,
     target: Target,
     moment: u64,
 ) -> Result<(), Fault>
@@ -88,6 +88,6 @@ pub fn answer_crawl<C: Calls>(
     ensures full { IsErrOf result faults.HistoryFull → C.is_full calls.new }
 {
     let histogram = crawl_target(rt, limits, calls, target, moment)?;
-    push_histogram(text, &histogram)?;
+    text.push_histogram(&histogram)?;
     Ok(())
 }

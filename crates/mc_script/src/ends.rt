@@ -3,7 +3,7 @@ ghost use Rattle.std.specs.Prelude.{◌≡◌, ◌++◌, ◌<◌, ℕ, List, [],
 ghost use Rattle.mc_proto.specs.Text.{IsBeginning};
 
 use crate::source::{Source, SourceFault};
-use mc_proto::{Sink, SinkFault};
+use mc_proto::{ReplyText, Sink, SinkFault};
 
 /// Where a script's bytes come from and where its texts go. Contracts see the bytes to come and those that were taken,
 /// count failures of both sides, and how often the end was reached. When the next piece may be asked for, each type says.
@@ -31,7 +31,7 @@ pub trait Ends: Drop {
         ensures writes { writes self.new ≡ writes self.old };
 
     /// Takes a whole text, and leaves an empty one. After a fault a beginning of it was taken, and nothing else.
-    fn put_whole(&mut self, text: &mut Vec<u8>) -> Result<(), SinkFault>
+    fn put_whole(&mut self, text: &mut ReplyText) -> Result<(), SinkFault>
         ensures ok { OnOk result ((taken self.new ≡ taken self.old ++ text.old.items) × (text.new.items ≡ [])) }
         ensures fine { OnOk result (writes self.new ≡ writes self.old) }
         ensures err { OnErr result ((writes self.old < writes self.new) × IsBeginning (taken self.old) (taken self.new) text.old.items) }
@@ -64,7 +64,7 @@ impl<S: Source, K: Sink> Ends for Both<S, K> {
         self.source.piece()
     }
 
-    fn put_whole(&mut self, text: &mut Vec<u8>) -> Result<(), SinkFault> {
+    fn put_whole(&mut self, text: &mut ReplyText) -> Result<(), SinkFault> {
         self.sink.put_whole(text)
     }
 }

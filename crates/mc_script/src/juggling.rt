@@ -9,7 +9,7 @@ ghost use Rattle.mc_script.specs.Script.{AllThere, classes_from, classes_of};
 
 use crate::calls::Calls;
 use mc_item::{ClassNo, Fault, Moves};
-use mc_proto::{Limits, Target, push_moves};
+use mc_proto::{Limits, ReplyText, Target};
 use std::sync::Wait;
 
 // So many classes from one on, in rising number. The answer is the sums of their moves.
@@ -75,7 +75,7 @@ pub fn answer_juggle<C: Calls>(
     rt: &impl Wait,
     limits: Limits,
     calls: &mut C,
-    text: &mut Vec<u8>,
+    text: &mut ReplyText,
     target: Target,
     moment: u64,
 ) -> Result<(), Fault>
@@ -92,6 +92,6 @@ pub fn answer_juggle<C: Calls>(
     ensures full { IsErrOf result faults.HistoryFull → C.is_full calls.new }
 {
     let moves = juggle_target(rt, limits, calls, target, moment)?;
-    push_moves(text, &moves)?;
+    text.push_moves(&moves)?;
     Ok(())
 }

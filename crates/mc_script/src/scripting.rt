@@ -12,7 +12,7 @@ use crate::calls::Calls;
 use crate::ends::Ends;
 use crate::outcome::Outcome;
 use mc_item::Fault;
-use mc_proto::{Limits, Reader, Request, SinkFault};
+use mc_proto::{Limits, Reader, ReplyText, Request, SinkFault};
 use std::alloc::Global;
 use std::sync::Wait;
 
@@ -45,19 +45,22 @@ fn ends_script(request: &Request) -> bool
     }
 }
 
-// Prints what is gathered.
-fn print_text<E: Ends>(ends: &mut E, text: &mut Vec<u8>) -> Result<(), SinkFault>
+// Prints what is gathered, if anything is.
+fn print_text<E: Ends>(ends: &mut E, text: &mut ReplyText) -> Result<(), SinkFault>
     ensures ok { OnOk result ((E.taken ends.new ≡ E.taken ends.old ++ text.old.items) × (text.new.items ≡ []) × (E.writes ends.new ≡ E.writes ends.old)) }
     ensures err { OnErr result ((E.writes ends.old < E.writes ends.new) × IsBeginning (E.taken ends.old) (E.taken ends.new) text.old.items) }
     ensures coming { E.coming ends.new ≡ E.coming ends.old }
     ensures reads { E.reads ends.new ≡ E.reads ends.old }
     ensures over { E.over ends.new ≡ E.over ends.old }
 {
+    if text.len() == 0 {
+        return Ok(());
+    }
     ends.put_whole(text)
 }
 
 // Prints what is gathered, where it is much.
-fn print_much<E: Ends>(ends: &mut E, text: &mut Vec<u8>) -> Result<(), SinkFault>
+fn print_much<E: Ends>(ends: &mut E, text: &mut ReplyText) -> Result<(), SinkFault>
     ensures ok { OnOk result ((more : List ℕ) × (E.taken ends.new ≡ E.taken ends.old ++ more) × (text.old.items ≡ more ++ text.new.items)) }
     ensures fine { OnOk result (E.writes ends.new ≡ E.writes ends.old) }
     ensures err { OnErr result ((E.writes ends.old < E.writes ends.new) × IsBeginning (E.taken ends.old) (E.taken ends.new) text.old.items) }
@@ -77,7 +80,7 @@ fn answer_all<E: Ends, C: Calls>(
     limits: Limits,
     calls: &mut C,
     ends: &mut E,
-    text: &mut Vec<u8>,
+    text: &mut ReplyText,
     requests: Vec<Request>,
     moment: &mut u64,
 ) -> Progress
@@ -128,7 +131,7 @@ fn answer_piece<E: Ends, C: Calls>(
     limits: Limits,
     calls: &mut C,
     ends: &mut E,
-    text: &mut Vec<u8>,
+    text: &mut ReplyText,
     requests: Vec<Request>,
     moment: &mut u64,
 ) -> Option<Outcome>
@@ -192,7 +195,7 @@ pub fn run_script<E: Ends, C: Calls>(
     ensures done { result ≡ outcomes.Done → C.may_call calls.new }
 {
     let mut reader = Reader::new(alloc, limits);
-    let mut text = Vec::new(alloc);
+    let mut text = ReplyText::new(alloc);
     let mut moment = 1000;
     for _ in rt.forever() {
         let piece = match ends.piece() {

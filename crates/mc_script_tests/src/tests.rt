@@ -2,7 +2,7 @@
 ghost use Rattle.std.specs.Prelude.{◌≡◌};
 
 use mc_item::{ClassNo, Command, Fault, Histogram, Moves, Reply};
-use mc_proto::{Limits, Sink, SinkFault};
+use mc_proto::{Limits, ReplyText, Sink, SinkFault};
 use mc_script::{Both, Calls, Outcome, Source, SourceFault, run_script};
 use std::alloc::Global;
 use std::process::Abort;
@@ -153,11 +153,9 @@ impl<R: Abort> Sink for Kept<'_, R> {
         Ok(bytes.len())
     }
 
-    fn put_whole(&mut self, text: &mut Vec<u8>) -> Result<(), SinkFault> {
-        self.bytes
-            .extend_from_slice(text.as_slice())
-            .expect(self.rt, "memory");
-        text.clear();
+    fn put_whole(&mut self, text: &mut ReplyText) -> Result<(), SinkFault> {
+        text.copy_behind(&mut self.bytes).expect(self.rt, "memory");
+        text.truncate(0);
         Ok(())
     }
 }

@@ -3,9 +3,9 @@ ghost use Rattle.std.specs.Prelude.{List, ℕ, ◌≡◌, ◌<◌};
 
 use mc_item::{Histogram, Key, Moves, Reply, Value};
 use mc_proto::{
-    Keys, LineFault, Sink, SinkFault, fault_text, histogram_text, moves_text, push_end, push_fault,
-    push_histogram, push_moves, push_reply, push_value_head, push_value_tail, reply_text,
-    value_text, write_reply, write_whole,
+    Keys, LONG, LineFault, ReplyText, Sink, SinkFault, fault_text, histogram_text, moves_text,
+    push_end, push_fault, push_histogram, push_moves, push_reply, push_value_head, push_value_tail,
+    reply_text, value_text, write_reply, write_whole,
 };
 use std::alloc::Global;
 use std::process::Abort;
@@ -257,14 +257,12 @@ impl<R: Abort> Sink for Slow<'_, R> {
     }
 
     // It takes a text at once that isn't handed to it by `put`.
-    fn put_whole(&mut self, text: &mut Vec<u8>) -> Result<(), SinkFault> {
+    fn put_whole(&mut self, text: &mut ReplyText) -> Result<(), SinkFault> {
         if self.most == 0 {
             return Err(self.fail());
         }
-        self.taken
-            .extend_from_slice(text.as_slice())
-            .expect(self.rt, "memory");
-        text.clear();
+        text.copy_behind(&mut self.taken).expect(self.rt, "memory");
+        text.truncate(0);
         Ok(())
     }
 }
@@ -297,14 +295,106 @@ fn a_sink_that_takes_a_little_gets_the_whole(rt: HostRuntime) {
 fn a_text_that_is_written_whole_is_cleared(rt: HostRuntime) {
     for most in 0..9 {
         let mut sink = new_sink(&rt, rt.alloc(), most);
-        let mut text = Vec::from_slice(rt.alloc(), b"STORED\r\n").expect(&rt, "memory");
+        let mut text = ReplyText::new(rt.alloc());
+        text.push_reply(&Reply::Stored).expect(&rt, "memory");
         let written = write_whole(&mut sink, &mut text);
         assert_eq!(rt; written.is_ok(), 0 < most);
         if 0 < most {
             assert_eq!(rt; sink.taken.as_slice(), b"STORED\r\n".as_slice());
-            assert!(rt; text.is_empty());
+            assert_eq!(rt; text.len(), 0);
         } else {
             assert!(rt; sink.taken.is_empty());
         }
+    }
+}
+
+// A text with two values of so many letters `y`, a miss between them, and what it has to be.
+fn two_values(rt: &impl Abort, alloc: Global, count: usize) -> (ReplyText, Vec<u8>) {
+    let mut letters = Vec::new(alloc);
+    letters.resize(count, b'y').expect(rt, "memory");
+    let reply = value(rt, alloc, letters.as_slice());
+    let mut text = ReplyText::new(alloc);
+    let mut wanted = Vec::new(alloc);
+    for with_cas in [false, true] {
+        text.push_value_head(b"k").expect(rt, "memory");
+        text.push_value_tail(&reply, with_cas).expect(rt, "memory");
+        text.push_value_tail(&Reply::Miss, with_cas)
+            .expect(rt, "memory");
+        let line = if with_cas {
+            format!(in alloc; "VALUE k 4294967295 {count} 18446744073709551615\r\n")
+        } else {
+            format!(in alloc; "VALUE k 4294967295 {count}\r\n")
+        };
+        let line = line.expect(rt, "memory");
+        wanted
+            .extend_from_slice(line.as_bytes())
+            .expect(rt, "memory");
+        wanted
+            .extend_from_slice(letters.as_slice())
+            .expect(rt, "memory");
+        wanted.extend_from_slice(b"\r\n").expect(rt, "memory");
+    }
+    text.push_end().expect(rt, "memory");
+    wanted.extend_from_slice(b"END\r\n").expect(rt, "memory");
+    (text, wanted)
+}
+
+#[test]
+fn a_long_value_is_shared_and_reads_the_same(rt: HostRuntime) {
+    for (count, shared) in [(LONG - 1, 0), (LONG, 4), (LONG + 1, 4)] {
+        let (text, wanted) = two_values(&rt, rt.alloc(), count);
+        assert_eq!(rt; text.len(), wanted.len());
+        assert_eq!(rt; text.lying().0.len(), shared);
+        let mut copy = Vec::new(rt.alloc());
+        text.copy_behind(&mut copy).expect(&rt, "memory");
+        assert_eq!(rt; copy.as_slice(), wanted.as_slice());
+    }
+}
+
+#[test]
+fn a_text_with_long_values_ends_at_any_place(rt: HostRuntime) {
+    let len = two_values(&rt, rt.alloc(), LONG).1.len();
+    for end in [
+        0,
+        5,
+        28,
+        29,
+        30,
+        4000,
+        4125,
+        4126,
+        4200,
+        8300,
+        len - 1,
+        len,
+        len + 1,
+    ] {
+        let (mut text, wanted) = two_values(&rt, rt.alloc(), LONG);
+        text.truncate(end);
+        text.push_end().expect(&rt, "memory");
+        let mut copy = Vec::new(rt.alloc());
+        text.copy_behind(&mut copy).expect(&rt, "memory");
+        let (front, _) = wanted.as_slice().split_at(end.min(len));
+        assert_eq!(rt; copy.len(), front.len() + 5);
+        assert_eq!(rt; copy.as_slice().split_at(front.len()).0, front);
+    }
+}
+
+#[test]
+fn a_text_moves_behind_others_and_is_empty(rt: HostRuntime) {
+    for count in [3, LONG] {
+        let (mut text, wanted) = two_values(&rt, rt.alloc(), count);
+        let mut parts = Vec::new(rt.alloc());
+        text.move_behind(&mut parts, 100).expect(&rt, "memory");
+        assert_eq!(rt; text.len(), 0);
+        text.push_end().expect(&rt, "memory");
+        text.move_behind(&mut parts, 100).expect(&rt, "memory");
+        let mut moved = Vec::new(rt.alloc());
+        for part in parts.as_slice() {
+            moved.extend_from_slice(part.bytes()).expect(&rt, "memory");
+        }
+        let (front, back) = moved.as_slice().split_at(wanted.len());
+        assert_eq!(rt; front, wanted.as_slice());
+        assert_eq!(rt; back, b"END\r\n".as_slice());
     }
 }

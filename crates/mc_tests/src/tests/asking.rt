@@ -4,7 +4,7 @@ ghost use Rattle.std.specs.Prelude.{◌≡◌, ◌<◌};
 use super::supplies::{Pieces, Slow};
 use mc_driver::Outcome;
 use mc_item::{ClassNo, Command, Fault, Histogram, Moves, Reply};
-use mc_proto::{Limits, Sink, SinkFault};
+use mc_proto::{Limits, ReplyText, Sink, SinkFault};
 use mc_script::{Calls, Ends, Source, SourceFault, run_script};
 use std::alloc::Global;
 use std::marker::Brand;
@@ -57,7 +57,7 @@ impl<L: Ledger> Ends for Watched<'_, L> {
         Ok(piece)
     }
 
-    fn put_whole(&mut self, text: &mut Vec<u8>) -> Result<(), SinkFault> {
+    fn put_whole(&mut self, text: &mut ReplyText) -> Result<(), SinkFault> {
         self.sink.put_whole(text)
     }
 }

@@ -7,7 +7,7 @@ use super::{lines, seed_of};
 use mc_driver::{Outcome, Run, RunFault, Source, SourceFault, run_scripts};
 use mc_history::History;
 use mc_item::{ClassEvent, ClassNo, Config, Key, Numbers, Reply, StripeEvent, StripeNo};
-use mc_proto::{Sink, SinkFault};
+use mc_proto::{ReplyText, Sink, SinkFault};
 use mc_segment::ClassNoted;
 use mc_stripe::Noted;
 use std::alloc::Global;
@@ -55,12 +55,10 @@ impl<R: Abort> Sink for Told<'_, R> {
         Ok(bytes.len())
     }
 
-    fn put_whole(&mut self, text: &mut Vec<u8>) -> Result<(), SinkFault> {
-        self.bytes
-            .extend_from_slice(text.as_slice())
-            .expect(self.rt, "memory");
+    fn put_whole(&mut self, text: &mut ReplyText) -> Result<(), SinkFault> {
+        text.copy_behind(&mut self.bytes).expect(self.rt, "memory");
         self.signs.took.store(true, Ordering::SeqCst);
-        text.clear();
+        text.truncate(0);
         Ok(())
     }
 }

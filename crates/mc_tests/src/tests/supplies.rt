@@ -2,7 +2,7 @@
 ghost use Rattle.std.specs.Prelude.{◌≡◌, ◌+◌, ◌<◌, ◌≤◌, [], false};
 
 use mc_driver::{Source, SourceFault};
-use mc_proto::{Sink, SinkFault, write_whole};
+use mc_proto::{ReplyText, Sink, SinkFault, write_whole};
 use std::alloc::Global;
 use std::sync::ledger::{Blank, Book, Ledger, Share};
 
@@ -131,10 +131,10 @@ impl<L: Ledger> Sink for Little<L> {
         }
     }
 
-    fn put_whole(&mut self, text: &mut Vec<u8>) -> Result<(), SinkFault> {
-        match self.bytes.extend_from_slice(text.as_slice()) {
+    fn put_whole(&mut self, text: &mut ReplyText) -> Result<(), SinkFault> {
+        match text.copy_behind(&mut self.bytes) {
             Ok(()) => {
-                text.clear();
+                text.truncate(0);
                 Ok(())
             }
             Err(_) => Err(self.fail()),
@@ -179,7 +179,7 @@ impl<L: Ledger> Sink for Slow<L> {
         self.little.put(bytes)
     }
 
-    fn put_whole(&mut self, text: &mut Vec<u8>) -> Result<(), SinkFault> {
+    fn put_whole(&mut self, text: &mut ReplyText) -> Result<(), SinkFault> {
         write_whole(&mut self.little, text)
     }
 }

@@ -48,4 +48,4 @@ returns-in_err-push_end-clause-err g c = λ limits.
 pub returns-clause-ok : goal.returns-clause-ok
 returns-clause-ok g c =
     let whole = all_taken c.args.keys.items c.into_iter-key-iterator.result c.loop-key.yielded c.loop-key.key-iterator c.into_iter-key-iterator.ensures.into_iter_gives.0 (c.into_iter-key-iterator.ensures.into_iter_gives.1 ∙ c.args.keys.ok.0) c.loop-key.yielded_by c.in-None.ensures.steps.0 in
-    keys_all c.args.keys.items c.loop-key.yielded c.args.with_cas _ _ _ _ _ _ c.args.text.now.items c.loop-key.text.items c.push_end.new.out.items whole c.loop-key.invariant.keys c.in_ok-push_end.ensures.ok
+    keys_all c.args.keys.items c.loop-key.yielded c.args.with_cas _ _ _ _ _ _ c.args.text.now.items c.loop-key.text.items c.push_end.new.self.items whole c.loop-key.invariant.keys c.in_ok-push_end.ensures.ok

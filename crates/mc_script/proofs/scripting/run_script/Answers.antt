@@ -1,4 +1,4 @@
-use Rattle.std.proofs.Common.{◌++◌, ◌<◌, List, ℕ, sym, ap, ◌∙◌, refl, arith, subst, inr}
+use Rattle.std.proofs.Common.{◌<◌, List, ℕ, sym, ◌∙◌, refl, arith, subst, inr}
 use Rattle.std.specs.Prelude.{All}
 use Rattle.mc_proto.specs.Grammar.{IsModerate}
 use Rattle.mc_proto.specs.declared.request.Limits.{Limits}

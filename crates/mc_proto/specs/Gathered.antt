@@ -1,0 +1,22 @@
+-- Texts as they are gathered: parts that have bytes of their own, and parts that are the bytes of a value (own).
+use Rattle.std.specs.Prelude.{ℕ, List, ◌++◌, take}
+use Rattle.std.specs.List.{flat_map}
+use Rattle.mc_proto.specs.declared.gathering.TextPart.{TextPart}
+use Rattle.mc_proto.specs.declared.gathering.TextPart.TheVariants.{Own, Shared}
+
+-- the bytes of a part: its own, or the first so many of a value
+abbrev pub part_bytes : TextPart → List ℕ
+part_bytes (Own bytes) = bytes.items
+part_bytes (Shared value count) = take count value
+
+-- the bytes of parts, one after the other
+abbrev pub bytes_of : List TextPart → List ℕ
+bytes_of parts = flat_map part_bytes parts
+
+-- a text as contracts see it: its bytes
+pub record Gathered : Type 0 where
+  pub items : List ℕ
+
+-- the text that is these parts, and these bytes behind them
+abbrev pub gathered : List TextPart → List ℕ → Gathered
+gathered parts last = record { items = bytes_of parts ++ last }
