@@ -112,7 +112,8 @@ fn events_of(row: Row) -> (usize, usize) {
 
 // Whether the class's last event says why, where a row moves an entry: for bytes or age it cites the survey.
 fn is_said(world: &World, row: Row, survey: Survey) -> bool {
-    let why = match last_event(world) {
+    let event = last_event(world);
+    let why = match &event {
         Some(ClassEvent::Shifted(shifted)) => Some(shifted.why),
         _ => None,
     };

@@ -231,7 +231,8 @@ pub(super) fn last_event(world: &World) -> Option<ClassEvent> {
 /// What a class's last event says.
 pub(super) fn last_of_class(world: &World) -> Result<String, Fail> {
     let alloc = world.alloc;
-    match last_event(world) {
+    let event = last_event(world);
+    match &event {
         Some(ClassEvent::Evicted(e)) => {
             Ok(format!(in alloc;
                 "evicts {} past {:?} at {}",
