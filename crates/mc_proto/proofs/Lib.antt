@@ -9,7 +9,10 @@ mod QuickLemmas
 pub mod RestLemmas
 pub mod StreamLemmas
 pub mod SplitLemmas
-pub mod PercentLemmas
+pub mod NextLemmas
 mod PlainLemmas
+mod FirstLemmas
+mod UncutLemmas
+mod DividingLemmas
 pub mod TextLemmas
 mod GatheringLemmas

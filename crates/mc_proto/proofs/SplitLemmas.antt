@@ -135,18 +135,16 @@ pub whole_none : (limits : Limits) → IsWhole limits []
 whole_none limits = record { requests = []; spelt = refl; others = All-nil IsOther; reads_on = refl }
 
 -- a whole script, and one request more
+pub whole_on : (limits : Limits) (front back : List ℕ) (r : Request) → IsWhole limits front → Spells limits back r → closes r ≡ false → IsOther r → IsWhole limits (front ++ back)
+whole_on limits front back r w sp stays other = record {
+  requests = w.requests ++ r ∷ [];
+  spelt = spelt_push limits (front ++ back) w.requests back back [] r (spelt_on limits front w.requests [] back w.spelt) w.reads_on (sym (append-nil back)) sp;
+  others = All-push IsOther w.requests r w.others other;
+  reads_on = closed_push w.requests r false w.reads_on stays;
+}
+
 pub whole_more : (limits : Limits) (bytes : List ℕ) (m n : ℕ) (r : Request) → IsWhole limits (take m bytes) → Spells limits (take n (drop m bytes)) r → closes r ≡ false → IsOther r → IsWhole limits (take (m + n) bytes)
-whole_more limits bytes m n r w sp stays other =
-    let front : List ℕ = take m bytes in
-    let back : List ℕ = take n (drop m bytes) in
-    rw (take-add m n bytes)
-    (record {
-      requests = w.requests ++ r ∷ [];
-      spelt = spelt_push limits (take m bytes ++ take n (drop m bytes)) w.requests (take n (drop m bytes)) (take n (drop m bytes)) [] r
-          (spelt_on limits (take m bytes) w.requests [] (take n (drop m bytes)) w.spelt) w.reads_on (sym (append-nil (take n (drop m bytes)))) sp;
-      others = All-push IsOther w.requests r w.others other;
-      reads_on = closed_push w.requests r false w.reads_on stays;
-    })
+whole_more limits bytes m n r w sp stays other = rw (take-add m n bytes) (whole_on limits (take m bytes) (take n (drop m bytes)) r w sp stays other)
 
 -- requests, and others behind them
 spelt_both : (limits : Limits) (a b rest : List ℕ) (rs qs : List Request) → Spelt limits a rs [] → closed rs ≡ false → Spelt limits b qs rest → Spelt limits (a ++ b) (rs ++ qs) rest
@@ -161,18 +159,19 @@ closed_behind [] qs stays off = off
 closed_behind (r ∷ rs) qs stays off = closed_behind rs qs (parts (closes r) (closed rs) stays).1 (parts (closes r) (closed (rs ++ qs)) off).1
 
 -- the last script is all of a stream, where what is behind the requests so far is its end
+pub last_on : (limits : Limits) (front back : List ℕ) → IsWhole limits front → IsLast limits back → IsLast limits (front ++ back)
+last_on limits front back w last = record {
+  requests = w.requests ++ last.requests;
+  rest = last.rest;
+  reads = record {
+    spelt = spelt_both limits front back last.rest w.requests last.requests w.spelt w.reads_on last.reads.spelt;
+    all = λ off. last.reads.all (closed_behind w.requests last.requests w.reads_on off);
+  };
+  others = All-append IsOther w.requests last.requests w.others last.others;
+}
+
 pub last_behind : (limits : Limits) (bytes : List ℕ) (m : ℕ) → IsWhole limits (take m bytes) → IsLast limits (drop m bytes) → IsLast limits bytes
-last_behind limits bytes m w last =
-    subst (IsLast limits) (take-append-drop m bytes)
-    (record {
-      requests = w.requests ++ last.requests;
-      rest = last.rest;
-      reads = record {
-        spelt = spelt_both limits (take m bytes) (drop m bytes) last.rest w.requests last.requests w.spelt w.reads_on last.reads.spelt;
-        all = λ off. last.reads.all (closed_behind w.requests last.requests w.reads_on off);
-      };
-      others = All-append IsOther w.requests last.requests w.others last.others;
-    })
+last_behind limits bytes m w last = subst (IsLast limits) (take-append-drop m bytes) (last_on limits (take m bytes) (drop m bytes) w last)
 
 stands_at : (limits : Limits) (bytes back : List ℕ) (m : ℕ) (f g : First) → back ≡ drop m bytes → f ≡ g → StandsFirst limits back f → StandsFirst limits (drop m bytes) g
 stands_at limits bytes back m f g is told st = subst (λ (k : First). StandsFirst limits (drop m bytes) k) told (subst (λ (t : List ℕ). StandsFirst limits t f) is st)

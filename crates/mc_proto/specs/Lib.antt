@@ -5,6 +5,7 @@ pub mod Table
 pub mod Grammar
 pub mod Reader
 pub mod Scripts
+pub mod Uncut
 pub mod Text
 pub mod Answers
 pub mod Gathered

@@ -1,5 +1,5 @@
 -- Lines, their tokens, and what tokens say: words, keys, numbers, exptimes and slab classes (protocol.txt; the limits are this profile's own).
-use Rattle.std.specs.Prelude.{ℕ, ◌-◌, ◌<◌, ◌≡◌, ◌==◌, ◌&&◌, List, [], ◌∷◌, ◌++◌, Bool, if◌then◌else◌, Option, Some, None, length, get_or, take, nat_lt, nat_le, nat_eq, is_none, codes, ℤ, pos, neg_ℤ}
+use Rattle.std.specs.Prelude.{ℕ, ◌-◌, ◌<◌, ◌≡◌, ◌==◌, ◌&&◌, List, [], ◌∷◌, ◌++◌, Bool, true, false, if◌then◌else◌, Option, Some, None, length, get_or, take, nat_lt, nat_le, nat_eq, is_none, codes, ℤ, pos, neg_ℤ}
 use Rattle.std.specs.Cmp.Lexicographic.{pointwise}
 use Rattle.std.specs.List.{list_all}
 use Rattle.std.specs.Option.{option_map}
@@ -13,6 +13,20 @@ use Rattle.mc_proto.specs.declared.request.Target.TheVariants.{All, Class}
 abbrev pub Lacks : ℕ → List ℕ → Type 0
 Lacks b [] = Unit {0}
 Lacks b (c ∷ cs) = (c ≡ b → ⊥) × Lacks b cs
+
+-- no % stands straight before an n, also not one that stands before the bytes, where one does
+abbrev pub LacksNextBehind : Bool → List ℕ → Type 0
+LacksNextBehind after [] = Unit {0}
+LacksNextBehind after (b ∷ bs) = (after ≡ true → b ≡ 110 → ⊥) × LacksNextBehind (b == 37) bs
+
+-- no % stands straight before an n, as in the line that begins the next script
+abbrev pub LacksNext : List ℕ → Type 0
+LacksNext bytes = LacksNextBehind false bytes
+
+-- whether a % ends the bytes, or stands before them where they are none
+abbrev pub is_after : Bool → List ℕ → Bool
+is_after after [] = after
+is_after after (b ∷ bs) = is_after (b == 37) bs
 
 -- the line without one CR at its end
 abbrev pub no_cr : List ℕ → List ℕ

@@ -1,5 +1,6 @@
 -- The scripts of an input: a line %next in the place of a command begins the next script (own).
 use Rattle.std.specs.Prelude.{◌≡◌, ◌<◌, ◌≤◌, ◌+◌, ◌⊎◌, List, [], ◌∷◌, ◌++◌, ℕ, Bool, true, false, Option, Some, None, All, length, take, drop}
+use Rattle.mc_proto.specs.Lines.{Lacks}
 use Rattle.mc_proto.specs.Grammar.{Spells, Spelt, Reads, closes, closed}
 use Rattle.mc_proto.specs.declared.request.Limits.{Limits}
 use Rattle.mc_proto.specs.declared.request.Request.{Request}
@@ -62,6 +63,21 @@ abbrev pub StandsFirst : Limits → List ℕ → First → Type 0
 StandsFirst limits stream (More n) = (0 < n) × (n ≤ length stream) × ((r : Request) × Spells limits (take n stream) r × (closes r ≡ false) × IsOther r)
 StandsFirst limits stream (Begins n) = (0 < n) × (n ≤ length stream) × Spells limits (take n stream) Next
 StandsFirst limits stream Last = IsLast limits stream
+
+-- how many bytes it has
+abbrev pub first_len : First → ℕ
+first_len (More n) = n
+first_len (Begins n) = n
+first_len Last = 0
+
+-- what the first line of a stream asks for: it stands first where the stream has so many bytes, and else nothing begins a script
+abbrev pub AsksFirst : Limits → List ℕ → First → Type 0
+AsksFirst limits stream f = (first_len f ≤ length stream → StandsFirst limits stream f) × (length stream < first_len f → IsLast limits stream)
+
+-- what the first line of a stream that begins with these bytes asks for, however it goes on; none where no line ends in them that isn't too long
+abbrev pub LineAsks : Limits → List ℕ → Option First → Type 0
+LineAsks limits bytes None = Lacks 10 bytes × (length bytes ≤ 65536)
+LineAsks limits bytes (Some f) = (more : List ℕ) → AsksFirst limits (bytes ++ more) f
 
 -- where the first script of a stream ends: behind so many bytes, before a line of so many bytes; or where the stream ends
 abbrev pub EndsFirst : Limits → List ℕ → Option End → Type 0

@@ -1,17 +1,16 @@
 //! Cuts an input into scripts, at each line `%next` that stands in the place of a command.
-ghost use Rattle.std.specs.Prelude.{◌≡◌, ◌∷◌, [], true, IfOk, map};
+ghost use Rattle.std.specs.Prelude.{◌≡◌, true, IfOk, map};
 ghost use Rattle.mc_proto.specs.Grammar.{IsFine, wanted};
-ghost use Rattle.mc_proto.specs.Lines.{Lacks};
 ghost use Rattle.mc_proto.specs.Scripts as scripts;
 ghost use Rattle.mc_proto.specs.declared.request.Limits.{Limits};
 
+use crate::lacking::lacks_next;
 use crate::line::said_of;
 use crate::request::{Limits, Request};
 use crate::state::Said;
 use crate::taking::MAX_LINE;
 use crate::token::line_end;
 use mc_item::NoMemory;
-use memchr::memchr;
 use std::alloc::Global;
 
 /// What stands first in the bytes of a stream.
@@ -60,26 +59,54 @@ fn is_plain(byte: u8) -> bool
     byte == b'd' || byte == b'g' || byte == b'i' || byte == b't'
 }
 
+// How many bytes it has.
+pub(crate) fn first_len(first: &First) -> usize
+    ensures { result ≡ scripts.first_len first.now }
+{
+    match first {
+        First::More(count) | First::Begins(count) => *count,
+        First::Last => 0,
+    }
+}
+
+// What the first line of a stream asks for that begins with these bytes, however it goes on; none where no line ends in
+// them that isn't too long.
+pub(crate) fn line_first(
+    alloc: Global,
+    limits: Limits,
+    bytes: &[u8],
+) -> Result<Option<First>, NoMemory>
+    ensures { IfOk result (λ f. scripts.LineAsks limits bytes.now f) }
+{
+    let end = line_end(bytes);
+    if end > MAX_LINE {
+        return Ok(Some(First::Last));
+    }
+    if end == bytes.len() {
+        return Ok(None);
+    }
+    if is_plain(bytes[0]) {
+        return Ok(Some(First::More(end + 1)));
+    }
+    let said = said_of(alloc, limits, bytes.split_at(end).0)?;
+    let count = end + 1 + block_len(&said);
+    if says_next(&said) {
+        return Ok(Some(First::Begins(count)));
+    }
+    Ok(Some(First::More(count)))
+}
+
 // What stands first. A line and its block are looked at alone.
 fn first_of(alloc: Global, limits: Limits, bytes: &[u8]) -> Result<First, NoMemory>
     ensures { IfOk result (λ f. scripts.StandsFirst limits bytes.now f) }
 {
-    let end = line_end(bytes);
-    if end > MAX_LINE || end == bytes.len() {
+    let Some(first) = line_first(alloc, limits, bytes)? else {
+        return Ok(First::Last);
+    };
+    if bytes.len() < first_len(&first) {
         return Ok(First::Last);
     }
-    if is_plain(bytes[0]) {
-        return Ok(First::More(end + 1));
-    }
-    let said = said_of(alloc, limits, bytes.split_at(end).0)?;
-    let count = end + 1 + block_len(&said);
-    if bytes.len() < count {
-        return Ok(First::Last);
-    }
-    if says_next(&said) {
-        return Ok(First::Begins(count));
-    }
-    Ok(First::More(count))
+    Ok(first)
 }
 
 // Where the first script of a stream ends; none where it is the last.
@@ -96,23 +123,11 @@ fn first_end(alloc: Global, limits: Limits, bytes: &[u8]) -> Result<Option<End>,
     }
 }
 
-/// Whether no byte is a percent sign. Then the input is one script, of which no line is a directive.
-pub fn lacks_directives(bytes: &[u8]) -> bool
-    ensures lacks { result ≡ true → Lacks 37 bytes.now }
-    ensures has { Lacks 37 bytes.now → result ≡ true }
-    ensures one { result ≡ true → (limits : Limits) → scripts.AreScripts limits bytes.now (bytes.now ∷ []) }
-{
-    match memchr(b'%', bytes) {
-        Some(_) => false,
-        None => true,
-    }
-}
-
-// The same; lines are looked at only where a byte is a percent sign.
+// The same; lines are looked at only where a `%` stands straight before an `n`.
 fn end_of_first(alloc: Global, limits: Limits, bytes: &[u8]) -> Result<Option<End>, NoMemory>
     ensures { IfOk result (λ e. scripts.EndsFirst limits bytes.now e) }
 {
-    if lacks_directives(bytes) {
+    if lacks_next(false, bytes) {
         return Ok(None);
     }
     first_end(alloc, limits, bytes)

@@ -1,7 +1,8 @@
 //! Inputs and the scripts that they are cut into, each with a `|` behind it.
 use crate::tests::show::limits;
-use mc_proto::split_scripts;
+use mc_proto::{split_pieces, split_scripts};
 use std::alloc::Global;
+use std::collections::VecDeque;
 use std::process::Abort;
 
 // The scripts of an input, each with a `|` behind it.
@@ -15,10 +16,39 @@ fn split(rt: &impl Abort, alloc: Global, input: &[u8]) -> Vec<u8> {
     out
 }
 
+// The pieces of an input, each of so many bytes, with the last one shorter.
+fn pieces_of(rt: &impl Abort, alloc: Global, input: &[u8], size: usize) -> VecDeque<Vec<u8>> {
+    let mut pieces = VecDeque::new(alloc);
+    for piece in input.chunks(size.max(1)) {
+        let copy = Vec::from_slice(alloc, piece).expect(rt, "memory");
+        pieces.push_back(copy).expect(rt, "memory");
+    }
+    pieces
+}
+
+// The same of an input in pieces.
+fn split_in(rt: &impl Abort, alloc: Global, input: VecDeque<Vec<u8>>) -> Vec<u8> {
+    let scripts = split_pieces(alloc, input, limits()).expect(rt, "memory");
+    let mut out = Vec::new(alloc);
+    for script in scripts {
+        for piece in script {
+            out.extend_from_slice(piece.as_slice()).expect(rt, "memory");
+        }
+        out.push(b'|').expect(rt, "memory");
+    }
+    out
+}
+
+// Each input is cut whole, in one piece, in pieces of a byte and in pieces of seven.
 fn compare(rt: &impl Abort, alloc: Global, cases: &[(&str, &[u8], &[u8])]) {
     for (name, input, want) in cases {
         let seen = split(rt, alloc, *input);
         assert_eq!(rt; seen.as_slice(), *want, "{name}");
+        for size in [1, 7, 1_000] {
+            let pieces = pieces_of(rt, alloc, *input, size);
+            let seen = split_in(rt, alloc, pieces);
+            assert_eq!(rt; seen.as_slice(), *want, "{name}, in pieces of {size}");
+        }
     }
 }
 
@@ -171,8 +201,34 @@ fn no_script_begins_behind_a_line_that_is_too_long(rt: HostRuntime) {
     );
     let seen = split(&rt, rt.alloc(), closed.as_slice());
     assert_eq!(rt; seen.as_slice(), one.as_slice());
+    let pieces = pieces_of(&rt, rt.alloc(), closed.as_slice(), 1_000);
+    let seen = split_in(&rt, rt.alloc(), pieces);
+    assert_eq!(rt; seen.as_slice(), one.as_slice());
     let fine = long(&rt, rt.alloc(), 65_536, after);
     let three = long(&rt, rt.alloc(), 65_536, b"\n|get a\n||".as_slice());
     let seen = split(&rt, rt.alloc(), fine.as_slice());
     assert_eq!(rt; seen.as_slice(), three.as_slice());
+    let pieces = pieces_of(&rt, rt.alloc(), fine.as_slice(), 1_000);
+    let seen = split_in(&rt, rt.alloc(), pieces);
+    assert_eq!(rt; seen.as_slice(), three.as_slice());
+}
+
+#[test]
+fn pieces_move_to_their_scripts(rt: HostRuntime) {
+    let alloc = rt.alloc();
+    let mut input = VecDeque::new(alloc);
+    for piece in [
+        b"get a\r\nget".as_slice(),
+        b"".as_slice(),
+        b" b\r\n%".as_slice(),
+        b"next\r\nset k 0 0 9\r\n%next".as_slice(),
+        b"\r\nxx\r\n%next\n%next\nget c\r\n".as_slice(),
+        b"get d".as_slice(),
+    ] {
+        let copy = Vec::from_slice(alloc, piece).expect(&rt, "memory");
+        input.push_back(copy).expect(&rt, "memory");
+    }
+    let seen = split_in(&rt, alloc, input);
+    let want = b"get a\r\nget b\r\n|set k 0 0 9\r\n%next\r\nxx\r\n||get c\r\nget d|".as_slice();
+    assert_eq!(rt; seen.as_slice(), want);
 }
