@@ -35,11 +35,11 @@ fn answer_kept<N: Named>(
     who: Who,
     command: Command,
     moment: u64,
-    plan: Plan,
+    plan: &mut Plan,
 ) -> Result<Reply, Fault>
     requires asked { HasAsked caller.old who command moment }
-    requires goes { GoesBy N.config own.old.stripe command moment plan }
-    requires kept { Fits plan.need rooms.Keep own.old.stripe.history }
+    requires goes { GoesBy N.config own.old.stripe command moment plan.old }
+    requires kept { Fits plan.old.need rooms.Keep own.old.stripe.history }
     ensures replied { IfOk result (IsReplied N.config who command moment own.old.stripe own.new.stripe own.new.sight caller.old.calls caller.new.calls) }
     ensures cut { OnErr result (IsCut N.config who command moment own.old.stripe own.new.stripe) }
     ensures unnoted { OnErr result (caller.new ≡ caller.old) }
@@ -72,13 +72,13 @@ fn answer_on_one<N: Named>(
     who: Who,
     command: Command,
     moment: u64,
-    plan: Plan,
+    plan: &mut Plan,
     class: ClassNo,
 ) -> Result<Reply, Fault>
     requires asked { HasAsked caller.old who command moment }
     requires begun { HasBegun N.config own.old.sight who moment }
-    requires goes { GoesBy N.config own.old.stripe command moment plan }
-    requires fresh { plan.need ≡ needs.Fresh class }
+    requires goes { GoesBy N.config own.old.stripe command moment plan.old }
+    requires fresh { plan.old.need ≡ needs.Fresh class }
     ensures replied { IfOk result (IsReplied N.config who command moment own.old.stripe own.new.stripe own.new.sight caller.old.calls caller.new.calls) }
     ensures cut { OnErr result (IsCut N.config who command moment own.old.stripe own.new.stripe) }
     ensures unnoted { OnErr result (caller.new ≡ caller.old) }
@@ -107,13 +107,13 @@ fn answer_on_two<N: Named>(
     who: Who,
     command: Command,
     moment: u64,
-    plan: Plan,
+    plan: &mut Plan,
     class: ClassNo,
 ) -> Result<Reply, Fault>
     requires asked { HasAsked caller.old who command moment }
     requires begun { HasBegun N.config own.old.sight who moment }
-    requires goes { GoesBy N.config own.old.stripe command moment plan }
-    requires fresh { plan.need ≡ needs.Fresh class }
+    requires goes { GoesBy N.config own.old.stripe command moment plan.old }
+    requires fresh { plan.old.need ≡ needs.Fresh class }
     requires rising { low.old.class.number.0 < high.old.class.number.0 }
     ensures replied { IfOk result (IsReplied N.config who command moment own.old.stripe own.new.stripe own.new.sight caller.old.calls caller.new.calls) }
     ensures cut { OnErr result (IsCut N.config who command moment own.old.stripe own.new.stripe) }
@@ -151,13 +151,13 @@ fn answer_fresh<N: Named>(
     who: Who,
     command: Command,
     moment: u64,
-    plan: Plan,
+    plan: &mut Plan,
     class: ClassNo,
 ) -> Result<Reply, Fault>
     requires asked { HasAsked caller.old who command moment }
     requires begun { HasBegun N.config own.old.sight who moment }
-    requires goes { GoesBy N.config own.old.stripe command moment plan }
-    requires fresh { plan.need ≡ needs.Fresh class }
+    requires goes { GoesBy N.config own.old.stripe command moment plan.old }
+    requires fresh { plan.old.need ≡ needs.Fresh class }
     ensures replied { IfOk result (IsReplied N.config who command moment own.old.stripe own.new.stripe own.new.sight caller.old.calls caller.new.calls) }
     ensures cut { OnErr result (IsCut N.config who command moment own.old.stripe own.new.stripe) }
     ensures unnoted { OnErr result (caller.new ≡ caller.old) }
@@ -198,11 +198,11 @@ pub(crate) fn answer_by_plan<N: Named>(
     who: Who,
     command: Command,
     moment: u64,
-    plan: Plan,
+    plan: &mut Plan,
 ) -> Result<Reply, Fault>
     requires asked { HasAsked caller.old who command moment }
     requires begun { HasBegun N.config own.old.sight who moment }
-    requires goes { GoesBy N.config own.old.stripe command moment plan }
+    requires goes { GoesBy N.config own.old.stripe command moment plan.old }
     ensures replied { IfOk result (IsReplied N.config who command moment own.old.stripe own.new.stripe own.new.sight caller.old.calls caller.new.calls) }
     ensures cut { OnErr result (IsCut N.config who command moment own.old.stripe own.new.stripe) }
     ensures unnoted { OnErr result (caller.new ≡ caller.old) }

@@ -11,7 +11,7 @@ ghost use Rattle.mc_store.specs.Commands.{IsCut, burial};
 ghost use Rattle.mc_store.specs.Needed.{IsNumberOf};
 ghost use Rattle.mc_store.specs.Calls.{IsCutBy, IsReplied, IsRepliedBy};
 ghost use Rattle.mc_store.specs.Passes.{next_who, HasAsked, caller_of};
-ghost use Rattle.mc_store.specs.Planned.{GoesBy};
+ghost use Rattle.mc_store.specs.Planned.{GoesBy, IsPlanIn};
 ghost use Rattle.mc_store.specs.Serving.{HasSeenShort, IsShort};
 ghost use Rattle.mc_store.specs.Locked.{HasBegun};
 ghost use Rattle.mc_store.specs.Callers.{asked_for};
@@ -58,9 +58,9 @@ fn bury_locked<N: Named>(
     bury_under(alloc, store, own, class, who, command.key(), link, moment)
 }
 
-// The dead item of a command's key goes, where there is one, and the command is planned behind that.
+// The dead item of a command's key goes, where the plan has one, and the command is planned again behind that.
 #[inline(always)]
-fn plan_alive<N: Named>(
+fn bury_dead<N: Named>(
     alloc: Global,
     store: &Store<N>,
     rt: &impl Wait,
@@ -68,23 +68,25 @@ fn plan_alive<N: Named>(
     who: Who,
     command: &Command,
     moment: u64,
-) -> Result<Plan, Fault>
+    plan: &mut Plan,
+) -> Result<(), Fault>
     requires own { stripe_of (key_of command.now) N.config.stripes ≡ record { 0 = own.old.stripe.site.stripe } }
     requires early { moment ≤ 2 ^ 62 }
     requires begun { HasBegun N.config own.old.sight who moment }
-    ensures goes { IfOk result (GoesBy N.config own.new.stripe command.now moment) }
+    requires plan { IsPlanIn N.config own.old.stripe command.now moment plan.old }
+    ensures goes { OnOk result (GoesBy N.config own.new.stripe command.now moment plan.new) }
     ensures sees { Grows own.old.sight own.new.sight }
     ensures buried { OnOk result (own.new.stripe.history ≡ own.old.stripe.history ++ burial who (key_of command.now) moment (dead_link ((cache_now own.old.stripe).items (key_of command.now)) moment)) }
     ensures err { OnErr result (own.new.stripe.history ≡ own.old.stripe.history) }
     ensures site { KeepsSite own.old.stripe own.new.stripe }
     ensures full { IsErrOf result HistoryFull → IsShort N.config own.new }
 {
-    let plan = plan_under(own, command, moment);
     match plan.dead {
-        None => Ok(plan),
+        None => Ok(()),
         Some(link) => {
             bury_locked(alloc, store, rt, own, who, command, link, moment)?;
-            Ok(plan_under(own, command, moment))
+            *plan = plan_under(own, command, moment);
+            Ok(())
         }
     }
 }
@@ -112,8 +114,13 @@ fn command_planned<N: Named>(
     ensures site { KeepsSite own.old.stripe own.new.stripe }
     ensures full { IsErrOf result HistoryFull → IsShort N.config own.new }
 {
-    let plan = plan_alive(alloc, store, rt, own, who, &command, moment)?;
-    answer_by_plan(alloc, store, rt, own, caller, who, command, moment, plan)
+    let mut plan = plan_under(own, &command, moment);
+    bury_dead(
+        alloc, store, rt, own, who, &command, moment, &mut plan,
+    )?;
+    answer_by_plan(
+        alloc, store, rt, own, caller, who, command, moment, &mut plan,
+    )
 }
 
 // The same, once the stripe is told that the command was asked for.

@@ -50,13 +50,13 @@ fn search_on<N: Named>(
     who: Who,
     command: &Command,
     moment: u64,
-    plan: Plan,
+    plan: &mut Plan,
     class: ClassNo,
-) -> Result<Plan, Fault>
+) -> Result<(), Fault>
     requires begun { HasBegun N.config own.old.sight who moment }
-    requires goes { GoesBy N.config own.old.stripe command.now moment plan }
-    requires fresh { plan.need ≡ needs.Fresh class }
-    ensures goes { IfOk result (GoesBy N.config own.new.stripe command.now moment) }
+    requires goes { GoesBy N.config own.old.stripe command.now moment plan.old }
+    requires fresh { plan.old.need ≡ needs.Fresh class }
+    ensures goes { OnOk result (GoesBy N.config own.new.stripe command.now moment plan.new) }
     ensures tried { OnOk result (IsFull lent.new.class.chunks (lists_of lent.new.class.history) → HasSearched N.config.stripes (record { 0 = own.old.stripe.site.stripe }) who (key_of command.now) lent.new.class.history) }
     ensures searched { IsSearched N.config who command.now moment own.old.stripe own.new.stripe }
     ensures begun { HasBegun N.config own.new.sight who moment }
@@ -66,10 +66,11 @@ fn search_on<N: Named>(
 {
     expect(rt, lent, class);
     if !lent.side().state().is_full() {
-        return Ok(plan);
+        return Ok(());
     }
     make_room_under(alloc, store, own, lent, who, moment)?;
-    Ok(plan_under(own, command, moment))
+    *plan = plan_under(own, command, moment);
+    Ok(())
 }
 
 // The next link of a class that has a chunk free, and that was told of the stripe.
@@ -166,12 +167,12 @@ pub(crate) fn ready_on<N: Named>(
     who: Who,
     command: &Command,
     moment: u64,
-    plan: Plan,
+    plan: &mut Plan,
     class: ClassNo,
 ) -> Result<(Room, Fate), Fault>
     requires begun { HasBegun N.config own.old.sight who moment }
-    requires goes { GoesBy N.config own.old.stripe command.now moment plan }
-    requires fresh { plan.need ≡ needs.Fresh class }
+    requires goes { GoesBy N.config own.old.stripe command.now moment plan.old }
+    requires fresh { plan.old.need ≡ needs.Fresh class }
     ensures ready { IfOk result (λ ready. IsReadyOn N.config own.new.stripe lent.new.class who command.now moment ready.0 ready.1) }
     ensures earned { IfOk result (λ ready. IsEarnedIn N.config own.old.stripe.site.stripe who (key_of command.now) own.new.sight ready.0) }
     ensures searched { IsSearched N.config who command.now moment own.old.stripe own.new.stripe }
@@ -179,10 +180,10 @@ pub(crate) fn ready_on<N: Named>(
     ensures site { KeepsSite own.old.stripe own.new.stripe }
     ensures full { IsErrOf result HistoryFull → IsShort N.config own.new }
 {
-    let found = search_on(
+    search_on(
         alloc, store, rt, own, lent, who, command, moment, plan, class,
     )?;
     meet(&store.board, own, lent);
-    let room = room_on(store, rt, own, lent, who, found.need)?;
-    Ok((room, found.fate(room)))
+    let room = room_on(store, rt, own, lent, who, plan.need)?;
+    Ok((room, plan.fate(room)))
 }

@@ -14,8 +14,8 @@ use Rattle.mc_store.proofs.readying.ready_on.Goals as goal
 pub returns-clause-ready : goal.returns-clause-ready
 returns-clause-ready g c =
     let same = ap (λ (x : StripeSide). x.stripe) c.meet.ensures.own in
-    ready_in g.N.Named.config c.args.who c.args.command.now c.args.moment c.search_on.new.own.stripe c.room_on.new.own.stripe c.room_on.new.lent.class c.in_ok-found.found c.in_ok-room.room c.fate.result c.in_ok-found.ensures.goes
-    (c.room_on.ensures.same ∙ same) (subst (λ (s : Stripe). Fits c.in_ok-found.found.need c.in_ok-room.room s.history) same c.in_ok-room.ensures.fits) c.fate.ensures.fate c.fate.ensures.held c.in_ok-room.ensures.given
+    ready_in g.N.Named.config c.args.who c.args.command.now c.args.moment c.search_on.new.own.stripe c.room_on.new.own.stripe c.room_on.new.lent.class c.search_on.new.plan c.in_ok-room.room c.fate.result c.in_ok-search_on.ensures.goes
+    (c.room_on.ensures.same ∙ same) (subst (λ (s : Stripe). Fits c.search_on.new.plan.need c.in_ok-room.room s.history) same c.in_ok-room.ensures.fits) c.fate.ensures.fate c.fate.ensures.held c.in_ok-room.ensures.given
     c.in_ok-room.ensures.met
 
 pub returns-clause-earned : goal.returns-clause-earned
@@ -27,7 +27,7 @@ returns-clause-earned g c =
     subst (λ (n : ℕ). IsEarnedIn config n c.args.who key c.room_on.new.own.sight c.in_ok-room.room) same
     (c.in_ok-room.ensures.earned key (λ full. subst (λ (n : ℕ). HasSearched config.stripes (record { 0 = n }) c.args.who key c.meet.new.lent.class.history) (sym same)
     (subst (λ (v : ClassView). HasSearched config.stripes (record { 0 = c.args.own.now.stripe.site.stripe }) c.args.who key v.history) (sym told)
-    (c.in_ok-found.ensures.tried (subst (λ (v : ClassView). IsFull v.chunks (lists_of v.history)) told full)))))
+    (c.in_ok-search_on.ensures.tried (subst (λ (v : ClassView). IsFull v.chunks (lists_of v.history)) told full)))))
 
 pub room_on-requires-clause-begun : goal.room_on-requires-clause-begun
 room_on-requires-clause-begun g c = (c.args.moment, begun_sees g.N.Named.config c.search_on.new.own.sight c.meet.new.own.sight c.args.who c.args.moment c.meet.ensures.grows c.search_on.ensures.begun)
