@@ -115,9 +115,7 @@ fn command_planned<N: Named>(
     ensures full { IsErrOf result HistoryFull → IsShort N.config own.new }
 {
     let mut plan = plan_under(own, &command, moment);
-    bury_dead(
-        alloc, store, rt, own, who, &command, moment, &mut plan,
-    )?;
+    bury_dead(alloc, store, rt, own, who, &command, moment, &mut plan)?;
     answer_by_plan(
         alloc, store, rt, own, caller, who, command, moment, &mut plan,
     )
