@@ -27,6 +27,7 @@ use Rattle.mc_stripe.specs.Alone.{TouchesNoChunk}
 use Rattle.mc_stripe.specs.Plan.{fate_of}
 use Rattle.mc_stripe.specs.StripeCalls.{Notes}
 use Rattle.mc_stripe.specs.StripeState.{Stripe, cache_now}
+use Rattle.mc_stripe.specs.declared.applying.GivenBack.{GivenBack}
 use Rattle.mc_stripe.specs.declared.fate.Fate.TheVariants as fates
 use Rattle.mc_stripe.proofs.StateLemmas.{chunkless_fits}
 use Rattle.mc_pull.specs.Agreeing.{HasRefusal, KeepsEachAgreement}
@@ -86,14 +87,14 @@ module _ (s s_new : Stripe) (who : Who) (command : Command) (moment : ℕ) (lega
   same_seen same = record { told = λ other rule seen each. subst (Each (IsTold s.site rule other seen)) (sym same) each }
 
   -- whichever way the call ends
-  pub each_agrees : (result : Result (Result (Option Reply) Command) Fault) → IfOk result (λ quick. OnOk quick (Notes s s_new who command moment rooms.Keep)) → IfOk result (λ quick. OnOk quick (TouchesNoChunk s command moment))
-      → IfOk result (λ quick. IfErr quick (λ c. (c ≡ command) × (s_new.history ≡ s.history))) → OnErr result (s_new.history ≡ s.history) → KeepsEachAgreement s s_new
+  pub each_agrees : (result : Result (Result (Option Reply) GivenBack) Fault) → IfOk result (λ quick. OnOk quick (Notes s s_new who command moment rooms.Keep)) → IfOk result (λ quick. OnOk quick (TouchesNoChunk s command moment))
+      → IfOk result (λ quick. IfErr quick (λ given. (given.command ≡ command) × (s_new.history ≡ s.history))) → OnErr result (s_new.history ≡ s.history) → KeepsEachAgreement s s_new
   each_agrees (Ok (Ok copy)) noted none back err = noted_agrees none noted
   each_agrees (Ok (Err c)) noted none back err = same_agrees back.1
   each_agrees (Err fault) noted none back err = same_agrees err
 
-  pub each_seen : (result : Result (Result (Option Reply) Command) Fault) → IfOk result (λ quick. OnOk quick (Notes s s_new who command moment rooms.Keep)) → IfOk result (λ quick. OnOk quick (TouchesNoChunk s command moment))
-      → IfOk result (λ quick. IfErr quick (λ c. (c ≡ command) × (s_new.history ≡ s.history))) → OnErr result (s_new.history ≡ s.history) → KeepsEachSight s s_new
+  pub each_seen : (result : Result (Result (Option Reply) GivenBack) Fault) → IfOk result (λ quick. OnOk quick (Notes s s_new who command moment rooms.Keep)) → IfOk result (λ quick. OnOk quick (TouchesNoChunk s command moment))
+      → IfOk result (λ quick. IfErr quick (λ given. (given.command ≡ command) × (s_new.history ≡ s.history))) → OnErr result (s_new.history ≡ s.history) → KeepsEachSight s s_new
   each_seen (Ok (Ok copy)) noted none back err = noted_seen none noted
   each_seen (Ok (Err c)) noted none back err = same_seen back.1
   each_seen (Err fault) noted none back err = same_seen err

@@ -19,3 +19,4 @@ mod ClassPartLemmas
 mod FarPartLemmas
 mod PerformedLemmas
 mod AloneLemmas
+mod SetLemmas

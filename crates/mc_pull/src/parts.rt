@@ -51,7 +51,7 @@ fn is_for(class: &ClassState, key: &Key, number: u64) -> bool
 
 // The number of a link, where the class has its entry.
 #[inline(always)]
-fn number_in(class: &ClassState, key: &Key, link: Option<Link>) -> Option<u64>
+pub(crate) fn number_in(class: &ClassState, key: &Key, link: Option<Link>) -> Option<u64>
     ensures value { result ≡ words.number_in class.now key.now link }
     ensures listed { IfSome result (λ number. IsListed number (lists_of class.now.history)) }
 {
@@ -94,6 +94,33 @@ fn is_cold(class: &ClassState, number: u64) -> bool
     }
 }
 
+/// The part of a new version whose entry comes into the class.
+#[inline(always)]
+pub(crate) fn linked_part(
+    class: &ClassState,
+    key: Key,
+    cost: u64,
+    expiry: Expiry,
+    old: Option<u64>,
+) -> Part
+    requires free { count_of (lists_of class.now.history) < class.now.chunks }
+    requires cost { cost ≤ 2 ^ 20 }
+    requires old { IfSome old (λ number. IsListed number (lists_of class.now.history)) }
+    ensures part { result ≡ words.new_part key cost expiry true old }
+    ensures may { MayMake class.now result }
+{
+    let _class = class;
+    match old {
+        None => Part::Links { key, cost, expiry },
+        Some(number) => Part::Renews {
+            key,
+            cost,
+            expiry,
+            number,
+        },
+    }
+}
+
 // The part of a new version.
 #[inline(always)]
 fn new_part(
@@ -111,18 +138,9 @@ fn new_part(
     ensures part { IfOk result (λ part. part ≡ words.new_part key.now cost expiry here old) }
     ensures may { IfOk result (λ part. MayMake class.now part) }
 {
-    let _class = class;
     if here {
         let key = key.copy(alloc)?;
-        match old {
-            None => Ok(Part::Links { key, cost, expiry }),
-            Some(number) => Ok(Part::Renews {
-                key,
-                cost,
-                expiry,
-                number,
-            }),
-        }
+        Ok(linked_part(class, key, cost, expiry, old))
     } else {
         match old {
             None => Ok(Part::Nothing),

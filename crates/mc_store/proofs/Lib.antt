@@ -21,7 +21,9 @@ pub mod PlanLemmas
 pub mod EarnedLemmas
 pub mod GivenLemmas
 pub mod UnderLemmas
+pub mod StillLemmas
 pub mod QuickLemmas
+pub mod SetLemmas
 pub mod ServedLemmas
 pub mod JudgedLemmas
 pub mod GateLemmas

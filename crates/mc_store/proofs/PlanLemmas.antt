@@ -21,6 +21,7 @@ use Rattle.mc_evidence.proofs.RowLemmas.{held}
 use Rattle.mc_evidence.proofs.SizedLemmas.{link_sized}
 use Rattle.mc_evidence.specs.Setting.{IsClass}
 use Rattle.mc_segment.specs.ClassState.{ClassView}
+use Rattle.mc_stripe.specs.Alone.{WakesItem}
 use Rattle.mc_stripe.specs.Plan.{AreHeld, IsHeld, IsPlan, dead_link, visible_row}
 use Rattle.mc_stripe.specs.StripeState.{Stripe, cache_now}
 use Rattle.mc_stripe.specs.declared.fate.Fate.{Fate}
@@ -118,7 +119,7 @@ visible_has many (Some item) moment has = by (is_dead item moment)
     by true = tt
     by false = has
 
-module _ (config : Config) (s : Stripe) (command : Command) (moment : ℕ) (plan : Plan) (made : IsStripeOf config s) (legal : IsLegal s.site s.history) where
+module _ (config : Config) (s : Stripe) (command : Command) (moment : ℕ) (made : IsStripeOf config s) (legal : IsLegal s.site s.history) where
   item_has : HasClassIf (length config.sizes) (link_of_item ((cache_now s).items (key_of command)))
   item_has = by ((cache_now s).items (key_of command)) refl
     where
@@ -131,8 +132,15 @@ module _ (config : Config) (s : Stripe) (command : Command) (moment : ℕ) (plan
           let sizes : length s.site.sizes ≡ length config.sizes = ap (λ (x : List ℕ). length x) made.sizes in
           (omega (arith, first), omega (arith, last, sizes))
 
-  pub plan_in : IsPlan s command moment plan → IsNeedOf s.site.sizes plan.need → AreHeld s.site.sizes plan → IsPlanIn config s command moment plan
-  plan_in is bound held_in =
+  -- so has that of an item that is woken
+  pub woken_has : (link : Link) → WakesItem s command moment link → HaveClasses (length config.sizes) rooms.Keep (fates.Woken link)
+  woken_has link wakes =
+      let found = (cache_now s).items (key_of command) in
+      subst (λ (f : Fate). HaveClasses (length config.sizes) rooms.Keep f) wakes.fate
+      (fate_have (length config.sizes) rooms.Keep (key_of command) found ((row_of s.site (cache_now s).versions found command moment).answer rooms.Keep).change tt item_has)
+
+  pub plan_in : (plan : Plan) → IsPlan s command moment plan → IsNeedOf s.site.sizes plan.need → AreHeld s.site.sizes plan → IsPlanIn config s command moment plan
+  plan_in plan is bound held_in =
       let found = if_alive moment ((cache_now s).items (key_of command)) in
       let row = visible_row s command moment in
       let there = visible_has (length config.sizes) ((cache_now s).items (key_of command)) moment item_has in

@@ -1,5 +1,5 @@
 -- One command by its plan, under the lock of its stripe: when it may go by it, and the room that a class gives (own).
-use Rattle.std.specs.Prelude.{◌≡◌, ◌≢◌, ◌≤◌, ◌^◌, ◌++◌, ◌∷◌, [], ℕ, List, length}
+use Rattle.std.specs.Prelude.{◌≡◌, ◌≢◌, ◌≤◌, ◌^◌, ◌++◌, ◌∷◌, [], ℕ, List, None, length}
 use Rattle.mc_item.specs.Command.{key_of}
 use Rattle.mc_item.specs.Measure.{IsNeedOf, stripe_of}
 use Rattle.mc_item.specs.Stripe.{IsAlive}
@@ -14,6 +14,7 @@ use Rattle.mc_segment.specs.ClassState.{ClassView}
 use Rattle.mc_stripe.specs.Plan.{AreHeld, IsHeld, IsPlan, visible_row}
 use Rattle.mc_stripe.specs.StripeState.{Stripe, cache_now}
 use Rattle.mc_stripe.specs.declared.fate.Fate.{Fate}
+use Rattle.mc_stripe.specs.declared.fate.Fate.TheVariants as fates
 use Rattle.mc_stripe.specs.declared.planning.Plan.{Plan}
 use Rattle.mc_pull.specs.Agreeing.{AgreeNow}
 use Rattle.mc_pull.specs.Perform.{GivesRoom, MayAnswer, call, fate_for}
@@ -59,3 +60,10 @@ pub record IsReadyOn (config : Config) (s : Stripe) (v : ClassView) (who : Who) 
   pub held : IsHeld config.sizes fate
   pub given : IsGiven who room v
   pub met : AgreeNow v s
+
+-- a new version comes, and replaces no item
+abbrev pub IsFirst : Fate → Type 0
+IsFirst fates.Untouched = ⊥
+IsFirst (fates.Renewed cost expiry old) = old ≡ None
+IsFirst (fates.Goes link) = ⊥
+IsFirst (fates.Woken link) = ⊥

@@ -62,7 +62,7 @@ fn answer_kept<N: Named>(
 
 // Makes a command that needs a chunk of the class that is locked, by its plan.
 #[inline(always)]
-fn answer_on_one<N: Named>(
+pub(crate) fn answer_on_one<N: Named>(
     alloc: Global,
     store: &Store<N>,
     rt: &impl Wait,

@@ -25,10 +25,12 @@ use crate::needed::is_storage;
 use crate::pass::Pass;
 use crate::planning::plan_under;
 use crate::quick::answer_quick;
+use crate::setting::set_told;
 use crate::store::Store;
+use crate::waking::wake_told;
 use crate::walking::bury_under;
 use mc_item::{Asking, Command, Fault, Link, Reply, Who, stripe_of};
-use mc_stripe::Plan;
+use mc_stripe::{GivenBack, Plan};
 use std::alloc::Global;
 use std::sync::Wait;
 
@@ -121,7 +123,7 @@ fn command_planned<N: Named>(
     )
 }
 
-// The same, once the stripe is told that the command was asked for.
+// The same, once the stripe is told that the command was asked for: a `set` goes the quick way where it can.
 #[inline(always)]
 fn command_told<N: Named>(
     alloc: Global,
@@ -144,10 +146,14 @@ fn command_told<N: Named>(
     ensures full { IsErrOf result HistoryFull → IsShort N.config own.new }
 {
     caller.tell_stripe(&store.board, own);
-    command_planned(alloc, store, rt, own, caller, who, command, moment)
+    match set_told(alloc, store, rt, own, caller, who, command, moment)? {
+        Ok(reply) => Ok(reply),
+        Err(given) => command_planned(alloc, store, rt, own, caller, who, given, moment),
+    }
 }
 
-// One command on the stripe of its key, which is under its lock: the quick way where it touches no chunk, else by its plan.
+// One command on the stripe of its key, which is under its lock: the quick way where it touches no chunk, a get that wakes
+// its item by the item's link, else the quick way of a `set` or its plan.
 fn command_under<N: Named>(
     alloc: Global,
     store: &Store<N>,
@@ -173,7 +179,10 @@ fn command_under<N: Named>(
     }
     match answer_quick(&store.board, own, caller, who, command, moment)? {
         Ok(reply) => Ok(reply),
-        Err(given) => command_told(alloc, store, rt, own, caller, who, given, moment),
+        Err(GivenBack { command, woken }) => match woken {
+            None => command_told(alloc, store, rt, own, caller, who, command, moment),
+            Some(link) => wake_told(alloc, store, rt, own, caller, who, command, moment, link),
+        },
     }
 }
 

@@ -27,9 +27,11 @@ mod performing;
 mod planning;
 mod quick;
 mod readying;
+mod setting;
 mod shelf;
 mod store;
 mod waiting;
+mod waking;
 mod walking;
 
 pub use final_store::Final;

@@ -1,6 +1,6 @@
 //! Steps on a stripe and classes under their locks: before each step they are told of each other, behind it the board
 //! has the new events, and they are told of each other again.
-ghost use Rattle.std.specs.Prelude.{ℕ, ◌≡◌, ◌≤◌, ◌<◌, ◌+◌, ◌^◌, ◌∷◌, [], Bool, ◌++◌, IfOk, OnOk, OnErr, IsErrOf, length};
+ghost use Rattle.std.specs.Prelude.{ℕ, ◌≡◌, ◌≤◌, ◌<◌, ◌+◌, ◌^◌, ◌∷◌, [], Bool, true, false, ◌++◌, IfOk, OnOk, OnErr, IsErrOf, length};
 ghost use mathlib.Core.List.{IsPrefix};
 ghost use Rattle.mc_item.specs.declared.fault.Fault.TheVariants.{HistoryFull};
 ghost use Rattle.mc_evidence.specs.Seen.{classes_seen};
@@ -94,8 +94,33 @@ fn put_answer<N: Named>(
     ensures noted { OnOk done.now (caller.new ≡ record caller.old { calls = caller.old.calls ++ answered_at state.now.site.stripe place ∷ [] }) }
     ensures unnoted { OnErr done.now (caller.new ≡ caller.old) }
 {
+    put_if(board, caller, state, owner, seen, place, done.is_ok());
+}
+
+// The same, where it is known whether the command was answered.
+#[inline(always)]
+pub(crate) fn put_if<N: Named>(
+    board: &Board,
+    caller: &mut Caller<N>,
+    state: &StripeState,
+    owner: &mut Owner,
+    seen: &mut Seen,
+    place: u64,
+    done: bool,
+)
+    requires board { (board.now ≡ N.board) × (owner.old.board ≡ N.board.table) × (seen.old.board ≡ N.board.table) }
+    requires behind { IsPrefix owner.old.history (stripe_told state.now.history) }
+    requires turns { length caller.old.calls + 1 < 2 ^ 64 }
+    ensures owner { owner.new ≡ record owner.old { history = stripe_told state.now.history } }
+    ensures board { seen.new.board ≡ seen.old.board }
+    ensures grows { Grows seen.old.sight seen.new.sight }
+    ensures of { done ≡ true → caller.old.number < N.config.callers }
+    ensures told { done ≡ true → list_at seen.new.sight.seen (caller_place N.config caller.old.number) ≡ calls_told caller.new.calls }
+    ensures noted { done ≡ true → caller.new ≡ record caller.old { calls = caller.old.calls ++ answered_at state.now.site.stripe place ∷ [] } }
+    ensures unnoted { done ≡ false → caller.new ≡ caller.old }
+{
     catch_up_stripe(state, owner, board);
-    if done.is_ok() {
+    if done {
         caller.note(board, state.number(), place, seen);
     }
 }

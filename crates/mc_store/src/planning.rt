@@ -1,8 +1,8 @@
 //! What a command needs on a stripe that is under its lock.
-ghost use Rattle.std.specs.Prelude.{◌≡◌, ◌≤◌, ◌^◌, ◌⊎◌, ◌∷◌, [], IsTrue};
+ghost use Rattle.std.specs.Prelude.{◌≡◌, ◌≤◌, ◌^◌, ◌⊎◌, ◌∷◌, [], false, IsTrue};
 ghost use Rattle.mc_segment.specs.ClassState.{ClassView};
 ghost use Rattle.mc_pull.specs.Perform.{AreLent};
-ghost use Rattle.mc_store.specs.Planned.{IsPlanIn};
+ghost use Rattle.mc_store.specs.Planned.{IsFirst, IsPlanIn};
 
 use crate::locked::LockedStripe;
 use crate::named::Named;
@@ -20,6 +20,34 @@ pub(crate) fn plan_under<N: Named>(own: &LockedStripe<N>, command: &Command, mom
     let stripe = side.state();
     stripe.history();
     stripe.plan(command, moment)
+}
+
+// Whether a plan is one but for a new version that replaces no item.
+#[inline(always)]
+fn names_item(plan: &Plan) -> bool
+    ensures { result ≡ false → IsFirst plan.now.with_link }
+{
+    match plan.with_link {
+        Fate::Renewed { old, .. } => old.is_some(),
+        Fate::Untouched | Fate::Goes(_) | Fate::Woken(_) => true,
+    }
+}
+
+// A command is planned again behind a search, unless its plan has a new version that replaces no item: as a search only
+// takes items, that one holds still.
+#[inline(always)]
+pub(crate) fn plan_again<N: Named>(
+    own: &LockedStripe<N>,
+    command: &Command,
+    moment: u64,
+    plan: &mut Plan,
+)
+    requires early { moment ≤ 2 ^ 62 }
+    ensures { IsPlanIn N.config own.now.stripe command.now moment plan.new ⊎ ((plan.new ≡ plan.old) × IsFirst plan.old.with_link) }
+{
+    if names_item(plan) {
+        *plan = plan_under(own, command, moment);
+    }
 }
 
 // Whether a number is one of two.

@@ -4,6 +4,7 @@ ghost use Rattle.mc_item.specs.Command.{key_of};
 ghost use Rattle.mc_item.specs.Stripe.{Fits};
 ghost use Rattle.mc_item.specs.declared.answer.Need.TheVariants as needs;
 ghost use Rattle.mc_item.specs.declared.fault.Fault.TheVariants.{HistoryFull};
+ghost use Rattle.mc_item.specs.declared.reply.Room.TheVariants as rooms;
 ghost use Rattle.mc_board.specs.Histories.{list_at};
 ghost use Rattle.mc_stripe.specs.StripeCalls.{KeepsSite};
 ghost use Rattle.mc_pull.specs.Agreeing.{AgreeNow};
@@ -17,7 +18,7 @@ ghost use Rattle.mc_store.specs.Sides.{class_told};
 use crate::locked::{LockedClass, LockedStripe};
 use crate::named::Named;
 use crate::pairing::{meet, refuse};
-use crate::planning::plan_under;
+use crate::planning::plan_again;
 use crate::store::Store;
 use crate::waiting::wait_for_ever;
 use crate::walking::make_room_under;
@@ -38,8 +39,8 @@ fn expect<N: Named>(rt: &impl Wait, lent: &LockedClass<N>, class: ClassNo)
     }
 }
 
-// A chunk is looked for in a class, where none is free, and the command is planned again behind that. A class of another
-// number, of which there is none here, would be waited for.
+// A chunk is looked for in a class, where none is free, and the command is planned again behind that, unless its key had no
+// item: then the plan holds still. A class of another number, of which there is none here, would be waited for.
 #[inline(always)]
 fn search_on<N: Named>(
     alloc: Global,
@@ -69,11 +70,31 @@ fn search_on<N: Named>(
         return Ok(());
     }
     make_room_under(alloc, store, own, lent, who, moment)?;
-    *plan = plan_under(own, command, moment);
+    plan_again(own, command, moment, plan);
     Ok(())
 }
 
 // The next link of a class that has a chunk free, and that was told of the stripe.
+#[inline(always)]
+pub(crate) fn next_link<N: Named>(own: &LockedStripe<N>, lent: &LockedClass<N>, who: Who) -> Link
+    requires met { AgreeNow lent.now.class own.now.stripe }
+    requires free { IsFull lent.now.class.chunks (lists_of lent.now.class.history) → ⊥ }
+    ensures fits { Fits (needs.Fresh lent.now.class.number) (rooms.At result) own.now.stripe.history }
+    ensures given { IsGiven who (rooms.At result) lent.now.class }
+{
+    let _own = own;
+    let _who = who;
+    let side = lent.side();
+    let class = side.state();
+    class.law();
+    new_numbers_are_unnamed();
+    Link {
+        class: class.number(),
+        number: class.next_number(),
+    }
+}
+
+// The same as a room.
 #[inline(always)]
 fn next_on<N: Named>(own: &LockedStripe<N>, lent: &LockedClass<N>, who: Who) -> Room
     requires met { AgreeNow lent.now.class own.now.stripe }
@@ -82,16 +103,7 @@ fn next_on<N: Named>(own: &LockedStripe<N>, lent: &LockedClass<N>, who: Who) -> 
     ensures given { IsGiven who result lent.now.class }
     ensures earned { (number : ℕ) (key : List ℕ) → IsEarnedIn N.config number who key own.now.sight result }
 {
-    let _own = own;
-    let _who = who;
-    let side = lent.side();
-    let class = side.state();
-    class.law();
-    new_numbers_are_unnamed();
-    Room::At(Link {
-        class: class.number(),
-        number: class.next_number(),
-    })
+    Room::At(next_link(own, lent, who))
 }
 
 // The room that a class gives, which was told of the stripe, and the stripe of it: its next link, where a chunk is free, and

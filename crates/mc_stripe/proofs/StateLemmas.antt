@@ -1,6 +1,6 @@
 -- What a stripe keeps, with one event more.
 use Rattle.std.proofs.Common.{◌≡◌, ◌+◌, ◌≤◌, ◌<◌, ◌++◌, ◌∷◌, [], ℕ, List, length, length-append, sym, ap, ◌∙◌, subst, arith}
-use Rattle.std.specs.Prelude.{Option, Some, None, nat_eq, if◌then◌else◌, IsSomeAnd, true}
+use Rattle.std.specs.Prelude.{Option, Some, None, Result, Ok, Err, IfOk, OnErr, nat_eq, if◌then◌else◌, IsSomeAnd, true}
 use Rattle.std.specs.Cmp.Lexicographic.{pointwise}
 use Rattle.mc_item.specs.Answer.{row_of}
 use Rattle.mc_item.specs.Cache.{Cache, changed, versions_of, answer_of, after_change}
@@ -144,3 +144,9 @@ given_room site limit history versions items reserved key command moment room ke
     let given = fits_class (row_of site (cache_of site history).versions ((cache_of site history).items key) command moment).need room history fits in
     subst (λ (o : Option Item). IsOfNeed (row_of site versions o command moment).need room) (sym (same key ∙ kept.items_are key))
     (subst (λ (n : ℕ). IsOfNeed (row_of site n ((cache_of site history).items key) command moment).need room) (sym kept.versions_are) given)
+
+-- what follows of a command that was given back
+pub given_more : {A B E P Q : Type 0} (r : Result (Result A B) E) → (P → Q) → IfOk r (λ answered. OnErr answered P) → IfOk r (λ answered. OnErr answered Q)
+given_more (Ok (Ok a)) more given = tt
+given_more (Ok (Err b)) more given = more given
+given_more (Err e) more given = tt

@@ -8,6 +8,7 @@ use Rattle.mc_item.specs.declared.answer.Need.TheVariants as needs
 use Rattle.mc_item.specs.declared.command.Command.{Command}
 use Rattle.mc_item.specs.declared.command.Command.TheVariants.{Get, Store, Huge, Incr, Decr, Touch, Delete}
 use Rattle.mc_item.specs.declared.item.Item.{Item}
+use Rattle.mc_item.specs.declared.item.Link.{Link}
 use Rattle.mc_item.specs.declared.reply.Room.TheVariants as rooms
 use Rattle.mc_stripe.specs.Plan.{fate_of}
 use Rattle.mc_stripe.specs.StripeState.{Stripe, cache_now}
@@ -31,6 +32,18 @@ pub record LeavesChunks (key : List ℕ) (found : Option Item) (row : Row) (mome
 abbrev pub TouchesNoChunk : Stripe → Command → ℕ → Type 0
 TouchesNoChunk s command moment =
     LeavesChunks (key_of command) ((cache_now s).items (key_of command)) (row_of s.site (cache_now s).versions ((cache_now s).items (key_of command)) command moment) moment
+
+-- a row wakes the item that is found: it is alive at the moment, no chunk is needed, and a hit leaves the mark ACTIVE at the
+-- item of this link, which didn't have it
+pub record Wakes (key : List ℕ) (found : Option Item) (row : Row) (moment : ℕ) (link : Link) : Type 0 where
+  pub alive : IsAlive found moment
+  pub need : row.need ≡ needs.Nothing
+  pub fate : fate_of key found (row.answer rooms.Keep).change ≡ fates.Woken link
+
+-- a command wakes its key's item at a moment
+abbrev pub WakesItem : Stripe → Command → ℕ → Link → Type 0
+WakesItem s command moment link =
+    Wakes (key_of command) ((cache_now s).items (key_of command)) (row_of s.site (cache_now s).versions ((cache_now s).items (key_of command)) command moment) moment link
 
 -- a storage command
 abbrev pub IsStorage : Command → Type 0

@@ -7,3 +7,4 @@ pub mod Plan
 pub mod Alone
 pub mod Rooms
 pub mod Stored
+pub mod Sets

@@ -1,5 +1,5 @@
 //! Commands on a stripe.
-ghost use Rattle.std.specs.Prelude.{◌≡◌, ◌≤◌, ◌+◌, ◌^◌, ℕ, Option, None, false, IfOk, IfErr, OnOk, OnErr, Some, if◌then◌else◌, ◌⊎◌, IsErrOf, ◌↔◌, length};
+ghost use Rattle.std.specs.Prelude.{◌≡◌, ◌≤◌, ◌+◌, ◌^◌, ℕ, List, Option, None, false, IfOk, IfErr, IfSome, IfNone, OnOk, OnErr, Some, if◌then◌else◌, ◌⊎◌, IsErrOf, ◌↔◌, length};
 ghost use Rattle.mc_item.specs.Answer.{row_of};
 ghost use Rattle.mc_item.specs.Cache.{answer_of};
 ghost use Rattle.mc_item.specs.Command.{key_of};
@@ -7,10 +7,12 @@ ghost use Rattle.mc_item.specs.Measure.{IsNeedOf, stripe_of};
 ghost use Rattle.mc_item.specs.Stripe.{Fits, IsAlive};
 ghost use Rattle.mc_item.specs.declared.answer.Site.{Site};
 ghost use Rattle.mc_item.specs.declared.fault.Fault.TheVariants as faults;
+ghost use Rattle.mc_item.specs.declared.command.Command.TheVariants as commands;
 ghost use Rattle.mc_item.specs.declared.item.Item.{Item};
+ghost use Rattle.mc_item.specs.declared.item.Link.{Link};
 ghost use Rattle.mc_item.specs.declared.stripe_event.StripeEvent.TheVariants as events;
 ghost use Rattle.mc_item.specs.declared.reply.Room.TheVariants as rooms;
-ghost use Rattle.mc_stripe.specs.Alone.{IsStorage, TouchesNoChunk};
+ghost use Rattle.mc_stripe.specs.Alone.{IsStorage, TouchesNoChunk, WakesItem};
 ghost use Rattle.mc_stripe.specs.StripeState.{cache_now};
 ghost use Rattle.mc_stripe.specs.StripeCalls.{KeepsSite, Gains, Notes};
 
@@ -18,7 +20,15 @@ use crate::alone::answer_alone;
 use crate::answering::answer_item;
 use crate::noting::push_answer;
 use crate::state::{StripeState, is_full};
-use mc_item::{Command, Fault, Need, Reply, Room, Verb, Who};
+use mc_item::{Command, Fault, Link, Need, Reply, Room, Verb, Who};
+
+/// A command that the quick way gives back, with nothing done; of a get whose hit would wake its key's item, that item's link
+/// too: with it the command needs no plan.
+#[derive(Drop)]
+pub struct GivenBack {
+    pub command: Command,
+    pub woken: Option<Link>,
+}
 
 // Whether a command's need depends on the item under its key.
 fn asks_for_item(command: &Command) -> bool
@@ -129,7 +139,7 @@ impl StripeState {
     /// in their place where they touch no chunk, with one event more, in which the reply stands, at the place that was
     /// the history's end. A copy of the reply is made where one is asked for, before anything changes. A storage command
     /// is given back, as the inner `Err`, and so is any other whose key's item is dead, which needs a fresh chunk, or of
-    /// which a chunk goes or is woken; then nothing happened. `HistoryFull` is answered where the history has no place
+    /// which a chunk goes or is woken; then nothing happened, and of a get the link is told of an item that it would wake. `HistoryFull` is answered where the history has no place
     /// left. It looks the key up once.
     #[inline(always)]
     pub fn answer(
@@ -138,14 +148,16 @@ impl StripeState {
         command: Command,
         moment: u64,
         copies: bool,
-    ) -> Result<Result<Option<Reply>, Command>, Fault>
+    ) -> Result<Result<Option<Reply>, GivenBack>, Fault>
         requires stripe { stripe_of (key_of command) self.old.site.stripes ≡ record { 0 = self.old.site.stripe } }
         requires moment { moment ≤ 2 ^ 62 }
         ensures event { IfOk result (λ quick. OnOk quick (Notes self.old self.new who command moment rooms.Keep)) }
         ensures copy { IfOk result (λ quick. IfOk quick (λ copy. copy ≡ (if copies then Some (answer_of self.old.site (cache_now self.old) command moment rooms.Keep).reply else None))) }
         ensures chunks { IfOk result (λ quick. OnOk quick (TouchesNoChunk self.old command moment)) }
         ensures touched { IfOk result (λ quick. OnErr quick (IsStorage command ⊎ (TouchesNoChunk self.old command moment → ⊥))) }
-        ensures back { IfOk result (λ quick. IfErr quick (λ c. (c ≡ command) × (self.new.history ≡ self.old.history))) }
+        ensures back { IfOk result (λ quick. IfErr quick (λ given. (given.command ≡ command) × (self.new.history ≡ self.old.history))) }
+        ensures woken { IfOk result (λ quick. IfErr quick (λ given. IfSome given.woken (WakesItem self.old command moment))) }
+        ensures told { (key : List ℕ) → command ≡ commands.Get key → IfOk result (λ quick. IfErr quick (λ given. IfNone given.woken ((link : Link) → WakesItem self.old command moment link → ⊥))) }
         ensures full { IsErrOf result faults.HistoryFull ↔ (self.old.limit ≤ length self.old.history) }
         ensures err { OnErr result (self.new.history ≡ self.old.history) }
         ensures site { KeepsSite self.old self.new }
@@ -155,7 +167,7 @@ impl StripeState {
             return Err(Fault::HistoryFull);
         }
         self.history.reserve(1)?;
-        let Some(told) = answer_alone(
+        let told = match answer_alone(
             self.alloc,
             &self.site,
             self.versions,
@@ -163,9 +175,9 @@ impl StripeState {
             &command,
             moment,
             copies,
-        )?
-        else {
-            return Ok(Err(command));
+        )? {
+            Ok(told) => told,
+            Err(woken) => return Ok(Err(GivenBack { command, woken })),
         };
         self.versions += told.added;
         push_answer(

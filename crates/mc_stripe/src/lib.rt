@@ -13,8 +13,10 @@ mod noted;
 mod noting;
 mod parts;
 mod planning;
+mod setting;
 mod state;
 
+pub use applying::GivenBack;
 pub use fate::Fate;
 pub use mc_item::{Need, Room};
 pub use noted::Noted;

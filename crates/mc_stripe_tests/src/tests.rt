@@ -9,6 +9,7 @@ mod items;
 mod noted;
 mod plain;
 mod plans;
+mod sets;
 mod table;
 
 use mc_item::{Command, Config, Key, Numbers, StripeNo, Value, Verb, Who};

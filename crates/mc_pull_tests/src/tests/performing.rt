@@ -11,13 +11,14 @@ ghost use Rattle.mc_pull_tests.specs.World.{IsWorld};
 use super::WHO;
 use super::walks::{six, six_of};
 use super::world::{
-    World, asserts_list, event_at, is_unnamed, key, last_of_class, last_of_stripe, opened, usual,
+    World, asserts_list, event_at, is_unnamed, key, last_of_class, last_of_stripe, opened, store,
+    usual,
 };
 use mc_item::{
     ClassEvent, ClassNo, Command, Config, Fault, Key, Link, Need, Reply, Room, Seg, Value, Verb,
     Who,
 };
-use mc_pull::{Lent, fate_for, perform, perform_fated};
+use mc_pull::{Lent, fate_for, perform, perform_fated, perform_set};
 use mc_segment::ClassState;
 use mc_stripe::{Fate, StripeState};
 use std::alloc::Global;
@@ -248,6 +249,43 @@ fn set<R: Abort>(rt: &R, world: &mut World, letter: u8, room: Room) -> String
     format!(in alloc; "{reply:?}").expect(rt, "a text")
 }
 
+// What comes of a set of the key of one letter to that letter by the quick way, at the class's next link.
+fn set_quick<R: Abort>(
+    rt: &R,
+    world: &mut World,
+    letter: u8,
+    moment: u64,
+) -> Result<&'static str, Fault>
+    requires world { IsWorld world.old.config world.old.class world.old.stripe }
+    ensures world { IsWorld world.new.config world.new.class world.new.stripe }
+{
+    let alloc = world.alloc;
+    let text = Vec::from_slice(alloc, &[letter]).expect(rt, "a value");
+    let command = Command::Store {
+        verb: Verb::Set,
+        key: key(rt, alloc, letter),
+        flags: 0,
+        exptime: 0,
+        value: Value::of(alloc, text).expect(rt, "a value"),
+    };
+    let stripe = &mut world.stripe;
+    let class = &mut world.class;
+    let link = Link {
+        class: class.number(),
+        number: class.next_number(),
+    };
+    assert!(rt; moment <= 1 << 62);
+    assert!(rt; stripe.owns(command.key()));
+    assert!(rt; fits(alloc, stripe.need(&command, moment), Room::At(link), stripe));
+    assert!(rt; gives(alloc, class, WHO, Room::At(link)));
+    let config = &world.config;
+    match perform_set(alloc, stripe, class, WHO, command, moment, link, config)? {
+        Ok(Reply::Stored) => Ok("stored"),
+        Ok(_) => Ok("another reply"),
+        Err(_) => Ok("given back"),
+    }
+}
+
 // A get of the key of one letter.
 fn get<R: Abort>(rt: &R, world: &mut World, letter: u8, moment: u64) -> Result<Reply, Fault>
     requires world { IsWorld world.old.config world.old.class world.old.stripe }
@@ -288,6 +326,46 @@ fn a_set_over_an_item_links_and_then_unlinks(rt: HostRuntime) -> Result<(), Fail
     asserts_lengths(&rt, &world, 3, 2);
     assert!(rt; is_linked(&world, 0, 0) && is_linked(&world, 1, 1) && is_unlinked(&world, 2, 0));
     asserts_list(&rt, &world, Seg::Hot, &[1]);
+    Ok(())
+}
+
+#[test]
+fn a_quick_set_over_an_item_links_and_then_unlinks(rt: HostRuntime) -> Result<(), Fail> {
+    let alloc = rt.alloc();
+    let mut world = opened(&rt, alloc, usual(alloc, 4)?)?;
+    assert_eq!(rt; set_quick(&rt, &mut world, b'a', 1000)?, "stored");
+    assert_eq!(rt; set_quick(&rt, &mut world, b'a', 1000)?, "stored");
+    asserts_lengths(&rt, &world, 3, 2);
+    assert!(rt; is_linked(&world, 0, 0) && is_linked(&world, 1, 1) && is_unlinked(&world, 2, 0));
+    asserts_list(&rt, &world, Seg::Hot, &[1]);
+    Ok(())
+}
+
+#[test]
+fn a_quick_set_over_a_dead_item_is_given_back(rt: HostRuntime) -> Result<(), Fail> {
+    let alloc = rt.alloc();
+    let mut world = opened(&rt, alloc, usual(alloc, 4)?)?;
+    store(&rt, &mut world, b'a', 5, 1000);
+    assert_eq!(rt; set_quick(&rt, &mut world, b'a', 1005)?, "given back");
+    asserts_lengths(&rt, &world, 1, 1);
+    assert_eq!(rt; set_quick(&rt, &mut world, b'a', 1004)?, "stored");
+    asserts_lengths(&rt, &world, 3, 2);
+    Ok(())
+}
+
+// A set over an item takes two places of its class's history, and one of its stripe's.
+#[test]
+fn a_quick_set_wants_two_places_of_its_class(rt: HostRuntime) -> Result<(), Fail> {
+    let alloc = rt.alloc();
+    let mut config = usual(alloc, 4)?;
+    config.max_events = 16;
+    let mut world = opened(&rt, alloc, config)?;
+    for _i in 0..8 {
+        assert_eq!(rt; set_quick(&rt, &mut world, b'a', 1000)?, "stored");
+    }
+    asserts_lengths(&rt, &world, 15, 8);
+    assert_eq!(rt; set_quick(&rt, &mut world, b'a', 1000)?, "given back");
+    asserts_lengths(&rt, &world, 15, 8);
     Ok(())
 }
 

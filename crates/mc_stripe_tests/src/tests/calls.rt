@@ -6,7 +6,7 @@ ghost use Rattle.mc_stripe.specs.StripeState.{cache_now};
 use super::plain::{item_text, plain, reply_text, version_count};
 use super::{Asked, WHO, b, command_of};
 use mc_history::History;
-use mc_item::{Command, Fault, Key, Link, NoMemory, Reply, StripeEvent, Who};
+use mc_item::{Command, Fault, Key, Link, NoMemory, Reply, StripeEvent, Value, Verb, Who};
 use mc_stripe::{Need, Noted, Room, StripeState};
 use std::alloc::Global;
 use std::process::Abort;
@@ -216,6 +216,22 @@ pub(super) fn is_answered<R: Abort>(
     Ok(true)
 }
 
+/// The link that the stripe tells where a get of the key `b` would wake its item; none where it answers the get.
+pub(super) fn woken(
+    alloc: Global,
+    stripe: &mut StripeState,
+    moment: u64,
+) -> Result<Option<Link>, Fail> {
+    let command = command_of(alloc, Asked::Get)?;
+    if moment > 1_000_000 || !stripe.owns(command.key()) {
+        return Err(Fail::from("no call"));
+    }
+    match stripe.answer(WHO, command, moment, false)? {
+        Ok(_) => Ok(None),
+        Err(given) => Ok(given.woken),
+    }
+}
+
 /// Whether the stripe alone refuses a get of the key `b` since the history is full.
 pub(super) fn is_refused_alone(alloc: Global, stripe: &mut StripeState) -> Result<bool, Fail> {
     let command = command_of(alloc, Asked::Get)?;
@@ -225,6 +241,40 @@ pub(super) fn is_refused_alone(alloc: Global, stripe: &mut StripeState) -> Resul
     match stripe.answer(WHO, command, 1000, false) {
         Ok(_) => Ok(false),
         Err(fault) => Ok(fault == Fault::HistoryFull),
+    }
+}
+
+/// Sets the key `b` to a text by the quick way, at a link of its class that has the number of its event. Answers the link
+/// that was replaced, and nothing where the command is given back; or the fault.
+pub(super) fn set_quick(
+    alloc: Global,
+    stripe: &mut StripeState,
+    text: &str,
+    moment: u64,
+) -> Result<Result<Option<Option<Link>>, Fault>, Fail> {
+    let bytes = Vec::from_slice(alloc, text.as_bytes())?;
+    let command = Command::Store {
+        verb: Verb::Set,
+        key: b(alloc)?,
+        flags: 7,
+        exptime: 0,
+        value: Value::of(alloc, bytes)?,
+    };
+    if moment > 1_000_000 || !stripe.owns(command.key()) {
+        return Err(Fail::from("no call"));
+    }
+    let Need::Fresh(class) = stripe.need(&command, moment) else {
+        return Err(Fail::from("no class"));
+    };
+    let number = stripe.history().len() as u64;
+    let link = Link { class, number };
+    if !is_unnamed(alloc, stripe.history(), link) {
+        return Err(Fail::from("no link"));
+    }
+    match stripe.set(WHO, command, moment, link) {
+        Ok(Ok(old)) => Ok(Ok(Some(old))),
+        Ok(Err(_)) => Ok(Ok(None)),
+        Err(fault) => Ok(Err(fault)),
     }
 }
 

@@ -1,25 +1,33 @@
-use Rattle.std.proofs.Common.{subst}
-use Rattle.std.specs.Prelude.{IfOk, OnErr}
-use Rattle.mc_store.specs.Commands.{IsCut}
+use Rattle.std.proofs.Common.{◌≡◌, ◌∙◌, subst}
+use Rattle.std.specs.Prelude.{IfOk}
+use Rattle.mc_item.specs.declared.command.Command.{Command}
 use Rattle.mc_store.specs.Calls.{IsReplied}
 use Rattle.mc_store.specs.Passes.{CallerView}
 use Rattle.mc_store.specs.Sides.{StripeSide}
-use Rattle.mc_store.proofs.CallerLemmas.{asked_called}
+use Rattle.mc_store.proofs.CallerLemmas.{asked_called, begun_sees}
+use Rattle.mc_store.proofs.QuickLemmas.{replied_ok_same}
 use Rattle.mc_store.proofs.commands.command_told.Goals as goal
 
+pub set_told-requires-clause-begun : goal.set_told-requires-clause-begun
+set_told-requires-clause-begun g c = c.tell_stripe.ensures.begun c.args.who c.args.moment (asked_called c.args.caller.now c.args.who c.args.command c.args.moment c.requires.asked)
+
 pub command_planned-requires-clause-begun : goal.command_planned-requires-clause-begun
-command_planned-requires-clause-begun g c = c.tell_stripe.ensures.begun c.args.who c.args.moment (asked_called c.args.caller.now c.args.who c.args.command c.args.moment c.requires.asked)
+command_planned-requires-clause-begun g c =
+    begun_sees g.N.Named.config c.tell_stripe.new.stripe.sight c.set_told.new.own.sight c.args.who c.args.moment (rw c.in-Err.is at c.in_ok-reply.ensures.sees)
+    (c.tell_stripe.ensures.begun c.args.who c.args.moment (asked_called c.args.caller.now c.args.who c.args.command c.args.moment c.requires.asked))
 
-pub returns-clause-replied : goal.returns-clause-replied
-returns-clause-replied g c =
+pub returns-in-Err-clause-replied : goal.returns-in-Err-clause-replied
+returns-in-Err-clause-replied g c =
     let config = g.N.Named.config in
-    let r = c.command_planned.result in
-    let end = c.command_planned.new.own.stripe in
-    let sight = c.command_planned.new.own.sight in
-    let calls_new = c.command_planned.new.caller.calls in
-    subst (λ (x : StripeSide). IfOk r (IsReplied config c.args.who c.args.command c.args.moment x.stripe end sight c.args.caller.now.calls calls_new)) c.tell_stripe.ensures.stripe
-    (subst (λ (x : CallerView). IfOk r (IsReplied config c.args.who c.args.command c.args.moment c.tell_stripe.new.stripe.stripe end sight x.calls calls_new)) c.tell_stripe.ensures.same c.command_planned.ensures.replied)
-
-pub returns-clause-cut : goal.returns-clause-cut
-returns-clause-cut g c =
-    subst (λ (x : StripeSide). OnErr c.command_planned.result (IsCut g.N.Named.config c.args.who c.args.command c.args.moment x.stripe c.command_planned.new.own.stripe)) c.tell_stripe.ensures.stripe c.command_planned.ensures.cut
+    let told = c.tell_stripe.new.stripe.stripe in
+    let mid = c.set_told.new.own.stripe in
+    let planned = c.command_planned in
+    let end = planned.new.own.stripe in
+    let sight = planned.new.own.sight in
+    let calls_new = planned.new.caller.calls in
+    let back = rw c.in-Err.is at c.in_ok-reply.ensures.back in
+    let caller : c.set_told.new.caller ≡ c.args.caller.now = back.2 ∙ c.tell_stripe.ensures.same in
+    let given = subst (λ (x : Command). IfOk planned.result (IsReplied config c.args.who x c.args.moment mid end sight c.set_told.new.caller.calls calls_new)) back.0 planned.ensures.replied in
+    let replied = subst (λ (x : CallerView). IfOk planned.result (IsReplied config c.args.who c.args.command c.args.moment mid end sight x.calls calls_new)) caller given in
+    subst (λ (x : StripeSide). IfOk planned.result (IsReplied config c.args.who c.args.command c.args.moment x.stripe end sight c.args.caller.now.calls calls_new)) c.tell_stripe.ensures.stripe
+    (replied_ok_same config c.args.who c.args.command c.args.moment told mid c.set_told.ensures.site back.1 end sight c.args.caller.now.calls calls_new planned.result replied)

@@ -13,4 +13,4 @@ returns g c =
     let same : at ≡ c.args.own.now.stripe = c.state-stripe.ensures ∙ ap (λ (x : StripeSide). x.stripe) c.side-side.ensures.value in
     let made = subst (λ (s : Stripe). IsStripeOf config s) (sym same) c.side-side.ensures.kept.made_with in
     subst (λ (s : Stripe). IsPlanIn config s c.args.command.now c.args.moment c.plan.result) same
-    (plan_in config at c.args.command.now c.args.moment c.plan.result made c.history.ensures.legal c.plan.ensures.plan c.plan.ensures.bound c.plan.ensures.held)
+    (plan_in config at c.args.command.now c.args.moment made c.history.ensures.legal c.plan.result c.plan.ensures.plan c.plan.ensures.bound c.plan.ensures.held)

@@ -6,7 +6,8 @@ use Rattle.mc_rule.specs.Lists.{IsFull, lists_of}
 use Rattle.mc_segment.specs.ClassState.{ClassView}
 use Rattle.mc_store.specs.Sides.{ClassSide}
 use Rattle.mc_store.proofs.LookedLemmas.{full_vain}
-use Rattle.mc_store.proofs.UnderLemmas.{goes_again, searched_walk}
+use Rattle.mc_store.proofs.StillLemmas.{goes_on}
+use Rattle.mc_store.proofs.UnderLemmas.{searched_walk}
 use Rattle.mc_store.proofs.readying.search_on.Goals as goal
 
 pub returns-in_err-make_room_under-clause-searched : goal.returns-in_err-make_room_under-clause-searched
@@ -21,8 +22,8 @@ returns-clause-searched g c =
 
 pub returns-clause-goes : goal.returns-clause-goes
 returns-clause-goes g c =
-    goes_again g.N.Named.config c.args.who c.args.command.now c.args.moment c.args.own.now.stripe c.make_room_under.new.own.stripe c.args.plan.now c.plan_under.result c.requires.goes (returns-clause-searched g c) c.make_room_under.ensures.stripe.site
-    c.plan_under.ensures
+    goes_on g.N.Named.config c.args.who c.args.command.now c.args.moment c.args.own.now.stripe c.make_room_under.new.own.stripe c.args.plan.now c.plan_again.new.plan c.requires.goes (returns-clause-searched g c) c.make_room_under.ensures.stripe.site
+    c.plan_again.ensures
 
 pub returns-then-not-is_full-clause-tried : goal.returns-then-not-is_full-clause-tried
 returns-then-not-is_full-clause-tried g c = λ full.

@@ -22,7 +22,7 @@ use Rattle.mc_stripe.proofs.state.StripeState.answer.Goals as goal
 pub push_answer-requires-clause-notable : goal.push_answer-requires-clause-notable
 push_answer-requires-clause-notable c =
     let found = get (pointwise nat_eq) c.self.inside.items (key_of c.args.command) in
-    let ok = rw c.in-Some.is at c.in_ok-told.ensures.ok in
+    let ok = rw c.in-Ok.is at c.in_ok-told.ensures.ok in
     subst (λ (r : Reply). IsNotable c.args.command r rooms.Keep) (sym (ok.2 ∙ ap (λ (a : Answer). a.reply) ok.1))
     (row_notable c.self.inside.site c.self.inside.versions found c.args.command c.args.moment rooms.Keep tt)
 
@@ -38,15 +38,15 @@ invariant_of-self-2 c =
     let stripe = subst (λ (s : Stripe). stripe_of key s.site.stripes ≡ record { 0 = s.site.stripe }) (sym c.self.view_is) c.requires.stripe in
     let item_is : items key ≡ cache.items key = c.self.invariant.items_are key in
     let leaves = subst (λ (o : Option Item). LeavesChunks key o (row_of site cache.versions o command moment) moment) item_is
-    (subst (λ (n : ℕ). LeavesChunks key (items key) (row_of site n (items key) command moment) moment) c.self.invariant.versions_are (rw c.in-Some.is at c.in_ok-told.ensures.chunks)) in
-    let ok = rw c.in-Some.is at c.in_ok-told.ensures.ok in
+    (subst (λ (n : ℕ). LeavesChunks key (items key) (row_of site n (items key) command moment) moment) c.self.invariant.versions_are (rw c.in-Ok.is at c.in_ok-told.ensures.chunks)) in
+    let ok = rw c.in-Ok.is at c.in_ok-told.ensures.ok in
     let noted : (r : Reply) → List StripeEvent = λ r. c.self.inside.history.items ++ events.Did (record { who = c.args.who; command = command; moment = moment; reply = r; room = rooms.Keep }) ∷ [] in
     command_kept site c.self.inside.limit c.self.inside.history.items c.push_answer.new.history.items
-    c.self.inside.versions c.in-Some.told.added
+    c.self.inside.versions c.in-Ok.told.added
     items items (get (pointwise nat_eq) c.answer_alone.new.items)
     c.args.who command moment rooms.Keep ok.0 key (items key)
     c.self.invariant few stripe leaves.alive
     (chunkless_fits (row_of site cache.versions (cache.items key) command moment).need c.self.inside.history.items leaves.need)
     (λ q. refl)
     refl refl ok.1 ok.5 ok.4
-    (c.push_answer.ensures.items ∙ ap (λ (h : List StripeEvent). h ++ events.Did (record { who = c.args.who; command = command; moment = moment; reply = c.in-Some.told.noted; room = rooms.Keep }) ∷ []) c.reserve.ensures.items ∙ ap noted ok.2)
+    (c.push_answer.ensures.items ∙ ap (λ (h : List StripeEvent). h ++ events.Did (record { who = c.args.who; command = command; moment = moment; reply = c.in-Ok.told.noted; room = rooms.Keep }) ∷ []) c.reserve.ensures.items ∙ ap noted ok.2)

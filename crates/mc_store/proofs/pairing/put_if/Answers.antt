@@ -1,0 +1,6 @@
+use Rattle.mc_store.proofs.CallerLemmas.{told_answer}
+use Rattle.mc_store.proofs.QuickLemmas.{done}
+use Rattle.mc_store.proofs.pairing.put_if.Goals as goal
+
+pub returns-then-done-clause-told : goal.returns-then-done-clause-told
+returns-then-done-clause-told g c = λ yes. told_answer g.N.Named.config c.args.caller.now c.note.new.self c.args.seen.now c.note.new.seen c.note.ensures.told (done c.args.place)
