@@ -353,6 +353,18 @@ fn a_quick_set_over_a_dead_item_is_given_back(rt: HostRuntime) -> Result<(), Fai
     Ok(())
 }
 
+// Four quick sets of one key, each of which is stored.
+fn set_four<R: Abort>(rt: &R, world: &mut World) -> Result<(), Fault>
+    requires world { IsWorld world.old.config world.old.class world.old.stripe }
+    ensures world { IsWorld world.new.config world.new.class world.new.stripe }
+{
+    assert_eq!(rt; set_quick(rt, world, b'a', 1000)?, "stored");
+    assert_eq!(rt; set_quick(rt, world, b'a', 1000)?, "stored");
+    assert_eq!(rt; set_quick(rt, world, b'a', 1000)?, "stored");
+    assert_eq!(rt; set_quick(rt, world, b'a', 1000)?, "stored");
+    Ok(())
+}
+
 // A set over an item takes two places of its class's history, and one of its stripe's.
 #[test]
 fn a_quick_set_wants_two_places_of_its_class(rt: HostRuntime) -> Result<(), Fail> {
@@ -360,9 +372,8 @@ fn a_quick_set_wants_two_places_of_its_class(rt: HostRuntime) -> Result<(), Fail
     let mut config = usual(alloc, 4)?;
     config.max_events = 16;
     let mut world = opened(&rt, alloc, config)?;
-    for _i in 0..8 {
-        assert_eq!(rt; set_quick(&rt, &mut world, b'a', 1000)?, "stored");
-    }
+    set_four(&rt, &mut world)?;
+    set_four(&rt, &mut world)?;
     asserts_lengths(&rt, &world, 15, 8);
     assert_eq!(rt; set_quick(&rt, &mut world, b'a', 1000)?, "given back");
     asserts_lengths(&rt, &world, 15, 8);
