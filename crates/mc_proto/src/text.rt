@@ -233,6 +233,7 @@ fn make_room(out: &mut Vec<u8>, n: usize) -> Result<(), NoMemory>
 
 /// Adds a value's text behind its key: flags, number of bytes, with `gets` the cas number, and the value in a line of
 /// its own. Nothing for any other reply. After an `Err` nothing is added.
+#[inline(always)]
 pub fn push_value_tail(out: &mut Vec<u8>, reply: &Reply, with_cas: bool) -> Result<(), NoMemory>
     ensures ok { OnOk result (out.new.items ≡ out.old.items ++ texts.value_tail reply.now with_cas) }
     ensures err { OnErr result (out.new.items ≡ out.old.items) }

@@ -115,6 +115,7 @@ pub fn more_tokens<'a>(
 }
 
 /// The key that a token is, if it can be one.
+#[inline(always)]
 pub fn key_of(alloc: Global, token: &[u8]) -> Result<Option<Key>, NoMemory>
     ensures { IfOk result (λ key. key ≡ lines.key_of token.now) }
 {

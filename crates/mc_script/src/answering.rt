@@ -17,6 +17,7 @@ use std::sync::Wait;
 
 // One key of a get, with its value's text, where there is one. The text is begun before the key goes into the call, and
 // taken back on a miss, so no key is copied.
+#[inline(always)]
 fn answer_key<C: Calls>(
     rt: &impl Wait,
     calls: &mut C,
