@@ -12,3 +12,4 @@ pub mod RunLemmas
 pub mod InputLemmas
 pub mod PieceLemmas
 pub mod CutLemmas
+pub mod StatusLemmas

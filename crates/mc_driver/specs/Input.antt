@@ -9,6 +9,7 @@ use Rattle.mc_script.specs.declared.outcome.Outcome.{Outcome}
 use Rattle.mc_script.specs.declared.outcome.Outcome.TheVariants.{Done}
 use Rattle.mc_store.specs.Finals.{FinalView}
 use Rattle.mc_options.specs.Asked.{AreAsked, asked}
+use Rattle.mc_options.specs.Words as command_line
 use Rattle.mc_driver.specs.Left.{IsLeft}
 use Rattle.mc_driver.specs.Run.{IsAccepted, IsRunnable, limits_of, with_callers}
 use Rattle.mc_driver.specs.declared.fault.RunFault.{RunFault}
@@ -54,12 +55,18 @@ pub record IsAnswered (config : Config) (moments input : List ℕ) (held holds :
   pub done : All (λ outcome. outcome ≡ Done) ended
   pub written : Appends held holds printed
 
--- the program does its work: what its words ask for is found, and all bytes that the reader has to give are answered so
-pub record HasServed (words : List Text) (coming held holds : Option (List ℕ)) : Type 0 where
+-- the words are taken, what they ask for is found, and of all bytes that the reader has to give, with that configuration and
+-- at those moments of upkeep, this holds
+pub record AreHeeded (words : List Text) (coming : Option (List ℕ)) (holds : Config → List ℕ → List ℕ → Type 0) : Type 0 where
+  pub taken : command_line.refusals words ≡ []
   pub sizes : Option (List ℕ)
   pub moments : List ℕ
   pub options : Options
   pub are_asked : AreAsked words sizes moments options
   pub input : List ℕ
   pub whole : IfSome coming (λ bytes. input ≡ bytes)
-  pub answered : IsAnswered (asked sizes options) moments input held holds
+  pub done : holds (asked sizes options) moments input
+
+-- the program does its work: all bytes that the reader has to give are answered as the words ask
+abbrev pub HasServed : List Text → Option (List ℕ) → Option (List ℕ) → Option (List ℕ) → Type 0
+HasServed words coming held holds = AreHeeded words coming (λ config moments input. IsAnswered config moments input held holds)

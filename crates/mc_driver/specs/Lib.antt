@@ -6,3 +6,4 @@ pub mod Jobs
 pub mod Run
 pub mod Left
 pub mod Input
+pub mod Status

@@ -1,12 +1,15 @@
 //! The program, over any reader and writers.
-ghost use Rattle.std.specs.Prelude.{◌≡◌, ◌≤◌, ◌<◌, ◌^◌, []};
+ghost use Rattle.std.specs.Prelude.{◌≡◌, ◌≢◌, ◌≤◌, ◌<◌, ◌^◌, ◌⊎◌, IsTrue, ◌↔◌, []};
 ghost use Rattle.std.specs.List.{All, flat_map};
+ghost use Rattle.std.specs.Io.KnownBytes.{Keeps};
 ghost use Rattle.clap.specs.Words.{kind_of};
 ghost use Rattle.clap.specs.Walk.{texts};
-ghost use Rattle.clap.specs.declared.error.kind.ErrorKind.TheVariants.{OutOfMemory};
-ghost use Rattle.mc_item.specs.Config.{IsBounded};
+ghost use Rattle.clap.specs.declared.error.kind.ErrorKind.TheVariants.{DisplayHelp, DisplayVersion, OutOfMemory};
+ghost use Rattle.mc_item.specs.Config.{IsSound};
 ghost use Rattle.mc_script.specs.declared.outcome.Outcome.TheVariants.{Done};
-ghost use Rattle.mc_driver.specs.Input.{HasServed, IsAnswered};
+ghost use Rattle.mc_driver.specs.Input.{HasServed, IsAnswered, IsUnrun};
+ghost use Rattle.mc_driver.specs.Status.{AreForHelp, AreRefused, HasServedInPart, HasTooMany, IsAnsweredInPart, IsFirstFault, status_of};
+ghost use Rattle.mc_driver.specs.declared.fault.RunFault.TheVariants as unrun;
 ghost use Rattle.mc_options.specs.Words.{refusals};
 
 use crate::cutting::{MOST_SCRIPTS, run_cut};
@@ -57,7 +60,11 @@ fn print_all<W: Write>(writer: &mut W, text: &[u8]) -> io::Result<()> {
 
 // What the reader of the command line says: help and version go to the output, refusals to the errors.
 fn say_words<W: Write, E: Write>(alloc: Global, error: &Error, writer: &mut W, errors: &mut E) -> u8
-    ensures { kind_of error.now ≡ OutOfMemory → 0 < result }
+    ensures memory { kind_of error.now ≡ OutOfMemory → result ≡ 1 }
+    ensures shown { result ≡ 0 → (kind_of error.now ≡ DisplayHelp) ⊎ (kind_of error.now ≡ DisplayVersion) }
+    ensures mistake { result ≡ 2 → (kind_of error.now ≢ DisplayHelp) × (kind_of error.now ≢ DisplayVersion) }
+    ensures kept { result ≡ 1 ⊎ (result ≡ 2) → Keeps (W.contents writer.old) (W.contents writer.new) }
+    ensures few { result ≤ 3 }
 {
     if let ErrorKind::OutOfMemory = error.kind() {
         return say_line(errors, MEMORY, 1);
@@ -76,7 +83,7 @@ fn say_words<W: Write, E: Write>(alloc: Global, error: &Error, writer: &mut W, e
 
 // What is wrong with a configuration, by its number.
 fn say_configuration<E: Write>(alloc: Global, number: u8, errors: &mut E) -> u8
-    ensures { 0 < result }
+    ensures { (result ≡ 1) ⊎ (result ≡ 2) }
 {
     match format!(in alloc; "mcseg: bad configuration {number}\n") {
         Ok(text) => say_line(errors, text.as_bytes(), 2),
@@ -86,7 +93,7 @@ fn say_configuration<E: Write>(alloc: Global, number: u8, errors: &mut E) -> u8
 
 // The status of a script that ended so, and its line on standard error. A sink in memory fails where memory does.
 fn say_outcome<E: Write>(outcome: Outcome, errors: &mut E) -> u8
-    ensures { result ≡ 0 → outcome ≡ Done }
+    ensures { result ≡ status_of outcome }
 {
     match outcome {
         Outcome::Done => 0,
@@ -99,7 +106,8 @@ fn say_outcome<E: Write>(outcome: Outcome, errors: &mut E) -> u8
 
 // The status of a run: what went wrong first decides, in the order of the scripts, then of the maintainer and the crawler.
 fn say_outcomes<E: Write>(outcomes: &[Outcome], errors: &mut E) -> u8
-    ensures { result ≡ 0 → All (λ outcome. outcome ≡ Done) outcomes.now }
+    ensures done { result ≡ 0 → All (λ outcome. outcome ≡ Done) outcomes.now }
+    ensures first { 0 < result → IsFirstFault result outcomes.now }
 {
     for outcome in outcomes {
         let status = say_outcome(*outcome, errors);
@@ -112,7 +120,8 @@ fn say_outcomes<E: Write>(outcomes: &[Outcome], errors: &mut E) -> u8
 
 // Why an input wasn't run.
 fn say_fault<E: Write>(fault: RunFault, errors: &mut E) -> u8
-    ensures { 0 < result }
+    ensures memory { fault ≡ unrun.NoMemory → result ≡ 1 }
+    ensures refused { fault ≢ unrun.NoMemory → result ≡ 2 }
 {
     match fault {
         RunFault::NoMemory => say_line(errors, MEMORY, 1),
@@ -135,9 +144,14 @@ fn run_input<R: Threads + Wait + Sync, L: Ledger + Send + Sync, W: Write, E: Wri
     requires name { blank.name ≡ L.name }
     requires parts { blank.parts ≡ L.parts }
     requires some { 62 ≤ blank.parts }
-    requires bounded { IsBounded plan.config }
+    requires sound { IsSound plan.config }
     requires early { All (λ moment. moment ≤ 2 ^ 62) plan.upkeep }
-    ensures { result ≡ 0 → IsAnswered plan.config plan.upkeep (flat_map (λ v. v.items) input.items) (W.contents writer.old) (W.contents writer.new) }
+    ensures done { result ≡ 0 → IsAnswered plan.config plan.upkeep (flat_map (λ v. v.items) input.items) (W.contents writer.old) (W.contents writer.new) }
+    ensures broken { result ≡ 1 → Keeps (W.contents writer.old) (W.contents writer.new)
+        ⊎ IsAnsweredInPart 1 plan.config plan.upkeep (flat_map (λ v. v.items) input.items) (W.contents writer.old) (W.contents writer.new) }
+    ensures refused { result ≡ 2 → IsUnrun unrun.Scripts plan.config (flat_map (λ v. v.items) input.items) }
+    ensures kept { result ≡ 2 → Keeps (W.contents writer.old) (W.contents writer.new) }
+    ensures few { result ≤ 3 }
 {
     let Plan { config, upkeep } = plan;
     let (book, share) = blank.open::<L>();
@@ -163,7 +177,8 @@ fn run_input<R: Threads + Wait + Sync, L: Ledger + Send + Sync, W: Write, E: Wri
 /// program's name. `seed` is that of the store's hash; no reply depends on it. The memory of the store isn't freed: it
 /// goes with the process.
 ///
-/// Where the words are taken and the status is 0, all that the reader had to give is answered, as the words ask.
+/// Where the words are taken and the status is 0, all that the reader had to give is answered, as the words ask. With
+/// status 1 nothing is written, or all replies up to what went wrong; with status 2 nothing is.
 pub fn run_words<T: Threads + Wait + Sync, R: Read, W: Write, E: Write>(
     rt: &T,
     alloc: Global,
@@ -173,8 +188,20 @@ pub fn run_words<T: Threads + Wait + Sync, R: Read, W: Write, E: Write>(
     writer: &mut W,
     errors: &mut E,
 ) -> u8
-    ensures { result ≡ 0 → refusals (texts words.now) ≡ []
+    // With status 0 its work is done, or help or the version is shown.
+    ensures done { result ≡ 0 → refusals (texts words.now) ≡ []
         → HasServed (texts words.now) (R.remaining reader.old) (W.contents writer.old) (W.contents writer.new) }
+    ensures shown { result ≡ 0 → (refusals (texts words.now) ≡ []) ⊎ AreForHelp (texts words.now) }
+
+    // With status 1 nothing is written, or the scripts' replies as far as they came before memory was wanting or a
+    // history full.
+    ensures broken { result ≡ 1 → Keeps (W.contents writer.old) (W.contents writer.new)
+        ⊎ HasServedInPart 1 (texts words.now) (R.remaining reader.old) (W.contents writer.old) (W.contents writer.new) }
+
+    // With status 2 nothing is written: the words are refused, or there are too many scripts.
+    ensures refused { result ≡ 2 → AreRefused (texts words.now) ⊎ HasTooMany (texts words.now) (R.remaining reader.old) }
+    ensures kept { result ≡ 2 → Keeps (W.contents writer.old) (W.contents writer.new) }
+    ensures few { result ≤ 3 }
 {
     let plan = match read_words(alloc, words) {
         Ok(plan) => plan,

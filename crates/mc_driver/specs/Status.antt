@@ -1,0 +1,77 @@
+-- What the program's exit status tells where it isn't 0 (own).
+use Rattle.std.specs.Prelude.{ℕ, ◌≡◌, ◌≢◌, ◌<◌, ◌⊎◌, List, [], Option, Some, length, slice_index_or, take}
+use Rattle.std.specs.List.{All}
+use Rattle.std.specs.Io.KnownBytes.{Appends}
+use Rattle.clap.specs.Kinds.{IsAmong}
+use Rattle.clap.specs.Words.{Text}
+use Rattle.clap.specs.declared.error.kind.ErrorKind.{ErrorKind}
+use Rattle.clap.specs.declared.error.kind.ErrorKind.TheVariants.{DisplayHelp, DisplayVersion}
+use Rattle.mc_item.specs.Config.{fault_of}
+use Rattle.mc_item.specs.declared.config.Config.{Config}
+use Rattle.mc_item.specs.declared.config.ConfigFault.{ConfigFault}
+use Rattle.mc_script.specs.declared.outcome.Outcome.{Outcome}
+use Rattle.mc_script.specs.declared.outcome.Outcome.TheVariants.{Done, Memory, HistoryFull, Input, Output}
+use Rattle.mc_store.specs.Finals.{FinalView}
+use Rattle.mc_options.specs.Asked.{AreAsked, IsBadList, asked}
+use Rattle.mc_options.specs.Words.{refusals, sizes_in, upkeep_in}
+use Rattle.mc_options.specs.declared.plans.Options.{Options}
+use Rattle.mc_driver.specs.Input.{AreHeeded, IsRunOf, IsUnrun}
+use Rattle.mc_driver.specs.declared.fault.RunFault.TheVariants as unrun
+
+-- the status that tells how a caller ended; a sink in memory fails where memory does
+abbrev pub status_of : Outcome → ℕ
+status_of Done = 0
+status_of Memory = 1
+status_of HistoryFull = 1
+status_of Output = 1
+status_of Input = 3
+
+-- of callers that ended so, in their order, the first that isn't done is told by this status
+pub record IsFirstFault (status : ℕ) (ended : List Outcome) : Type 0 where
+  pub place : ℕ
+  pub within : place < length ended
+  pub done : All (λ outcome. outcome ≡ Done) (take place ended)
+  pub told : (d : Outcome) → status_of (slice_index_or ended place d) ≡ status
+
+-- an input is answered as far as this status tells: it is run, what its scripts print stands behind what the writer held,
+-- and the first caller that isn't done is told by the status
+pub record IsAnsweredInPart (status : ℕ) (config : Config) (moments input : List ℕ) (held holds : Option (List ℕ)) : Type 0 where
+  pub printed : List ℕ
+  pub ended : List Outcome
+  pub final : FinalView
+  pub run : IsRunOf config moments input printed ended final
+  pub fault : IsFirstFault status ended
+  pub written : Appends held holds printed
+
+-- all bytes that the reader has to give are answered as the words ask, as far as this status tells
+abbrev pub HasServedInPart : ℕ → List Text → Option (List ℕ) → Option (List ℕ) → Option (List ℕ) → Type 0
+HasServedInPart status words coming held holds = AreHeeded words coming (λ config moments input. IsAnsweredInPart status config moments input held holds)
+
+-- the words ask for help or for the version
+abbrev pub AreForHelp : List Text → Type 0
+AreForHelp words = IsAmong DisplayHelp (refusals words) ⊎ IsAmong DisplayVersion (refusals words)
+
+-- the reader of the command line refuses the words, for what isn't a wish for help or the version
+pub record AreMistaken (words : List Text) : Type 0 where
+  pub kind : ErrorKind
+  pub refused : IsAmong kind (refusals words)
+  pub no_help : kind ≢ DisplayHelp
+  pub no_version : kind ≢ DisplayVersion
+
+-- the words ask for a configuration that has a fault
+pub record HaveFault (words : List Text) : Type 0 where
+  pub sizes : Option (List ℕ)
+  pub moments : List ℕ
+  pub options : Options
+  pub are_asked : AreAsked words sizes moments options
+  pub fault : ConfigFault
+  pub has : fault_of (asked sizes options) ≡ Some fault
+
+-- the words are refused: by the reader of the command line, or, where it takes them, for a bad list or the configuration that
+-- they ask for
+abbrev pub AreRefused : List Text → Type 0
+AreRefused words = AreMistaken words ⊎ ((refusals words ≡ []) × (IsBadList (sizes_in words) (upkeep_in words) ⊎ HaveFault words))
+
+-- the bytes that the reader has to give are cut into more than 62 scripts
+abbrev pub HasTooMany : List Text → Option (List ℕ) → Type 0
+HasTooMany words coming = AreHeeded words coming (λ config moments input. IsUnrun unrun.Scripts config input)
