@@ -82,11 +82,26 @@ fn is_key_byte(byte: u8) -> bool
     !(byte == 0 || byte == 10 || byte == 13 || byte == 32)
 }
 
-// Whether each byte may stand in a key.
-fn are_key_bytes(bytes: &[u8]) -> bool
+// Whether each byte may stand in a key, one by one.
+#[inline(always)]
+fn are_each_key_bytes(bytes: &[u8]) -> bool
     ensures { result ≡ list_all Rattle.mc_item.specs.Key.is_key_byte bytes.now }
 {
     bytes.iter().all(|byte| is_key_byte(*byte))
+}
+
+// Whether each byte may stand in a key, four at a time.
+fn are_key_bytes(bytes: &[u8]) -> bool
+    ensures { result ≡ list_all Rattle.mc_item.specs.Key.is_key_byte bytes.now }
+{
+    let mut rest = bytes;
+    while let [a, b, c, d, more @ ..] = rest {
+        if !(is_key_byte(*a) && is_key_byte(*b) && is_key_byte(*c) && is_key_byte(*d)) {
+            return false;
+        }
+        rest = more;
+    }
+    are_each_key_bytes(rest)
 }
 
 // What is wrong with the bytes, memory left aside.
