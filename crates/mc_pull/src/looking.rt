@@ -75,7 +75,8 @@ impl<'a> Look<'a> {
         }
     }
 
-    /// Judges the entry with its stripe. It is done once.
+    /// Judges the entry with its stripe. It is done once. `HistoryFull` is answered where one of both histories has no place
+    /// for what is to be done, `NoMemory` where a growth was refused; then nothing happened.
     pub fn settle(&mut self, stripe: &mut StripeState) -> Result<Done, Fault>
         requires asked { IsAsked self.old.class.now stripe.old self.old.ask }
         requires once { self.old.judged ≡ None }
