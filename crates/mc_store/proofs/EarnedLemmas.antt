@@ -1,5 +1,5 @@
 -- A refusal that was earned: when it is noted, and as more is seen.
-use Rattle.std.proofs.Common.{◌≡◌, ◌<◌, ◌⊎◌, ℕ, Bool, false, List, [], ◌∷◌, ◌++◌, inl, inr, length, refl, sym, ap, ◌∙◌, subst, append_assoc}
+use Rattle.std.proofs.Common.{◌≡◌, ◌<◌, ◌⊎◌, ℕ, false, List, [], ◌∷◌, ◌++◌, inl, inr, length, refl, sym, ap, ◌∙◌, subst, append_assoc}
 use Rattle.std.specs.Prelude.{Option, Some, None, IfSome}
 use mathlib.Core.List.{IsPrefix}
 use Rattle.mc_item.specs.Command.{key_of}
@@ -35,9 +35,8 @@ use Rattle.mc_rule.specs.Segment.{Rule, rule_of}
 use Rattle.mc_rule.specs.Places.{Stands}
 use Rattle.mc_pull.specs.Question.{IsClassOf}
 use Rattle.mc_pull.specs.Rounds.{IsRoom, Rounds, rounds}
-use Rattle.mc_pull.specs.Walk.{class_at}
 use Rattle.mc_pull.specs.declared.looking.Answer.{Answer}
-use Rattle.mc_store.specs.Earned.{HasGivenUp, HasGoneThrough, HasSearched, IsEarned, IsEarnedAt, IsEarnedIn, IsLastResort}
+use Rattle.mc_store.specs.Earned.{HasGivenUp, HasGoneThrough, HasSearched, IsInVain, IsEarned, IsEarnedAt, IsEarnedIn, IsLastResort}
 use Rattle.mc_store.specs.Locked.{class_lock}
 use Rattle.mc_store.specs.Sides.{class_told}
 
@@ -61,12 +60,15 @@ rounds_same config v class who moment made is =
     (parts_same v.number class v.chunks (chunks_for config class) v.max_events config.max_events v.rule (opened config class).rule is (made.chunks ∙ ap (chunks_for config) is) made.max_events made.rule)
 
 -- rounds in vain are all rounds of a search
-pub gone_through : (config : Config) (v : ClassView) (class : ClassNo) (who : Who) (moment : ℕ) (xs : List Answer) (after : List ClassEvent) (found : Bool) → IsClassOf config v → v.number ≡ class
-    → IsRoom (rounds v who moment config) v.history xs after found → found ≡ false → HasGoneThrough config class who moment after
-gone_through config v class who moment xs after found made is room vain = record {
+pub gone_through : (config : Config) (number : StripeNo) (v : ClassView) (class : ClassNo) (who : Who) (moment : ℕ) (after : List ClassEvent) → IsClassOf config v → v.number ≡ class
+    → IsInVain config number v who moment v.history after → HasGoneThrough config number class who moment after
+gone_through config number v class who moment after made is vain = record {
   before = v.history;
-  answers = xs;
-  rounds_are = subst (λ (r : Rounds). IsRoom r v.history xs after false) (rounds_same config v class who moment made is) (subst (λ (b : Bool). IsRoom (rounds v who moment config) v.history xs after b) vain room);
+  in_vain = record {
+    answers = vain.answers;
+    rounds_are = subst (λ (r : Rounds). IsRoom r v.history vain.answers after false) (rounds_same config v class who moment made is) vain.rounds_are;
+    had = vain.had;
+  };
 }
 
 -- a refusal that was noted just now, behind a search in vain
@@ -162,10 +164,10 @@ earned_told config site sight who command moment reply (rooms.Refused own at) sa
     of class is =
         subst IsSo is (earned.before, record { who = who }, earned.refused, (record { who = refl; room = ap (λ (n : ℕ). rooms.Refused own n) earned.place_is }, searched earned.searched.0))
 
-    resort : (class : ClassNo) (place : ℕ) → rooms.Refused own at ≡ rooms.Refused class place → IsLastResort config class place (classes_seen config.stripes (list_at sight.seen) class) did
+    resort : (class : ClassNo) (place : ℕ) → rooms.Refused own at ≡ rooms.Refused class place → IsLastResort config (record { 0 = site.stripe }) class place (classes_seen config.stripes (list_at sight.seen) class) did
     resort class place is =
-        subst (λ (n : ClassNo). IsLastResort config n place (classes_seen config.stripes (list_at sight.seen) n) did) (same_class class place is)
-        (subst (λ (p : ℕ). IsLastResort config own p (classes_seen config.stripes (list_at sight.seen) own) did) (same_place class place is)
+        subst (λ (n : ClassNo). IsLastResort config (record { 0 = site.stripe }) n place (classes_seen config.stripes (list_at sight.seen) n) did) (same_class class place is)
+        (subst (λ (p : ℕ). IsLastResort config (record { 0 = site.stripe }) own p (classes_seen config.stripes (list_at sight.seen) own) did) (same_place class place is)
         (record { before = earned.before; refused = earned.refused; place_is = earned.place_is; through = earned.searched.1 }))
 
 -- and wasn't so for whoever has seen more
