@@ -8,12 +8,14 @@ use Rattle.mc_item.specs.declared.event.Event.{Event}
 use Rattle.mc_item.specs.declared.event.Event.TheVariants.{Call, Class, Stripe}
 use Rattle.mc_item.specs.declared.item.ClassNo.{ClassNo}
 use Rattle.mc_item.specs.declared.item.Who.{Who}
+use Rattle.mc_evidence.specs.Locks.{ClassKeeps}
+use Rattle.mc_evidence.specs.Seen.{stripes_seen}
 use Rattle.mc_rule.specs.Lists.{count_of, lists_of}
 use Rattle.mc_board.specs.Histories.{list_at}
 use Rattle.mc_board.specs.declared.rule.Sight.{Sight}
 use Rattle.mc_crawl.specs.Crawl.{IsReclaim}
 use Rattle.mc_crawl.specs.CrawlCount.{IsBalanced}
-use Rattle.mc_store.specs.Locked.{class_lock}
+use Rattle.mc_store.specs.Locked.{class_lock, setting_of}
 use Rattle.mc_store.specs.Sides.{class_told}
 
 -- among these events at least so many are a `Reclaimed` by this caller's call and of this moment
@@ -38,9 +40,17 @@ pub record IsSnapshot (config : Config) (class : ClassNo) (before after : Sight)
   pub now : IsPrefix (class_told history) (list_at after.seen (class_lock config class))
   pub count_is : count ≡ count_of (lists_of history)
 
+-- a pass has seen a class whole, as it was at one point, and of each of its events the partner in what it has seen of the
+-- stripes
+pub record IsSeenSound (config : Config) (class : ClassNo) (after : Sight) : Type 0 where
+  pub history : List ClassEvent
+  pub now : list_at after.seen (class_lock config class) ≡ class_told history
+  pub sound : ClassKeeps (setting_of config) class history (stripes_seen (list_at after.seen))
+
 -- a class was crawled: the entries that it had at one point were seen, each counts as one kind, and what was reclaimed the
 -- pass has seen
 pub record IsCrawledBy (config : Config) (class : ClassNo) (before after : Sight) (who : Who) (moment : ℕ) (histogram : Histogram) : Type 0 where
   pub snapshot : IsSnapshot config class before after histogram.seen
   pub balanced : IsBalanced histogram
   pub reclaims : ShowsReclaims config class before after who moment 0 histogram.reclaimed
+  pub sound : IsSeenSound config class after

@@ -6,7 +6,7 @@ ghost use Rattle.mc_board.specs.Histories.{Grows};
 ghost use Rattle.mc_pull.specs.Growth as classes;
 ghost use Rattle.mc_crawl.specs.Crawl.{Reclaims};
 ghost use Rattle.mc_crawl.specs.CrawlCount.{IsBalanced, MayCount};
-ghost use Rattle.mc_store.specs.Crawls.{IsCrawledBy, IsSnapshot, ShowsReclaims};
+ghost use Rattle.mc_store.specs.Crawls.{IsCrawledBy, IsSeenSound, IsSnapshot, ShowsReclaims};
 ghost use Rattle.mc_store.specs.Locked.{setting_of, HasBegun};
 ghost use Rattle.mc_store.specs.Passes.{next_who, caller_of, HasCalled};
 ghost use Rattle.mc_store.specs.Made.{WalksOwn};
@@ -104,6 +104,7 @@ impl<N: Named> Store<N> {
         requires class { IsClass (setting_of N.config) class }
         ensures links { IfOk result (λ links. IsSnapshot N.config class pass.old.sight pass.new.sight (length links.items)) }
         ensures few { IfOk result (λ links. length links.items ≤ 2 ^ 32) }
+        ensures sound { OnOk result (IsSeenSound N.config class pass.new.sight) }
         ensures grows { Grows pass.old.sight pass.new.sight }
         ensures same { pass.new ≡ record pass.old { sight = pass.new.sight } }
         ensures memory { IfErr result (λ fault. fault ≡ NoMemory) }
@@ -134,6 +135,7 @@ impl<N: Named> Store<N> {
         ensures seen { OnOk result (histogram.new.seen ≡ histogram.old.seen + 1) }
         ensures balanced { IsBalanced histogram.old → IsBalanced histogram.new }
         ensures reclaims { OnOk result (ShowsReclaims N.config class pass.old.sight pass.new.sight who moment histogram.old.reclaimed histogram.new.reclaimed) }
+        ensures sound { IsSeenSound N.config class pass.new.sight }
         ensures grows { Grows pass.old.sight pass.new.sight }
         ensures same { pass.new ≡ record pass.old { sight = pass.new.sight } }
         ensures full { IsErrOf result HistoryFull → HasSeenShort N.config pass.new.sight }

@@ -28,6 +28,7 @@ loop-i-init g c =
       ap (λ (p : PassView). p.turn) c.snapshot_of.ensures.same ∙ ap (λ (p : PassView). p.turn) turn,
       c.in_ok-who.ensures.who,
       ap (λ (p : PassView). p.calls) c.snapshot_of.ensures.same ∙ ap (λ (p : PassView). p.calls) turn,
+      c.in_ok-links.ensures.sound,
     )
 
 pub returns-in_err-crawl_link-clause-grows : goal.returns-in_err-crawl_link-clause-grows
@@ -59,4 +60,5 @@ loop-i-preserved g c =
       ap (λ (p : PassView). p.turn) c.crawl_link.ensures.same ∙ i.6,
       i.7,
       ap (λ (p : PassView). p.calls) c.crawl_link.ensures.same ∙ i.8,
+      c.crawl_link.ensures.sound,
     )

@@ -2,7 +2,7 @@ use Rattle.std.proofs.Common.{◌≡◌, ◌+◌, ◌++◌, ◌∷◌, [], lengt
 use Rattle.mc_board.specs.Histories.{Grows}
 use Rattle.mc_crawl.specs.CrawlCount.{IsBalanced}
 use Rattle.mc_store.specs.Callers.{crawling_of}
-use Rattle.mc_store.specs.Crawls.{IsSnapshot, ShowsReclaims}
+use Rattle.mc_store.specs.Crawls.{IsSeenSound, IsSnapshot, ShowsReclaims}
 use Rattle.mc_store.specs.Passes.{next_who}
 use Rattle.mc_store.proofs.store.Store.crawl.Given as goal
 
@@ -13,3 +13,4 @@ invariant-loop-i g l =
     × IsSnapshot g.N.Named.config l.class l.fn.pass.sight l.pass.sight (length l.links.items)
     × Grows l.fn.pass.sight l.pass.sight × (l.pass.caller ≡ l.fn.pass.caller) × (l.pass.turn ≡ l.fn.pass.turn + 1) × (l.who ≡ next_who l.fn.pass)
     × (l.pass.calls ≡ l.fn.pass.calls ++ crawling_of l.class l.moment ∷ [])
+    × IsSeenSound g.N.Named.config l.class l.pass.sight

@@ -11,7 +11,7 @@ use Rattle.mc_store.specs.Locked.{IsHeldClass}
 use Rattle.mc_store.specs.Passes.{PassView, HasCalled, caller_of}
 use Rattle.mc_store.specs.Sides.{ClassSide, class_told}
 use Rattle.mc_store.proofs.CrawledLemmas.{on_ok_more, shows_one}
-use Rattle.mc_store.proofs.GrownLemmas.{class_grew, fails_full}
+use Rattle.mc_store.proofs.GrownLemmas.{class_grew, fails_full, seen_sound}
 use Rattle.mc_store.proofs.store.Store.crawl_link.Goals as goal
 
 pub returns-clause-reclaims : goal.returns-clause-reclaims
@@ -66,3 +66,19 @@ returns-clause-full g c = λ is.
 pub crawl_under-done-requires-clause-begun : goal.crawl_under-done-requires-clause-begun
 crawl_under-done-requires-clause-begun g c =
     c.tell_class.ensures.begun c.args.who c.args.moment (subst (λ (p : PassView). HasCalled (caller_of p) c.args.who c.args.moment) (sym c.pass.view_is) c.requires.called)
+
+pub returns-clause-sound : goal.returns-clause-sound
+returns-clause-sound g c =
+    let config = g.N.Named.config in
+    let table = g.N.Named.board.table in
+    let old = c.compare.new.self in
+    let same : old ≡ c.own.inside.side = c.compare.ensures.same.0 in
+    let new = c.crawl_under-done.new.class in
+    let new_kept : IsHeldClass table config new = subst (IsHeldClass table config) c.own-2.view_is c.own-2.invariant.held in
+    let cls : c.tell_class.new.class.class ≡ old.class = ap (λ (x : ClassSide). x.class) c.tell_class.ensures.class in
+    let grows = subst (λ (v : ClassView). classes.Grows v new.class) cls c.crawl_under-done.ensures.class in
+    let number : old.class.number ≡ c.args.class = ap (λ (x : ClassSide). x.class.number) (same ∙ (c.own.view_is ∙ c.deref_mut-own.ensures.value)) ∙ c.lock_class-guard.ensures in
+    let told : list_at c.share.new.seen.sight.seen new.lock ≡ class_told new.class.history =
+    subst (λ (x : ClassSide). list_at c.share.new.seen.sight.seen x.lock ≡ class_told x.class.history) c.own-2.view_is c.share.ensures.told in
+    let all : Grows new.sight c.share.new.seen.sight = subst (λ (x : ClassSide). Grows x.sight c.share.new.seen.sight) c.own-2.view_is c.share.ensures.all in
+    seen_sound table config c.args.class c.share.new.seen.sight new new_kept (ap (λ (v : ClassView). v.number) grows.same ∙ number) told all
