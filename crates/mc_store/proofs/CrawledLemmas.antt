@@ -3,17 +3,27 @@ use Rattle.std.proofs.Common.{◌≡◌, ◌+◌, ℕ, List, [], ◌∷◌, ◌+
 use Rattle.std.specs.Prelude.{OnOk}
 use mathlib.Core.List.{IsPrefix}
 use Rattle.mc_item.specs.declared.class_event.ClassEvent.{ClassEvent}
+use Rattle.mc_item.specs.Counts.{no_counts}
 use Rattle.mc_item.specs.declared.config.Config.{Config}
+use Rattle.mc_item.specs.declared.counts.Histogram.{Histogram}
 use Rattle.mc_item.specs.declared.event.Event.{Event}
 use Rattle.mc_item.specs.declared.event.Event.TheVariants.{Call, Class, Stripe}
 use Rattle.mc_item.specs.declared.fault.Fault.{Fault}
 use Rattle.mc_item.specs.declared.item.ClassNo.{ClassNo}
+use Rattle.mc_item.specs.declared.item.Link.{Link}
 use Rattle.mc_item.specs.declared.item.Who.{Who}
 use Rattle.mc_board.specs.Histories.{Grows, list_at}
 use Rattle.mc_board.specs.declared.rule.Sight.{Sight}
-use Rattle.mc_board.proofs.PrefixLemmas.{prefix_trans}
-use Rattle.mc_crawl.specs.Crawl.{AreReclaims, Reclaims}
-use Rattle.mc_store.specs.Crawls.{HasReclaims, IsSnapshot, ShowsReclaims}
+use Rattle.mc_rule.specs.Lists.{count_of, lists_of}
+use Rattle.mc_board.proofs.PrefixLemmas.{prefix_self, prefix_trans}
+use Rattle.mc_segment.specs.ClassState.{ClassView, opened}
+use Rattle.mc_pull.specs.declared.looking.Answer.{Answer}
+use Rattle.mc_crawl.specs.Crawl.{AreReclaims, IsCrawled, Reclaims, crawl}
+use Rattle.mc_crawl.specs.CrawlCount.{IsBalanced, counted}
+use Rattle.mc_crawl.specs.Snapshot.{links_of}
+use Rattle.mc_crawl.specs.declared.kind.Kind.{Kind}
+use Rattle.mc_store.specs.Calls.{IsSeenGrowOf}
+use Rattle.mc_store.specs.Crawls.{AreLinksCounted, CountsLink, HasReclaims, IsCrawledBy, IsLinkCounted, IsSeenSound, IsSnapshot, ShowsReclaims}
 use Rattle.mc_store.specs.Locked.{class_lock}
 use Rattle.mc_store.specs.Sides.{class_told}
 use Rattle.mc_store.proofs.ServedLemmas.{map_append}
@@ -90,4 +100,93 @@ snapshot_later config class a b c count snapshot more = record {
   begins = snapshot.begins;
   now = prefix_trans (class_told snapshot.history) (list_at b.seen (class_lock config class)) (list_at c.seen (class_lock config class)) snapshot.now (more.at (class_lock config class));
   count_is = snapshot.count_is;
+  links = snapshot.links;
+  links_are = snapshot.links_are;
+}
+
+-- a class that was told of whole was taken down
+pub snapshot_taken : (config : Config) (class : ClassNo) (before after : Sight) (c : ClassView) (links : List Link) → c.number ≡ class → IsPrefix (list_at before.seen (class_lock config class)) (class_told c.history)
+    → list_at after.seen (class_lock config class) ≡ class_told c.history → links ≡ links_of c → length links ≡ count_of (lists_of c.history)
+    → (snapshot : IsSnapshot config class before after (length links)) × (snapshot.links ≡ links) × (list_at after.seen (class_lock config class) ≡ class_told snapshot.history)
+snapshot_taken config class before after c links number seen now are count = (
+  record {
+    history = c.history;
+    begins = seen;
+    now = subst (λ (l : List Event). IsPrefix (class_told c.history) l) (sym now) (prefix_self (class_told c.history));
+    count_is = count;
+    links = links;
+    links_are = are ∙ ap (λ (n : ClassNo). links_of (record (opened config n) { history = c.history })) number;
+  },
+  refl,
+  now,
+)
+
+-- a link that was crawled was counted
+pub counts_link : (config : Config) (c c_new : ClassView) (who : Who) (moment : ℕ) (link : Link) (xs ys : List Answer) (h h_new : Histogram) (r : Result Unit Fault)
+    → OnOk r ((k : Kind) × IsCrawled (crawl who link.number moment config) c c_new xs ys k × (h_new ≡ counted k h)) → OnOk r (CountsLink config c c_new who moment link h h_new)
+counts_link config c c_new who moment link xs ys h h_new (Ok x) made = record { kind = made.0; answers = xs; answers_new = ys; crawled = made.1; counts = made.2 }
+counts_link config c c_new who moment link xs ys h h_new (Err f) made = tt
+
+-- a link was counted under the lock
+pub link_counted : (config : Config) (class : ClassNo) (before after : Sight) (who : Who) (moment : ℕ) (link : Link) (h h_new : Histogram) (c c_new : ClassView) → IsSeenGrowOf config class before after c c_new.history
+    → CountsLink config c c_new who moment link h h_new → IsLinkCounted config class (list_at before.seen (class_lock config class)) (list_at after.seen (class_lock config class)) who moment link h h_new
+link_counted config class before after who moment link h h_new c c_new grew counts = record {
+  old = c;
+  new = c_new;
+  made_with = grew.made_with;
+  number_is = grew.number_is;
+  begins = grew.seen;
+  now = grew.now;
+  counted = counts;
+}
+
+-- one link more was counted
+pub links_counted-more : (config : Config) (class : ClassNo) (a b c : List Event) (who : Who) (moment : ℕ) (links : List Link) (link : Link) (h m n : Histogram) → AreLinksCounted config class a b who moment links h m
+    → IsLinkCounted config class b c who moment link m n → AreLinksCounted config class a c who moment (links ++ link ∷ []) h n
+links_counted-more config class a b c who moment [] link h m n none one =
+    (c, n, subst (λ (x : Histogram). IsLinkCounted config class a c who moment link x n) none.1 (subst (λ (l : List Event). IsLinkCounted config class l c who moment link m n) none.0 one), (refl, refl))
+links_counted-more config class a b c who moment (l ∷ links) link h m n some one = (some.0, some.1, some.2, links_counted-more config class some.0 b c who moment links link some.1 m n some.3 one)
+
+-- of a snapshot's links the first ones were counted
+pub record CountsSoFar (config : Config) (class : ClassNo) (before after : Sight) (who : Who) (moment : ℕ) (links done : List Link) (histogram : Histogram) : Type 0 where
+  pub snapshot : IsSnapshot config class before after (length links)
+  pub links_are : snapshot.links ≡ links
+  pub counted : AreLinksCounted config class (class_told snapshot.history) (list_at after.seen (class_lock config class)) who moment done no_counts histogram
+
+-- none of them
+pub so_far_none : (config : Config) (class : ClassNo) (before after : Sight) (who : Who) (moment : ℕ) (links : List Link) (h : Histogram) → h ≡ no_counts
+    → (snapshot : IsSnapshot config class before after (length links)) × (snapshot.links ≡ links) × (list_at after.seen (class_lock config class) ≡ class_told snapshot.history)
+    → CountsSoFar config class before after who moment links [] h
+so_far_none config class before after who moment links h none taken = record { snapshot = taken.0; links_are = taken.1; counted = (taken.2, none) }
+
+-- one more
+pub so_far_more : (config : Config) (class : ClassNo) (a b c : Sight) (who : Who) (moment : ℕ) (links done more : List Link) (link : Link) (h h_new : Histogram) → CountsSoFar config class a b who moment links done h → Grows b c
+    → IsLinkCounted config class (list_at b.seen (class_lock config class)) (list_at c.seen (class_lock config class)) who moment link h h_new → done ++ link ∷ [] ≡ more
+    → CountsSoFar config class a c who moment links more h_new
+unfolding snapshot_later
+so_far_more config class a b c who moment links done more link h h_new some grows one is = record {
+  snapshot = snapshot_later config class a b c (length links) some.snapshot grows;
+  links_are = some.links_are;
+  counted =
+      subst (λ (l : List Link). AreLinksCounted config class (class_told some.snapshot.history) (list_at c.seen (class_lock config class)) who moment l no_counts h_new) is
+      (links_counted-more config class (class_told some.snapshot.history) (list_at b.seen (class_lock config class)) (list_at c.seen (class_lock config class)) who moment done link no_counts h h_new some.counted one);
+}
+
+-- all of them, and so the class was crawled
+pub so_far_all : (config : Config) (class : ClassNo) (before after : Sight) (who : Who) (moment : ℕ) (links done : List Link) (h : Histogram) → CountsSoFar config class before after who moment links done h → done ≡ links → h.seen ≡ length links
+    → IsBalanced h → ShowsReclaims config class before after who moment 0 h.reclaimed → IsSeenSound config class after → IsCrawledBy config class before after who moment h
+so_far_all config class before after who moment links done h all is count balanced reclaims sound = record {
+  snapshot = record {
+      history = all.snapshot.history;
+      begins = all.snapshot.begins;
+      now = all.snapshot.now;
+      count_is = count ∙ all.snapshot.count_is;
+      links = all.snapshot.links;
+      links_are = all.snapshot.links_are;
+    };
+  balanced = balanced;
+  reclaims = reclaims;
+  sound = sound;
+  counted =
+      subst (λ (l : List Link). AreLinksCounted config class (class_told all.snapshot.history) (list_at after.seen (class_lock config class)) who moment l no_counts h) (is ∙ sym all.links_are) all.counted;
 }

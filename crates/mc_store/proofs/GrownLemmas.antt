@@ -20,6 +20,7 @@ use Rattle.mc_pull.specs.Juggle.{IsJuggle}
 use Rattle.mc_pull.specs.Rounds.{rounds}
 use Rattle.mc_pull.specs.declared.looking.Answer.{Answer}
 use Rattle.mc_store.specs.Calls.{IsJuggledBy, IsSeenGrowOf}
+use Rattle.mc_store.specs.Crawls.{IsSeenSound}
 use Rattle.mc_store.specs.Finals.{IsBehindAt}
 use Rattle.mc_store.specs.Locked.{IsHeldClass, class_lock, setting_of}
 use Rattle.mc_store.specs.Serving.{HasSeenShort, MayFailSeen}
@@ -27,6 +28,15 @@ use Rattle.mc_store.specs.Sides.{ClassSide, class_told}
 use Rattle.mc_store.proofs.GateLemmas.{short_seen}
 use Rattle.mc_store.proofs.PairLemmas.{class_sees}
 use Rattle.mc_store.proofs.ServedLemmas.{short_of}
+
+-- what a class's lock keeps is seen by whoever was told of it all
+pub seen_sound : (table : TableId) (config : Config) (class : ClassNo) (after : Sight) (s : ClassSide) → IsHeldClass table config s → s.class.number ≡ class → list_at after.seen s.lock ≡ class_told s.class.history → Grows s.sight after
+    → IsSeenSound config class after
+seen_sound table config class after s kept number told all = record {
+  history = s.class.history;
+  now = ap (λ (k : ℕ). list_at after.seen k) (sym (kept.lock_is ∙ ap (class_lock config) number)) ∙ told;
+  sound = subst (λ (n : ClassNo). ClassKeeps (setting_of config) n s.class.history (stripes_seen (list_at after.seen))) number (class_sees table config s after all kept).keeps;
+}
 
 module _ (table : TableId) (config : Config) (class : ClassNo) (before after : Sight) (old new : ClassSide) (old_kept : IsHeldClass table config old) (new_kept : IsHeldClass table config new)
     (number : old.class.number ≡ class) (grows : classes.Grows old.class new.class) (behind : IsBehindAt before old.lock (class_told old.class.history))

@@ -2,18 +2,27 @@
 use Rattle.std.specs.Prelude.{◌≡◌, ◌+◌, ◌++◌, ◌⊎◌, ℕ, List, [], ◌∷◌}
 use mathlib.Core.List.{IsPrefix}
 use Rattle.mc_item.specs.declared.class_event.ClassEvent.{ClassEvent}
+use Rattle.mc_item.specs.Counts.{no_counts}
 use Rattle.mc_item.specs.declared.config.Config.{Config}
 use Rattle.mc_item.specs.declared.counts.Histogram.{Histogram}
 use Rattle.mc_item.specs.declared.event.Event.{Event}
 use Rattle.mc_item.specs.declared.event.Event.TheVariants.{Call, Class, Stripe}
 use Rattle.mc_item.specs.declared.item.ClassNo.{ClassNo}
+use Rattle.mc_item.specs.declared.item.Link.{Link}
 use Rattle.mc_item.specs.declared.item.Who.{Who}
+use Rattle.mc_evidence.specs.Locks.{ClassKeeps}
+use Rattle.mc_evidence.specs.Seen.{stripes_seen}
 use Rattle.mc_rule.specs.Lists.{count_of, lists_of}
 use Rattle.mc_board.specs.Histories.{list_at}
 use Rattle.mc_board.specs.declared.rule.Sight.{Sight}
-use Rattle.mc_crawl.specs.Crawl.{IsReclaim}
-use Rattle.mc_crawl.specs.CrawlCount.{IsBalanced}
-use Rattle.mc_store.specs.Locked.{class_lock}
+use Rattle.mc_segment.specs.ClassState.{ClassView, opened}
+use Rattle.mc_pull.specs.Question.{IsClassOf}
+use Rattle.mc_pull.specs.declared.looking.Answer.{Answer}
+use Rattle.mc_crawl.specs.Crawl.{IsCrawled, IsReclaim, crawl}
+use Rattle.mc_crawl.specs.CrawlCount.{IsBalanced, counted}
+use Rattle.mc_crawl.specs.Snapshot.{links_of}
+use Rattle.mc_crawl.specs.declared.kind.Kind.{Kind}
+use Rattle.mc_store.specs.Locked.{class_lock, setting_of}
 use Rattle.mc_store.specs.Sides.{class_told}
 
 -- among these events at least so many are a `Reclaimed` by this caller's call and of this moment
@@ -31,16 +40,52 @@ pub record ShowsReclaims (config : Config) (class : ClassNo) (before after : Sig
   pub count_is : count_after ≡ count_before + many
   pub reclaims : HasReclaims who moment many events
 
--- the pass has seen a class as it was at one point, after all that it had seen of it before, with so many entries
+-- the pass has seen a class as it was at one point, after all that it had seen of it before, with so many entries, which had
+-- these links
 pub record IsSnapshot (config : Config) (class : ClassNo) (before after : Sight) (count : ℕ) : Type 0 where
   pub history : List ClassEvent
   pub begins : IsPrefix (list_at before.seen (class_lock config class)) (class_told history)
   pub now : IsPrefix (class_told history) (list_at after.seen (class_lock config class))
   pub count_is : count ≡ count_of (lists_of history)
+  pub links : List Link
+  pub links_are : links ≡ links_of (record (opened config class) { history = history })
 
--- a class was crawled: the entries that it had at one point were seen, each counts as one kind, and what was reclaimed the
--- pass has seen
+-- a pass has seen a class whole, as it was at one point, and of each of its events the partner in what it has seen of the
+-- stripes
+pub record IsSeenSound (config : Config) (class : ClassNo) (after : Sight) : Type 0 where
+  pub history : List ClassEvent
+  pub now : list_at after.seen (class_lock config class) ≡ class_told history
+  pub sound : ClassKeeps (setting_of config) class history (stripes_seen (list_at after.seen))
+
+-- a link of a class was crawled, and a histogram counts it once more, as the kind that it was then
+pub record CountsLink (config : Config) (c c_new : ClassView) (who : Who) (moment : ℕ) (link : Link) (histogram histogram_new : Histogram) : Type 0 where
+  pub kind : Kind
+  pub answers : List Answer
+  pub answers_new : List Answer
+  pub crawled : IsCrawled (crawl who link.number moment config) c c_new answers answers_new kind
+  pub counts : histogram_new ≡ counted kind histogram
+
+-- a link was counted under its class's lock: the class was there with all that had been seen of it, and all of it is seen then
+pub record IsLinkCounted (config : Config) (class : ClassNo) (seen seen_new : List Event) (who : Who) (moment : ℕ) (link : Link) (histogram histogram_new : Histogram) : Type 0 where
+  pub old : ClassView
+  pub new : ClassView
+  pub made_with : IsClassOf config old
+  pub number_is : old.number ≡ class
+  pub begins : IsPrefix seen (class_told old.history)
+  pub now : seen_new ≡ class_told new.history
+  pub counted : CountsLink config old new who moment link histogram histogram_new
+
+-- these links of a class were counted one after another, each where the one before it had left the class and the histogram
+abbrev pub AreLinksCounted : Config → ClassNo → List Event → List Event → Who → ℕ → List Link → Histogram → Histogram → Type 0
+AreLinksCounted config class seen seen_new who moment [] histogram histogram_new = (seen_new ≡ seen) × (histogram_new ≡ histogram)
+AreLinksCounted config class seen seen_new who moment (link ∷ links) histogram histogram_new =
+    (between : List Event) × (middle : Histogram) × IsLinkCounted config class seen between who moment link histogram middle × AreLinksCounted config class between seen_new who moment links middle histogram_new
+
+-- a class was crawled: the entries that it had at one point were counted one after another, from nothing on, each as one kind,
+-- and what was reclaimed the pass has seen
 pub record IsCrawledBy (config : Config) (class : ClassNo) (before after : Sight) (who : Who) (moment : ℕ) (histogram : Histogram) : Type 0 where
   pub snapshot : IsSnapshot config class before after histogram.seen
   pub balanced : IsBalanced histogram
   pub reclaims : ShowsReclaims config class before after who moment 0 histogram.reclaimed
+  pub sound : IsSeenSound config class after
+  pub counted : AreLinksCounted config class (class_told snapshot.history) (list_at after.seen (class_lock config class)) who moment snapshot.links no_counts histogram

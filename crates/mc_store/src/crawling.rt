@@ -2,14 +2,15 @@
 ghost use Rattle.std.specs.Prelude.{◌≡◌, ◌⊎◌, ◌+◌, ◌-◌, ◌^◌, length, IfErr, IfOk, OnOk, IsErrOf, ◌++◌, ◌∷◌, ◌≤◌, [], OnErr};
 ghost use Rattle.mc_item.specs.declared.fault.Fault.TheVariants.{HistoryFull, NoMemory};
 ghost use Rattle.mc_evidence.specs.Setting.{IsClass};
-ghost use Rattle.mc_board.specs.Histories.{Grows};
+ghost use Rattle.mc_board.specs.Histories.{Grows, list_at};
 ghost use Rattle.mc_pull.specs.Growth as classes;
 ghost use Rattle.mc_crawl.specs.Crawl.{Reclaims};
 ghost use Rattle.mc_crawl.specs.CrawlCount.{IsBalanced, MayCount};
-ghost use Rattle.mc_store.specs.Crawls.{IsCrawledBy, IsSnapshot, ShowsReclaims};
-ghost use Rattle.mc_store.specs.Locked.{setting_of, HasBegun};
+ghost use Rattle.mc_store.specs.Crawls.{CountsLink, IsCrawledBy, IsLinkCounted, IsSeenSound, IsSnapshot, ShowsReclaims};
+ghost use Rattle.mc_store.specs.Locked.{class_lock, setting_of, HasBegun};
 ghost use Rattle.mc_store.specs.Passes.{next_who, caller_of, HasCalled};
 ghost use Rattle.mc_store.specs.Made.{WalksOwn};
+ghost use Rattle.mc_store.specs.Sides.{class_told};
 ghost use Rattle.mc_store.specs.Serving.{HasSeenShort, IsServed, MayFailSeen};
 ghost use Rattle.mc_pull.specs.Question.{IsClassOf};
 ghost use Rattle.mc_store.specs.Callers.{crawling_of};
@@ -47,6 +48,7 @@ impl<'a, N: Named> Trying<'a, N> {
         ensures seen { OnOk result (histogram.new.seen ≡ histogram.old.seen + 1) }
         ensures balanced { IsBalanced histogram.old → IsBalanced histogram.new }
         ensures reclaims { OnOk result (Reclaims who moment class.old.history class.new.history histogram.old.reclaimed histogram.new.reclaimed) }
+        ensures counted { OnOk result (CountsLink config.now class.old class.new who moment link histogram.old histogram.new) }
         ensures grows { classes.Grows class.old class.new }
         ensures fault { IfErr result (MayFailSeen N.config self.new.seen.now.sight class.new) }
         ensures owner_reference { self.new.owner.ghost_name ≡ self.old.owner.ghost_name }
@@ -73,6 +75,7 @@ fn crawl_under<N: Named>(
     ensures seen { OnOk result (histogram.new.seen ≡ histogram.old.seen + 1) }
     ensures balanced { IsBalanced histogram.old → IsBalanced histogram.new }
     ensures reclaims { OnOk result (Reclaims who moment class.old.class.history class.new.class.history histogram.old.reclaimed histogram.new.reclaimed) }
+    ensures counted { OnOk result (CountsLink N.config class.old.class class.new.class who moment link histogram.old histogram.new) }
     ensures class { classes.Grows class.old.class class.new.class }
     ensures fault { IfErr result (MayFailSeen N.config class.new.sight class.new.class) }
 {
@@ -102,8 +105,9 @@ impl<N: Named> Store<N> {
         class: ClassNo,
     ) -> Result<Vec<Link>, Fault>
         requires class { IsClass (setting_of N.config) class }
-        ensures links { IfOk result (λ links. IsSnapshot N.config class pass.old.sight pass.new.sight (length links.items)) }
+        ensures links { IfOk result (λ links. (snapshot : IsSnapshot N.config class pass.old.sight pass.new.sight (length links.items)) × (snapshot.links ≡ links.items) × (list_at pass.new.sight.seen (class_lock N.config class) ≡ class_told snapshot.history)) }
         ensures few { IfOk result (λ links. length links.items ≤ 2 ^ 32) }
+        ensures sound { OnOk result (IsSeenSound N.config class pass.new.sight) }
         ensures grows { Grows pass.old.sight pass.new.sight }
         ensures same { pass.new ≡ record pass.old { sight = pass.new.sight } }
         ensures memory { IfErr result (λ fault. fault ≡ NoMemory) }
@@ -134,6 +138,8 @@ impl<N: Named> Store<N> {
         ensures seen { OnOk result (histogram.new.seen ≡ histogram.old.seen + 1) }
         ensures balanced { IsBalanced histogram.old → IsBalanced histogram.new }
         ensures reclaims { OnOk result (ShowsReclaims N.config class pass.old.sight pass.new.sight who moment histogram.old.reclaimed histogram.new.reclaimed) }
+        ensures counted { OnOk result (IsLinkCounted N.config class (list_at pass.old.sight.seen (class_lock N.config class)) (list_at pass.new.sight.seen (class_lock N.config class)) who moment link histogram.old histogram.new) }
+        ensures sound { IsSeenSound N.config class pass.new.sight }
         ensures grows { Grows pass.old.sight pass.new.sight }
         ensures same { pass.new ≡ record pass.old { sight = pass.new.sight } }
         ensures full { IsErrOf result HistoryFull → HasSeenShort N.config pass.new.sight }

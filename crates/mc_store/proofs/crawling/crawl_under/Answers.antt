@@ -1,5 +1,9 @@
-use Rattle.std.proofs.Common.{ap, ◌∙◌, subst, sym}
+use Rattle.std.proofs.Common.{◌≡◌, ap, ◌∙◌, subst, sym}
+use Rattle.std.specs.Prelude.{OnOk}
+use Rattle.mc_item.specs.declared.config.Config.{Config}
 use Rattle.mc_board.specs.Views.{OwnerView}
+use Rattle.mc_segment.specs.ClassState.{ClassView}
+use Rattle.mc_store.specs.Crawls.{CountsLink}
 use Rattle.mc_store.specs.Locked.{HasBegun, IsLockedClass}
 use Rattle.mc_store.specs.Serving.{class_side}
 use Rattle.mc_store.specs.Sides.{ClassSide}
@@ -18,3 +22,11 @@ invariant_of-class g c =
     subst (IsLockedClass table config) (sym (ap (λ (o : OwnerView). class_side o made.new.self.seen.now made.new.class) c.catch_up_class.ensures))
     (locked_gains table config old new c.args.who c.args.moment (subst (IsLockedClass table config) (sym c.side.view_is) c.class.invariant) made.ensures.served.kept
     (begun_sees config old.sight new.sight c.args.who c.args.moment made.ensures.walked.sees begun) made.ensures.walked.sees made.ensures.walked.gains)
+
+pub returns-clause-counted : goal.returns-clause-counted
+returns-clause-counted g c =
+    let made = c.crawl-done in
+    let of : c.side.inside.state ≡ c.args.class.now.class = ap (λ (x : ClassSide). x.class) (c.side.view_is ∙ c.class.view_is) in
+    let with : c.store.inside.config ≡ g.N.Named.config = c.store.invariant.1 in
+    subst (λ (v : ClassView). OnOk made.result (CountsLink g.N.Named.config v made.new.class c.args.who c.args.moment c.args.link c.args.histogram.now made.new.histogram)) of
+    (subst (λ (config : Config). OnOk made.result (CountsLink config c.side.inside.state made.new.class c.args.who c.args.moment c.args.link c.args.histogram.now made.new.histogram)) with made.ensures.counted)

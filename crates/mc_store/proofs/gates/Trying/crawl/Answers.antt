@@ -1,7 +1,12 @@
 use Rattle.std.proofs.Common.{refl}
 use Rattle.mc_store.proofs.MadeLemmas.{walks_none}
+use Rattle.mc_store.proofs.CrawledLemmas.{counts_link}
 use Rattle.mc_store.proofs.gates.Trying.crawl.Goals as goal
 
 pub returns-clause-walked : goal.returns-clause-walked
 returns-clause-walked g c =
     (c.crawl_one.ensures.kept c.args.self.now c.args.class.now.history (refl, refl, walks_none c.args.who c.args.moment c.args.self.now.seen.now.sight c.args.class.now.history)).2
+
+pub returns-clause-counted : goal.returns-clause-counted
+returns-clause-counted g c =
+    counts_link c.args.config.now c.args.class.now c.crawl_one.new.class c.args.who c.args.moment c.args.link _ _ c.args.histogram.now c.crawl_one.new.histogram c.crawl_one.result c.crawl_one.ensures.crawled

@@ -1,11 +1,17 @@
-use Rattle.std.proofs.Common.{◌≡◌, ◌+◌, ℕ, ap, ◌∙◌, length, refl, subst, sym, inr}
+use Rattle.std.proofs.Common.{◌++◌, ◌∷◌, [], ◌≡◌, ◌+◌, ℕ, ap, ◌∙◌, length, refl, subst, sym, inr, take, arith}
+use Rattle.std.proofs.Math.Seq.{take-length}
+use Rattle.std.proofs.lemmas.List.{take_more}
 use Rattle.mc_item.specs.Counts.{no_counts}
 use Rattle.mc_item.specs.declared.counts.Histogram.{Histogram}
-use Rattle.mc_board.specs.Histories.{Grows}
+use Rattle.mc_item.specs.declared.item.Link.{Link}
+use Rattle.mc_item.specs.declared.item.Who.{Who}
+use Rattle.mc_board.specs.Histories.{Grows, list_at}
 use Rattle.mc_crawl.specs.CrawlCount.{IsBalanced}
-use Rattle.mc_store.specs.Crawls.{IsSnapshot, ShowsReclaims}
+use Rattle.mc_store.specs.Crawls.{IsCrawledBy, IsSnapshot, ShowsReclaims}
+use Rattle.mc_store.specs.Locked.{class_lock}
 use Rattle.mc_store.specs.Passes.{PassView}
-use Rattle.mc_store.proofs.CrawledLemmas.{shows_both, shows_none, snapshot_later}
+use Rattle.mc_store.specs.Sides.{class_told}
+use Rattle.mc_store.proofs.CrawledLemmas.{shows_both, shows_none, so_far_all, so_far_more, so_far_none}
 use Rattle.mc_store.proofs.PairLemmas.{grows_trans}
 use Rattle.mc_store.proofs.store.Store.crawl.Goals as goal
 use Rattle.mc_store.proofs.CallLemmas.{on_err_always, called_now}
@@ -18,16 +24,21 @@ loop-i-init g c =
     let seen = c.snapshot_of.new.pass.sight in
     let none : c.new-histogram.result ≡ no_counts = c.new-histogram.ensures in
     let turn = c.in_ok-who.ensures.turn in
+    let links = c.in_ok-links.links.items in
     let grows : Grows pass.sight seen = subst (λ (p : PassView). Grows p.sight seen) turn c.snapshot_of.ensures.grows in (
       ap (λ (h : Histogram). h.seen) none,
       subst IsBalanced (sym none) refl,
       subst (λ (h : Histogram). ShowsReclaims config c.args.class pass.sight seen c.in_ok-who.who c.args.moment 0 h.reclaimed) (sym none) (shows_none config c.args.class pass.sight seen c.in_ok-who.who c.args.moment 0 grows),
-      subst (λ (p : PassView). IsSnapshot config c.args.class p.sight seen (length c.in_ok-links.links.items)) turn c.in_ok-links.ensures.links,
+      so_far_none config c.args.class pass.sight seen c.in_ok-who.who c.args.moment links c.new-histogram.result none
+          (subst
+            (λ (p : PassView). (snapshot : IsSnapshot config c.args.class p.sight seen (length links)) × (snapshot.links ≡ links) × (list_at seen.seen (class_lock config c.args.class) ≡ class_told snapshot.history)) turn
+            c.in_ok-links.ensures.links),
       grows,
       ap (λ (p : PassView). p.caller) c.snapshot_of.ensures.same ∙ ap (λ (p : PassView). p.caller) turn,
       ap (λ (p : PassView). p.turn) c.snapshot_of.ensures.same ∙ ap (λ (p : PassView). p.turn) turn,
       c.in_ok-who.ensures.who,
       ap (λ (p : PassView). p.calls) c.snapshot_of.ensures.same ∙ ap (λ (p : PassView). p.calls) turn,
+      c.in_ok-links.ensures.sound,
     )
 
 pub returns-in_err-crawl_link-clause-grows : goal.returns-in_err-crawl_link-clause-grows
@@ -53,10 +64,21 @@ loop-i-preserved g c =
       c.in_ok-crawl_link.ensures.seen ∙ ap (λ (n : ℕ). n + 1) i.0,
       c.crawl_link.ensures.balanced i.1,
       shows_both config c.args.class pass.sight c.loop-i.pass.sight new.sight c.in_ok-who.who c.args.moment 0 c.loop-i.histogram.reclaimed c.crawl_link.new.histogram.reclaimed i.2 c.in_ok-crawl_link.ensures.reclaims,
-      snapshot_later config c.args.class pass.sight c.loop-i.pass.sight new.sight (length c.in_ok-links.links.items) i.3 c.crawl_link.ensures.grows,
+      so_far_more config c.args.class pass.sight c.loop-i.pass.sight new.sight c.in_ok-who.who c.args.moment c.in_ok-links.links.items (take c.loop-i.i c.in_ok-links.links.items) (take (c.loop-i.i + 1) c.in_ok-links.links.items)
+          c.index.result.now c.loop-i.histogram c.crawl_link.new.histogram i.3 c.crawl_link.ensures.grows c.in_ok-crawl_link.ensures.counted (ap (λ (l : Link). take c.loop-i.i c.in_ok-links.links.items ++ l ∷ []) c.index.ensures ∙ sym (take_more c.in_ok-links.links.items c.loop-i.i c.index.result.now (omega (arith, c.loop-i-test.true, c.len-i-end.ensures)))),
       grows_trans pass.sight c.loop-i.pass.sight new.sight i.4 c.crawl_link.ensures.grows,
       ap (λ (p : PassView). p.caller) c.crawl_link.ensures.same ∙ i.5,
       ap (λ (p : PassView). p.turn) c.crawl_link.ensures.same ∙ i.6,
       i.7,
       ap (λ (p : PassView). p.calls) c.crawl_link.ensures.same ∙ i.8,
+      c.crawl_link.ensures.sound,
     )
+
+pub returns-clause-crawled : goal.returns-clause-crawled
+returns-clause-crawled g c =
+    let i = c.loop-i.invariant in
+    let links = c.in_ok-links.links.items in
+    let all : c.loop-i.i ≡ length links = omega (arith, c.len-i-end.ensures, c.loop-i.auto.i-end, c.loop-i-test.false) in
+    subst (λ (who : Who). IsCrawledBy g.N.Named.config c.args.class c.args.pass.now.sight c.loop-i.pass.sight who c.args.moment c.loop-i.histogram) i.7
+    (so_far_all g.N.Named.config c.args.class c.args.pass.now.sight c.loop-i.pass.sight c.in_ok-who.who c.args.moment links (take c.loop-i.i links) c.loop-i.histogram i.3
+    (ap (λ (n : ℕ). take n links) all ∙ take-length links) (i.0 ∙ all) i.1 i.2 i.9)

@@ -5,13 +5,13 @@ use Rattle.mc_board.specs.declared.rule.Sight.{Sight}
 use Rattle.mc_crawl.specs.Crawl.{Reclaims}
 use Rattle.mc_segment.specs.ClassState.{ClassView}
 use Rattle.mc_pull.specs.Growth as classes
-use Rattle.mc_store.specs.Crawls.{ShowsReclaims}
+use Rattle.mc_store.specs.Crawls.{CountsLink, IsLinkCounted, ShowsReclaims}
 use Rattle.mc_store.specs.Finals.{IsBehindAt}
-use Rattle.mc_store.specs.Locked.{IsHeldClass}
+use Rattle.mc_store.specs.Locked.{IsHeldClass, class_lock}
 use Rattle.mc_store.specs.Passes.{PassView, HasCalled, caller_of}
 use Rattle.mc_store.specs.Sides.{ClassSide, class_told}
-use Rattle.mc_store.proofs.CrawledLemmas.{on_ok_more, shows_one}
-use Rattle.mc_store.proofs.GrownLemmas.{class_grew, fails_full}
+use Rattle.mc_store.proofs.CrawledLemmas.{link_counted, on_ok_more, shows_one}
+use Rattle.mc_store.proofs.GrownLemmas.{class_grew, fails_full, seen_sound}
 use Rattle.mc_store.proofs.store.Store.crawl_link.Goals as goal
 
 pub returns-clause-reclaims : goal.returns-clause-reclaims
@@ -66,3 +66,46 @@ returns-clause-full g c = λ is.
 pub crawl_under-done-requires-clause-begun : goal.crawl_under-done-requires-clause-begun
 crawl_under-done-requires-clause-begun g c =
     c.tell_class.ensures.begun c.args.who c.args.moment (subst (λ (p : PassView). HasCalled (caller_of p) c.args.who c.args.moment) (sym c.pass.view_is) c.requires.called)
+
+pub returns-clause-sound : goal.returns-clause-sound
+returns-clause-sound g c =
+    let config = g.N.Named.config in
+    let table = g.N.Named.board.table in
+    let old = c.compare.new.self in
+    let same : old ≡ c.own.inside.side = c.compare.ensures.same.0 in
+    let new = c.crawl_under-done.new.class in
+    let new_kept : IsHeldClass table config new = subst (IsHeldClass table config) c.own-2.view_is c.own-2.invariant.held in
+    let cls : c.tell_class.new.class.class ≡ old.class = ap (λ (x : ClassSide). x.class) c.tell_class.ensures.class in
+    let grows = subst (λ (v : ClassView). classes.Grows v new.class) cls c.crawl_under-done.ensures.class in
+    let number : old.class.number ≡ c.args.class = ap (λ (x : ClassSide). x.class.number) (same ∙ (c.own.view_is ∙ c.deref_mut-own.ensures.value)) ∙ c.lock_class-guard.ensures in
+    let told : list_at c.share.new.seen.sight.seen new.lock ≡ class_told new.class.history =
+    subst (λ (x : ClassSide). list_at c.share.new.seen.sight.seen x.lock ≡ class_told x.class.history) c.own-2.view_is c.share.ensures.told in
+    let all : Grows new.sight c.share.new.seen.sight = subst (λ (x : ClassSide). Grows x.sight c.share.new.seen.sight) c.own-2.view_is c.share.ensures.all in
+    seen_sound table config c.args.class c.share.new.seen.sight new new_kept (ap (λ (v : ClassView). v.number) grows.same ∙ number) told all
+
+pub returns-clause-counted : goal.returns-clause-counted
+returns-clause-counted g c =
+    let config = g.N.Named.config in
+    let table = g.N.Named.board.table in
+    let old = c.compare.new.self in
+    let same : old ≡ c.own.inside.side = c.compare.ensures.same.0 in
+    let old_kept : IsHeldClass table config old = subst (IsHeldClass table config) (sym same) c.own.invariant.held in
+    let new = c.crawl_under-done.new.class in
+    let new_kept : IsHeldClass table config new = subst (IsHeldClass table config) c.own-2.view_is c.own-2.invariant.held in
+    let cls : c.tell_class.new.class.class ≡ old.class = ap (λ (x : ClassSide). x.class) c.tell_class.ensures.class in
+    let grows = subst (λ (v : ClassView). classes.Grows v new.class) cls c.crawl_under-done.ensures.class in
+    let number : old.class.number ≡ c.args.class = ap (λ (x : ClassSide). x.class.number) (same ∙ (c.own.view_is ∙ c.deref_mut-own.ensures.value)) ∙ c.lock_class-guard.ensures in
+    let sight : c.pass.inside.seen.sight ≡ c.args.pass.now.sight = ap (λ (v : PassView). v.sight) c.pass.view_is in
+    let behind : IsBehindAt c.args.pass.now.sight old.lock (class_told old.class.history) =
+    subst (λ (t : Sight). IsBehindAt t old.lock (class_told old.class.history)) sight
+    (subst (λ (x : ClassSide). IsBehindAt c.pass.inside.seen.sight x.lock (class_told x.class.history)) (sym same) c.compare.ensures.behind) in
+    let told : list_at c.share.new.seen.sight.seen new.lock ≡ class_told new.class.history =
+    subst (λ (x : ClassSide). list_at c.share.new.seen.sight.seen x.lock ≡ class_told x.class.history) c.own-2.view_is c.share.ensures.told in
+    let all : Grows new.sight c.share.new.seen.sight = subst (λ (x : ClassSide). Grows x.sight c.share.new.seen.sight) c.own-2.view_is c.share.ensures.all in
+    let grew = class_grew table config c.args.class c.args.pass.now.sight c.share.new.seen.sight old new old_kept new_kept number grows behind told all in
+    let first = c.args.histogram.now in
+    let last = c.crawl_under-done.new.histogram in
+    on_ok_more c.crawl_under-done.result (CountsLink config old.class new.class c.args.who c.args.moment c.args.link first last)
+    (IsLinkCounted config c.args.class (list_at c.args.pass.now.sight.seen (class_lock config c.args.class)) (list_at c.share.new.seen.sight.seen (class_lock config c.args.class)) c.args.who c.args.moment c.args.link first last)
+    (link_counted config c.args.class c.args.pass.now.sight c.share.new.seen.sight c.args.who c.args.moment c.args.link first last old.class new.class grew)
+    (subst (λ (v : ClassView). OnOk c.crawl_under-done.result (CountsLink config v new.class c.args.who c.args.moment c.args.link first last)) cls c.crawl_under-done.ensures.counted)
