@@ -48,13 +48,6 @@ places_in number (calls.Juggled worked ∷ more) = places_in number more
 places_in number (calls.Crawled worked ∷ more) = places_in number more
 places_in number (calls.Answered answered ∷ more) = if nat_eq answered.stripe.0 number then answered.place ∷ places_in number more else places_in number more
 
--- these calls, with their answers, stand in turn in what the caller's pass has seen, and of each stripe the caller's history
--- has the places of just those that are the stripe's commands
-pub record AreNoted (config : Config) (pass : PassView) (calls : List Exchange) : Type 0 where
-  pub stand : Stand config nothing_seen (histories_seen config pass.sight) calls
-  pub at : (number : ℕ) → number < config.stripes → AreAt (stripes_seen (list_at pass.sight.seen) number) pass.caller (places_in number pass.calls) (calls_at config.stripes number calls)
-  pub rising : (number : ℕ) → number < config.stripes → AreRising 0 (places_in number pass.calls)
-
 -- a call of a caller's history was made to its end: an exchange of this turn, and of its moment, stands in these histories
 pub record IsMade (config : Config) (histories : Histories) (who : Who) (call : CallEvent) : Type 0 where
   pub exchange : Exchange
@@ -62,6 +55,19 @@ pub record IsMade (config : Config) (histories : Histories) (who : Who) (call : 
   pub stands : Stands config histories exchange
   pub who_is : exchange.who ≡ who
   pub moment_is : moment_of call ≡ Some exchange.moment
+
+-- each of these calls of a caller but the last, which may have been broken off, was made to its end
+pub record AreMadeButLast (config : Config) (histories : Histories) (caller : ℕ) (calls : List CallEvent) : Type 0 where
+  pub each : (turn : ℕ) (call : CallEvent) → slice_get (turns_of calls) turn ≡ Some call → turn + 1 < length (turns_of calls)
+      → IsMade config histories (record { caller = caller; turn = turn }) call
+
+-- these calls, with their answers, stand in turn in what the caller's pass has seen, and of each stripe the caller's history
+-- has the places of just those that are the stripe's commands; of the calls in that history at most the last was broken off
+pub record AreNoted (config : Config) (pass : PassView) (calls : List Exchange) : Type 0 where
+  pub stand : Stand config nothing_seen (histories_seen config pass.sight) calls
+  pub at : (number : ℕ) → number < config.stripes → AreAt (stripes_seen (list_at pass.sight.seen) number) pass.caller (places_in number pass.calls) (calls_at config.stripes number calls)
+  pub rising : (number : ℕ) → number < config.stripes → AreRising 0 (places_in number pass.calls)
+  pub made : AreMadeButLast config (histories_seen config pass.sight) pass.caller pass.calls
 
 -- no call of the pass was broken off: all calls that its caller's history has were made to their end
 pub record AreMade (config : Config) (pass : PassView) : Type 0 where
