@@ -234,9 +234,9 @@ pub crawled_kinds : (config : Config) (class : ClassNo) (before after : Sight) (
 crawled_kinds config class before after who moment (Ok histogram) by = by.balanced
 crawled_kinds config class before after who moment (Err fault) by = tt
 
-pub command_failed : (config : Config) (old new : PassView) (who : Who) (command : Command) (moment number : ℕ) (r : Result Reply Fault) → MayCall config old → new.caller ≡ old.caller
-    → OnErr r ((new ≡ old) ⊎ IsCutBy config number old.sight new.sight old.calls new.calls who command moment) → Grows old.sight new.sight → OnErr r (Adds (AreNoted config old) (AreNoted config new) [])
-command_failed config old new who command moment number (Ok reply) may caller cut grows = tt
-command_failed config old new who command moment number (Err fault) may caller cut grows =
+pub command_failed : (config : Config) (old new : PassView) (who : Who) (command : Command) (moment n : ℕ) (r : Result Reply Fault) → MayCall config old → new.caller ≡ old.caller
+    → OnErr r ((new ≡ old) ⊎ IsCutBy config n old.sight new.sight old.calls new.calls who command moment) → Grows old.sight new.sight → OnErr r (Adds (AreNoted config old) (AreNoted config new) [])
+command_failed config old new who command moment n (Ok reply) may caller cut grows = tt
+command_failed config old new who command moment n (Err fault) may caller cut grows =
     none_adds config old new moment (asked_for command moment) refl may caller
-    (⊎_elim (λ (same : new ≡ old). inl same) (λ (c : IsCutBy config number old.sight new.sight old.calls new.calls who command moment). inr c.noted) cut) grows
+    (⊎_elim (λ (same : new ≡ old). inl same) (λ (c : IsCutBy config n old.sight new.sight old.calls new.calls who command moment). inr c.noted) cut) grows
