@@ -15,7 +15,7 @@ use Rattle.mc_item.specs.declared.stripe_event.StripeEvent.{StripeEvent}
 use Rattle.mc_item.specs.declared.stripe_event.StripeEvent.TheVariants as events
 use Rattle.mc_board.specs.Histories.{Grows}
 use Rattle.mc_evidence.specs.Setting.{IsClass}
-use Rattle.mc_script.specs.Exchanges.{Exchange}
+use Rattle.mc_script.specs.Exchanges.{Asks, Call, Crawls, Exchange, Juggles}
 use Rattle.mc_store.specs.Callers.{IsOf, answered_at, asked_for, juggling_of, moment_of, turns_of, who_of, crawling_of}
 use Rattle.mc_store.specs.Calls.{IsJuggledBy, IsRepliedBy}
 use Rattle.mc_store.specs.Finals.{AreItsOwn, AreStripes, FinalView, stripe_histories, stripe_history}
@@ -24,7 +24,7 @@ use Rattle.mc_store.specs.Passes.{PassView, next_who}
 use Rattle.mc_store.specs.Sides.{StripeSide}
 use Rattle.mc_store.proofs.PlaceLemmas.{get_some}
 use Rattle.mc_driver.specs.Called.{AreByCallers, AreWholeTurns, HasCalls, IsAtMoment, MadeNone}
-use Rattle.mc_driver.specs.Caller.{AreMadeButLast, IsMade, MayCall, histories_seen}
+use Rattle.mc_driver.specs.Caller.{AreMadeButLast, IsMade, MayCall, call_event_of, histories_seen}
 use Rattle.mc_driver.specs.Run.{callers_at_work, histories_left}
 use Rattle.mc_driver.specs.Stand.{Grow, Histories, StandsBetween, nothing_seen, stripe_number}
 use Rattle.mc_driver.proofs.BetweenLemmas.{crawled_between, juggled_between, replied_between, seen_grow}
@@ -88,18 +88,24 @@ made_later config old new who call grow made = record {
   placed = made.placed;
   stands = stands_as_later config nothing_seen old new made.exchange.who made.exchange.moment made.exchange.call made.exchange.answer grow made.placed made.stands;
   who_is = made.who_is;
-  moment_is = made.moment_is;
+  call_is = made.call_is;
 }
 
+-- and it has its exchange's moment
+moment_of_call_event : (call : Call) (moment : ℕ) → moment_of (call_event_of call moment) ≡ Some moment
+moment_of_call_event (Asks command) moment = refl
+moment_of_call_event (Juggles class) moment = refl
+moment_of_call_event (Crawls class) moment = refl
+
 -- a call that stands between two histories was made
-made_between : (config : Config) (seen reached : Histories) (exchange : Exchange) (call : CallEvent) → StandsBetween config seen reached exchange → moment_of call ≡ Some exchange.moment
+made_between : (config : Config) (seen reached : Histories) (exchange : Exchange) (call : CallEvent) → StandsBetween config seen reached exchange → call ≡ call_event_of exchange.call exchange.moment
     → IsMade config reached exchange.who call
-made_between config seen reached exchange call between moment = record {
+made_between config seen reached exchange call between is = record {
   exchange = exchange;
   placed = between.placed;
   stands = stands_as_less config nothing_seen seen reached exchange.who exchange.moment exchange.call exchange.answer (grow_nothing config seen) between.placed between.stands;
   who_is = refl;
-  moment_is = moment;
+  call_is = is;
 }
 
 -- one more call was made
@@ -211,7 +217,7 @@ whole_turns config final pass all own grow may = record {
         call = made.exchange;
         stands = made.stands;
         who_is = who_by (who_of event) pass.caller by ∙ sym made.who_is;
-        moment_is = moment_of_call number place event begun.call begun.behind called.moment made.exchange.moment begun.handed made.moment_is called.own;
+        moment_is = moment_of_call number place event begun.call begun.behind called.moment made.exchange.moment begun.handed (ap moment_of made.call_is ∙ moment_of_call_event made.exchange.call made.exchange.moment) called.own;
       };
 }
 
