@@ -5,6 +5,7 @@ use Rattle.std.proofs.Math.Nat.{mod-lt}
 use Rattle.mc_item.specs.Command.{key_of}
 use Rattle.mc_item.specs.Measure.{fnv1a}
 use Rattle.mc_item.specs.declared.call_event.CallEvent.{CallEvent}
+use Rattle.mc_item.specs.declared.answer.Site.{Site}
 use Rattle.mc_item.specs.declared.class_event.ClassEvent.{ClassEvent}
 use Rattle.mc_item.specs.declared.command.Command.{Command}
 use Rattle.mc_item.specs.declared.config.Config.{Config}
@@ -19,7 +20,8 @@ use Rattle.mc_board.specs.Histories.{Grows, list_at}
 use Rattle.mc_board.specs.declared.rule.Sight.{Sight}
 use Rattle.mc_board.proofs.PrefixLemmas.{prefix_more}
 use Rattle.mc_evidence.specs.Seen.{class_events, stripe_events}
-use Rattle.mc_evidence.specs.Setting.{IsClass}
+use Rattle.mc_evidence.specs.Refusals.{WasTried}
+use Rattle.mc_evidence.specs.Setting.{IsClass, site_in}
 use Rattle.mc_evidence.specs.Locks.{ClassKeeps, StripeKeeps}
 use Rattle.mc_evidence.proofs.SeenLemmas.{class_events-append, class_events-map, classes_grow, stripe_events-map, stripes_grow}
 use Rattle.mc_proto.specs.Answers.{Moved, Replied, Counted}
@@ -32,8 +34,9 @@ use Rattle.mc_segment.specs.ClassState.{ClassView, chunks_for, class_view, opene
 use Rattle.mc_store.specs.Calls.{IsJuggledBy, IsRepliedBy}
 use Rattle.mc_store.specs.Locked.{setting_of, class_lock}
 use Rattle.mc_store.specs.Sides.{class_told}
+use Rattle.mc_store.proofs.PairLemmas.{site_of_number}
 use Rattle.mc_driver.specs.Caller.{histories_seen}
-use Rattle.mc_driver.specs.Noted.{answered_event}
+use Rattle.mc_driver.specs.Noted.{answered_command, answered_event}
 use Rattle.mc_driver.specs.Stand.{Grow, StandsBetween, stripe_number}
 use Rattle.mc_driver.proofs.NotedLemmas.{class_begins, stripe_begins}
 use Rattle.mc_item.specs.declared.counts.Histogram.{Histogram}
@@ -54,6 +57,7 @@ replied_between config before after calls calls_new who command moment reply som
     let answered = by.replied.answered in
     let number = stripe_number config.stripes command in
     let now : stripe_events (list_at after.seen number) ≡ by.new.history = ap stripe_events by.grew.now ∙ stripe_events-map by.new.history in
+    let site : by.old.site ≡ site_in (setting_of config) number = sym (site_of_number config by.old by.grew.made_with) ∙ ap (site_in (setting_of config)) by.grew.number_is in
     record {
       grew = seen_grow config before after grows;
       placed = mod-lt (fnv1a (key_of command)) some;
@@ -64,6 +68,9 @@ replied_between config before after calls calls_new who command moment reply som
         past = prefix_more (stripe_events (list_at before.seen number)) by.old.history answered.before (stripe_begins (list_at before.seen number) by.old.history by.grew.seen);
         split = now ∙ (answered.history_is
             ∙ ap (λ (r : Reply). (by.old.history ++ answered.before) ++ answered_event who command moment r answered.room ∷ cooled_if who (key_of command) answered.cooled) by.replied.reply_is);
+        earned = λ class is.
+            subst (λ (r : Reply). WasTried (site_in (setting_of config) number) class ((histories_seen config after).classes class) (answered_command who command moment r answered.room)) by.replied.reply_is
+            (subst (λ (t : Site). WasTried t class ((histories_seen config after).classes class) (answered_command who command moment answered.reply answered.room)) site (by.replied.earned class));
       };
       evidence = subst (λ (h : List StripeEvent). StripeKeeps (setting_of config) number h (histories_seen config after).classes) (sym now) by.grew.sound;
     }

@@ -42,12 +42,12 @@ IsPlaced config (Asks command) = stripe_number config.stripes command < config.s
 IsPlaced config (Juggles class) = IsClass (setting_of config) class
 IsPlaced config (Crawls class) = IsClass (setting_of config) class
 
--- a call with its answer stands in the histories, behind what was seen of its own: a command in its stripe's, juggling and a
--- crawl in their class's
+-- a call with its answer stands in the histories, behind what was seen of its own: a command in its stripe's, with the refusal
+-- that its answer cites in that one's class's, juggling and a crawl in their class's
 abbrev pub StandsAs : Config → Histories → Histories → Who → ℕ → Call → Answer → Type 0
 StandsAs config seen histories who moment (Asks command) (Replied reply) =
     let number = stripe_number config.stripes command in
-    NotesCommand (seen.stripes number) (histories.stripes number) who command moment reply
+    NotesCommand config number (seen.stripes number) (histories.stripes number) histories.classes who command moment reply
 StandsAs config seen histories who moment (Juggles class) (Moved moves) = NotesJuggling config (seen.classes class) (histories.classes class) who class moment moves
 StandsAs config seen histories who moment (Crawls class) (Counted histogram) = NotesCrawling (seen.classes class) (histories.classes class) who moment histogram
 StandsAs config seen histories who moment (Asks command) (Moved moves) = ⊥
