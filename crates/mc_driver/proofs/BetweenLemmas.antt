@@ -5,6 +5,7 @@ use Rattle.std.proofs.Math.Nat.{mod-lt}
 use Rattle.mc_item.specs.Command.{key_of}
 use Rattle.mc_item.specs.Measure.{fnv1a}
 use Rattle.mc_item.specs.declared.call_event.CallEvent.{CallEvent}
+use Rattle.mc_item.specs.declared.answer.Site.{Site}
 use Rattle.mc_item.specs.declared.class_event.ClassEvent.{ClassEvent}
 use Rattle.mc_item.specs.declared.command.Command.{Command}
 use Rattle.mc_item.specs.declared.config.Config.{Config}
@@ -19,7 +20,8 @@ use Rattle.mc_board.specs.Histories.{Grows, list_at}
 use Rattle.mc_board.specs.declared.rule.Sight.{Sight}
 use Rattle.mc_board.proofs.PrefixLemmas.{prefix_more}
 use Rattle.mc_evidence.specs.Seen.{class_events, stripe_events}
-use Rattle.mc_evidence.specs.Setting.{IsClass}
+use Rattle.mc_evidence.specs.Refusals.{WasTried}
+use Rattle.mc_evidence.specs.Setting.{IsClass, site_in}
 use Rattle.mc_evidence.specs.Locks.{ClassKeeps, StripeKeeps}
 use Rattle.mc_evidence.proofs.SeenLemmas.{class_events-append, class_events-map, classes_grow, stripe_events-map, stripes_grow}
 use Rattle.mc_proto.specs.Answers.{Moved, Replied, Counted}
@@ -32,12 +34,16 @@ use Rattle.mc_segment.specs.ClassState.{ClassView, chunks_for, class_view, opene
 use Rattle.mc_store.specs.Calls.{IsJuggledBy, IsRepliedBy}
 use Rattle.mc_store.specs.Locked.{setting_of, class_lock}
 use Rattle.mc_store.specs.Sides.{class_told}
+use Rattle.mc_store.proofs.PairLemmas.{site_of_number}
 use Rattle.mc_driver.specs.Caller.{histories_seen}
-use Rattle.mc_driver.specs.Noted.{answered_event}
+use Rattle.mc_driver.specs.Noted.{answered_command, answered_event}
 use Rattle.mc_driver.specs.Stand.{Grow, StandsBetween, stripe_number}
 use Rattle.mc_driver.proofs.NotedLemmas.{class_begins, stripe_begins}
 use Rattle.mc_item.specs.declared.counts.Histogram.{Histogram}
-use Rattle.mc_store.specs.Crawls.{HasReclaims, IsCrawledBy}
+use Rattle.mc_item.specs.Counts.{no_counts}
+use Rattle.mc_item.specs.declared.item.Link.{Link}
+use Rattle.mc_store.specs.Crawls.{AreLinksCounted, HasReclaims, IsCrawledBy}
+use Rattle.mc_store.specs.Earned.{IsLastResort}
 
 -- what a pass has seen grows
 pub seen_grow : (config : Config) (old new : Sight) → Grows old new → Grow config (histories_seen config old) (histories_seen config new)
@@ -54,6 +60,7 @@ replied_between config before after calls calls_new who command moment reply som
     let answered = by.replied.answered in
     let number = stripe_number config.stripes command in
     let now : stripe_events (list_at after.seen number) ≡ by.new.history = ap stripe_events by.grew.now ∙ stripe_events-map by.new.history in
+    let site : by.old.site ≡ site_in (setting_of config) number = sym (site_of_number config by.old by.grew.made_with) ∙ ap (site_in (setting_of config)) by.grew.number_is in
     record {
       grew = seen_grow config before after grows;
       placed = mod-lt (fnv1a (key_of command)) some;
@@ -64,6 +71,13 @@ replied_between config before after calls calls_new who command moment reply som
         past = prefix_more (stripe_events (list_at before.seen number)) by.old.history answered.before (stripe_begins (list_at before.seen number) by.old.history by.grew.seen);
         split = now ∙ (answered.history_is
             ∙ ap (λ (r : Reply). (by.old.history ++ answered.before) ++ answered_event who command moment r answered.room ∷ cooled_if who (key_of command) answered.cooled) by.replied.reply_is);
+        earned = λ class is.
+            subst (λ (r : Reply). WasTried (site_in (setting_of config) number) class ((histories_seen config after).classes class) (answered_command who command moment r answered.room)) by.replied.reply_is
+            (subst (λ (t : Site). WasTried t class ((histories_seen config after).classes class) (answered_command who command moment answered.reply answered.room)) site (by.replied.earned.tried class));
+        last = λ class place is room.
+            let at : by.old.site.stripe ≡ number = by.grew.number_is in
+            subst (λ (r : Reply). IsLastResort config (record { 0 = number }) class place ((histories_seen config after).classes class) (answered_command who command moment r answered.room)) by.replied.reply_is
+            (subst (λ (n : ℕ). IsLastResort config (record { 0 = n }) class place ((histories_seen config after).classes class) (answered_command who command moment answered.reply answered.room)) at (by.replied.earned.last class place room));
       };
       evidence = subst (λ (h : List StripeEvent). StripeKeeps (setting_of config) number h (histories_seen config after).classes) (sym now) by.grew.sound;
     }
@@ -120,6 +134,8 @@ crawled_between config class before after who moment histogram is grows by =
     let new = list_at after.seen (class_lock config class) in
     let begins : IsPrefix (class_events (class_told snapshot.history)) (class_events new) = classes_grow config.stripes (λ lock. class_told snapshot.history) (λ lock. new) (λ lock. snapshot.now) class in
     let many : histogram.reclaimed ≡ shown.many = shown.count_is ∙ omega arith in
+    let whole = by.sound in
+    let now : (histories_seen config after).classes class ≡ whole.history = ap class_events whole.now ∙ class_events-map whole.history in
     record {
       grew = seen_grow config before after grows;
       placed = is;
@@ -129,10 +145,15 @@ crawled_between config class before after who moment histogram is grows by =
         past = class_begins old snapshot.history snapshot.begins;
         split = sym (ap (λ (h : List ClassEvent). h ++ begins.0) (sym (class_events-map snapshot.history)) ∙ begins.1);
         entries = snapshot.count_is;
+        end = whole.history;
+        rest = [];
+        ends = now ∙ sym (append-nil whole.history);
+        counted = subst (λ (ls : List Link). AreLinksCounted config class (class_told snapshot.history) (class_told whole.history) who moment ls no_counts histogram) snapshot.links_are
+            (subst (λ (es : List Event). AreLinksCounted config class (class_told snapshot.history) es who moment snapshot.links no_counts histogram) whole.now by.counted);
         balanced = by.balanced;
         since = class_events shown.events;
         since_is = ap class_events (sym shown.events_are) ∙ class_events-append old shown.events;
         reclaims = reclaims_told who moment histogram.reclaimed shown.events (subst (λ (k : ℕ). HasReclaims who moment k shown.events) (sym many) shown.reclaims);
       };
-      evidence = tt;
+      evidence = subst (λ (h : List ClassEvent). ClassKeeps (setting_of config) class h (histories_seen config after).stripes) (sym now) whole.sound;
     }

@@ -25,14 +25,15 @@ use Rattle.mc_proto.specs.Answers.{Moved, Replied, Counted}
 use Rattle.mc_pull.specs.Performed.{cooled_if}
 use Rattle.mc_script.specs.Calls.{Adds, AddsUp}
 use Rattle.mc_script.specs.Exchanges.{Asks, Exchange, Juggles, exchange, Crawls}
-use Rattle.mc_store.specs.Callers.{answered_at, asked_for, juggling_of, moment_of, crawling_of}
+use Rattle.mc_store.specs.Callers.{answered_at, asked_for, juggling_of, moment_of, crawling_of, turns_of}
 use Rattle.mc_store.specs.Calls.{IsJuggledBy, IsRepliedBy, IsCutBy}
 use Rattle.mc_store.specs.Locked.{setting_of}
 use Rattle.mc_store.specs.Passes.{PassView, next_who}
-use Rattle.mc_driver.specs.Caller.{AreAt, AreNoted, AreRising, IsAt, histories_seen, places_in}
+use Rattle.mc_driver.specs.Caller.{AreAt, AreMadeButLast, AreNoted, AreRising, IsAt, MayCall, histories_seen, places_in}
 use Rattle.mc_driver.specs.Stand.{calls_at, is_command_at, nothing_seen, stripe_number}
 use Rattle.mc_driver.proofs.NotedLemmas.{at_later, at_push_if, get_next, places_in-push, rising_push_if, stripe_begins, places_in-call}
 use Rattle.mc_driver.proofs.BetweenLemmas.{crawled_between, juggled_between, replied_between, seen_grow}
+use Rattle.mc_driver.proofs.MadeLemmas.{made_but_last, replied_turns, turns_of-call}
 use Rattle.mc_driver.proofs.OnlyLemmas.{is_same}
 use Rattle.mc_driver.proofs.StandLemmas.{stand_more, stand_same}
 use Rattle.mc_item.specs.declared.counts.Histogram.{Histogram}
@@ -109,17 +110,18 @@ module _ (config : Config) (old new : PassView) (command : Command) (moment : �
         (λ passed. subst (λ (k : ℕ). length (stripe_events (list_at old.sight.seen k)) ≤ place) (is_same number n passed) behind))
 
 -- so it is noted
-pub replied_adds : (config : Config) (old new : PassView) (command : Command) (moment : ℕ) (reply : Reply) → 0 < config.stripes → new.caller ≡ old.caller → Grows old.sight new.sight
+pub replied_adds : (config : Config) (old new : PassView) (command : Command) (moment : ℕ) (reply : Reply) → MayCall config old → new.caller ≡ old.caller → Grows old.sight new.sight
     → IsRepliedBy config (stripe_number config.stripes command) old.sight new.sight old.calls new.calls (record { caller = old.caller; turn = old.turn }) command moment reply
     → Adds (AreNoted config old) (AreNoted config new) (exchange old.caller old.turn (Asks command) moment (Replied reply) ∷ [])
-replied_adds config old new command moment reply some same grows by = record {
+replied_adds config old new command moment reply may same grows by = record {
   at = λ calls noted. record {
     stand = stand_more config nothing_seen (histories_seen config old.sight) (histories_seen config new.sight) calls _ noted.stand
-        (replied_between config old.sight new.sight old.calls new.calls (next_who old) command moment reply some grows by);
+        (replied_between config old.sight new.sight old.calls new.calls (next_who old) command moment reply may.some grows by);
     at = λ n below.
         subst (λ (k : ℕ). AreAt (stripe_events (list_at new.sight.seen n)) k (places_in n new.calls) (calls_at config.stripes n (calls ++ exchange old.caller old.turn (Asks command) moment (Replied reply) ∷ []))) (sym same)
         (noted_at config old new command moment reply by calls noted grows n below);
     rising = λ n below. noted_rising config old new command moment reply by calls noted grows n below;
+    made = made_but_last config old new (asked_for command moment ∷ []) may same grows (replied_turns old.calls new.calls (asked_for command moment) by.old.site.stripe by.replied.place by.replied.noted) (omega arith);
   };
 }
 
@@ -139,85 +141,102 @@ kept_at config old new calls more caller same grows noted n below none =
     (at_later _ _ old.caller _ _ ((seen_grow config old.sight new.sight grows).stripes n below) (noted.at n below))))
 
 -- juggling is noted too
-pub juggled_adds : (config : Config) (old new : PassView) (class : ClassNo) (moment : ℕ) (moves : Moves) → IsClass (setting_of config) class → new.caller ≡ old.caller → new.calls ≡ old.calls ++ juggling_of class moment ∷ [] → Grows old.sight new.sight
+pub juggled_adds : (config : Config) (old new : PassView) (class : ClassNo) (moment : ℕ) (moves : Moves) → MayCall config old → IsClass (setting_of config) class → new.caller ≡ old.caller → new.calls ≡ old.calls ++ juggling_of class moment ∷ [] → Grows old.sight new.sight
     → IsJuggledBy config class old.sight new.sight (record { caller = old.caller; turn = old.turn }) moment moves
     → Adds (AreNoted config old) (AreNoted config new) (exchange old.caller old.turn (Juggles class) moment (Moved moves) ∷ [])
-juggled_adds config old new class moment moves is caller noted_as grows by = let same = kept_places old new moment (juggling_of class moment) refl noted_as in record {
+juggled_adds config old new class moment moves may is caller noted_as grows by = let same = kept_places old new moment (juggling_of class moment) refl noted_as in record {
   at = λ calls noted. record {
     stand = stand_more config nothing_seen (histories_seen config old.sight) (histories_seen config new.sight) calls _ noted.stand
         (juggled_between config class old.sight new.sight (next_who old) moment moves is grows by);
     at = λ n below. kept_at config old new calls _ caller same grows noted n below refl;
     rising = λ n below. subst (AreRising 0) (sym (same n)) (noted.rising n below);
+    made = made_but_last config old new (juggling_of class moment ∷ []) may caller grows (ap turns_of noted_as ∙ turns_of-call old.calls (juggling_of class moment) moment refl) (omega arith);
   };
 }
 
 -- and so is a crawl
-pub crawled_adds : (config : Config) (old new : PassView) (class : ClassNo) (moment : ℕ) (histogram : Histogram) → IsClass (setting_of config) class → new.caller ≡ old.caller → new.calls ≡ old.calls ++ crawling_of class moment ∷ [] → Grows old.sight new.sight
+pub crawled_adds : (config : Config) (old new : PassView) (class : ClassNo) (moment : ℕ) (histogram : Histogram) → MayCall config old → IsClass (setting_of config) class → new.caller ≡ old.caller → new.calls ≡ old.calls ++ crawling_of class moment ∷ [] → Grows old.sight new.sight
     → IsCrawledBy config class old.sight new.sight (record { caller = old.caller; turn = old.turn }) moment histogram
     → Adds (AreNoted config old) (AreNoted config new) (exchange old.caller old.turn (Crawls class) moment (Counted histogram) ∷ [])
-crawled_adds config old new class moment histogram is caller noted_as grows by = let same = kept_places old new moment (crawling_of class moment) refl noted_as in record {
+crawled_adds config old new class moment histogram may is caller noted_as grows by = let same = kept_places old new moment (crawling_of class moment) refl noted_as in record {
   at = λ calls noted. record {
     stand = stand_more config nothing_seen (histories_seen config old.sight) (histories_seen config new.sight) calls _ noted.stand
         (crawled_between config class old.sight new.sight (next_who old) moment histogram is grows by);
     at = λ n below. kept_at config old new calls _ caller same grows noted n below refl;
     rising = λ n below. subst (AreRising 0) (sym (same n)) (noted.rising n below);
+    made = made_but_last config old new (crawling_of class moment ∷ []) may caller grows (ap turns_of noted_as ∙ turns_of-call old.calls (crawling_of class moment) moment refl) (omega arith);
   };
 }
 
--- what went wrong adds none
-pub none_adds : (config : Config) (old new : PassView) → new.caller ≡ old.caller → ((n : ℕ) → places_in n new.calls ≡ places_in n old.calls) → Grows old.sight new.sight → Adds (AreNoted config old) (AreNoted config new) []
-none_adds config old new caller same grows = record {
+-- how a call that went wrong leaves its caller's history: as it was, or with the call in it
+abbrev IsCut : PassView → PassView → CallEvent → Type 0
+IsCut old new made = (new ≡ old) ⊎ (new.calls ≡ old.calls ++ made ∷ [])
+
+-- the places stay as they were
+cut_places : (old new : PassView) (moment : ℕ) (made : CallEvent) → moment_of made ≡ Some moment → IsCut old new made → (n : ℕ) → places_in n new.calls ≡ places_in n old.calls
+cut_places old new moment made handed (inl same) n = ap (λ (p : PassView). places_in n p.calls) same
+cut_places old new moment made handed (inr noted_as) n = kept_places old new moment made handed noted_as n
+
+-- and all calls but the last were made
+cut_made : (config : Config) (old new : PassView) (moment : ℕ) (made : CallEvent) → moment_of made ≡ Some moment → MayCall config old → new.caller ≡ old.caller → Grows old.sight new.sight → IsCut old new made
+    → AreMadeButLast config (histories_seen config new.sight) new.caller new.calls
+cut_made config old new moment made handed may caller grows (inl same) =
+    made_but_last config old new [] may caller grows (ap (λ (p : PassView). turns_of p.calls) same ∙ sym (append-nil (turns_of old.calls))) (omega arith)
+cut_made config old new moment made handed may caller grows (inr noted_as) =
+    made_but_last config old new (made ∷ []) may caller grows (ap turns_of noted_as ∙ turns_of-call old.calls made moment handed) (omega arith)
+
+-- what went wrong adds none, whether the call was begun or not
+pub none_adds : (config : Config) (old new : PassView) (moment : ℕ) (made : CallEvent) → moment_of made ≡ Some moment → MayCall config old → new.caller ≡ old.caller → IsCut old new made → Grows old.sight new.sight
+    → Adds (AreNoted config old) (AreNoted config new) []
+none_adds config old new moment made handed may caller cut grows = let same = cut_places old new moment made handed cut in record {
   at = λ calls noted. record {
     stand = stand_same config nothing_seen (histories_seen config old.sight) (histories_seen config new.sight) calls (seen_grow config old.sight new.sight grows) noted.stand;
     at = λ n below. kept_at config old new calls [] caller same grows noted n below refl;
     rising = λ n below. subst (AreRising 0) (sym (same n)) (noted.rising n below);
+    made = cut_made config old new moment made handed may caller grows cut;
   };
 }
 
 -- as a call answers it: a reply is noted
-pub replied_ok : (config : Config) (old new : PassView) (command : Command) (moment : ℕ) (r : Result Reply Fault) → 0 < config.stripes → new.caller ≡ old.caller → Grows old.sight new.sight
+pub replied_ok : (config : Config) (old new : PassView) (command : Command) (moment : ℕ) (r : Result Reply Fault) → MayCall config old → new.caller ≡ old.caller → Grows old.sight new.sight
     → IfOk r (IsRepliedBy config (stripe_number config.stripes command) old.sight new.sight old.calls new.calls (record { caller = old.caller; turn = old.turn }) command moment)
     → IfOk r (λ reply. Adds (AreNoted config old) (AreNoted config new) (exchange old.caller old.turn (Asks command) moment (Replied reply) ∷ []))
-replied_ok config old new command moment (Ok reply) some same grows by = replied_adds config old new command moment reply some same grows by
-replied_ok config old new command moment (Err fault) some same grows by = tt
+replied_ok config old new command moment (Ok reply) may same grows by = replied_adds config old new command moment reply may same grows by
+replied_ok config old new command moment (Err fault) may same grows by = tt
 
 -- juggling is noted where it was done
-pub juggled_ok : (config : Config) (old new : PassView) (class : ClassNo) (moment : ℕ) (r : Result Moves Fault) → IsClass (setting_of config) class → new.caller ≡ old.caller → OnOk r (new.calls ≡ old.calls ++ juggling_of class moment ∷ []) → Grows old.sight new.sight
+pub juggled_ok : (config : Config) (old new : PassView) (class : ClassNo) (moment : ℕ) (r : Result Moves Fault) → MayCall config old → IsClass (setting_of config) class → new.caller ≡ old.caller → OnOk r (new.calls ≡ old.calls ++ juggling_of class moment ∷ []) → Grows old.sight new.sight
     → IfOk r (IsJuggledBy config class old.sight new.sight (record { caller = old.caller; turn = old.turn }) moment)
     → IfOk r (λ moves. Adds (AreNoted config old) (AreNoted config new) (exchange old.caller old.turn (Juggles class) moment (Moved moves) ∷ []))
-juggled_ok config old new class moment (Ok moves) is caller same grows by = juggled_adds config old new class moment moves is caller same grows by
-juggled_ok config old new class moment (Err fault) is caller same grows by = tt
+juggled_ok config old new class moment (Ok moves) may is caller same grows by = juggled_adds config old new class moment moves may is caller same grows by
+juggled_ok config old new class moment (Err fault) may is caller same grows by = tt
 
--- and what went wrong adds none, whether the call was begun or not
-cut_places : (old new : PassView) (moment : ℕ) (made : CallEvent) → moment_of made ≡ Some moment → (new ≡ old) ⊎ (new.calls ≡ old.calls ++ made ∷ []) → (n : ℕ) → places_in n new.calls ≡ places_in n old.calls
-cut_places old new moment made handed (inl same) n = ap (λ (p : PassView). places_in n p.calls) same
-cut_places old new moment made handed (inr noted_as) n = kept_places old new moment made handed noted_as n
-
-pub juggling_failed : (config : Config) (old new : PassView) (class : ClassNo) (moment : ℕ) (r : Result Moves Fault) → new.caller ≡ old.caller → OnErr r ((new ≡ old) ⊎ (new.calls ≡ old.calls ++ juggling_of class moment ∷ [])) → Grows old.sight new.sight
+-- and what went wrong adds none
+pub juggling_failed : (config : Config) (old new : PassView) (class : ClassNo) (moment : ℕ) (r : Result Moves Fault) → MayCall config old → new.caller ≡ old.caller → OnErr r (IsCut old new (juggling_of class moment)) → Grows old.sight new.sight
     → OnErr r (Adds (AreNoted config old) (AreNoted config new) [])
-juggling_failed config old new class moment (Ok x) caller cut grows = tt
-juggling_failed config old new class moment (Err fault) caller cut grows = none_adds config old new caller (cut_places old new moment (juggling_of class moment) refl cut) grows
+juggling_failed config old new class moment (Ok x) may caller cut grows = tt
+juggling_failed config old new class moment (Err fault) may caller cut grows = none_adds config old new moment (juggling_of class moment) refl may caller cut grows
 
-pub crawling_failed : (config : Config) (old new : PassView) (class : ClassNo) (moment : ℕ) (r : Result Histogram Fault) → new.caller ≡ old.caller → OnErr r ((new ≡ old) ⊎ (new.calls ≡ old.calls ++ crawling_of class moment ∷ [])) → Grows old.sight new.sight
+pub crawling_failed : (config : Config) (old new : PassView) (class : ClassNo) (moment : ℕ) (r : Result Histogram Fault) → MayCall config old → new.caller ≡ old.caller → OnErr r (IsCut old new (crawling_of class moment)) → Grows old.sight new.sight
     → OnErr r (Adds (AreNoted config old) (AreNoted config new) [])
-crawling_failed config old new class moment (Ok x) caller cut grows = tt
-crawling_failed config old new class moment (Err fault) caller cut grows = none_adds config old new caller (cut_places old new moment (crawling_of class moment) refl cut) grows
+crawling_failed config old new class moment (Ok x) may caller cut grows = tt
+crawling_failed config old new class moment (Err fault) may caller cut grows = none_adds config old new moment (crawling_of class moment) refl may caller cut grows
 
 -- a crawl is noted where it was made
-pub crawled_ok : (config : Config) (old new : PassView) (class : ClassNo) (moment : ℕ) (r : Result Histogram Fault) → IsClass (setting_of config) class → new.caller ≡ old.caller → OnOk r (new.calls ≡ old.calls ++ crawling_of class moment ∷ []) → Grows old.sight new.sight
+pub crawled_ok : (config : Config) (old new : PassView) (class : ClassNo) (moment : ℕ) (r : Result Histogram Fault) → MayCall config old → IsClass (setting_of config) class → new.caller ≡ old.caller → OnOk r (new.calls ≡ old.calls ++ crawling_of class moment ∷ []) → Grows old.sight new.sight
     → IfOk r (IsCrawledBy config class old.sight new.sight (record { caller = old.caller; turn = old.turn }) moment)
     → IfOk r (λ histogram. Adds (AreNoted config old) (AreNoted config new) (exchange old.caller old.turn (Crawls class) moment (Counted histogram) ∷ []))
-crawled_ok config old new class moment (Ok histogram) is caller same grows by = crawled_adds config old new class moment histogram is caller same grows by
-crawled_ok config old new class moment (Err fault) is caller same grows by = tt
+crawled_ok config old new class moment (Ok histogram) may is caller same grows by = crawled_adds config old new class moment histogram may is caller same grows by
+crawled_ok config old new class moment (Err fault) may is caller same grows by = tt
 
 -- where it was made, each entry that was seen is counted as one kind
 pub crawled_kinds : (config : Config) (class : ClassNo) (before after : Sight) (who : Who) (moment : ℕ) (r : Result Histogram Fault) → IfOk r (IsCrawledBy config class before after who moment) → IfOk r AddsUp
 crawled_kinds config class before after who moment (Ok histogram) by = by.balanced
 crawled_kinds config class before after who moment (Err fault) by = tt
 
-pub command_failed : (config : Config) (old new : PassView) (who : Who) (command : Command) (moment number : ℕ) (r : Result Reply Fault) → new.caller ≡ old.caller
-    → OnErr r ((new ≡ old) ⊎ IsCutBy config number old.sight new.sight old.calls new.calls who command moment) → Grows old.sight new.sight → OnErr r (Adds (AreNoted config old) (AreNoted config new) [])
-command_failed config old new who command moment number (Ok reply) caller cut grows = tt
-command_failed config old new who command moment number (Err fault) caller cut grows =
-    none_adds config old new caller (cut_places old new moment (asked_for command moment) refl
-    (⊎_elim (λ (same : new ≡ old). inl same) (λ (c : IsCutBy config number old.sight new.sight old.calls new.calls who command moment). inr c.noted) cut)) grows
+pub command_failed : (config : Config) (old new : PassView) (who : Who) (command : Command) (moment n : ℕ) (r : Result Reply Fault) → MayCall config old → new.caller ≡ old.caller
+    → OnErr r ((new ≡ old) ⊎ IsCutBy config n old.sight new.sight old.calls new.calls who command moment) → Grows old.sight new.sight → OnErr r (Adds (AreNoted config old) (AreNoted config new) [])
+command_failed config old new who command moment n (Ok reply) may caller cut grows = tt
+command_failed config old new who command moment n (Err fault) may caller cut grows =
+    none_adds config old new moment (asked_for command moment) refl may caller
+    (⊎_elim (λ (same : new ≡ old). inl same) (λ (c : IsCutBy config n old.sight new.sight old.calls new.calls who command moment). inr c.noted) cut) grows

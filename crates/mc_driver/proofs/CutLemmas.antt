@@ -11,7 +11,7 @@ use Rattle.mc_script.specs.declared.outcome.Outcome.{Outcome}
 use Rattle.mc_script.specs.declared.outcome.Outcome.TheVariants as outcomes
 use Rattle.mc_script.specs.declared.upkeep.Keeper.TheVariants.{Crawler, Maintainer}
 use Rattle.mc_store.specs.Finals.{FinalView}
-use Rattle.mc_driver.specs.Called.{AreByCallers, AreWholeTurns}
+use Rattle.mc_driver.specs.Called.{AreByCallers, AreWholeTurns, HasCalls}
 use Rattle.mc_driver.specs.Input.{AreRun, IsRunOf, Printed, ToAndFrom}
 use Rattle.mc_driver.specs.Left.{AreKeepersDone, IsKeptUp, IsLeft, IsScriptLeft}
 use Rattle.mc_driver.specs.Run.{HasFull, IsAccepted, callers_at_work, histories_left, limits_of, with_callers}
@@ -53,6 +53,7 @@ module _ {K : Type 0} (taken : K → List ℕ) (writes : K → ℕ) where
       idle = subst (λ n. moments ≡ [] → AreKeepersDone n ended) (sym many) left.idle;
       full = subst (λ n. (i : ℕ) (outcome : Outcome) → i < n + 2 → slice_index_or ended i outcome ≡ outcomes.HistoryFull → HasFull config (histories_left final)) (sym many) left.full;
       whole = subst (λ n. (i : ℕ) (outcome : Outcome) → i < n + 2 → slice_index_or ended i outcome ≡ outcomes.Done → AreWholeTurns config i (histories_left final)) (sym many) left.whole;
+      called = subst (λ n. (i : ℕ) → i < n + 2 → HasCalls config i (histories_left final)) (sym many) left.called;
       by = subst (λ n. AreByCallers config.stripes (callers_at_work n moments) (histories_left final)) (sym many) left.by;
       many = left.many ∙ ap (λ n. n + 2) (sym many);
       pairs = length-map ends shown ∙ left.pairs ∙ sym many;

@@ -9,16 +9,16 @@ use Rattle.mc_script.specs.declared.outcome.Outcome.TheVariants as outcomes
 use Rattle.mc_script.specs.declared.upkeep.Keeper.{Keeper}
 use Rattle.mc_store.specs.Finals.{AreClasses, AreStripes, FinalView}
 use Rattle.mc_store.specs.Passes.{PassView, new_pass}
-use Rattle.mc_driver.specs.Called.{AreWholeTurns, IsCompared, MadeNone}
+use Rattle.mc_driver.specs.Called.{AreWholeTurns, HasCalls, IsCompared, MadeNone}
 use Rattle.mc_driver.specs.Caller.{AreNoted}
 use Rattle.mc_driver.specs.Jobs.{HasWorked, IsIdle, Works}
 use Rattle.mc_driver.specs.Run.{HasFull, histories_left}
 use Rattle.mc_driver.specs.Stand.{AreItsCalls}
 use Rattle.mc_driver.specs.declared.jobs.Work.{Work}
 use Rattle.mc_driver.specs.declared.jobs.Work.TheVariants.{Script, Upkeep}
-use Rattle.mc_driver.proofs.LeavesLemmas.{keeps_up_as, leaves_known}
+use Rattle.mc_driver.proofs.LeavesLemmas.{keeps_some, keeps_up_as, leaves_known, leaves_some}
 use Rattle.mc_driver.proofs.LeftLemmas.{left_calls, left_full, left_grows}
-use Rattle.mc_driver.proofs.MadeLemmas.{none_made, whole_turns}
+use Rattle.mc_driver.proofs.MadeLemmas.{has_calls, none_made, whole_turns}
 
 module _ {S K : Type 0} (coming : S → List ℕ) (reads : S → ℕ) (taken : K → List ℕ) (writes : K → ℕ) where
   -- what is known of a caller's calls may be said by another fact that follows
@@ -29,6 +29,15 @@ module _ {S K : Type 0} (coming : S → List ℕ) (reads : S → ℕ) (taken : K
   works_as limits moments notes notes' caller outcome (Upkeep keeper) (Upkeep left) follows works = (works.0, keeps_up_as limits (work_of keeper moments) notes notes' caller follows outcome works.1)
   works_as limits moments notes notes' caller outcome (Script ends) (Upkeep left) follows works = works
   works_as limits moments notes notes' caller outcome (Upkeep keeper) (Script left) follows works = works
+
+  -- however a work ended, some calls of it are known
+  works_some : (limits : Limits) (moments : List ℕ) (notes : List Exchange → Type 0) (caller : ℕ) (outcome : Outcome) (work work' : Work S K) → Works coming reads taken writes limits moments notes caller outcome work work'
+      → (calls : List Exchange) × notes calls
+  works_some limits moments notes caller outcome (Script ends) (Script left) works =
+      leaves_some limits (coming ends.source) (coming left.source) (taken ends.sink) (taken left.sink) notes caller outcome works.0
+  works_some limits moments notes caller outcome (Upkeep keeper) (Upkeep left) works = keeps_some limits (work_of keeper moments) notes caller outcome works.1
+  works_some limits moments notes caller outcome (Script ends) (Upkeep left) works = absurd works
+  works_some limits moments notes caller outcome (Upkeep keeper) (Script left) works = absurd works
 
   module _ (config : Config) (limits : Limits) (moments : List ℕ) (final : FinalView) (all : AreStripes final.board config final.stripes) (all_classes : AreClasses final.board config final.classes)
       (caller : ℕ) (pass : PassView) (outcome : Outcome) (work work' : Work S K)
@@ -47,6 +56,13 @@ module _ {S K : Type 0} (coming : S → List ℕ) (reads : S → ℕ) (taken : K
     pub whole_left : outcome ≡ outcomes.Done → AreWholeTurns config caller (histories_left final)
     whole_left is = subst (λ (k : ℕ). AreWholeTurns config k (histories_left final)) has.caller
         (whole_turns config final pass all compared.own (left_grows config final all all_classes pass.sight compared.stripes compared.classes) (has.done is))
+
+    -- and however it ended, each is of one of its calls
+    pub called_left : HasCalls config caller (histories_left final)
+    called_left =
+        let known = works_some limits moments (AreNoted config pass) caller outcome work work' has.works in
+        subst (λ (k : ℕ). HasCalls config k (histories_left final)) has.caller
+        (has_calls config final pass all compared.own (left_grows config final all all_classes pass.sight compared.stripes compared.classes) known.1.made)
 
     -- upkeep without moments made nothing
     pub none_left : moments ≡ [] → (keeper : Keeper) → work ≡ Upkeep keeper → MadeNone caller final.stripes

@@ -165,7 +165,7 @@ starts : (config : Config) (caller : ℕ) → 0 < config.stripes → IsAtStart c
 starts config caller some = record {
   may = record { some = some; made = record { each = λ turn call at. absurd (cc at) }; turns = refl };
   first = refl;
-  none = record { stand = grow_nothing config _; at = λ n below. tt; rising = λ n below. tt };
+  none = record { stand = grow_nothing config _; at = λ n below. tt; rising = λ n below. tt; made = record { each = λ turn call at behind. absurd (cc at) } };
 }
 
 -- each job begins with such a pass

@@ -63,6 +63,23 @@ module _ (limits : Limits) (start taken : List ℕ) (notes notes' : List Exchang
   leaves_as HistoryFull bytes left leaves = stopped_as _ bytes left leaves
   leaves_as Output bytes left leaves = broken_as bytes left leaves
 
+-- however a run ended, some calls of it are known
+pub leaves_some : (limits : Limits) (bytes left start taken : List ℕ) (notes : List Exchange → Type 0) (caller : ℕ) (outcome : Outcome) → Leaves outcome limits bytes left start taken notes caller → (calls : List Exchange) × notes calls
+leaves_some limits bytes left start taken notes caller Done leaves = (_, leaves.calls)
+leaves_some limits bytes left start taken notes caller Input leaves = (_, leaves.run.calls)
+leaves_some limits bytes left start taken notes caller Memory (inl stopped) = (_, stopped.calls)
+leaves_some limits bytes left start taken notes caller Memory (inr starved) = (_, starved.run.run.calls)
+leaves_some limits bytes left start taken notes caller HistoryFull leaves = (_, leaves.calls)
+leaves_some limits bytes left start taken notes caller Output leaves = (_, leaves.calls)
+
+-- and so are some of upkeep
+pub keeps_some : (limits : Limits) (work : List Request) (notes : List Exchange → Type 0) (caller : ℕ) (outcome : Outcome) → KeepsUp outcome limits work notes caller → (calls : List Exchange) × notes calls
+keeps_some limits work notes caller Done kept = (_, kept.calls)
+keeps_some limits work notes caller Memory kept = (_, kept.calls)
+keeps_some limits work notes caller HistoryFull kept = (_, kept.calls)
+keeps_some limits work notes caller Input kept = absurd kept
+keeps_some limits work notes caller Output kept = absurd kept
+
 -- the same for limits and a caller that are known to be these
 pub leaves_known : (limits limits' : Limits) (caller caller' : ℕ) (notes notes' : List Exchange → Type 0) (outcome : Outcome) (bytes left start taken : List ℕ) → limits' ≡ limits → caller' ≡ caller
     → ((calls : List Exchange) → notes calls → notes' calls) → Leaves outcome limits' bytes left start taken notes caller' → Leaves outcome limits bytes left start taken notes' caller

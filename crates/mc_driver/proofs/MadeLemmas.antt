@@ -1,5 +1,5 @@
 -- Calls that were made to their end, and whose the events of a closed store are.
-use Rattle.std.proofs.Common.{◌≡◌, ◌⊎◌, ◌<◌, ◌+◌, ℕ, zero, suc, List, [], ◌∷◌, ◌++◌, Some, Result, Ok, Err, refl, sym, ap, ◌∙◌, subst, inl, inr, ⊎_elim, arith, length, length-append, append-nil}
+use Rattle.std.proofs.Common.{◌≡◌, ◌⊎◌, ◌<◌, ◌≤◌, ◌+◌, ℕ, zero, suc, List, [], ◌∷◌, ◌++◌, Some, Result, Ok, Err, refl, sym, ap, ◌∙◌, subst, inl, inr, ⊎_elim, arith, length, length-append, append-nil}
 use Rattle.std.specs.Prelude.{IfOk, OnOk, slice_get}
 use Rattle.std.proofs.lemmas.Bool.{cases_lt}
 use Rattle.mc_item.specs.declared.call_event.CallEvent.{CallEvent}
@@ -15,7 +15,7 @@ use Rattle.mc_item.specs.declared.stripe_event.StripeEvent.{StripeEvent}
 use Rattle.mc_item.specs.declared.stripe_event.StripeEvent.TheVariants as events
 use Rattle.mc_board.specs.Histories.{Grows}
 use Rattle.mc_evidence.specs.Setting.{IsClass}
-use Rattle.mc_script.specs.Exchanges.{Exchange}
+use Rattle.mc_script.specs.Exchanges.{Asks, Call, Crawls, Exchange, Juggles}
 use Rattle.mc_store.specs.Callers.{IsOf, answered_at, asked_for, juggling_of, moment_of, turns_of, who_of, crawling_of}
 use Rattle.mc_store.specs.Calls.{IsJuggledBy, IsRepliedBy}
 use Rattle.mc_store.specs.Finals.{AreItsOwn, AreStripes, FinalView, stripe_histories, stripe_history}
@@ -23,8 +23,8 @@ use Rattle.mc_store.specs.Locked.{setting_of}
 use Rattle.mc_store.specs.Passes.{PassView, next_who}
 use Rattle.mc_store.specs.Sides.{StripeSide}
 use Rattle.mc_store.proofs.PlaceLemmas.{get_some}
-use Rattle.mc_driver.specs.Called.{AreByCallers, AreWholeTurns, IsAtMoment, MadeNone}
-use Rattle.mc_driver.specs.Caller.{IsMade, MayCall, histories_seen}
+use Rattle.mc_driver.specs.Called.{AreByCallers, AreWholeTurns, HasCalls, IsAtMoment, MadeNone}
+use Rattle.mc_driver.specs.Caller.{AreMadeButLast, IsMade, MayCall, call_event_of, histories_seen}
 use Rattle.mc_driver.specs.Run.{callers_at_work, histories_left}
 use Rattle.mc_driver.specs.Stand.{Grow, Histories, StandsBetween, nothing_seen, stripe_number}
 use Rattle.mc_driver.proofs.BetweenLemmas.{crawled_between, juggled_between, replied_between, seen_grow}
@@ -69,6 +69,16 @@ get_last (z ∷ zs) x y (suc k) e = ⊎_elim
     (λ (t : (k ≡ length zs) × (x ≡ y)). let at = t.0 in inr (omega (arith, at), t.1))
     (get_last zs x y k e)
 
+-- what stands in a list's beginning stands in that
+get_before : {A : Type 0} (xs more : List A) (k : ℕ) (y : A) → k < length xs → slice_get (xs ++ more) k ≡ Some y → slice_get xs k ≡ Some y
+get_before [] more k y below e = absurd (omega (arith, below))
+get_before (x ∷ xs) more zero y below e = e
+get_before (x ∷ xs) more (suc k) y below e = get_before xs more k y (omega (arith, below)) e
+
+-- a list with one more event has its call's turn more, if it is one
+pub turns_of-call : (calls : List CallEvent) (call : CallEvent) (moment : ℕ) → moment_of call ≡ Some moment → turns_of (calls ++ call ∷ []) ≡ turns_of calls ++ call ∷ []
+turns_of-call calls call moment handed = turns_of-append calls (call ∷ []) ∙ ap (λ (l : List CallEvent). turns_of calls ++ l) (turn_first call [] moment handed)
+
 -- ---- calls that were made
 
 -- a call that was made stays so while histories grow
@@ -78,18 +88,24 @@ made_later config old new who call grow made = record {
   placed = made.placed;
   stands = stands_as_later config nothing_seen old new made.exchange.who made.exchange.moment made.exchange.call made.exchange.answer grow made.placed made.stands;
   who_is = made.who_is;
-  moment_is = made.moment_is;
+  call_is = made.call_is;
 }
 
+-- and it has its exchange's moment
+moment_of_call_event : (call : Call) (moment : ℕ) → moment_of (call_event_of call moment) ≡ Some moment
+moment_of_call_event (Asks command) moment = refl
+moment_of_call_event (Juggles class) moment = refl
+moment_of_call_event (Crawls class) moment = refl
+
 -- a call that stands between two histories was made
-made_between : (config : Config) (seen reached : Histories) (exchange : Exchange) (call : CallEvent) → StandsBetween config seen reached exchange → moment_of call ≡ Some exchange.moment
+made_between : (config : Config) (seen reached : Histories) (exchange : Exchange) (call : CallEvent) → StandsBetween config seen reached exchange → call ≡ call_event_of exchange.call exchange.moment
     → IsMade config reached exchange.who call
-made_between config seen reached exchange call between moment = record {
+made_between config seen reached exchange call between is = record {
   exchange = exchange;
   placed = between.placed;
   stands = stands_as_less config nothing_seen seen reached exchange.who exchange.moment exchange.call exchange.answer (grow_nothing config seen) between.placed between.stands;
   who_is = refl;
-  moment_is = moment;
+  call_is = is;
 }
 
 -- one more call was made
@@ -114,17 +130,29 @@ may_more config old new call may caller turn grows turns made = record {
       omega (arith, many, was, turn);
 }
 
+-- where all calls were made, and there is at most one more, all but the last were
+pub made_but_last : (config : Config) (old new : PassView) (more : List CallEvent) → MayCall config old → new.caller ≡ old.caller → Grows old.sight new.sight
+    → turns_of new.calls ≡ turns_of old.calls ++ more → length more ≤ 1 → AreMadeButLast config (histories_seen config new.sight) new.caller new.calls
+made_but_last config old new more may caller grows turns few = record {
+  each = λ turn call at behind.
+      let many : length (turns_of new.calls) ≡ length (turns_of old.calls) + length more = ap (λ (l : List CallEvent). length l) turns ∙ length-append (turns_of old.calls) more in
+      let below : turn < length (turns_of old.calls) = omega (arith, behind, many, few) in
+      let was : slice_get (turns_of old.calls) turn ≡ Some call = get_before (turns_of old.calls) more turn call below (ap (λ (l : List CallEvent). slice_get l turn) (sym turns) ∙ at) in
+      subst (λ (n : ℕ). IsMade config (histories_seen config new.sight) (record { caller = n; turn = turn }) call) (sym caller)
+      (made_later config (histories_seen config old.sight) (histories_seen config new.sight) (record { caller = old.caller; turn = turn }) call (seen_grow config old.sight new.sight grows) (may.made.each turn call was));
+}
+
+-- a command that was answered is one turn more
+pub replied_turns : (old new : List CallEvent) (asked : CallEvent) (stripe place : ℕ) → new ≡ (old ++ asked ∷ []) ++ answered_at stripe place ∷ [] → turns_of new ≡ turns_of old ++ turns_of (asked ∷ [])
+replied_turns old new asked stripe place noted =
+    ap turns_of noted ∙ (turns_of-append (old ++ asked ∷ []) (answered_at stripe place ∷ []) ∙ (append-nil (turns_of (old ++ asked ∷ [])) ∙ turns_of-append old (asked ∷ [])))
+
 -- a command that was answered was made to its end
 pub replied_may : (config : Config) (old new : PassView) (command : Command) (moment : ℕ) (r : Result Reply Fault) → MayCall config old → new.caller ≡ old.caller → OnOk r (new.turn ≡ old.turn + 1) → Grows old.sight new.sight
     → IfOk r (IsRepliedBy config (stripe_number config.stripes command) old.sight new.sight old.calls new.calls (record { caller = old.caller; turn = old.turn }) command moment) → OnOk r (MayCall config new)
 replied_may config old new command moment (Ok reply) may caller turn grows by =
     let asked = asked_for command moment in
-    let last = answered_at by.old.site.stripe by.replied.place in
-    let turns : turns_of new.calls ≡ turns_of old.calls ++ asked ∷ [] =
-    ap turns_of by.replied.noted
-    ∙ (turns_of-append (old.calls ++ asked ∷ []) (last ∷ [])
-    ∙ (append-nil (turns_of (old.calls ++ asked ∷ [])) ∙ turns_of-append old.calls (asked ∷ []))) in
-    may_more config old new asked may caller turn grows turns
+    may_more config old new asked may caller turn grows (replied_turns old.calls new.calls asked by.old.site.stripe by.replied.place by.replied.noted)
     (made_between config (histories_seen config old.sight) (histories_seen config new.sight) _ asked (replied_between config old.sight new.sight old.calls new.calls (next_who old) command moment reply may.some grows by) refl)
 replied_may config old new command moment (Err fault) may caller turn grows by = tt
 
@@ -160,6 +188,20 @@ moment_of_call stripe place (events.Cooled cooled) call behind moment handed is 
 who_by : (who : Who) (caller : ℕ) → who.caller ≡ caller → who ≡ record { caller = caller; turn = who.turn }
 who_by who caller is = ap (λ (n : ℕ). record who { caller = n }) is
 
+-- the calls of a pass are those of its caller, however it ended
+pub has_calls : (config : Config) (final : FinalView) (pass : PassView) → AreStripes final.board config final.stripes → AreItsOwn pass final.stripes → Grow config (histories_seen config pass.sight) (histories_left final)
+    → AreMadeButLast config (histories_seen config pass.sight) pass.caller pass.calls → HasCalls config pass.caller (histories_left final)
+has_calls config final pass all own grow made = record {
+  calls = pass.calls;
+  called = λ number place event below found by.
+      let s = get_some final.stripes number (omega (arith, below, all.many)) in
+      let there : stripe_histories final.stripes number ≡ s.0.stripe.history = ap stripe_history s.1 in
+      own.each number s.0 place event s.1 (ap (λ (h : List StripeEvent). slice_get h place) (sym there) ∙ found) by;
+  made = record {
+    each = λ turn call at behind. made_later config (histories_seen config pass.sight) (histories_left final) (record { caller = pass.caller; turn = turn }) call grow (made.each turn call at behind);
+  };
+}
+
 -- where no call of a pass was broken off, each event that names its caller has its call
 pub whole_turns : (config : Config) (final : FinalView) (pass : PassView) → AreStripes final.board config final.stripes → AreItsOwn pass final.stripes → Grow config (histories_seen config pass.sight) (histories_left final)
     → MayCall config pass → AreWholeTurns config pass.caller (histories_left final)
@@ -175,7 +217,7 @@ whole_turns config final pass all own grow may = record {
         call = made.exchange;
         stands = made.stands;
         who_is = who_by (who_of event) pass.caller by ∙ sym made.who_is;
-        moment_is = moment_of_call number place event begun.call begun.behind called.moment made.exchange.moment begun.handed made.moment_is called.own;
+        moment_is = moment_of_call number place event begun.call begun.behind called.moment made.exchange.moment begun.handed (ap moment_of made.call_is ∙ moment_of_call_event made.exchange.call made.exchange.moment) called.own;
       };
 }
 

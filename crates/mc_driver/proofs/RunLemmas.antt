@@ -21,7 +21,7 @@ use Rattle.mc_driver.specs.Run.{IsStore, histories_left, limits_of}
 use Rattle.mc_driver.specs.Stand.{AreItsCalls}
 use Rattle.mc_driver.specs.declared.jobs.Work.{Work}
 use Rattle.mc_driver.specs.declared.jobs.Work.TheVariants.{Script, Upkeep}
-use Rattle.mc_driver.proofs.EndedLemmas.{full_left, none_left, whole_left, works_left}
+use Rattle.mc_driver.proofs.EndedLemmas.{called_left, full_left, none_left, whole_left, works_left}
 use Rattle.mc_driver.proofs.JobLemmas.{AreScripts, HasWorkedAt, crawler_at, ends_at, ends_many, maintainer_at, script_at, worked_at, works_many}
 use Rattle.mc_driver.proofs.MadeLemmas.{by_working}
 
@@ -142,6 +142,9 @@ module _ {S K : Type 0} (coming : S → List ℕ) (reads : S → ℕ) (taken : K
               let w = worked i below in
               whole_left coming reads taken writes config (limits_of config) moments final all all_classes i w.pass w.outcome w.work w.work' w.has (compared i w.pass w.passed)
               (sym (get_or_from_slice_get ended i w.outcome outcome w.ended) ∙ so);
+          called = λ i below.
+              let w = worked i below in
+              called_left coming reads taken writes config (limits_of config) moments final all all_classes i w.pass w.outcome w.work w.work' w.has (compared i w.pass w.passed);
           by = by_working config final (length scripts) moments all callers
               (λ none. (
                 upkeep_none (length scripts) Maintainer (omega arith) (maintainer_at scripts) none,

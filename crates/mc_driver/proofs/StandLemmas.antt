@@ -11,11 +11,19 @@ use Rattle.mc_item.specs.declared.item.Who.{Who}
 use Rattle.mc_item.specs.declared.reply.Reply.{Reply}
 use Rattle.mc_item.specs.declared.stripe_event.StripeEvent.{StripeEvent}
 use Rattle.mc_board.proofs.PrefixLemmas.{prefix_nil, prefix_self, prefix_trans}
+use Rattle.mc_evidence.specs.Refusals.{WasTried}
+use Rattle.mc_evidence.specs.Setting.{IsClass, site_in}
+use Rattle.mc_evidence.proofs.GrowLemmas.{tried_later}
 use Rattle.mc_proto.specs.Answers.{Answer, Moved, Replied, Counted}
 use Rattle.mc_script.specs.Exchanges.{Asks, Call, Exchange, Juggles, Crawls}
+use Rattle.mc_item.specs.declared.item.StripeNo.{StripeNo}
+use Rattle.mc_item.specs.declared.stripe_event.Did.{Did}
+use Rattle.mc_segment.specs.ClassCalls.{refused_event}
 use Rattle.mc_store.specs.Crawls.{HasReclaims}
+use Rattle.mc_store.specs.Earned.{IsLastResort}
+use Rattle.mc_store.specs.Locked.{setting_of}
 use Rattle.mc_store.specs.Sides.{class_told}
-use Rattle.mc_driver.specs.Noted.{NotesCommand, NotesCrawling, NotesJuggling, answered_event}
+use Rattle.mc_driver.specs.Noted.{NotesCommand, NotesCrawling, NotesJuggling, answered_command, answered_event}
 use Rattle.mc_driver.specs.Stand.{Grow, Histories, IsPlaced, Stand, StandsAs, StandsBetween, nothing_seen, stripe_number}
 
 -- ---- histories that grow
@@ -37,15 +45,36 @@ grow_nothing config histories = record { stripes = λ number below. prefix_nil (
 
 -- ---- longer histories
 
--- a longer history notes the command that its beginning does
-NotesCommand-append : (seen history more : List StripeEvent) (who : Who) (command : Command) (moment : ℕ) (reply : Reply) → NotesCommand seen history who command moment reply
-    → NotesCommand seen (history ++ more) who command moment reply
-NotesCommand-append seen history more who command moment reply noted = record {
+-- a refusal that was a last resort is one in a longer history
+last_later : (config : Config) (number : StripeNo) (class : ClassNo) (place : ℕ) (history longer : List ClassEvent) (did : Did) → IsPrefix history longer → IsLastResort config number class place history did
+    → IsLastResort config number class place longer did
+last_later config number class place history longer did begins last = record {
+  before = last.before;
+  refused = record {
+    later = last.refused.later ++ begins.0;
+    is = sym begins.1 ∙ (ap (λ (l : List ClassEvent). l ++ begins.0) last.refused.is ∙ append_assoc last.before (refused_event did.who ∷ last.refused.later) begins.0);
+  };
+  place_is = last.place_is;
+  through = last.through;
+}
+
+-- a longer history notes the command that its beginning does, and classes that grow keep the refusal that its answer cites
+NotesCommand-append : (config : Config) (number : ℕ) (seen history more : List StripeEvent) (classes classes_new : ClassNo → List ClassEvent) (who : Who) (command : Command) (moment : ℕ) (reply : Reply)
+    → ((class : ClassNo) → IsClass (setting_of config) class → IsPrefix (classes class) (classes_new class)) → NotesCommand config number seen history classes who command moment reply
+    → NotesCommand config number seen (history ++ more) classes_new who command moment reply
+NotesCommand-append config number seen history more classes classes_new who command moment reply grow noted = record {
   before = noted.before;
   room = noted.room;
   behind = noted.behind ++ more;
   past = noted.past;
   split = ap (λ (h : List StripeEvent). h ++ more) noted.split ∙ append_assoc noted.before (answered_event who command moment reply noted.room ∷ noted.behind) more;
+  earned = λ class is.
+      let site = site_in (setting_of config) number in
+      let did = answered_command who command moment reply noted.room in
+      let longer = grow class is in
+      subst (λ (h : List ClassEvent). WasTried site class h did) longer.1 (tried_later site class (classes class) longer.0 did (noted.earned class is));
+  last = λ class place is refused.
+      last_later config (record { 0 = number }) class place (classes class) (classes_new class) (answered_command who command moment reply noted.room) (grow class is) (noted.last class place is refused);
 }
 
 -- and the juggling
@@ -77,14 +106,18 @@ reclaims_behind who moment many [] ys some = some
 reclaims_behind who moment many (x ∷ xs) ys some = inl (reclaims_behind who moment many xs ys some)
 
 -- and the crawl
-NotesCrawling-append : (seen history more : List ClassEvent) (who : Who) (moment : ℕ) (histogram : Histogram) → NotesCrawling seen history who moment histogram
-    → NotesCrawling seen (history ++ more) who moment histogram
-NotesCrawling-append seen history more who moment histogram noted = record {
+NotesCrawling-append : (config : Config) (seen history more : List ClassEvent) (who : Who) (class : ClassNo) (moment : ℕ) (histogram : Histogram) → NotesCrawling config seen history who class moment histogram
+    → NotesCrawling config seen (history ++ more) who class moment histogram
+NotesCrawling-append config seen history more who class moment histogram noted = record {
   at = noted.at;
   behind = noted.behind ++ more;
   past = noted.past;
   split = ap (λ (h : List ClassEvent). h ++ more) noted.split ∙ append_assoc noted.at noted.behind more;
   entries = noted.entries;
+  end = noted.end;
+  rest = noted.rest ++ more;
+  ends = ap (λ (h : List ClassEvent). h ++ more) noted.ends ∙ append_assoc noted.end noted.rest more;
+  counted = noted.counted;
   balanced = noted.balanced;
   since = noted.since ++ more;
   since_is = ap (λ (h : List ClassEvent). h ++ more) noted.since_is ∙ append_assoc seen noted.since more;
@@ -97,13 +130,14 @@ pub stands_as_later : (config : Config) (seen old new : Histories) (who : Who) (
 stands_as_later config seen old new who moment (Asks command) (Replied reply) grow placed stands =
     let number = stripe_number config.stripes command in
     let longer = grow.stripes number placed in
-    subst (λ (h : List StripeEvent). NotesCommand (seen.stripes number) h who command moment reply) longer.1 (NotesCommand-append (seen.stripes number) (old.stripes number) longer.0 who command moment reply stands)
+    subst (λ (h : List StripeEvent). NotesCommand config number (seen.stripes number) h new.classes who command moment reply) longer.1
+    (NotesCommand-append config number (seen.stripes number) (old.stripes number) longer.0 old.classes new.classes who command moment reply grow.classes stands)
 stands_as_later config seen old new who moment (Juggles class) (Moved moves) grow placed stands =
     let longer = grow.classes class placed in
     subst (λ (h : List ClassEvent). NotesJuggling config (seen.classes class) h who class moment moves) longer.1 (NotesJuggling-append config (seen.classes class) (old.classes class) longer.0 who class moment moves stands)
 stands_as_later config seen old new who moment (Crawls class) (Counted histogram) grow placed stands =
     let longer = grow.classes class placed in
-    subst (λ (h : List ClassEvent). NotesCrawling (seen.classes class) h who moment histogram) longer.1 (NotesCrawling-append (seen.classes class) (old.classes class) longer.0 who moment histogram stands)
+    subst (λ (h : List ClassEvent). NotesCrawling config (seen.classes class) h who class moment histogram) longer.1 (NotesCrawling-append config (seen.classes class) (old.classes class) longer.0 who class moment histogram stands)
 stands_as_later config seen old new who moment (Asks command) (Moved moves) grow placed stands = absurd stands
 stands_as_later config seen old new who moment (Asks command) (Counted histogram) grow placed stands = absurd stands
 stands_as_later config seen old new who moment (Juggles class) (Counted histogram) grow placed stands = absurd stands
@@ -114,14 +148,16 @@ stands_as_later config seen old new who moment (Juggles class) (Replied reply) g
 -- ---- less that was seen
 
 -- what stands behind what was seen stands behind a beginning of it
-NotesCommand-less : (less seen history : List StripeEvent) (who : Who) (command : Command) (moment : ℕ) (reply : Reply) → IsPrefix less seen → NotesCommand seen history who command moment reply
-    → NotesCommand less history who command moment reply
-NotesCommand-less less seen history who command moment reply begins noted = record {
+NotesCommand-less : (config : Config) (number : ℕ) (less seen history : List StripeEvent) (classes : ClassNo → List ClassEvent) (who : Who) (command : Command) (moment : ℕ) (reply : Reply) → IsPrefix less seen
+    → NotesCommand config number seen history classes who command moment reply → NotesCommand config number less history classes who command moment reply
+NotesCommand-less config number less seen history classes who command moment reply begins noted = record {
   before = noted.before;
   room = noted.room;
   behind = noted.behind;
   past = prefix_trans less seen noted.before begins noted.past;
   split = noted.split;
+  earned = noted.earned;
+  last = noted.last;
 }
 
 NotesJuggling-less : (config : Config) (less seen history : List ClassEvent) (who : Who) (class : ClassNo) (moment : ℕ) (moves : Moves) → IsPrefix less seen → NotesJuggling config seen history who class moment moves
@@ -136,13 +172,18 @@ NotesJuggling-less config less seen history who class moment moves begins noted 
   juggled = noted.juggled;
 }
 
-NotesCrawling-less : (less seen history : List ClassEvent) (who : Who) (moment : ℕ) (histogram : Histogram) → IsPrefix less seen → NotesCrawling seen history who moment histogram → NotesCrawling less history who moment histogram
-NotesCrawling-less less seen history who moment histogram begins noted = record {
+NotesCrawling-less : (config : Config) (less seen history : List ClassEvent) (who : Who) (class : ClassNo) (moment : ℕ) (histogram : Histogram) → IsPrefix less seen → NotesCrawling config seen history who class moment histogram
+    → NotesCrawling config less history who class moment histogram
+NotesCrawling-less config less seen history who class moment histogram begins noted = record {
   at = noted.at;
   behind = noted.behind;
   past = prefix_trans less seen noted.at begins noted.past;
   split = noted.split;
   entries = noted.entries;
+  end = noted.end;
+  rest = noted.rest;
+  ends = noted.ends;
+  counted = noted.counted;
   balanced = noted.balanced;
   since = begins.0 ++ noted.since;
   since_is = noted.since_is ∙ ap (λ (h : List ClassEvent). h ++ noted.since) (sym begins.1) ∙ append_assoc less begins.0 noted.since;
@@ -153,11 +194,11 @@ pub stands_as_less : (config : Config) (less seen histories : Histories) (who : 
     → StandsAs config seen histories who moment call answer → StandsAs config less histories who moment call answer
 stands_as_less config less seen histories who moment (Asks command) (Replied reply) grow placed stands =
     let number = stripe_number config.stripes command in
-    NotesCommand-less (less.stripes number) (seen.stripes number) (histories.stripes number) who command moment reply (grow.stripes number placed) stands
+    NotesCommand-less config number (less.stripes number) (seen.stripes number) (histories.stripes number) histories.classes who command moment reply (grow.stripes number placed) stands
 stands_as_less config less seen histories who moment (Juggles class) (Moved moves) grow placed stands =
     NotesJuggling-less config (less.classes class) (seen.classes class) (histories.classes class) who class moment moves (grow.classes class placed) stands
 stands_as_less config less seen histories who moment (Crawls class) (Counted histogram) grow placed stands =
-    NotesCrawling-less (less.classes class) (seen.classes class) (histories.classes class) who moment histogram (grow.classes class placed) stands
+    NotesCrawling-less config (less.classes class) (seen.classes class) (histories.classes class) who class moment histogram (grow.classes class placed) stands
 stands_as_less config less seen histories who moment (Asks command) (Moved moves) grow placed stands = absurd stands
 stands_as_less config less seen histories who moment (Asks command) (Counted histogram) grow placed stands = absurd stands
 stands_as_less config less seen histories who moment (Juggles class) (Counted histogram) grow placed stands = absurd stands

@@ -1,12 +1,14 @@
 -- That each event of a stripe is of a call that stands in the histories, by who made it and its moment (own).
 use Rattle.std.specs.Prelude.{ℕ, ◌≡◌, ◌<◌, List, Some, slice_get}
+use Rattle.mc_item.specs.declared.call_event.CallEvent.{CallEvent}
 use Rattle.mc_item.specs.declared.config.Config.{Config}
 use Rattle.mc_item.specs.declared.stripe_event.StripeEvent.{StripeEvent}
 use Rattle.mc_item.specs.declared.stripe_event.StripeEvent.TheVariants as events
 use Rattle.mc_script.specs.Exchanges.{Exchange}
-use Rattle.mc_store.specs.Callers.{IsMomentOf, who_of}
+use Rattle.mc_store.specs.Callers.{IsCalled, IsMomentOf, who_of}
 use Rattle.mc_store.specs.Finals.{AreItsOwn, FinalView, IsBehindClasses, IsBehindStripes}
 use Rattle.mc_store.specs.Passes.{PassView}
+use Rattle.mc_driver.specs.Caller.{AreMadeButLast}
 use Rattle.mc_driver.specs.Stand.{Histories, Stands}
 use Rattle.mc_store.specs.Sides.{StripeSide}
 
@@ -27,6 +29,14 @@ pub record HasCall (config : Config) (histories : Histories) (event : StripeEven
 pub record AreWholeTurns (config : Config) (caller : ℕ) (histories : Histories) : Type 0 where
   pub at : (number place : ℕ) (event : StripeEvent) → number < config.stripes → slice_get (histories.stripes number) place ≡ Some event
       → (who_of event).caller ≡ caller → HasCall config histories event
+
+-- a caller has calls, however it ended: each event that names it, on whatever stripe, is of one of them, in that one's turn; and
+-- each of them but the last, which may have been broken off, was made to its end
+pub record HasCalls (config : Config) (caller : ℕ) (histories : Histories) : Type 0 where
+  pub calls : List CallEvent
+  pub called : (number place : ℕ) (event : StripeEvent) → number < config.stripes → slice_get (histories.stripes number) place ≡ Some event
+      → (who_of event).caller ≡ caller → IsCalled calls number place event
+  pub made : AreMadeButLast config histories caller calls
 
 -- nobody but the first so many callers made an event on any stripe
 pub record AreByCallers (stripes callers : ℕ) (histories : Histories) : Type 0 where

@@ -9,12 +9,12 @@ use Rattle.mc_item.specs.declared.stripe_event.StripeEvent.TheVariants as events
 use Rattle.mc_board.specs.declared.rule.Sight.{Sight}
 use Rattle.mc_board.specs.Histories.{list_at}
 use Rattle.mc_evidence.specs.Seen.{classes_seen, stripes_seen}
-use Rattle.mc_script.specs.Exchanges.{Exchange}
+use Rattle.mc_script.specs.Exchanges.{Asks, Call, Crawls, Exchange, Juggles}
 use Rattle.mc_store.specs.Passes.{PassView}
 use Rattle.mc_driver.specs.Noted.{exchange_of}
 use Rattle.mc_driver.specs.Stand.{Histories, IsPlaced, Stand, Stands, calls_at, nothing_seen}
 use Rattle.mc_item.specs.declared.item.Who.{Who}
-use Rattle.mc_store.specs.Callers.{moment_of, turns_of}
+use Rattle.mc_store.specs.Callers.{asked_for, crawling_of, juggling_of, turns_of}
 
 -- the histories of a store as far as a token has seen them
 abbrev pub histories_seen : Config → Sight → Histories
@@ -48,20 +48,32 @@ places_in number (calls.Juggled worked ∷ more) = places_in number more
 places_in number (calls.Crawled worked ∷ more) = places_in number more
 places_in number (calls.Answered answered ∷ more) = if nat_eq answered.stripe.0 number then answered.place ∷ places_in number more else places_in number more
 
--- these calls, with their answers, stand in turn in what the caller's pass has seen, and of each stripe the caller's history
--- has the places of just those that are the stripe's commands
-pub record AreNoted (config : Config) (pass : PassView) (calls : List Exchange) : Type 0 where
-  pub stand : Stand config nothing_seen (histories_seen config pass.sight) calls
-  pub at : (number : ℕ) → number < config.stripes → AreAt (stripes_seen (list_at pass.sight.seen) number) pass.caller (places_in number pass.calls) (calls_at config.stripes number calls)
-  pub rising : (number : ℕ) → number < config.stripes → AreRising 0 (places_in number pass.calls)
+-- a call as its caller's history has it, with the moment that it was handed
+abbrev pub call_event_of : Call → ℕ → CallEvent
+call_event_of (Asks command) moment = asked_for command moment
+call_event_of (Juggles class) moment = juggling_of class moment
+call_event_of (Crawls class) moment = crawling_of class moment
 
--- a call of a caller's history was made to its end: an exchange of this turn, and of its moment, stands in these histories
+-- a call of a caller's history was made to its end: as an exchange, of this turn and of its moment, it stands in these histories
 pub record IsMade (config : Config) (histories : Histories) (who : Who) (call : CallEvent) : Type 0 where
   pub exchange : Exchange
   pub placed : IsPlaced config exchange.call
   pub stands : Stands config histories exchange
   pub who_is : exchange.who ≡ who
-  pub moment_is : moment_of call ≡ Some exchange.moment
+  pub call_is : call ≡ call_event_of exchange.call exchange.moment
+
+-- each of these calls of a caller but the last, which may have been broken off, was made to its end
+pub record AreMadeButLast (config : Config) (histories : Histories) (caller : ℕ) (calls : List CallEvent) : Type 0 where
+  pub each : (turn : ℕ) (call : CallEvent) → slice_get (turns_of calls) turn ≡ Some call → turn + 1 < length (turns_of calls)
+      → IsMade config histories (record { caller = caller; turn = turn }) call
+
+-- these calls, with their answers, stand in turn in what the caller's pass has seen, and of each stripe the caller's history
+-- has the places of just those that are the stripe's commands; of the calls in that history at most the last was broken off
+pub record AreNoted (config : Config) (pass : PassView) (calls : List Exchange) : Type 0 where
+  pub stand : Stand config nothing_seen (histories_seen config pass.sight) calls
+  pub at : (number : ℕ) → number < config.stripes → AreAt (stripes_seen (list_at pass.sight.seen) number) pass.caller (places_in number pass.calls) (calls_at config.stripes number calls)
+  pub rising : (number : ℕ) → number < config.stripes → AreRising 0 (places_in number pass.calls)
+  pub made : AreMadeButLast config (histories_seen config pass.sight) pass.caller pass.calls
 
 -- no call of the pass was broken off: all calls that its caller's history has were made to their end
 pub record AreMade (config : Config) (pass : PassView) : Type 0 where

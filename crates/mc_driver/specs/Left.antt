@@ -8,7 +8,7 @@ use Rattle.mc_script.specs.declared.outcome.Outcome.TheVariants as outcomes
 use Rattle.mc_script.specs.declared.upkeep.Keeper.{Keeper}
 use Rattle.mc_script.specs.declared.upkeep.Keeper.TheVariants.{Maintainer, Crawler}
 use Rattle.mc_store.specs.Finals.{FinalView}
-use Rattle.mc_driver.specs.Called.{AreByCallers, AreWholeTurns}
+use Rattle.mc_driver.specs.Called.{AreByCallers, AreWholeTurns, HasCalls}
 use Rattle.mc_driver.specs.Run.{HasFull, IsStore, callers_at_work, histories_left, limits_of}
 use Rattle.mc_driver.specs.Stand.{AreItsCalls, Histories}
 
@@ -37,6 +37,7 @@ module _ {S K : Type 0} (coming : S → List ℕ) (reads : S → ℕ) (taken : K
     pub idle : moments ≡ [] → AreKeepersDone (length scripts) ended
     pub full : (i : ℕ) (outcome : Outcome) → i < length scripts + 2 → slice_index_or ended i outcome ≡ outcomes.HistoryFull → HasFull config (histories_left final)
     pub whole : (i : ℕ) (outcome : Outcome) → i < length scripts + 2 → slice_index_or ended i outcome ≡ outcomes.Done → AreWholeTurns config i (histories_left final)
+    pub called : (i : ℕ) → i < length scripts + 2 → HasCalls config i (histories_left final)
     pub by : AreByCallers config.stripes (callers_at_work (length scripts) moments) (histories_left final)
     pub many : length ended ≡ length scripts + 2
     pub pairs : length ends ≡ length scripts

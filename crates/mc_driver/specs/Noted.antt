@@ -21,8 +21,15 @@ use Rattle.mc_script.specs.Exchanges.{Asks, Exchange}
 use Rattle.mc_segment.specs.ClassState.{opened}
 use Rattle.mc_item.specs.declared.counts.Histogram.{Histogram}
 use Rattle.mc_rule.specs.Lists.{count_of, lists_of}
+use Rattle.mc_evidence.specs.Refusals.{WasTried}
+use Rattle.mc_evidence.specs.Setting.{IsClass, site_in}
 use Rattle.mc_crawl.specs.CrawlCount.{IsBalanced}
-use Rattle.mc_store.specs.Crawls.{HasReclaims}
+use Rattle.mc_crawl.specs.Snapshot.{links_of}
+use Rattle.mc_item.specs.Counts.{no_counts}
+use Rattle.mc_item.specs.declared.reply.Room.TheVariants as rooms
+use Rattle.mc_store.specs.Crawls.{AreLinksCounted, HasReclaims}
+use Rattle.mc_store.specs.Earned.{IsLastResort}
+use Rattle.mc_store.specs.Locked.{setting_of}
 use Rattle.mc_store.specs.Sides.{class_told}
 
 -- the exchange that an answered command is, whatever its room
@@ -39,17 +46,26 @@ exchanges_noted (events.Cooled cooled) = []
 abbrev pub exchanges_in : List StripeEvent → List Exchange
 exchanges_in history = flat_map exchanges_noted history
 
+-- a command that was answered, by its parts
+abbrev pub answered_command : Who → Command → ℕ → Reply → Room → Did
+answered_command who command moment reply room = record { who = who; command = command; moment = moment; reply = reply; room = room }
+
 -- the event of a command that was answered
 abbrev pub answered_event : Who → Command → ℕ → Reply → Room → StripeEvent
-answered_event who command moment reply room = events.Did (record { who = who; command = command; moment = moment; reply = reply; room = room })
+answered_event who command moment reply room = events.Did (answered_command who command moment reply room)
 
--- a stripe's history has this answered command, behind what was seen of it
-pub record NotesCommand (seen history : List StripeEvent) (who : Who) (command : Command) (moment : ℕ) (reply : Reply) : Type 0 where
+-- the history of the stripe of this number of a configuration has this answered command, behind what was seen of it; and a
+-- refusal that the answer cites stands in its class's history, wasn't made at once, and stands behind all rounds of a search by
+-- the same call
+pub record NotesCommand (config : Config) (number : ℕ) (seen history : List StripeEvent) (classes : ClassNo → List ClassEvent) (who : Who) (command : Command) (moment : ℕ) (reply : Reply) : Type 0 where
   pub before : List StripeEvent
   pub room : Room
   pub behind : List StripeEvent
   pub past : IsPrefix seen before
   pub split : history ≡ before ++ answered_event who command moment reply room ∷ behind
+  pub earned : (class : ClassNo) → IsClass (setting_of config) class → WasTried (site_in (setting_of config) number) class (classes class) (answered_command who command moment reply room)
+  pub last : (class : ClassNo) (place : ℕ) → IsClass (setting_of config) class → room ≡ rooms.Refused class place
+      → IsLastResort config (record { 0 = number }) class place (classes class) (answered_command who command moment reply room)
 
 -- a class's history has a call's juggling, with these moves, behind what was seen of it: its surveys and the events of its
 -- walks stand together
@@ -62,14 +78,19 @@ pub record NotesJuggling (config : Config) (seen history : List ClassEvent) (who
   pub answers : List GateAnswer
   pub juggled : IsJuggle (rounds (opened config class) who moment config) before answers (before ++ own) moves
 
--- a class's history has a call's crawl, with these counts: so many entries were there at one point, behind what was seen of
--- it, each counts as one kind, and what was reclaimed stands behind what was seen, by this call and of its moment
-pub record NotesCrawling (seen history : List ClassEvent) (who : Who) (moment : ℕ) (histogram : Histogram) : Type 0 where
+-- a class's history has a call's crawl, with these counts: the entries that were there at one point, behind what was seen of
+-- it, were counted one after another from there on, each as one kind; and what was reclaimed stands behind what was seen, by
+-- this call and of its moment
+pub record NotesCrawling (config : Config) (seen history : List ClassEvent) (who : Who) (class : ClassNo) (moment : ℕ) (histogram : Histogram) : Type 0 where
   pub at : List ClassEvent
   pub behind : List ClassEvent
   pub past : IsPrefix seen at
   pub split : history ≡ at ++ behind
   pub entries : histogram.seen ≡ count_of (lists_of at)
+  pub end : List ClassEvent
+  pub rest : List ClassEvent
+  pub ends : history ≡ end ++ rest
+  pub counted : AreLinksCounted config class (class_told at) (class_told end) who moment (links_of (record (opened config class) { history = at })) no_counts histogram
   pub balanced : IsBalanced histogram
   pub since : List ClassEvent
   pub since_is : history ≡ seen ++ since

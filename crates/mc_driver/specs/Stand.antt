@@ -42,14 +42,14 @@ IsPlaced config (Asks command) = stripe_number config.stripes command < config.s
 IsPlaced config (Juggles class) = IsClass (setting_of config) class
 IsPlaced config (Crawls class) = IsClass (setting_of config) class
 
--- a call with its answer stands in the histories, behind what was seen of its own: a command in its stripe's, juggling and a
--- crawl in their class's
+-- a call with its answer stands in the histories, behind what was seen of its own: a command in its stripe's, with the refusal
+-- that its answer cites in that one's class's, juggling and a crawl in their class's
 abbrev pub StandsAs : Config → Histories → Histories → Who → ℕ → Call → Answer → Type 0
 StandsAs config seen histories who moment (Asks command) (Replied reply) =
     let number = stripe_number config.stripes command in
-    NotesCommand (seen.stripes number) (histories.stripes number) who command moment reply
+    NotesCommand config number (seen.stripes number) (histories.stripes number) histories.classes who command moment reply
 StandsAs config seen histories who moment (Juggles class) (Moved moves) = NotesJuggling config (seen.classes class) (histories.classes class) who class moment moves
-StandsAs config seen histories who moment (Crawls class) (Counted histogram) = NotesCrawling (seen.classes class) (histories.classes class) who moment histogram
+StandsAs config seen histories who moment (Crawls class) (Counted histogram) = NotesCrawling config (seen.classes class) (histories.classes class) who class moment histogram
 StandsAs config seen histories who moment (Asks command) (Moved moves) = ⊥
 StandsAs config seen histories who moment (Asks command) (Counted histogram) = ⊥
 StandsAs config seen histories who moment (Juggles class) (Replied reply) = ⊥
@@ -65,14 +65,13 @@ StandsBehind config seen histories call = StandsAs config seen histories call.wh
 abbrev pub Stands : Config → Histories → Exchange → Type 0
 Stands config histories call = StandsBehind config nothing_seen histories call
 
--- the others of these histories are evidence of the one that a command or juggling stands in: the partner of each of its
--- events stands there
+-- the others of these histories are evidence of the one that a call stands in: the partner of each of its events stands there
 abbrev pub HasEvidence : Config → Histories → Call → Type 0
 HasEvidence config reached (Asks command) =
     let number = stripe_number config.stripes command in
     StripeKeeps (setting_of config) number (reached.stripes number) reached.classes
 HasEvidence config reached (Juggles class) = ClassKeeps (setting_of config) class (reached.classes class) reached.stripes
-HasEvidence config reached (Crawls class) = Unit {0}
+HasEvidence config reached (Crawls class) = ClassKeeps (setting_of config) class (reached.classes class) reached.stripes
 
 -- by this call its caller came from the histories that it had seen to those that it has reached: the call stands between
 pub record StandsBetween (config : Config) (seen reached : Histories) (call : Exchange) : Type 0 where

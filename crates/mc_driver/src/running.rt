@@ -11,7 +11,7 @@ ghost use Rattle.mc_script.specs.declared.upkeep.Keeper.TheVariants.{Crawler, Ma
 ghost use Rattle.mc_store.specs.Finals.{AreStripes};
 ghost use Rattle.mc_store.specs.Locked.{histories_for};
 ghost use Rattle.mc_store.specs.Passes.{PassView};
-ghost use Rattle.mc_driver.specs.Called.{AreByCallers, AreWholeTurns, IsCompared};
+ghost use Rattle.mc_driver.specs.Called.{AreByCallers, AreWholeTurns, HasCalls, IsCompared};
 ghost use Rattle.mc_driver.specs.Left.{AreKeepersDone, IsKeptUp, IsLeft};
 ghost use Rattle.mc_driver.specs.Run.{HasFull, IsAccepted, IsRefused, IsStore, callers_at_work, histories_left, limits_of, with_callers};
 ghost use Rattle.mc_driver.specs.Stand.{AreItsCalls};
@@ -185,11 +185,14 @@ pub fn run_scripts<S: Source + Send, K: Sink + Send, R: Threads + Wait + Sync>(
 
     // What holds of every caller, the maintainer and the crawler too: where its history was full, one is; where it is done,
     // each event in its name, on whatever stripe, is of one of its calls, which stands in the histories, at the call's
-    // moment. And nobody else made an event on a stripe.
+    // moment; and however it ended, each is of one of its calls, all of which but the last stand in the histories. And
+    // nobody else made an event on a stripe.
     ensures full { IfOk result (λ run. (i : ℕ) (outcome : Outcome) → i < length scripts.items + 2
         → slice_index_or run.outcomes.items i outcome ≡ outcomes.HistoryFull → HasFull (with_callers (length scripts.items) config) (histories_left run.ledger)) }
     ensures whole { IfOk result (λ run. (i : ℕ) (outcome : Outcome) → i < length scripts.items + 2
         → slice_index_or run.outcomes.items i outcome ≡ outcomes.Done → AreWholeTurns (with_callers (length scripts.items) config) i (histories_left run.ledger)) }
+    ensures called { IfOk result (λ run. (i : ℕ) → i < length scripts.items + 2
+        → HasCalls (with_callers (length scripts.items) config) i (histories_left run.ledger)) }
     ensures by { IfOk result (λ run. AreByCallers config.stripes (callers_at_work (length scripts.items) upkeep.now) (histories_left run.ledger)) }
 
     // How much is left: an outcome for each caller, a source and a sink for each script, and the store.

@@ -40,8 +40,8 @@ pub record ShowsReclaims (config : Config) (class : ClassNo) (before after : Sig
   pub count_is : count_after ≡ count_before + many
   pub reclaims : HasReclaims who moment many events
 
--- the pass has seen a class as it was at one point, after all that it had seen of it before, with so many entries, which had
--- these links
+-- the pass has seen a class as it was at one point, after all that it had seen of it before, with so many entries and their
+-- links
 pub record IsSnapshot (config : Config) (class : ClassNo) (before after : Sight) (count : ℕ) : Type 0 where
   pub history : List ClassEvent
   pub begins : IsPrefix (list_at before.seen (class_lock config class)) (class_told history)
@@ -57,7 +57,7 @@ pub record IsSeenSound (config : Config) (class : ClassNo) (after : Sight) : Typ
   pub now : list_at after.seen (class_lock config class) ≡ class_told history
   pub sound : ClassKeeps (setting_of config) class history (stripes_seen (list_at after.seen))
 
--- a link of a class was crawled, and a histogram counts it once more, as the kind that it was then
+-- a link of a class was crawled, and a histogram counts one link more, as the kind that the crawl found
 pub record CountsLink (config : Config) (c c_new : ClassView) (who : Who) (moment : ℕ) (link : Link) (histogram histogram_new : Histogram) : Type 0 where
   pub kind : Kind
   pub answers : List Answer
@@ -65,7 +65,7 @@ pub record CountsLink (config : Config) (c c_new : ClassView) (who : Who) (momen
   pub crawled : IsCrawled (crawl who link.number moment config) c c_new answers answers_new kind
   pub counts : histogram_new ≡ counted kind histogram
 
--- a link was counted under its class's lock: the class was there with all that had been seen of it, and all of it is seen then
+-- a link was counted under its class's lock: the class had all that was seen of it before, and all that it has then is seen
 pub record IsLinkCounted (config : Config) (class : ClassNo) (seen seen_new : List Event) (who : Who) (moment : ℕ) (link : Link) (histogram histogram_new : Histogram) : Type 0 where
   pub old : ClassView
   pub new : ClassView
@@ -75,14 +75,14 @@ pub record IsLinkCounted (config : Config) (class : ClassNo) (seen seen_new : Li
   pub now : seen_new ≡ class_told new.history
   pub counted : CountsLink config old new who moment link histogram histogram_new
 
--- these links of a class were counted one after another, each where the one before it had left the class and the histogram
+-- these links of a class were counted one after another, and each count goes on from the one before it
 abbrev pub AreLinksCounted : Config → ClassNo → List Event → List Event → Who → ℕ → List Link → Histogram → Histogram → Type 0
 AreLinksCounted config class seen seen_new who moment [] histogram histogram_new = (seen_new ≡ seen) × (histogram_new ≡ histogram)
 AreLinksCounted config class seen seen_new who moment (link ∷ links) histogram histogram_new =
     (between : List Event) × (middle : Histogram) × IsLinkCounted config class seen between who moment link histogram middle × AreLinksCounted config class between seen_new who moment links middle histogram_new
 
--- a class was crawled: the entries that it had at one point were counted one after another, from nothing on, each as one kind,
--- and what was reclaimed the pass has seen
+-- a class was crawled: the links that it had at one point were counted one after another, from nothing on; what was reclaimed
+-- the pass has seen, and the class whole
 pub record IsCrawledBy (config : Config) (class : ClassNo) (before after : Sight) (who : Who) (moment : ℕ) (histogram : Histogram) : Type 0 where
   pub snapshot : IsSnapshot config class before after histogram.seen
   pub balanced : IsBalanced histogram

@@ -5,14 +5,14 @@ use Rattle.mc_driver.proofs.caller.CallerCalls.crawl.Goals as goal
 
 pub returns-clause-ok : goal.returns-clause-ok
 returns-clause-ok g c =
-    crawled_ok g.N.Named.config c.args.self.now.pass c.crawl.new.pass c.args.class c.args.moment c.crawl.result c.requires.there c.crawl.ensures.caller c.crawl.ensures.calls c.crawl.ensures.grows c.crawl.ensures.crawled
+    crawled_ok g.N.Named.config c.args.self.now.pass c.crawl.new.pass c.args.class c.args.moment c.crawl.result c.requires.may c.requires.there c.crawl.ensures.caller c.crawl.ensures.calls c.crawl.ensures.grows c.crawl.ensures.crawled
 
 pub returns-clause-kinds : goal.returns-clause-kinds
 returns-clause-kinds g c =
     crawled_kinds g.N.Named.config c.args.class c.args.self.now.pass.sight c.crawl.new.pass.sight (next_who c.args.self.now.pass) c.args.moment c.crawl.result c.crawl.ensures.crawled
 
 pub returns-clause-err : goal.returns-clause-err
-returns-clause-err g c = crawling_failed g.N.Named.config c.args.self.now.pass c.crawl.new.pass c.args.class c.args.moment c.crawl.result c.crawl.ensures.caller c.crawl.ensures.cut c.crawl.ensures.grows
+returns-clause-err g c = crawling_failed g.N.Named.config c.args.self.now.pass c.crawl.new.pass c.args.class c.args.moment c.crawl.result c.requires.may c.crawl.ensures.caller c.crawl.ensures.cut c.crawl.ensures.grows
 
 pub returns-clause-may : goal.returns-clause-may
 returns-clause-may g c =
