@@ -1,9 +1,10 @@
 //! The quick way of a `set` on its stripe and the one class that has a part in it.
-ghost use Rattle.std.specs.Prelude.{◌≡◌, ◌≤◌, ◌<◌, ◌⊎◌, ◌+◌, ◌^◌, ◌∷◌, [], IfOk, IfErr, OnOk, OnErr, length};
+ghost use Rattle.std.specs.Prelude.{◌≡◌, ◌≤◌, ◌<◌, ◌⊎◌, ◌+◌, ◌^◌, ◌∷◌, [], IfOk, IfErr, OnOk, OnErr, IsErrOf, length};
 ghost use Rattle.mc_item.specs.Answer.{row_of};
 ghost use Rattle.mc_item.specs.Command.{key_of};
 ghost use Rattle.mc_item.specs.Measure.{stripe_of};
 ghost use Rattle.mc_item.specs.Stripe.{Fits};
+ghost use Rattle.mc_item.specs.declared.fault.Fault.TheVariants as faults;
 ghost use Rattle.mc_item.specs.declared.reply.Room.TheVariants as rooms;
 ghost use Rattle.mc_stripe.specs.Sets.{IsSet, MayStandFor};
 ghost use Rattle.mc_stripe.specs.StripeCalls.{KeepsSite};
@@ -52,6 +53,7 @@ pub fn perform_set(
     ensures owed { IfOk result (λ quick. OnErr quick ((MayStandFor link.class ((cache_now stripe.old).items (key_of command)) moment → ⊥) ⊎ (class.old.max_events < length class.old.history + 2))) }
     ensures err { OnErr result (IsUntouched stripe.old stripe.new (class.old ∷ []) (class.new ∷ [])) }
     ensures refusal { IfErr result (MayRefuseCall stripe.old (call who command moment (rooms.At link)) (class.old ∷ [])) }
+    ensures full { IsErrOf result faults.HistoryFull → stripe.old.limit ≤ length stripe.old.history }
     ensures site { KeepsSite stripe.old stripe.new }
     ensures agreement { KeepsAgreements (call who command moment (rooms.At link)) stripe.old stripe.new (class.old ∷ []) (class.new ∷ []) }
     ensures sight { KeepsSights (call who command moment (rooms.At link)) stripe.old stripe.new (class.old ∷ []) (class.new ∷ []) }
