@@ -1,5 +1,5 @@
 -- A refusal that was earned: when it is noted, and as more is seen.
-use Rattle.std.proofs.Common.{◌≡◌, ◌<◌, ◌⊎◌, ℕ, List, [], ◌∷◌, ◌++◌, inl, inr, length, refl, sym, ap, ◌∙◌, subst, append_assoc}
+use Rattle.std.proofs.Common.{◌≡◌, ◌<◌, ◌⊎◌, ℕ, false, List, [], ◌∷◌, ◌++◌, inl, inr, length, refl, sym, ap, ◌∙◌, subst, append_assoc}
 use Rattle.std.specs.Prelude.{Option, Some, None, IfSome}
 use mathlib.Core.List.{IsPrefix}
 use Rattle.mc_item.specs.Command.{key_of}
@@ -30,8 +30,13 @@ use Rattle.mc_evidence.proofs.SeenLemmas.{class_events-map, classes_grow}
 use Rattle.mc_board.specs.Histories.{Grows, list_at}
 use Rattle.mc_board.specs.declared.rule.Sight.{Sight}
 use Rattle.mc_segment.specs.ClassCalls.{Makes, refused_event}
-use Rattle.mc_segment.specs.ClassState.{ClassView}
-use Rattle.mc_store.specs.Earned.{HasSearched, IsEarned, IsEarnedAt, IsEarnedIn}
+use Rattle.mc_segment.specs.ClassState.{ClassView, chunks_for, class_view, opened}
+use Rattle.mc_rule.specs.Segment.{Rule, rule_of}
+use Rattle.mc_rule.specs.Places.{Stands}
+use Rattle.mc_pull.specs.Question.{IsClassOf}
+use Rattle.mc_pull.specs.Rounds.{IsRoom, Rounds, rounds}
+use Rattle.mc_pull.specs.declared.looking.Answer.{Answer}
+use Rattle.mc_store.specs.Earned.{HasGivenUp, HasGoneThrough, HasSearched, IsInVain, IsEarned, IsEarnedAt, IsEarnedIn, IsLastResort}
 use Rattle.mc_store.specs.Locked.{class_lock}
 use Rattle.mc_store.specs.Sides.{class_told}
 
@@ -41,36 +46,66 @@ pub class_seen : (config : Config) (sight : Sight) (lock : ℕ) (class : ClassNo
 class_seen config sight lock class history at told =
     ap (λ (k : ℕ). class_events (list_at sight.seen k)) (sym at) ∙ (ap class_events told ∙ class_events-map history)
 
--- a refusal that was noted just now, behind a search
-pub earned_noted : (config : Config) (number : ℕ) (who : Who) (key : List ℕ) (v v_new : ClassView) (sight : Sight) (class : ClassNo) (place : ℕ) → v.number ≡ class → Makes v v_new (refused_event who) → place ≡ length v.history
-    → HasSearched config.stripes (record { 0 = number }) who key v.history → classes_seen config.stripes (list_at sight.seen) v_new.number ≡ v_new.history → IsEarnedIn config number who key sight (rooms.Refused class place)
-earned_noted config number who key v v_new sight class place at makes is tried seen = record {
+-- a class by its parts, without events
+parts_same : (n n' : ClassNo) (chunks chunks' events events' : ℕ) (rule rule' : Rule) → n ≡ n' → chunks ≡ chunks' → events ≡ events' → rule ≡ rule'
+    → class_view n chunks events rule [] 0 ≡ class_view n' chunks' events' rule' [] 0
+parts_same n n' chunks chunks' events events' rule rule' a b c d =
+    ap (λ (x : ClassNo). class_view x chunks events rule [] 0) a ∙ ap (λ (x : ℕ). class_view n' x events rule [] 0) b
+    ∙ ap (λ (x : ℕ). class_view n' chunks' x rule [] 0) c ∙ ap (λ (x : Rule). class_view n' chunks' events' x [] 0) d
+
+-- a class of a configuration has the rounds that the configuration gives a class of its number
+rounds_same : (config : Config) (v : ClassView) (class : ClassNo) (who : Who) (moment : ℕ) → IsClassOf config v → v.number ≡ class → rounds v who moment config ≡ rounds (opened config class) who moment config
+rounds_same config v class who moment made is =
+    ap (λ (c : ClassView). rounds c who moment config)
+    (parts_same v.number class v.chunks (chunks_for config class) v.max_events config.max_events v.rule (opened config class).rule is (made.chunks ∙ ap (chunks_for config) is) made.max_events made.rule)
+
+-- rounds in vain are all rounds of a search
+pub gone_through : (config : Config) (number : StripeNo) (v : ClassView) (class : ClassNo) (who : Who) (moment : ℕ) (after : List ClassEvent) → IsClassOf config v → v.number ≡ class
+    → IsInVain config number v who moment v.history after → HasGoneThrough config number class who moment after
+gone_through config number v class who moment after made is vain = record {
+  before = v.history;
+  in_vain = record {
+    answers = vain.answers;
+    rounds_are = subst (λ (r : Rounds). IsRoom r v.history vain.answers after false) (rounds_same config v class who moment made is) vain.rounds_are;
+    had = vain.had;
+  };
+}
+
+-- a refusal that was noted just now, behind a search in vain
+pub earned_noted : (config : Config) (number : ℕ) (who : Who) (moment : ℕ) (key : List ℕ) (v v_new : ClassView) (sight : Sight) (class : ClassNo) (place : ℕ) → v.number ≡ class → Makes v v_new (refused_event who) → place ≡ length v.history
+    → HasGivenUp config (record { 0 = number }) v.number who moment key v.history → classes_seen config.stripes (list_at sight.seen) v_new.number ≡ v_new.history → IsEarnedIn config number who moment key sight (rooms.Refused class place)
+earned_noted config number who moment key v v_new sight class place at makes is tried seen = record {
   before = v.history;
   refused = record {
     later = [];
     is = ap (λ (n : ClassNo). classes_seen config.stripes (list_at sight.seen) n) (sym (ap (λ (c : ClassView). c.number) makes ∙ at)) ∙ (seen ∙ ap (λ (c : ClassView). c.history) makes);
   };
   place_is = is;
-  searched = tried;
+  searched = subst (λ (n : ClassNo). HasGivenUp config (record { 0 = number }) n who moment key v.history) at tried;
+}
+
+-- what stands in a list stands there as more is seen
+stands_more : (seen more before : List ClassEvent) (e : ClassEvent) → IsPrefix seen more → Stands seen before e → Stands more before e
+stands_more seen more before e begins stands = record {
+  later = stands.later ++ begins.0;
+  is = sym begins.1 ∙ (ap (λ (l : List ClassEvent). l ++ begins.0) stands.is ∙ append_assoc before (e ∷ stands.later) begins.0);
 }
 
 -- what was earned stays so as more is seen
-earned_more : (stripes : ℕ) (number : StripeNo) (who : Who) (key : List ℕ) (place : ℕ) (seen more : List ClassEvent) → IsPrefix seen more → IsEarnedAt stripes number who key place seen → IsEarnedAt stripes number who key place more
-earned_more stripes number who key place seen more begins earned = record {
+earned_more : (config : Config) (number : StripeNo) (class : ClassNo) (who : Who) (moment : ℕ) (key : List ℕ) (place : ℕ) (seen more : List ClassEvent) → IsPrefix seen more → IsEarnedAt config number class who moment key place seen
+    → IsEarnedAt config number class who moment key place more
+earned_more config number class who moment key place seen more begins earned = record {
   before = earned.before;
-  refused = record {
-    later = earned.refused.later ++ begins.0;
-    is = sym begins.1 ∙ (ap (λ (l : List ClassEvent). l ++ begins.0) earned.refused.is ∙ append_assoc earned.before (refused_event who ∷ earned.refused.later) begins.0);
-  };
+  refused = stands_more seen more earned.before (refused_event who) begins earned.refused;
   place_is = earned.place_is;
   searched = earned.searched;
 }
 
-pub earned_sees : (config : Config) (number : ℕ) (who : Who) (key : List ℕ) (a b : Sight) (room : Room) → Grows a b → IsEarnedIn config number who key a room → IsEarnedIn config number who key b room
-earned_sees config number who key a b rooms.Keep grows earned = tt
-earned_sees config number who key a b (rooms.At link) grows earned = tt
-earned_sees config number who key a b (rooms.Refused class place) grows earned =
-    earned_more config.stripes (record { 0 = number }) who key place (classes_seen config.stripes (list_at a.seen) class) (classes_seen config.stripes (list_at b.seen) class)
+pub earned_sees : (config : Config) (number : ℕ) (who : Who) (moment : ℕ) (key : List ℕ) (a b : Sight) (room : Room) → Grows a b → IsEarnedIn config number who moment key a room → IsEarnedIn config number who moment key b room
+earned_sees config number who moment key a b rooms.Keep grows earned = tt
+earned_sees config number who moment key a b (rooms.At link) grows earned = tt
+earned_sees config number who moment key a b (rooms.Refused class place) grows earned =
+    earned_more config (record { 0 = number }) class who moment key place (classes_seen config.stripes (list_at a.seen) class) (classes_seen config.stripes (list_at b.seen) class)
     (classes_grow config.stripes (list_at a.seen) (list_at b.seen) grows.at class) earned
 
 -- ---- in the words of evidence
@@ -85,23 +120,35 @@ near_none site stripes seg history same none = λ j few. by j few (from_tail (li
 
 -- a room that is none is no refusal
 pub earned_keep : (config : Config) (site : Site) (sight : Sight) (who : Who) (command : Command) (moment : ℕ) (reply : Reply) → IsEarned config site sight (record { who = who; command = command; moment = moment; reply = reply; room = rooms.Keep })
-earned_keep config site sight who command moment reply class place is = absurd (kept class place is)
+earned_keep config site sight who command moment reply = record {
+  tried = λ class place is. absurd (kept class place is);
+  last = λ class place is. absurd (kept class place is);
+}
   where
     kept : (class : ClassNo) (place : ℕ) → rooms.Keep ≡ rooms.Refused class place → ⊥
     kept class place is = cc
 
 -- whatever was earned wasn't made at once
-pub earned_told : (config : Config) (site : Site) (sight : Sight) (who : Who) (command : Command) (moment : ℕ) (reply : Reply) (room : Room) → site.stripes ≡ config.stripes → IsEarnedIn config site.stripe who (key_of command) sight room
+pub earned_told : (config : Config) (site : Site) (sight : Sight) (who : Who) (command : Command) (moment : ℕ) (reply : Reply) (room : Room) → site.stripes ≡ config.stripes → IsEarnedIn config site.stripe who moment (key_of command) sight room
     → IsEarned config site sight (record { who = who; command = command; moment = moment; reply = reply; room = room })
 earned_told config site sight who command moment reply rooms.Keep same earned = earned_keep config site sight who command moment reply
-earned_told config site sight who command moment reply (rooms.At link) same earned = λ class place is. absurd (at class place is)
+earned_told config site sight who command moment reply (rooms.At link) same earned = record {
+  tried = λ class place is. absurd (at class place is);
+  last = λ class place is. absurd (at class place is);
+}
   where
     at : (class : ClassNo) (place : ℕ) → rooms.At link ≡ rooms.Refused class place → ⊥
     at class place is = cc
-earned_told config site sight who command moment reply (rooms.Refused own at) same earned = λ class place is. of class (same_class class place is)
+earned_told config site sight who command moment reply (rooms.Refused own at) same earned = record {
+  tried = λ class place is. of class (same_class class place is);
+  last = λ class place is. resort class place is;
+}
   where
     same_class : (class : ClassNo) (place : ℕ) → rooms.Refused own at ≡ rooms.Refused class place → own ≡ class
     same_class class place is = cc
+
+    same_place : (class : ClassNo) (place : ℕ) → rooms.Refused own at ≡ rooms.Refused class place → at ≡ place
+    same_place class place is = cc
 
     did : Did
     did = record { who = who; command = command; moment = moment; reply = reply; room = rooms.Refused own at }
@@ -115,10 +162,27 @@ earned_told config site sight who command moment reply (rooms.Refused own at) sa
 
     of : (class : ClassNo) → own ≡ class → IsSo class
     of class is =
-        subst IsSo is (earned.before, record { who = who }, earned.refused, (record { who = refl; room = ap (λ (n : ℕ). rooms.Refused own n) earned.place_is }, searched earned.searched))
+        subst IsSo is (earned.before, record { who = who }, earned.refused, (record { who = refl; room = ap (λ (n : ℕ). rooms.Refused own n) earned.place_is }, searched earned.searched.0))
+
+    resort : (class : ClassNo) (place : ℕ) → rooms.Refused own at ≡ rooms.Refused class place → IsLastResort config (record { 0 = site.stripe }) class place (classes_seen config.stripes (list_at sight.seen) class) did
+    resort class place is =
+        subst (λ (n : ClassNo). IsLastResort config (record { 0 = site.stripe }) n place (classes_seen config.stripes (list_at sight.seen) n) did) (same_class class place is)
+        (subst (λ (p : ℕ). IsLastResort config (record { 0 = site.stripe }) own p (classes_seen config.stripes (list_at sight.seen) own) did) (same_place class place is)
+        (record { before = earned.before; refused = earned.refused; place_is = earned.place_is; through = earned.searched.1 }))
 
 -- and wasn't so for whoever has seen more
 pub told_sees : (config : Config) (site : Site) (a b : Sight) (did : Did) → Grows a b → IsEarned config site a did → IsEarned config site b did
-told_sees config site a b did grows earned = λ class.
-    let begins = classes_grow config.stripes (list_at a.seen) (list_at b.seen) grows.at class in
-    subst (λ (l : List ClassEvent). WasTried site class l did) begins.1 (tried_later site class (classes_seen config.stripes (list_at a.seen) class) begins.0 did (earned class))
+told_sees config site a b did grows earned = record {
+  tried = λ class.
+      let begins = classes_grow config.stripes (list_at a.seen) (list_at b.seen) grows.at class in
+      subst (λ (l : List ClassEvent). WasTried site class l did) begins.1 (tried_later site class (classes_seen config.stripes (list_at a.seen) class) begins.0 did (earned.tried class));
+  last = λ class place is.
+      let begins = classes_grow config.stripes (list_at a.seen) (list_at b.seen) grows.at class in
+      let resort = earned.last class place is in
+      record {
+        before = resort.before;
+        refused = stands_more (classes_seen config.stripes (list_at a.seen) class) (classes_seen config.stripes (list_at b.seen) class) resort.before (refused_event did.who) begins resort.refused;
+        place_is = resort.place_is;
+        through = resort.through;
+      };
+}

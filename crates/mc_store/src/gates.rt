@@ -7,7 +7,7 @@ ghost use Rattle.mc_pull.specs.Question.{IsClassOf};
 ghost use Rattle.mc_pull.specs.Rounds.{IsRoom, rounds};
 ghost use Rattle.mc_pull.specs.Walker.{walker_of};
 ghost use Rattle.mc_pull.specs.declared.looking.Answer.{Answer};
-ghost use Rattle.mc_store.specs.Earned.{HasSearchedForAny};
+ghost use Rattle.mc_store.specs.Earned.{IsSearchInVain};
 ghost use Rattle.mc_store.specs.Looked.{IsOfCall};
 ghost use Rattle.mc_store.specs.Serving.{IsServed, MayFailSeen};
 ghost use Rattle.mc_store.specs.Locked.{HasBegun};
@@ -212,7 +212,7 @@ impl<'a, 'b, N: Named> Holding<'a, 'b, N> {
         ensures served { IsServed N.board.table N.config self.new.others.owner.now self.new.others.seen.now class.new }
         ensures stripe { StripeGrows (walker_of class.old who moment) self.old.own.now.stripe self.new.own.now.stripe }
         ensures walked { WalksOwn who moment self.old.others.seen.now.sight self.new.others.seen.now.sight class.old.history class.new.history }
-        ensures tried { IfOk result (λ found. found ≡ false → IsOfCall (walker_of class.old who moment) self.old.others.who self.old.others.moment → HasSearchedForAny N.config.stripes self.old.own.now.stripe who moment class.new.history) }
+        ensures tried { IfOk result (λ found. found ≡ false → IsOfCall (walker_of class.old who moment) self.old.others.who self.old.others.moment → IsSearchInVain N.config class.old self.old.own.now.stripe who moment class.new.history) }
     {
         a_search_in_vain_has_tried();
         make_room(alloc, class, who, moment, config, self)

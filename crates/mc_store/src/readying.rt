@@ -9,7 +9,7 @@ ghost use Rattle.mc_board.specs.Histories.{list_at};
 ghost use Rattle.mc_stripe.specs.StripeCalls.{KeepsSite};
 ghost use Rattle.mc_pull.specs.Agreeing.{AgreeNow};
 ghost use Rattle.mc_rule.specs.Lists.{IsFull, lists_of};
-ghost use Rattle.mc_store.specs.Earned.{HasSearched, IsEarnedIn};
+ghost use Rattle.mc_store.specs.Earned.{HasGivenUp, IsEarnedIn};
 ghost use Rattle.mc_store.specs.Locked.{IsLockedClass, HasBegun};
 ghost use Rattle.mc_store.specs.Planned.{GoesBy, IsGiven, IsReadyOn, IsSearched};
 ghost use Rattle.mc_store.specs.Serving.{IsShort};
@@ -58,7 +58,8 @@ fn search_on<N: Named>(
     requires goes { GoesBy N.config own.old.stripe command.now moment plan.old }
     requires fresh { plan.old.need ≡ needs.Fresh class }
     ensures goes { OnOk result (GoesBy N.config own.new.stripe command.now moment plan.new) }
-    ensures tried { OnOk result (IsFull lent.new.class.chunks (lists_of lent.new.class.history) → HasSearched N.config.stripes (record { 0 = own.old.stripe.site.stripe }) who (key_of command.now) lent.new.class.history) }
+    ensures tried { OnOk result (IsFull lent.new.class.chunks (lists_of lent.new.class.history) → HasGivenUp N.config (record { 0 = own.old.stripe.site.stripe }) class who moment (key_of command.now) lent.new.class.history) }
+    ensures class { OnOk result (lent.old.class.number ≡ class) }
     ensures searched { IsSearched N.config who command.now moment own.old.stripe own.new.stripe }
     ensures begun { HasBegun N.config own.new.sight who moment }
     ensures number { lent.new.class.number ≡ lent.old.class.number }
@@ -101,7 +102,7 @@ fn next_on<N: Named>(own: &LockedStripe<N>, lent: &LockedClass<N>, who: Who) -> 
     requires free { IsFull lent.now.class.chunks (lists_of lent.now.class.history) → ⊥ }
     ensures fits { Fits (needs.Fresh lent.now.class.number) result own.now.stripe.history }
     ensures given { IsGiven who result lent.now.class }
-    ensures earned { (number : ℕ) (key : List ℕ) → IsEarnedIn N.config number who key own.now.sight result }
+    ensures earned { (number moment : ℕ) (key : List ℕ) → IsEarnedIn N.config number who moment key own.now.sight result }
 {
     Room::At(next_link(own, lent, who))
 }
@@ -125,7 +126,7 @@ fn fresh_room<N: Named>(
     ensures met { OnOk result (AgreeNow lent.new.class own.new.stripe) }
     ensures fits { IfOk result (λ room. Fits (needs.Fresh class) room own.old.stripe.history) }
     ensures given { IfOk result (λ room. IsGiven who room lent.new.class) }
-    ensures earned { IfOk result (λ room. (key : List ℕ) → (IsFull lent.old.class.chunks (lists_of lent.old.class.history) → HasSearched N.config.stripes (record { 0 = own.old.stripe.site.stripe }) who key lent.old.class.history) → IsEarnedIn N.config own.old.stripe.site.stripe who key own.new.sight room) }
+    ensures earned { IfOk result (λ room. (moment : ℕ) (key : List ℕ) → (IsFull lent.old.class.chunks (lists_of lent.old.class.history) → HasGivenUp N.config (record { 0 = own.old.stripe.site.stripe }) lent.old.class.number who moment key lent.old.class.history) → IsEarnedIn N.config own.old.stripe.site.stripe who moment key own.new.sight room) }
     ensures number { lent.new.class.number ≡ lent.old.class.number }
     ensures full { IsErrOf result HistoryFull → IsShort N.config own.new }
 {
@@ -155,7 +156,7 @@ fn room_on<N: Named>(
     ensures met { OnOk result (AgreeNow lent.new.class own.new.stripe) }
     ensures fits { IfOk result (λ room. Fits need room own.old.stripe.history) }
     ensures given { IfOk result (λ room. IsGiven who room lent.new.class) }
-    ensures earned { IfOk result (λ room. (key : List ℕ) → (IsFull lent.old.class.chunks (lists_of lent.old.class.history) → HasSearched N.config.stripes (record { 0 = own.old.stripe.site.stripe }) who key lent.old.class.history) → IsEarnedIn N.config own.old.stripe.site.stripe who key own.new.sight room) }
+    ensures earned { IfOk result (λ room. (moment : ℕ) (key : List ℕ) → (IsFull lent.old.class.chunks (lists_of lent.old.class.history) → HasGivenUp N.config (record { 0 = own.old.stripe.site.stripe }) lent.old.class.number who moment key lent.old.class.history) → IsEarnedIn N.config own.old.stripe.site.stripe who moment key own.new.sight room) }
     ensures number { lent.new.class.number ≡ lent.old.class.number }
     ensures full { IsErrOf result HistoryFull → IsShort N.config own.new }
 {
@@ -186,7 +187,7 @@ pub(crate) fn ready_on<N: Named>(
     requires goes { GoesBy N.config own.old.stripe command.now moment plan.old }
     requires fresh { plan.old.need ≡ needs.Fresh class }
     ensures ready { IfOk result (λ ready. IsReadyOn N.config own.new.stripe lent.new.class who command.now moment ready.0 ready.1) }
-    ensures earned { IfOk result (λ ready. IsEarnedIn N.config own.old.stripe.site.stripe who (key_of command.now) own.new.sight ready.0) }
+    ensures earned { IfOk result (λ ready. IsEarnedIn N.config own.old.stripe.site.stripe who moment (key_of command.now) own.new.sight ready.0) }
     ensures searched { IsSearched N.config who command.now moment own.old.stripe own.new.stripe }
     ensures number { lent.new.class.number ≡ lent.old.class.number }
     ensures site { KeepsSite own.old.stripe own.new.stripe }

@@ -12,7 +12,7 @@ ghost use Rattle.mc_pull.specs.Rounds.{IsRoom, rounds};
 ghost use Rattle.mc_pull.specs.Settled.{lost_event};
 ghost use Rattle.mc_pull.specs.Walker.{walker_of};
 ghost use Rattle.mc_pull.specs.declared.looking.Answer.{Answer};
-ghost use Rattle.mc_store.specs.Earned.{HasSearchedForAny};
+ghost use Rattle.mc_store.specs.Earned.{IsSearchInVain};
 ghost use Rattle.mc_store.specs.Serving.{IsServed, IsShort, MayFailSeen};
 ghost use Rattle.mc_store.specs.Locked.{HasBegun};
 ghost use Rattle.mc_store.specs.Made.{WalksOwn};
@@ -48,7 +48,7 @@ fn make_room_with<N: Named>(
     ensures class { classes.Grows class.old class.new }
     ensures served { IsServed N.board.table N.config owner.new seen.new class.new }
     ensures stripe { StripeGrows (walker_of class.old who moment) own.old.stripe own.new.stripe }
-    ensures tried { IfOk result (λ found. found ≡ false → HasSearchedForAny N.config.stripes own.old.stripe who moment class.new.history) }
+    ensures tried { IfOk result (λ found. found ≡ false → IsSearchInVain N.config class.old own.old.stripe who moment class.new.history) }
     ensures walked { WalksOwn who moment seen.old.sight seen.new.sight class.old.history class.new.history }
     ensures fault { IfErr result (MayFailSeen N.config seen.new.sight class.new) }
 {
@@ -82,7 +82,7 @@ pub(crate) fn make_room_under<N: Named>(
     ensures room { IfOk result (λ found. (xs : List Answer) × IsRoom (rounds class.old.class who moment N.config) class.old.class.history xs class.new.class.history found) }
     ensures class { classes.Grows class.old.class class.new.class }
     ensures stripe { StripeGrows (walker_of class.old.class who moment) own.old.stripe own.new.stripe }
-    ensures tried { IfOk result (λ found. found ≡ false → HasSearchedForAny N.config.stripes own.old.stripe who moment class.new.class.history) }
+    ensures tried { IfOk result (λ found. found ≡ false → IsSearchInVain N.config class.old.class own.old.stripe who moment class.new.class.history) }
     ensures begun { HasBegun N.config own.new.sight who moment }
     ensures full { IsErrOf result HistoryFull → IsShort N.config own.new }
 {

@@ -9,7 +9,7 @@ use Rattle.mc_store.proofs.GivenLemmas.{given_noted}
 use Rattle.mc_store.proofs.readying.fresh_room.Goals as goal
 
 pub returns-then-not-is_full-clause-earned : goal.returns-then-not-is_full-clause-earned
-returns-then-not-is_full-clause-earned g c = λ key tried. c.next_on.ensures.earned c.args.own.now.stripe.site.stripe key
+returns-then-not-is_full-clause-earned g c = λ moment key tried. c.next_on.ensures.earned c.args.own.now.stripe.site.stripe moment key
 
 pub returns-clause-given : goal.returns-clause-given
 returns-clause-given g c =
@@ -18,8 +18,8 @@ returns-clause-given g c =
     (given_noted c.args.who c.args.lent.now.class c.refuse.new.lent.class c.args.class c.in_ok-place.place (sym c.expect.ensures.number) c.in_ok-place.ensures.refused c.in_ok-place.ensures.place)
 
 pub returns-clause-earned : goal.returns-clause-earned
-returns-clause-earned g c = λ key tried.
+returns-clause-earned g c = λ moment key tried.
     let state : c.state.result.now ≡ c.args.lent.now.class = c.state.ensures ∙ ap (λ (x : ClassSide). x.class) c.side.ensures.value in
     let full = subst (λ (v : ClassView). IsFull v.chunks (lists_of v.history)) state (c.is_full.ensures.0 c.if-not-is_full.false) in
-    earned_noted g.N.Named.config c.args.own.now.stripe.site.stripe c.args.who key c.args.lent.now.class c.refuse.new.lent.class c.meet.new.own.sight c.args.class c.in_ok-place.place c.expect.ensures.number c.in_ok-place.ensures.refused
+    earned_noted g.N.Named.config c.args.own.now.stripe.site.stripe c.args.who moment key c.args.lent.now.class c.refuse.new.lent.class c.meet.new.own.sight c.args.class c.in_ok-place.place c.expect.ensures.number c.in_ok-place.ensures.refused
     c.in_ok-place.ensures.place (tried full) c.meet.ensures.heard

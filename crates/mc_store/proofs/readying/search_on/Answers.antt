@@ -5,6 +5,7 @@ use Rattle.mc_item.specs.Measure.{stripe_of}
 use Rattle.mc_rule.specs.Lists.{IsFull, lists_of}
 use Rattle.mc_segment.specs.ClassState.{ClassView}
 use Rattle.mc_store.specs.Sides.{ClassSide}
+use Rattle.mc_store.proofs.EarnedLemmas.{gone_through}
 use Rattle.mc_store.proofs.LookedLemmas.{full_vain}
 use Rattle.mc_store.proofs.StillLemmas.{goes_on}
 use Rattle.mc_store.proofs.UnderLemmas.{searched_walk}
@@ -38,4 +39,7 @@ returns-clause-tried g c = λ full.
     let key = key_of c.args.command.now in
     let vain = full_vain g.N.Named.config c.args.lent.now.class c.make_room_under.new.class.class c.args.who c.args.moment found.ensures.room.0 found.field-0 c.make_room_under.ensures.class found.ensures.room.1 full in
     let own = subst (λ (n : ℕ). stripe_of key n ≡ record { 0 = s.site.stripe }) goes.planned.made_with.stripes goes.owned in
-    found.ensures.tried vain key own goes.alive
+    let in_vain = found.ensures.tried vain in (
+      in_vain.any key own goes.alive,
+      gone_through g.N.Named.config (record { 0 = s.site.stripe }) c.args.lent.now.class c.args.class c.args.who c.args.moment c.make_room_under.new.class.class.history c.expect.ensures.kept.held.made_with c.expect.ensures.number in_vain.rounds_are,
+    )

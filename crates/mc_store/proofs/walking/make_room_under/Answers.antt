@@ -9,7 +9,7 @@ use Rattle.mc_pull.specs.Lone.{StripeGrows}
 use Rattle.mc_pull.specs.Rounds.{IsRoom, rounds}
 use Rattle.mc_pull.specs.Walker.{walker_of}
 use Rattle.mc_pull.specs.declared.looking.Answer.{Answer}
-use Rattle.mc_store.specs.Earned.{HasSearchedForAny}
+use Rattle.mc_store.specs.Earned.{IsSearchInVain}
 use Rattle.mc_store.specs.Sides.{ClassSide, StripeSide, class_told}
 use Rattle.mc_store.specs.declared.locked.LockedStripe.TheInside.{Inside}
 use Rattle.mc_store.proofs.GateLemmas.{ok_more, room_full}
@@ -48,10 +48,13 @@ returns-clause-stripe g c =
 
 pub returns-clause-tried : goal.returns-clause-tried
 returns-clause-tried g c =
+    let of : c.side.inside.state ≡ c.args.class.now.class = ap (λ (x : ClassSide). x.class) (c.side.view_is ∙ (c.class.view_is ∙ c.learn_from.ensures.class)) in
     let last : c.hear.new.class.class ≡ c.make_room_with-found.new.class = ap (λ (x : ClassSide). x.class) c.hear.ensures.class in
-    let P : StripeSide → ClassView → Bool → Type 0 = λ x v found. found ≡ false → HasSearchedForAny g.N.Named.config.stripes x.stripe c.args.who c.args.moment v.history in
-    ok_more c.make_room_with-found.result _ (P c.args.own.now c.hear.new.class.class)
-    (λ found made. subst (λ (v : ClassView). P c.args.own.now v found) (sym last) (subst (λ (x : StripeSide). P x c.make_room_with-found.new.class found) c.learn_from.ensures.same made))
+    let P : StripeSide → ClassView → ClassView → Bool → Type 0 = λ x v w found. found ≡ false → IsSearchInVain g.N.Named.config v x.stripe c.args.who c.args.moment w.history in
+    ok_more c.make_room_with-found.result _ (P c.args.own.now c.args.class.now.class c.hear.new.class.class)
+    (λ found made. subst (λ (w : ClassView). P c.args.own.now c.args.class.now.class w found) (sym last)
+    (subst (λ (v : ClassView). P c.args.own.now v c.make_room_with-found.new.class found) of
+    (subst (λ (x : StripeSide). P x c.side.inside.state c.make_room_with-found.new.class found) c.learn_from.ensures.same made)))
     c.make_room_with-found.ensures.tried
 
 pub returns-clause-full : goal.returns-clause-full

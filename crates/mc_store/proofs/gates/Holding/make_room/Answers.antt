@@ -2,7 +2,7 @@ use Rattle.std.proofs.Common.{◌≡◌, Bool, List, false}
 use Rattle.mc_pull.specs.Rounds.{IsRoom, rounds}
 use Rattle.mc_pull.specs.Walker.{walker_of}
 use Rattle.mc_pull.specs.declared.looking.Answer.{Answer}
-use Rattle.mc_store.specs.Earned.{HasSearchedForAny}
+use Rattle.mc_store.specs.Earned.{IsSearchInVain}
 use Rattle.mc_store.specs.Looked.{IsOfCall}
 use Rattle.mc_store.proofs.GateLemmas.{grew_itself, ok_more}
 use Rattle.mc_store.proofs.LookedLemmas.{looked_itself, tried_any}
@@ -32,7 +32,7 @@ returns-clause-tried g c =
     let first = looked_itself config.stripes w own xs c.args.class.now.history in
     let walked = walks_none c.args.who c.args.moment c.args.self.now.others.seen.now.sight c.args.class.now.history in
     let kept = c.make_room.ensures.kept c.args.self.now c.args.class.now.history (grew_itself w own, λ of. (of, first), walked) in
-    ok_more c.make_room.result _ (λ (found : Bool). found ≡ false → IsOfCall w c.args.self.now.others.who c.args.self.now.others.moment → HasSearchedForAny config.stripes own c.args.who c.args.moment after)
+    ok_more c.make_room.result _ (λ (found : Bool). found ≡ false → IsOfCall w c.args.self.now.others.who c.args.self.now.others.moment → IsSearchInVain config c.args.class.now own c.args.who c.args.moment after)
     (λ found made vain of.
     tried_any config c.args.config.now c.args.class.now c.args.who c.args.moment own xs c.make_room.new.gate.others.answers.now.items made.0 after found c.requires.names c.a_search_in_vain_has_tried.ensures (kept.1 of).1 made.1 made.2 vain)
     c.make_room.ensures.room
