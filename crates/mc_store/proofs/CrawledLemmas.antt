@@ -177,13 +177,13 @@ pub so_far_all : (config : Config) (class : ClassNo) (before after : Sight) (who
     → IsBalanced h → ShowsReclaims config class before after who moment 0 h.reclaimed → IsSeenSound config class after → IsCrawledBy config class before after who moment h
 so_far_all config class before after who moment links done h all is count balanced reclaims sound = record {
   snapshot = record {
-      history = all.snapshot.history;
-      begins = all.snapshot.begins;
-      now = all.snapshot.now;
-      count_is = count ∙ all.snapshot.count_is;
-      links = all.snapshot.links;
-      links_are = all.snapshot.links_are;
-    };
+    history = all.snapshot.history;
+    begins = all.snapshot.begins;
+    now = all.snapshot.now;
+    count_is = count ∙ all.snapshot.count_is;
+    links = all.snapshot.links;
+    links_are = all.snapshot.links_are;
+  };
   balanced = balanced;
   reclaims = reclaims;
   sound = sound;

@@ -7,7 +7,7 @@ use Rattle.mc_board.specs.Histories.{HasSeen, list_at}
 use Rattle.mc_store.specs.Callers.{IsCalled, call_events, calls_told}
 use Rattle.mc_store.specs.Finals.{AreClasses, AreItsOwn, AreItsOwnInClasses, AreStripes}
 use Rattle.mc_store.specs.Locked.{caller_place, locks_for}
-use Rattle.mc_store.specs.Made.{IsClassCalled, maker_of}
+use Rattle.mc_store.specs.Made.{IsClassCalled}
 use Rattle.mc_store.specs.Passes.{PassView}
 use Rattle.mc_store.specs.Sides.{ClassSide, StripeSide}
 use Rattle.mc_store.proofs.CallerLemmas.{call_events-told, called_prefix, class_called_prefix}

@@ -128,8 +128,11 @@ invariant_of-high g c =
     (subst (IsLockedClass g.N.Named.board.table g.N.Named.config) (sym (ap (λ i. i.side) c.high-inside.view_is)) c.high.invariant)
     (subst (λ (v : ClassView). GainsOwn c.args.who c.args.moment raw_high.state.history v.history) (sym (ap (λ (x : ClassSide). x.class) c.hear-2.ensures.class)) gains)
     (ap (λ (x : ClassSide). x.class.number) c.hear-2.ensures.class ∙ ap (λ (v : ClassView). v.number) grows.1.0.same) (ap (λ (x : ClassSide). x.sight) c.hear-2.ensures.class) (ap (λ (x : ClassSide). x.class) c.hear-4.ensures.told) c.hear-4.ensures.grows held c.tell_owned-2.ensures.class c.tell_owned-2.ensures.grows
-    (record { command = c.args.command; begun = c.tell_owned-2.ensures.begun c.args.who c.args.moment (asked_for c.args.command c.args.moment) (subst (λ (v : CallerView). HasCalled v c.args.who c.args.moment (asked_for c.args.command c.args.moment)) (sym c.tell_owned.ensures.same)
-    (noted_called c.args.caller.now put.new.caller c.args.who c.args.command c.args.moment made.new.stripe.site.stripe c.events-place.result c.requires.asked made.result put.ensures.noted put.ensures.unnoted)) })
+    (record {
+      command = c.args.command;
+      begun = c.tell_owned-2.ensures.begun c.args.who c.args.moment (asked_for c.args.command c.args.moment) (subst (λ (v : CallerView). HasCalled v c.args.who c.args.moment (asked_for c.args.command c.args.moment)) (sym c.tell_owned.ensures.same)
+          (noted_called c.args.caller.now put.new.caller c.args.who c.args.command c.args.moment made.new.stripe.site.stripe c.events-place.result c.requires.asked made.result put.ensures.noted put.ensures.unnoted));
+    })
 
 pub returns-in_err-copy-clause-full : goal.returns-in_err-copy-clause-full
 returns-in_err-copy-clause-full g c =
@@ -239,8 +242,11 @@ invariant_of-high-2 g c =
     (subst (IsLockedClass g.N.Named.board.table g.N.Named.config) (sym (ap (λ i. i.side) c.high-inside.view_is)) c.high.invariant)
     (subst (λ (v : ClassView). GainsOwn c.args.who c.args.moment raw_high.state.history v.history) (sym (ap (λ (x : ClassSide). x.class) c.hear-2.ensures.class)) gains)
     (ap (λ (x : ClassSide). x.class.number) c.hear-2.ensures.class ∙ ap (λ (v : ClassView). v.number) grows.1.0.same) (ap (λ (x : ClassSide). x.sight) c.hear-2.ensures.class) (ap (λ (x : ClassSide). x.class) c.hear-4.ensures.told) c.hear-4.ensures.grows held c.tell_owned-2.ensures.class c.tell_owned-2.ensures.grows
-    (record { command = c.args.command; begun = c.tell_owned-2.ensures.begun c.args.who c.args.moment (asked_for c.args.command c.args.moment) (subst (λ (v : CallerView). HasCalled v c.args.who c.args.moment (asked_for c.args.command c.args.moment)) (sym c.tell_owned.ensures.same)
-    (noted_called c.args.caller.now put.new.caller c.args.who c.args.command c.args.moment made.new.stripe.site.stripe c.events-place.result c.requires.asked made.result put.ensures.noted put.ensures.unnoted)) })
+    (record {
+      command = c.args.command;
+      begun = c.tell_owned-2.ensures.begun c.args.who c.args.moment (asked_for c.args.command c.args.moment) (subst (λ (v : CallerView). HasCalled v c.args.who c.args.moment (asked_for c.args.command c.args.moment)) (sym c.tell_owned.ensures.same)
+          (noted_called c.args.caller.now put.new.caller c.args.who c.args.command c.args.moment made.new.stripe.site.stripe c.events-place.result c.requires.asked made.result put.ensures.noted put.ensures.unnoted));
+    })
 
 pub returns-in_err-copy-clause-sees : goal.returns-in_err-copy-clause-sees
 returns-in_err-copy-clause-sees g c =

@@ -31,8 +31,8 @@ loop-i-init g c =
       subst (λ (h : Histogram). ShowsReclaims config c.args.class pass.sight seen c.in_ok-who.who c.args.moment 0 h.reclaimed) (sym none) (shows_none config c.args.class pass.sight seen c.in_ok-who.who c.args.moment 0 grows),
       so_far_none config c.args.class pass.sight seen c.in_ok-who.who c.args.moment links c.new-histogram.result none
           (subst
-            (λ (p : PassView). (snapshot : IsSnapshot config c.args.class p.sight seen (length links)) × (snapshot.links ≡ links) × (list_at seen.seen (class_lock config c.args.class) ≡ class_told snapshot.history)) turn
-            c.in_ok-links.ensures.links),
+          (λ (p : PassView). (snapshot : IsSnapshot config c.args.class p.sight seen (length links)) × (snapshot.links ≡ links) × (list_at seen.seen (class_lock config c.args.class) ≡ class_told snapshot.history)) turn
+          c.in_ok-links.ensures.links),
       grows,
       ap (λ (p : PassView). p.caller) c.snapshot_of.ensures.same ∙ ap (λ (p : PassView). p.caller) turn,
       ap (λ (p : PassView). p.turn) c.snapshot_of.ensures.same ∙ ap (λ (p : PassView). p.turn) turn,
