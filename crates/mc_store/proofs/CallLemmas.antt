@@ -135,10 +135,10 @@ on_err_always (Err e) p = p
 
 -- a call that a pass has just begun stands at the end of its caller's history
 pub called_now : (old now : PassView) (call : CallEvent) (who : Who) (moment : ℕ) → now.caller ≡ old.caller → now.calls ≡ old.calls ++ call ∷ [] → who ≡ next_who old → length (turns_of old.calls) ≡ old.turn → moment_of call ≡ Some moment
-    → HasCalled (caller_of now) who moment
+    → HasCalled (caller_of now) who moment call
 called_now old now call who moment caller calls is turns handed = record {
   number = ap (λ (w : Who). w.caller) is ∙ sym caller;
-  begun = record { before = old.calls; call = call; behind = []; split = calls; turn_is = turns ∙ sym (ap (λ (w : Who). w.turn) is); handed = handed };
+  begun = record { begun = record { before = old.calls; call = call; behind = []; split = calls; turn_is = turns ∙ sym (ap (λ (w : Who). w.turn) is); handed = handed }; call_is = refl };
 }
 
 -- and a command is the last that it asked for

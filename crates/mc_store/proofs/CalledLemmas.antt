@@ -29,7 +29,7 @@ was_called config final passes number place s event all own there at =
 pub class_was_called : (config : Config) (final : FinalView) (passes : ℕ → PassView) (number place : ℕ) (s : ClassSide) (event : ClassEvent) → AreClasses final.board config final.classes
     → ((caller : ℕ) → caller < config.callers → ((passes caller).caller ≡ caller) × AreItsOwnInClasses (passes caller) final.classes)
     → slice_get final.classes number ≡ Some s → slice_get s.class.history place ≡ Some event
-    → ((maker_of event).caller < config.callers) × IsClassCalled (passes (maker_of event).caller).calls event
+    → ((maker_of event).caller < config.callers) × IsClassCalled (passes (maker_of event).caller).calls (record { 0 = number + 1 }) event
 class_was_called config final passes number place s event all own there at =
     let of = ((all.each number s there).kept.called.each place event at).0 in
     let pass = own (maker_of event).caller of in

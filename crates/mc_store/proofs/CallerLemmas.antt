@@ -6,11 +6,13 @@ use mathlib.Core.List.{IsPrefix}
 use Rattle.mc_item.specs.Command.{key_of}
 use Rattle.mc_item.specs.declared.answer.Site.{Site}
 use Rattle.mc_item.specs.declared.call_event.CallEvent.{CallEvent}
+use Rattle.mc_item.specs.declared.class_event.ClassEvent.{ClassEvent}
 use Rattle.mc_item.specs.declared.config.Config.{Config}
 use Rattle.mc_item.specs.declared.event.Event.{Event}
 use Rattle.mc_item.specs.declared.event.Event.TheVariants.{Call, Class, Stripe}
 use Rattle.mc_item.specs.declared.fault.Fault.{Fault}
 use Rattle.mc_item.specs.declared.command.Command.{Command}
+use Rattle.mc_item.specs.declared.item.ClassNo.{ClassNo}
 use Rattle.mc_item.specs.declared.item.Who.{Who}
 use Rattle.mc_item.specs.declared.stripe_event.Cause.{Cause}
 use Rattle.mc_item.specs.declared.stripe_event.Cause.TheVariants.{Expired, Taken}
@@ -28,8 +30,9 @@ use Rattle.mc_pull.specs.Perform as words
 use Rattle.mc_pull.specs.Performed.{IsPerformed, IsUntouched, did_event, events_on_stripe, is_cooling}
 use Rattle.mc_pull.specs.Settled.{cooled_event}
 use Rattle.mc_pull.specs.Walker.{Walker}
-use Rattle.mc_store.specs.Callers.{AreCalled, IsBegun, IsCall, IsMomentOf, IsCalled, IsNext, IsOf, answered_at, asked_for, call_events, calls_told, who_of}
-use Rattle.mc_store.specs.Locked.{HasBegun, caller_place, locks_for}
+use Rattle.mc_store.specs.Callers.{AreCalled, IsBegun, IsBegunAs, IsCall, IsMomentOf, IsCalled, IsNext, IsOf, answered_at, asked_for, call_events, calls_told, who_of}
+use Rattle.mc_store.specs.Locked.{HasBegun, HasBegunAs, HasBegunCommand, caller_place, locks_for}
+use Rattle.mc_store.specs.Made.{IsClassCalled, maker_of}
 use Rattle.mc_store.specs.Passes.{CallerView, HasAsked, HasCalled}
 
 -- ---- a caller's history
@@ -123,6 +126,14 @@ calls_prefix xs ys p = sym (call_events-append xs p.0) ∙ ap call_events p.1
 pub begun_prefix : (xs ys : List Event) (turn moment : ℕ) → IsPrefix xs ys → IsBegun (call_events xs) turn moment → IsBegun (call_events ys) turn moment
 begun_prefix xs ys turn moment p b = subst (λ (l : List CallEvent). IsBegun l turn moment) (calls_prefix xs ys p) (begun_more (call_events xs) (call_events p.0) turn moment b)
 
+-- just one call
+pub begun_as_more : (xs ys : List CallEvent) (turn moment : ℕ) (call : CallEvent) → IsBegunAs xs turn moment call → IsBegunAs (xs ++ ys) turn moment call
+unfolding begun_more
+begun_as_more xs ys turn moment call b = record { begun = begun_more xs ys turn moment b.begun; call_is = b.call_is }
+
+begun_as_prefix : (xs ys : List Event) (turn moment : ℕ) (call : CallEvent) → IsPrefix xs ys → IsBegunAs (call_events xs) turn moment call → IsBegunAs (call_events ys) turn moment call
+begun_as_prefix xs ys turn moment call p b = subst (λ (l : List CallEvent). IsBegunAs l turn moment call) (calls_prefix xs ys p) (begun_as_more (call_events xs) (call_events p.0) turn moment call b)
+
 called_append : (xs ys : List CallEvent) (stripe place : ℕ) (event : StripeEvent) → IsCalled xs stripe place event → IsCalled (xs ++ ys) stripe place event
 unfolding begun_more
 called_append xs ys stripe place event c = record {
@@ -134,6 +145,14 @@ called_append xs ys stripe place event c = record {
 pub called_prefix : (xs ys : List Event) (stripe place : ℕ) (event : StripeEvent) → IsPrefix xs ys → IsCalled (call_events xs) stripe place event → IsCalled (call_events ys) stripe place event
 called_prefix xs ys stripe place event p c = subst (λ (l : List CallEvent). IsCalled l stripe place event) (calls_prefix xs ys p) (called_append (call_events xs) (call_events p.0) stripe place event c)
 
+-- the same of an event of a class
+class_called_more : (xs ys : List CallEvent) (class : ClassNo) (event : ClassEvent) → IsClassCalled xs class event → IsClassCalled (xs ++ ys) class event
+unfolding begun_more
+class_called_more xs ys class event c = record { moment = c.moment; begun = begun_more xs ys (maker_of event).turn c.moment c.begun; timed = c.timed; own = c.own }
+
+pub class_called_prefix : (xs ys : List Event) (class : ClassNo) (event : ClassEvent) → IsPrefix xs ys → IsClassCalled (call_events xs) class event → IsClassCalled (call_events ys) class event
+class_called_prefix xs ys class event p c = subst (λ (l : List CallEvent). IsClassCalled l class event) (calls_prefix xs ys p) (class_called_more (call_events xs) (call_events p.0) class event c)
+
 -- more is seen
 pub begun_sees : (config : Config) (old new : Sight) (who : Who) (moment : ℕ) → Grows old new → HasBegun config old who moment → HasBegun config new who moment
 begun_sees config old new who moment more h = record {
@@ -141,30 +160,46 @@ begun_sees config old new who moment more h = record {
   begun = begun_prefix (list_at old.seen (caller_place config who.caller)) (list_at new.seen (caller_place config who.caller)) who.turn moment (more.at (caller_place config who.caller)) h.begun;
 }
 
+pub begun_as_sees : (config : Config) (old new : Sight) (who : Who) (moment : ℕ) (call : CallEvent) → Grows old new → HasBegunAs config old who moment call → HasBegunAs config new who moment call
+begun_as_sees config old new who moment call more h = record {
+  of = h.of;
+  begun = begun_as_prefix (list_at old.seen (caller_place config who.caller)) (list_at new.seen (caller_place config who.caller)) who.turn moment call (more.at (caller_place config who.caller)) h.begun;
+}
+
+pub command_sees : (config : Config) (old new : Sight) (who : Who) (moment : ℕ) → Grows old new → HasBegunCommand config old who moment → HasBegunCommand config new who moment
+command_sees config old new who moment more h = record { command = h.command; begun = begun_as_sees config old new who moment (asked_for h.command moment) more h.begun }
+
+-- what has just this call has a call
+pub begun_any : (config : Config) (sight : Sight) (who : Who) (moment : ℕ) (call : CallEvent) → HasBegunAs config sight who moment call → HasBegun config sight who moment
+begun_any config sight who moment call h = record { of = h.of; begun = h.begun.begun }
+
+pub command_any : (config : Config) (sight : Sight) (who : Who) (moment : ℕ) → HasBegunCommand config sight who moment → HasBegun config sight who moment
+command_any config sight who moment h = begun_any config sight who moment (asked_for h.command moment) h.begun
+
 -- the same of who and when it is equal to
 pub asked_here : (config : Config) (sight : Sight) (who asker : Who) (moment at : ℕ) → (asker ≡ who) × (at ≡ moment) → HasBegun config sight who moment → HasBegun config sight asker at
 asked_here config sight who asker moment at same begun =
     subst (λ (w : Who). HasBegun config sight w at) (sym same.0) (subst (λ (m : ℕ). HasBegun config sight who m) (sym same.1) begun)
 
 -- a command that was asked for was called
-pub asked_called : (caller : CallerView) (who : Who) (command : Command) (moment : ℕ) → HasAsked caller who command moment → HasCalled caller who moment
+pub asked_called : (caller : CallerView) (who : Who) (command : Command) (moment : ℕ) → HasAsked caller who command moment → HasCalled caller who moment (asked_for command moment)
 asked_called caller who command moment a = record {
   number = a.number;
-  begun = record { before = a.before; call = asked_for command moment; behind = []; split = a.last; turn_is = a.turn; handed = refl };
+  begun = record { begun = record { before = a.before; call = asked_for command moment; behind = []; split = a.last; turn_is = a.turn; handed = refl }; call_is = refl };
 }
 
 -- who was told a caller's history has seen each of its calls
 pub told_begun : (config : Config) (caller : CallerView) (before after : SeenView) → caller.number < config.callers
     → after ≡ record before { sight = with_seen before.sight (caller_place config caller.number) (calls_told caller.calls) }
-    → (who : Who) (moment : ℕ) → HasCalled caller who moment → HasBegun config after.sight who moment
-told_begun config caller before after of told who moment called = record {
+    → (who : Who) (moment : ℕ) (call : CallEvent) → HasCalled caller who moment call → HasBegunAs config after.sight who moment call
+told_begun config caller before after of told who moment call called = record {
   of = subst (λ (n : ℕ). n < config.callers) (sym called.number) of;
   begun =
       let list : list_at after.sight.seen (caller_place config caller.number) ≡ calls_told caller.calls =
       ap (λ (s : SeenView). list_at s.sight.seen (caller_place config caller.number)) told ∙ list_at_same before.sight.seen (caller_place config caller.number) (calls_told caller.calls) in
       let here : call_events (list_at after.sight.seen (caller_place config who.caller)) ≡ caller.calls =
       ap (λ (n : ℕ). call_events (list_at after.sight.seen (caller_place config n))) called.number ∙ (ap call_events list ∙ call_events-told caller.calls) in
-      subst (λ (l : List CallEvent). IsBegun l who.turn moment) (sym here) called.begun;
+      subst (λ (l : List CallEvent). IsBegunAs l who.turn moment call) (sym here) called.begun;
 }
 
 -- who was told a caller's history with an answer at its end has seen it whole

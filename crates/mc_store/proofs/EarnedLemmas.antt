@@ -31,11 +31,10 @@ use Rattle.mc_board.specs.Histories.{Grows, list_at}
 use Rattle.mc_board.specs.declared.rule.Sight.{Sight}
 use Rattle.mc_segment.specs.ClassCalls.{Makes, refused_event}
 use Rattle.mc_segment.specs.ClassState.{ClassView, chunks_for, class_view, opened}
-use Rattle.mc_rule.specs.Segment.{Rule, rule_of}
+use Rattle.mc_rule.specs.Segment.{Rule}
 use Rattle.mc_rule.specs.Places.{Stands}
 use Rattle.mc_pull.specs.Question.{IsClassOf}
 use Rattle.mc_pull.specs.Rounds.{IsRoom, Rounds, rounds}
-use Rattle.mc_pull.specs.declared.looking.Answer.{Answer}
 use Rattle.mc_store.specs.Earned.{HasGivenUp, HasGoneThrough, HasSearched, IsInVain, IsEarned, IsEarnedAt, IsEarnedIn, IsLastResort}
 use Rattle.mc_store.specs.Locked.{class_lock}
 use Rattle.mc_store.specs.Sides.{class_told}

@@ -4,13 +4,13 @@ use Rattle.atomic_table.specs.Seated.{TableId}
 use Rattle.mc_item.specs.declared.call_event.CallEvent.{CallEvent}
 use Rattle.mc_item.specs.declared.config.Config.{Config}
 use Rattle.mc_board.specs.Histories.{HasSeen, list_at}
-use Rattle.mc_store.specs.Callers.{IsBegun, IsCalled, call_events, calls_told}
+use Rattle.mc_store.specs.Callers.{IsCalled, call_events, calls_told}
 use Rattle.mc_store.specs.Finals.{AreClasses, AreItsOwn, AreItsOwnInClasses, AreStripes}
 use Rattle.mc_store.specs.Locked.{caller_place, locks_for}
-use Rattle.mc_store.specs.Made.{maker_of}
+use Rattle.mc_store.specs.Made.{IsClassCalled}
 use Rattle.mc_store.specs.Passes.{PassView}
 use Rattle.mc_store.specs.Sides.{ClassSide, StripeSide}
-use Rattle.mc_store.proofs.CallerLemmas.{begun_prefix, call_events-told, called_prefix}
+use Rattle.mc_store.proofs.CallerLemmas.{call_events-told, called_prefix, class_called_prefix}
 
 -- what each stripe has seen of a caller's history begins it
 pub its_own : (table : TableId) (config : Config) (pass : PassView) (stripes : List StripeSide) → AreStripes table config stripes
@@ -31,14 +31,11 @@ pub its_own_in_classes : (table : TableId) (config : Config) (pass : PassView) (
     → ((k : ℕ) (s : ClassSide) → slice_get classes k ≡ Some s → HasSeen (calls_told pass.calls) s.sight (caller_place config pass.caller)) → AreItsOwnInClasses pass classes
 its_own_in_classes table config pass classes are behind = record {
   each = λ k s place event at is own.
-      let called = ((are.each k s at).kept.called.each place event is).1 in
-      let lock = caller_place config pass.caller in
-      let begun : IsBegun (call_events (list_at s.sight.seen lock)) (maker_of event).turn called.moment =
-      subst (λ (n : ℕ). IsBegun (call_events (list_at s.sight.seen (locks_for config + n))) (maker_of event).turn called.moment) own called.begun in
-      let whole = begun_prefix (list_at s.sight.seen lock) (calls_told pass.calls) (maker_of event).turn called.moment (behind k s at) begun in
-      record {
-        moment = called.moment;
-        begun = subst (λ (l : List CallEvent). IsBegun l (maker_of event).turn called.moment) (call_events-told pass.calls) whole;
-        timed = called.timed;
-      };
+      let under = are.each k s at in
+      let called = (under.kept.called.each place event is).1 in
+      let seen : IsClassCalled (call_events (list_at s.sight.seen (caller_place config pass.caller))) s.class.number event =
+      subst (λ (n : ℕ). IsClassCalled (call_events (list_at s.sight.seen (locks_for config + n))) s.class.number event) own called in
+      let whole = class_called_prefix (list_at s.sight.seen (caller_place config pass.caller)) (calls_told pass.calls) s.class.number event (behind k s at) seen in
+      subst (λ (n : ℕ). IsClassCalled pass.calls (record { 0 = n }) event) under.number_is
+      (subst (λ (l : List CallEvent). IsClassCalled l s.class.number event) (call_events-told pass.calls) whole);
 }

@@ -3,12 +3,14 @@ use Rattle.std.proofs.Common.{◌≡◌, ◌<◌, ◌+◌, ℕ, zero, suc, List,
 use Rattle.std.specs.Prelude.{IfOk, OnOk, OnErr, Option, None}
 use Rattle.std.proofs.lemmas.List.{append-nil}
 use Rattle.atomic_table.specs.Seated.{TableId}
+use Rattle.mc_item.specs.declared.call_event.CallEvent.{CallEvent}
 use Rattle.mc_item.specs.declared.class_event.ClassEvent.{ClassEvent}
 use Rattle.mc_item.specs.declared.class_event.ClassEvent.TheVariants as events
 use Rattle.mc_item.specs.declared.class_event.Surveyed.{Surveyed}
 use Rattle.mc_item.specs.declared.command.Command.{Command}
 use Rattle.mc_item.specs.declared.config.Config.{Config}
 use Rattle.mc_item.specs.declared.fault.Fault.{Fault}
+use Rattle.mc_item.specs.declared.item.ClassNo.{ClassNo}
 use Rattle.mc_item.specs.declared.item.Who.{Who}
 use Rattle.mc_board.specs.Histories.{Grows, list_at}
 use Rattle.mc_board.specs.declared.rule.Sight.{Sight}
@@ -29,12 +31,13 @@ use Rattle.mc_pull.specs.Performed.{GainsPart, IsPerformed, IsUntouched}
 use Rattle.mc_pull.specs.Question.{Question}
 use Rattle.mc_pull.specs.Settled.{IsSettled, class_events, class_with, cold_events, warm_events}
 use Rattle.mc_pull.proofs.EventsLemmas.{events_so}
-use Rattle.mc_store.specs.Callers.{answered_at, call_events}
-use Rattle.mc_store.specs.Locked.{HasBegun, IsHeldClass, IsLockedClass, locks_for}
-use Rattle.mc_store.specs.Made.{AreCalledInClass, AreOwnEvents, GainsOwn, IsClassCalled, IsOwnEvent, WalksOwn, maker_of}
+use Rattle.mc_crawl.specs.Crawl.{AreReclaims, Reclaims}
+use Rattle.mc_store.specs.Callers.{answered_at, asked_for, call_events, crawling_of, juggling_of}
+use Rattle.mc_store.specs.Locked.{HasBegunAs, HasBegunCommand, IsHeldClass, IsLockedClass, locks_for}
+use Rattle.mc_store.specs.Made.{AreCalledInClass, AreOwnEvents, GainsOwn, IsClassCalled, IsOwnEvent, SuitsCall, WalksOwn, maker_of}
 use Rattle.mc_store.specs.Passes.{CallerView, HasAsked, HasCalled}
 use Rattle.mc_store.specs.Sides.{ClassSide}
-use Rattle.mc_store.proofs.CallerLemmas.{asked_called, begun_more, begun_prefix, get_append}
+use Rattle.mc_store.proofs.CallerLemmas.{asked_called, begun_as_more, class_called_prefix, get_append}
 use Rattle.mc_store.proofs.PairLemmas.{class_sees, grows_trans}
 
 -- ---- what a history gains
@@ -139,56 +142,65 @@ walks_survey who moment a b h k survey by at walked = record {
 
 -- ---- events that were called
 
+-- each of these events of a class may be of this call
+abbrev pub AreOf : ClassNo → List ClassEvent → CallEvent → Type 0
+AreOf class [] call = Unit {0}
+AreOf class (e ∷ es) call = SuitsCall class e call × AreOf class es call
+
+-- all may be of a command
+pub of_command : (class : ClassNo) (es : List ClassEvent) (command : Command) (moment : ℕ) → AreOf class es (asked_for command moment)
+of_command class [] command moment = tt
+of_command class (e ∷ es) command moment = (tt, of_command class es command moment)
+
+-- and of juggling of their class
+pub of_juggling : (class : ClassNo) (es : List ClassEvent) (moment : ℕ) → AreOf class es (juggling_of class moment)
+of_juggling class [] moment = tt
+of_juggling class (e ∷ es) moment = (refl, of_juggling class es moment)
+
 -- an event of a class was called by one of the callers, as far as that one's history was seen
-abbrev WasMade : Config → ClassEvent → Sight → Type 0
-WasMade config event sight = ((maker_of event).caller < config.callers) × IsClassCalled (call_events (list_at sight.seen (locks_for config + (maker_of event).caller))) event
+abbrev WasMade : Config → ClassNo → ClassEvent → Sight → Type 0
+WasMade config class event sight = ((maker_of event).caller < config.callers) × IsClassCalled (call_events (list_at sight.seen (locks_for config + (maker_of event).caller))) class event
 
 some_event : (a b : ClassEvent) → Some a ≡ Some b → a ≡ b
 some_event a b e = cc e
 
-module _ (config : Config) where
-  abbrev Called : List ClassEvent → Sight → Type 0
-  Called history sight = AreCalledInClass (locks_for config) config.callers history (list_at sight.seen)
-
+module _ (config : Config) (class : ClassNo) where
   -- where nothing happened
-  pub called_none : (history : List ClassEvent) (sight : Sight) → history ≡ [] → AreCalledInClass (locks_for config) config.callers history (list_at sight.seen)
+  pub called_none : (history : List ClassEvent) (sight : Sight) → history ≡ [] → AreCalledInClass (locks_for config) config.callers class history (list_at sight.seen)
   called_none history sight empty = record { each = λ place event at. absurd (cc (sym at ∙ ap (λ (h : List ClassEvent). slice_get h place) empty)) }
 
   -- more is seen
-  pub class_called_sees : (history : List ClassEvent) (old new : Sight) → Grows old new → AreCalledInClass (locks_for config) config.callers history (list_at old.seen)
-      → AreCalledInClass (locks_for config) config.callers history (list_at new.seen)
+  pub class_called_sees : (history : List ClassEvent) (old new : Sight) → Grows old new → AreCalledInClass (locks_for config) config.callers class history (list_at old.seen)
+      → AreCalledInClass (locks_for config) config.callers class history (list_at new.seen)
   class_called_sees history old new more all = record {
     each = λ place event at.
         let was = all.each place event at in
-        let lock = locks_for config + (maker_of event).caller in (
-          was.0,
-          record {
-            moment = was.1.moment;
-            begun = begun_prefix (list_at old.seen lock) (list_at new.seen lock) (maker_of event).turn was.1.moment (more.at lock) was.1.begun;
-            timed = was.1.timed;
-          },
-        );
+        let lock = locks_for config + (maker_of event).caller in
+        (was.0, class_called_prefix (list_at old.seen lock) (list_at new.seen lock) class event (more.at lock) was.1);
   }
 
   -- a call's own event was called
-  own_called : (sight : Sight) (who : Who) (moment : ℕ) (event : ClassEvent) → HasBegun config sight who moment → IsOwnEvent who moment event → WasMade config event sight
-  own_called sight who moment event begun own =
-      let here : HasBegun config sight (maker_of event) moment = subst (λ (w : Who). HasBegun config sight w moment) (sym own.0) begun in
-      (here.of, record { moment = moment; begun = here.begun; timed = own.1 })
+  own_called : (sight : Sight) (who : Who) (moment : ℕ) (call : CallEvent) (event : ClassEvent) → HasBegunAs config sight who moment call → SuitsCall class event call → IsOwnEvent who moment event → WasMade config class event sight
+  own_called sight who moment call event begun suits own =
+      let here : HasBegunAs config sight (maker_of event) moment call = subst (λ (w : Who). HasBegunAs config sight w moment call) (sym own.0) begun in
+      (here.of, record { moment = moment; begun = here.begun.begun; timed = own.1; own = subst (SuitsCall class event) (sym here.begun.call_is) suits })
 
-  all_called : (sight : Sight) (who : Who) (moment : ℕ) (es : List ClassEvent) → HasBegun config sight who moment → AreOwnEvents who moment es → (k : ℕ) (event : ClassEvent) → slice_get es k ≡ Some event → WasMade config event sight
-  all_called sight who moment [] begun own k event at = absurd (cc at)
-  all_called sight who moment (e ∷ es) begun own zero event at = subst (λ (x : ClassEvent). WasMade config x sight) (some_event e event at) (own_called sight who moment e begun own.0)
-  all_called sight who moment (e ∷ es) begun own (suc k) event at = all_called sight who moment es begun own.1 k event at
+  all_called : (sight : Sight) (who : Who) (moment : ℕ) (call : CallEvent) (es : List ClassEvent) → HasBegunAs config sight who moment call → AreOf class es call → AreOwnEvents who moment es
+      → (k : ℕ) (event : ClassEvent) → slice_get es k ≡ Some event → WasMade config class event sight
+  all_called sight who moment call [] begun suits own k event at = absurd (cc at)
+  all_called sight who moment call (e ∷ es) begun suits own zero event at =
+      subst (λ (x : ClassEvent). WasMade config class x sight) (some_event e event at) (own_called sight who moment call e begun suits.0 own.0)
+  all_called sight who moment call (e ∷ es) begun suits own (suc k) event at = all_called sight who moment call es begun suits.1 own.1 k event at
 
   -- a history gained a call's own events alone
-  pub class_called_gains : (old new : Sight) (who : Who) (moment : ℕ) (history history_new : List ClassEvent) → HasBegun config new who moment → Grows old new → GainsOwn who moment history history_new
-      → AreCalledInClass (locks_for config) config.callers history (list_at old.seen) → AreCalledInClass (locks_for config) config.callers history_new (list_at new.seen)
-  class_called_gains old new who moment history history_new begun more gains all = record {
+  pub class_called_gains : (old new : Sight) (who : Who) (moment : ℕ) (call : CallEvent) (history history_new : List ClassEvent) → HasBegunAs config new who moment call → Grows old new
+      → (gains : GainsOwn who moment history history_new) → AreOf class gains.events call
+      → AreCalledInClass (locks_for config) config.callers class history (list_at old.seen) → AreCalledInClass (locks_for config) config.callers class history_new (list_at new.seen)
+  class_called_gains old new who moment call history history_new begun more gains suits all = record {
     each = λ place event at. ⊎_elim
         (λ (was : slice_get history place ≡ Some event). (class_called_sees history old new more all).each place event was)
         (λ (t : (j : ℕ) × (place ≡ length history + j) × (slice_get gains.events j ≡ Some event)).
-        all_called new who moment gains.events begun gains.each t.0 event t.2)
+        all_called new who moment call gains.events begun suits gains.each t.0 event t.2)
         (get_append history gains.events event place (ap (λ (h : List ClassEvent). slice_get h place) (sym gains.history_is) ∙ at));
   }
 
@@ -197,28 +209,72 @@ module _ (config : Config) where
 -- while more is seen
 pub locked_sees : (table : TableId) (config : Config) (s : ClassSide) (sight : Sight) → Grows s.sight sight → IsLockedClass table config s → IsLockedClass table config (record s { sight = sight })
 locked_sees table config s sight grows kept =
-    record { held = class_sees table config s sight grows kept.held; called = class_called_sees config s.class.history s.sight sight grows kept.called }
+    record { held = class_sees table config s sight grows kept.held; called = class_called_sees config s.class.number s.class.history s.sight sight grows kept.called }
 
 -- behind a call that has made only events of its own
-pub locked_gains : (table : TableId) (config : Config) (old new : ClassSide) (who : Who) (moment : ℕ) → IsLockedClass table config old → IsHeldClass table config new → HasBegun config new.sight who moment → Grows old.sight new.sight
-    → GainsOwn who moment old.class.history new.class.history → IsLockedClass table config new
-locked_gains table config old new who moment kept held begun more gains =
-    record { held = held; called = class_called_gains config old.sight new.sight who moment old.class.history new.class.history begun more gains kept.called }
+pub locked_gains : (table : TableId) (config : Config) (old new : ClassSide) (who : Who) (moment : ℕ) (call : CallEvent) → IsLockedClass table config old → IsHeldClass table config new
+    → new.class.number ≡ old.class.number → HasBegunAs config new.sight who moment call → Grows old.sight new.sight
+    → (gains : GainsOwn who moment old.class.history new.class.history) → AreOf old.class.number gains.events call → IsLockedClass table config new
+locked_gains table config old new who moment call kept held number begun more gains suits = record {
+  held = held;
+  called = subst (λ (n : ClassNo). AreCalledInClass (locks_for config) config.callers n new.class.history (list_at new.sight.seen)) (sym number)
+      (class_called_gains config old.class.number old.sight new.sight who moment call old.class.history new.class.history begun more gains suits kept.called);
+}
 
--- behind a step of which it told the stripe it was told of it, and of the call
-pub locked_told : (table : TableId) (config : Config) (old first mid new : ClassSide) (who : Who) (moment : ℕ) → IsLockedClass table config old → GainsOwn who moment old.class.history first.class.history → first.sight ≡ old.sight
-    → mid.class ≡ first.class → Grows first.sight mid.sight → IsHeldClass table config mid → new ≡ record mid { sight = new.sight } → Grows mid.sight new.sight → HasBegun config new.sight who moment → IsLockedClass table config new
-locked_told table config old first mid new who moment kept gains same told more held learnt grows begun =
+-- the same of a command
+pub locked_commanded : (table : TableId) (config : Config) (old new : ClassSide) (who : Who) (moment : ℕ) → IsLockedClass table config old → IsHeldClass table config new
+    → new.class.number ≡ old.class.number → HasBegunCommand config new.sight who moment → Grows old.sight new.sight
+    → GainsOwn who moment old.class.history new.class.history → IsLockedClass table config new
+locked_commanded table config old new who moment kept held number begun more gains =
+    locked_gains table config old new who moment (asked_for begun.command moment) kept held number begun.begun more gains (of_command old.class.number gains.events begun.command moment)
+
+-- behind a step of which it told the stripe it was told of it, and of the command
+pub locked_told : (table : TableId) (config : Config) (old first mid new : ClassSide) (who : Who) (moment : ℕ) → IsLockedClass table config old → GainsOwn who moment old.class.history first.class.history
+    → first.class.number ≡ old.class.number → first.sight ≡ old.sight
+    → mid.class ≡ first.class → Grows first.sight mid.sight → IsHeldClass table config mid → new ≡ record mid { sight = new.sight } → Grows mid.sight new.sight → HasBegunCommand config new.sight who moment → IsLockedClass table config new
+locked_told table config old first mid new who moment kept gains number same told more held learnt grows begun =
     subst (IsLockedClass table config) (sym learnt)
-    (locked_gains table config old (record mid { sight = new.sight }) who moment kept (class_sees table config mid new.sight grows held) begun
+    (locked_commanded table config old (record mid { sight = new.sight }) who moment kept (class_sees table config mid new.sight grows held) (ap (λ (v : ClassView). v.number) told ∙ number) begun
     (subst (λ (s : Sight). Grows s new.sight) same (grows_trans first.sight mid.sight new.sight more grows))
     (subst (λ (v : ClassView). GainsOwn who moment old.class.history v.history) (sym told) gains))
 
+-- ---- a crawl's events
+
+reclaims_own : (who : Who) (moment : ℕ) (es : List ClassEvent) → AreReclaims who moment es → AreOwnEvents who moment es
+reclaims_own who moment [] are = tt
+reclaims_own who moment (events.Reclaimed e ∷ es) are = (are.0, reclaims_own who moment es are.1)
+reclaims_own who moment (events.Linked e ∷ es) are = absurd are.0
+reclaims_own who moment (events.Unlinked e ∷ es) are = absurd are.0
+reclaims_own who moment (events.Shifted e ∷ es) are = absurd are.0
+reclaims_own who moment (events.Evicted e ∷ es) are = absurd are.0
+reclaims_own who moment (events.Surveyed e ∷ es) are = absurd are.0
+reclaims_own who moment (events.Refused e ∷ es) are = absurd are.0
+
+of_crawl : (class : ClassNo) (who : Who) (moment : ℕ) (es : List ClassEvent) → AreReclaims who moment es → AreOf class es (crawling_of class moment)
+of_crawl class who moment [] are = tt
+of_crawl class who moment (events.Reclaimed e ∷ es) are = ((refl, tt), of_crawl class who moment es are.1)
+of_crawl class who moment (events.Linked e ∷ es) are = absurd are.0
+of_crawl class who moment (events.Unlinked e ∷ es) are = absurd are.0
+of_crawl class who moment (events.Shifted e ∷ es) are = absurd are.0
+of_crawl class who moment (events.Evicted e ∷ es) are = absurd are.0
+of_crawl class who moment (events.Surveyed e ∷ es) are = absurd are.0
+of_crawl class who moment (events.Refused e ∷ es) are = absurd are.0
+
+-- a class behind a crawl of one of its links, however that ended
+pub gains_crawled : {T : Type 0} (class : ClassNo) (who : Who) (moment : ℕ) (history history_new : List ClassEvent) (before after : ℕ) (r : Result T Fault)
+    → OnOk r (Reclaims who moment history history_new before after) → OnErr r (history_new ≡ history)
+    → (gains : GainsOwn who moment history history_new) × AreOf class gains.events (crawling_of class moment)
+gains_crawled class who moment history history_new before after (Ok x) reclaims same =
+    (record { events = reclaims.events; history_is = reclaims.history_is; each = reclaims_own who moment reclaims.events reclaims.each }, of_crawl class who moment reclaims.events reclaims.each)
+gains_crawled class who moment history history_new before after (Err f) reclaims same = (record { events = []; history_is = same ∙ sym (append-nil history); each = tt }, tt)
+
+-- ---- a caller that asked
+
 -- a caller that asked for a command has called, also where it has noted the answer
 pub noted_called : {T : Type 0} (old new : CallerView) (who : Who) (command : Command) (moment stripe place : ℕ) → HasAsked old who command moment → (r : Result T Fault)
-    → OnOk r (new ≡ record old { calls = old.calls ++ answered_at stripe place ∷ [] }) → OnErr r (new ≡ old) → HasCalled new who moment
+    → OnOk r (new ≡ record old { calls = old.calls ++ answered_at stripe place ∷ [] }) → OnErr r (new ≡ old) → HasCalled new who moment (asked_for command moment)
 noted_called old new who command moment stripe place asked (Ok x) noted same =
     let called = asked_called old who command moment asked in
-    subst (λ (v : CallerView). HasCalled v who moment) (sym noted)
-    (record { number = called.number; begun = begun_more old.calls (answered_at stripe place ∷ []) who.turn moment called.begun })
-noted_called old new who command moment stripe place asked (Err f) noted same = subst (λ (v : CallerView). HasCalled v who moment) (sym same) (asked_called old who command moment asked)
+    subst (λ (v : CallerView). HasCalled v who moment (asked_for command moment)) (sym noted)
+    (record { number = called.number; begun = begun_as_more old.calls (answered_at stripe place ∷ []) who.turn moment (asked_for command moment) called.begun })
+noted_called old new who command moment stripe place asked (Err f) noted same = subst (λ (v : CallerView). HasCalled v who moment (asked_for command moment)) (sym same) (asked_called old who command moment asked)

@@ -74,6 +74,11 @@ pub record IsBegun (calls : List CallEvent) (turn moment : ℕ) : Type 0 where
   pub turn_is : length (turns_of before) ≡ turn
   pub handed : moment_of call ≡ Some moment
 
+-- the same of just this call
+pub record IsBegunAs (calls : List CallEvent) (turn moment : ℕ) (call : CallEvent) : Type 0 where
+  pub begun : IsBegun calls turn moment
+  pub call_is : begun.call ≡ call
+
 -- who made an event of a stripe
 abbrev pub who_of : StripeEvent → Who
 who_of (events.Did did) = did.who

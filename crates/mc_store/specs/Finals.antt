@@ -84,7 +84,8 @@ pub record AreItsOwn (pass : PassView) (stripes : List StripeSide) : Type 0 wher
   pub each : (k : ℕ) (s : StripeSide) (place : ℕ) (event : StripeEvent) → slice_get stripes k ≡ Some s → slice_get s.stripe.history place ≡ Some event
       → (who_of event).caller ≡ pass.caller → IsCalled pass.calls k place event
 
--- each event of the classes' final histories that names a pass's caller was called: the pass's own history has its call
+-- each event of the classes' final histories that names a pass's caller was called: the pass's own history has its call; the
+-- classes stand in the order of their numbers, from 1
 pub record AreItsOwnInClasses (pass : PassView) (classes : List ClassSide) : Type 0 where
   pub each : (k : ℕ) (s : ClassSide) (place : ℕ) (event : ClassEvent) → slice_get classes k ≡ Some s → slice_get s.class.history place ≡ Some event
-      → (maker_of event).caller ≡ pass.caller → IsClassCalled pass.calls event
+      → (maker_of event).caller ≡ pass.caller → IsClassCalled pass.calls (record { 0 = k + 1 }) event

@@ -2,6 +2,8 @@
 use Rattle.std.specs.Prelude.{◌≡◌, ℕ, ◌+◌, ◌-◌, ◌<◌, length}
 use Rattle.atomic_table.specs.Seated.{TableId}
 use Rattle.mc_item.specs.Config.{IsSound}
+use Rattle.mc_item.specs.declared.call_event.CallEvent.{CallEvent}
+use Rattle.mc_item.specs.declared.command.Command.{Command}
 use Rattle.mc_item.specs.declared.config.Config.{Config}
 use Rattle.mc_item.specs.declared.item.ClassNo.{ClassNo}
 use Rattle.mc_item.specs.declared.item.Who.{Who}
@@ -15,7 +17,7 @@ use Rattle.mc_evidence.specs.Seen.{classes_seen, stripes_seen}
 use Rattle.mc_evidence.specs.Setting.{IsClass, Setting}
 use Rattle.mc_store.specs.declared.lock_no.LockNo.{LockNo}
 use Rattle.mc_store.specs.declared.lock_no.LockNo.TheVariants as locks
-use Rattle.mc_store.specs.Callers.{AreCalled, IsBegun, call_events}
+use Rattle.mc_store.specs.Callers.{AreCalled, IsBegun, IsBegunAs, asked_for, call_events}
 use Rattle.mc_store.specs.Made.{AreCalledInClass}
 use Rattle.mc_store.specs.Sides.{ClassSide, StripeSide}
 
@@ -39,6 +41,16 @@ caller_place config caller = locks_for config + caller
 pub record HasBegun (config : Config) (sight : Sight) (who : Who) (moment : ℕ) : Type 0 where
   pub of : who.caller < config.callers
   pub begun : IsBegun (call_events (list_at sight.seen (caller_place config who.caller))) who.turn moment
+
+-- the same of just this call
+pub record HasBegunAs (config : Config) (sight : Sight) (who : Who) (moment : ℕ) (call : CallEvent) : Type 0 where
+  pub of : who.caller < config.callers
+  pub begun : IsBegunAs (call_events (list_at sight.seen (caller_place config who.caller))) who.turn moment call
+
+-- the same of a command
+pub record HasBegunCommand (config : Config) (sight : Sight) (who : Who) (moment : ℕ) : Type 0 where
+  pub command : Command
+  pub begun : HasBegunAs config sight who moment (asked_for command moment)
 
 -- the lock of a class: those of the stripes come first, and classes are numbered from 1
 abbrev pub class_lock : Config → ClassNo → ℕ
@@ -79,7 +91,7 @@ pub record IsHeldClass (board : TableId) (config : Config) (s : ClassSide) : Typ
 -- caller's history has it
 pub record IsLockedClass (board : TableId) (config : Config) (s : ClassSide) : Type 0 where
   pub held : IsHeldClass board config s
-  pub called : AreCalledInClass (locks_for config) config.callers s.class.history (list_at s.sight.seen)
+  pub called : AreCalledInClass (locks_for config) config.callers s.class.number s.class.history (list_at s.sight.seen)
 
 -- what lies under the lock of a stripe's number
 pub record IsStripeUnder (board : TableId) (config : Config) (number : ℕ) (s : StripeSide) : Type 0 where

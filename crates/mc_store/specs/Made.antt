@@ -1,9 +1,11 @@
--- Events of slab classes: who made each, at which moment, and that its caller's history has the call (own).
+-- Events of slab classes: who made each, at which moment, and that its caller's history has the call that it is of (own).
 use Rattle.std.specs.Prelude.{◌≡◌, ◌<◌, ◌+◌, ◌++◌, ℕ, List, [], ◌∷◌, Some, slice_get}
 use Rattle.mc_item.specs.declared.call_event.CallEvent.{CallEvent}
+use Rattle.mc_item.specs.declared.call_event.CallEvent.TheVariants.{Answered, Asked, Crawled, Juggled}
 use Rattle.mc_item.specs.declared.class_event.ClassEvent.{ClassEvent}
 use Rattle.mc_item.specs.declared.class_event.ClassEvent.TheVariants as events
 use Rattle.mc_item.specs.declared.event.Event.{Event}
+use Rattle.mc_item.specs.declared.item.ClassNo.{ClassNo}
 use Rattle.mc_item.specs.declared.item.Who.{Who}
 use Rattle.mc_board.specs.Histories.{Grows}
 use Rattle.mc_board.specs.declared.rule.Sight.{Sight}
@@ -49,14 +51,34 @@ pub record WalksOwn (who : Who) (moment : ℕ) (before after : Sight) (history h
   pub sees : Grows before after
   pub gains : GainsOwn who moment history history_new
 
--- an event of a class was called: its caller's history has, for its turn, a call that was handed the event's moment
-pub record IsClassCalled (calls : List CallEvent) (event : ClassEvent) : Type 0 where
+-- the event is a reclaimed entry
+abbrev pub IsReclaimed : ClassEvent → Type 0
+IsReclaimed (events.Reclaimed e) = Unit {0}
+IsReclaimed (events.Linked e) = ⊥
+IsReclaimed (events.Unlinked e) = ⊥
+IsReclaimed (events.Shifted e) = ⊥
+IsReclaimed (events.Evicted e) = ⊥
+IsReclaimed (events.Surveyed e) = ⊥
+IsReclaimed (events.Refused e) = ⊥
+
+-- an event of a class may be of this call: a command's may be of any class; juggling's and a crawl's are of the class that was
+-- asked for, and a crawl's is a reclaimed entry; an answer has none
+abbrev pub SuitsCall : ClassNo → ClassEvent → CallEvent → Type 0
+SuitsCall class event (Asked asked) = Unit {0}
+SuitsCall class event (Juggled worked) = worked.class ≡ class
+SuitsCall class event (Crawled worked) = (worked.class ≡ class) × IsReclaimed event
+SuitsCall class event (Answered answered) = ⊥
+
+-- an event of a class was called: its caller's history has, for its turn, the call that it is of, which was handed the event's
+-- moment
+pub record IsClassCalled (calls : List CallEvent) (class : ClassNo) (event : ClassEvent) : Type 0 where
   pub moment : ℕ
   pub begun : IsBegun calls (maker_of event).turn moment
   pub timed : IsTimed event moment
+  pub own : SuitsCall class event begun.call
 
 -- each event of a class's history was called, by one of so many callers, as far as that one's history was seen; the histories
 -- of callers come behind so many others
-pub record AreCalledInClass (others callers : ℕ) (history : List ClassEvent) (seen : ℕ → List Event) : Type 0 where
+pub record AreCalledInClass (others callers : ℕ) (class : ClassNo) (history : List ClassEvent) (seen : ℕ → List Event) : Type 0 where
   pub each : (place : ℕ) (event : ClassEvent) → slice_get history place ≡ Some event
-      → ((maker_of event).caller < callers) × IsClassCalled (call_events (seen (others + (maker_of event).caller))) event
+      → ((maker_of event).caller < callers) × IsClassCalled (call_events (seen (others + (maker_of event).caller))) class event

@@ -5,7 +5,7 @@ use Rattle.mc_item.specs.declared.command.Command.{Command}
 use Rattle.mc_item.specs.declared.item.Who.{Who}
 use Rattle.mc_board.specs.Histories.{blind}
 use Rattle.mc_board.specs.declared.rule.Sight.{Sight}
-use Rattle.mc_store.specs.Callers.{IsBegun, asked_for, turns_of}
+use Rattle.mc_store.specs.Callers.{IsBegunAs, asked_for, turns_of}
 
 -- a caller: its number, and its history
 pub record CallerView : Type 0 where
@@ -44,7 +44,7 @@ pub record HasAsked (caller : CallerView) (who : Who) (command : Command) (momen
   pub turn : length (turns_of before) ≡ who.turn
   pub room : length caller.calls + 1 < 2 ^ 64
 
--- a caller's history has the call of this turn, which was handed this moment
-pub record HasCalled (caller : CallerView) (who : Who) (moment : ℕ) : Type 0 where
+-- a caller's history has just this call for this turn, which was handed this moment
+pub record HasCalled (caller : CallerView) (who : Who) (moment : ℕ) (call : CallEvent) : Type 0 where
   pub number : who.caller ≡ caller.number
-  pub begun : IsBegun caller.calls who.turn moment
+  pub begun : IsBegunAs caller.calls who.turn moment call

@@ -9,7 +9,7 @@ ghost use Rattle.mc_store.specs.Commands.{IsCut};
 ghost use Rattle.mc_store.specs.Calls.{IsReplied};
 ghost use Rattle.mc_store.specs.Planned.{GoesBy};
 ghost use Rattle.mc_store.specs.Serving.{IsShort};
-ghost use Rattle.mc_store.specs.Locked.{HasBegun};
+ghost use Rattle.mc_store.specs.Locked.{HasBegunCommand};
 ghost use Rattle.mc_store.specs.Passes.{HasAsked};
 
 use crate::caller::Caller;
@@ -76,7 +76,7 @@ pub(crate) fn answer_on_one<N: Named>(
     class: ClassNo,
 ) -> Result<Reply, Fault>
     requires asked { HasAsked caller.old who command moment }
-    requires begun { HasBegun N.config own.old.sight who moment }
+    requires begun { HasBegunCommand N.config own.old.sight who moment }
     requires goes { GoesBy N.config own.old.stripe command moment plan.old }
     requires fresh { plan.old.need ≡ needs.Fresh class }
     ensures replied { IfOk result (IsReplied N.config who command moment own.old.stripe own.new.stripe own.new.sight caller.old.calls caller.new.calls) }
@@ -111,7 +111,7 @@ fn answer_on_two<N: Named>(
     class: ClassNo,
 ) -> Result<Reply, Fault>
     requires asked { HasAsked caller.old who command moment }
-    requires begun { HasBegun N.config own.old.sight who moment }
+    requires begun { HasBegunCommand N.config own.old.sight who moment }
     requires goes { GoesBy N.config own.old.stripe command moment plan.old }
     requires fresh { plan.old.need ≡ needs.Fresh class }
     requires rising { low.old.class.number.0 < high.old.class.number.0 }
@@ -155,7 +155,7 @@ fn answer_fresh<N: Named>(
     class: ClassNo,
 ) -> Result<Reply, Fault>
     requires asked { HasAsked caller.old who command moment }
-    requires begun { HasBegun N.config own.old.sight who moment }
+    requires begun { HasBegunCommand N.config own.old.sight who moment }
     requires goes { GoesBy N.config own.old.stripe command moment plan.old }
     requires fresh { plan.old.need ≡ needs.Fresh class }
     ensures replied { IfOk result (IsReplied N.config who command moment own.old.stripe own.new.stripe own.new.sight caller.old.calls caller.new.calls) }
@@ -201,7 +201,7 @@ pub(crate) fn answer_by_plan<N: Named>(
     plan: &mut Plan,
 ) -> Result<Reply, Fault>
     requires asked { HasAsked caller.old who command moment }
-    requires begun { HasBegun N.config own.old.sight who moment }
+    requires begun { HasBegunCommand N.config own.old.sight who moment }
     requires goes { GoesBy N.config own.old.stripe command moment plan.old }
     ensures replied { IfOk result (IsReplied N.config who command moment own.old.stripe own.new.stripe own.new.sight caller.old.calls caller.new.calls) }
     ensures cut { OnErr result (IsCut N.config who command moment own.old.stripe own.new.stripe) }

@@ -1,9 +1,10 @@
 //! A caller and its history.
 ghost use Rattle.std.specs.Prelude.{◌≡◌, ◌<◌, ◌+◌, ◌^◌, ◌++◌, ◌∷◌, ℕ, [], length};
+ghost use Rattle.mc_item.specs.declared.call_event.CallEvent.{CallEvent};
 ghost use Rattle.mc_item.specs.declared.item.Who.{Who};
 ghost use Rattle.mc_board.specs.Histories.{with_seen, Grows, HasSeen};
 ghost use Rattle.mc_store.specs.Callers.{answered_at, call_events, calls_told};
-ghost use Rattle.mc_store.specs.Locked.{caller_place, HasBegun};
+ghost use Rattle.mc_store.specs.Locked.{caller_place, HasBegunAs};
 ghost use Rattle.mc_store.specs.Passes.{HasCalled};
 
 use crate::locked::{LockedClass, LockedStripe};
@@ -91,7 +92,7 @@ impl<N: Named> Caller<N> {
         ensures same { self.new ≡ self.old }
         ensures board { seen.new.board ≡ seen.old.board }
         ensures grows { Grows seen.old.sight seen.new.sight }
-        ensures begun { (who : Who) (moment : ℕ) → HasCalled self.old who moment → HasBegun N.config seen.new.sight who moment }
+        ensures begun { (who : Who) (moment : ℕ) (call : CallEvent) → HasCalled self.old who moment call → HasBegunAs N.config seen.new.sight who moment call }
     {
         self.owner.tell(board, seen);
     }
@@ -103,7 +104,7 @@ impl<N: Named> Caller<N> {
         ensures same { self.new ≡ self.old }
         ensures stripe { stripe.new ≡ record stripe.old { sight = stripe.new.sight } }
         ensures grows { Grows stripe.old.sight stripe.new.sight }
-        ensures begun { (who : Who) (moment : ℕ) → HasCalled self.old who moment → HasBegun N.config stripe.new.sight who moment }
+        ensures begun { (who : Who) (moment : ℕ) (call : CallEvent) → HasCalled self.old who moment call → HasBegunAs N.config stripe.new.sight who moment call }
     {
         self.tell(board, &mut stripe.side.seen);
     }
@@ -115,7 +116,7 @@ impl<N: Named> Caller<N> {
         ensures same { self.new ≡ self.old }
         ensures class { class.new ≡ record class.old { sight = class.new.sight } }
         ensures grows { Grows class.old.sight class.new.sight }
-        ensures begun { (who : Who) (moment : ℕ) → HasCalled self.old who moment → HasBegun N.config class.new.sight who moment }
+        ensures begun { (who : Who) (moment : ℕ) (call : CallEvent) → HasCalled self.old who moment call → HasBegunAs N.config class.new.sight who moment call }
     {
         self.tell(board, &mut class.seen);
     }
@@ -126,7 +127,7 @@ impl<N: Named> Caller<N> {
         ensures same { self.new ≡ self.old }
         ensures class { class.new ≡ record class.old { sight = class.new.sight } }
         ensures grows { Grows class.old.sight class.new.sight }
-        ensures begun { (who : Who) (moment : ℕ) → HasCalled self.old who moment → HasBegun N.config class.new.sight who moment }
+        ensures begun { (who : Who) (moment : ℕ) (call : CallEvent) → HasCalled self.old who moment call → HasBegunAs N.config class.new.sight who moment call }
     {
         self.tell(board, &mut class.side.seen);
     }

@@ -13,7 +13,7 @@ ghost use Rattle.mc_store.specs.Calls.{IsCutBy, IsReplied, IsRepliedBy};
 ghost use Rattle.mc_store.specs.Passes.{next_who, HasAsked, caller_of};
 ghost use Rattle.mc_store.specs.Planned.{GoesBy, IsPlanIn};
 ghost use Rattle.mc_store.specs.Serving.{HasSeenShort, IsShort};
-ghost use Rattle.mc_store.specs.Locked.{HasBegun};
+ghost use Rattle.mc_store.specs.Locked.{HasBegunCommand};
 ghost use Rattle.mc_store.specs.Callers.{asked_for};
 ghost use Rattle.mc_item.specs.declared.call_event.CallEvent.{CallEvent};
 
@@ -46,7 +46,7 @@ fn bury_locked<N: Named>(
     link: Link,
     moment: u64,
 ) -> Result<(), Fault>
-    requires begun { HasBegun N.config own.old.sight who moment }
+    requires begun { HasBegunCommand N.config own.old.sight who moment }
     requires dead { dead_link ((cache_now own.old.stripe).items (key_of command.now)) moment ≡ Some link }
     requires class { IsNumberOf (length N.config.sizes) link.class }
     ensures lost { OnOk result (own.new.stripe.history ≡ own.old.stripe.history ++ burial who (key_of command.now) moment (Some link)) }
@@ -74,7 +74,7 @@ fn bury_dead<N: Named>(
 ) -> Result<(), Fault>
     requires own { stripe_of (key_of command.now) N.config.stripes ≡ record { 0 = own.old.stripe.site.stripe } }
     requires early { moment ≤ 2 ^ 62 }
-    requires begun { HasBegun N.config own.old.sight who moment }
+    requires begun { HasBegunCommand N.config own.old.sight who moment }
     requires plan { IsPlanIn N.config own.old.stripe command.now moment plan.old }
     ensures goes { OnOk result (GoesBy N.config own.new.stripe command.now moment plan.new) }
     ensures sees { Grows own.old.sight own.new.sight }
@@ -106,7 +106,7 @@ fn command_planned<N: Named>(
     moment: u64,
 ) -> Result<Reply, Fault>
     requires own { stripe_of (key_of command) N.config.stripes ≡ record { 0 = own.old.stripe.site.stripe } }
-    requires begun { HasBegun N.config own.old.sight who moment }
+    requires begun { HasBegunCommand N.config own.old.sight who moment }
     requires asked { HasAsked caller.old who command moment }
     requires early { moment ≤ 2 ^ 62 }
     ensures replied { IfOk result (IsReplied N.config who command moment own.old.stripe own.new.stripe own.new.sight caller.old.calls caller.new.calls) }

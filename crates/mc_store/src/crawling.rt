@@ -7,7 +7,7 @@ ghost use Rattle.mc_pull.specs.Growth as classes;
 ghost use Rattle.mc_crawl.specs.Crawl.{Reclaims};
 ghost use Rattle.mc_crawl.specs.CrawlCount.{IsBalanced, MayCount};
 ghost use Rattle.mc_store.specs.Crawls.{CountsLink, IsCrawledBy, IsLinkCounted, IsSeenSound, IsSnapshot, ShowsReclaims};
-ghost use Rattle.mc_store.specs.Locked.{class_lock, setting_of, HasBegun};
+ghost use Rattle.mc_store.specs.Locked.{class_lock, setting_of, HasBegun, HasBegunAs};
 ghost use Rattle.mc_store.specs.Passes.{next_who, caller_of, HasCalled};
 ghost use Rattle.mc_store.specs.Made.{WalksOwn};
 ghost use Rattle.mc_store.specs.Sides.{class_told};
@@ -49,6 +49,7 @@ impl<'a, N: Named> Trying<'a, N> {
         ensures balanced { IsBalanced histogram.old → IsBalanced histogram.new }
         ensures reclaims { OnOk result (Reclaims who moment class.old.history class.new.history histogram.old.reclaimed histogram.new.reclaimed) }
         ensures counted { OnOk result (CountsLink config.now class.old class.new who moment link histogram.old histogram.new) }
+        ensures err { OnErr result (class.new.history ≡ class.old.history) }
         ensures grows { classes.Grows class.old class.new }
         ensures fault { IfErr result (MayFailSeen N.config self.new.seen.now.sight class.new) }
         ensures owner_reference { self.new.owner.ghost_name ≡ self.old.owner.ghost_name }
@@ -70,7 +71,7 @@ fn crawl_under<N: Named>(
     moment: u64,
     histogram: &mut Histogram,
 ) -> Result<(), Fault>
-    requires begun { HasBegun N.config class.old.sight who moment }
+    requires begun { HasBegunAs N.config class.old.sight who moment (crawling_of class.old.class.number moment) }
     requires counts { MayCount histogram.old }
     ensures seen { OnOk result (histogram.new.seen ≡ histogram.old.seen + 1) }
     ensures balanced { IsBalanced histogram.old → IsBalanced histogram.new }
@@ -133,7 +134,7 @@ impl<N: Named> Store<N> {
         histogram: &mut Histogram,
     ) -> Result<(), Fault>
         requires class { IsClass (setting_of N.config) class }
-        requires called { HasCalled (caller_of pass.old) who moment }
+        requires called { HasCalled (caller_of pass.old) who moment (crawling_of class moment) }
         requires counts { MayCount histogram.old }
         ensures seen { OnOk result (histogram.new.seen ≡ histogram.old.seen + 1) }
         ensures balanced { IsBalanced histogram.old → IsBalanced histogram.new }

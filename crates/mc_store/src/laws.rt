@@ -1,5 +1,5 @@
 //! The headline over what a closed store leaves: laws, which are contracts alone.
-ghost use Rattle.std.specs.Prelude.{◌≡◌, ◌<◌, ◌++◌, ℕ, List, IsSomeAnd, None, Some, slice_get};
+ghost use Rattle.std.specs.Prelude.{◌≡◌, ◌<◌, ◌+◌, ◌++◌, ℕ, List, IsSomeAnd, None, Some, slice_get};
 ghost use Rattle.mc_item.specs.Cache.{visible_items};
 ghost use Rattle.mc_item.specs.Stripe.{cache_of};
 ghost use Rattle.mc_item.specs.declared.call_event.CallEvent.{CallEvent};
@@ -64,13 +64,13 @@ pub fn each_event_of_a_closed_store_was_called()
 
 /// Each event on a slab class of a closed store was called: it names one of the store's callers, and where each caller's pass
 /// was compared with what is left, that one's own history has the call, with its turn and, where the event has a moment, with
-/// that moment handed in.
+/// that moment handed in. Where it juggled or crawled, that was the class that it was asked for, and a crawl only reclaims.
 pub fn each_class_event_of_a_closed_store_was_called()
     ensures { (config : Config) (final : FinalView) (passes : ℕ → PassView) (number place : ℕ) (s : ClassSide) (event : ClassEvent)
         → AreClasses final.board config final.classes
         → ((caller : ℕ) → caller < config.callers → ((passes caller).caller ≡ caller) × AreItsOwnInClasses (passes caller) final.classes)
         → slice_get final.classes number ≡ Some s → slice_get s.class.history place ≡ Some event
-        → ((maker_of event).caller < config.callers) × IsClassCalled (passes (maker_of event).caller).calls event }
+        → ((maker_of event).caller < config.callers) × IsClassCalled (passes (maker_of event).caller).calls (record { 0 = number + 1 }) event }
 {}
 
 /// A turn is answered once: two answered commands of a closed store that name one caller and one turn are the same event.

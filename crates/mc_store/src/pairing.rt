@@ -14,7 +14,7 @@ ghost use Rattle.mc_pull.specs.Growth as classes;
 ghost use Rattle.mc_pull.specs.Perform as words;
 ghost use Rattle.mc_pull.specs.Perform.{AreLent, GivesRoom, MayAnswer, call};
 ghost use Rattle.mc_store.specs.Callers.{IsCall, answered_at, call_events, calls_told};
-ghost use Rattle.mc_store.specs.Locked.{HasBegun, caller_place};
+ghost use Rattle.mc_store.specs.Locked.{HasBegunCommand, caller_place};
 ghost use Rattle.mc_store.specs.Performing.{IsMade, IsRefusedIn};
 ghost use Rattle.mc_store.specs.Serving.{IsShort};
 ghost use Rattle.mc_store.specs.Sides.{class_told, stripe_told};
@@ -56,7 +56,7 @@ pub(crate) fn refuse<N: Named>(
     who: Who,
 ) -> Result<u64, Fault>
     requires board { board.now ≡ N.board }
-    requires begun { (moment : ℕ) × HasBegun N.config own.old.sight who moment }
+    requires begun { (moment : ℕ) × HasBegunCommand N.config own.old.sight who moment }
     requires full { IsFull lent.old.class.chunks (lists_of lent.old.class.history) }
     ensures place { IfOk result (λ place. place ≡ length lent.old.class.history) }
     ensures refused { OnOk result (Makes lent.old.class lent.new.class (refused_event who)) }

@@ -10,7 +10,7 @@ ghost use Rattle.mc_stripe.specs.StripeCalls.{KeepsSite};
 ghost use Rattle.mc_pull.specs.Agreeing.{AgreeNow};
 ghost use Rattle.mc_rule.specs.Lists.{IsFull, lists_of};
 ghost use Rattle.mc_store.specs.Earned.{HasGivenUp, IsEarnedIn};
-ghost use Rattle.mc_store.specs.Locked.{IsLockedClass, HasBegun};
+ghost use Rattle.mc_store.specs.Locked.{IsLockedClass, HasBegunCommand};
 ghost use Rattle.mc_store.specs.Planned.{GoesBy, IsGiven, IsReadyOn, IsSearched};
 ghost use Rattle.mc_store.specs.Serving.{IsShort};
 ghost use Rattle.mc_store.specs.Sides.{class_told};
@@ -54,14 +54,14 @@ fn search_on<N: Named>(
     plan: &mut Plan,
     class: ClassNo,
 ) -> Result<(), Fault>
-    requires begun { HasBegun N.config own.old.sight who moment }
+    requires begun { HasBegunCommand N.config own.old.sight who moment }
     requires goes { GoesBy N.config own.old.stripe command.now moment plan.old }
     requires fresh { plan.old.need ≡ needs.Fresh class }
     ensures goes { OnOk result (GoesBy N.config own.new.stripe command.now moment plan.new) }
     ensures tried { OnOk result (IsFull lent.new.class.chunks (lists_of lent.new.class.history) → HasGivenUp N.config (record { 0 = own.old.stripe.site.stripe }) class who moment (key_of command.now) lent.new.class.history) }
     ensures class { OnOk result (lent.old.class.number ≡ class) }
     ensures searched { IsSearched N.config who command.now moment own.old.stripe own.new.stripe }
-    ensures begun { HasBegun N.config own.new.sight who moment }
+    ensures begun { HasBegunCommand N.config own.new.sight who moment }
     ensures number { lent.new.class.number ≡ lent.old.class.number }
     ensures site { KeepsSite own.old.stripe own.new.stripe }
     ensures full { IsErrOf result HistoryFull → IsShort N.config own.new }
@@ -119,7 +119,7 @@ fn fresh_room<N: Named>(
     who: Who,
     class: ClassNo,
 ) -> Result<Room, Fault>
-    requires begun { (moment : ℕ) × HasBegun N.config own.old.sight who moment }
+    requires begun { (moment : ℕ) × HasBegunCommand N.config own.old.sight who moment }
     requires met { AgreeNow lent.old.class own.old.stripe }
     requires told { list_at own.old.sight.seen lent.old.lock ≡ class_told lent.old.class.history }
     ensures same { own.new.stripe ≡ own.old.stripe }
@@ -149,7 +149,7 @@ fn room_on<N: Named>(
     who: Who,
     need: Need,
 ) -> Result<Room, Fault>
-    requires begun { (moment : ℕ) × HasBegun N.config own.old.sight who moment }
+    requires begun { (moment : ℕ) × HasBegunCommand N.config own.old.sight who moment }
     requires met { AgreeNow lent.old.class own.old.stripe }
     requires told { list_at own.old.sight.seen lent.old.lock ≡ class_told lent.old.class.history }
     ensures same { own.new.stripe ≡ own.old.stripe }
@@ -183,7 +183,7 @@ pub(crate) fn ready_on<N: Named>(
     plan: &mut Plan,
     class: ClassNo,
 ) -> Result<(Room, Fate), Fault>
-    requires begun { HasBegun N.config own.old.sight who moment }
+    requires begun { HasBegunCommand N.config own.old.sight who moment }
     requires goes { GoesBy N.config own.old.stripe command.now moment plan.old }
     requires fresh { plan.old.need ≡ needs.Fresh class }
     ensures ready { IfOk result (λ ready. IsReadyOn N.config own.new.stripe lent.new.class who command.now moment ready.0 ready.1) }

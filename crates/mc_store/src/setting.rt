@@ -17,7 +17,7 @@ ghost use Rattle.mc_pull.specs.Perform.{GivesRoom, call};
 ghost use Rattle.mc_store.specs.Callers.{answered_at};
 ghost use Rattle.mc_store.specs.Calls.{IsReplied};
 ghost use Rattle.mc_store.specs.Commands.{IsCut};
-ghost use Rattle.mc_store.specs.Locked.{HasBegun};
+ghost use Rattle.mc_store.specs.Locked.{HasBegunCommand};
 ghost use Rattle.mc_store.specs.Needed.{IsNumberOf};
 ghost use Rattle.mc_store.specs.Passes.{HasAsked};
 ghost use Rattle.mc_store.specs.Performing.{IsMade};
@@ -131,7 +131,7 @@ fn set_searched<N: Named>(
     moment: u64,
 ) -> Result<Result<Reply, Command>, Fault>
     requires own { stripe_of (key_of command) N.config.stripes ≡ record { 0 = own.old.stripe.site.stripe } }
-    requires begun { HasBegun N.config own.old.sight who moment }
+    requires begun { HasBegunCommand N.config own.old.sight who moment }
     requires asked { HasAsked caller.old who command moment }
     requires early { moment ≤ 2 ^ 62 }
     ensures replied { IfOk result (λ quick. IfOk quick (IsReplied N.config who command moment own.old.stripe own.new.stripe own.new.sight caller.old.calls caller.new.calls)) }
@@ -174,7 +174,7 @@ fn answer_set<N: Named>(
     requires set { IsSet command }
     requires fresh { (row_of own.old.stripe.site (cache_now own.old.stripe).versions ((cache_now own.old.stripe).items (key_of command)) command moment).need ≡ needs.Fresh class }
     requires class { IsNumberOf (length N.config.sizes) class }
-    requires begun { HasBegun N.config own.old.sight who moment }
+    requires begun { HasBegunCommand N.config own.old.sight who moment }
     requires asked { HasAsked caller.old who command moment }
     requires early { moment ≤ 2 ^ 62 }
     ensures replied { IfOk result (λ quick. IfOk quick (IsReplied N.config who command moment own.old.stripe own.new.stripe own.new.sight caller.old.calls caller.new.calls)) }
@@ -235,7 +235,7 @@ pub(crate) fn set_told<N: Named>(
     moment: u64,
 ) -> Result<Result<Reply, Command>, Fault>
     requires own { stripe_of (key_of command) N.config.stripes ≡ record { 0 = own.old.stripe.site.stripe } }
-    requires begun { HasBegun N.config own.old.sight who moment }
+    requires begun { HasBegunCommand N.config own.old.sight who moment }
     requires asked { HasAsked caller.old who command moment }
     requires early { moment ≤ 2 ^ 62 }
     ensures replied { IfOk result (λ quick. IfOk quick (IsReplied N.config who command moment own.old.stripe own.new.stripe own.new.sight caller.old.calls caller.new.calls)) }

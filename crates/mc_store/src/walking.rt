@@ -12,9 +12,10 @@ ghost use Rattle.mc_pull.specs.Rounds.{IsRoom, rounds};
 ghost use Rattle.mc_pull.specs.Settled.{lost_event};
 ghost use Rattle.mc_pull.specs.Walker.{walker_of};
 ghost use Rattle.mc_pull.specs.declared.looking.Answer.{Answer};
+ghost use Rattle.mc_store.specs.Callers.{juggling_of};
 ghost use Rattle.mc_store.specs.Earned.{IsSearchInVain};
 ghost use Rattle.mc_store.specs.Serving.{IsServed, IsShort, MayFailSeen};
-ghost use Rattle.mc_store.specs.Locked.{HasBegun};
+ghost use Rattle.mc_store.specs.Locked.{HasBegun, HasBegunAs, HasBegunCommand};
 ghost use Rattle.mc_store.specs.Made.{WalksOwn};
 ghost use Rattle.mc_board.specs.Histories.{Grows};
 
@@ -78,12 +79,12 @@ pub(crate) fn make_room_under<N: Named>(
     who: Who,
     moment: u64,
 ) -> Result<bool, Fault>
-    requires begun { HasBegun N.config own.old.sight who moment }
+    requires begun { HasBegunCommand N.config own.old.sight who moment }
     ensures room { IfOk result (λ found. (xs : List Answer) × IsRoom (rounds class.old.class who moment N.config) class.old.class.history xs class.new.class.history found) }
     ensures class { classes.Grows class.old.class class.new.class }
     ensures stripe { StripeGrows (walker_of class.old.class who moment) own.old.stripe own.new.stripe }
     ensures tried { IfOk result (λ found. found ≡ false → IsSearchInVain N.config class.old.class own.old.stripe who moment class.new.class.history) }
-    ensures begun { HasBegun N.config own.new.sight who moment }
+    ensures begun { HasBegunCommand N.config own.new.sight who moment }
     ensures full { IsErrOf result HistoryFull → IsShort N.config own.new }
 {
     let board = &store.board;
@@ -113,7 +114,7 @@ pub(crate) fn juggle_under<N: Named>(
     who: Who,
     moment: u64,
 ) -> Result<Moves, Fault>
-    requires begun { HasBegun N.config class.old.sight who moment }
+    requires begun { HasBegunAs N.config class.old.sight who moment (juggling_of class.old.class.number moment) }
     ensures juggle { IfOk result (λ moves. (xs : List Answer) × IsJuggle (rounds class.old.class who moment N.config) class.old.class.history xs class.new.class.history moves) }
     ensures few { IfOk result (λ moves. moves.reclaimed + moves.moved ≤ 10000) }
     ensures class { classes.Grows class.old.class class.new.class }
@@ -146,7 +147,7 @@ pub(crate) fn bury_under<N: Named>(
     link: Link,
     moment: u64,
 ) -> Result<(), Fault>
-    requires begun { HasBegun N.config own.old.sight who moment }
+    requires begun { HasBegunCommand N.config own.old.sight who moment }
     requires dead { dead_link ((cache_now own.old.stripe).items key.now) moment ≡ Some link }
     requires class { class.old.class.number ≡ link.class }
     ensures lost { OnOk result (own.new.stripe.history ≡ own.old.stripe.history ++ lost_event who key.now (Expired moment) ∷ []) }

@@ -1,5 +1,5 @@
 use Rattle.mc_store.proofs.AnswerLemmas.{cut_err_from, replied_ok_from}
-use Rattle.mc_store.proofs.CallerLemmas.{begun_sees}
+use Rattle.mc_store.proofs.CallerLemmas.{command_sees}
 use Rattle.mc_store.proofs.commands.command_planned.Goals as goal
 
 pub returns-clause-replied : goal.returns-clause-replied
@@ -13,4 +13,4 @@ returns-clause-cut g c =
     c.answer_by_plan.ensures.cut
 
 pub answer_by_plan-requires-clause-begun : goal.answer_by_plan-requires-clause-begun
-answer_by_plan-requires-clause-begun g c = begun_sees g.N.Named.config c.args.own.now.sight c.bury_dead.new.own.sight c.args.who c.args.moment c.bury_dead.ensures.sees c.requires.begun
+answer_by_plan-requires-clause-begun g c = command_sees g.N.Named.config c.args.own.now.sight c.bury_dead.new.own.sight c.args.who c.args.moment c.bury_dead.ensures.sees c.requires.begun

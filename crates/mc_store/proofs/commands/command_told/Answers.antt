@@ -1,20 +1,21 @@
 use Rattle.std.proofs.Common.{◌≡◌, ◌∙◌, subst}
 use Rattle.std.specs.Prelude.{IfOk}
 use Rattle.mc_item.specs.declared.command.Command.{Command}
+use Rattle.mc_store.specs.Callers.{asked_for}
 use Rattle.mc_store.specs.Calls.{IsReplied}
 use Rattle.mc_store.specs.Passes.{CallerView}
 use Rattle.mc_store.specs.Sides.{StripeSide}
-use Rattle.mc_store.proofs.CallerLemmas.{asked_called, begun_sees}
+use Rattle.mc_store.proofs.CallerLemmas.{asked_called, command_sees}
 use Rattle.mc_store.proofs.QuickLemmas.{replied_ok_same}
 use Rattle.mc_store.proofs.commands.command_told.Goals as goal
 
 pub set_told-requires-clause-begun : goal.set_told-requires-clause-begun
-set_told-requires-clause-begun g c = c.tell_stripe.ensures.begun c.args.who c.args.moment (asked_called c.args.caller.now c.args.who c.args.command c.args.moment c.requires.asked)
+set_told-requires-clause-begun g c = record { command = c.args.command; begun = c.tell_stripe.ensures.begun c.args.who c.args.moment (asked_for c.args.command c.args.moment) (asked_called c.args.caller.now c.args.who c.args.command c.args.moment c.requires.asked) }
 
 pub command_planned-requires-clause-begun : goal.command_planned-requires-clause-begun
 command_planned-requires-clause-begun g c =
-    begun_sees g.N.Named.config c.tell_stripe.new.stripe.sight c.set_told.new.own.sight c.args.who c.args.moment (rw c.in-Err.is at c.in_ok-reply.ensures.sees)
-    (c.tell_stripe.ensures.begun c.args.who c.args.moment (asked_called c.args.caller.now c.args.who c.args.command c.args.moment c.requires.asked))
+    command_sees g.N.Named.config c.tell_stripe.new.stripe.sight c.set_told.new.own.sight c.args.who c.args.moment (rw c.in-Err.is at c.in_ok-reply.ensures.sees)
+    (record { command = c.args.command; begun = c.tell_stripe.ensures.begun c.args.who c.args.moment (asked_for c.args.command c.args.moment) (asked_called c.args.caller.now c.args.who c.args.command c.args.moment c.requires.asked) })
 
 pub returns-in-Err-clause-replied : goal.returns-in-Err-clause-replied
 returns-in-Err-clause-replied g c =

@@ -4,11 +4,12 @@ use Rattle.mc_item.specs.declared.config.Config.{Config}
 use Rattle.mc_board.specs.Views.{OwnerView}
 use Rattle.mc_segment.specs.ClassState.{ClassView}
 use Rattle.mc_store.specs.Crawls.{CountsLink}
-use Rattle.mc_store.specs.Locked.{HasBegun, IsLockedClass}
+use Rattle.mc_store.specs.Callers.{crawling_of}
+use Rattle.mc_store.specs.Locked.{HasBegunAs, IsLockedClass}
 use Rattle.mc_store.specs.Serving.{class_side}
 use Rattle.mc_store.specs.Sides.{ClassSide}
-use Rattle.mc_store.proofs.CallerLemmas.{begun_sees}
-use Rattle.mc_store.proofs.MadeLemmas.{locked_gains}
+use Rattle.mc_store.proofs.CallerLemmas.{begun_as_sees}
+use Rattle.mc_store.proofs.MadeLemmas.{gains_crawled, locked_gains}
 use Rattle.mc_store.proofs.crawling.crawl_under.Goals as goal
 
 pub invariant_of-class : goal.invariant_of-class
@@ -18,10 +19,12 @@ invariant_of-class g c =
     let made = c.crawl-done in
     let old : ClassSide = class_side c.side.inside.owner c.side.inside.seen c.side.inside.state in
     let new : ClassSide = class_side made.new.self.owner.now made.new.self.seen.now made.new.class in
-    let begun = subst (λ (x : ClassSide). HasBegun config x.sight c.args.who c.args.moment) (sym (c.side.view_is ∙ c.class.view_is)) c.requires.begun in
+    let made_so = gains_crawled old.class.number c.args.who c.args.moment old.class.history new.class.history _ _ made.result made.ensures.reclaims made.ensures.err in
+    let call = crawling_of old.class.number c.args.moment in
+    let begun = subst (λ (x : ClassSide). HasBegunAs config x.sight c.args.who c.args.moment (crawling_of x.class.number c.args.moment)) (sym (c.side.view_is ∙ c.class.view_is)) c.requires.begun in
     subst (IsLockedClass table config) (sym (ap (λ (o : OwnerView). class_side o made.new.self.seen.now made.new.class) c.catch_up_class.ensures))
-    (locked_gains table config old new c.args.who c.args.moment (subst (IsLockedClass table config) (sym c.side.view_is) c.class.invariant) made.ensures.served.kept
-    (begun_sees config old.sight new.sight c.args.who c.args.moment made.ensures.walked.sees begun) made.ensures.walked.sees made.ensures.walked.gains)
+    (locked_gains table config old new c.args.who c.args.moment call (subst (IsLockedClass table config) (sym c.side.view_is) c.class.invariant) made.ensures.served.kept (ap (λ (v : ClassView). v.number) made.ensures.grows.same)
+    (begun_as_sees config old.sight new.sight c.args.who c.args.moment call made.ensures.walked.sees begun) made.ensures.walked.sees made_so.0 made_so.1)
 
 pub returns-clause-counted : goal.returns-clause-counted
 returns-clause-counted g c =

@@ -24,5 +24,5 @@ new-requires-2 g c =
         made_with = search rules;
         keeps = subst (λ (h : List ClassEvent). ClassKeeps (setting_of config) s.class.number h seen) (sym empty) (class_begins (setting_of config) s.class.number seen);
       };
-      called = called_none config s.class.history s.sight empty;
+      called = called_none config s.class.number s.class.history s.sight empty;
     }

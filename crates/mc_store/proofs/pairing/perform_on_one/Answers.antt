@@ -2,6 +2,7 @@ use Rattle.std.proofs.Common.{rules, ◌≡◌, ◌∷◌, [], Err, ap, sym, ◌
 use Rattle.mc_item.specs.declared.fault.Fault.TheVariants.{HistoryFull}
 use Rattle.mc_pull.specs.Perform.{call}
 use Rattle.mc_segment.specs.ClassState.{ClassView}
+use Rattle.mc_store.specs.Callers.{asked_for}
 use Rattle.mc_store.specs.Locked.{IsLockedClass}
 use Rattle.mc_store.specs.Made.{GainsOwn}
 use Rattle.mc_store.specs.Serving.{class_side}
@@ -73,8 +74,8 @@ invariant_of-class g c =
     locked_told g.N.Named.board.table g.N.Named.config (class_side raw_of.owner raw_of.seen raw_of.state) c.hear.new.class c.hear-2.new.self c.tell_owned.new.class c.args.who c.args.moment
     (subst (IsLockedClass g.N.Named.board.table g.N.Named.config) (sym (ap (λ i. i.side) c.class-inside.view_is)) c.class.invariant)
     (subst (λ (v : ClassView). GainsOwn c.args.who c.args.moment raw_of.state.history v.history) (sym (ap (λ (x : ClassSide). x.class) c.hear.ensures.class)) gains)
-    (ap (λ (x : ClassSide). x.sight) c.hear.ensures.class) (ap (λ (x : ClassSide). x.class) c.hear-2.ensures.told) c.hear-2.ensures.grows held c.tell_owned.ensures.class c.tell_owned.ensures.grows
-    (c.tell_owned.ensures.begun c.args.who c.args.moment (noted_called c.args.caller.now put.new.caller c.args.who c.args.command c.args.moment made.new.stripe.site.stripe c.events-place.result c.requires.asked made.result put.ensures.noted put.ensures.unnoted))
+    (ap (λ (x : ClassSide). x.class.number) c.hear.ensures.class ∙ ap (λ (v : ClassView). v.number) grows.0.same) (ap (λ (x : ClassSide). x.sight) c.hear.ensures.class) (ap (λ (x : ClassSide). x.class) c.hear-2.ensures.told) c.hear-2.ensures.grows held c.tell_owned.ensures.class c.tell_owned.ensures.grows
+    (record { command = c.args.command; begun = c.tell_owned.ensures.begun c.args.who c.args.moment (asked_for c.args.command c.args.moment) (noted_called c.args.caller.now put.new.caller c.args.who c.args.command c.args.moment made.new.stripe.site.stripe c.events-place.result c.requires.asked made.result put.ensures.noted put.ensures.unnoted) })
 
 pub returns-in_err-copy-clause-full : goal.returns-in_err-copy-clause-full
 returns-in_err-copy-clause-full g c =
@@ -141,8 +142,8 @@ invariant_of-class-2 g c =
     locked_told g.N.Named.board.table g.N.Named.config (class_side raw_of.owner raw_of.seen raw_of.state) c.hear.new.class c.hear-2.new.self c.tell_owned.new.class c.args.who c.args.moment
     (subst (IsLockedClass g.N.Named.board.table g.N.Named.config) (sym (ap (λ i. i.side) c.class-inside.view_is)) c.class.invariant)
     (subst (λ (v : ClassView). GainsOwn c.args.who c.args.moment raw_of.state.history v.history) (sym (ap (λ (x : ClassSide). x.class) c.hear.ensures.class)) gains)
-    (ap (λ (x : ClassSide). x.sight) c.hear.ensures.class) (ap (λ (x : ClassSide). x.class) c.hear-2.ensures.told) c.hear-2.ensures.grows held c.tell_owned.ensures.class c.tell_owned.ensures.grows
-    (c.tell_owned.ensures.begun c.args.who c.args.moment (noted_called c.args.caller.now put.new.caller c.args.who c.args.command c.args.moment made.new.stripe.site.stripe c.events-place.result c.requires.asked made.result put.ensures.noted put.ensures.unnoted))
+    (ap (λ (x : ClassSide). x.class.number) c.hear.ensures.class ∙ ap (λ (v : ClassView). v.number) grows.0.same) (ap (λ (x : ClassSide). x.sight) c.hear.ensures.class) (ap (λ (x : ClassSide). x.class) c.hear-2.ensures.told) c.hear-2.ensures.grows held c.tell_owned.ensures.class c.tell_owned.ensures.grows
+    (record { command = c.args.command; begun = c.tell_owned.ensures.begun c.args.who c.args.moment (asked_for c.args.command c.args.moment) (noted_called c.args.caller.now put.new.caller c.args.who c.args.command c.args.moment made.new.stripe.site.stripe c.events-place.result c.requires.asked made.result put.ensures.noted put.ensures.unnoted) })
 
 pub returns-in_err-copy-clause-sees : goal.returns-in_err-copy-clause-sees
 returns-in_err-copy-clause-sees g c =

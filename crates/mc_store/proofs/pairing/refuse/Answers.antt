@@ -2,10 +2,11 @@ use Rattle.std.proofs.Common.{ap, refl, sym, subst}
 use Rattle.mc_board.specs.Histories.{Grows, list_at}
 use Rattle.mc_board.specs.Views.{OwnerView}
 use Rattle.mc_board.proofs.PrefixLemmas.{prefix_self}
-use Rattle.mc_store.specs.Locked.{HasBegun, IsLockedClass}
+use Rattle.mc_segment.specs.ClassState.{ClassView}
+use Rattle.mc_store.specs.Locked.{HasBegunCommand, IsLockedClass}
 use Rattle.mc_store.specs.Serving.{class_side}
 use Rattle.mc_store.specs.Sides.{ClassSide, StripeSide}
-use Rattle.mc_store.proofs.CallerLemmas.{begun_sees}
+use Rattle.mc_store.proofs.CallerLemmas.{command_sees}
 use Rattle.mc_store.proofs.MadeLemmas.{gains_refused, locked_told}
 use Rattle.mc_store.proofs.LentLemmas.{class_behind}
 use Rattle.mc_store.proofs.RefusedLemmas.{refusal_grows, refused_after}
@@ -31,8 +32,8 @@ invariant_of-lent g c =
     (ap (λ (o : OwnerView). o.board) c.catch_up_class.ensures) (ap (λ (o : OwnerView). o.lock) c.catch_up_class.ensures) none c.law.ensures.lawful
     c.refuse-place.result c.refuse-place.ensures.ok c.refuse-place.ensures.err in
     let moment = c.requires.begun.0 in
-    let begun = subst (λ (x : StripeSide). HasBegun config x.sight c.args.who moment) (sym c.own.view_is) c.requires.begun.1 in
+    let begun = subst (λ (x : StripeSide). HasBegunCommand config x.sight c.args.who moment) (sym c.own.view_is) c.requires.begun.1 in
     locked_told table config old mid mid c.learn.new.self c.args.who moment kept
     (gains_refused raw.state c.refuse-place.new.self c.args.who moment c.refuse-place.result c.refuse-place.ensures.ok c.refuse-place.ensures.err)
-    refl refl none held c.learn.ensures.class c.learn.ensures.grows
-    (begun_sees config c.own.inside.side.sight c.learn.new.self.sight c.args.who moment c.learn.ensures.learnt begun)
+    (ap (λ (v : ClassView). v.number) (refusal_grows raw.state c.refuse-place.new.self c.args.who c.refuse-place.result c.refuse-place.ensures.ok c.refuse-place.ensures.err).same) refl refl none held c.learn.ensures.class c.learn.ensures.grows
+    (command_sees config c.own.inside.side.sight c.learn.new.self.sight c.args.who moment c.learn.ensures.learnt begun)

@@ -10,7 +10,7 @@ use Rattle.mc_item.specs.declared.item.StripeNo.{StripeNo}
 use Rattle.mc_store.specs.Earned.{HasGivenUp, IsEarnedIn}
 use Rattle.mc_store.specs.Sides.{ClassSide, StripeSide}
 use Rattle.mc_store.proofs.AnswerLemmas.{ready_in}
-use Rattle.mc_store.proofs.CallerLemmas.{begun_sees}
+use Rattle.mc_store.proofs.CallerLemmas.{command_sees}
 use Rattle.mc_store.proofs.readying.ready_on.Goals as goal
 
 pub returns-clause-ready : goal.returns-clause-ready
@@ -37,4 +37,4 @@ returns-clause-earned g c =
     (c.in_ok-search_on.ensures.tried (subst (λ (v : ClassView). IsFull v.chunks (lists_of v.history)) told full))))))
 
 pub room_on-requires-clause-begun : goal.room_on-requires-clause-begun
-room_on-requires-clause-begun g c = (c.args.moment, begun_sees g.N.Named.config c.search_on.new.own.sight c.meet.new.own.sight c.args.who c.args.moment c.meet.ensures.grows c.search_on.ensures.begun)
+room_on-requires-clause-begun g c = (c.args.moment, command_sees g.N.Named.config c.search_on.new.own.sight c.meet.new.own.sight c.args.who c.args.moment c.meet.ensures.grows c.search_on.ensures.begun)

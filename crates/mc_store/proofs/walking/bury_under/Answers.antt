@@ -19,11 +19,11 @@ use Rattle.mc_store.specs.declared.locked.LockedStripe.TheInside as stripes
 use Rattle.mc_store.specs.declared.locked.LockedClass.TheInside as classes
 use Rattle.mc_store.proofs.ServedLemmas.{class_paired, class_told_more, settled_grows, settled_told, short_paired, stripe_paired}
 use Rattle.mc_store.proofs.walking.bury_under.Goals as goal
-use Rattle.mc_store.specs.Locked.{HasBegun, IsLockedClass}
+use Rattle.mc_store.specs.Locked.{HasBegun, HasBegunCommand, IsLockedClass}
 use Rattle.mc_store.specs.Made.{GainsOwn}
 use Rattle.mc_store.specs.Serving.{class_side}
 use Rattle.mc_store.proofs.MadeLemmas.{gains_settled, locked_told}
-use Rattle.mc_store.proofs.CallerLemmas.{begun_sees}
+use Rattle.mc_store.proofs.CallerLemmas.{begun_sees, command_any, command_sees}
 use Rattle.mc_store.proofs.PairLemmas.{grows_trans}
 use Rattle.mc_board.specs.Histories.{Grows}
 
@@ -64,7 +64,7 @@ invariant_of-own g c =
     let agree : AgreeNow lent.state own.state = subst (λ (s : Stripe). AgreeNow lent.state s) (sym s_is) (subst (λ (v : ClassView). AgreeNow v c.meet.new.own.stripe) (sym c_is) c.meet.ensures.met) in
     let q = question c.args.who c.args.link.number Dead c.args.moment in
     let begun = subst (λ (x : StripeSide). HasBegun g.N.Named.config x.sight c.args.who c.args.moment) (sym (own_is ∙ c.own.view_is))
-    (begun_sees g.N.Named.config c.args.own.now.sight c.meet.new.own.sight c.args.who c.args.moment c.meet.ensures.grows c.requires.begun) in
+    (begun_sees g.N.Named.config c.args.own.now.sight c.meet.new.own.sight c.args.who c.args.moment c.meet.ensures.grows (command_any g.N.Named.config c.args.own.now.sight c.args.who c.args.moment c.requires.begun)) in
     let walked = settle_walked _ _ _ _ q c.settle-done.ensures.site c.settle-done.ensures.agreement c.settle-done.result c.settle-done.ensures.settled c.settle-done.ensures.err in
     let grows = settled_grows _ _ _ _ q c.settle-done.result c.settle-done.ensures.settled c.settle-done.ensures.err in
     stripe_paired g.N.Named.board.table g.N.Named.config c.own.inside.side c.class.inside.side c.own.invariant c.class.invariant.held own.state own.owner own.seen own_is lent.state lent.owner lent.seen lent_is
@@ -89,16 +89,16 @@ invariant_of-class g c =
     c.hear.ensures.class c.hear.ensures.told c.hear.ensures.grows c.hear-2.ensures.stripe c.hear-2.ensures.told c.hear-2.ensures.grows in
     let who = c.args.who in
     let moment = c.args.moment in
-    let begun = subst (λ (x : StripeSide). HasBegun g.N.Named.config x.sight who moment) (sym (own_is ∙ c.own.view_is))
-    (begun_sees g.N.Named.config c.args.own.now.sight c.meet.new.own.sight who moment c.meet.ensures.grows c.requires.begun) in
+    let begun = subst (λ (x : StripeSide). HasBegunCommand g.N.Named.config x.sight who moment) (sym (own_is ∙ c.own.view_is))
+    (command_sees g.N.Named.config c.args.own.now.sight c.meet.new.own.sight who moment c.meet.ensures.grows c.requires.begun) in
     let told = grows_trans own.seen.sight c.hear.new.self.sight c.learn.new.self.sight c.hear.ensures.grows
     (subst (λ (x : StripeSide). Grows x.sight c.learn.new.self.sight) c.hear-2.ensures.stripe c.learn.ensures.learnt) in
     let gains = gains_settled lent.state c.settle-done.new.class own.state c.settle-done.new.stripe q c.settle-done.result c.settle-done.ensures.settled c.settle-done.ensures.err in
     locked_told g.N.Named.board.table g.N.Named.config (class_side lent.owner lent.seen lent.state) c.hear.new.class c.hear-2.new.self c.learn.new.self who moment
     (subst (IsLockedClass g.N.Named.board.table g.N.Named.config) (sym lent_is) c.class.invariant)
     (subst (λ (v : ClassView). GainsOwn who moment lent.state.history v.history) (sym (ap (λ (x : ClassSide). x.class) c.hear.ensures.class)) gains)
-    (ap (λ (x : ClassSide). x.sight) c.hear.ensures.class) (ap (λ (x : ClassSide). x.class) c.hear-2.ensures.told) c.hear-2.ensures.grows held c.learn.ensures.class c.learn.ensures.grows
-    (begun_sees g.N.Named.config own.seen.sight c.learn.new.self.sight who moment told begun)
+    (ap (λ (x : ClassSide). x.class.number) c.hear.ensures.class ∙ ap (λ (v : ClassView). v.number) grows.same) (ap (λ (x : ClassSide). x.sight) c.hear.ensures.class) (ap (λ (x : ClassSide). x.class) c.hear-2.ensures.told) c.hear-2.ensures.grows held c.learn.ensures.class c.learn.ensures.grows
+    (command_sees g.N.Named.config own.seen.sight c.learn.new.self.sight who moment told begun)
 
 pub invariant_of-own-2 : goal.invariant_of-own-2
 invariant_of-own-2 g c =
@@ -111,7 +111,7 @@ invariant_of-own-2 g c =
     let agree : AgreeNow lent.state own.state = subst (λ (s : Stripe). AgreeNow lent.state s) (sym s_is) (subst (λ (v : ClassView). AgreeNow v c.meet.new.own.stripe) (sym c_is) c.meet.ensures.met) in
     let q = question c.args.who c.args.link.number Dead c.args.moment in
     let begun = subst (λ (x : StripeSide). HasBegun g.N.Named.config x.sight c.args.who c.args.moment) (sym (own_is ∙ c.own.view_is))
-    (begun_sees g.N.Named.config c.args.own.now.sight c.meet.new.own.sight c.args.who c.args.moment c.meet.ensures.grows c.requires.begun) in
+    (begun_sees g.N.Named.config c.args.own.now.sight c.meet.new.own.sight c.args.who c.args.moment c.meet.ensures.grows (command_any g.N.Named.config c.args.own.now.sight c.args.who c.args.moment c.requires.begun)) in
     let walked = settle_walked _ _ _ _ q c.settle-done.ensures.site c.settle-done.ensures.agreement c.settle-done.result c.settle-done.ensures.settled c.settle-done.ensures.err in
     let grows = settled_grows _ _ _ _ q c.settle-done.result c.settle-done.ensures.settled c.settle-done.ensures.err in
     stripe_paired g.N.Named.board.table g.N.Named.config c.own.inside.side c.class.inside.side c.own.invariant c.class.invariant.held own.state own.owner own.seen own_is lent.state lent.owner lent.seen lent_is
@@ -136,16 +136,16 @@ invariant_of-class-2 g c =
     c.hear.ensures.class c.hear.ensures.told c.hear.ensures.grows c.hear-2.ensures.stripe c.hear-2.ensures.told c.hear-2.ensures.grows in
     let who = c.args.who in
     let moment = c.args.moment in
-    let begun = subst (λ (x : StripeSide). HasBegun g.N.Named.config x.sight who moment) (sym (own_is ∙ c.own.view_is))
-    (begun_sees g.N.Named.config c.args.own.now.sight c.meet.new.own.sight who moment c.meet.ensures.grows c.requires.begun) in
+    let begun = subst (λ (x : StripeSide). HasBegunCommand g.N.Named.config x.sight who moment) (sym (own_is ∙ c.own.view_is))
+    (command_sees g.N.Named.config c.args.own.now.sight c.meet.new.own.sight who moment c.meet.ensures.grows c.requires.begun) in
     let told = grows_trans own.seen.sight c.hear.new.self.sight c.learn.new.self.sight c.hear.ensures.grows
     (subst (λ (x : StripeSide). Grows x.sight c.learn.new.self.sight) c.hear-2.ensures.stripe c.learn.ensures.learnt) in
     let gains = gains_settled lent.state c.settle-done.new.class own.state c.settle-done.new.stripe q c.settle-done.result c.settle-done.ensures.settled c.settle-done.ensures.err in
     locked_told g.N.Named.board.table g.N.Named.config (class_side lent.owner lent.seen lent.state) c.hear.new.class c.hear-2.new.self c.learn.new.self who moment
     (subst (IsLockedClass g.N.Named.board.table g.N.Named.config) (sym lent_is) c.class.invariant)
     (subst (λ (v : ClassView). GainsOwn who moment lent.state.history v.history) (sym (ap (λ (x : ClassSide). x.class) c.hear.ensures.class)) gains)
-    (ap (λ (x : ClassSide). x.sight) c.hear.ensures.class) (ap (λ (x : ClassSide). x.class) c.hear-2.ensures.told) c.hear-2.ensures.grows held c.learn.ensures.class c.learn.ensures.grows
-    (begun_sees g.N.Named.config own.seen.sight c.learn.new.self.sight who moment told begun)
+    (ap (λ (x : ClassSide). x.class.number) c.hear.ensures.class ∙ ap (λ (v : ClassView). v.number) grows.same) (ap (λ (x : ClassSide). x.sight) c.hear.ensures.class) (ap (λ (x : ClassSide). x.class) c.hear-2.ensures.told) c.hear-2.ensures.grows held c.learn.ensures.class c.learn.ensures.grows
+    (command_sees g.N.Named.config own.seen.sight c.learn.new.self.sight who moment told begun)
 
 pub returns-in_err-done-clause-full : goal.returns-in_err-done-clause-full
 returns-in_err-done-clause-full g c = λ is.

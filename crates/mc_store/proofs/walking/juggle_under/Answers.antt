@@ -6,12 +6,13 @@ use Rattle.mc_segment.specs.ClassState.{ClassView}
 use Rattle.mc_pull.specs.Juggle.{IsJuggle}
 use Rattle.mc_pull.specs.Rounds.{rounds}
 use Rattle.mc_pull.specs.declared.looking.Answer.{Answer}
-use Rattle.mc_store.specs.Locked.{HasBegun, IsLockedClass}
+use Rattle.mc_store.specs.Callers.{juggling_of}
+use Rattle.mc_store.specs.Locked.{HasBegunAs, IsLockedClass}
 use Rattle.mc_store.specs.Serving.{class_side}
 use Rattle.mc_store.specs.Sides.{ClassSide}
-use Rattle.mc_store.proofs.CallerLemmas.{begun_sees}
+use Rattle.mc_store.proofs.CallerLemmas.{begun_as_sees}
 use Rattle.mc_store.proofs.GateLemmas.{ok_more}
-use Rattle.mc_store.proofs.MadeLemmas.{locked_gains}
+use Rattle.mc_store.proofs.MadeLemmas.{locked_gains, of_juggling}
 use Rattle.mc_store.proofs.walking.juggle_under.Goals as goal
 
 pub returns-clause-juggle : goal.returns-clause-juggle
@@ -30,7 +31,8 @@ invariant_of-class g c =
     let made = c.juggle-moves in
     let old : ClassSide = class_side c.side.inside.owner c.side.inside.seen c.side.inside.state in
     let new : ClassSide = class_side made.new.self.owner.now made.new.self.seen.now made.new.class in
-    let begun = subst (λ (x : ClassSide). HasBegun config x.sight c.args.who c.args.moment) (sym (c.side.view_is ∙ c.class.view_is)) c.requires.begun in
+    let call = juggling_of old.class.number c.args.moment in
+    let begun = subst (λ (x : ClassSide). HasBegunAs config x.sight c.args.who c.args.moment (juggling_of x.class.number c.args.moment)) (sym (c.side.view_is ∙ c.class.view_is)) c.requires.begun in
     subst (IsLockedClass table config) (sym (ap (λ (o : OwnerView). class_side o made.new.self.seen.now made.new.class) c.catch_up_class.ensures))
-    (locked_gains table config old new c.args.who c.args.moment (subst (IsLockedClass table config) (sym c.side.view_is) c.class.invariant) made.ensures.served.kept
-    (begun_sees config old.sight new.sight c.args.who c.args.moment made.ensures.walked.sees begun) made.ensures.walked.sees made.ensures.walked.gains)
+    (locked_gains table config old new c.args.who c.args.moment call (subst (IsLockedClass table config) (sym c.side.view_is) c.class.invariant) made.ensures.served.kept (ap (λ (v : ClassView). v.number) made.ensures.grows.same)
+    (begun_as_sees config old.sight new.sight c.args.who c.args.moment call made.ensures.walked.sees begun) made.ensures.walked.sees made.ensures.walked.gains (of_juggling old.class.number made.ensures.walked.gains.events c.args.moment))

@@ -16,10 +16,10 @@ use Rattle.mc_store.proofs.GateLemmas.{ok_more, room_full}
 use Rattle.mc_store.proofs.PairLemmas.{grows_trans}
 use Rattle.mc_store.proofs.ServedLemmas.{stripe_heard}
 use Rattle.mc_store.proofs.walking.make_room_under.Goals as goal
-use Rattle.mc_store.specs.Locked.{HasBegun, IsLockedClass}
+use Rattle.mc_store.specs.Locked.{HasBegunCommand, IsLockedClass}
 use Rattle.mc_store.specs.Serving.{class_side}
-use Rattle.mc_store.proofs.MadeLemmas.{locked_gains}
-use Rattle.mc_store.proofs.CallerLemmas.{begun_sees}
+use Rattle.mc_store.proofs.MadeLemmas.{locked_commanded}
+use Rattle.mc_store.proofs.CallerLemmas.{command_any, command_sees}
 
 pub invariant_of-own : goal.invariant_of-own
 invariant_of-own g c =
@@ -69,8 +69,9 @@ returns-clause-full g c = λ is.
 
 pub make_room_with-found-requires-clause-begun : goal.make_room_with-found-requires-clause-begun
 make_room_with-found-requires-clause-begun g c =
-    subst (λ (x : ClassSide). HasBegun g.N.Named.config x.sight c.args.who c.args.moment) (sym (c.side.view_is ∙ c.class.view_is))
-    (begun_sees g.N.Named.config c.args.own.now.sight c.learn_from.new.self.sight c.args.who c.args.moment c.learn_from.ensures.learnt c.requires.begun)
+    command_any g.N.Named.config c.side.inside.seen.sight c.args.who c.args.moment
+    (subst (λ (x : ClassSide). HasBegunCommand g.N.Named.config x.sight c.args.who c.args.moment) (sym (c.side.view_is ∙ c.class.view_is))
+    (command_sees g.N.Named.config c.args.own.now.sight c.learn_from.new.self.sight c.args.who c.args.moment c.learn_from.ensures.learnt c.requires.begun))
 
 pub invariant_of-class : goal.invariant_of-class
 invariant_of-class g c =
@@ -80,22 +81,22 @@ invariant_of-class g c =
     let new = made.new in
     let old : ClassSide = class_side c.side.inside.owner c.side.inside.seen c.side.inside.state in
     let mid : ClassSide = class_side new.owner new.seen new.class in
-    let begun = subst (λ (x : ClassSide). HasBegun config x.sight c.args.who c.args.moment) (sym (c.side.view_is ∙ c.class.view_is))
-    (begun_sees config c.args.own.now.sight c.learn_from.new.self.sight c.args.who c.args.moment c.learn_from.ensures.learnt c.requires.begun) in
+    let begun = subst (λ (x : ClassSide). HasBegunCommand config x.sight c.args.who c.args.moment) (sym (c.side.view_is ∙ c.class.view_is))
+    (command_sees config c.args.own.now.sight c.learn_from.new.self.sight c.args.who c.args.moment c.learn_from.ensures.learnt c.requires.begun) in
     let last : c.hear.new.class ≡ mid =
     c.hear.ensures.class
     ∙ (ap (λ (x : SeenView). class_side c.catch_up_class.new.owner x new.class) c.learn.ensures.other ∙ ap (λ (o : OwnerView). class_side o new.seen new.class) c.catch_up_class.ensures) in
     subst (IsLockedClass table config) (sym last)
-    (locked_gains table config old mid c.args.who c.args.moment (subst (IsLockedClass table config) (sym c.side.view_is) c.class.invariant) made.ensures.served.kept
-    (begun_sees config old.sight mid.sight c.args.who c.args.moment made.ensures.walked.sees begun) made.ensures.walked.sees made.ensures.walked.gains)
+    (locked_commanded table config old mid c.args.who c.args.moment (subst (IsLockedClass table config) (sym c.side.view_is) c.class.invariant) made.ensures.served.kept (ap (λ (v : ClassView). v.number) made.ensures.class.same)
+    (command_sees config old.sight mid.sight c.args.who c.args.moment made.ensures.walked.sees begun) made.ensures.walked.sees made.ensures.walked.gains)
 
 pub returns-clause-begun : goal.returns-clause-begun
 returns-clause-begun g c =
     let config = g.N.Named.config in
-    let begun = subst (λ (x : ClassSide). HasBegun config x.sight c.args.who c.args.moment) (sym (c.side.view_is ∙ c.class.view_is))
-    (begun_sees config c.args.own.now.sight c.learn_from.new.self.sight c.args.who c.args.moment c.learn_from.ensures.learnt c.requires.begun) in
+    let begun = subst (λ (x : ClassSide). HasBegunCommand config x.sight c.args.who c.args.moment) (sym (c.side.view_is ∙ c.class.view_is))
+    (command_sees config c.args.own.now.sight c.learn_from.new.self.sight c.args.who c.args.moment c.learn_from.ensures.learnt c.requires.begun) in
     let seen = c.make_room_with-found.new.seen.sight in
     let told = c.learn.new.self.sight in
-    begun_sees g.N.Named.config c.side.inside.seen.sight c.hear.new.self.sight c.args.who c.args.moment
+    command_sees g.N.Named.config c.side.inside.seen.sight c.hear.new.self.sight c.args.who c.args.moment
     (grows_trans c.side.inside.seen.sight seen c.hear.new.self.sight c.make_room_with-found.ensures.walked.sees (grows_trans seen told c.hear.new.self.sight c.learn.ensures.theirs c.hear.ensures.grows))
     begun

@@ -6,10 +6,10 @@ use Rattle.mc_store.proofs.CallerLemmas.{called_told, told_begun}
 use Rattle.mc_store.proofs.caller.Caller.tell.Goals as goal
 
 pub returns-clause-begun : goal.returns-clause-begun
-returns-clause-begun g c = λ who moment called.
+returns-clause-begun g c = λ who moment call called.
     let config = g.N.Named.config in
     let owner = c.self.inside.owner in
     let view : CallerView = record { number = c.self.inside.number; calls = call_events owner.history } in
     told_begun config view c.args.seen.now c.tell.new.seen c.self.invariant.0
     (called_told c.args.seen.now c.tell.new.seen owner.lock (caller_place config c.self.inside.number) owner.history c.tell.ensures.whole c.self.invariant.2 c.self.invariant.3)
-    who moment (subst (λ (v : CallerView). HasCalled v who moment) (sym c.self.view_is) called)
+    who moment call (subst (λ (v : CallerView). HasCalled v who moment call) (sym c.self.view_is) called)

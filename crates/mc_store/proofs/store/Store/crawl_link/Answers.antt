@@ -5,9 +5,11 @@ use Rattle.mc_board.specs.declared.rule.Sight.{Sight}
 use Rattle.mc_crawl.specs.Crawl.{Reclaims}
 use Rattle.mc_segment.specs.ClassState.{ClassView}
 use Rattle.mc_pull.specs.Growth as classes
+use Rattle.mc_item.specs.declared.item.ClassNo.{ClassNo}
+use Rattle.mc_store.specs.Callers.{crawling_of}
 use Rattle.mc_store.specs.Crawls.{CountsLink, IsLinkCounted, ShowsReclaims}
 use Rattle.mc_store.specs.Finals.{IsBehindAt}
-use Rattle.mc_store.specs.Locked.{IsHeldClass, class_lock}
+use Rattle.mc_store.specs.Locked.{HasBegunAs, IsHeldClass, class_lock}
 use Rattle.mc_store.specs.Passes.{PassView, HasCalled, caller_of}
 use Rattle.mc_store.specs.Sides.{ClassSide, class_told}
 use Rattle.mc_store.proofs.CrawledLemmas.{link_counted, on_ok_more, shows_one}
@@ -65,7 +67,12 @@ returns-clause-full g c = λ is.
 
 pub crawl_under-done-requires-clause-begun : goal.crawl_under-done-requires-clause-begun
 crawl_under-done-requires-clause-begun g c =
-    c.tell_class.ensures.begun c.args.who c.args.moment (subst (λ (p : PassView). HasCalled (caller_of p) c.args.who c.args.moment) (sym c.pass.view_is) c.requires.called)
+    let call = crawling_of c.args.class c.args.moment in
+    let same : c.compare.new.self ≡ c.own.inside.side = c.compare.ensures.same.0 in
+    let number : c.tell_class.new.class.class.number ≡ c.args.class =
+    ap (λ (x : ClassSide). x.class.number) c.tell_class.ensures.class ∙ (ap (λ (x : ClassSide). x.class.number) (same ∙ (c.own.view_is ∙ c.deref_mut-own.ensures.value)) ∙ c.lock_class-guard.ensures) in
+    let begun = c.tell_class.ensures.begun c.args.who c.args.moment call (subst (λ (p : PassView). HasCalled (caller_of p) c.args.who c.args.moment call) (sym c.pass.view_is) c.requires.called) in
+    subst (λ (n : ClassNo). HasBegunAs g.N.Named.config c.tell_class.new.class.sight c.args.who c.args.moment (crawling_of n c.args.moment)) (sym number) begun
 
 pub returns-clause-sound : goal.returns-clause-sound
 returns-clause-sound g c =

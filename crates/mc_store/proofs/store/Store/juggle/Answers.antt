@@ -10,7 +10,8 @@ use Rattle.mc_pull.specs.Rounds.{rounds}
 use Rattle.mc_pull.specs.declared.looking.Answer.{Answer}
 use Rattle.mc_store.specs.Calls.{IsJuggledBy}
 use Rattle.mc_store.specs.Finals.{IsBehindAt}
-use Rattle.mc_store.specs.Locked.{IsHeldClass}
+use Rattle.mc_item.specs.declared.item.ClassNo.{ClassNo}
+use Rattle.mc_store.specs.Locked.{HasBegunAs, IsHeldClass}
 use Rattle.mc_store.specs.Passes.{PassView, HasCalled, caller_of}
 use Rattle.mc_store.specs.Sides.{ClassSide, class_told}
 use Rattle.mc_store.proofs.GrownLemmas.{fails_full, juggled_so}
@@ -68,4 +69,9 @@ pub juggle_under-moves-requires : goal.juggle_under-moves-requires
 juggle_under-moves-requires g c =
     let turn = c.in_ok-who.ensures.turn in
     let called = called_now c.args.pass.now c.take_turn.new.self (juggling_of c.args.class c.args.moment) c.in_ok-who.who c.args.moment (ap (λ (p : PassView). p.caller) turn) (ap (λ (p : PassView). p.calls) turn) c.in_ok-who.ensures.who c.in_ok-who.ensures.turns refl in
-    record { begun = c.tell_class.ensures.begun c.in_ok-who.who c.args.moment (subst (λ (p : PassView). HasCalled (caller_of p) c.in_ok-who.who c.args.moment) (sym c.pass.view_is) called) }
+    let call = juggling_of c.args.class c.args.moment in
+    let same : c.compare.new.self ≡ c.own.inside.side = c.compare.ensures.same.0 in
+    let number : c.tell_class.new.class.class.number ≡ c.args.class =
+    ap (λ (x : ClassSide). x.class.number) c.tell_class.ensures.class ∙ (ap (λ (x : ClassSide). x.class.number) (same ∙ (c.own.view_is ∙ c.deref_mut-own.ensures.value)) ∙ c.lock_class-guard.ensures) in
+    let begun = c.tell_class.ensures.begun c.in_ok-who.who c.args.moment call (subst (λ (p : PassView). HasCalled (caller_of p) c.in_ok-who.who c.args.moment call) (sym c.pass.view_is) called) in
+    record { begun = subst (λ (n : ClassNo). HasBegunAs g.N.Named.config c.tell_class.new.class.sight c.in_ok-who.who c.args.moment (juggling_of n c.args.moment)) (sym number) begun }
