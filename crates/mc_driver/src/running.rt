@@ -146,7 +146,10 @@ fn run_named<N: Named + Send + Sync, S: Source + Send, K: Sink + Send, R: Thread
 /// once: each on a thread of its own, and where there are moments of upkeep, the maintainer and the crawler, too. Where a
 /// thread can't be had, the one that was to start it does its work. Script i is caller i; of n scripts the maintainer is
 /// caller n, the crawler caller n + 1. Each script's bytes come from its source, and its replies go to its sink. `seed` is
-/// that of the store's hash; no reply depends on it.
+/// that of the store's hash; no reply depends on it. Moments are whole seconds, at most 2^62.
+///
+/// The error is `Scripts` for no script or more than 62, else `Configuration` where that isn't sound for so many, else
+/// `NoMemory` where a growth was refused before the first script began.
 pub fn run_scripts<S: Source + Send, K: Sink + Send, R: Threads + Wait + Sync>(
     rt: &R,
     alloc: Global,
