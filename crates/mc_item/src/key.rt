@@ -82,26 +82,11 @@ fn is_key_byte(byte: u8) -> bool
     !(byte == 0 || byte == 10 || byte == 13 || byte == 32)
 }
 
-// Whether each byte may stand in a key, one by one.
-#[inline(always)]
-fn are_each_key_bytes(bytes: &[u8]) -> bool
-    ensures { result ≡ list_all Rattle.mc_item.specs.Key.is_key_byte bytes.now }
-{
-    bytes.iter().all(|byte| is_key_byte(*byte))
-}
-
-// Whether each byte may stand in a key, four at a time.
+// Whether each byte may stand in a key.
 fn are_key_bytes(bytes: &[u8]) -> bool
     ensures { result ≡ list_all Rattle.mc_item.specs.Key.is_key_byte bytes.now }
 {
-    let mut rest = bytes;
-    while let [a, b, c, d, more @ ..] = rest {
-        if !(is_key_byte(*a) && is_key_byte(*b) && is_key_byte(*c) && is_key_byte(*d)) {
-            return false;
-        }
-        rest = more;
-    }
-    are_each_key_bytes(rest)
+    bytes.iter().all(|byte| is_key_byte(*byte))
 }
 
 // What is wrong with the bytes, memory left aside.
@@ -132,8 +117,7 @@ fn bytes_for(alloc: Global, bytes: &[u8]) -> Result<Named, AllocError>
 }
 
 impl Key {
-    /// The key of these bytes, 1 to 250 (protocol.txt, "Keys"). The error is the first that is wrong with them, or
-    /// `NoMemory` where they are fine and a key of more than 30 bytes found no memory.
+    /// The key of these bytes.
     pub fn of(alloc: Global, bytes: &[u8]) -> Result<Key, KeyFault>
         ensures ok { IfOk result (λ key. (key ≡ bytes.now) × (key_fault_of bytes.now ≡ None)) }
         ensures err { IfErr result (λ fault. MatchOption (key_fault_of bytes.now) (fault ≡ faults.NoMemory) (λ first. fault ≡ first)) }

@@ -13,7 +13,7 @@ pub struct KeyBuffer {
 }
 
 impl KeyBuffer {
-    /// A new buffer for a key of at most 250 bytes. `NoMemory` is answered where it found none.
+    /// A new buffer.
     pub fn new(alloc: Global) -> Result<KeyBuffer, NoMemory> {
         Ok(KeyBuffer {
             bytes: Vec::with_capacity(alloc, MAX_KEY_LEN)?,

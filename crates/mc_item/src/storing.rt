@@ -166,8 +166,7 @@ impl Site {
         }
     }
 
-    /// The answer to a storage command. The cas number of a new version is below 2^64. `NoMemory` is answered where the
-    /// new version's value found none.
+    /// The answer to a storage command. The cas number of a new version is below 2^64.
     pub fn store_answer(
         &self,
         versions: u64,
