@@ -130,7 +130,8 @@ impl Site {
 
     /// The answer to a command at a moment of at most 2^62, after a number of versions, where its key's item is
     /// `found`, absent or alive, and the room fits what the command needs. Where the command is known to need a chunk
-    /// of a class, that class isn't sought. The cas number of a new version is below 2^64.
+    /// of a class, that class isn't sought. The cas number of a new version is below 2^64. `NoMemory` is answered where a
+    /// new value or a copy of one found none.
     #[inline(always)]
     pub fn answer(
         &self,

@@ -64,7 +64,7 @@ impl Command {
         }
     }
 
-    /// An equal command.
+    /// An equal command. `NoMemory` is answered where its key or its value found none.
     pub fn copy(&self, alloc: Global) -> Result<Command, NoMemory>
         ensures { IfOk result (λ command. command ≡ self.now) }
     {

@@ -141,7 +141,8 @@ fn is_rising(numbers: &[u64]) -> bool
 }
 
 impl Config {
-    /// One stripe, the 43 usual sizes with 1,024 chunks each, and as many callers as are handed in.
+    /// One stripe, the 43 usual sizes with 1,024 chunks each, and as many callers as are handed in. `NoMemory` is answered
+    /// where the lists of sizes and chunks found none.
     pub fn usual(alloc: Global, callers: u32) -> Result<Config, NoMemory>
         ensures { IfOk result (λ config. config ≡ usual_config callers) }
     {

@@ -223,7 +223,7 @@ impl Site {
     }
 
     /// The answer to `incr` or `decr`. Where it is known to need a chunk of a class, that class isn't sought. The cas
-    /// number of a new version is below 2^64.
+    /// number of a new version is below 2^64. `NoMemory` is answered where the new number's bytes found none.
     pub fn count_answer(
         &self,
         alloc: Global,

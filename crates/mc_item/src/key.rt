@@ -117,7 +117,8 @@ fn bytes_for(alloc: Global, bytes: &[u8]) -> Result<Named, AllocError>
 }
 
 impl Key {
-    /// The key of these bytes.
+    /// The key of these bytes, 1 to 250 (protocol.txt, "Keys"). The error is the first that is wrong with them, or
+    /// `NoMemory` where they are fine and a key of more than 30 bytes found no memory.
     pub fn of(alloc: Global, bytes: &[u8]) -> Result<Key, KeyFault>
         ensures ok { IfOk result (λ key. (key ≡ bytes.now) × (key_fault_of bytes.now ≡ None)) }
         ensures err { IfErr result (λ fault. MatchOption (key_fault_of bytes.now) (fault ≡ faults.NoMemory) (λ first. fault ≡ first)) }

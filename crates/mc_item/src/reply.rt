@@ -42,7 +42,7 @@ pub enum Room {
 }
 
 impl Reply {
-    /// An equal reply.
+    /// An equal reply. `NoMemory` is answered where its value found none.
     pub fn copy(&self) -> Result<Reply, NoMemory>
         ensures { IfOk result (λ reply. reply ≡ self.now) }
     {

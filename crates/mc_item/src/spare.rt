@@ -13,7 +13,7 @@ pub struct KeyBuffer {
 }
 
 impl KeyBuffer {
-    /// A new buffer.
+    /// A new buffer for a key of at most 250 bytes. `NoMemory` is answered where it found none.
     pub fn new(alloc: Global) -> Result<KeyBuffer, NoMemory> {
         Ok(KeyBuffer {
             bytes: Vec::with_capacity(alloc, MAX_KEY_LEN)?,

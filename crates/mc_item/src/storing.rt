@@ -166,7 +166,8 @@ impl Site {
         }
     }
 
-    /// The answer to a storage command. The cas number of a new version is below 2^64.
+    /// The answer to a storage command. The cas number of a new version is below 2^64. `NoMemory` is answered where the
+    /// new version's value found none.
     pub fn store_answer(
         &self,
         versions: u64,

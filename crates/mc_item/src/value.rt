@@ -90,7 +90,8 @@ fn put_spaces(bytes: &mut [u8])
 }
 
 impl Value {
-    /// The value of these bytes, which aren't copied.
+    /// The value of these bytes, which aren't copied. `NoMemory` is answered where the count of those who share it found
+    /// none.
     pub fn of(alloc: Global, bytes: Vec<u8>) -> Result<Value, NoMemory>
         ensures { IfOk result (λ value. value ≡ bytes.items) }
     {
@@ -100,6 +101,7 @@ impl Value {
     }
 
     /// The value of bytes that others share, which aren't copied. Their whole block stays in memory as long as the value.
+    /// `NoMemory` is answered where the count of those who share the value found none.
     pub fn of_part(alloc: Global, bytes: Bytes) -> Result<Value, NoMemory>
         ensures { IfOk result (λ value. value ≡ bytes) }
     {
@@ -128,7 +130,7 @@ impl Value {
         }
     }
 
-    /// An equal value. It has the same bytes in memory.
+    /// An equal value. It has the same bytes in memory; `NoMemory` is answered where no more may share them.
     #[inline(always)]
     pub fn copy(&self) -> Result<Value, NoMemory>
         ensures { IfOk result (λ value. value ≡ self.now) }

@@ -57,7 +57,8 @@ fn pass_script(alloc: Global, limits: Limits, uncut: &mut Uncut) -> Result<Optio
 }
 
 /// The scripts of an input that lies in pieces, as `split_scripts` cuts its bytes. A piece in which no script begins or
-/// ends moves to its script whole; of another one each script has a copy of its part.
+/// ends moves to its script whole; of another one each script has a copy of its part. `NoMemory` is answered where a growth
+/// was refused.
 pub fn split_pieces(
     alloc: Global,
     input: VecDeque<Vec<u8>>,

@@ -135,7 +135,7 @@ fn end_of_first(alloc: Global, limits: Limits, bytes: &[u8]) -> Result<Option<En
 
 /// The scripts of an input, as they would be read one after the other. A `%next` within a block is part of the block,
 /// and nothing behind a line that is too long begins a script. No byte is copied; the lines between the scripts are part
-/// of none.
+/// of none. `NoMemory` is answered where a growth was refused.
 pub fn split_scripts<'a>(
     alloc: Global,
     bytes: &'a [u8],

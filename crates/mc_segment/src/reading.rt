@@ -121,7 +121,7 @@ impl ClassState {
         self.lists.entry(number)
     }
 
-    /// A copy of the key of an entry that is in a list.
+    /// A copy of the key of an entry that is in a list. `NoMemory` is answered where a key of more than 30 bytes found none.
     pub fn key(&self, number: u64) -> Result<Key, NoMemory>
         requires there { IsListed number (lists_of self.now.history) }
         ensures { IfOk result (λ key. IsSomeAnd (entry_of number (lists_of self.now.history)) (λ e. key ≡ e.key)) }

@@ -64,7 +64,9 @@ impl StripeState {
         }
     }
 
-    /// Answers a command at a moment, and notes that as one event. The room is one that fits the command's need.
+    /// Answers a command at a moment of at most 2^62 seconds, and notes that as one event. The key is one of the stripe, its
+    /// item is alive or absent, and the room fits the command's need. `HistoryFull` is answered where the history has no
+    /// place left, `NoMemory` where a growth was refused; then nothing happened.
     pub fn apply(
         &mut self,
         who: Who,
@@ -87,8 +89,8 @@ impl StripeState {
         Ok(copy.unwrap())
     }
 
-    /// Answers a command as `apply` does. A copy of the reply is made where one is asked for; the reply stands in the
-    /// history, at the place that was its end.
+    /// Answers a command as `apply` does, with the same errors. A copy of the reply is made where one is asked for; the
+    /// reply stands in the history, at the place that was its end.
     pub fn apply_with(
         &mut self,
         who: Who,

@@ -48,8 +48,8 @@ impl StripeState {
         Ok(())
     }
 
-    /// An item goes that is dead at the moment (items.c and crawler.c reclaim such items). With room left it takes
-    /// no memory.
+    /// An item goes that is dead at the moment (items.c and crawler.c reclaim such items). `HistoryFull` is answered where
+    /// the history has no place left. With room left it takes no memory.
     pub fn forget_expired(&mut self, who: Who, key: Key, moment: u64) -> Result<(), Fault>
         requires { IsDead ((cache_now self.old).items key) moment }
         ensures ok { OnOk result (Gains self.old self.new (events.Lost (record { who = who; key = key; cause = causes.Expired moment }))) }
@@ -62,8 +62,8 @@ impl StripeState {
         self.lose(who, key, Cause::Expired(moment))
     }
 
-    /// An item goes whose chunk of this class was taken, by the event at this place of the class. With room left it
-    /// takes no memory.
+    /// An item goes whose chunk of this class was taken, by the event at this place of the class. `HistoryFull` is answered
+    /// where the history has no place left. With room left it takes no memory.
     pub fn forget_taken(
         &mut self,
         who: Who,
@@ -82,7 +82,8 @@ impl StripeState {
         self.lose(who, key, Cause::Taken { class, place })
     }
 
-    /// Clears the ACTIVE mark of an item that has it, and nothing else of it. With room left it takes no memory.
+    /// Clears the ACTIVE mark of an item that has it, and nothing else of it. `HistoryFull` is answered where the history
+    /// has no place left. With room left it takes no memory.
     pub fn cool(&mut self, who: Who, key: Key) -> Result<(), Fault>
         requires { IsSomeAnd ((cache_now self.old).items key) (λ item. item.marks.active ≡ true) }
         ensures ok { OnOk result (Gains self.old self.new (events.Cooled (record { who = who; key = key }))) }

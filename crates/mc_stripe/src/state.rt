@@ -105,7 +105,8 @@ impl StripeState {
         &self.history
     }
 
-    /// Makes room for n more events, of which each call that takes no memory then needs one.
+    /// Makes room for n more events, of which each call that takes no memory then needs one. `HistoryFull` is answered where
+    /// the history has fewer than n places left, `NoMemory` where a growth was refused.
     #[inline(always)]
     pub fn reserve(&mut self, n: usize) -> Result<(), Fault>
         ensures ok { OnOk result (n ≤ self.new.room) }
