@@ -61,6 +61,10 @@ impl ShortBytes {
         ensures { result ≡ bytes.now }
     {
         let mut table = [0; 30];
+        // One byte goes alone, so that the compiler clears the whole table and not, by a call, what the copy leaves of it.
+        if let Some(first) = bytes.first() {
+            table[0] = *first;
+        }
         table[..bytes.len()].copy_from_slice(bytes);
         ShortBytes {
             count: bytes.len() as u8,

@@ -1,5 +1,7 @@
 -- Texts that are joined.
-use Rattle.std.proofs.Common.{◌≡◌, ◌++◌, ◌∷◌, [], ◌+◌, ◌<◌, ℕ, List, length, ap, sym, ◌∙◌, append_assoc, append-nil, take, get_or, arith, suc}
+use Rattle.std.proofs.Common.{◌≡◌, ◌++◌, ◌∷◌, [], ◌+◌, ◌<◌, ◌≤◌, ℕ, List, length, refl, ap, sym, ◌∙◌, append_assoc, append-nil, take, get_or, arith, suc}
+use Rattle.std.specs.Prelude.{decimal, ◌/◌, ◌%◌}
+use Rattle.std.proofs.lemmas.Fmt.{decimal_digit, decimal_step}
 use Rattle.std.proofs.lemmas.List.{take-append-le, take_all, take_more, length-take-le}
 use Rattle.mc_proto.specs.Text.{minute_text, minutes_text}
 
@@ -26,3 +28,16 @@ minutes_more old now next ns i n is l at more =
     ∙ ap (λ (k : ℕ). minutes_text 0 (take i ns) ++ minute_text k (get_or ns i 0)) place
     ∙ ap (λ (m : ℕ). minutes_text 0 (take i ns) ++ minute_text i m) (sym at) in
     more ∙ ap (λ (t : List ℕ). t ++ minute_text i n) is ∙ append_assoc old (minutes_text 0 (take i ns)) (minute_text i n) ∙ ap (λ (t : List ℕ). old ++ t) (sym grown)
+
+-- the digits of a number of two
+pub decimal_of_two : (n : ℕ) → 10 ≤ n → n < 100 → decimal n ≡ (48 + n / 10 % 10) ∷ (48 + n % 10) ∷ []
+decimal_of_two n least most =
+    let small : n / 10 % 10 ≡ n / 10 = omega arith in
+    decimal_step n least (omega arith) ∙ rw (small, decimal_digit (n / 10) (omega arith)) refl
+
+-- the digits of a number of three
+pub decimal_of_three : (n : ℕ) → 100 ≤ n → n < 1000 → decimal n ≡ (48 + n / 100) ∷ (48 + n / 10 % 10) ∷ (48 + n % 10) ∷ []
+decimal_of_three n least most =
+    let front : n / 10 / 10 % 10 ≡ n / 100 = omega arith in
+    let two = decimal_of_two (n / 10) (omega arith) (omega arith) in
+    decimal_step n (omega arith) (omega arith) ∙ rw (two, front) refl

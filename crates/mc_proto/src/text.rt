@@ -1,5 +1,5 @@
 //! The texts of replies.
-ghost use Rattle.std.specs.Prelude.{◌≡◌, ◌++◌, ◌∷◌, [], ℕ, List, IfOk, OnOk, OnErr, length, codes, decimal};
+ghost use Rattle.std.specs.Prelude.{◌≡◌, ◌++◌, ◌∷◌, [], ℕ, List, IfOk, OnOk, OnErr, length, take, codes, decimal, ◌<◌};
 ghost use Rattle.std.specs.List.{flat_map};
 ghost use Rattle.mc_proto.specs.Text as texts;
 
@@ -26,7 +26,8 @@ fn push_parts(out: &mut Vec<u8>, parts: &[&[u8]]) -> Result<(), NoMemory>
     Ok(())
 }
 
-// Adds a text whole or not at all.
+// Adds a text whole or not at all. Within its callers, those of a known length are a few stores.
+#[inline(always)]
 fn push_text(out: &mut Vec<u8>, text: &[u8]) -> Result<(), NoMemory>
     ensures ok { OnOk result (out.new.items ≡ out.old.items ++ text.now) }
     ensures err { OnErr result (out.new.items ≡ out.old.items) }
@@ -123,31 +124,46 @@ pub fn push_value_head(out: &mut Vec<u8>, key: &[u8]) -> Result<(), NoMemory>
     }
 }
 
-// Adds a value's flags between two spaces; 0, which is usual, needs no digits.
+// Adds the flags 0 and a length of at most three digits, in the rest of a line: one text, whose digits need no buffer.
 #[inline(always)]
-fn push_flags(out: &mut Vec<u8>, flags: u32) -> Result<(), NoMemory>
-    ensures ok { OnOk result (out.new.items ≡ out.old.items ++ (codes " " ++ decimal flags ++ codes " ")) }
+fn push_short_line(out: &mut Vec<u8>, len: usize) -> Result<(), NoMemory>
+    requires short { len < 1000 }
+    ensures ok { OnOk result (out.new.items ≡ out.old.items ++ (codes " 0 " ++ decimal len ++ texts.crlf)) }
     ensures err { OnErr result (out.new.items ≡ out.old.items) }
 {
-    if flags == 0 {
-        return push_text(out, b" 0 ".as_slice());
+    if len < 10 {
+        let one = b'0' + len as u8;
+        return push_text(out, &[b' ', b'0', b' ', one, b'\r', b'\n']);
     }
-    let mut buffer = Buffer::new();
-    let digits = buffer.format(flags).as_bytes();
-    let space = b" ".as_slice();
-    push_parts(out, &[space, digits, space])
+    let last = b'0' + (len % 10) as u8;
+    let tens = b'0' + (len / 10 % 10) as u8;
+    if len < 100 {
+        return push_text(out, &[b' ', b'0', b' ', tens, last, b'\r', b'\n']);
+    }
+    let first = b'0' + (len / 100) as u8;
+    push_text(out, &[b' ', b'0', b' ', first, tens, last, b'\r', b'\n'])
 }
 
-// Adds a value's length and the value, each in the rest of a line.
+// Adds what stands between a value's key and its bytes, without a cas number; flags of 0 and a short length are usual.
 #[inline(always)]
-fn push_block(out: &mut Vec<u8>, value: &[u8]) -> Result<(), NoMemory>
-    ensures ok { OnOk result (out.new.items ≡ out.old.items ++ (decimal (length value.now) ++ texts.crlf ++ value.now ++ texts.crlf)) }
+fn push_plain_line(out: &mut Vec<u8>, flags: u32, len: usize) -> Result<(), NoMemory>
+    ensures ok { OnOk result (out.new.items ≡ out.old.items ++ (codes " " ++ decimal flags ++ codes " " ++ decimal len ++ texts.crlf)) }
     ensures err { OnErr result (out.new.items ≡ out.old.items) }
 {
-    let mut buffer = Buffer::new();
-    let len = buffer.format(value.len()).as_bytes();
-    let crlf = b"\r\n".as_slice();
-    push_parts(out, &[len, crlf, value, crlf])
+    if flags == 0 && len < 1000 {
+        return push_short_line(out, len);
+    }
+    push_value_line(out, flags, len, 0, false)
+}
+
+// Adds a value in the rest of a line. After an `Err` a part of it may stand behind the rest.
+#[inline(always)]
+fn push_line(out: &mut Vec<u8>, value: &[u8]) -> Result<(), NoMemory>
+    ensures ok { OnOk result (out.new.items ≡ out.old.items ++ (value.now ++ texts.crlf)) }
+    ensures err { OnErr result (take (length out.old.items) out.new.items ≡ out.old.items) }
+{
+    push_text(out, value)?;
+    push_text(out, b"\r\n".as_slice())
 }
 
 // Adds a value after its key, without a cas number.
@@ -156,8 +172,8 @@ fn push_plain_tail(out: &mut Vec<u8>, flags: u32, value: &[u8]) -> Result<(), No
     ensures err { OnErr result (out.new.items ≡ out.old.items) }
 {
     let before = out.len();
-    push_flags(out, flags)?;
-    match push_block(out, value) {
+    push_plain_line(out, flags, value.len())?;
+    match push_line(out, value) {
         Ok(()) => Ok(()),
         Err(fault) => {
             out.truncate(before);

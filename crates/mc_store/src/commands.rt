@@ -27,7 +27,7 @@ use crate::planning::plan_under;
 use crate::quick::answer_quick;
 use crate::setting::set_told;
 use crate::store::Store;
-use crate::waking::wake_told;
+use crate::waking::answer_woken;
 use crate::walking::bury_under;
 use mc_item::{Asking, Command, Fault, Link, Reply, Who, stripe_of};
 use mc_stripe::{GivenBack, Plan};
@@ -181,7 +181,7 @@ fn command_under<N: Named>(
         Ok(reply) => Ok(reply),
         Err(GivenBack { command, woken }) => match woken {
             None => command_told(alloc, store, rt, own, caller, who, command, moment),
-            Some(link) => wake_told(alloc, store, rt, own, caller, who, command, moment, link),
+            Some(link) => answer_woken(alloc, store, rt, own, caller, who, command, moment, link),
         },
     }
 }

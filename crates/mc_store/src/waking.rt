@@ -38,8 +38,8 @@ fn is_of_store<N: Named>(own: &LockedStripe<N>, command: &Command, moment: u64, 
 }
 
 // Makes a command that wakes its key's item.
-#[inline(always)]
-fn answer_woken<N: Named>(
+#[inline(never)]
+pub(crate) fn answer_woken<N: Named>(
     alloc: Global,
     store: &Store<N>,
     rt: &impl Wait,
@@ -65,32 +65,4 @@ fn answer_woken<N: Named>(
     is_of_store(own, &command, moment, link);
     let fate = Fate::Woken(link);
     perform_kept(alloc, store, rt, own, caller, who, command, moment, fate)
-}
-
-// The same, once the stripe is told that the command was asked for.
-#[inline(never)]
-pub(crate) fn wake_told<N: Named>(
-    alloc: Global,
-    store: &Store<N>,
-    rt: &impl Wait,
-    own: &mut LockedStripe<N>,
-    caller: &mut Caller<N>,
-    who: Who,
-    command: Command,
-    moment: u64,
-    link: Link,
-) -> Result<Reply, Fault>
-    requires own { stripe_of (key_of command) N.config.stripes ≡ record { 0 = own.old.stripe.site.stripe } }
-    requires asked { HasAsked caller.old who command moment }
-    requires early { moment ≤ 2 ^ 62 }
-    requires wakes { WakesItem own.old.stripe command moment link }
-    ensures replied { IfOk result (IsReplied N.config who command moment own.old.stripe own.new.stripe own.new.sight caller.old.calls caller.new.calls) }
-    ensures cut { OnErr result (IsCut N.config who command moment own.old.stripe own.new.stripe) }
-    ensures unnoted { OnErr result (caller.new ≡ caller.old) }
-    ensures number { caller.new.number ≡ caller.old.number }
-    ensures site { KeepsSite own.old.stripe own.new.stripe }
-    ensures full { IsErrOf result HistoryFull → IsShort N.config own.new }
-{
-    caller.tell_stripe(&store.board, own);
-    answer_woken(alloc, store, rt, own, caller, who, command, moment, link)
 }

@@ -146,6 +146,44 @@ fn values(rt: HostRuntime) {
     );
 }
 
+// Asserts the text of a value of so many letters and these flags, under the key `k`: this line, and the letters.
+fn asserts_value(rt: &impl Abort, alloc: Global, flags: u32, count: usize, line: &str) {
+    let Ok(key) = Key::of(alloc, b"k") else {
+        panic!(rt; "memory");
+    };
+    let mut letters = Vec::new(alloc);
+    letters.resize(count, b'x').expect(rt, "memory");
+    let mut wanted = Vec::new(alloc);
+    wanted
+        .extend_from_slice(line.as_bytes())
+        .expect(rt, "memory");
+    wanted
+        .extend_from_slice(letters.as_slice())
+        .expect(rt, "memory");
+    wanted.extend_from_slice(b"\r\n").expect(rt, "memory");
+    let reply = Reply::Value {
+        flags,
+        value: Value::of(alloc, letters).expect(rt, "memory"),
+        cas: 1,
+    };
+    let text = value_text(alloc, &key, &reply, false).expect(rt, "memory");
+    assert_eq!(rt; text.as_slice(), wanted.as_slice());
+}
+
+#[test]
+fn a_value_has_its_flags_and_its_length_in_its_line(rt: HostRuntime) {
+    let alloc = rt.alloc();
+    asserts_value(&rt, alloc, 0, 0, "VALUE k 0 0\r\n");
+    asserts_value(&rt, alloc, 0, 9, "VALUE k 0 9\r\n");
+    asserts_value(&rt, alloc, 0, 10, "VALUE k 0 10\r\n");
+    asserts_value(&rt, alloc, 0, 87, "VALUE k 0 87\r\n");
+    asserts_value(&rt, alloc, 0, 100, "VALUE k 0 100\r\n");
+    asserts_value(&rt, alloc, 0, 975, "VALUE k 0 975\r\n");
+    asserts_value(&rt, alloc, 0, 1000, "VALUE k 0 1000\r\n");
+    asserts_value(&rt, alloc, 7, 9, "VALUE k 7 9\r\n");
+    asserts_value(&rt, alloc, 65_535, 975, "VALUE k 65535 975\r\n");
+}
+
 #[test]
 fn keys_come_back(rt: HostRuntime) {
     let (Ok(key), Ok(other)) = (Key::of(rt.alloc(), b"k"), Key::of(rt.alloc(), b"l")) else {

@@ -23,7 +23,7 @@ pub returns-in-Some-clause-replied : goal.returns-in-Some-clause-replied
 returns-in-Some-clause-replied g c =
     let config = g.N.Named.config in
     let mid = c.answer_quick.new.own.stripe in
-    let woken = c.wake_told in
+    let woken = c.answer_woken in
     let end = woken.new.own.stripe in
     let sight = woken.new.own.sight in
     let calls_new = woken.new.caller.calls in
