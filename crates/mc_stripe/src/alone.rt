@@ -19,7 +19,7 @@ ghost use Rattle.mc_stripe.specs.declared.fate.Fate.TheVariants as fates;
 
 use crate::changing::{Answered, answer_found, told};
 use crate::fate::{Fate, wakes};
-use crate::in_place::{answer_counted, answer_hit};
+use crate::in_place::{answer_hit, answer_in_place};
 use crate::planning::{Plan, plan_of};
 use mc_item::{Command, Item, Key, Link, Need, NoMemory, Reply, Room, Site};
 use std::alloc::Global;
@@ -162,7 +162,7 @@ fn other_alone(
     if item.dead(moment) {
         return Ok(Err(None));
     }
-    if let Some(answered) = answer_counted(site, versions, item, command, moment, copies) {
+    if let Some(answered) = answer_in_place(site, versions, item, command, moment, copies) {
         return Ok(Ok(answered));
     }
     found_alone(alloc, site, versions, item, command, moment, copies)

@@ -8,15 +8,16 @@ ghost use Rattle.mc_item.specs.Command.{key_of};
 ghost use Rattle.mc_item.specs.declared.answer.Answer.{Answer};
 ghost use Rattle.mc_stripe.specs.Rooms.{IsOfNeed};
 
-use crate::changing::{Answered, answer_absent, answer_found, remove};
-use crate::in_place::answer_over;
-use mc_item::{Command, Item, Key, NoMemory, Room, Site};
+use crate::changing::{Answered, answer_absent, answer_found, remove, told};
+use crate::in_place::{answer_hit, answer_new, answer_over};
+use mc_item::{Command, Item, Key, NoMemory, Reply, Room, Site};
 use std::alloc::Global;
 use std::collections::HashMap;
 use std::hash::RandomState;
 
 /// Answers a command for the item under its key, and changes it; the key is looked up once, and once more where its
-/// item goes or it is new. A storage command often stores over the item that it finds. Nothing changes without memory.
+/// item goes or it is new. Most commands are answered in their place: those that store, a get that hits and a `delete`.
+/// Nothing changes without memory.
 #[inline(always)]
 pub(crate) fn answer_item(
     alloc: Global,
@@ -40,9 +41,22 @@ pub(crate) fn answer_item(
 {
     let key = command.key();
     let Some(item) = items.get_mut(key) else {
+        if let Some(answered) = answer_new(
+            alloc, site, versions, items, command, moment, room, copies,
+        )? {
+            return Ok(answered);
+        }
         return answer_absent(alloc, site, versions, items, command, moment, room, copies);
     };
     if let Some(answered) = answer_over(site, versions, item, command, moment, room, copies)? {
+        return Ok(answered);
+    }
+    if let Command::Get(_) = command {
+        return Ok(answer_hit(item, copies)?);
+    }
+    if let Command::Delete(_) = command {
+        let answered = told(Reply::Deleted, copies)?;
+        remove(items, key);
         return Ok(answered);
     }
     let (answered, stays) = answer_found(

@@ -10,13 +10,14 @@ ghost use Rattle.mc_item.specs.Measure.{stripe_of};
 ghost use Rattle.mc_item.specs.Stripe.{Fits};
 ghost use Rattle.mc_item.specs.declared.answer.Answer.{Answer};
 ghost use Rattle.mc_item.specs.declared.fault.Fault.TheVariants as faults;
+ghost use Rattle.mc_item.specs.declared.reply.Reply.TheVariants as replies;
 ghost use Rattle.mc_item.specs.declared.reply.Room.TheVariants as rooms;
 ghost use Rattle.mc_stripe.specs.Rooms.{IsOfNeed};
 ghost use Rattle.mc_stripe.specs.Sets.{IsSet, MayStandFor};
 ghost use Rattle.mc_stripe.specs.StripeCalls.{KeepsSite, Notes};
 ghost use Rattle.mc_stripe.specs.StripeState.{cache_now};
 
-use crate::changing::answer_absent;
+use crate::in_place::new_item;
 use crate::noting::push_answer;
 use crate::state::{StripeState, is_full};
 use mc_item::{
@@ -32,6 +33,18 @@ struct Replaced {
     noted: Reply,
     added: u64,
     old: Option<Link>,
+}
+
+// The answer of a `set` that is stored.
+#[inline(always)]
+fn stored(old: Option<Link>) -> Replaced
+    ensures { result ≡ record { noted = replies.Stored; added = 1; old = old } }
+{
+    Replaced {
+        noted: Reply::Stored,
+        added: 1,
+        old,
+    }
 }
 
 // The answer to a `set` that finds an item: the new version stands in its place, and the old one's link is told.
@@ -70,11 +83,52 @@ fn set_over(
     };
     let old = item.link;
     site.renew(versions, item, &content, link)?;
-    Ok(Replaced {
-        noted: Reply::Stored,
-        added: 1,
-        old: Some(old),
-    })
+    Ok(stored(Some(old)))
+}
+
+// The answer to a `set` that finds no item: a new one comes.
+#[inline(always)]
+fn set_new(
+    alloc: Global,
+    site: &Site,
+    versions: u64,
+    items: &mut HashMap<Key, Item, RandomState>,
+    command: &Command,
+    moment: u64,
+    link: Link,
+) -> Result<Replaced, NoMemory>
+    requires set { IsSet command.now }
+    requires cas { cas_of site.now versions < 2 ^ 64 }
+    requires moment { moment ≤ 2 ^ 62 }
+    requires need { IsOfNeed (row_of site.now versions None command.now moment).need (rooms.At link) }
+    requires room { 0 < spare items.old }
+    requires absent { get (pointwise nat_eq) items.old (key_of command.now) ≡ None }
+    ensures ok { IfOk result (λ r. (answer : Answer) × (answer ≡ (row_of site.now versions None command.now moment).answer (rooms.At link))
+        × (r.noted ≡ answer.reply) × (r.added ≡ Rattle.mc_item.specs.Cache.versions_of answer.change)
+        × ((q : List ℕ) → get (pointwise nat_eq) items.new q ≡ (if pointwise nat_eq (key_of command.now) q then changed None answer.change else get (pointwise nat_eq) items.old q))) }
+    ensures old { IfOk result (λ r. r.old ≡ None) }
+    ensures err { OnErr result ((q : List ℕ) → get (pointwise nat_eq) items.new q ≡ get (pointwise nat_eq) items.old q) }
+    ensures spare { spare items.old ≤ spare items.new + 1 }
+{
+    let Command::Store {
+        key,
+        flags,
+        exptime,
+        value,
+        ..
+    } = command
+    else {
+        unreachable!()
+    };
+    let content = Content {
+        flags: *flags,
+        value,
+        expiry: expiry_of(*exptime, moment),
+    };
+    let name = key.copy(alloc)?;
+    let item = new_item(site, versions, &content, link)?;
+    let _ = items.insert(name, item);
+    Ok(stored(None))
 }
 
 // The answer to a `set`, where the new version can stand for what its key has with no other class. Else nothing is
@@ -106,13 +160,7 @@ fn set_item(
 {
     let key = command.key();
     let Some(item) = items.get_mut(key) else {
-        let room = Room::At(link);
-        let answered = answer_absent(alloc, site, versions, items, command, moment, room, false)?;
-        return Ok(Some(Replaced {
-            noted: answered.noted,
-            added: answered.added,
-            old: None,
-        }));
+        return Ok(Some(set_new(alloc, site, versions, items, command, moment, link)?));
     };
     if item.dead(moment) || item.link.class.0 != link.class.0 {
         return Ok(None);

@@ -13,6 +13,6 @@ pub returns-clause-back : goal.returns-clause-back
 returns-clause-back c =
     let key = key_of c.args.command.now in
     let found = c.in-Some.ensures.value ∙ ap (λ (k : List ℕ). get (pointwise nat_eq) c.args.items.now k) c.key.ensures in
-    let same : c.answer_counted.new.item ≡ c.in-Some.item.now = c.answer_counted.ensures.same c.in_default-answer_counted.is in
-    let item_is : get (pointwise nat_eq) c.args.items.now key ≡ Some c.answer_counted.new.item = sym (ap Some same ∙ found) in
+    let same : c.answer_in_place.new.item ≡ c.in-Some.item.now = c.answer_in_place.ensures.same c.in_default-answer_in_place.is in
+    let item_is : get (pointwise nat_eq) c.args.items.now key ≡ Some c.answer_in_place.new.item = sym (ap Some same ∙ found) in
     given_more c.found_alone.result (λ not. inr (λ leaves. not (subst (λ (o : Option Item). LeavesChunks key o (row_of c.args.site.now c.args.versions o c.args.command.now c.args.moment) c.args.moment) item_is leaves))) c.found_alone.ensures.back

@@ -15,5 +15,5 @@ answer_over-requires-clause-need c =
 pub answer_found-requires-clause-need : goal.answer_found-requires-clause-need
 answer_found-requires-clause-need c =
     let found = c.in-Some.ensures.value ∙ ap (λ (k : List ℕ). get (pointwise nat_eq) c.args.items.now k) c.key-key.ensures in
-    let same : c.answer_over.new.item ≡ c.in-Some.item.now = rw c.in_default-2.is at c.in_ok-answered.ensures.same in
+    let same : c.answer_over.new.item ≡ c.in-Some.item.now = rw c.in_default-3.is at c.in_ok-answered-2.ensures.same in
     subst (λ (o : Option Item). IsOfNeed (row_of c.args.site.now c.args.versions o c.args.command.now c.args.moment).need c.args.room) (sym (ap Some same ∙ found)) c.requires.need
