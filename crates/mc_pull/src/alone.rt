@@ -1,13 +1,12 @@
 //! One command on a stripe alone.
-ghost use Rattle.std.specs.Prelude.{◌≡◌, ◌≤◌, ◌^◌, ◌⊎◌, ◌↔◌, ℕ, List, Some, None, IfOk, IfErr, IfSome, IfNone, OnOk, OnErr, IsErrOf, if◌then◌else◌, length};
+ghost use Rattle.std.specs.Prelude.{◌≡◌, ◌≤◌, ◌^◌, ◌⊎◌, ◌↔◌, Some, None, IfOk, IfErr, IfSome, IfNone, OnOk, OnErr, IsErrOf, if◌then◌else◌, length};
 ghost use Rattle.mc_item.specs.Cache.{answer_of};
 ghost use Rattle.mc_item.specs.Command.{key_of};
 ghost use Rattle.mc_item.specs.Measure.{stripe_of};
-ghost use Rattle.mc_item.specs.declared.command.Command.TheVariants as commands;
 ghost use Rattle.mc_item.specs.declared.fault.Fault.TheVariants as faults;
 ghost use Rattle.mc_item.specs.declared.item.Link.{Link};
 ghost use Rattle.mc_item.specs.declared.reply.Room.TheVariants as rooms;
-ghost use Rattle.mc_stripe.specs.Alone.{IsStorage, TouchesNoChunk, WakesItem};
+ghost use Rattle.mc_stripe.specs.Alone.{IsStorage, NeedsNone, TouchesItem, TouchesNoChunk};
 ghost use Rattle.mc_stripe.specs.StripeCalls.{KeepsSite, Notes};
 ghost use Rattle.mc_stripe.specs.StripeState.{cache_now};
 ghost use Rattle.mc_pull.specs.Agreeing.{KeepsEachAgreement};
@@ -18,8 +17,9 @@ use mc_stripe::{GivenBack, StripeState};
 
 /// The quick way of a command at a moment of at most 2^62, as `StripeState::answer` goes it: a command that touches no
 /// chunk is answered on its stripe alone, with a copy of the reply where one is asked for, and a storage command, or one
-/// that touches a chunk, is given back unchanged, as the inner `Err`, with the link of an item that a get would wake. Each class whose history agreed with the stripe's
-/// agrees with it still. `HistoryFull` is answered where the stripe's history has no place left.
+/// that touches a chunk, is given back unchanged, as the inner `Err`, of a `get`, `touch` or `delete` with the link of an
+/// item that would be woken or go. Each class whose history agreed with the stripe's agrees with it still. `HistoryFull` is
+/// answered where the stripe's history has no place left.
 #[inline(always)]
 pub fn answer_alone(
     stripe: &mut StripeState,
@@ -35,8 +35,8 @@ pub fn answer_alone(
     ensures chunks { IfOk result (λ quick. OnOk quick (TouchesNoChunk stripe.old command moment)) }
     ensures touched { IfOk result (λ quick. OnErr quick (IsStorage command ⊎ (TouchesNoChunk stripe.old command moment → ⊥))) }
     ensures back { IfOk result (λ quick. IfErr quick (λ given. (given.command ≡ command) × (stripe.new.history ≡ stripe.old.history))) }
-    ensures woken { IfOk result (λ quick. IfErr quick (λ given. IfSome given.woken (WakesItem stripe.old command moment))) }
-    ensures told { (key : List ℕ) → command ≡ commands.Get key → IfOk result (λ quick. IfErr quick (λ given. IfNone given.woken ((link : Link) → WakesItem stripe.old command moment link → ⊥))) }
+    ensures link { IfOk result (λ quick. IfErr quick (λ given. IfSome given.link (TouchesItem stripe.old command moment))) }
+    ensures told { NeedsNone command → IfOk result (λ quick. IfErr quick (λ given. IfNone given.link ((link : Link) → TouchesItem stripe.old command moment link → ⊥))) }
     ensures full { IsErrOf result faults.HistoryFull ↔ (stripe.old.limit ≤ length stripe.old.history) }
     ensures err { OnErr result (stripe.new.history ≡ stripe.old.history) }
     ensures site { KeepsSite stripe.old stripe.new }

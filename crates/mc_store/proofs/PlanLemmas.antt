@@ -21,7 +21,7 @@ use Rattle.mc_evidence.proofs.RowLemmas.{held}
 use Rattle.mc_evidence.proofs.SizedLemmas.{link_sized}
 use Rattle.mc_evidence.specs.Setting.{IsClass}
 use Rattle.mc_segment.specs.ClassState.{ClassView}
-use Rattle.mc_stripe.specs.Alone.{WakesItem}
+use Rattle.mc_stripe.specs.Alone.{TouchesItem, fate_by}
 use Rattle.mc_stripe.specs.Plan.{AreHeld, IsHeld, IsPlan, dead_link, visible_row}
 use Rattle.mc_stripe.specs.StripeState.{Stripe, cache_now}
 use Rattle.mc_stripe.specs.declared.fate.Fate.{Fate}
@@ -132,11 +132,11 @@ module _ (config : Config) (s : Stripe) (command : Command) (moment : ℕ) (made
           let sizes : length s.site.sizes ≡ length config.sizes = ap (λ (x : List ℕ). length x) made.sizes in
           (omega (arith, first), omega (arith, last, sizes))
 
-  -- so has that of an item that is woken
-  pub woken_has : (link : Link) → WakesItem s command moment link → HaveClasses (length config.sizes) rooms.Keep (fates.Woken link)
-  woken_has link wakes =
+  -- so has that of an item whose chunk is touched
+  pub touched_has : (link : Link) → TouchesItem s command moment link → HaveClasses (length config.sizes) rooms.Keep (fate_by command link)
+  touched_has link touches =
       let found = (cache_now s).items (key_of command) in
-      subst (λ (f : Fate). HaveClasses (length config.sizes) rooms.Keep f) wakes.fate
+      subst (λ (f : Fate). HaveClasses (length config.sizes) rooms.Keep f) touches.fate
       (fate_have (length config.sizes) rooms.Keep (key_of command) found ((row_of s.site (cache_now s).versions found command moment).answer rooms.Keep).change tt item_has)
 
   pub plan_in : (plan : Plan) → IsPlan s command moment plan → IsNeedOf s.site.sizes plan.need → AreHeld s.site.sizes plan → IsPlanIn config s command moment plan

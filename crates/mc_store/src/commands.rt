@@ -27,7 +27,7 @@ use crate::planning::plan_under;
 use crate::quick::answer_quick;
 use crate::setting::set_told;
 use crate::store::Store;
-use crate::waking::answer_woken;
+use crate::touching::answer_touching;
 use crate::walking::bury_under;
 use mc_item::{Asking, Command, Fault, Link, Reply, Who, stripe_of};
 use mc_stripe::{GivenBack, Plan};
@@ -152,8 +152,8 @@ fn command_told<N: Named>(
     }
 }
 
-// One command on the stripe of its key, which is under its lock: the quick way where it touches no chunk, a get that wakes
-// its item by the item's link, else the quick way of a `set` or its plan.
+// One command on the stripe of its key, which is under its lock: the quick way where it touches no chunk, one that touches
+// its item's alone by the item's link, else the quick way of a `set` or its plan.
 fn command_under<N: Named>(
     alloc: Global,
     store: &Store<N>,
@@ -179,9 +179,10 @@ fn command_under<N: Named>(
     }
     match answer_quick(&store.board, own, caller, who, command, moment)? {
         Ok(reply) => Ok(reply),
-        Err(GivenBack { command, woken }) => match woken {
+        Err(GivenBack { command, link }) => match link {
             None => command_told(alloc, store, rt, own, caller, who, command, moment),
-            Some(link) => answer_woken(alloc, store, rt, own, caller, who, command, moment, link),
+            Some(link) =>
+                answer_touching(alloc, store, rt, own, caller, who, command, moment, link),
         },
     }
 }

@@ -30,8 +30,8 @@ mod readying;
 mod setting;
 mod shelf;
 mod store;
+mod touching;
 mod waiting;
-mod waking;
 mod walking;
 
 pub use final_store::Final;

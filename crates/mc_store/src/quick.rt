@@ -3,7 +3,7 @@ ghost use Rattle.std.specs.Prelude.{◌≡◌, ◌≤◌, ◌<◌, ◌⊎◌, �
 ghost use Rattle.mc_item.specs.Command.{key_of};
 ghost use Rattle.mc_item.specs.Measure.{stripe_of};
 ghost use Rattle.mc_item.specs.declared.fault.Fault.TheVariants.{HistoryFull};
-ghost use Rattle.mc_stripe.specs.Alone.{IsStorage, TouchesNoChunk, WakesItem};
+ghost use Rattle.mc_stripe.specs.Alone.{IsStorage, TouchesItem, TouchesNoChunk};
 ghost use Rattle.mc_stripe.specs.StripeCalls.{KeepsSite};
 ghost use Rattle.mc_store.specs.Calls.{IsReplied};
 ghost use Rattle.mc_store.specs.Serving.{IsShort};
@@ -19,7 +19,8 @@ use mc_pull::answer_alone;
 use mc_stripe::GivenBack;
 
 // Answers a command that touches no chunk, on its stripe alone; its caller notes where. A storage command, or one that
-// touches a chunk, is given back, as the inner `Err`, and nothing happened; of an item that a get would wake the link is told.
+// touches a chunk, is given back, as the inner `Err`, and nothing happened; of an item that a `get`, `touch` or `delete`
+// would wake or let go the link is told.
 pub(crate) fn answer_quick<N: Named>(
     board: &Board,
     own: &mut LockedStripe<N>,
@@ -35,7 +36,7 @@ pub(crate) fn answer_quick<N: Named>(
     ensures replied { IfOk result (λ quick. IfOk quick (IsReplied N.config who command moment own.old.stripe own.new.stripe own.new.sight caller.old.calls caller.new.calls)) }
     ensures touched { IfOk result (λ quick. OnErr quick (IsStorage command ⊎ (TouchesNoChunk own.old.stripe command moment → ⊥))) }
     ensures back { IfOk result (λ quick. IfErr quick (λ given. (given.command ≡ command) × (own.new.stripe.history ≡ own.old.stripe.history) × (caller.new ≡ caller.old))) }
-    ensures woken { IfOk result (λ quick. IfErr quick (λ given. IfSome given.woken (WakesItem own.old.stripe command moment))) }
+    ensures link { IfOk result (λ quick. IfErr quick (λ given. IfSome given.link (TouchesItem own.old.stripe command moment))) }
     ensures err { OnErr result (own.new.stripe.history ≡ own.old.stripe.history) }
     ensures unnoted { OnErr result (caller.new ≡ caller.old) }
     ensures number { caller.new.number ≡ caller.old.number }

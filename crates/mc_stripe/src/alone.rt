@@ -14,7 +14,8 @@ ghost use Rattle.mc_item.specs.declared.answer.Site.{Site};
 ghost use Rattle.mc_item.specs.declared.command.Command.TheVariants as commands;
 ghost use Rattle.mc_item.specs.declared.item.Link.{Link};
 ghost use Rattle.mc_item.specs.declared.reply.Room.TheVariants as rooms;
-ghost use Rattle.mc_stripe.specs.Alone.{IsChunkless, IsStorage, LeavesChunks, Wakes};
+ghost use Rattle.mc_stripe.specs.Alone.{IsChunkless, IsStorage, LeavesChunks, NeedsNone, Touches, fate_by};
+ghost use Rattle.mc_stripe.specs.Plan.{fate_of};
 ghost use Rattle.mc_stripe.specs.declared.fate.Fate.TheVariants as fates;
 
 use crate::changing::{Answered, answer_found, told};
@@ -54,7 +55,7 @@ fn get_alone(
         × (a.noted ≡ answer.reply) × (a.copy ≡ (if copies then Some answer.reply else None)) × (a.added ≡ Rattle.mc_item.specs.Cache.versions_of answer.change)
         × ((q : List ℕ) → get (pointwise nat_eq) items.new q ≡ (if pointwise nat_eq key.now q then changed (get (pointwise nat_eq) items.old key.now) answer.change else get (pointwise nat_eq) items.old q)))) }
     ensures back { IfOk result (λ answered. OnErr answered (LeavesChunks key.now (get (pointwise nat_eq) items.old key.now) (get_row (get (pointwise nat_eq) items.old key.now)) moment → ⊥)) }
-    ensures woken { IfOk result (λ answered. IfErr answered (λ woken. MatchOption woken ((link : Link) → Wakes key.now (get (pointwise nat_eq) items.old key.now) (get_row (get (pointwise nat_eq) items.old key.now)) moment link → ⊥) (Wakes key.now (get (pointwise nat_eq) items.old key.now) (get_row (get (pointwise nat_eq) items.old key.now)) moment))) }
+    ensures link { IfOk result (λ answered. IfErr answered (λ told. MatchOption told ((link : Link) → Touches key.now (get (pointwise nat_eq) items.old key.now) (get_row (get (pointwise nat_eq) items.old key.now)) moment (fates.Woken link) → ⊥) (λ link. Touches key.now (get (pointwise nat_eq) items.old key.now) (get_row (get (pointwise nat_eq) items.old key.now)) moment (fates.Woken link)))) }
     ensures same { IfOk result (λ answered. OnErr answered ((q : List ℕ) → get (pointwise nat_eq) items.new q ≡ get (pointwise nat_eq) items.old q)) }
     ensures err { OnErr result ((q : List ℕ) → get (pointwise nat_eq) items.new q ≡ get (pointwise nat_eq) items.old q) }
     ensures spare { spare items.new ≡ spare items.old }
@@ -78,7 +79,7 @@ fn absent_alone(command: &Command, copies: bool) -> Result<Result<Answered, Opti
     ensures chunks { IfOk result (λ answered. OnOk answered ((site : Site) (n moment : ℕ) → LeavesChunks (key_of command.now) None (row_of site n None command.now moment) moment)) }
     ensures ok { IfOk result (λ answered. IfOk answered (λ a. (a.added ≡ 0) × (a.copy ≡ (if copies then Some a.noted else None)) × ((site : Site) (n moment : ℕ) → (row_of site n None command.now moment).answer rooms.Keep ≡ answers.answer a.noted changes.Stays))) }
     ensures back { IfOk result (λ answered. OnErr answered (IsStorage command.now)) }
-    ensures woken { IfOk result (λ answered. IfErr answered (λ woken. woken ≡ None)) }
+    ensures link { IfOk result (λ answered. IfErr answered (λ told. told ≡ None)) }
 {
     let noted = match command {
         Command::Get(_) => Reply::Miss,
@@ -110,7 +111,7 @@ fn found_alone(
         × (a.noted ≡ answer.reply) × (a.copy ≡ (if copies then Some answer.reply else None)) × (a.added ≡ Rattle.mc_item.specs.Cache.versions_of answer.change)
         × (changed (Some item.old) answer.change ≡ Some item.new))) }
     ensures back { IfOk result (λ answered. OnErr answered (LeavesChunks (key_of command.now) (Some item.old) (row_of site.now versions (Some item.old) command.now moment) moment → ⊥)) }
-    ensures woken { IfOk result (λ answered. IfErr answered (λ woken. woken ≡ None)) }
+    ensures link { IfOk result (λ answered. IfErr answered (λ told. told ≡ None)) }
     ensures same { IfOk result (λ answered. OnErr answered (item.new ≡ item.old)) }
     ensures err { OnErr result (item.new ≡ item.old) }
 {
@@ -129,6 +130,21 @@ fn found_alone(
         copies,
     )?;
     Ok(Ok(answered))
+}
+
+// The link of an item that is found, where it goes by this command, or is woken by the hit.
+#[inline(always)]
+fn touched(item: &Item, command: &Command) -> Option<Link>
+    ensures some { (site : Site) (n moment : ℕ) → IfSome result (λ link. IsAlive (Some item.now) moment → Touches (key_of command.now) (Some item.now) (row_of site n (Some item.now) command.now moment) moment (fate_by command.now link)) }
+    ensures none { (site : Site) (n moment : ℕ) (link : Link) → NeedsNone command.now → IfNone result (fate_of (key_of command.now) (Some item.now) ((row_of site n (Some item.now) command.now moment).answer rooms.Keep).change ≡ fate_by command.now link → ⊥) }
+{
+    let touches = match command {
+        Command::Get(_) | Command::Touch(_, _) => wakes(item),
+        Command::Delete(_) => true,
+        Command::Store { .. } | Command::Huge { .. } | Command::Incr(_, _) | Command::Decr(_, _) =>
+            false,
+    };
+    if touches { Some(item.link) } else { None }
 }
 
 // The answer to any command, of which `incr` and `decr` often count in place; nothing is answered for a storage
@@ -151,7 +167,8 @@ fn other_alone(
         × (a.noted ≡ answer.reply) × (a.copy ≡ (if copies then Some answer.reply else None)) × (a.added ≡ Rattle.mc_item.specs.Cache.versions_of answer.change)
         × ((q : List ℕ) → get (pointwise nat_eq) items.new q ≡ (if pointwise nat_eq (key_of command.now) q then changed (get (pointwise nat_eq) items.old (key_of command.now)) answer.change else get (pointwise nat_eq) items.old q)))) }
     ensures back { IfOk result (λ answered. OnErr answered (IsStorage command.now ⊎ (LeavesChunks (key_of command.now) (get (pointwise nat_eq) items.old (key_of command.now)) (row_of site.now versions (get (pointwise nat_eq) items.old (key_of command.now)) command.now moment) moment → ⊥))) }
-    ensures woken { IfOk result (λ answered. IfErr answered (λ woken. woken ≡ None)) }
+    ensures link { IfOk result (λ answered. IfErr answered (λ told. IfSome told (λ link. Touches (key_of command.now) (get (pointwise nat_eq) items.old (key_of command.now)) (row_of site.now versions (get (pointwise nat_eq) items.old (key_of command.now)) command.now moment) moment (fate_by command.now link)))) }
+    ensures told { NeedsNone command.now → IfOk result (λ answered. IfErr answered (λ told. IfNone told ((link : Link) → Touches (key_of command.now) (get (pointwise nat_eq) items.old (key_of command.now)) (row_of site.now versions (get (pointwise nat_eq) items.old (key_of command.now)) command.now moment) moment (fate_by command.now link) → ⊥))) }
     ensures same { IfOk result (λ answered. OnErr answered ((q : List ℕ) → get (pointwise nat_eq) items.new q ≡ get (pointwise nat_eq) items.old q)) }
     ensures err { OnErr result ((q : List ℕ) → get (pointwise nat_eq) items.new q ≡ get (pointwise nat_eq) items.old q) }
     ensures spare { spare items.new ≡ spare items.old }
@@ -162,6 +179,9 @@ fn other_alone(
     if item.dead(moment) {
         return Ok(Err(None));
     }
+    if let Some(link) = touched(item, command) {
+        return Ok(Err(Some(link)));
+    }
     if let Some(answered) = answer_in_place(site, versions, item, command, moment, copies) {
         return Ok(Ok(answered));
     }
@@ -169,8 +189,8 @@ fn other_alone(
 }
 
 /// Answers a command for the item under its key, where it touches no chunk and is no storage command, and changes it in
-/// its place. Else nothing is answered, and nothing changes; nor does it without memory. Of an item that a get would wake
-/// the link is told then.
+/// its place. Else nothing is answered, and nothing changes; nor does it without memory. Of an item that a hit would wake
+/// or a `delete` let go the link is told then.
 #[inline(always)]
 pub(crate) fn answer_alone(
     alloc: Global,
@@ -189,8 +209,8 @@ pub(crate) fn answer_alone(
         × (a.noted ≡ answer.reply) × (a.copy ≡ (if copies then Some answer.reply else None)) × (a.added ≡ Rattle.mc_item.specs.Cache.versions_of answer.change)
         × ((q : List ℕ) → get (pointwise nat_eq) items.new q ≡ (if pointwise nat_eq (key_of command.now) q then changed (get (pointwise nat_eq) items.old (key_of command.now)) answer.change else get (pointwise nat_eq) items.old q)))) }
     ensures back { IfOk result (λ answered. OnErr answered (IsStorage command.now ⊎ (LeavesChunks (key_of command.now) (get (pointwise nat_eq) items.old (key_of command.now)) (row_of site.now versions (get (pointwise nat_eq) items.old (key_of command.now)) command.now moment) moment → ⊥))) }
-    ensures woken { IfOk result (λ answered. IfErr answered (λ woken. IfSome woken (Wakes (key_of command.now) (get (pointwise nat_eq) items.old (key_of command.now)) (row_of site.now versions (get (pointwise nat_eq) items.old (key_of command.now)) command.now moment) moment))) }
-    ensures told { (key : List ℕ) → command.now ≡ commands.Get key → IfOk result (λ answered. IfErr answered (λ woken. IfNone woken ((link : Link) → Wakes (key_of command.now) (get (pointwise nat_eq) items.old (key_of command.now)) (row_of site.now versions (get (pointwise nat_eq) items.old (key_of command.now)) command.now moment) moment link → ⊥))) }
+    ensures link { IfOk result (λ answered. IfErr answered (λ told. IfSome told (λ link. Touches (key_of command.now) (get (pointwise nat_eq) items.old (key_of command.now)) (row_of site.now versions (get (pointwise nat_eq) items.old (key_of command.now)) command.now moment) moment (fate_by command.now link)))) }
+    ensures told { NeedsNone command.now → IfOk result (λ answered. IfErr answered (λ told. IfNone told ((link : Link) → Touches (key_of command.now) (get (pointwise nat_eq) items.old (key_of command.now)) (row_of site.now versions (get (pointwise nat_eq) items.old (key_of command.now)) command.now moment) moment (fate_by command.now link) → ⊥))) }
     ensures same { IfOk result (λ answered. OnErr answered ((q : List ℕ) → get (pointwise nat_eq) items.new q ≡ get (pointwise nat_eq) items.old q)) }
     ensures err { OnErr result ((q : List ℕ) → get (pointwise nat_eq) items.new q ≡ get (pointwise nat_eq) items.old q) }
     ensures spare { spare items.new ≡ spare items.old }

@@ -8,18 +8,16 @@ ghost use Rattle.mc_item.specs.Command.{key_of};
 ghost use Rattle.mc_item.specs.declared.answer.Answer.{Answer};
 ghost use Rattle.mc_stripe.specs.Rooms.{IsOfNeed};
 
-use crate::changing::{Answered, answer_absent, answer_found, remove, told};
+use crate::changing::{Answered, answer_absent, answer_deleted, answer_found, remove};
 use crate::in_place::{answer_hit, answer_new, answer_over};
-use mc_item::{Command, Item, Key, NoMemory, Reply, Room, Site};
+use mc_item::{Command, Item, Key, NoMemory, Room, Site};
 use std::alloc::Global;
 use std::collections::HashMap;
 use std::hash::RandomState;
 
-/// Answers a command for the item under its key, and changes it; the key is looked up once, and once more where its
-/// item goes or it is new. Most commands are answered in their place: those that store, a get that hits and a `delete`.
-/// Nothing changes without memory.
+// The answer to any command; most but a `delete` are answered in their place.
 #[inline(always)]
-pub(crate) fn answer_item(
+fn answer_other(
     alloc: Global,
     site: &Site,
     versions: u64,
@@ -54,11 +52,6 @@ pub(crate) fn answer_item(
     if let Command::Get(_) = command {
         return Ok(answer_hit(item, copies)?);
     }
-    if let Command::Delete(_) = command {
-        let answered = told(Reply::Deleted, copies)?;
-        remove(items, key);
-        return Ok(answered);
-    }
     let (answered, stays) = answer_found(
         alloc, site, versions, item, command, moment, room, copies,
     )?;
@@ -66,4 +59,41 @@ pub(crate) fn answer_item(
         remove(items, key);
     }
     Ok(answered)
+}
+
+/// Answers a command for the item under its key, and changes it; the key is looked up once, and once more where it is new,
+/// or its item goes by a `set` in a full class. Most commands are answered in their place: those that store, a get that
+/// hits and a `delete`. Nothing changes without memory.
+#[inline(always)]
+pub(crate) fn answer_item(
+    alloc: Global,
+    site: &Site,
+    versions: u64,
+    items: &mut HashMap<Key, Item, RandomState>,
+    command: &Command,
+    moment: u64,
+    room: Room,
+    copies: bool,
+) -> Result<Answered, NoMemory>
+    requires cas { cas_of site.now versions < 2 ^ 64 }
+    requires moment { moment ≤ 2 ^ 62 }
+    requires need { IsOfNeed (row_of site.now versions (get (pointwise nat_eq) items.old (key_of command.now)) command.now moment).need room }
+    requires room { 0 < spare items.old }
+    ensures ok { IfOk result (λ a. (answer : Answer) × (answer ≡ (row_of site.now versions (get (pointwise nat_eq) items.old (key_of command.now)) command.now moment).answer room)
+        × (a.noted ≡ answer.reply) × (a.copy ≡ (if copies then Some answer.reply else None)) × (a.added ≡ Rattle.mc_item.specs.Cache.versions_of answer.change)
+        × ((q : List ℕ) → get (pointwise nat_eq) items.new q ≡ (if pointwise nat_eq (key_of command.now) q then changed (get (pointwise nat_eq) items.old (key_of command.now)) answer.change else get (pointwise nat_eq) items.old q))) }
+    ensures err { OnErr result ((q : List ℕ) → get (pointwise nat_eq) items.new q ≡ get (pointwise nat_eq) items.old q) }
+    ensures spare { spare items.old ≤ spare items.new + 1 }
+{
+    match command {
+        Command::Delete(key) => Ok(answer_deleted(items, key, room, copies)),
+        Command::Get(_)
+        | Command::Store { .. }
+        | Command::Huge { .. }
+        | Command::Incr(_, _)
+        | Command::Decr(_, _)
+        | Command::Touch(_, _) => answer_other(
+            alloc, site, versions, items, command, moment, room, copies,
+        ),
+    }
 }

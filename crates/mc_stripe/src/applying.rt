@@ -7,12 +7,11 @@ ghost use Rattle.mc_item.specs.Measure.{IsNeedOf, stripe_of};
 ghost use Rattle.mc_item.specs.Stripe.{Fits, IsAlive};
 ghost use Rattle.mc_item.specs.declared.answer.Site.{Site};
 ghost use Rattle.mc_item.specs.declared.fault.Fault.TheVariants as faults;
-ghost use Rattle.mc_item.specs.declared.command.Command.TheVariants as commands;
 ghost use Rattle.mc_item.specs.declared.item.Item.{Item};
 ghost use Rattle.mc_item.specs.declared.item.Link.{Link};
 ghost use Rattle.mc_item.specs.declared.stripe_event.StripeEvent.TheVariants as events;
 ghost use Rattle.mc_item.specs.declared.reply.Room.TheVariants as rooms;
-ghost use Rattle.mc_stripe.specs.Alone.{IsStorage, TouchesNoChunk, WakesItem};
+ghost use Rattle.mc_stripe.specs.Alone.{IsStorage, NeedsNone, TouchesItem, TouchesNoChunk};
 ghost use Rattle.mc_stripe.specs.StripeState.{cache_now};
 ghost use Rattle.mc_stripe.specs.StripeCalls.{KeepsSite, Gains, Notes};
 
@@ -22,12 +21,12 @@ use crate::noting::push_answer;
 use crate::state::{StripeState, is_full};
 use mc_item::{Command, Fault, Link, Need, Reply, Room, Verb, Who};
 
-/// A command that the quick way gives back, with nothing done; of a get whose hit would wake its key's item, that item's link
-/// too: with it the command needs no plan.
+/// A command that the quick way gives back, with nothing done; where it touches the chunk of its key's item alone, as a hit
+/// that would wake the item or a `delete` of it, that item's link too: with it the command needs no plan.
 #[derive(Drop)]
 pub struct GivenBack {
     pub command: Command,
-    pub woken: Option<Link>,
+    pub link: Option<Link>,
 }
 
 // Whether a command's need depends on the item under its key.
@@ -141,8 +140,8 @@ impl StripeState {
     /// in their place where they touch no chunk, with one event more, in which the reply stands, at the place that was
     /// the history's end. A copy of the reply is made where one is asked for, before anything changes. A storage command
     /// is given back, as the inner `Err`, and so is any other whose key's item is dead, which needs a fresh chunk, or of
-    /// which a chunk goes or is woken; then nothing happened, and of a get the link is told of an item that it would wake. `HistoryFull` is answered where the history has no place
-    /// left. It looks the key up once.
+    /// which a chunk goes or is woken; then nothing happened, and of a `get`, `touch` or `delete` the link is told of an item
+    /// that would be woken or go. `HistoryFull` is answered where the history has no place left. It looks the key up once.
     #[inline(always)]
     pub fn answer(
         &mut self,
@@ -158,8 +157,8 @@ impl StripeState {
         ensures chunks { IfOk result (λ quick. OnOk quick (TouchesNoChunk self.old command moment)) }
         ensures touched { IfOk result (λ quick. OnErr quick (IsStorage command ⊎ (TouchesNoChunk self.old command moment → ⊥))) }
         ensures back { IfOk result (λ quick. IfErr quick (λ given. (given.command ≡ command) × (self.new.history ≡ self.old.history))) }
-        ensures woken { IfOk result (λ quick. IfErr quick (λ given. IfSome given.woken (WakesItem self.old command moment))) }
-        ensures told { (key : List ℕ) → command ≡ commands.Get key → IfOk result (λ quick. IfErr quick (λ given. IfNone given.woken ((link : Link) → WakesItem self.old command moment link → ⊥))) }
+        ensures link { IfOk result (λ quick. IfErr quick (λ given. IfSome given.link (TouchesItem self.old command moment))) }
+        ensures told { NeedsNone command → IfOk result (λ quick. IfErr quick (λ given. IfNone given.link ((link : Link) → TouchesItem self.old command moment link → ⊥))) }
         ensures full { IsErrOf result faults.HistoryFull ↔ (self.old.limit ≤ length self.old.history) }
         ensures err { OnErr result (self.new.history ≡ self.old.history) }
         ensures site { KeepsSite self.old self.new }
@@ -179,7 +178,7 @@ impl StripeState {
             copies,
         )? {
             Ok(told) => told,
-            Err(woken) => return Ok(Err(GivenBack { command, woken })),
+            Err(link) => return Ok(Err(GivenBack { command, link })),
         };
         self.versions += told.added;
         push_answer(

@@ -3,12 +3,13 @@ ghost use Rattle.std.specs.Prelude.{◌≡◌, ◌≤◌, ◌<◌, ◌+◌, ◌^
 ghost use Rattle.std.specs.Option.{option_copied};
 ghost use Rattle.std.specs.Cmp.Lexicographic.{pointwise};
 ghost use Rattle.std.specs.HashMap.{get, spare};
-ghost use Rattle.mc_item.specs.Answer.{cas_of, row_of};
+ghost use Rattle.mc_item.specs.Answer.{cas_of, delete_row, row_of};
 ghost use Rattle.mc_item.specs.Cache.{changed};
 ghost use Rattle.mc_item.specs.Command.{key_of};
 ghost use Rattle.mc_item.specs.declared.answer.Answer.{Answer};
 ghost use Rattle.mc_item.specs.declared.answer.Need.{Need};
 ghost use Rattle.mc_item.specs.declared.answer.Need.TheVariants as needs;
+ghost use Rattle.mc_item.specs.declared.reply.Reply.TheVariants as replies;
 ghost use Rattle.mc_stripe.specs.Rooms.{IsOfNeed};
 
 use mc_item::{Answer, Change, ClassNo, Command, Item, Key, NoMemory, Reply, Room, Site};
@@ -174,6 +175,40 @@ pub(crate) fn remove(items: &mut HashMap<Key, Item, RandomState>, key: &Key)
     ensures spare { spare items.old ≤ spare items.new }
 {
     let _ = items.remove(key);
+}
+
+// The reply to a `delete`.
+#[inline(always)]
+fn deleted(found: bool) -> Reply
+    ensures { result ≡ (if found then replies.Deleted else replies.NotFound) }
+{
+    if found {
+        Reply::Deleted
+    } else {
+        Reply::NotFound
+    }
+}
+
+/// The answer to a `delete`: the item goes, where there is one.
+#[inline(always)]
+pub(crate) fn answer_deleted(
+    items: &mut HashMap<Key, Item, RandomState>,
+    key: &Key,
+    room: Room,
+    copies: bool,
+) -> Answered
+    ensures ok { (answer : Answer) × (answer ≡ (delete_row (get (pointwise nat_eq) items.old key.now)).answer room)
+        × (result.noted ≡ answer.reply) × (result.copy ≡ (if copies then Some answer.reply else None)) × (result.added ≡ Rattle.mc_item.specs.Cache.versions_of answer.change)
+        × ((q : List ℕ) → get (pointwise nat_eq) items.new q ≡ (if pointwise nat_eq key.now q then changed (get (pointwise nat_eq) items.old key.now) answer.change else get (pointwise nat_eq) items.old q)) }
+    ensures spare { spare items.old ≤ spare items.new }
+{
+    let _room = room;
+    let found = items.remove(key).is_some();
+    Answered {
+        noted: deleted(found),
+        copy: if copies { Some(deleted(found)) } else { None },
+        added: 0,
+    }
 }
 
 // The answer to a command that finds an item, by the general way, and whether the item stays.

@@ -6,9 +6,10 @@ ghost use Rattle.mc_item.specs.Item as items;
 ghost use Rattle.mc_item.specs.declared.item.Expiry.{Expiry};
 ghost use Rattle.mc_item.specs.declared.reply.Room.TheVariants as rooms;
 ghost use Rattle.mc_stripe.specs.Plan as plans;
+ghost use Rattle.mc_stripe.specs.Alone as words;
 ghost use Rattle.mc_stripe.specs.Plan.{IsHeld, fate_of};
 
-use mc_item::{Expiry, Item, Link, Verb};
+use mc_item::{Command, Expiry, Item, Link, Verb};
 
 /// What becomes of the chunks of a command's key.
 #[derive(Clone, Copy, Debug, PartialEq, Eq)]
@@ -70,6 +71,23 @@ pub(crate) fn wakes(item: &Item) -> bool
     ensures { result ≡ ((items.hit_marks item.now.marks).active && not item.now.marks.active) }
 {
     item.marks.hit().active && !item.marks.active
+}
+
+/// What becomes of the chunk of this link where a command touches no other: a `delete` lets it go, else a hit wakes its item.
+#[inline(always)]
+pub fn fate_by(command: &Command, link: Link) -> Fate
+    ensures fate { result ≡ words.fate_by command.now link }
+    ensures held { (sizes : List ℕ) → IsHeld sizes result }
+{
+    match command {
+        Command::Delete(_) => Fate::Goes(link),
+        Command::Get(_)
+        | Command::Touch(_, _)
+        | Command::Store { .. }
+        | Command::Huge { .. }
+        | Command::Incr(_, _)
+        | Command::Decr(_, _) => Fate::Woken(link),
+    }
 }
 
 /// What becomes of the chunk of an item that is hit once more, where there is one.

@@ -17,7 +17,7 @@ mod setting;
 mod state;
 
 pub use applying::GivenBack;
-pub use fate::Fate;
+pub use fate::{Fate, fate_by};
 pub use mc_item::{Need, Room};
 pub use noted::Noted;
 pub use planning::Plan;

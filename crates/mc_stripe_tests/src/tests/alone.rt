@@ -1,6 +1,6 @@
 //! Which commands a stripe answers alone, and which it gives back since they touch a chunk, or may.
 use super::Asked::{Decr, Delete, Get, Huge, Incr, Store, Touch};
-use super::calls::{asserts, asserts_item, asserts_last, is_answered, is_refused_alone, woken};
+use super::calls::{asserts, asserts_item, asserts_last, is_answered, is_refused_alone, link_told};
 use super::{Asked, stripe_one};
 use mc_item::{ClassNo, Link, Verb};
 use mc_stripe::StripeState;
@@ -105,7 +105,7 @@ fn a_stripe_counts_no_word_and_wakes_no_item_alone(rt: HostRuntime) -> Result<()
 
 // The item has the link of the first event, and the second hit makes it ACTIVE; at the moment 1005 it is dead.
 #[test]
-fn of_an_item_that_a_get_would_wake_the_link_is_told(rt: HostRuntime) -> Result<(), Fail> {
+fn of_an_item_that_a_command_would_touch_the_link_is_told(rt: HostRuntime) -> Result<(), Fail> {
     let alloc = rt.alloc();
     let mut stripe = stripe_one(&rt, alloc)?;
     let nine = Store(Verb::Set, "9");
@@ -115,8 +115,12 @@ fn of_an_item_that_a_get_would_wake_the_link_is_told(rt: HostRuntime) -> Result<
         class: ClassNo(1),
         number: 0,
     };
-    assert_eq!(rt; woken(alloc, &mut stripe, 1004)?, Some(link));
-    assert_eq!(rt; woken(alloc, &mut stripe, 1005)?, None);
+    assert_eq!(rt; link_told(alloc, &mut stripe, Get, 1004)?, Some(link));
+    assert_eq!(rt; link_told(alloc, &mut stripe, Touch(0), 1004)?, Some(link));
+    assert_eq!(rt; link_told(alloc, &mut stripe, Delete, 1004)?, Some(link));
+    assert_eq!(rt; link_told(alloc, &mut stripe, Get, 1005)?, None);
+    assert_eq!(rt; link_told(alloc, &mut stripe, Touch(0), 1005)?, None);
+    assert_eq!(rt; link_told(alloc, &mut stripe, Delete, 1005)?, None);
     assert_eq!(rt; stripe.history().len(), 2);
     Ok(())
 }

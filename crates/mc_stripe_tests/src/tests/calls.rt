@@ -216,19 +216,20 @@ pub(super) fn is_answered<R: Abort>(
     Ok(true)
 }
 
-/// The link that the stripe tells where a get of the key `b` would wake its item; none where it answers the get.
-pub(super) fn woken(
+/// The link that the stripe tells where it gives a command of the key `b` back; none where it answers the command.
+pub(super) fn link_told(
     alloc: Global,
     stripe: &mut StripeState,
+    asked: Asked,
     moment: u64,
 ) -> Result<Option<Link>, Fail> {
-    let command = command_of(alloc, Asked::Get)?;
+    let command = command_of(alloc, asked)?;
     if moment > 1_000_000 || !stripe.owns(command.key()) {
         return Err(Fail::from("no call"));
     }
     match stripe.answer(WHO, command, moment, false)? {
         Ok(_) => Ok(None),
-        Err(given) => Ok(given.woken),
+        Err(given) => Ok(given.link),
     }
 }
 

@@ -23,11 +23,11 @@ pub returns-in-Some-clause-replied : goal.returns-in-Some-clause-replied
 returns-in-Some-clause-replied g c =
     let config = g.N.Named.config in
     let mid = c.answer_quick.new.own.stripe in
-    let woken = c.answer_woken in
-    let end = woken.new.own.stripe in
-    let sight = woken.new.own.sight in
-    let calls_new = woken.new.caller.calls in
+    let touched = c.answer_touching in
+    let end = touched.new.own.stripe in
+    let sight = touched.new.own.sight in
+    let calls_new = touched.new.caller.calls in
     let back = rw c.in-Err.is at c.in_ok-reply.ensures.back in
-    let given = subst (λ (x : Command). IfOk woken.result (IsReplied config c.args.who x c.args.moment mid end sight c.answer_quick.new.caller.calls calls_new)) back.0 woken.ensures.replied in
-    let replied = subst (λ (x : CallerView). IfOk woken.result (IsReplied config c.args.who c.args.command c.args.moment mid end sight x.calls calls_new)) back.2 given in
-    replied_ok_same config c.args.who c.args.command c.args.moment c.args.own.now.stripe mid c.answer_quick.ensures.site back.1 end sight c.args.caller.now.calls calls_new woken.result replied
+    let given = subst (λ (x : Command). IfOk touched.result (IsReplied config c.args.who x c.args.moment mid end sight c.answer_quick.new.caller.calls calls_new)) back.0 touched.ensures.replied in
+    let replied = subst (λ (x : CallerView). IfOk touched.result (IsReplied config c.args.who c.args.command c.args.moment mid end sight x.calls calls_new)) back.2 given in
+    replied_ok_same config c.args.who c.args.command c.args.moment c.args.own.now.stripe mid c.answer_quick.ensures.site back.1 end sight c.args.caller.now.calls calls_new touched.result replied

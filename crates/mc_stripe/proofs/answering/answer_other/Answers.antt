@@ -5,7 +5,7 @@ use Rattle.std.specs.HashMap.{get}
 use Rattle.mc_item.specs.Answer.{row_of}
 use Rattle.mc_item.specs.declared.item.Item.{Item}
 use Rattle.mc_stripe.specs.Rooms.{IsOfNeed}
-use Rattle.mc_stripe.proofs.answering.answer_item.Goals as goal
+use Rattle.mc_stripe.proofs.answering.answer_other.Goals as goal
 
 pub answer_over-requires-clause-need : goal.answer_over-requires-clause-need
 answer_over-requires-clause-need c =

@@ -1,12 +1,12 @@
-//! A get whose hit wakes its key's item: the quick way told the item's link, so that it is made without a plan.
+//! A command that touches the chunk of its key's item alone, as a hit that wakes it or a `delete`: the quick way told the
+//! item's link, so that it is made without a plan.
 ghost use Rattle.std.specs.Prelude.{◌≡◌, ◌≤◌, ◌^◌, IfOk, OnErr, IsErrOf, length};
 ghost use Rattle.mc_item.specs.Command.{key_of};
 ghost use Rattle.mc_item.specs.Measure.{stripe_of};
 ghost use Rattle.mc_item.specs.declared.fault.Fault.TheVariants.{HistoryFull};
 ghost use Rattle.mc_item.specs.declared.reply.Room.TheVariants as rooms;
-ghost use Rattle.mc_stripe.specs.Alone.{WakesItem};
+ghost use Rattle.mc_stripe.specs.Alone.{TouchesItem, fate_by};
 ghost use Rattle.mc_stripe.specs.StripeCalls.{KeepsSite};
-ghost use Rattle.mc_stripe.specs.declared.fate.Fate.TheVariants as fates;
 ghost use Rattle.mc_store.specs.Calls.{IsReplied};
 ghost use Rattle.mc_store.specs.Commands.{IsCut};
 ghost use Rattle.mc_store.specs.Needed.{HaveClasses};
@@ -19,15 +19,15 @@ use crate::named::Named;
 use crate::performing::perform_kept;
 use crate::store::Store;
 use mc_item::{Command, Fault, Link, Reply, Who};
-use mc_stripe::Fate;
+use mc_stripe::fate_by;
 use std::alloc::Global;
 use std::sync::Wait;
 
-// The link of an item that a command wakes is of one of the store's classes.
+// The link of an item whose chunk a command touches is of one of the store's classes.
 #[inline(always)]
 fn is_of_store<N: Named>(own: &LockedStripe<N>, command: &Command, moment: u64, link: Link)
-    requires { WakesItem own.now.stripe command.now moment link }
-    ensures { HaveClasses (length N.config.sizes) rooms.Keep (fates.Woken link) }
+    requires { TouchesItem own.now.stripe command.now moment link }
+    ensures { HaveClasses (length N.config.sizes) rooms.Keep (fate_by command.now link) }
 {
     let _command = command;
     let _moment = moment;
@@ -37,9 +37,9 @@ fn is_of_store<N: Named>(own: &LockedStripe<N>, command: &Command, moment: u64, 
     stripe.history();
 }
 
-// Makes a command that wakes its key's item.
+// Makes a command that touches the chunk of its key's item alone.
 #[inline(never)]
-pub(crate) fn answer_woken<N: Named>(
+pub(crate) fn answer_touching<N: Named>(
     alloc: Global,
     store: &Store<N>,
     rt: &impl Wait,
@@ -53,7 +53,7 @@ pub(crate) fn answer_woken<N: Named>(
     requires own { stripe_of (key_of command) N.config.stripes ≡ record { 0 = own.old.stripe.site.stripe } }
     requires asked { HasAsked caller.old who command moment }
     requires early { moment ≤ 2 ^ 62 }
-    requires wakes { WakesItem own.old.stripe command moment link }
+    requires touches { TouchesItem own.old.stripe command moment link }
     ensures replied { IfOk result (IsReplied N.config who command moment own.old.stripe own.new.stripe own.new.sight caller.old.calls caller.new.calls) }
     ensures cut { OnErr result (IsCut N.config who command moment own.old.stripe own.new.stripe) }
     ensures unnoted { OnErr result (caller.new ≡ caller.old) }
@@ -63,6 +63,6 @@ pub(crate) fn answer_woken<N: Named>(
 {
     own.law();
     is_of_store(own, &command, moment, link);
-    let fate = Fate::Woken(link);
+    let fate = fate_by(&command, link);
     perform_kept(alloc, store, rt, own, caller, who, command, moment, fate)
 }
