@@ -2,6 +2,7 @@ pub mod Keys
 pub mod Lines
 pub mod Kinds
 pub mod Table
+pub mod Words
 pub mod Grammar
 pub mod Reader
 pub mod Scripts

@@ -2,6 +2,7 @@
 //! written. Nothing here runs a command.
 #![tactic(auto)]
 
+mod brief;
 mod command;
 mod directive;
 mod dividing;

@@ -3,7 +3,8 @@ ghost use Rattle.std.specs.Prelude.{◌≡◌, IfOk};
 ghost use Rattle.mc_proto.specs.Grammar.{IsFine};
 ghost use Rattle.mc_proto.specs.Table as table;
 
-use crate::quick::{quick_count, quick_set};
+use crate::brief::{quick_count, quick_delete, quick_touch};
+use crate::quick::quick_store;
 use crate::request::Limits;
 use crate::state::Said;
 use crate::token::{first_tokens, more_tokens, without_cr};
@@ -19,10 +20,16 @@ pub fn said_of(alloc: Global, limits: Limits, line: &[u8]) -> Result<Said, NoMem
     ensures fine { IfOk result (λ s. IsFine limits s) }
 {
     let line = without_cr(line);
-    if let Some(said) = quick_set(alloc, limits, line)? {
+    if let Some(said) = quick_store(alloc, limits, line)? {
         return Ok(said);
     }
     if let Some(said) = quick_count(alloc, limits, line)? {
+        return Ok(said);
+    }
+    if let Some(said) = quick_touch(alloc, limits, line)? {
+        return Ok(said);
+    }
+    if let Some(said) = quick_delete(alloc, limits, line)? {
         return Ok(said);
     }
     let mut few = [line; 8];

@@ -1,6 +1,6 @@
-//! The lines that come most often, read in one pass: get of one key, set, incr and decr, each with single spaces.
-ghost use Rattle.std.specs.Prelude.{◌≡◌, ◌∷◌, ◌++◌, [], ◌<◌, ◌≤◌, ◌^◌, ◌↔◌, IfOk, IsTrue, IfSome, codes, if◌then◌else◌, pos, false};
-ghost use Rattle.mc_item.specs.declared.command.Verb.TheVariants as stores;
+//! The lines that come most often, read in one pass: get of one key, set, add and replace, each with one space behind
+//! the verb.
+ghost use Rattle.std.specs.Prelude.{◌≡◌, ◌∷◌, ◌++◌, [], ◌<◌, ◌≤◌, ◌^◌, ◌↔◌, IfOk, IsTrue, IfSome, MatchOption, codes, if◌then◌else◌, pos, false};
 ghost use Rattle.mc_proto.specs.Grammar.{IsFine};
 ghost use Rattle.mc_proto.specs.Lines.{tokens};
 ghost use Rattle.mc_proto.specs.Table as table;
@@ -8,8 +8,8 @@ ghost use Rattle.mc_proto.specs.Table.{tokens_say};
 ghost use Rattle.mc_proto.specs.declared.request.Limits.{Limits};
 ghost use Rattle.mc_proto.specs.declared.request.Request.TheVariants as requests;
 ghost use Rattle.mc_proto.specs.declared.state.Said.TheVariants as said;
+ghost use Rattle.mc_proto.specs.Words.{store_word};
 
-use crate::command::count;
 use crate::request::Limits;
 use crate::state::{Said, Start};
 use crate::storage::{MAX_BYTES, MAX_FLAGS, begun};
@@ -43,15 +43,18 @@ pub fn lone_get(alloc: Global, line: &[u8]) -> Result<Option<Key>, NoMemory>
     }
 }
 
-// What comes after `set` and one space, where a line begins so.
+// Whether a line begins with `set`, `add` or `replace` and one space: the verb, and what comes after it; of other lines
+// nothing is said.
 #[inline(always)]
-fn after_set(line: &[u8]) -> Option<&[u8]>
-    ensures { IfSome result (λ rest. tokens line.now ≡ codes "set" ∷ tokens rest.now) }
+fn after_store(line: &[u8]) -> Option<(Verb, &[u8])>
+    ensures { IfSome result (λ x. MatchOption (store_word x.0) ⊥ (λ word. tokens line.now ≡ word ∷ tokens x.1.now)) }
 {
-    let [b's', b'e', b't', b' ', rest @ ..] = line else {
-        return None;
-    };
-    Some(rest)
+    match line {
+        [b's', b'e', b't', b' ', rest @ ..] => Some((Verb::Set, rest)),
+        [b'a', b'd', b'd', b' ', rest @ ..] => Some((Verb::Add, rest)),
+        [b'r', b'e', b'p', b'l', b'a', b'c', b'e', b' ', rest @ ..] => Some((Verb::Replace, rest)),
+        _ => None,
+    }
 }
 
 // Whether these are one space and the word that makes a line quiet.
@@ -65,10 +68,10 @@ fn is_noreply(rest: &[u8]) -> bool
     }
 }
 
-// What is left of a line that has no further token, or one space and the word that makes it quiet; of others nothing
-// is said.
+/// What is left of a line that has no further token, or one space and the word that makes it quiet; of others nothing
+/// is said.
 #[inline(always)]
-fn quiet_end(rest: &[u8]) -> Option<bool>
+pub fn quiet_end(rest: &[u8]) -> Option<bool>
     ensures { IfSome result (λ quiet. tokens rest.now ≡ (if quiet then codes "noreply" ∷ [] else [])) }
 {
     if rest.is_empty() {
@@ -80,20 +83,28 @@ fn quiet_end(rest: &[u8]) -> Option<bool>
     Some(true)
 }
 
-// A good line `set` with these numbers.
+// A good storage line of this verb with these numbers.
 #[inline(always)]
-fn begun_set(limits: Limits, key: Key, flags: u64, exptime: u64, count: u64, quiet: bool) -> Said
+fn begun_store(
+    limits: Limits,
+    verb: Verb,
+    key: Key,
+    flags: u64,
+    exptime: u64,
+    count: u64,
+    quiet: bool,
+) -> Said
     requires flags { flags ≤ 4294967295 }
     requires exptime { exptime < 10 ^ 18 }
     requires count { count ≤ 2147483645 }
-    ensures value { result ≡ table.begun limits (record { verb = stores.Set; key = key; flags = flags; exptime = pos exptime; count = count; quiet = quiet }) }
+    ensures value { result ≡ table.begun limits (record { verb = verb; key = key; flags = flags; exptime = pos exptime; count = count; quiet = quiet }) }
     ensures fine { IsFine limits result }
 {
     let exptime = exptime as i64;
     begun(
         limits,
         Start {
-            verb: Verb::Set,
+            verb,
             key,
             flags: flags as u32,
             exptime,
@@ -103,13 +114,14 @@ fn begun_set(limits: Limits, key: Key, flags: u64, exptime: u64, count: u64, qui
     )
 }
 
-/// A line `set` of a key, three numbers and perhaps noreply, one space behind the verb; of other lines nothing is said.
+/// A line `set`, `add` or `replace` of a key, three numbers and perhaps noreply, one space behind the verb; of other
+/// lines nothing is said.
 #[inline(always)]
-pub fn quick_set(alloc: Global, limits: Limits, line: &[u8]) -> Result<Option<Said>, NoMemory>
+pub fn quick_store(alloc: Global, limits: Limits, line: &[u8]) -> Result<Option<Said>, NoMemory>
     ensures value { IfOk result (λ found. IfSome found (λ s. s ≡ tokens_say limits (tokens line.now))) }
     ensures fine { IfOk result (λ found. IfSome found (λ s. IsFine limits s)) }
 {
-    let Some(rest) = after_set(line) else {
+    let Some((verb, rest)) = after_store(line) else {
         return Ok(None);
     };
     let Some((token, rest)) = next_token(rest) else {
@@ -133,43 +145,5 @@ pub fn quick_set(alloc: Global, limits: Limits, line: &[u8]) -> Result<Option<Sa
     let Some(key) = key_of(alloc, token)? else {
         return Ok(None);
     };
-    Ok(Some(begun_set(limits, key, flags, exptime, count, quiet)))
-}
-
-// Whether a line begins with `incr` and one space, or with `decr` and one, and what comes after it; of other lines
-// nothing is said.
-#[inline(always)]
-fn after_count(line: &[u8]) -> Option<(bool, &[u8])>
-    ensures { IfSome result (λ x. tokens line.now ≡ (if x.0 then codes "incr" else codes "decr") ∷ tokens x.1.now) }
-{
-    match line {
-        [b'i', b'n', b'c', b'r', b' ', rest @ ..] => Some((true, rest)),
-        [b'd', b'e', b'c', b'r', b' ', rest @ ..] => Some((false, rest)),
-        _ => None,
-    }
-}
-
-/// A line `incr` or `decr` of a key and a number, one space behind the verb; of other lines nothing is said.
-#[inline(always)]
-pub fn quick_count(alloc: Global, limits: Limits, line: &[u8]) -> Result<Option<Said>, NoMemory>
-    ensures value { IfOk result (λ found. IfSome found (λ s. s ≡ tokens_say limits (tokens line.now))) }
-    ensures fine { IfOk result (λ found. IfSome found (λ s. IsFine limits s)) }
-{
-    let _limits = limits;
-    let Some((up, rest)) = after_count(line) else {
-        return Ok(None);
-    };
-    let Some((token, rest)) = next_token(rest) else {
-        return Ok(None);
-    };
-    let Some((delta, rest)) = next_number(rest) else {
-        return Ok(None);
-    };
-    if !rest.is_empty() {
-        return Ok(None);
-    }
-    let Some(key) = key_of(alloc, token)? else {
-        return Ok(None);
-    };
-    Ok(Some(count(up, key, delta, false)))
+    Ok(Some(begun_store(limits, verb, key, flags, exptime, count, quiet)))
 }

@@ -2,6 +2,7 @@
 mod hostile;
 mod lines;
 mod pieces;
+mod plain;
 mod replies;
 mod show;
 mod splitting;

@@ -1,0 +1,123 @@
+//! The lines incr, decr, touch and delete, read in one pass where one space stands behind the verb.
+ghost use Rattle.std.specs.Prelude.{◌≡◌, ◌∷◌, IfOk, IfSome, codes, if◌then◌else◌};
+ghost use Rattle.mc_proto.specs.Grammar.{IsFine};
+ghost use Rattle.mc_proto.specs.Lines.{tokens};
+ghost use Rattle.mc_proto.specs.Table.{tokens_say};
+
+use crate::command::count;
+use crate::quick::quiet_end;
+use crate::request::Limits;
+use crate::said::one;
+use crate::state::Said;
+use crate::token::{key_of, next_number, next_token};
+use mc_item::{Command, NoMemory};
+use std::alloc::Global;
+
+// Whether a line begins with `incr` and one space, or with `decr` and one, and what comes after it; of other lines
+// nothing is said.
+#[inline(always)]
+fn after_count(line: &[u8]) -> Option<(bool, &[u8])>
+    ensures { IfSome result (λ x. tokens line.now ≡ (if x.0 then codes "incr" else codes "decr") ∷ tokens x.1.now) }
+{
+    match line {
+        [b'i', b'n', b'c', b'r', b' ', rest @ ..] => Some((true, rest)),
+        [b'd', b'e', b'c', b'r', b' ', rest @ ..] => Some((false, rest)),
+        _ => None,
+    }
+}
+
+/// A line `incr` or `decr` of a key, a number and perhaps noreply, one space behind the verb; of other lines nothing
+/// is said.
+#[inline(always)]
+pub fn quick_count(alloc: Global, limits: Limits, line: &[u8]) -> Result<Option<Said>, NoMemory>
+    ensures value { IfOk result (λ found. IfSome found (λ s. s ≡ tokens_say limits (tokens line.now))) }
+    ensures fine { IfOk result (λ found. IfSome found (λ s. IsFine limits s)) }
+{
+    let _limits = limits;
+    let Some((up, rest)) = after_count(line) else {
+        return Ok(None);
+    };
+    let Some((token, rest)) = next_token(rest) else {
+        return Ok(None);
+    };
+    let Some((delta, rest)) = next_number(rest) else {
+        return Ok(None);
+    };
+    let Some(quiet) = quiet_end(rest) else {
+        return Ok(None);
+    };
+    let Some(key) = key_of(alloc, token)? else {
+        return Ok(None);
+    };
+    Ok(Some(count(up, key, delta, quiet)))
+}
+
+// What comes after `touch` and one space, where a line begins so.
+#[inline(always)]
+fn after_touch(line: &[u8]) -> Option<&[u8]>
+    ensures { IfSome result (λ rest. tokens line.now ≡ codes "touch" ∷ tokens rest.now) }
+{
+    let [b't', b'o', b'u', b'c', b'h', b' ', rest @ ..] = line else {
+        return None;
+    };
+    Some(rest)
+}
+
+/// A line `touch` of a key, an exptime without a sign and perhaps noreply, one space behind the verb; of other lines
+/// nothing is said.
+#[inline(always)]
+pub fn quick_touch(alloc: Global, limits: Limits, line: &[u8]) -> Result<Option<Said>, NoMemory>
+    ensures value { IfOk result (λ found. IfSome found (λ s. s ≡ tokens_say limits (tokens line.now))) }
+    ensures fine { IfOk result (λ found. IfSome found (λ s. IsFine limits s)) }
+{
+    let _limits = limits;
+    let Some(rest) = after_touch(line) else {
+        return Ok(None);
+    };
+    let Some((token, rest)) = next_token(rest) else {
+        return Ok(None);
+    };
+    let Some((exptime, rest)) = next_number(rest) else {
+        return Ok(None);
+    };
+    let Some(quiet) = quiet_end(rest) else {
+        return Ok(None);
+    };
+    let Some(key) = key_of(alloc, token)? else {
+        return Ok(None);
+    };
+    Ok(Some(one(quiet, Command::Touch(key, exptime as i64))))
+}
+
+// What comes after `delete` and one space, where a line begins so.
+#[inline(always)]
+fn after_delete(line: &[u8]) -> Option<&[u8]>
+    ensures { IfSome result (λ rest. tokens line.now ≡ codes "delete" ∷ tokens rest.now) }
+{
+    let [b'd', b'e', b'l', b'e', b't', b'e', b' ', rest @ ..] = line else {
+        return None;
+    };
+    Some(rest)
+}
+
+/// A line `delete` of a key and perhaps noreply, one space behind the verb; of other lines nothing is said.
+#[inline(always)]
+pub fn quick_delete(alloc: Global, limits: Limits, line: &[u8]) -> Result<Option<Said>, NoMemory>
+    ensures value { IfOk result (λ found. IfSome found (λ s. s ≡ tokens_say limits (tokens line.now))) }
+    ensures fine { IfOk result (λ found. IfSome found (λ s. IsFine limits s)) }
+{
+    let _limits = limits;
+    let Some(rest) = after_delete(line) else {
+        return Ok(None);
+    };
+    let Some((token, rest)) = next_token(rest) else {
+        return Ok(None);
+    };
+    let Some(quiet) = quiet_end(rest) else {
+        return Ok(None);
+    };
+    let Some(key) = key_of(alloc, token)? else {
+        return Ok(None);
+    };
+    Ok(Some(one(quiet, Command::Delete(key))))
+}
