@@ -181,8 +181,9 @@ fn command_under<N: Named>(
         Ok(reply) => Ok(reply),
         Err(GivenBack { command, link }) => match link {
             None => command_told(alloc, store, rt, own, caller, who, command, moment),
-            Some(link) =>
-                answer_touching(alloc, store, rt, own, caller, who, command, moment, link),
+            Some(link) => answer_touching(
+                alloc, store, rt, own, caller, who, command, moment, link,
+            ),
         },
     }
 }
