@@ -1,5 +1,4 @@
 //! The lines incr, decr, touch and delete, read in one pass where one space stands behind the verb.
-//! Touch and delete stay functions of their own, so that lines which come more often don't make room for them.
 ghost use Rattle.std.specs.Prelude.{◌≡◌, ◌∷◌, IfOk, IfSome, codes, if◌then◌else◌};
 ghost use Rattle.mc_proto.specs.Grammar.{IsFine};
 ghost use Rattle.mc_proto.specs.Lines.{tokens};
@@ -66,7 +65,7 @@ fn after_touch(line: &[u8]) -> Option<&[u8]>
 
 /// A line `touch` of a key, an exptime without a sign and perhaps noreply, one space behind the verb; of other lines
 /// nothing is said.
-#[inline(never)]
+#[inline(always)]
 pub fn quick_touch(alloc: Global, limits: Limits, line: &[u8]) -> Result<Option<Said>, NoMemory>
     ensures value { IfOk result (λ found. IfSome found (λ s. s ≡ tokens_say limits (tokens line.now))) }
     ensures fine { IfOk result (λ found. IfSome found (λ s. IsFine limits s)) }
@@ -102,7 +101,7 @@ fn after_delete(line: &[u8]) -> Option<&[u8]>
 }
 
 /// A line `delete` of a key and perhaps noreply, one space behind the verb; of other lines nothing is said.
-#[inline(never)]
+#[inline(always)]
 pub fn quick_delete(alloc: Global, limits: Limits, line: &[u8]) -> Result<Option<Said>, NoMemory>
     ensures value { IfOk result (λ found. IfSome found (λ s. s ≡ tokens_say limits (tokens line.now))) }
     ensures fine { IfOk result (λ found. IfSome found (λ s. IsFine limits s)) }
