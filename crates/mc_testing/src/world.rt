@@ -1,0 +1,119 @@
+//! A store of one stripe and one class, filled by hand.
+ghost use Rattle.std.specs.Prelude.{◌≡◌, IfOk};
+ghost use Rattle.mc_item.specs.Config.{IsSound, IsBounded};
+ghost use Rattle.mc_testing.specs.World.{IsWorld};
+
+use crate::commands::storage;
+use crate::links::{is_dead, room_for};
+use mc_item::{ClassNo, Command, Config, Moves, Numbers, StripeNo, Verb, Who};
+use mc_pull::Lone;
+use mc_segment::ClassState;
+use mc_stripe::StripeState;
+use std::alloc::Global;
+use std::hash::RandomState;
+use std::random::RandomSource;
+use std::test::Fail;
+
+/// Who makes each call of a world.
+pub const WHO: Who = Who { caller: 0, turn: 0 };
+
+/// A stripe and a class, and what both were made with.
+#[derive(Drop)]
+pub struct World {
+    pub alloc: Global,
+    pub config: Config,
+    pub class: ClassState,
+    pub stripe: StripeState,
+}
+
+fn checked(config: Config) -> Result<Config, Fail>
+    ensures sound { IfOk result (λ c. IsSound c × (c ≡ config)) }
+    ensures bounded { IfOk result IsBounded }
+{
+    Ok(config.check()?)
+}
+
+/// The usual configuration with one slab class of this many chunks of 96 bytes.
+pub fn one_class(alloc: Global, chunks: u64) -> Result<Config, Fail> {
+    let sizes = Numbers::from_vec(Vec::from_slice(alloc, &[96])?);
+    let chunks = Numbers::from_vec(Vec::from_slice(alloc, &[chunks])?);
+    let usual = Config::usual(alloc, 1)?;
+    Ok(Config {
+        sizes,
+        chunks,
+        ..usual
+    })
+}
+
+/// A store of this configuration, which has one stripe.
+pub fn opened<R: RandomSource>(rt: &R, alloc: Global, config: Config) -> Result<World, Fail>
+    ensures { IfOk result (λ w. IsWorld w.config w.class w.stripe) }
+{
+    let config = checked(config)?;
+    let seed = RandomState::new(rt)?;
+    let class = ClassState::new(alloc, ClassNo(1), &config);
+    let stripe = StripeState::new(alloc, StripeNo(0), &config, seed);
+    Ok(World {
+        alloc,
+        config,
+        class,
+        stripe,
+    })
+}
+
+/// Answers a command on the stripe; a new version gets the next number of the class.
+pub fn ask(world: &mut World, command: Command, moment: u64) -> Result<(), Fail>
+    requires world { IsWorld world.old.config world.old.class world.old.stripe }
+    ensures world { IsWorld world.new.config world.new.class world.new.stripe }
+{
+    let alloc = world.alloc;
+    let stripe = &mut world.stripe;
+    let number = world.class.next_number();
+    let may = moment <= 1 << 62 && stripe.owns(command.key());
+    if !may || is_dead(stripe, command.key(), moment) {
+        return Err(Fail::from("no such command may be made"));
+    }
+    let need = stripe.need(&command, moment);
+    let Some(room) = room_for(alloc, need, stripe.history(), number) else {
+        return Err(Fail::from("no room fits the command"));
+    };
+    stripe.apply_with(WHO, command, moment, room, false)?;
+    Ok(())
+}
+
+/// Stores an item of 66 bytes under the key of one letter and links its entry.
+pub fn store(world: &mut World, letter: u8, exptime: i64, moment: u64) -> Result<(), Fail>
+    requires world { IsWorld world.old.config world.old.class world.old.stripe }
+    ensures world { IsWorld world.new.config world.new.class world.new.stripe }
+{
+    let alloc = world.alloc;
+    let command = storage(alloc, Verb::Set, letter, 0, exptime, &[letter])?;
+    let key = command.key().copy(alloc)?;
+    ask(world, command, moment)?;
+    let Some(item) = world.stripe.find(&key) else {
+        return Err(Fail::from("no item was stored"));
+    };
+    let expiry = item.expiry;
+    let class = &mut world.class;
+    if class.count() >= class.chunks() {
+        return Err(Fail::from("the class is full"));
+    }
+    class.link(WHO, key, 66, moment, expiry)?;
+    Ok(())
+}
+
+/// Juggles the class, through a gate that is lent the stripe.
+pub fn juggle(world: &mut World, moment: u64) -> Result<Moves, Fail>
+    requires world { IsWorld world.old.config world.old.class world.old.stripe }
+    ensures world { IsWorld world.new.config world.new.class world.new.stripe }
+{
+    let alloc = world.alloc;
+    let mut answers = Vec::new(alloc);
+    let mut gate = Lone {
+        number: StripeNo(0),
+        stripe: &mut world.stripe,
+        answers: &mut answers,
+    };
+    let class = &mut world.class;
+    Ok(gate.juggle(alloc, class, WHO, moment, &world.config)?)
+}
