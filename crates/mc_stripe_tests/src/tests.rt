@@ -6,7 +6,6 @@ mod alone;
 mod calls;
 mod histories;
 mod items;
-mod links;
 mod noted;
 mod plain;
 mod plans;

@@ -15,18 +15,36 @@ static NO_CHUNK: [Row; 20] = [
     (Alone(Decr(1), 1000), "NotFound"),
     (Alone(Touch(0), 1000), "NotFound"),
     (Alone(Delete, 1000), "NotFound"),
-    (Alone(Store(Verb::Replace, "9"), 1000), "given back after NotFound"),
+    (
+        Alone(Store(Verb::Replace, "9"), 1000),
+        "given back after NotFound",
+    ),
     (Alone(Huge(Verb::Add), 1000), "given back after NotFound"),
     (Answer(Store(Verb::Set, "9")), "Stored"),
     (Alone(Incr(1), 1000), "given back after Stored"),
     (Alone(Incr(999_991), 1000), "NoSpace"),
     (Alone(Decr(1), 1000), "Number(8)"),
     (Alone(Incr(1), 1000), "Number(9)"),
-    (Alone(Get, 1000), "Value { flags: 7, value: Value { bytes: [57] }, cas: 10 }"),
-    (Alone(Get, 1000), "given back after Value { flags: 7, value: Value { bytes: [57] }, cas: 10 }"),
-    (Alone(Touch(0), 1000), "given back after Value { flags: 7, value: Value { bytes: [57] }, cas: 10 }"),
-    (Alone(Delete, 1000), "given back after Value { flags: 7, value: Value { bytes: [57] }, cas: 10 }"),
-    (Alone(Store(Verb::Add, "6"), 1000), "given back after Value { flags: 7, value: Value { bytes: [57] }, cas: 10 }"),
+    (
+        Alone(Get, 1000),
+        "Value { flags: 7, value: Value { bytes: [57] }, cas: 10 }",
+    ),
+    (
+        Alone(Get, 1000),
+        "given back after Value { flags: 7, value: Value { bytes: [57] }, cas: 10 }",
+    ),
+    (
+        Alone(Touch(0), 1000),
+        "given back after Value { flags: 7, value: Value { bytes: [57] }, cas: 10 }",
+    ),
+    (
+        Alone(Delete, 1000),
+        "given back after Value { flags: 7, value: Value { bytes: [57] }, cas: 10 }",
+    ),
+    (
+        Alone(Store(Verb::Add, "6"), 1000),
+        "given back after Value { flags: 7, value: Value { bytes: [57] }, cas: 10 }",
+    ),
     (Events, "10"),
     (Item, FETCHED),
 ];
@@ -69,10 +87,7 @@ fn of_an_item_that_a_command_would_touch_the_link_is_told(rt: HostRuntime) {
     play(&rt, rt.alloc(), TOLD.as_slice());
 }
 
-static FULL: [Row; 2] = [
-    (AloneMisses(16), "16"),
-    (Alone(Get, 1000), "HistoryFull"),
-];
+static FULL: [Row; 2] = [(AloneMisses(16), "16"), (Alone(Get, 1000), "HistoryFull")];
 
 #[test]
 fn a_full_history_answers_nothing_alone(rt: HostRuntime) {

@@ -8,12 +8,13 @@ ghost use Rattle.mc_item.specs.declared.answer.Need.TheVariants as needs;
 ghost use Rattle.mc_item.specs.declared.reply.Room.TheVariants as rooms;
 ghost use Rattle.mc_stripe.specs.StripeState.{cache_now};
 
+use super::noted::told_noted;
 use super::plain::{agreed, plain, reply_text, text, texts_of};
 use super::{Asked, WHO, b, command_of, value};
 use mc_history::History;
-use mc_item::{ClassNo, Command, Fault, Key, Link, Reply, StripeEvent, Verb, Who};
+use mc_item::{ClassNo, Command, Fault, Key, Link, Reply, Verb, Who};
 use mc_stripe::{GivenBack, Need, Noted, Room, StripeState};
-use super::links::{is_dead, is_unnamed, room_for};
+use mc_testing::{is_dead, is_unnamed, room_for};
 use std::alloc::Global;
 use std::process::Abort;
 
@@ -78,9 +79,7 @@ pub(super) fn told_answer<R: Abort>(
     let command = command_of(rt, alloc, asked);
     let room = room_of(rt, alloc, stripe, &command, 1000, full);
     let plain = plain(rt, alloc, stripe, &command, 1000, room);
-    let reply = stripe
-        .apply(WHO, command, 1000, room)
-        .expect(rt, "a reply");
+    let reply = stripe.apply(WHO, command, 1000, room).expect(rt, "a reply");
     let told = texts_of(rt, alloc, stripe, &reply);
     agreed(rt, alloc, &told, &plain)
 }
@@ -107,25 +106,11 @@ fn fault_text<R: Abort>(rt: &R, alloc: Global, fault: Fault) -> String {
     format!(in alloc; "{fault:?}").expect(rt, "a text")
 }
 
-// The text of the reply that an event notes, where it is a command's.
-fn noted_text<R: Abort>(rt: &R, alloc: Global, event: &StripeEvent) -> String {
-    match event {
-        StripeEvent::Did(did) => reply_text(rt, alloc, &did.reply),
-        StripeEvent::Lost(_) => text(rt, alloc, "none"),
-        StripeEvent::Cooled(_) => text(rt, alloc, "none"),
-    }
-}
-
-fn told_noted<R: Abort>(rt: &R, alloc: Global, noted: &Noted) -> String {
-    let event = noted.event(alloc).expect(rt, "an event");
-    noted_text(rt, alloc, &event)
-}
-
 /// The reply that the last event notes.
 pub(super) fn told_last<R: Abort>(rt: &R, alloc: Global, stripe: &StripeState) -> String {
     let history = stripe.history();
     match history.get(history.len().saturating_sub(1)) {
-        Some(noted) => told_noted(rt, alloc, noted),
+        Some(noted) => told_noted(rt, alloc, noted, false),
         None => text(rt, alloc, "none"),
     }
 }
@@ -139,42 +124,6 @@ fn copied<R: Abort>(rt: &R, alloc: Global, copy: &str, last: &str) -> String {
     }
 }
 
-// What comes of a command that the stripe alone was asked for, and the last reply then.
-fn alone_text<R: Abort>(
-    rt: &R,
-    alloc: Global,
-    answered: &Result<Option<Reply>, GivenBack>,
-    last: &str,
-) -> String {
-    match answered {
-        Ok(Some(copy)) => copied(rt, alloc, reply_text(rt, alloc, copy).as_str(), last),
-        Ok(None) => text(rt, alloc, "no copy"),
-        Err(_) => format!(in alloc; "given back after {last}").expect(rt, "a text"),
-    }
-}
-
-/// The reply that the stripe alone gives, where it stands in the history; or that it gave the command back, and the last
-/// reply; or the fault.
-pub(super) fn told_alone<R: Abort>(
-    rt: &R,
-    alloc: Global,
-    stripe: &mut StripeState,
-    asked: Asked,
-    moment: u64,
-) -> String {
-    let command = command_of(rt, alloc, asked);
-    asserts_owned(rt, stripe, &command, moment);
-    match stripe.answer(WHO, command, moment, true) {
-        Ok(answered) => alone_text(
-            rt,
-            alloc,
-            &answered,
-            told_last(rt, alloc, stripe).as_str(),
-        ),
-        Err(fault) => fault_text(rt, alloc, fault),
-    }
-}
-
 // A link's text, where there is one.
 fn link_text<R: Abort>(rt: &R, alloc: Global, link: Option<Link>) -> String {
     match link {
@@ -185,32 +134,63 @@ fn link_text<R: Abort>(rt: &R, alloc: Global, link: Option<Link>) -> String {
     }
 }
 
-// The link that a command which was given back touches.
-fn touched_text<R: Abort>(
+// What an answer of the stripe alone says, after which the history has this last reply.
+fn alone_text<R: Abort>(
     rt: &R,
     alloc: Global,
-    answered: &Result<Option<Reply>, GivenBack>,
+    answered: &Result<Result<Option<Reply>, GivenBack>, Fault>,
+    last: &str,
 ) -> String {
     match answered {
-        Ok(_) => text(rt, alloc, "answered"),
-        Err(given) => link_text(rt, alloc, given.link),
+        Ok(Ok(Some(copy))) => copied(rt, alloc, reply_text(rt, alloc, copy).as_str(), last),
+        Ok(Ok(None)) => text(rt, alloc, "no copy"),
+        Ok(Err(_)) => format!(in alloc; "given back after {last}").expect(rt, "a text"),
+        Err(fault) => fault_text(rt, alloc, *fault),
     }
 }
 
-/// The link that the stripe tells where it gives a command back.
-pub(super) fn told_link<R: Abort>(
+// The link that the stripe tells where it gives a command back.
+fn touched_text<R: Abort>(
+    rt: &R,
+    alloc: Global,
+    answered: &Result<Result<Option<Reply>, GivenBack>, Fault>,
+) -> String {
+    match answered {
+        Ok(Ok(_)) => text(rt, alloc, "answered"),
+        Ok(Err(given)) => link_text(rt, alloc, given.link),
+        Err(fault) => fault_text(rt, alloc, *fault),
+    }
+}
+
+// The link or the reply that an answer of the stripe alone tells.
+fn told_by<R: Abort>(
+    rt: &R,
+    alloc: Global,
+    stripe: &StripeState,
+    answered: &Result<Result<Option<Reply>, GivenBack>, Fault>,
+    link: bool,
+) -> String {
+    if link {
+        touched_text(rt, alloc, answered)
+    } else {
+        alone_text(rt, alloc, answered, told_last(rt, alloc, stripe).as_str())
+    }
+}
+
+/// The reply that the stripe alone gives, where it stands in the history; or that it gave the command back, and the last
+/// reply; or the fault. Where the link is asked for, no copy of the reply is, and the link that is told is.
+pub(super) fn told_alone<R: Abort>(
     rt: &R,
     alloc: Global,
     stripe: &mut StripeState,
     asked: Asked,
     moment: u64,
+    link: bool,
 ) -> String {
     let command = command_of(rt, alloc, asked);
     asserts_owned(rt, stripe, &command, moment);
-    let answered = stripe
-        .answer(WHO, command, moment, false)
-        .expect(rt, "no fault");
-    touched_text(rt, alloc, &answered)
+    let answered = stripe.answer(WHO, command, moment, !link);
+    told_by(rt, alloc, stripe, &answered, link)
 }
 
 fn class_of(need: Need) -> Option<ClassNo>
@@ -243,10 +223,15 @@ fn link_of<R: Abort>(
 }
 
 // What comes of a set by the quick way.
-fn set_text<R: Abort>(rt: &R, alloc: Global, set: &Result<Option<Link>, Command>) -> String {
+fn set_text<R: Abort>(
+    rt: &R,
+    alloc: Global,
+    set: &Result<Result<Option<Link>, Command>, Fault>,
+) -> String {
     match set {
-        Ok(old) => link_text(rt, alloc, *old),
-        Err(_) => text(rt, alloc, "given back"),
+        Ok(Ok(old)) => link_text(rt, alloc, *old),
+        Ok(Err(_)) => text(rt, alloc, "given back"),
+        Err(fault) => fault_text(rt, alloc, *fault),
     }
 }
 
@@ -268,10 +253,8 @@ pub(super) fn told_set<R: Abort>(
         value,
     };
     let link = link_of(rt, alloc, stripe, &command, moment);
-    match stripe.set(WHO, command, moment, link) {
-        Ok(set) => set_text(rt, alloc, &set),
-        Err(fault) => fault_text(rt, alloc, fault),
-    }
+    let set = stripe.set(WHO, command, moment, link);
+    set_text(rt, alloc, &set)
 }
 
 // Whether the key's item has the mark ACTIVE.
@@ -375,9 +358,7 @@ pub(super) fn cools_without_memory<R: Abort>(
     let key = b(rt, alloc);
     stripe.reserve(2).expect(rt, "room");
     let room = room_of(rt, alloc, stripe, &command, 1000, false);
-    let _reply = stripe
-        .apply(WHO, command, 1000, room)
-        .expect(rt, "a reply");
+    let _reply = stripe.apply(WHO, command, 1000, room).expect(rt, "a reply");
     asserts_active(rt, stripe, &key);
     cool_in_room(stripe, key)
 }

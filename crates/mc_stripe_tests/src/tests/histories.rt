@@ -6,7 +6,8 @@ use mc_item::Verb;
 
 const FIVE: &str = "Value { flags: 7, value: Value { bytes: [53] }, cas: 2 }";
 
-const AFTER_FIVE: &str = "given back after Value { flags: 7, value: Value { bytes: [53] }, cas: 2 }";
+const AFTER_FIVE: &str =
+    "given back after Value { flags: 7, value: Value { bytes: [53] }, cas: 2 }";
 
 static STANDING: [Row; 13] = [
     (Last, "none"),

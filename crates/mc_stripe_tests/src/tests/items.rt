@@ -18,7 +18,10 @@ static HITS: [Row; 9] = [
     (Item, STORED),
     (Answer(Touch(100)), "Touched"),
     (Active, "false"),
-    (Answer(Get), "Value { flags: 7, value: Value { bytes: [53] }, cas: 2 }"),
+    (
+        Answer(Get),
+        "Value { flags: 7, value: Value { bytes: [53] }, cas: 2 }",
+    ),
     (Answer(Decr(1)), "Number(4)"),
     (Item, HIT),
     (Cool(1), "cooled"),

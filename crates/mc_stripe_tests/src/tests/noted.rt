@@ -1,5 +1,6 @@
 //! Each kind of event, read back from a history.
 use super::Asked::{Decr, Delete, Get, Huge, Incr, StoreUntil, Touch};
+use super::plain::{reply_text, text};
 use super::rows::Ask::{Cool, Event, Events, Expire, FullTurn, Take, Turn};
 use super::rows::{Row, play};
 use mc_item::{Cooled, Did, Lost, StripeEvent, Verb};
@@ -31,6 +32,7 @@ fn cooled_text<R: Abort>(rt: &R, alloc: Global, cooled: &Cooled) -> String {
     .expect(rt, "a text")
 }
 
+// An event in short.
 fn event_text<R: Abort>(rt: &R, alloc: Global, event: &StripeEvent) -> String {
     match event {
         StripeEvent::Did(did) => did_text(rt, alloc, did),
@@ -39,9 +41,27 @@ fn event_text<R: Abort>(rt: &R, alloc: Global, event: &StripeEvent) -> String {
     }
 }
 
-fn noted_text<R: Abort>(rt: &R, alloc: Global, noted: &Noted) -> String {
+// The reply that an event notes, where it is a command's.
+fn reply_in<R: Abort>(rt: &R, alloc: Global, event: &StripeEvent) -> String {
+    match event {
+        StripeEvent::Did(did) => reply_text(rt, alloc, &did.reply),
+        StripeEvent::Lost(_) => text(rt, alloc, "none"),
+        StripeEvent::Cooled(_) => text(rt, alloc, "none"),
+    }
+}
+
+fn whole_or_reply<R: Abort>(rt: &R, alloc: Global, event: &StripeEvent, whole: bool) -> String {
+    if whole {
+        event_text(rt, alloc, event)
+    } else {
+        reply_in(rt, alloc, event)
+    }
+}
+
+/// The whole event in short, or the reply that it notes.
+pub(super) fn told_noted<R: Abort>(rt: &R, alloc: Global, noted: &Noted, whole: bool) -> String {
     let event = noted.event(alloc).expect(rt, "an event");
-    event_text(rt, alloc, &event)
+    whole_or_reply(rt, alloc, &event, whole)
 }
 
 /// The event at a place of the history, in short.
@@ -52,7 +72,7 @@ pub(super) fn told_event<R: Abort>(
     place: usize,
 ) -> String {
     let noted = stripe.history().get(place).expect(rt, "an event");
-    noted_text(rt, alloc, noted)
+    told_noted(rt, alloc, noted, true)
 }
 
 // The turns of caller 9 begin at the moment 1001: what happens to the key `b`, and the events that say so.
@@ -61,8 +81,14 @@ static TURNS: [Row; 33] = [
     (Turn(2, StoreUntil(Verb::Add, "5", 100)), "Stored"),
     (Turn(3, StoreUntil(Verb::Cas(3), "6", 0)), "Exists"),
     (FullTurn(4, StoreUntil(Verb::Replace, "6", -1)), "NoRoom"),
-    (Turn(5, Get), "Value { flags: 7, value: Value { bytes: [53] }, cas: 2 }"),
-    (Turn(6, Get), "Value { flags: 7, value: Value { bytes: [53] }, cas: 2 }"),
+    (
+        Turn(5, Get),
+        "Value { flags: 7, value: Value { bytes: [53] }, cas: 2 }",
+    ),
+    (
+        Turn(6, Get),
+        "Value { flags: 7, value: Value { bytes: [53] }, cas: 2 }",
+    ),
     (Cool(7), "cooled"),
     (Turn(8, Incr(1)), "Number(6)"),
     (Turn(9, Touch(50)), "Touched"),
@@ -74,22 +100,67 @@ static TURNS: [Row; 33] = [
     (Turn(15, Incr(93)), "Number(100)"),
     (Expire(16, 1022), "expired"),
     (Events, "16"),
-    (Event(0), "caller 9, turn 1, moment 1001: Get(Key { bytes: [98] }); Miss; Keep"),
-    (Event(1), "caller 9, turn 2, moment 1002: Store { verb: Add, key: Key { bytes: [98] }, flags: 7, exptime: 100, value: Value { bytes: [53] } }; Stored; At(Link { class: ClassNo(1), number: 1 })"),
-    (Event(2), "caller 9, turn 3, moment 1003: Store { verb: Cas(3), key: Key { bytes: [98] }, flags: 7, exptime: 0, value: Value { bytes: [54] } }; Exists; Keep"),
-    (Event(3), "caller 9, turn 4, moment 1004: Store { verb: Replace, key: Key { bytes: [98] }, flags: 7, exptime: -1, value: Value { bytes: [54] } }; NoRoom; Refused { class: ClassNo(1), place: 77 }"),
-    (Event(4), "caller 9, turn 5, moment 1005: Get(Key { bytes: [98] }); Value { flags: 7, value: Value { bytes: [53] }, cas: 2 }; Keep"),
-    (Event(5), "caller 9, turn 6, moment 1006: Get(Key { bytes: [98] }); Value { flags: 7, value: Value { bytes: [53] }, cas: 2 }; Keep"),
+    (
+        Event(0),
+        "caller 9, turn 1, moment 1001: Get(Key { bytes: [98] }); Miss; Keep",
+    ),
+    (
+        Event(1),
+        "caller 9, turn 2, moment 1002: Store { verb: Add, key: Key { bytes: [98] }, flags: 7, exptime: 100, value: Value { bytes: [53] } }; Stored; At(Link { class: ClassNo(1), number: 1 })",
+    ),
+    (
+        Event(2),
+        "caller 9, turn 3, moment 1003: Store { verb: Cas(3), key: Key { bytes: [98] }, flags: 7, exptime: 0, value: Value { bytes: [54] } }; Exists; Keep",
+    ),
+    (
+        Event(3),
+        "caller 9, turn 4, moment 1004: Store { verb: Replace, key: Key { bytes: [98] }, flags: 7, exptime: -1, value: Value { bytes: [54] } }; NoRoom; Refused { class: ClassNo(1), place: 77 }",
+    ),
+    (
+        Event(4),
+        "caller 9, turn 5, moment 1005: Get(Key { bytes: [98] }); Value { flags: 7, value: Value { bytes: [53] }, cas: 2 }; Keep",
+    ),
+    (
+        Event(5),
+        "caller 9, turn 6, moment 1006: Get(Key { bytes: [98] }); Value { flags: 7, value: Value { bytes: [53] }, cas: 2 }; Keep",
+    ),
     (Event(6), "caller 9, turn 7: Key { bytes: [98] } cooled"),
-    (Event(7), "caller 9, turn 8, moment 1008: Incr(Key { bytes: [98] }, 1); Number(6); Keep"),
-    (Event(8), "caller 9, turn 9, moment 1009: Touch(Key { bytes: [98] }, 50); Touched; Keep"),
-    (Event(9), "caller 9, turn 10: Key { bytes: [98] } lost, Taken { class: ClassNo(1), place: 12 }"),
-    (Event(10), "caller 9, turn 11, moment 1011: Delete(Key { bytes: [98] }); NotFound; Keep"),
-    (Event(11), "caller 9, turn 12, moment 1012: Store { verb: Set, key: Key { bytes: [98] }, flags: 7, exptime: 10, value: Value { bytes: [57] } }; Stored; At(Link { class: ClassNo(1), number: 11 })"),
-    (Event(12), "caller 9, turn 13, moment 1013: Huge { verb: Cas(8), key: Key { bytes: [98] } }; TooLarge; Keep"),
-    (Event(13), "caller 9, turn 14, moment 1014: Decr(Key { bytes: [98] }, 2); Number(7); Keep"),
-    (Event(14), "caller 9, turn 15, moment 1015: Incr(Key { bytes: [98] }, 93); Number(100); At(Link { class: ClassNo(2), number: 14 })"),
-    (Event(15), "caller 9, turn 16: Key { bytes: [98] } lost, Expired(1022)"),
+    (
+        Event(7),
+        "caller 9, turn 8, moment 1008: Incr(Key { bytes: [98] }, 1); Number(6); Keep",
+    ),
+    (
+        Event(8),
+        "caller 9, turn 9, moment 1009: Touch(Key { bytes: [98] }, 50); Touched; Keep",
+    ),
+    (
+        Event(9),
+        "caller 9, turn 10: Key { bytes: [98] } lost, Taken { class: ClassNo(1), place: 12 }",
+    ),
+    (
+        Event(10),
+        "caller 9, turn 11, moment 1011: Delete(Key { bytes: [98] }); NotFound; Keep",
+    ),
+    (
+        Event(11),
+        "caller 9, turn 12, moment 1012: Store { verb: Set, key: Key { bytes: [98] }, flags: 7, exptime: 10, value: Value { bytes: [57] } }; Stored; At(Link { class: ClassNo(1), number: 11 })",
+    ),
+    (
+        Event(12),
+        "caller 9, turn 13, moment 1013: Huge { verb: Cas(8), key: Key { bytes: [98] } }; TooLarge; Keep",
+    ),
+    (
+        Event(13),
+        "caller 9, turn 14, moment 1014: Decr(Key { bytes: [98] }, 2); Number(7); Keep",
+    ),
+    (
+        Event(14),
+        "caller 9, turn 15, moment 1015: Incr(Key { bytes: [98] }, 93); Number(100); At(Link { class: ClassNo(2), number: 14 })",
+    ),
+    (
+        Event(15),
+        "caller 9, turn 16: Key { bytes: [98] } lost, Expired(1022)",
+    ),
 ];
 
 #[test]

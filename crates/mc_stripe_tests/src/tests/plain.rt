@@ -2,10 +2,9 @@
 ghost use Rattle.std.specs.Prelude.{◌≤◌, ◌^◌};
 
 use super::b;
+use super::noted::told_noted;
 use mc_history::History;
-use mc_item::{
-    Answer, Change, ClassSizes, Command, Expiry, Item, Marks, Reply, Room, Site, StripeEvent, Value,
-};
+use mc_item::{Answer, Change, ClassSizes, Command, Expiry, Item, Marks, Reply, Room, Site, Value};
 use mc_stripe::{Noted, StripeState};
 use std::alloc::Global;
 use std::process::Abort;
@@ -60,8 +59,11 @@ pub(super) fn agreed<R: Abort>(rt: &R, alloc: Global, told: &Texts, plain: &Text
     if reply == plain.reply.as_str() && left == plain.left.as_str() {
         text(rt, alloc, reply)
     } else {
-        format!(in alloc; "{reply} and {left}, plainly {} and {}", plain.reply, plain.left)
-            .expect(rt, "a text")
+        format!(in alloc;
+            "{reply} and {left}, plainly {} and {}",
+            plain.reply, plain.left
+        )
+        .expect(rt, "a text")
     }
 }
 
@@ -106,18 +108,9 @@ fn left<R: Abort>(rt: &R, found: Option<&Item>, change: Change) -> Option<Item> 
     }
 }
 
-// Whether an event made a new version: one that a command stored, or that is a new number.
-fn is_version(event: &StripeEvent) -> bool {
-    match event {
-        StripeEvent::Did(did) => matches!(&did.reply, Reply::Stored | Reply::Number(_)),
-        StripeEvent::Lost(_) => false,
-        StripeEvent::Cooled(_) => false,
-    }
-}
-
-fn makes_version<R: Abort>(rt: &R, alloc: Global, noted: &Noted) -> bool {
-    let event = noted.event(alloc).expect(rt, "an event");
-    is_version(&event)
+// Whether a reply says that there is a new version: one that a command stored, or that is a new number.
+fn is_version(reply: &str) -> bool {
+    reply == "Stored" || reply.starts_with("Number")
 }
 
 // How many new versions the events made, which are few.
@@ -127,7 +120,7 @@ fn version_count<R: Abort>(rt: &R, alloc: Global, events: &History<Noted>) -> u6
     let mut versions = 0u64;
     for place in 0..events.len() {
         let noted = events.get(place).expect(rt, "an event");
-        if makes_version(rt, alloc, noted) {
+        if is_version(told_noted(rt, alloc, noted, false).as_str()) {
             versions = versions.saturating_add(1);
         }
     }

@@ -1,5 +1,7 @@
 //! What a command will need and do to chunks, row by row of the table of commands: each plan was worked out by hand.
 //! An item of the key `b` costs 65 bytes and those of its value; class 1 has 66 bytes, class 2 has 70.
+ghost use Rattle.std.specs.Prelude.{◌≤◌, ◌^◌};
+
 use super::Asked::{Decr, Delete, Get, Huge, Incr, Store, Touch};
 use super::rows::Ask::{Answer, Events, GetAndCool, Number};
 use super::rows::{check_rows, play};
@@ -121,27 +123,31 @@ static DEAD: [Row; 5] = [
     (Delete, Nothing, Untouched, Untouched),
 ];
 
-// Ends the test where a plan at a moment is another, at which the item of this link is dead.
-fn check_plan<R: Abort>(
+// The test goes on where a command may be asked at this moment.
+fn asserts_moment<R: Abort>(rt: &R, moment: u64)
+    ensures { moment ≤ 2 ^ 62 }
+{
+    assert!(rt; moment <= 1 << 62);
+}
+
+fn plan_of<R: Abort>(
     rt: &R,
     alloc: Global,
     stripe: &StripeState,
     moment: u64,
-    dead: Option<Link>,
-    row: &Row,
-) {
-    let command = command_of(rt, alloc, row.0);
-    assert!(rt; moment <= 1_000_000);
-    let plan = stripe.plan(&command, moment);
-    let want = Plan {
-        dead,
-        need: row.1,
-        with_link: row.2,
-        without_link: row.3,
-    };
-    assert_eq!(rt; plan, want, "{command:?}");
+    asked: Asked,
+) -> Plan {
+    asserts_moment(rt, moment);
+    let command = command_of(rt, alloc, asked);
+    stripe.plan(&command, moment)
 }
 
+// Ends the test where a plan is another.
+fn check_plan<R: Abort>(rt: &R, plan: &Plan, wanted: &Plan, place: usize) {
+    assert_eq!(rt; plan, wanted, "at row {place}");
+}
+
+// Ends the test where a plan at a moment is another, at which the item of this link is dead.
 fn check_plans<R: Abort>(
     rt: &R,
     alloc: Global,
@@ -150,8 +156,15 @@ fn check_plans<R: Abort>(
     dead: Option<Link>,
     rows: &[Row],
 ) {
-    for row in rows {
-        check_plan(rt, alloc, stripe, moment, dead, row);
+    for (place, row) in rows.iter().enumerate() {
+        let wanted = Plan {
+            dead,
+            need: row.1,
+            with_link: row.2,
+            without_link: row.3,
+        };
+        let plan = plan_of(rt, alloc, stripe, moment, row.0);
+        check_plan(rt, &plan, &wanted, place);
     }
 }
 

@@ -1,7 +1,7 @@
 //! A test of stripe 1 of 4 is a list of rows: what is done or looked at, and what it tells.
 use super::calls::{
-    cool, cools_without_memory, expire, is_b_active, is_dead_at, take, told_alone, told_answer, told_last, told_link,
-    told_reply, told_set,
+    cool, cools_without_memory, expire, is_b_active, is_dead_at, take, told_alone, told_answer,
+    told_last, told_reply, told_set,
 };
 use super::noted::told_event;
 use super::plain::{text, told_item};
@@ -113,7 +113,7 @@ fn told_misses_alone<R: Abort>(
 ) -> String {
     let mut misses = 0u64;
     for _i in 0..gets {
-        let told = told_alone(rt, alloc, stripe, Asked::Get, 1000);
+        let told = told_alone(rt, alloc, stripe, Asked::Get, 1000, false);
         if told.as_str() == "Miss" {
             misses = misses.saturating_add(1);
         }
@@ -175,27 +175,26 @@ fn tell<R: Abort>(rt: &R, alloc: Global, stripe: &mut StripeState, ask: Ask) -> 
         Ask::Turn(turn, asked) => told_turn(rt, alloc, stripe, turn, asked, false),
         Ask::FullTurn(turn, asked) => told_turn(rt, alloc, stripe, turn, asked, true),
         Ask::Misses(gets) => told_misses(rt, alloc, stripe, gets),
-        Ask::Alone(asked, moment) => told_alone(rt, alloc, stripe, asked, moment),
+        Ask::Alone(asked, moment) => told_alone(rt, alloc, stripe, asked, moment, false),
         Ask::AloneMisses(gets) => told_misses_alone(rt, alloc, stripe, gets),
-        Ask::Link(asked, moment) => told_link(rt, alloc, stripe, asked, moment),
+        Ask::Link(asked, moment) => told_alone(rt, alloc, stripe, asked, moment, true),
         Ask::Set(set, moment) => told_set(rt, alloc, stripe, set, moment),
         _ => keep_up(rt, alloc, stripe, ask),
     }
 }
 
+fn same<R: Abort>(rt: &R, told: &str, wanted: &str, place: usize) {
+    assert_eq!(rt; told, wanted, "at row {place}");
+}
+
 // Ends the test where a row tells something else.
 fn check_row<R: Abort>(rt: &R, alloc: Global, stripe: &mut StripeState, row: &Row, place: usize) {
     let told = tell(rt, alloc, stripe, row.0);
-    assert_eq!(rt; told.as_str(), row.1, "at row {place}");
+    same(rt, told.as_str(), row.1, place);
 }
 
 /// Ends the test where a row tells something else.
-pub(super) fn check_rows<R: Abort>(
-    rt: &R,
-    alloc: Global,
-    stripe: &mut StripeState,
-    rows: &[Row],
-) {
+pub(super) fn check_rows<R: Abort>(rt: &R, alloc: Global, stripe: &mut StripeState, rows: &[Row]) {
     for (place, row) in rows.iter().enumerate() {
         check_row(rt, alloc, stripe, row, place);
     }

@@ -13,7 +13,10 @@ static STORAGE: [Row; 14] = [
     (Answer(Store(Verb::Cas(2), "2")), "Stored"),
     (Answer(Store(Verb::Replace, "3")), "Stored"),
     (Answer(Store(Verb::Set, "4")), "Stored"),
-    (Answer(Get), "Value { flags: 7, value: Value { bytes: [52] }, cas: 14 }"),
+    (
+        Answer(Get),
+        "Value { flags: 7, value: Value { bytes: [52] }, cas: 14 }",
+    ),
     (Answer(Delete), "Deleted"),
     (Answer(Delete), "NotFound"),
     (Answer(Touch(5)), "NotFound"),
@@ -32,15 +35,24 @@ static NUMBERS: [Row; 14] = [
     (Answer(Store(Verb::Set, "9")), "Stored"),
     (Answer(Incr(1)), "Number(10)"),
     (Answer(Decr(3)), "Number(7)"),
-    (Answer(Get), "Value { flags: 7, value: Value { bytes: [55, 32] }, cas: 10 }"),
+    (
+        Answer(Get),
+        "Value { flags: 7, value: Value { bytes: [55, 32] }, cas: 10 }",
+    ),
     (Answer(Decr(8)), "Number(0)"),
     (Answer(Incr(18446744073709551615)), "NoSpace"),
-    (Answer(Get), "Value { flags: 7, value: Value { bytes: [48, 32] }, cas: 14 }"),
+    (
+        Answer(Get),
+        "Value { flags: 7, value: Value { bytes: [48, 32] }, cas: 14 }",
+    ),
     (Answer(Store(Verb::Set, "1x")), "Stored"),
     (Answer(Incr(1)), "NonNumeric"),
     (Answer(Store(Verb::Set, "5")), "Stored"),
     (Answer(Incr(18446744073709551615)), "Number(4)"),
-    (Answer(Get), "Value { flags: 7, value: Value { bytes: [52] }, cas: 26 }"),
+    (
+        Answer(Get),
+        "Value { flags: 7, value: Value { bytes: [52] }, cas: 26 }",
+    ),
 ];
 
 #[test]
@@ -56,7 +68,10 @@ static REFUSED: [Row; 13] = [
     (Full(Incr(1)), "NoSpace"),
     (Answer(Store(Verb::Add, "123456")), "TooLarge"),
     (Answer(Huge(Verb::Replace)), "TooLarge"),
-    (Answer(Get), "Value { flags: 7, value: Value { bytes: [57] }, cas: 2 }"),
+    (
+        Answer(Get),
+        "Value { flags: 7, value: Value { bytes: [57] }, cas: 2 }",
+    ),
     (Full(Store(Verb::Set, "8")), "NoRoom"),
     (Answer(Get), "Miss"),
     (Answer(Store(Verb::Set, "8")), "Stored"),
