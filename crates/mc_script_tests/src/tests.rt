@@ -5,6 +5,7 @@ mod noted;
 use mc_script::Outcome;
 use noted::{Ran, run_noted};
 use std::alloc::Global;
+use std::fmt::Debug;
 use std::process::Abort;
 use std::sync::Wait;
 
@@ -23,28 +24,16 @@ struct Row {
 // More calls than any script here makes.
 const ALL: u64 = 99;
 
-fn same_bytes<R: Abort>(rt: &R, told: &[u8], wanted: &[u8], script: &str) {
-    assert_eq!(rt; told, wanted, "at {script}");
-}
-
-fn same_outcome<R: Abort>(rt: &R, told: Outcome, wanted: Outcome, script: &str) {
-    assert_eq!(rt; told, wanted, "at {script}");
-}
-
-fn same_count<R: Abort>(rt: &R, told: u64, wanted: u64, script: &str) {
-    assert_eq!(rt; told, wanted, "at {script}");
-}
-
-fn same_upkeep<R: Abort>(rt: &R, told: &[(u32, u64)], wanted: &[(u32, u64)], script: &str) {
+fn same<R: Abort, T: PartialEq + Debug>(rt: &R, told: &[T], wanted: &[T], script: &str) {
     assert_eq!(rt; told, wanted, "at {script}");
 }
 
 // Ends the test if a script did something else.
 fn asserts_ran<R: Abort>(rt: &R, ran: &Ran, row: &Row) {
-    same_outcome(rt, ran.outcome, row.outcome, row.script);
-    same_bytes(rt, ran.text.as_slice(), row.text.as_bytes(), row.script);
-    same_count(rt, ran.made, row.made, row.script);
-    same_upkeep(rt, ran.upkeep.as_slice(), row.upkeep, row.script);
+    same(rt, &[ran.outcome], &[row.outcome], row.script);
+    same(rt, ran.text.as_slice(), row.text.as_bytes(), row.script);
+    same(rt, &[ran.made], &[row.made], row.script);
+    same(rt, ran.upkeep.as_slice(), row.upkeep, row.script);
 }
 
 fn check_row<R: Abort + Wait>(rt: &R, alloc: Global, row: &Row) {

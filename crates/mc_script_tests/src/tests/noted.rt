@@ -124,6 +124,7 @@ impl<R: Abort> Sink for Kept<'_, R> {
     ghost failures = { λ s. 0 };
 
     fn put(&mut self, bytes: &[u8]) -> Result<usize, SinkFault> {
+        assert!(self.rt; !bytes.is_empty());
         self.bytes
             .extend_from_slice(bytes)
             .expect(self.rt, "memory");
