@@ -1,9 +1,18 @@
 //! Tests of the whole: lines, cuts, limits, texts and sinks. Expected values are written from the rules by hand.
+mod dice;
+mod drawn;
+mod gathered;
 mod hostile;
 mod lines;
 mod pieces;
 mod plain;
 mod replies;
+mod roundtrip;
 mod show;
+mod sinks;
+mod spelling;
 mod splitting;
 mod table;
+
+/// What drawn bytes are drawn from.
+const SEED: u64 = 7_919;

@@ -1,27 +1,22 @@
-//! Plans of options and words, where there is memory enough.
+//! Plans of options and words, where there is memory enough. A row holds options without upkeep, the words that give them,
+//! and what both come to.
+use mc_item::Config;
 use mc_options::{Options, Plan, PlanFault, WordsFault, plan_for, read_words};
 use std::alloc::Global;
 use std::process::Abort;
 
-// What a plan has beside the usual: stripes, sizes, chunks of every class, TEMP, its life in seconds, and the limit of
-// events.
-type Shape = (u32, &'static [u64], u64, bool, u64, u64);
+// The options of stripes, chunks, TEMP, its life in seconds, and events.
+type Given = (Option<u32>, Option<u64>, bool, Option<u64>, Option<u64>);
 
-// Options without upkeep, the words that give them, and the plan that they ask for.
-struct Wanted {
-    sizes: Option<&'static [u8]>,
-    options: Options,
-    words: &'static [&'static str],
-    plan: Result<Shape, PlanFault>,
-}
+// The text of sizes, the other options, the words, and the plan or its fault.
+type Row = (
+    Option<&'static [u8]>,
+    Given,
+    &'static [&'static str],
+    &'static str,
+);
 
-pub(crate) const NONE: Options = Options {
-    stripes: None,
-    chunks: None,
-    temp: false,
-    temp_ttl: None,
-    events: None,
-};
+pub(crate) const NONE: Given = (None, None, false, None, None);
 
 const USUAL: [u64; 43] = [
     96, 120, 152, 192, 240, 304, 384, 480, 600, 752, 944, 1184, 1480, 1856, 2320, 2904, 3632, 4544,
@@ -29,53 +24,38 @@ const USUAL: [u64; 43] = [
     129376, 161720, 202152, 252696, 315872, 394840, 493552, 616944, 771184, 963984, 1048576,
 ];
 
-static WANTED: [Wanted; 20] = [
-    Wanted {
-        sizes: None,
-        options: NONE,
-        words: &["mcseg"],
-        plan: Ok((1, &USUAL, 1024, false, 61, 1_048_576)),
-    },
-    Wanted {
-        sizes: Some(b"96,1024"),
-        options: Options {
-            stripes: None,
-            chunks: None,
-            temp: false,
-            temp_ttl: None,
-            events: Some(20),
-        },
-        words: &["mcseg", "--events", "20", "--sizes", "96,1024"],
-        plan: Ok((1, &[96, 1024], 1024, false, 61, 20)),
-    },
-    Wanted {
-        sizes: Some(b"0065"),
-        options: NONE,
-        words: &["mcseg", "--sizes=0065"],
-        plan: Ok((1, &[65], 1024, false, 61, 1_048_576)),
-    },
-    Wanted {
-        sizes: None,
-        options: Options {
-            stripes: None,
-            chunks: None,
-            temp: false,
-            temp_ttl: None,
-            events: Some(16),
-        },
-        words: &["mcseg", "--events", "+16"],
-        plan: Ok((1, &USUAL, 1024, false, 61, 16)),
-    },
-    Wanted {
-        sizes: Some(b"96,1024,2048"),
-        options: Options {
-            stripes: None,
-            chunks: Some(3),
-            temp: true,
-            temp_ttl: Some(2_592_000),
-            events: None,
-        },
-        words: &[
+// What no option of a row changes: callers, percents, factors and upkeep.
+const USUAL_REST: &str = ", 3 callers, 20 40 percent, 20 200 factors, upkeep []";
+
+static WANTED: [Row; 20] = [
+    (
+        None,
+        NONE,
+        &["mcseg"],
+        "1 stripes, sizes usual, 43 of 1024 chunks, no temp 61, 1048576 events",
+    ),
+    (
+        Some(b"96,1024"),
+        (None, None, false, None, Some(20)),
+        &["mcseg", "--events", "20", "--sizes", "96,1024"],
+        "1 stripes, sizes [96, 1024], 2 of 1024 chunks, no temp 61, 20 events",
+    ),
+    (
+        Some(b"0065"),
+        NONE,
+        &["mcseg", "--sizes=0065"],
+        "1 stripes, sizes [65], 1 of 1024 chunks, no temp 61, 1048576 events",
+    ),
+    (
+        None,
+        (None, None, false, None, Some(16)),
+        &["mcseg", "--events", "+16"],
+        "1 stripes, sizes usual, 43 of 1024 chunks, no temp 61, 16 events",
+    ),
+    (
+        Some(b"96,1024,2048"),
+        (None, Some(3), true, Some(2_592_000), None),
+        &[
             "mcseg",
             "--temp",
             "--chunks",
@@ -85,256 +65,261 @@ static WANTED: [Wanted; 20] = [
             "--sizes",
             "96,1024,2048",
         ],
-        plan: Ok((1, &[96, 1024, 2048], 3, true, 2_592_000, 1_048_576)),
-    },
-    Wanted {
-        sizes: None,
-        options: Options {
-            stripes: None,
-            chunks: Some(1_048_576),
-            temp: false,
-            temp_ttl: Some(1),
-            events: None,
-        },
-        words: &["mcseg", "--chunks=+1048576", "--temp-ttl=1"],
-        plan: Ok((1, &USUAL, 1_048_576, false, 1, 1_048_576)),
-    },
-    Wanted {
-        sizes: None,
-        options: Options {
-            stripes: None,
-            chunks: None,
-            temp: true,
-            temp_ttl: None,
-            events: None,
-        },
-        words: &["mcseg", "--temp"],
-        plan: Ok((1, &USUAL, 1024, true, 61, 1_048_576)),
-    },
-    Wanted {
-        sizes: Some(b"96,"),
-        options: Options {
-            stripes: None,
-            chunks: None,
-            temp: false,
-            temp_ttl: None,
-            events: Some(15),
-        },
-        words: &["mcseg", "--sizes", "96,", "--events", "15"],
-        plan: Err(PlanFault::List),
-    },
-    Wanted {
-        sizes: Some(b"96,80"),
-        options: Options {
-            stripes: None,
-            chunks: None,
-            temp: false,
-            temp_ttl: None,
-            events: Some(15),
-        },
-        words: &["mcseg", "--sizes", "96,80", "--events", "15"],
-        plan: Err(PlanFault::Configuration(2)),
-    },
-    Wanted {
-        sizes: Some(b"96"),
-        options: Options {
-            stripes: None,
-            chunks: None,
-            temp: false,
-            temp_ttl: None,
-            events: Some(15),
-        },
-        words: &["mcseg", "--sizes", "96", "--events", "15"],
-        plan: Err(PlanFault::Configuration(7)),
-    },
-    Wanted {
-        sizes: None,
-        options: Options {
-            stripes: None,
-            chunks: None,
-            temp: false,
-            temp_ttl: None,
-            events: Some(4_294_967_297),
-        },
-        words: &["mcseg", "--events", "4294967297"],
-        plan: Err(PlanFault::Configuration(7)),
-    },
-    Wanted {
-        sizes: None,
-        options: Options {
-            stripes: None,
-            chunks: Some(0),
-            temp: false,
-            temp_ttl: Some(0),
-            events: None,
-        },
-        words: &["mcseg", "--chunks", "0", "--temp-ttl", "0"],
-        plan: Err(PlanFault::Configuration(3)),
-    },
-    Wanted {
-        sizes: None,
-        options: Options {
-            stripes: None,
-            chunks: Some(1_048_577),
-            temp: false,
-            temp_ttl: None,
-            events: None,
-        },
-        words: &["mcseg", "--chunks", "1048577"],
-        plan: Err(PlanFault::Configuration(3)),
-    },
-    Wanted {
-        sizes: None,
-        options: Options {
-            stripes: None,
-            chunks: None,
-            temp: true,
-            temp_ttl: Some(0),
-            events: Some(15),
-        },
-        words: &["mcseg", "--temp-ttl", "0", "--temp", "--events", "15"],
-        plan: Err(PlanFault::Configuration(5)),
-    },
-    Wanted {
-        sizes: None,
-        options: Options {
-            stripes: None,
-            chunks: None,
-            temp: false,
-            temp_ttl: Some(2_592_001),
-            events: None,
-        },
-        words: &["mcseg", "--temp-ttl", "2592001"],
-        plan: Err(PlanFault::Configuration(5)),
-    },
-    Wanted {
-        sizes: None,
-        options: Options {
-            stripes: Some(4),
-            chunks: None,
-            temp: false,
-            temp_ttl: None,
-            events: Some(20),
-        },
-        words: &["mcseg", "--stripes", "4", "--events", "20"],
-        plan: Ok((4, &USUAL, 1024, false, 61, 20)),
-    },
-    Wanted {
-        sizes: None,
-        options: Options {
-            stripes: Some(64),
-            chunks: None,
-            temp: false,
-            temp_ttl: None,
-            events: None,
-        },
-        words: &["mcseg", "--stripes=+64"],
-        plan: Ok((64, &USUAL, 1024, false, 61, 1_048_576)),
-    },
-    Wanted {
-        sizes: Some(b"96,80"),
-        options: Options {
-            stripes: Some(3),
-            chunks: None,
-            temp: false,
-            temp_ttl: None,
-            events: None,
-        },
-        words: &["mcseg", "--sizes", "96,80", "--stripes", "3"],
-        plan: Err(PlanFault::Configuration(1)),
-    },
-    Wanted {
-        sizes: None,
-        options: Options {
-            stripes: Some(0),
-            chunks: None,
-            temp: false,
-            temp_ttl: None,
-            events: None,
-        },
-        words: &["mcseg", "--stripes=-0"],
-        plan: Err(PlanFault::Configuration(1)),
-    },
-    Wanted {
-        sizes: None,
-        options: Options {
-            stripes: Some(4_294_967_295),
-            chunks: None,
-            temp: false,
-            temp_ttl: None,
-            events: None,
-        },
-        words: &["mcseg", "--stripes", "4294967295"],
-        plan: Err(PlanFault::Configuration(1)),
-    },
+        "1 stripes, sizes [96, 1024, 2048], 3 of 3 chunks, temp 2592000, 1048576 events",
+    ),
+    (
+        None,
+        (None, Some(1_048_576), false, Some(1), None),
+        &["mcseg", "--chunks=+1048576", "--temp-ttl=1"],
+        "1 stripes, sizes usual, 43 of 1048576 chunks, no temp 1, 1048576 events",
+    ),
+    (
+        None,
+        (None, None, true, None, None),
+        &["mcseg", "--temp"],
+        "1 stripes, sizes usual, 43 of 1024 chunks, temp 61, 1048576 events",
+    ),
+    (
+        Some(b"96,"),
+        (None, None, false, None, Some(15)),
+        &["mcseg", "--sizes", "96,", "--events", "15"],
+        "List",
+    ),
+    (
+        Some(b"96,80"),
+        (None, None, false, None, Some(15)),
+        &["mcseg", "--sizes", "96,80", "--events", "15"],
+        "Configuration(2)",
+    ),
+    (
+        Some(b"96"),
+        (None, None, false, None, Some(15)),
+        &["mcseg", "--sizes", "96", "--events", "15"],
+        "Configuration(7)",
+    ),
+    (
+        None,
+        (None, None, false, None, Some(4_294_967_297)),
+        &["mcseg", "--events", "4294967297"],
+        "Configuration(7)",
+    ),
+    (
+        None,
+        (None, Some(0), false, Some(0), None),
+        &["mcseg", "--chunks", "0", "--temp-ttl", "0"],
+        "Configuration(3)",
+    ),
+    (
+        None,
+        (None, Some(1_048_577), false, None, None),
+        &["mcseg", "--chunks", "1048577"],
+        "Configuration(3)",
+    ),
+    (
+        None,
+        (None, None, true, Some(0), Some(15)),
+        &["mcseg", "--temp-ttl", "0", "--temp", "--events", "15"],
+        "Configuration(5)",
+    ),
+    (
+        None,
+        (None, None, false, Some(2_592_001), None),
+        &["mcseg", "--temp-ttl", "2592001"],
+        "Configuration(5)",
+    ),
+    (
+        None,
+        (Some(4), None, false, None, Some(20)),
+        &["mcseg", "--stripes", "4", "--events", "20"],
+        "4 stripes, sizes usual, 43 of 1024 chunks, no temp 61, 20 events",
+    ),
+    (
+        None,
+        (Some(64), None, false, None, None),
+        &["mcseg", "--stripes=+64"],
+        "64 stripes, sizes usual, 43 of 1024 chunks, no temp 61, 1048576 events",
+    ),
+    (
+        Some(b"96,80"),
+        (Some(3), None, false, None, None),
+        &["mcseg", "--sizes", "96,80", "--stripes", "3"],
+        "Configuration(1)",
+    ),
+    (
+        None,
+        (Some(0), None, false, None, None),
+        &["mcseg", "--stripes=-0"],
+        "Configuration(1)",
+    ),
+    (
+        None,
+        (Some(4_294_967_295), None, false, None, None),
+        &["mcseg", "--stripes", "4294967295"],
+        "Configuration(1)",
+    ),
 ];
 
-// Asserts that a plan is of this shape, and in all else the usual one.
-fn asserts_plan(rt: &impl Abort, plan: Plan, shape: Shape) {
-    let config = plan.config;
-    let (stripes, sizes, limit, temp, temp_ttl, events) = shape;
-    assert_eq!(rt; config.sizes.as_slice(), sizes);
-    assert_eq!(rt; config.chunks.as_slice().len(), sizes.len());
-    for chunks in config.chunks.as_slice() {
-        assert_eq!(rt; *chunks, limit);
-    }
-    assert_eq!(rt; (config.stripes, config.callers), (stripes, 3));
-    assert_eq!(rt; config.max_events, events);
-    assert_eq!(rt; (config.hot_percent, config.warm_percent), (20, 40));
-    assert_eq!(rt; (config.hot_factor, config.warm_factor), (20, 200));
-    assert_eq!(rt; (config.temp, config.temp_ttl), (temp, temp_ttl));
-    assert!(rt; plan.upkeep.as_slice().is_empty());
-}
-
-// Asserts that options give a plan, or the fault that is wanted.
-fn asserts_options(rt: &impl Abort, alloc: Global, wanted: &Wanted) {
-    match (
-        plan_for(alloc, wanted.sizes, None, wanted.options),
-        wanted.plan,
-    ) {
-        (Ok(plan), Ok(shape)) => asserts_plan(rt, plan, shape),
-        (Err(fault), Err(other)) => assert_eq!(rt; fault, other),
-        _ => panic!(rt; "another plan"),
+// The options that are given.
+pub(super) fn options_of(given: Given) -> Options {
+    let (stripes, chunks, temp, temp_ttl, events) = given;
+    Options {
+        stripes,
+        chunks,
+        temp,
+        temp_ttl,
+        events,
     }
 }
 
-// Asserts that words give a plan, or the fault that is wanted.
-fn asserts_words(rt: &impl Abort, alloc: Global, wanted: &Wanted) {
-    let fault = match (read_words(alloc, wanted.words), wanted.plan) {
-        (Ok(plan), Ok(shape)) => {
-            asserts_plan(rt, plan, shape);
-            return;
-        }
-        (Err(WordsFault::List), Err(fault)) => (PlanFault::List, fault),
-        (Err(WordsFault::Configuration(n)), Err(fault)) => (PlanFault::Configuration(n), fault),
-        _ => panic!(rt; "another plan"),
-    };
-    assert_eq!(rt; fault.0, fault.1);
+// The sizes of the classes.
+fn told_sizes(rt: &impl Abort, alloc: Global, sizes: &[u64]) -> String {
+    if sizes == USUAL.as_slice() {
+        format!(in alloc; "usual").expect(rt, "memory")
+    } else {
+        format!(in alloc; "{sizes:?}").expect(rt, "memory")
+    }
+}
+
+// How many classes have a limit of chunks, and which one all of them have.
+fn told_chunks(rt: &impl Abort, alloc: Global, chunks: &[u64]) -> String {
+    let count = chunks.len();
+    let limit = chunks.first().copied().unwrap_or(0);
+    if chunks.iter().all(|other| *other == limit) {
+        format!(in alloc; "{count} of {limit}").expect(rt, "memory")
+    } else {
+        format!(in alloc; "{chunks:?}").expect(rt, "memory")
+    }
+}
+
+// Callers, percents, factors and upkeep, in any case.
+fn told_others(rt: &impl Abort, alloc: Global, config: &Config, upkeep: &[u64]) -> String {
+    let callers = config.callers;
+    let (hot, warm) = (config.hot_percent, config.warm_percent);
+    let (hotter, warmer) = (config.hot_factor, config.warm_factor);
+    format!(in alloc;
+        ", {callers} callers, {hot} {warm} percent, {hotter} {warmer} factors, upkeep {upkeep:?}"
+    ).expect(rt, "memory")
+}
+
+// The same where they aren't the usual ones.
+fn told_rest(rt: &impl Abort, alloc: Global, plan: &Plan) -> String {
+    let rest = told_others(rt, alloc, &plan.config, plan.upkeep.as_slice());
+    if rest.as_str() == USUAL_REST {
+        String::new(alloc)
+    } else {
+        rest
+    }
+}
+
+fn told_temp(temp: bool) -> &'static str {
+    if temp { "temp" } else { "no temp" }
+}
+
+// What a plan has.
+fn told_plan(rt: &impl Abort, alloc: Global, plan: &Plan) -> String {
+    let config = &plan.config;
+    let sizes = told_sizes(rt, alloc, config.sizes.as_slice());
+    let chunks = told_chunks(rt, alloc, config.chunks.as_slice());
+    let temp = told_temp(config.temp);
+    let rest = told_rest(rt, alloc, plan);
+    let (stripes, life, events) = (config.stripes, config.temp_ttl, config.max_events);
+    format!(in alloc;
+        "{stripes} stripes, sizes {sizes}, {chunks} chunks, {temp} {life}, {events} events{rest}"
+    ).expect(rt, "memory")
+}
+
+// The plan of options, or its fault.
+fn told_options(rt: &impl Abort, alloc: Global, sizes: Option<&[u8]>, given: Given) -> String {
+    match plan_for(alloc, sizes, None, options_of(given)) {
+        Ok(plan) => told_plan(rt, alloc, &plan),
+        Err(fault) => told_fault(rt, alloc, fault),
+    }
+}
+
+// What is wrong with words that the reader of the command line takes.
+fn fault_of(fault: &WordsFault) -> Option<PlanFault> {
+    match fault {
+        WordsFault::Words(_) => None,
+        WordsFault::List => Some(PlanFault::List),
+        WordsFault::Configuration(number) => Some(PlanFault::Configuration(*number)),
+        WordsFault::NoMemory => Some(PlanFault::NoMemory),
+    }
+}
+
+/// What is wrong with options.
+pub(super) fn told_fault(rt: &impl Abort, alloc: Global, fault: PlanFault) -> String {
+    format!(in alloc; "{fault:?}").expect(rt, "memory")
+}
+
+fn told_refusal(rt: &impl Abort, alloc: Global) -> String {
+    format!(in alloc; "Words").expect(rt, "memory")
+}
+
+/// What is wrong with words.
+pub(super) fn told_words_fault(rt: &impl Abort, alloc: Global, fault: &WordsFault) -> String {
+    match fault_of(fault) {
+        Some(fault) => told_fault(rt, alloc, fault),
+        None => told_refusal(rt, alloc),
+    }
+}
+
+// The plan of words, or what is wrong with them.
+fn told_words(rt: &impl Abort, alloc: Global, words: &[&str]) -> String {
+    match read_words(alloc, words) {
+        Ok(plan) => told_plan(rt, alloc, &plan),
+        Err(fault) => told_words_fault(rt, alloc, &fault),
+    }
+}
+
+/// Ends the test where a row tells something else.
+pub(super) fn same(rt: &impl Abort, told: &str, wanted: &str, place: usize) {
+    assert_eq!(rt; told, wanted, "at row {place}");
+}
+
+fn check_row(rt: &impl Abort, alloc: Global, row: &Row, place: usize) {
+    let by_options = told_options(rt, alloc, row.0, row.1);
+    same(rt, by_options.as_str(), row.3, place);
+    let by_words = told_words(rt, alloc, row.2);
+    same(rt, by_words.as_str(), row.3, place);
+}
+
+fn check_rows(rt: &impl Abort, alloc: Global, rows: &[Row]) {
+    for (place, row) in rows.iter().enumerate() {
+        check_row(rt, alloc, row, place);
+    }
 }
 
 #[test]
 fn options_and_words_ask_for_one_plan(rt: HostRuntime) {
-    for wanted in WANTED.as_slice() {
-        asserts_options(&rt, rt.alloc(), wanted);
-        asserts_words(&rt, rt.alloc(), wanted);
+    check_rows(&rt, rt.alloc(), WANTED.as_slice());
+}
+
+static REFUSED: [&[&str]; 11] = [
+    &["mcseg", "--color"],
+    &["mcseg", "--version"],
+    &["mcseg", "--events", "18446744073709551616"],
+    &["mcseg", "--stripes", "4294967296"],
+    &["mcseg", "--stripes=-1"],
+    &["mcseg", "--chunks", "-1"],
+    &["mcseg", "--temp-ttl", "x"],
+    &["mcseg", "--temp=yes"],
+    &["mcseg", "--temp", "--temp"],
+    &["mcseg", "--upkeep"],
+    &["mcseg", "--upkeep", "1", "--upkeep", "1"],
+];
+
+fn check_refused(rt: &impl Abort, alloc: Global, words: &[&str], place: usize) {
+    let told = told_words(rt, alloc, words);
+    same(rt, told.as_str(), "Words", place);
+}
+
+fn check_all_refused(rt: &impl Abort, alloc: Global, rows: &[&[&str]]) {
+    for (place, words) in rows.iter().enumerate() {
+        check_refused(rt, alloc, *words, place);
     }
 }
 
 #[test]
 fn words_that_no_option_takes_are_the_readers(rt: HostRuntime) {
-    for words in [
-        ["mcseg", "--color"].as_slice(),
-        ["mcseg", "--version"].as_slice(),
-        ["mcseg", "--events", "18446744073709551616"].as_slice(),
-        ["mcseg", "--stripes", "4294967296"].as_slice(),
-        ["mcseg", "--stripes=-1"].as_slice(),
-        ["mcseg", "--chunks", "-1"].as_slice(),
-        ["mcseg", "--temp-ttl", "x"].as_slice(),
-        ["mcseg", "--temp=yes"].as_slice(),
-        ["mcseg", "--temp", "--temp"].as_slice(),
-        ["mcseg", "--upkeep"].as_slice(),
-        ["mcseg", "--upkeep", "1", "--upkeep", "1"].as_slice(),
-    ] {
-        assert!(rt; matches!(read_words(rt.alloc(), words), Err(WordsFault::Words(_))));
-    }
+    check_all_refused(&rt, rt.alloc(), REFUSED.as_slice());
 }

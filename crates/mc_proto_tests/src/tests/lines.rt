@@ -1,298 +1,181 @@
 //! Lines of each verb, with the requests that the rules give them.
-use crate::tests::show::read;
+use crate::tests::show::{requests_of, same};
 use std::alloc::Global;
 use std::process::Abort;
 
-// Reads each input whole, and byte by byte, and compares what is shown.
-pub(super) fn compare(rt: &impl Abort, alloc: Global, cases: &[(&[u8], &[u8])]) {
-    for (input, want) in cases {
-        let (whole, _) = read(rt, alloc, *input, 4096);
-        assert_eq!(rt; whole.as_slice(), *want);
-        let (bytes, _) = read(rt, alloc, *input, 1);
-        assert_eq!(rt; bytes.as_slice(), *want);
+/// An input, and its requests in short.
+pub(super) type Case = (&'static [u8], &'static [u8]);
+
+fn check_case(rt: &impl Abort, alloc: Global, case: &Case, place: usize) {
+    let whole = requests_of(rt, alloc, case.0, 4096);
+    same(rt, whole.as_slice(), case.1, "whole, at row", place);
+    let bytes = requests_of(rt, alloc, case.0, 1);
+    same(rt, bytes.as_slice(), case.1, "byte by byte, at row", place);
+}
+
+/// Reads each input whole, and byte by byte, and compares what is shown.
+pub(super) fn compare(rt: &impl Abort, alloc: Global, cases: &[Case]) {
+    for (place, case) in cases.iter().enumerate() {
+        check_case(rt, alloc, case, place);
     }
 }
 
+static LINES_AND_GETS: [Case; 19] = [
+    (b"get a\r\n", b"get a;"),
+    (b"get a\n", b"get a;"),
+    (b"  get   a  \r\n", b"get a;"),
+    (b"get a noreply\r\n", b"get a noreply;"),
+    (b"gets a b a\r\n", b"gets a b a;"),
+    (
+        b"get a b c d e f\r\nget a b c d e f g\r\n",
+        b"get a b c d e f;get a b c d e f g;",
+    ),
+    (
+        b"gets a b c d e f g h i j k\r\n",
+        b"gets a b c d e f g h i j k;",
+    ),
+    (b"get a\x80\xff\r\n", b"get a\x80\xff;"),
+    (b"get\r\n", b"error;"),
+    (b"gets \r\n", b"error;"),
+    (b"GET a\r\n", b"error;"),
+    (b"get\ta\r\n", b"error;"),
+    (b"\r\n\n   \r\n\r\r\n", b"error;error;error;error;"),
+    (b"get a\rb\r\nget a\r\r\n", b"format;format;"),
+    (b"get \0\r\n", b"format;"),
+    (b"get a b\0 c\r\nget a\r\n", b"format;get a;"),
+    (b"noreply\r\nstats\r\ngat 0 a\r\n", b"error;error;error;"),
+    (b"\xff\xff\xff\r\nget a\r\n", b"error;get a;"),
+    (b"get a\r\nget b", b"get a;"),
+];
+
 #[test]
 fn lines_and_gets(rt: HostRuntime) {
-    compare(
-        &rt,
-        rt.alloc(),
-        &[
-            (b"get a\r\n".as_slice(), b"get a;".as_slice()),
-            (b"get a\n".as_slice(), b"get a;".as_slice()),
-            (b"  get   a  \r\n".as_slice(), b"get a;".as_slice()),
-            (
-                b"get a noreply\r\n".as_slice(),
-                b"get a noreply;".as_slice(),
-            ),
-            (b"gets a b a\r\n".as_slice(), b"gets a b a;".as_slice()),
-            (
-                b"get a b c d e f\r\nget a b c d e f g\r\n".as_slice(),
-                b"get a b c d e f;get a b c d e f g;".as_slice(),
-            ),
-            (
-                b"gets a b c d e f g h i j k\r\n".as_slice(),
-                b"gets a b c d e f g h i j k;".as_slice(),
-            ),
-            (
-                b"get a\x80\xff\r\n".as_slice(),
-                b"get a\x80\xff;".as_slice(),
-            ),
-            (b"get\r\n".as_slice(), b"error;".as_slice()),
-            (b"gets \r\n".as_slice(), b"error;".as_slice()),
-            (b"GET a\r\n".as_slice(), b"error;".as_slice()),
-            (b"get\ta\r\n".as_slice(), b"error;".as_slice()),
-            (
-                b"\r\n\n   \r\n\r\r\n".as_slice(),
-                b"error;error;error;error;".as_slice(),
-            ),
-            (
-                b"get a\rb\r\nget a\r\r\n".as_slice(),
-                b"format;format;".as_slice(),
-            ),
-            (b"get \0\r\n".as_slice(), b"format;".as_slice()),
-            (
-                b"get a b\0 c\r\nget a\r\n".as_slice(),
-                b"format;get a;".as_slice(),
-            ),
-            (
-                b"noreply\r\nstats\r\ngat 0 a\r\n".as_slice(),
-                b"error;error;error;".as_slice(),
-            ),
-            (
-                b"\xff\xff\xff\r\nget a\r\n".as_slice(),
-                b"error;get a;".as_slice(),
-            ),
-            (b"get a\r\nget b".as_slice(), b"get a;".as_slice()),
-        ],
-    );
+    compare(&rt, rt.alloc(), LINES_AND_GETS.as_slice());
 }
+
+static STORAGE_LINES: [Case; 18] = [
+    (b"set a 0 0 1\r\nx\r\n", b"set a 0 0 x;"),
+    (b"set  a  0  0  1 \nx\r\n", b"set a 0 0 x;"),
+    (b"add a 1 2 0\r\n\r\n", b"add a 1 2 ;"),
+    (
+        b"replace a 4294967295 -5 2\r\n\r\n\r\n",
+        b"replace a 4294967295 -5 \r\n;",
+    ),
+    (b"cas a 0 0 1 7\r\nx\r\n", b"cas 7 a 0 0 x;"),
+    (
+        b"cas a 0 0 1 18446744073709551615\r\nx\r\n",
+        b"cas 18446744073709551615 a 0 0 x;",
+    ),
+    (b"set a 0 0 1 noreply\r\nx\r\n", b"~set a 0 0 x;"),
+    (b"cas a 0 0 1 7 noreply\r\nx\r\n", b"~cas 7 a 0 0 x;"),
+    (
+        b"set a 00000000000000000001 -0 01\r\nx\r\n",
+        b"set a 1 0 x;",
+    ),
+    (
+        b"set a 0 999999999999999999 0\r\n\r\n",
+        b"set a 0 999999999999999999 ;",
+    ),
+    (
+        b"set a 0 -999999999999999999 0\r\n\r\n",
+        b"set a 0 -999999999999999999 ;",
+    ),
+    (b"set noreply 0 0 0\r\n\r\n", b"set noreply 0 0 ;"),
+    (b"set a 0 0 0\r\nget a\r\n", b"chunk;error;"),
+    (b"set a 0 0 1\r\nxy\r\n", b"chunk;error;"),
+    (b"set a 0 0 1 noreply\r\nxy\r\n", b"~chunk;error;"),
+    (b"set a 0 0 1\nx\n\n", b"chunk;"),
+    (b"set a 0 0 1\n\r\n\r", b"chunk;"),
+    (b"set a 0 0 2147483645\r\nxyz", b""),
+];
 
 #[test]
 fn storage_lines(rt: HostRuntime) {
-    compare(
-        &rt,
-        rt.alloc(),
-        &[
-            (
-                b"set a 0 0 1\r\nx\r\n".as_slice(),
-                b"set a 0 0 x;".as_slice(),
-            ),
-            (
-                b"set  a  0  0  1 \nx\r\n".as_slice(),
-                b"set a 0 0 x;".as_slice(),
-            ),
-            (b"add a 1 2 0\r\n\r\n".as_slice(), b"add a 1 2 ;".as_slice()),
-            (
-                b"replace a 4294967295 -5 2\r\n\r\n\r\n".as_slice(),
-                b"replace a 4294967295 -5 \r\n;".as_slice(),
-            ),
-            (
-                b"cas a 0 0 1 7\r\nx\r\n".as_slice(),
-                b"cas 7 a 0 0 x;".as_slice(),
-            ),
-            (
-                b"cas a 0 0 1 18446744073709551615\r\nx\r\n".as_slice(),
-                b"cas 18446744073709551615 a 0 0 x;".as_slice(),
-            ),
-            (
-                b"set a 0 0 1 noreply\r\nx\r\n".as_slice(),
-                b"~set a 0 0 x;".as_slice(),
-            ),
-            (
-                b"cas a 0 0 1 7 noreply\r\nx\r\n".as_slice(),
-                b"~cas 7 a 0 0 x;".as_slice(),
-            ),
-            (
-                b"set a 00000000000000000001 -0 01\r\nx\r\n".as_slice(),
-                b"set a 1 0 x;".as_slice(),
-            ),
-            (
-                b"set a 0 999999999999999999 0\r\n\r\n".as_slice(),
-                b"set a 0 999999999999999999 ;".as_slice(),
-            ),
-            (
-                b"set a 0 -999999999999999999 0\r\n\r\n".as_slice(),
-                b"set a 0 -999999999999999999 ;".as_slice(),
-            ),
-            (
-                b"set noreply 0 0 0\r\n\r\n".as_slice(),
-                b"set noreply 0 0 ;".as_slice(),
-            ),
-            (
-                b"set a 0 0 0\r\nget a\r\n".as_slice(),
-                b"chunk;error;".as_slice(),
-            ),
-            (
-                b"set a 0 0 1\r\nxy\r\n".as_slice(),
-                b"chunk;error;".as_slice(),
-            ),
-            (
-                b"set a 0 0 1 noreply\r\nxy\r\n".as_slice(),
-                b"~chunk;error;".as_slice(),
-            ),
-            (b"set a 0 0 1\nx\n\n".as_slice(), b"chunk;".as_slice()),
-            (b"set a 0 0 1\n\r\n\r".as_slice(), b"chunk;".as_slice()),
-            (b"set a 0 0 2147483645\r\nxyz".as_slice(), b"".as_slice()),
-        ],
-    );
+    compare(&rt, rt.alloc(), STORAGE_LINES.as_slice());
 }
+
+static REFUSED_STORAGE_LINES: [Case; 22] = [
+    (b"set a 0 0\r\n", b"error;"),
+    (b"set\r\n", b"error;"),
+    (b"set a 0 0 1 2\r\n", b"error;"),
+    (b"set a 0 0 1 noreply x\r\n", b"error;"),
+    (b"cas a 0 0 1\r\n", b"error;"),
+    (b"cas a 0 0 1 1 1\r\n", b"error;"),
+    (b"set \0 x 0 0 0 0\r\n", b"error;"),
+    (b"cas a 0 0 1 noreply\r\n", b"format;"),
+    (b"set a 0 0 noreply\r\n", b"format;"),
+    (b"set a 4294967296 0 1\r\nx\r\n", b"format;error;"),
+    (b"set a 4294967296 0 1 noreply\r\n", b"~format;"),
+    (b"set a 000000000000000000001 0 1\r\n", b"format;"),
+    (b"set a 99999999999999999999 0 1\r\n", b"format;"),
+    (b"set a 0 x 1\r\n", b"format;"),
+    (b"set a 0 - 1\r\n", b"format;"),
+    (b"set a 0 --1 1\r\n", b"format;"),
+    (b"set a 0 +1 1\r\n", b"format;"),
+    (b"set a 0 1000000000000000000 1\r\n", b"format;"),
+    (b"set a 0 0 2147483646\r\n", b"format;"),
+    (b"set a 0 0 -1\r\n", b"format;"),
+    (b"set \0 0 0 1\r\n", b"format;"),
+    (b"cas a 0 0 1 18446744073709551616\r\n", b"format;"),
+];
 
 #[test]
 fn refused_storage_lines(rt: HostRuntime) {
-    compare(
-        &rt,
-        rt.alloc(),
-        &[
-            (b"set a 0 0\r\n".as_slice(), b"error;".as_slice()),
-            (b"set\r\n".as_slice(), b"error;".as_slice()),
-            (b"set a 0 0 1 2\r\n".as_slice(), b"error;".as_slice()),
-            (
-                b"set a 0 0 1 noreply x\r\n".as_slice(),
-                b"error;".as_slice(),
-            ),
-            (b"cas a 0 0 1\r\n".as_slice(), b"error;".as_slice()),
-            (b"cas a 0 0 1 1 1\r\n".as_slice(), b"error;".as_slice()),
-            (b"set \0 x 0 0 0 0\r\n".as_slice(), b"error;".as_slice()),
-            (b"cas a 0 0 1 noreply\r\n".as_slice(), b"format;".as_slice()),
-            (b"set a 0 0 noreply\r\n".as_slice(), b"format;".as_slice()),
-            (
-                b"set a 4294967296 0 1\r\nx\r\n".as_slice(),
-                b"format;error;".as_slice(),
-            ),
-            (
-                b"set a 4294967296 0 1 noreply\r\n".as_slice(),
-                b"~format;".as_slice(),
-            ),
-            (
-                b"set a 000000000000000000001 0 1\r\n".as_slice(),
-                b"format;".as_slice(),
-            ),
-            (
-                b"set a 99999999999999999999 0 1\r\n".as_slice(),
-                b"format;".as_slice(),
-            ),
-            (b"set a 0 x 1\r\n".as_slice(), b"format;".as_slice()),
-            (b"set a 0 - 1\r\n".as_slice(), b"format;".as_slice()),
-            (b"set a 0 --1 1\r\n".as_slice(), b"format;".as_slice()),
-            (b"set a 0 +1 1\r\n".as_slice(), b"format;".as_slice()),
-            (
-                b"set a 0 1000000000000000000 1\r\n".as_slice(),
-                b"format;".as_slice(),
-            ),
-            (
-                b"set a 0 0 2147483646\r\n".as_slice(),
-                b"format;".as_slice(),
-            ),
-            (b"set a 0 0 -1\r\n".as_slice(), b"format;".as_slice()),
-            (b"set \0 0 0 1\r\n".as_slice(), b"format;".as_slice()),
-            (
-                b"cas a 0 0 1 18446744073709551616\r\n".as_slice(),
-                b"format;".as_slice(),
-            ),
-        ],
-    );
+    compare(&rt, rt.alloc(), REFUSED_STORAGE_LINES.as_slice());
 }
+
+static OTHER_COMMANDS: [Case; 21] = [
+    (b"incr a 1\r\n", b"incr a 1;"),
+    (
+        b"decr a 18446744073709551615 noreply\r\n",
+        b"~decr a 18446744073709551615;",
+    ),
+    (b"incr a 18446744073709551616\r\n", b"delta;"),
+    (b"decr a 000000000000000000001\r\n", b"delta;"),
+    (b"incr a x noreply\r\n", b"~delta;"),
+    (b"incr a noreply\r\n", b"delta;"),
+    (b"decr a -1\r\n", b"delta;"),
+    (b"incr \0 x\r\n", b"format;"),
+    (b"incr a\r\nincr\r\nincr a 1 2\r\n", b"error;error;error;"),
+    (b"touch a -1 noreply\r\n", b"~touch a -1;"),
+    (b"touch a 0\r\n", b"touch a 0;"),
+    (b"touch a x\r\n", b"exptime;"),
+    (b"touch a noreply\r\n", b"exptime;"),
+    (b"touch a x noreply\r\n", b"~exptime;"),
+    (b"touch \0 x\r\n", b"format;"),
+    (b"touch a\r\ntouch a 1 2\r\n", b"error;error;"),
+    (b"delete a\r\n", b"delete a;"),
+    (b"delete noreply\r\n", b"delete noreply;"),
+    (b"delete noreply noreply\r\n", b"~delete noreply;"),
+    (b"delete \0 noreply\r\n", b"~format;"),
+    (b"delete a 0\r\ndelete\r\n", b"error;error;"),
+];
 
 #[test]
 fn other_commands(rt: HostRuntime) {
-    compare(
-        &rt,
-        rt.alloc(),
-        &[
-            (b"incr a 1\r\n".as_slice(), b"incr a 1;".as_slice()),
-            (
-                b"decr a 18446744073709551615 noreply\r\n".as_slice(),
-                b"~decr a 18446744073709551615;".as_slice(),
-            ),
-            (
-                b"incr a 18446744073709551616\r\n".as_slice(),
-                b"delta;".as_slice(),
-            ),
-            (
-                b"decr a 000000000000000000001\r\n".as_slice(),
-                b"delta;".as_slice(),
-            ),
-            (b"incr a x noreply\r\n".as_slice(), b"~delta;".as_slice()),
-            (b"incr a noreply\r\n".as_slice(), b"delta;".as_slice()),
-            (b"decr a -1\r\n".as_slice(), b"delta;".as_slice()),
-            (b"incr \0 x\r\n".as_slice(), b"format;".as_slice()),
-            (
-                b"incr a\r\nincr\r\nincr a 1 2\r\n".as_slice(),
-                b"error;error;error;".as_slice(),
-            ),
-            (
-                b"touch a -1 noreply\r\n".as_slice(),
-                b"~touch a -1;".as_slice(),
-            ),
-            (b"touch a 0\r\n".as_slice(), b"touch a 0;".as_slice()),
-            (b"touch a x\r\n".as_slice(), b"exptime;".as_slice()),
-            (b"touch a noreply\r\n".as_slice(), b"exptime;".as_slice()),
-            (b"touch a x noreply\r\n".as_slice(), b"~exptime;".as_slice()),
-            (b"touch \0 x\r\n".as_slice(), b"format;".as_slice()),
-            (
-                b"touch a\r\ntouch a 1 2\r\n".as_slice(),
-                b"error;error;".as_slice(),
-            ),
-            (b"delete a\r\n".as_slice(), b"delete a;".as_slice()),
-            (
-                b"delete noreply\r\n".as_slice(),
-                b"delete noreply;".as_slice(),
-            ),
-            (
-                b"delete noreply noreply\r\n".as_slice(),
-                b"~delete noreply;".as_slice(),
-            ),
-            (b"delete \0 noreply\r\n".as_slice(), b"~format;".as_slice()),
-            (
-                b"delete a 0\r\ndelete\r\n".as_slice(),
-                b"error;error;".as_slice(),
-            ),
-        ],
-    );
+    compare(&rt, rt.alloc(), OTHER_COMMANDS.as_slice());
 }
+
+static DIRECTIVES: [Case; 16] = [
+    (b"%at 0\r\n", b"at 0;"),
+    (b"%at 4611686018427387904\r\n", b"at 4611686018427387904;"),
+    (b"%at 4611686018427387905\r\n", b"format;"),
+    (b"%at -1\r\n", b"format;"),
+    (b"%at\r\n%at 1 noreply\r\n", b"error;error;"),
+    (b"%juggle all\r\n", b"juggle all;"),
+    (b"%juggle 43\r\n", b"juggle 43;"),
+    (b"%juggle 44\r\n", b"format;"),
+    (b"%juggle 0\r\n", b"format;"),
+    (b"%crawl 01\r\n", b"crawl 1;"),
+    (b"%crawl ALL\r\n", b"format;"),
+    (b"%crawl all noreply\r\n", b"error;"),
+    (b"%crawl\r\n%juggle 1 2\r\n", b"error;error;"),
+    (b"%next\r\nquit\r\n", b"next;quit;"),
+    (b"%next 1\r\nquit noreply\r\n", b"error;error;"),
+    (b"% at 1\r\n%AT 1\r\n", b"error;error;"),
+];
 
 #[test]
 fn directives(rt: HostRuntime) {
-    compare(
-        &rt,
-        rt.alloc(),
-        &[
-            (b"%at 0\r\n".as_slice(), b"at 0;".as_slice()),
-            (
-                b"%at 4611686018427387904\r\n".as_slice(),
-                b"at 4611686018427387904;".as_slice(),
-            ),
-            (
-                b"%at 4611686018427387905\r\n".as_slice(),
-                b"format;".as_slice(),
-            ),
-            (b"%at -1\r\n".as_slice(), b"format;".as_slice()),
-            (
-                b"%at\r\n%at 1 noreply\r\n".as_slice(),
-                b"error;error;".as_slice(),
-            ),
-            (b"%juggle all\r\n".as_slice(), b"juggle all;".as_slice()),
-            (b"%juggle 43\r\n".as_slice(), b"juggle 43;".as_slice()),
-            (b"%juggle 44\r\n".as_slice(), b"format;".as_slice()),
-            (b"%juggle 0\r\n".as_slice(), b"format;".as_slice()),
-            (b"%crawl 01\r\n".as_slice(), b"crawl 1;".as_slice()),
-            (b"%crawl ALL\r\n".as_slice(), b"format;".as_slice()),
-            (b"%crawl all noreply\r\n".as_slice(), b"error;".as_slice()),
-            (
-                b"%crawl\r\n%juggle 1 2\r\n".as_slice(),
-                b"error;error;".as_slice(),
-            ),
-            (b"%next\r\nquit\r\n".as_slice(), b"next;quit;".as_slice()),
-            (
-                b"%next 1\r\nquit noreply\r\n".as_slice(),
-                b"error;error;".as_slice(),
-            ),
-            (
-                b"% at 1\r\n%AT 1\r\n".as_slice(),
-                b"error;error;".as_slice(),
-            ),
-        ],
-    );
+    compare(&rt, rt.alloc(), DIRECTIVES.as_slice());
 }

@@ -2,8 +2,8 @@
 ghost use Rattle.std.specs.Prelude.{◌<◌};
 
 use itoa::{Buffer, Integer};
-use mc_item::{ClassNo, Command, Key, Verb};
-use mc_proto::{Limits, LineFault, Reader, Request, Rest, Target};
+use mc_item::{ClassNo, Command, Key, Value, Verb};
+use mc_proto::{Keys, Limits, LineFault, Reader, Request, Rest, Target};
 use std::alloc::Global;
 use std::process::Abort;
 
@@ -15,17 +15,21 @@ pub(super) fn limits() -> Limits {
     }
 }
 
-fn text(rt: &impl Abort, out: &mut Vec<u8>, bytes: &[u8]) {
+/// Adds a text.
+pub(super) fn text(rt: &impl Abort, out: &mut Vec<u8>, bytes: &[u8]) {
     out.extend_from_slice(bytes).expect(rt, "memory");
 }
 
-fn number<I: Integer>(rt: &impl Abort, out: &mut Vec<u8>, n: I) {
+/// Adds a space and a number.
+pub(super) fn number<I: Integer>(rt: &impl Abort, out: &mut Vec<u8>, n: I) {
     text(rt, out, b" ".as_slice());
     let mut buffer = Buffer::new();
     text(rt, out, buffer.format(n).as_bytes());
 }
 
-fn key(rt: &impl Abort, out: &mut Vec<u8>, key: &Key) {
+// Adds a word, a space and a key.
+fn keyed(rt: &impl Abort, out: &mut Vec<u8>, word: &[u8], key: &Key) {
+    text(rt, out, word);
     text(rt, out, b" ".as_slice());
     text(rt, out, key.bytes());
 }
@@ -42,57 +46,54 @@ fn verb(rt: &impl Abort, out: &mut Vec<u8>, verb: Verb) {
     }
 }
 
-fn target(rt: &impl Abort, out: &mut Vec<u8>, target: Target) {
+fn target(rt: &impl Abort, out: &mut Vec<u8>, word: &[u8], target: Target) {
+    text(rt, out, word);
     match target {
         Target::All => text(rt, out, b" all".as_slice()),
         Target::Class(ClassNo(n)) => number(rt, out, n),
     }
 }
 
+fn stored(rt: &impl Abort, out: &mut Vec<u8>, key: &Key, flags: u32, exptime: i64, value: &Value) {
+    keyed(rt, out, b"".as_slice(), key);
+    number(rt, out, flags);
+    number(rt, out, exptime);
+    text(rt, out, b" ".as_slice());
+    text(rt, out, value.bytes());
+}
+
+fn counted(rt: &impl Abort, out: &mut Vec<u8>, word: &[u8], key: &Key, delta: u64) {
+    keyed(rt, out, word, key);
+    number(rt, out, delta);
+}
+
+fn touched(rt: &impl Abort, out: &mut Vec<u8>, key: &Key, exptime: i64) {
+    keyed(rt, out, b"touch".as_slice(), key);
+    number(rt, out, exptime);
+}
+
 fn command(rt: &impl Abort, out: &mut Vec<u8>, command: &Command) {
     match command {
-        Command::Get(k) => {
-            text(rt, out, b"get".as_slice());
-            key(rt, out, k);
-        }
+        Command::Get(key) => keyed(rt, out, b"get".as_slice(), key),
         Command::Store {
             verb: v,
-            key: k,
+            key,
             flags,
             exptime,
             value,
         } => {
             verb(rt, out, *v);
-            key(rt, out, k);
-            number(rt, out, *flags);
-            number(rt, out, *exptime);
-            text(rt, out, b" ".as_slice());
-            text(rt, out, value.bytes());
+            stored(rt, out, key, *flags, *exptime, value);
         }
-        Command::Huge { verb: v, key: k } => {
+        Command::Huge { verb: v, key } => {
             text(rt, out, b"huge ".as_slice());
             verb(rt, out, *v);
-            key(rt, out, k);
+            keyed(rt, out, b"".as_slice(), key);
         }
-        Command::Incr(k, delta) => {
-            text(rt, out, b"incr".as_slice());
-            key(rt, out, k);
-            number(rt, out, *delta);
-        }
-        Command::Decr(k, delta) => {
-            text(rt, out, b"decr".as_slice());
-            key(rt, out, k);
-            number(rt, out, *delta);
-        }
-        Command::Touch(k, exptime) => {
-            text(rt, out, b"touch".as_slice());
-            key(rt, out, k);
-            number(rt, out, *exptime);
-        }
-        Command::Delete(k) => {
-            text(rt, out, b"delete".as_slice());
-            key(rt, out, k);
-        }
+        Command::Incr(key, delta) => counted(rt, out, b"incr".as_slice(), key, *delta),
+        Command::Decr(key, delta) => counted(rt, out, b"decr".as_slice(), key, *delta),
+        Command::Touch(key, exptime) => touched(rt, out, key, *exptime),
+        Command::Delete(key) => keyed(rt, out, b"delete".as_slice(), key),
     }
 }
 
@@ -107,88 +108,159 @@ fn fault(why: LineFault) -> &'static [u8] {
     }
 }
 
-fn mark(rt: &impl Abort, out: &mut Vec<u8>, quiet: bool) {
+pub(super) fn mark(rt: &impl Abort, out: &mut Vec<u8>, quiet: bool) {
     if quiet {
         text(rt, out, b"~".as_slice());
     }
 }
 
-/// Adds a request in short.
-pub(super) fn show(rt: &impl Abort, out: &mut Vec<u8>, request: Request) {
-    match request {
-        Request::Get { keys, with_cas } => {
-            if with_cas {
-                text(rt, out, b"gets".as_slice());
-            } else {
-                text(rt, out, b"get".as_slice());
-            }
-            match keys.into_one() {
-                Ok(alone) => key(rt, out, &alone),
-                Err(keys) => {
-                    for k in keys.as_slice() {
-                        key(rt, out, k);
-                    }
-                }
-            }
-        }
-        Request::One { command: c, quiet } => {
-            mark(rt, out, quiet);
-            command(rt, out, &c);
-        }
-        Request::Bad { why, quiet } => {
-            mark(rt, out, quiet);
-            text(rt, out, fault(why));
-        }
-        Request::At(moment) => {
-            text(rt, out, b"at".as_slice());
-            number(rt, out, moment);
-        }
-        Request::Next => text(rt, out, b"next".as_slice()),
-        Request::Juggle(t) => {
-            text(rt, out, b"juggle".as_slice());
-            target(rt, out, t);
-        }
-        Request::Crawl(t) => {
-            text(rt, out, b"crawl".as_slice());
-            target(rt, out, t);
-        }
-        Request::Quit => text(rt, out, b"quit".as_slice()),
-    }
-    text(rt, out, b";".as_slice());
+fn one(rt: &impl Abort, out: &mut Vec<u8>, asked: &Command, quiet: bool) {
+    mark(rt, out, quiet);
+    command(rt, out, asked);
 }
 
-/// The requests of an input that comes in pieces of a size, in short, and what it ends in.
-pub(super) fn read(rt: &impl Abort, alloc: Global, input: &[u8], size: usize) -> (Vec<u8>, Rest)
+fn bad(rt: &impl Abort, out: &mut Vec<u8>, why: LineFault, quiet: bool) {
+    mark(rt, out, quiet);
+    text(rt, out, fault(why));
+}
+
+fn at(rt: &impl Abort, out: &mut Vec<u8>, moment: u64) {
+    text(rt, out, b"at".as_slice());
+    number(rt, out, moment);
+}
+
+fn listed(rt: &impl Abort, out: &mut Vec<u8>, keys: &[Key]) {
+    for key in keys {
+        keyed(rt, out, b"".as_slice(), key);
+    }
+}
+
+fn gets(rt: &impl Abort, out: &mut Vec<u8>, with_cas: bool) {
+    if with_cas {
+        text(rt, out, b"gets".as_slice());
+    } else {
+        text(rt, out, b"get".as_slice());
+    }
+}
+
+fn all_keys(rt: &impl Abort, out: &mut Vec<u8>, keys: Keys) {
+    match keys.into_one() {
+        Ok(alone) => keyed(rt, out, b"".as_slice(), &alone),
+        Err(keys) => listed(rt, out, keys.as_slice()),
+    }
+}
+
+fn got(rt: &impl Abort, out: &mut Vec<u8>, keys: Keys, with_cas: bool) {
+    gets(rt, out, with_cas);
+    all_keys(rt, out, keys);
+}
+
+// Adds a request in short, without its `;`.
+fn request(rt: &impl Abort, out: &mut Vec<u8>, request: Request) {
+    match request {
+        Request::Get { keys, with_cas } => got(rt, out, keys, with_cas),
+        Request::One { command, quiet } => one(rt, out, &command, quiet),
+        Request::Bad { why, quiet } => bad(rt, out, why, quiet),
+        Request::At(moment) => at(rt, out, moment),
+        Request::Next => text(rt, out, b"next".as_slice()),
+        Request::Juggle(classes) => target(rt, out, b"juggle".as_slice(), classes),
+        Request::Crawl(classes) => target(rt, out, b"crawl".as_slice(), classes),
+        Request::Quit => text(rt, out, b"quit".as_slice()),
+    }
+}
+
+// Adds requests in short.
+fn show(rt: &impl Abort, out: &mut Vec<u8>, requests: Vec<Request>) {
+    for each in requests {
+        request(rt, out, each);
+        text(rt, out, b";".as_slice());
+    }
+}
+
+/// Feeds a piece, and adds its requests in short.
+pub(super) fn feed(rt: &impl Abort, reader: &mut Reader, out: &mut Vec<u8>, piece: &[u8]) {
+    let requests = reader.feed(piece).expect(rt, "memory");
+    show(rt, out, requests);
+}
+
+/// The same, of a copy of the piece that is given away.
+pub(super) fn give(
+    rt: &impl Abort,
+    alloc: Global,
+    reader: &mut Reader,
+    out: &mut Vec<u8>,
+    piece: &[u8],
+) {
+    let copy = Vec::from_slice(alloc, piece).expect(rt, "memory");
+    let requests = reader.take(copy).expect(rt, "memory");
+    show(rt, out, requests);
+}
+
+fn feed_all(rt: &impl Abort, reader: &mut Reader, out: &mut Vec<u8>, input: &[u8], size: usize)
+    requires { 0 < size }
+{
+    for piece in input.chunks(size) {
+        feed(rt, reader, out, piece);
+    }
+}
+
+fn give_all(
+    rt: &impl Abort,
+    alloc: Global,
+    reader: &mut Reader,
+    out: &mut Vec<u8>,
+    input: &[u8],
+    size: usize,
+)
+    requires { 0 < size }
+{
+    for piece in input.chunks(size) {
+        give(rt, alloc, reader, out, piece);
+    }
+}
+
+/// Adds what is left unfinished.
+pub(super) fn push_rest(rt: &impl Abort, out: &mut Vec<u8>, rest: Rest) {
+    match rest {
+        Rest::Nothing => text(rt, out, b"nothing is left".as_slice()),
+        Rest::Line => text(rt, out, b"a line is left".as_slice()),
+        Rest::Block => text(rt, out, b"a block is left".as_slice()),
+    }
+}
+
+/// The requests of an input that comes in pieces of a size, in short.
+pub(super) fn requests_of(rt: &impl Abort, alloc: Global, input: &[u8], size: usize) -> Vec<u8>
     requires { 0 < size }
 {
     let mut reader = Reader::new(alloc, limits());
     let mut out = Vec::new(alloc);
-    for piece in input.chunks(size) {
-        let requests = reader.feed(piece).expect(rt, "memory");
-        for request in requests {
-            show(rt, &mut out, request);
-        }
-    }
-    (out, reader.end())
+    feed_all(rt, &mut reader, &mut out, input, size);
+    out
+}
+
+/// The same, and what is left unfinished.
+pub(super) fn read(rt: &impl Abort, alloc: Global, input: &[u8], size: usize) -> Vec<u8>
+    requires { 0 < size }
+{
+    let mut reader = Reader::new(alloc, limits());
+    let mut out = Vec::new(alloc);
+    feed_all(rt, &mut reader, &mut out, input, size);
+    push_rest(rt, &mut out, reader.end());
+    out
 }
 
 /// The same, of pieces that are given away.
-pub(super) fn read_given(
-    rt: &impl Abort,
-    alloc: Global,
-    input: &[u8],
-    size: usize,
-) -> (Vec<u8>, Rest)
+pub(super) fn read_given(rt: &impl Abort, alloc: Global, input: &[u8], size: usize) -> Vec<u8>
     requires { 0 < size }
 {
     let mut reader = Reader::new(alloc, limits());
     let mut out = Vec::new(alloc);
-    for bytes in input.chunks(size) {
-        let piece = Vec::from_slice(alloc, bytes).expect(rt, "memory");
-        let requests = reader.take(piece).expect(rt, "memory");
-        for request in requests {
-            show(rt, &mut out, request);
-        }
-    }
-    (out, reader.end())
+    give_all(rt, alloc, &mut reader, &mut out, input, size);
+    push_rest(rt, &mut out, reader.end());
+    out
+}
+
+/// Ends the test where something else was seen.
+pub(super) fn same(rt: &impl Abort, seen: &[u8], wanted: &[u8], what: &str, place: usize) {
+    assert_eq!(rt; seen, wanted, "{what} {place}");
 }
