@@ -7,10 +7,9 @@ use mc_testing::{WHO, World, juggle};
 use std::alloc::Global;
 use std::test::Fail;
 
-/// A gate that is lent one stripe, and lends it where its list says yes. Past the end of the list it says no.
+/// A gate that is lent stripe 0, and lends it where its list says yes. Past the end of the list it says no.
 #[derive(Drop)]
 pub struct ByList<'a> {
-    pub number: StripeNo,
     pub stripe: &'a mut StripeState,
     pub answers: &'a mut Vec<Answer>,
     pub yes: &'a [bool],
@@ -23,7 +22,7 @@ impl<'a> Gate for ByList<'a> {
 
     ghost answers = { λ g. g.answers.now.items };
 
-    ghost serves = { λ g config c. Serves g.number.0 g.stripe.now config };
+    ghost serves = { λ g config c. Serves 0 g.stripe.now config };
 
     ghost references = { λ g. g.stripe.ghost_name ∷ [] };
 
@@ -33,7 +32,7 @@ impl<'a> Gate for ByList<'a> {
 
     fn visit(&mut self, stripe: StripeNo, look: &mut Look<'_>) -> Result<bool, Fault> {
         let place = self.answers.len();
-        let had = stripe.0 == self.number.0 && place < self.yes.len() && self.yes[place];
+        let had = stripe.0 == 0 && place < self.yes.len() && self.yes[place];
         self.answers.reserve(1)?;
         if !had {
             self.answers.push_reserved(Answer {
@@ -79,7 +78,6 @@ fn walk(
         return Ok(None);
     }
     let mut gate = ByList {
-        number: StripeNo(0),
         stripe: &mut world.stripe,
         answers: &mut Vec::new(alloc),
         yes,
@@ -106,7 +104,6 @@ fn room(world: &mut World, moment: u64, yes: &[bool]) -> Result<(bool, usize), F
     let class = &mut world.class;
     let mut answers = Vec::new(alloc);
     let mut gate = ByList {
-        number: StripeNo(0),
         stripe: &mut world.stripe,
         answers: &mut answers,
         yes,
