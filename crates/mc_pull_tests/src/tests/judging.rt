@@ -41,7 +41,14 @@ fn is_noted(alloc: Global, class: &ClassState, who: Who, moment: u64, survey: Su
 }
 
 /// Whether a list may be judged so.
-pub(super) fn may_walk(alloc: Global, class: &ClassState, seg: Seg, mode: Mode, who: Who, moment: u64) -> bool
+pub(super) fn may_walk(
+    alloc: Global,
+    class: &ClassState,
+    seg: Seg,
+    mode: Mode,
+    who: Who,
+    moment: u64,
+) -> bool
     ensures { result ≡ true → MayWalk class.now seg mode who moment × IsFullFor class.now mode }
 {
     match mode {

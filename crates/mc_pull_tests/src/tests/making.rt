@@ -8,7 +8,9 @@ ghost use Rattle.mc_pull.specs.Perform.{call, AreLent, GivesRoom, MayAnswer, May
 ghost use Rattle.mc_testing.specs.World.{IsWorld};
 
 use super::seeing::event_at;
-use mc_item::{ClassEvent, ClassNo, Command, Config, Fault, Link, Need, Reply, Room, Value, Verb, Who};
+use mc_item::{
+    ClassEvent, ClassNo, Command, Config, Fault, Link, Need, Reply, Room, Value, Verb, Who,
+};
 use mc_pull::{Lent, answer_alone, fate_for, perform, perform_fated, perform_set};
 use mc_segment::ClassState;
 use mc_stripe::{Fate, StripeState};

@@ -5,7 +5,9 @@ use Rattle.mc_pull_tests.proofs.tests.by_list.walk.Goals as goal
 pub invariant_of-world-2 : goal.invariant_of-world-2
 invariant_of-world-2 c =
     let before = c.args.world.now in
-    record { sound = record {
-      class = class_later before.config before.class c.pull_tail.new.class before.sound.class c.pull_tail.ensures.grows;
-      stripe = c.pull_tail.ensures.serves;
-    } }
+    record {
+      sound = record {
+        class = class_later before.config before.class c.pull_tail.new.class before.sound.class c.pull_tail.ensures.grows;
+        stripe = c.pull_tail.ensures.serves;
+      };
+    }
