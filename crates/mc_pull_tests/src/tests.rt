@@ -1,16 +1,15 @@
-//! What the tests share: the one who calls.
+//! Tests as rows (`rows`), with what they do (`making`, `judging`, `by_list`) and see (`seeing`), and a drawn test.
 mod alone;
 mod bounds;
 mod by_list;
 mod judgements;
+mod judging;
+mod making;
 mod performing;
 mod plain_lists;
 mod plain_table;
 mod random_classes;
+mod rows;
+mod seeing;
 mod table_compared;
 mod walks;
-mod world;
-
-use mc_item::Who;
-
-const WHO: Who = Who { caller: 0, turn: 0 };

@@ -1,17 +1,15 @@
 //! A gate that answers from a list, and walks through it.
-ghost use Rattle.mc_pull_tests.specs.World.{IsWorld};
-
-use super::WHO;
-use super::world::World;
+use super::judging::may_walk;
 use mc_item::{Fault, Seg, StripeNo};
 use mc_pull::{Answer, Gate, Look, Mode, Pulled, make_room, pull_tail};
 use mc_stripe::StripeState;
-use std::process::Abort;
+use mc_testing::{WHO, World, juggle};
+use std::alloc::Global;
+use std::test::Fail;
 
-/// A gate that is lent one stripe, and lends it where its list says yes. Past the end of the list it says no.
+/// A gate that is lent stripe 0, and lends it where its list says yes. Past the end of the list it says no.
 #[derive(Drop)]
 pub struct ByList<'a> {
-    pub number: StripeNo,
     pub stripe: &'a mut StripeState,
     pub answers: &'a mut Vec<Answer>,
     pub yes: &'a [bool],
@@ -24,7 +22,7 @@ impl<'a> Gate for ByList<'a> {
 
     ghost answers = { λ g. g.answers.now.items };
 
-    ghost serves = { λ g config c. Serves g.number.0 g.stripe.now config };
+    ghost serves = { λ g config c. Serves 0 g.stripe.now config };
 
     ghost references = { λ g. g.stripe.ghost_name ∷ [] };
 
@@ -34,7 +32,7 @@ impl<'a> Gate for ByList<'a> {
 
     fn visit(&mut self, stripe: StripeNo, look: &mut Look<'_>) -> Result<bool, Fault> {
         let place = self.answers.len();
-        let had = stripe.0 == self.number.0 && place < self.yes.len() && self.yes[place];
+        let had = stripe.0 == 0 && place < self.yes.len() && self.yes[place];
         self.answers.reserve(1)?;
         if !had {
             self.answers.push_reserved(Answer {
@@ -53,102 +51,98 @@ impl<'a> Gate for ByList<'a> {
     }
 }
 
-/// Pulls COLD for an entry to take.
-pub(super) fn evict<R: Abort>(rt: &R, world: &mut World, moment: u64, yes: &[bool]) -> Pulled
-    requires world { IsWorld world.old.config world.old.class world.old.stripe }
-{
-    let alloc = world.alloc;
-    let class = &mut world.class;
-    let mut gate = ByList {
-        number: StripeNo(0),
-        stripe: &mut world.stripe,
-        answers: &mut Vec::new(alloc),
-        yes,
-    };
-    pull_tail(
-        alloc,
-        class,
-        Seg::Cold,
-        Mode::Evict,
-        WHO,
-        moment,
-        &world.config,
-        &mut gate,
-    )
-    .expect(rt, "a walk")
+/// A walk or a round at a moment, and what the gate answers.
+#[derive(Clone, Copy)]
+pub enum Walked {
+    /// The class is juggled, and the gate is always lent the stripe.
+    Juggle(u64),
+    /// COLD is pulled for an entry to take.
+    Evict(u64, &'static [bool]),
+    /// HOT is pulled for an entry to force to COLD.
+    Force(u64, &'static [bool]),
+    /// Room is made.
+    Room(u64, &'static [bool]),
 }
 
-/// Pulls HOT for an entry to force to COLD.
-pub(super) fn force<R: Abort>(rt: &R, world: &mut World, moment: u64, yes: &[bool]) -> Pulled
-    requires world { IsWorld world.old.config world.old.class world.old.stripe }
-{
-    let alloc = world.alloc;
-    let class = &mut world.class;
-    let mut gate = ByList {
-        number: StripeNo(0),
-        stripe: &mut world.stripe,
-        answers: &mut Vec::new(alloc),
-        yes,
-    };
-    pull_tail(
-        alloc,
-        class,
-        Seg::Hot,
-        Mode::Force,
-        WHO,
-        moment,
-        &world.config,
-        &mut gate,
-    )
-    .expect(rt, "a walk")
-}
-
-/// Pulls a list by a survey that is made first.
-pub(super) fn pull<R: Abort>(
-    rt: &R,
+// Pulls a list; nothing where it may not be pulled so.
+fn walk(
     world: &mut World,
     seg: Seg,
+    mode: Mode,
     moment: u64,
     yes: &[bool],
-) -> Pulled
-    requires world { IsWorld world.old.config world.old.class world.old.stripe }
-{
+) -> Result<Option<Pulled>, Fault> {
     let alloc = world.alloc;
     let class = &mut world.class;
-    let survey = class.survey(WHO, moment).expect(rt, "a survey");
-    let mode = Mode::Plain(survey);
+    if !may_walk(alloc, class, seg, mode, WHO, moment) {
+        return Ok(None);
+    }
     let mut gate = ByList {
-        number: StripeNo(0),
         stripe: &mut world.stripe,
         answers: &mut Vec::new(alloc),
         yes,
     };
-    pull_tail(
-        alloc,
-        class,
-        seg,
-        mode,
-        WHO,
-        moment,
-        &world.config,
-        &mut gate,
-    )
-    .expect(rt, "a walk")
+    let config = &world.config;
+    let pulled = pull_tail(alloc, class, seg, mode, WHO, moment, config, &mut gate)?;
+    Ok(Some(pulled))
 }
 
-/// Makes room, by these answers. It says whether a chunk was found, and after how many looks.
-pub(super) fn room<R: Abort>(rt: &R, world: &mut World, moment: u64, yes: &[bool]) -> (bool, usize)
-    requires world { IsWorld world.old.config world.old.class world.old.stripe }
-{
+/// Pulls COLD for an entry to take.
+pub(super) fn evict(world: &mut World, moment: u64, yes: &[bool]) -> Result<Option<Pulled>, Fault> {
+    walk(world, Seg::Cold, Mode::Evict, moment, yes)
+}
+
+/// Pulls COLD by a survey that is made first.
+pub(super) fn pull(world: &mut World, moment: u64, yes: &[bool]) -> Result<Option<Pulled>, Fault> {
+    let mode = Mode::Plain(world.class.survey(WHO, moment)?);
+    walk(world, Seg::Cold, mode, moment, yes)
+}
+
+// Makes room. It says whether a chunk was found, and after how many looks.
+fn room(world: &mut World, moment: u64, yes: &[bool]) -> Result<(bool, usize), Fault> {
     let alloc = world.alloc;
     let class = &mut world.class;
     let mut answers = Vec::new(alloc);
     let mut gate = ByList {
-        number: StripeNo(0),
         stripe: &mut world.stripe,
         answers: &mut answers,
         yes,
     };
-    let found = make_room(alloc, class, WHO, moment, &world.config, &mut gate).expect(rt, "rounds");
-    (found, answers.len())
+    let found = make_room(alloc, class, WHO, moment, &world.config, &mut gate)?;
+    Ok((found, answers.len()))
+}
+
+// How many entries a walk has met.
+fn told_pulled(alloc: Global, pulled: Option<Pulled>) -> Result<String, Fail> {
+    let Some(pulled) = pulled else {
+        return Ok(format!(in alloc; "may not be pulled")?);
+    };
+    let kept = format!(in alloc; "{} reclaimed, {} moved", pulled.reclaimed, pulled.moved)?;
+    Ok(format!(in alloc;
+        "{kept}, {} evicted, {} passed",
+        pulled.evicted, pulled.passed
+    )?)
+}
+
+fn told_room(alloc: Global, told: (bool, usize)) -> Result<String, Fail> {
+    let (found, looks) = told;
+    Ok(format!(in alloc; "{found} after {looks}")?)
+}
+
+fn told_juggled(world: &mut World, moment: u64) -> Result<String, Fail> {
+    let moves = juggle(world, moment)?;
+    Ok(format!(in world.alloc; "{} reclaimed, {} moved", moves.reclaimed, moves.moved)?)
+}
+
+/// Walks, and tells what came of it.
+pub(super) fn tell_walked(world: &mut World, walked: Walked) -> Result<String, Fail> {
+    let alloc = world.alloc;
+    match walked {
+        Walked::Juggle(moment) => told_juggled(world, moment),
+        Walked::Evict(moment, yes) => told_pulled(alloc, evict(world, moment, yes)?),
+        Walked::Force(moment, yes) => {
+            told_pulled(alloc, walk(world, Seg::Hot, Mode::Force, moment, yes)?)
+        }
+        Walked::Room(moment, yes) => told_room(alloc, room(world, moment, yes)?),
+    }
 }

@@ -1,152 +1,102 @@
 //! Judgements by direct calls: what no walk of a store meets.
-
-ghost use Rattle.mc_pull_tests.specs.World.{IsWorld};
-
-use super::WHO;
-use super::walks::{six, six_of};
-use super::world::{World, ask, asserts_list, key, last_of_class, last_of_stripe, set, usual};
-use mc_item::{Command, Expiry, Fault, Passed, Seg};
-use mc_pull::{Done, Judge, Mode, settle};
-use std::process::Abort;
+use super::judging::Judged::{Delete, Get, IsDead, Set, Tail};
+use super::rows::Ask::{Judge, See};
+use super::rows::{Row, SIX, SIX_AND_A_DIES, play};
+use super::seeing::Seen::{LastOfClass, LastOfStripe, Lengths, List, Time};
+use mc_item::Seg::{Cold, Hot, Warm};
+use mc_testing::one_class;
 use std::test::Fail;
 
-// Judges a list's tail by a survey that is made first.
-fn judge_tail<R: Abort>(rt: &R, world: &mut World, seg: Seg, moment: u64) -> Done
-    requires world { IsWorld world.old.config world.old.class world.old.stripe }
-    ensures world { IsWorld world.new.config world.new.class world.new.stripe }
-{
-    let alloc = world.alloc;
-    let class = &mut world.class;
-    let survey = class.survey(WHO, moment).expect(rt, "a survey");
-    let number = class.from_tail(seg, 0).expect(rt, "a tail").number;
-    let judge = Judge::Walk {
-        seg,
-        mode: Mode::Plain(survey),
-        passed: Passed::of(&[]),
-    };
-    let stripe = &mut world.stripe;
-    settle(
-        alloc,
-        class,
-        stripe,
-        WHO,
-        number,
-        &judge,
-        moment,
-        &world.config,
-    )
-    .expect(rt, "a judgement")
-}
-
-// Asks whether COLD's tail is dead.
-fn ask_tail<R: Abort>(rt: &R, world: &mut World, moment: u64) -> Result<Done, Fault>
-    requires world { IsWorld world.old.config world.old.class world.old.stripe }
-    ensures world { IsWorld world.new.config world.new.class world.new.stripe }
-{
-    let alloc = world.alloc;
-    let class = &mut world.class;
-    let number = class.from_tail(Seg::Cold, 0).expect(rt, "a tail").number;
-    let stripe = &mut world.stripe;
-    settle(
-        alloc,
-        class,
-        stripe,
-        WHO,
-        number,
-        &Judge::Dead,
-        moment,
-        &world.config,
-    )
-}
+static ACTIVE_IN_COLD: [Row; 8] = [
+    (Judge(Get(b'a')), "asked"),
+    (Judge(Get(b'a')), "asked"),
+    (Judge(Tail(Cold, 1007)), "ToWarm"),
+    (
+        See(LastOfClass),
+        "moves 0 from Cold to Warm for Active past [] at 8",
+    ),
+    (See(LastOfStripe), "cools [97]"),
+    (See(List(Warm)), "[0]"),
+    (See(Time(0)), "1007"),
+    (Judge(Tail(Cold, 1007)), "Stayed"),
+];
 
 #[test]
 fn an_active_entry_of_cold_goes_to_warm(rt: HostRuntime) -> Result<(), Fail> {
-    let mut world = six(&rt, rt.alloc(), [0; 6])?;
-    ask(
+    let alloc = rt.alloc();
+    play(
         &rt,
-        &mut world,
-        Command::Get(key(&rt, rt.alloc(), b'a')),
-        1000,
-    );
-    ask(
-        &rt,
-        &mut world,
-        Command::Get(key(&rt, rt.alloc(), b'a')),
-        1000,
-    );
-    let done = judge_tail(&rt, &mut world, Seg::Cold, 1007);
-    assert_eq!(rt; done, Done::ToWarm);
-    assert_eq!(rt;
-        last_of_class(&world)?.as_str(),
-        "moves 0 from Cold to Warm for Active past [] at 8"
-    );
-    assert_eq!(rt; last_of_stripe(&world)?.as_str(), "cools [97]");
-    asserts_list(&rt, &world, Seg::Warm, &[0]);
-    let time = world.class.entry(0).expect(&rt, "an entry").time;
-    assert_eq!(rt; time, 1007);
-    let done = judge_tail(&rt, &mut world, Seg::Cold, 1007);
-    assert_eq!(rt; done, Done::Stayed);
-    Ok(())
+        alloc,
+        one_class(alloc, 6)?,
+        SIX.as_slice(),
+        ACTIVE_IN_COLD.as_slice(),
+    )
 }
+
+static STRANGERS: [Row; 7] = [
+    (Judge(Delete(b'a')), "asked"),
+    (Judge(Tail(Cold, 1000)), "Stranger"),
+    (Judge(Set(b'a')), "asked"),
+    (Judge(Tail(Cold, 1000)), "Stranger"),
+    (Judge(IsDead(1000)), "Stranger"),
+    (See(List(Cold)), "[0, 1, 2, 3, 4]"),
+    (See(Lengths), "14 8"),
+];
 
 // An entry whose item has gone, and one whose item has another chunk.
 #[test]
 fn a_stranger_changes_nothing(rt: HostRuntime) -> Result<(), Fail> {
-    let mut world = six(&rt, rt.alloc(), [0; 6])?;
-    ask(
+    let alloc = rt.alloc();
+    play(
         &rt,
-        &mut world,
-        Command::Delete(key(&rt, rt.alloc(), b'a')),
-        1000,
-    );
-    assert_eq!(rt;
-        judge_tail(&rt, &mut world, Seg::Cold, 1000),
-        Done::Stranger
-    );
-    set(&rt, &mut world, b'a', 0, 1000);
-    assert_eq!(rt;
-        judge_tail(&rt, &mut world, Seg::Cold, 1000),
-        Done::Stranger
-    );
-    assert_eq!(rt; ask_tail(&rt, &mut world, 1000), Ok(Done::Stranger));
-    asserts_list(&rt, &world, Seg::Cold, &[0, 1, 2, 3, 4]);
-    assert_eq!(rt; world.class.history().len(), 14);
-    assert_eq!(rt; world.stripe.history().len(), 8);
-    Ok(())
+        alloc,
+        one_class(alloc, 6)?,
+        SIX.as_slice(),
+        STRANGERS.as_slice(),
+    )
 }
+
+static DEAD_OR_ALIVE: [Row; 4] = [
+    (Judge(IsDead(1000)), "Alive(At(1001))"),
+    (Judge(IsDead(1001)), "Reclaimed"),
+    (See(LastOfClass), "reclaims 0 at 6"),
+    (Judge(IsDead(1001)), "Alive(Never)"),
+];
 
 #[test]
 fn an_item_is_dead_or_alive(rt: HostRuntime) -> Result<(), Fail> {
-    let mut world = six(&rt, rt.alloc(), [1, 0, 0, 0, 0, 0])?;
-    assert_eq!(rt;
-        ask_tail(&rt, &mut world, 1000),
-        Ok(Done::Alive(Expiry::At(1001)))
-    );
-    assert_eq!(rt; ask_tail(&rt, &mut world, 1001), Ok(Done::Reclaimed));
-    assert_eq!(rt; last_of_class(&world)?.as_str(), "reclaims 0 at 6");
-    assert_eq!(rt;
-        ask_tail(&rt, &mut world, 1001),
-        Ok(Done::Alive(Expiry::Never))
-    );
-    Ok(())
+    let alloc = rt.alloc();
+    play(
+        &rt,
+        alloc,
+        one_class(alloc, 6)?,
+        SIX_AND_A_DIES.as_slice(),
+        DEAD_OR_ALIVE.as_slice(),
+    )
 }
+
+static FULL_HISTORY: [Row; 8] = [
+    (Judge(Tail(Cold, 1000)), "Stayed"),
+    (Judge(Tail(Hot, 1000)), "Stayed"),
+    (Judge(Tail(Cold, 1000)), "Stayed"),
+    (Judge(Tail(Cold, 1000)), "Stayed"),
+    (Judge(IsDead(1000)), "Alive(At(1001))"),
+    (Judge(IsDead(1001)), "HistoryFull"),
+    (See(List(Cold)), "[0, 1, 2, 3, 4]"),
+    (See(Lengths), "16 6"),
+];
 
 // The class has 12 events and four surveys, of 16.
 #[test]
 fn a_full_history_refuses_events_alone(rt: HostRuntime) -> Result<(), Fail> {
-    let mut config = usual(rt.alloc(), 6)?;
+    let alloc = rt.alloc();
+    let mut config = one_class(alloc, 6)?;
     config.max_events = 16;
-    let mut world = six_of(&rt, rt.alloc(), config, [1, 0, 0, 0, 0, 0])?;
-    assert_eq!(rt; judge_tail(&rt, &mut world, Seg::Cold, 1000), Done::Stayed);
-    assert_eq!(rt; judge_tail(&rt, &mut world, Seg::Hot, 1000), Done::Stayed);
-    assert_eq!(rt; judge_tail(&rt, &mut world, Seg::Cold, 1000), Done::Stayed);
-    assert_eq!(rt; judge_tail(&rt, &mut world, Seg::Cold, 1000), Done::Stayed);
-    assert_eq!(rt;
-        ask_tail(&rt, &mut world, 1000),
-        Ok(Done::Alive(Expiry::At(1001)))
-    );
-    assert_eq!(rt; ask_tail(&rt, &mut world, 1001), Err(Fault::HistoryFull));
-    asserts_list(&rt, &world, Seg::Cold, &[0, 1, 2, 3, 4]);
-    assert_eq!(rt; world.stripe.history().len(), 6);
-    Ok(())
+    play(
+        &rt,
+        alloc,
+        config,
+        SIX_AND_A_DIES.as_slice(),
+        FULL_HISTORY.as_slice(),
+    )
 }

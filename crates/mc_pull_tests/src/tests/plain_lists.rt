@@ -2,8 +2,7 @@
 use super::plain_table::{Row, Way, done_of, due_row, row_of};
 use mc_item::Seg;
 use mc_pull::Done;
-use std::alloc::Global;
-use std::process::Abort;
+use std::alloc::{AllocError, Global};
 
 /// What is known of an entry and its item: bytes, the entry's time, the moment at which the item dies, its hits (of
 /// which two make it active), and whether it is in the stripe.
@@ -42,121 +41,133 @@ pub struct Shares {
     pub warm_factor: u64,
 }
 
-/// The four lists of numbers, and the entries in the order of their numbers.
+/// The entries of all four lists, the newest of each first, and what is known of them in the order of their numbers.
 #[derive(Drop)]
 pub struct Lists {
-    pub hot: Vec<u64>,
-    pub warm: Vec<u64>,
-    pub cold: Vec<u64>,
-    pub temp: Vec<u64>,
+    pub order: Vec<(u64, Seg)>,
     pub pieces: Vec<Piece>,
 }
 
-// A list with this number at its head, where it is to be there, and without it elsewhere.
-fn moved<R: Abort>(rt: &R, alloc: Global, list: &[u64], number: u64, head: bool) -> Vec<u64> {
-    let mut numbers = Vec::new(alloc);
-    if head {
-        numbers.push(number).expect(rt, "a place");
+// The entries with this number at a list's head, or in none.
+fn moved(
+    alloc: Global,
+    order: &[(u64, Seg)],
+    number: u64,
+    seg: Option<Seg>,
+) -> Result<Vec<(u64, Seg)>, AllocError> {
+    let mut entries = Vec::new(alloc);
+    if let Some(seg) = seg {
+        entries.push((number, seg))?;
     }
-    for other in list {
-        if *other != number {
-            numbers.push(*other).expect(rt, "a place");
+    for other in order {
+        if other.0 != number {
+            entries.push(*other)?;
         }
     }
-    numbers
+    Ok(entries)
+}
+
+// What becomes of an entry by a survey, where it is alive and not active.
+fn due_of(piece: Piece, bytes: u64, seg: Seg, moment: u64, sums: Sums, shares: Shares) -> Row {
+    let (percent, factor) = match seg {
+        Seg::Hot => (shares.hot_percent, shares.hot_factor),
+        _ => (shares.warm_percent, shares.warm_factor),
+    };
+    let limit = sums.total as u128 * percent as u128 / 100;
+    let age = moment.saturating_sub(piece.time) as u128;
+    let greatest_age = sums.cold_age as u128 * factor as u128 / 100;
+    due_row(bytes as u128, limit, age, greatest_age)
 }
 
 impl Lists {
     /// Four empty lists.
     pub(super) fn new(alloc: Global) -> Lists {
         Lists {
-            hot: Vec::new(alloc),
-            warm: Vec::new(alloc),
-            cold: Vec::new(alloc),
-            temp: Vec::new(alloc),
+            order: Vec::new(alloc),
             pieces: Vec::new(alloc),
         }
     }
 
-    /// A segment's list.
-    pub(super) fn list(&self, seg: Seg) -> &[u64] {
-        match seg {
-            Seg::Hot => self.hot.as_slice(),
-            Seg::Warm => self.warm.as_slice(),
-            Seg::Cold => self.cold.as_slice(),
-            Seg::Temp => self.temp.as_slice(),
+    /// What is known of an entry.
+    pub(super) fn piece(&self, number: u64) -> Option<Piece> {
+        self.pieces.get(number as usize).copied()
+    }
+
+    /// Whether an item is in the stripe, and not dead.
+    pub(super) fn is_alive(&self, number: u64, moment: u64) -> bool {
+        match self.piece(number) {
+            Some(piece) => piece.held && !piece.is_dead(moment),
+            None => false,
         }
     }
 
-    /// What is known of an entry.
-    pub(super) fn piece<R: Abort>(&self, rt: &R, number: u64) -> Piece {
-        *self.pieces.get(number as usize).expect(rt, "an entry")
+    /// The number at a list's tail.
+    pub(super) fn tail(&self, seg: Seg) -> Option<u64> {
+        let mut tail = None;
+        for (number, of) in self.order.as_slice() {
+            if *of == seg {
+                tail = Some(*number);
+            }
+        }
+        tail
     }
 
-    /// Puts a number to a list's head, or to none, and takes it from where it was.
-    pub(super) fn put<R: Abort>(&mut self, rt: &R, alloc: Global, number: u64, seg: Option<Seg>) {
-        let hot = moved(
-            rt,
-            alloc,
-            self.hot.as_slice(),
-            number,
-            seg == Some(Seg::Hot),
-        );
-        let warm = moved(
-            rt,
-            alloc,
-            self.warm.as_slice(),
-            number,
-            seg == Some(Seg::Warm),
-        );
-        let cold = moved(
-            rt,
-            alloc,
-            self.cold.as_slice(),
-            number,
-            seg == Some(Seg::Cold),
-        );
-        let temp = moved(
-            rt,
-            alloc,
-            self.temp.as_slice(),
-            number,
-            seg == Some(Seg::Temp),
-        );
-        self.hot = hot;
-        self.warm = warm;
-        self.cold = cold;
-        self.temp = temp;
+    // Puts a number to a list's head, or to none, and takes it from where it was.
+    fn put(&mut self, alloc: Global, number: u64, seg: Option<Seg>) -> Result<(), AllocError> {
+        self.order = moved(alloc, self.order.as_slice(), number, seg)?;
+        Ok(())
+    }
+
+    /// Adds an entry at a list's head.
+    pub(super) fn add(
+        &mut self,
+        alloc: Global,
+        number: u64,
+        piece: Piece,
+        seg: Seg,
+    ) -> Result<(), AllocError> {
+        self.pieces.push(piece)?;
+        self.put(alloc, number, Some(seg))
     }
 
     // The bytes of a segment.
-    fn bytes<R: Abort>(&self, rt: &R, seg: Seg) -> u64 {
+    fn bytes(&self, seg: Seg) -> u64 {
         let mut sum: u64 = 0;
-        for number in self.list(seg) {
-            sum = sum.saturating_add(self.piece(rt, *number).cost);
+        for (number, of) in self.order.as_slice() {
+            if *of == seg {
+                sum = sum.saturating_add(self.cost(*number));
+            }
         }
         sum
     }
 
-    /// A survey at a moment.
-    pub(super) fn sums<R: Abort>(&self, rt: &R, moment: u64) -> Sums {
-        let hot = self.bytes(rt, Seg::Hot);
-        let warm = self.bytes(rt, Seg::Warm);
-        let cold = self.bytes(rt, Seg::Cold);
-        let cold_age = match self.cold.last() {
-            Some(number) => moment.saturating_sub(self.piece(rt, *number).time),
+    fn cost(&self, number: u64) -> u64 {
+        match self.piece(number) {
+            Some(piece) => piece.cost,
             None => 0,
-        };
+        }
+    }
+
+    // How old COLD's tail is.
+    fn cold_age(&self, moment: u64) -> Option<u64> {
+        let piece = self.piece(self.tail(Seg::Cold)?)?;
+        Some(moment.saturating_sub(piece.time))
+    }
+
+    /// A survey at a moment.
+    pub(super) fn sums(&self, moment: u64) -> Sums {
+        let hot = self.bytes(Seg::Hot);
+        let warm = self.bytes(Seg::Warm);
+        let cold = self.bytes(Seg::Cold);
         Sums {
             total: hot.saturating_add(warm).saturating_add(cold),
-            cold_age,
+            cold_age: self.cold_age(moment).unwrap_or(0),
         }
     }
 
     /// The row of an entry of a segment at a moment.
-    pub(super) fn row<R: Abort>(
+    pub(super) fn row(
         &self,
-        rt: &R,
         number: u64,
         seg: Seg,
         way: Way,
@@ -164,43 +175,34 @@ impl Lists {
         sums: Sums,
         shares: Shares,
     ) -> Option<Row> {
-        let piece = self.piece(rt, number);
+        let piece = self.piece(number)?;
         if !piece.held {
             return Some(Row::Stranger);
         }
-        let (percent, factor) = match seg {
-            Seg::Hot => (shares.hot_percent, shares.hot_factor),
-            _ => (shares.warm_percent, shares.warm_factor),
-        };
-        let bytes = self.bytes(rt, seg) as u128;
-        let limit = sums.total as u128 * percent as u128 / 100;
-        let age = moment.saturating_sub(piece.time) as u128;
-        let greatest_age = sums.cold_age as u128 * factor as u128 / 100;
-        let due = due_row(bytes, limit, age, greatest_age);
+        let due = due_of(piece, self.bytes(seg), seg, moment, sums, shares);
         row_of(seg, way, piece.is_dead(moment), piece.hits >= 2, due)
     }
 
     /// Does what a row says to an entry: it goes with its item, moves to WARM with the moment as its time and its mark
     /// cleared, moves to COLD, or stays.
-    pub(super) fn perform<R: Abort>(
+    pub(super) fn perform(
         &mut self,
-        rt: &R,
         alloc: Global,
         number: u64,
         row: Row,
         moment: u64,
-    ) {
+    ) -> Result<(), AllocError> {
         match done_of(row) {
             Done::Reclaimed | Done::Evicted => {
-                self.put(rt, alloc, number, None);
                 self.set_held(number, false);
+                self.put(alloc, number, None)
             }
             Done::ToWarm | Done::WithinWarm => {
-                self.put(rt, alloc, number, Some(Seg::Warm));
                 self.set_cooled(number, moment);
+                self.put(alloc, number, Some(Seg::Warm))
             }
-            Done::ToCold => self.put(rt, alloc, number, Some(Seg::Cold)),
-            Done::Stayed | Done::Alive(_) | Done::Stranger => {}
+            Done::ToCold => self.put(alloc, number, Some(Seg::Cold)),
+            Done::Stayed | Done::Alive(_) | Done::Stranger => Ok(()),
         }
     }
 

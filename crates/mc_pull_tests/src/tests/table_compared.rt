@@ -1,20 +1,22 @@
 //! Tails of small classes are judged by `settle` and by the plain program of the table, and whatever they leave is
 //! compared.
-use super::WHO;
-use super::plain_lists::Lists;
+use super::judging::judge;
+use super::plain_lists::{Lists, Piece, Sums};
 use super::plain_table::Row::{
     AtAge, AtLimit, ColdActive, ColdKept, ColdTaken, Dead, HotActive, HotForced, Kept, Old, Over,
     Stranger, TempAlive, WarmActive,
 };
 use super::plain_table::{Row, Way, done_of};
-use super::random_classes::{Game, ask_one, begun, judge, letter_of, link_one, roll};
-use super::walks::events;
-use super::world::{World, key, last_event};
+use super::random_classes::{Game, ask_one, begun, letter_of, link_one};
+use super::seeing::{events, last_event};
 use mc_item::Seg::{Cold, Hot, Temp, Warm};
 use mc_item::{ClassEvent, Seg, Why};
 use mc_pull::Mode;
 use mc_segment::Survey;
+use mc_testing::{Dice, WHO, World, key};
+use std::alloc::Global;
 use std::process::Abort;
+use std::random::RandomSource;
 use std::test::Fail;
 
 // How many classes are tried, and how many turns each has.
@@ -59,46 +61,78 @@ static TABLE: [Met; 27] = [
 ];
 
 // The numbers and times of a list of the class, from its tail.
-fn times_there<R: Abort>(rt: &R, world: &World, seg: Seg) -> Vec<(u64, u64)> {
+fn times_there(world: &World, seg: Seg) -> Result<Vec<(u64, u64)>, Fail> {
     let mut times = Vec::new(world.alloc);
-    for j in 0..world.class.len(seg) {
-        let entry = world.class.from_tail(seg, j).expect(rt, "an entry");
-        times.push((entry.number, entry.time)).expect(rt, "a place");
+    for place in 0..world.class.len(seg) {
+        if let Some(entry) = world.class.from_tail(seg, place) {
+            times.push((entry.number, entry.time))?;
+        }
     }
-    times
+    Ok(times)
 }
 
 // The same of a list of the plain program.
-fn times_wanted<R: Abort>(rt: &R, world: &World, lists: &Lists, seg: Seg) -> Vec<(u64, u64)> {
-    let mut times = Vec::new(world.alloc);
-    for number in lists.list(seg).iter().rev() {
-        let piece = lists.piece(rt, *number);
-        times.push((*number, piece.time)).expect(rt, "a place");
+fn times_wanted(alloc: Global, lists: &Lists, seg: Seg) -> Result<Vec<(u64, u64)>, Fail> {
+    let mut times = Vec::new(alloc);
+    for (number, of) in lists.order.iter().rev() {
+        if *of == seg {
+            let time = lists.piece(*number).map(|piece| piece.time);
+            times.push((*number, time.unwrap_or(0)))?;
+        }
     }
-    times
+    Ok(times)
+}
+
+// Asserts that a list is that of the plain program.
+fn check_list<R: Abort>(
+    rt: &R,
+    world: &World,
+    lists: &Lists,
+    seg: Seg,
+    met: Met,
+) -> Result<(), Fail> {
+    let there = times_there(world, seg)?;
+    let wanted = times_wanted(world.alloc, lists, seg)?;
+    assert_eq!(rt;
+        there.as_slice(),
+        wanted.as_slice(),
+        "{seg:?} after {met:?}"
+    );
+    Ok(())
+}
+
+// Whether an item is in the stripe, and whether it is active.
+fn marks_there(world: &World, number: u64) -> Result<(bool, bool), Fail> {
+    let key = key(world.alloc, letter_of(number))?;
+    match world.stripe.find(&key) {
+        Some(item) => Ok((true, item.marks.active)),
+        None => Ok((false, false)),
+    }
+}
+
+// Asserts that an item is that of the plain program.
+fn check_item<R: Abort>(
+    rt: &R,
+    world: &World,
+    piece: Piece,
+    number: u64,
+    met: Met,
+) -> Result<(), Fail> {
+    let marks = marks_there(world, number)?;
+    let wanted = (piece.held, piece.held && piece.hits >= 2);
+    assert_eq!(rt; marks, wanted, "{number} after {met:?}");
+    Ok(())
 }
 
 // Asserts that the lists and the items are those of the plain program.
-fn asserts_same<R: Abort>(rt: &R, world: &World, lists: &Lists, met: Met) {
+fn check_same<R: Abort>(rt: &R, world: &World, lists: &Lists, met: Met) -> Result<(), Fail> {
     for seg in SEGS {
-        let there = times_there(rt, world, seg);
-        let wanted = times_wanted(rt, world, lists, seg);
-        assert_eq!(rt;
-            there.as_slice(),
-            wanted.as_slice(),
-            "{seg:?} after {met:?}"
-        );
+        check_list(rt, world, lists, seg, met)?;
     }
     for (number, piece) in lists.pieces.iter().enumerate() {
-        let letter = letter_of(rt, number as u64);
-        let key = key(rt, world.alloc, letter);
-        let marks = match world.stripe.find(&key) {
-            Some(item) => (true, item.marks.active),
-            None => (false, false),
-        };
-        let wanted = (piece.held, piece.held && piece.hits >= 2);
-        assert_eq!(rt; marks, wanted, "{number} after {met:?}");
+        check_item(rt, world, *piece, number as u64, met)?;
     }
+    Ok(())
 }
 
 // How many events a row makes in the class and in the stripe.
@@ -135,55 +169,136 @@ fn way_of(seg: Seg, full: bool, chance: u64) -> Way {
     }
 }
 
-// Judges the tails of two lists by one survey, where they have any, and compares what is left.
-fn judge_two<R: Abort>(rt: &R, game: &mut Game, dice: &mut u64, met: &mut Vec<Met>) {
-    let alloc = game.world.alloc;
-    let moment = game.moment;
-    let sums = game.lists.sums(rt, moment);
-    let survey = game.world.class.survey(WHO, moment).expect(rt, "a survey");
+// A list that has a tail, the tail's number, and a way to judge it.
+fn drawn_tail(game: &Game, dice: &mut Dice) -> Option<(u64, Seg, Way)> {
+    let seg = SEGS[dice.below(4) as usize];
+    let way = way_of(seg, game.world.class.is_full(), dice.below(4));
+    let number = game.lists.tail(seg)?;
+    Some((number, seg, way))
+}
+
+fn mode_of(way: Way, survey: Survey) -> Mode {
+    match way {
+        Way::Plain => Mode::Plain(survey),
+        Way::Evict => Mode::Evict,
+        Way::Force => Mode::Force,
+    }
+}
+
+// Asserts that a judgement made the events of its row.
+fn check_events<R: Abort>(rt: &R, before: (usize, usize), after: (usize, usize), met: Met) {
+    let made = events_of(met.2);
+    let class = before.0.saturating_add(made.0);
+    let stripe = before.1.saturating_add(made.1);
+    assert_eq!(rt; after, (class, stripe), "at {met:?}");
+}
+
+// Judges a tail, and does to the plain program what the row says.
+fn judge_both<R: Abort>(
+    rt: &R,
+    game: &mut Game,
+    number: u64,
+    met: Met,
+    survey: Survey,
+) -> Result<(), Fail> {
+    let (seg, way, row) = met;
+    let before = events(&game.world);
+    let judged = judge(&mut game.world, seg, mode_of(way, survey), game.moment)?;
+    let after = events(&game.world);
+    game.lists
+        .perform(game.world.alloc, number, row, game.moment)?;
+    assert_eq!(rt; judged, Some((number, done_of(row))), "at {met:?}");
+    check_events(rt, before, after, met);
+    assert!(rt; is_said(&game.world, row, survey), "at {met:?}");
+    check_same(rt, &game.world, &game.lists, met)
+}
+
+// Judges the tail of a list by a survey, if it has any, and compares what is left.
+fn judge_one<R: Abort>(
+    rt: &R,
+    game: &mut Game,
+    dice: &mut Dice,
+    sums: Sums,
+    survey: Survey,
+) -> Result<Option<Met>, Fail> {
+    let Some((number, seg, way)) = drawn_tail(game, dice) else {
+        return Ok(None);
+    };
+    let row = game
+        .lists
+        .row(number, seg, way, game.moment, sums, game.shares)
+        .expect(rt, "a row");
+    let met = (seg, way, row);
+    judge_both(rt, game, number, met, survey)?;
+    Ok(Some(met))
+}
+
+// A survey, which says what the plain program says.
+fn surveyed<R: Abort>(rt: &R, game: &mut Game, sums: Sums) -> Result<Survey, Fail> {
+    let survey = game.world.class.survey(WHO, game.moment)?;
     assert_eq!(rt;
         (survey.total, survey.cold_age),
         (sums.total, sums.cold_age)
     );
+    Ok(survey)
+}
+
+// Judges the tails of two lists by one survey.
+fn judge_two<R: Abort>(
+    rt: &R,
+    game: &mut Game,
+    dice: &mut Dice,
+    met: &mut Vec<Met>,
+) -> Result<(), Fail> {
+    let sums = game.lists.sums(game.moment);
+    let survey = surveyed(rt, game, sums)?;
     for _ in 0..2 {
-        let seg = SEGS[roll(dice, 4) as usize];
-        let way = way_of(seg, game.world.class.is_full(), roll(dice, 4));
-        let Some(tail) = game.lists.list(seg).last() else {
-            continue;
-        };
-        let number = *tail;
-        let row = game
-            .lists
-            .row(rt, number, seg, way, moment, sums, game.shares)
-            .expect(rt, "a row");
-        let mode = match way {
-            Way::Plain => Mode::Plain(survey),
-            Way::Evict => Mode::Evict,
-            Way::Force => Mode::Force,
-        };
-        let before = events(&game.world);
-        let judged = judge(rt, &mut game.world, seg, mode, moment);
-        let after = events(&game.world);
-        game.lists.perform(rt, alloc, number, row, moment);
-        let this = (seg, way, row);
-        assert_eq!(rt; judged, (number, done_of(row)), "at {this:?}");
-        let made = events_of(row);
-        assert_eq!(rt; after.0, before.0.saturating_add(made.0), "at {this:?}");
-        assert_eq!(rt; after.1, before.1.saturating_add(made.1), "at {this:?}");
-        assert!(rt; is_said(&game.world, row, survey), "at {this:?}");
-        asserts_same(rt, &game.world, &game.lists, this);
-        met.push(this).expect(rt, "a place");
+        if let Some(one) = judge_one(rt, game, dice, sums, survey)? {
+            met.push(one)?;
+        }
     }
+    Ok(())
 }
 
 // One turn: time passes, an item may come where a chunk is free, another is asked for, and two tails are judged.
-fn take_turn<R: Abort>(rt: &R, game: &mut Game, dice: &mut u64, met: &mut Vec<Met>) {
-    game.moment = game.moment.saturating_add(roll(dice, 4));
-    if !game.world.class.is_full() && roll(dice, 2) == 0 {
-        link_one(rt, game, dice);
+fn take_turn<R: Abort>(
+    rt: &R,
+    game: &mut Game,
+    dice: &mut Dice,
+    met: &mut Vec<Met>,
+) -> Result<(), Fail> {
+    game.moment = game.moment.saturating_add(dice.below(4));
+    if !game.world.class.is_full() && dice.below(2) == 0 {
+        link_one(game, dice)?;
     }
-    ask_one(rt, game, dice);
-    judge_two(rt, game, dice, met);
+    ask_one(game, dice)?;
+    judge_two(rt, game, dice, met)
+}
+
+// Fills a class, and takes its turns.
+fn take_turns<R: Abort>(
+    rt: &R,
+    game: &mut Game,
+    dice: &mut Dice,
+    met: &mut Vec<Met>,
+) -> Result<(), Fail> {
+    for _ in 0..game.world.class.chunks() {
+        link_one(game, dice)?;
+    }
+    for _ in 0..TURNS {
+        take_turn(rt, game, dice, met)?;
+    }
+    Ok(())
+}
+
+fn play_class<R: Abort + RandomSource>(
+    rt: &R,
+    alloc: Global,
+    dice: &mut Dice,
+    met: &mut Vec<Met>,
+) -> Result<(), Fail> {
+    let mut game = begun(rt, alloc, dice)?;
+    take_turns(rt, &mut game, dice, met)
 }
 
 // How often a row was met.
@@ -197,23 +312,26 @@ fn count_of(met: &[Met], wanted: Met) -> u64 {
     count
 }
 
-#[test]
-fn tails_are_judged_by_the_table(rt: HostRuntime) -> Result<(), Fail> {
-    let alloc = rt.alloc();
-    let mut dice: u64 = 1;
-    let mut met = Vec::new(alloc);
-    for _ in 0..CLASSES {
-        let mut game = begun(&rt, alloc, &mut dice)?;
-        for _ in 0..game.world.class.chunks() {
-            link_one(&rt, &mut game, &mut dice);
-        }
-        for _ in 0..TURNS {
-            take_turn(&rt, &mut game, &mut dice, &mut met);
-        }
-    }
+// Asserts that each row was met.
+fn check_met<R: Abort>(rt: &R, met: &[Met]) {
     assert!(rt; met.len() >= 500, "only {} cases", met.len());
     for row in TABLE {
-        assert!(rt; count_of(met.as_slice(), row) > 0, "never {row:?}");
+        assert!(rt; count_of(met, row) > 0, "never {row:?}");
     }
+}
+
+// Plays the classes that a seed draws.
+fn run<R: Abort + RandomSource>(rt: &R, alloc: Global, seed: u64) -> Result<(), Fail> {
+    let mut dice = Dice::new(seed);
+    let mut met = Vec::new(alloc);
+    for _ in 0..CLASSES {
+        play_class(rt, alloc, &mut dice, &mut met)?;
+    }
+    check_met(rt, met.as_slice());
     Ok(())
+}
+
+#[test]
+fn tails_are_judged_by_the_table(rt: HostRuntime) -> Result<(), Fail> {
+    run(&rt, rt.alloc(), 1)
 }

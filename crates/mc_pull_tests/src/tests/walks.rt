@@ -1,168 +1,165 @@
 //! Walks and rounds along lists of six items, by the answers that a gate is told to give.
-ghost use Rattle.std.specs.Prelude.{IfOk};
-ghost use Rattle.mc_pull_tests.specs.World.{IsWorld};
-
-use super::by_list::{evict, force, pull, room};
-use super::world::{
-    World, asserts_list, juggle, last_of_class, last_of_stripe, opened, store, usual,
-};
-use mc_item::{Config, Moves, Seg};
-use mc_pull::Pulled;
+use super::by_list::Walked::{Evict, Force, Room};
+use super::by_list::{evict, pull};
+use super::rows::Ask::{See, Walk};
+use super::rows::{Row, SIX, SIX_AND_A_DIES, SIX_AND_FIVE_DIE, check_rows, play};
+use super::seeing::Seen::{LastOfClass, LastOfStripe, Lengths, List};
+use super::seeing::numbers;
+use mc_item::Seg::{Cold, Hot};
+use mc_testing::{World, one_class, opened};
 use std::alloc::Global;
 use std::process::Abort;
 use std::random::RandomSource;
 use std::test::Fail;
 
-/// Six items of 66 bytes with these exptimes in a class of this configuration, which has six chunks, juggled at 1000.
-/// COLD has 0 to 4 from its tail, and HOT has 5: a fifth of the bytes is 79.
-pub(super) fn six_of<R: Abort + RandomSource>(
-    rt: &R,
-    alloc: Global,
-    config: Config,
-    exptimes: [i64; 6],
-) -> Result<World, Fail>
-    ensures { IfOk result (λ w. IsWorld w.config w.class w.stripe) }
-{
-    let mut world = opened(rt, alloc, config)?;
-    store(rt, &mut world, b'a', exptimes[0], 1000);
-    store(rt, &mut world, b'b', exptimes[1], 1000);
-    store(rt, &mut world, b'c', exptimes[2], 1000);
-    store(rt, &mut world, b'd', exptimes[3], 1000);
-    store(rt, &mut world, b'e', exptimes[4], 1000);
-    store(rt, &mut world, b'f', exptimes[5], 1000);
-    let moves = juggle(rt, &mut world, 1000);
-    let wanted = Moves {
-        reclaimed: 0,
-        moved: 5,
-    };
-    assert_eq!(rt; moves, wanted);
-    Ok(world)
-}
-
-/// The same with the usual numbers.
-pub(super) fn six<R: Abort + RandomSource>(
-    rt: &R,
-    alloc: Global,
-    exptimes: [i64; 6],
-) -> Result<World, Fail>
-    ensures { IfOk result (λ w. IsWorld w.config w.class w.stripe) }
-{
-    let config = usual(alloc, 6)?;
-    six_of(rt, alloc, config, exptimes)
-}
-
-/// How many events the class and the stripe have.
-pub(super) fn events(world: &World) -> (usize, usize) {
-    (world.class.history().len(), world.stripe.history().len())
-}
+static JUGGLED: [Row; 4] = [
+    (See(List(Cold)), "[0, 1, 2, 3, 4]"),
+    (See(List(Hot)), "[5]"),
+    (
+        See(LastOfClass),
+        "moves 4 from Hot to Cold for Over(6) past [] at 6",
+    ),
+    (See(Lengths), "12 6"),
+];
 
 #[test]
 fn six_items_juggled(rt: HostRuntime) -> Result<(), Fail> {
-    let world = six(&rt, rt.alloc(), [0; 6])?;
-    asserts_list(&rt, &world, Seg::Cold, &[0, 1, 2, 3, 4]);
-    asserts_list(&rt, &world, Seg::Hot, &[5]);
-    assert_eq!(rt;
-        last_of_class(&world)?.as_str(),
-        "moves 4 from Hot to Cold for Over(6) past [] at 6"
-    );
-    assert_eq!(rt; events(&world), (12, 6));
-    Ok(())
+    let alloc = rt.alloc();
+    play(
+        &rt,
+        alloc,
+        one_class(alloc, 6)?,
+        SIX.as_slice(),
+        JUGGLED.as_slice(),
+    )
 }
+
+static FIRST_THAT_IS_HAD: [Row; 4] = [
+    (
+        Walk(Evict(1000, &[false, false, true])),
+        "0 reclaimed, 0 moved, 1 evicted, 2 passed",
+    ),
+    (See(LastOfClass), "evicts 2 past [0, 1] at 6"),
+    (See(LastOfStripe), "loses [99] taken by 12 of class 1"),
+    (See(List(Cold)), "[0, 1, 3, 4]"),
+];
 
 #[test]
 fn the_first_that_is_had_is_evicted(rt: HostRuntime) -> Result<(), Fail> {
-    let mut world = six(&rt, rt.alloc(), [0; 6])?;
-    let pulled = evict(&rt, &mut world, 1000, &[false, false, true]);
-    let wanted = Pulled {
-        reclaimed: 0,
-        moved: 0,
-        evicted: 1,
-        passed: 2,
-    };
-    assert_eq!(rt; pulled, wanted);
-    assert_eq!(rt;
-        last_of_class(&world)?.as_str(),
-        "evicts 2 past [0, 1] at 6"
-    );
-    assert_eq!(rt;
-        last_of_stripe(&world)?.as_str(),
-        "loses [99] taken by 12 of class 1"
-    );
-    asserts_list(&rt, &world, Seg::Cold, &[0, 1, 3, 4]);
-    Ok(())
+    let alloc = rt.alloc();
+    play(
+        &rt,
+        alloc,
+        one_class(alloc, 6)?,
+        SIX.as_slice(),
+        FIRST_THAT_IS_HAD.as_slice(),
+    )
 }
+
+static NONE_IS_HAD: [Row; 2] = [
+    (
+        Walk(Evict(1000, &[])),
+        "0 reclaimed, 0 moved, 0 evicted, 5 passed",
+    ),
+    (See(Lengths), "12 6"),
+];
 
 #[test]
 fn five_that_are_not_had_are_passed(rt: HostRuntime) -> Result<(), Fail> {
-    let mut world = six(&rt, rt.alloc(), [0; 6])?;
-    let pulled = evict(&rt, &mut world, 1000, &[]);
-    let wanted = Pulled {
-        reclaimed: 0,
-        moved: 0,
-        evicted: 0,
-        passed: 5,
-    };
-    assert_eq!(rt; pulled, wanted);
-    assert_eq!(rt; events(&world), (12, 6));
-    Ok(())
+    let alloc = rt.alloc();
+    play(
+        &rt,
+        alloc,
+        one_class(alloc, 6)?,
+        SIX.as_slice(),
+        NONE_IS_HAD.as_slice(),
+    )
 }
+
+static CHUNK_OF_THE_DEAD: [Row; 4] = [
+    (
+        Walk(Evict(1001, &[true; 5])),
+        "1 reclaimed, 0 moved, 0 evicted, 0 passed",
+    ),
+    (See(LastOfClass), "reclaims 0 at 6"),
+    (See(LastOfStripe), "loses [97] dead at 1001"),
+    (See(List(Cold)), "[1, 2, 3, 4]"),
+];
 
 #[test]
 fn a_chunk_of_the_dead_ends_a_walk(rt: HostRuntime) -> Result<(), Fail> {
-    let mut world = six(&rt, rt.alloc(), [1, 0, 0, 0, 0, 0])?;
-    let pulled = evict(&rt, &mut world, 1001, &[true; 5]);
-    let wanted = Pulled {
-        reclaimed: 1,
-        moved: 0,
-        evicted: 0,
-        passed: 0,
-    };
-    assert_eq!(rt; pulled, wanted);
-    assert_eq!(rt; last_of_class(&world)?.as_str(), "reclaims 0 at 6");
-    assert_eq!(rt; last_of_stripe(&world)?.as_str(), "loses [97] dead at 1001");
-    asserts_list(&rt, &world, Seg::Cold, &[1, 2, 3, 4]);
-    Ok(())
+    let alloc = rt.alloc();
+    play(
+        &rt,
+        alloc,
+        one_class(alloc, 6)?,
+        SIX_AND_A_DIES.as_slice(),
+        CHUNK_OF_THE_DEAD.as_slice(),
+    )
 }
+
+static SIXTY_LOOKS: [Row; 2] = [
+    (Walk(Room(1000, &[])), "false after 60"),
+    (See(Lengths), "12 6"),
+];
 
 #[test]
 fn room_is_looked_for_sixty_times(rt: HostRuntime) -> Result<(), Fail> {
-    let mut world = six(&rt, rt.alloc(), [0; 6])?;
-    let told = room(&rt, &mut world, 1000, &[]);
-    assert_eq!(rt; told, (false, 60));
-    assert_eq!(rt; events(&world), (12, 6));
-    Ok(())
+    let alloc = rt.alloc();
+    play(
+        &rt,
+        alloc,
+        one_class(alloc, 6)?,
+        SIX.as_slice(),
+        SIXTY_LOOKS.as_slice(),
+    )
 }
+
+static HOT_IS_FORCED: [Row; 4] = [
+    (
+        Walk(Room(1000, &[false, false, false, false, false, true, true])),
+        "true after 7",
+    ),
+    (See(LastOfClass), "evicts 0 past [] at 6"),
+    (See(List(Cold)), "[1, 2, 3, 4, 5]"),
+    (See(Lengths), "14 7"),
+];
 
 // COLD gives nothing, and HOT's entry is forced to COLD; in the next round COLD's tail is taken.
 #[test]
 fn hot_is_forced_where_cold_gave_nothing(rt: HostRuntime) -> Result<(), Fail> {
-    let mut world = six(&rt, rt.alloc(), [0; 6])?;
-    let yes = [false, false, false, false, false, true, true];
-    let told = room(&rt, &mut world, 1000, &yes);
-    assert_eq!(rt; told, (true, 7));
-    assert_eq!(rt; last_of_class(&world)?.as_str(), "evicts 0 past [] at 6");
-    asserts_list(&rt, &world, Seg::Cold, &[1, 2, 3, 4, 5]);
-    assert_eq!(rt; events(&world), (14, 7));
-    Ok(())
+    let alloc = rt.alloc();
+    play(
+        &rt,
+        alloc,
+        one_class(alloc, 6)?,
+        SIX.as_slice(),
+        HOT_IS_FORCED.as_slice(),
+    )
 }
+
+static FORCED: [Row; 3] = [
+    (
+        Walk(Force(1000, &[true])),
+        "0 reclaimed, 1 moved, 0 evicted, 0 passed",
+    ),
+    (
+        See(LastOfClass),
+        "moves 5 from Hot to Cold for Forced past [] at 6",
+    ),
+    (See(List(Cold)), "[0, 1, 2, 3, 4, 5]"),
+];
 
 #[test]
 fn a_forced_entry_goes_to_colds_head(rt: HostRuntime) -> Result<(), Fail> {
-    let mut world = six(&rt, rt.alloc(), [0; 6])?;
-    let pulled = force(&rt, &mut world, 1000, &[true]);
-    let wanted = Pulled {
-        reclaimed: 0,
-        moved: 1,
-        evicted: 0,
-        passed: 0,
-    };
-    assert_eq!(rt; pulled, wanted);
-    assert_eq!(rt;
-        last_of_class(&world)?.as_str(),
-        "moves 5 from Hot to Cold for Forced past [] at 6"
-    );
-    asserts_list(&rt, &world, Seg::Cold, &[0, 1, 2, 3, 4, 5]);
-    Ok(())
+    let alloc = rt.alloc();
+    play(
+        &rt,
+        alloc,
+        one_class(alloc, 6)?,
+        SIX.as_slice(),
+        FORCED.as_slice(),
+    )
 }
 
 // The answers of a pattern, the first by its lowest digit.
@@ -183,42 +180,68 @@ fn plain_walk(yes: [bool; 5]) -> (u64, u64, u64) {
     }
 }
 
+fn check_walk<R: Abort>(rt: &R, world: &mut World, digits: u32) -> Result<(), Fail> {
+    let yes = pattern(digits);
+    let pulled = evict(world, 1000, &yes)?.expect(rt, "a walk");
+    let told = (pulled.evicted, pulled.passed, world.class.count());
+    assert_eq!(rt; told, plain_walk(yes), "at {digits}");
+    assert_eq!(rt; (pulled.reclaimed, pulled.moved), (0, 0), "at {digits}");
+    Ok(())
+}
+
+// Six items, and what is asked of them then.
+fn six<R: Abort + RandomSource>(rt: &R, alloc: Global, before: &[Row]) -> Result<World, Fail> {
+    let mut world = opened(rt, alloc, one_class(alloc, 6)?)?;
+    check_rows(rt, &mut world, before)?;
+    Ok(world)
+}
+
+fn walk_by<R: Abort + RandomSource>(rt: &R, alloc: Global, digits: u32) -> Result<(), Fail> {
+    let mut world = six(rt, alloc, SIX.as_slice())?;
+    check_walk(rt, &mut world, digits)
+}
+
 #[test]
 fn walks_by_all_answers(rt: HostRuntime) -> Result<(), Fail> {
     for digits in 0..32 {
-        let mut world = six(&rt, rt.alloc(), [0; 6])?;
-        let yes = pattern(digits);
-        let pulled = evict(&rt, &mut world, 1000, &yes);
-        let told = (pulled.evicted, pulled.passed, world.class.count());
-        assert_eq!(rt; told, plain_walk(yes), "at {digits}");
-        assert_eq!(rt; (pulled.reclaimed, pulled.moved), (0, 0), "at {digits}");
+        walk_by(&rt, rt.alloc(), digits)?;
     }
     Ok(())
 }
 
 // The numbers from 0 to 4 that have this answer.
-fn with_answer(rt: &impl Abort, alloc: Global, yes: [bool; 5], answer: bool) -> Vec<u64> {
+fn with_answer(alloc: Global, yes: [bool; 5], answer: bool) -> Result<Vec<u64>, Fail> {
     let mut numbers = Vec::new(alloc);
     for (number, had) in yes.into_iter().enumerate() {
         if had == answer {
-            numbers.push(number as u64).expect(rt, "a place");
+            numbers.push(number as u64)?;
         }
     }
-    numbers
+    Ok(numbers)
 }
 
 // By a survey the dead are reclaimed and the walk goes on: those that are not had stay, in their order.
+fn check_pull<R: Abort>(rt: &R, world: &mut World, digits: u32) -> Result<(), Fail> {
+    let yes = pattern(digits);
+    let pulled = pull(world, 1001, &yes)?.expect(rt, "a walk");
+    let rest = with_answer(world.alloc, yes, false)?;
+    let cold = numbers(world, Cold)?;
+    let passed = rest.len() as u64;
+    let wanted = (5_u64.saturating_sub(passed), passed);
+    assert_eq!(rt; (pulled.reclaimed, pulled.passed), wanted, "at {digits}");
+    assert_eq!(rt; cold.as_slice(), rest.as_slice(), "at {digits}");
+    Ok(())
+}
+
+fn pull_by<R: Abort + RandomSource>(rt: &R, alloc: Global, digits: u32) -> Result<(), Fail> {
+    let mut world = six(rt, alloc, SIX_AND_FIVE_DIE.as_slice())?;
+    check_pull(rt, &mut world, digits)
+}
+
 #[test]
 fn the_dead_go_by_all_answers(rt: HostRuntime) -> Result<(), Fail> {
     for digits in 0..32 {
-        let mut world = six(&rt, rt.alloc(), [1, 1, 1, 1, 1, 0])?;
-        let yes = pattern(digits);
-        let pulled = pull(&rt, &mut world, Seg::Cold, 1001, &yes);
-        let gone = with_answer(&rt, rt.alloc(), yes, true);
-        let rest = with_answer(&rt, rt.alloc(), yes, false);
-        assert_eq!(rt; pulled.reclaimed, gone.len() as u64, "at {digits}");
-        assert_eq!(rt; pulled.passed, rest.len() as u64, "at {digits}");
-        asserts_list(&rt, &world, Seg::Cold, rest.as_slice());
+        pull_by(&rt, rt.alloc(), digits)?;
     }
     Ok(())
 }

@@ -1,7 +1,7 @@
 use Rattle.std.proofs.Common.{◌∷◌, [], subst}
 use Rattle.mc_stripe.specs.declared.fate.Fate.{Fate}
 use Rattle.mc_pull.specs.Perform.{AreLent}
-use Rattle.mc_pull_tests.proofs.tests.performing.is_enough.Goals as goal
+use Rattle.mc_pull_tests.proofs.tests.making.is_enough.Goals as goal
 
 pub returns : goal.returns
 returns c = λ is who.

@@ -1,0 +1,147 @@
+//! Judgements by direct calls.
+ghost use Rattle.std.specs.Prelude.{◌≡◌, true};
+ghost use Rattle.mc_pull.specs.Question.{IsFullFor, IsSurveyIn, MayWalk};
+
+use super::seeing::event_at;
+use mc_item::{ClassEvent, Command, Fault, Passed, Seg, Verb, Who};
+use mc_pull::{Done, Judge, Mode, settle};
+use mc_segment::{ClassState, Survey};
+use mc_testing::{WHO, World, ask, key, storage};
+use std::alloc::Global;
+use std::test::Fail;
+
+/// A judgement, or a command that the stripe alone is given, so that the class learns of it by judging.
+#[derive(Clone, Copy)]
+pub enum Judged {
+    /// A list's tail at this moment, by a survey that is made first.
+    Tail(Seg, u64),
+    /// Whether COLD's tail is dead at this moment.
+    IsDead(u64),
+    /// A get of the key of one letter at 1000.
+    Get(u8),
+    /// A delete at 1000.
+    Delete(u8),
+    /// A set at 1000, whose link has no entry.
+    Set(u8),
+}
+
+// Whether a survey is noted in a class's history.
+fn is_noted(alloc: Global, class: &ClassState, who: Who, moment: u64, survey: Survey) -> bool
+    ensures { result ≡ true → IsSurveyIn class.now.history who moment survey }
+{
+    match event_at(alloc, class, survey.place) {
+        Some(ClassEvent::Surveyed(noted)) => {
+            noted.who == who
+                && noted.moment == moment
+                && noted.total == survey.total
+                && noted.cold_age == survey.cold_age
+        }
+        _ => false,
+    }
+}
+
+/// Whether a list may be judged so.
+pub(super) fn may_walk(
+    alloc: Global,
+    class: &ClassState,
+    seg: Seg,
+    mode: Mode,
+    who: Who,
+    moment: u64,
+) -> bool
+    ensures { result ≡ true → MayWalk class.now seg mode who moment × IsFullFor class.now mode }
+{
+    match mode {
+        Mode::Plain(survey) => is_noted(alloc, class, who, moment, survey),
+        Mode::Evict => class.is_full() && seg == Seg::Cold,
+        Mode::Force => class.is_full() && seg == Seg::Hot,
+    }
+}
+
+/// Judges the tail of a list, and tells its number; nothing where there is no tail, or the list may not be judged so.
+pub(super) fn judge(
+    world: &mut World,
+    seg: Seg,
+    mode: Mode,
+    moment: u64,
+) -> Result<Option<(u64, Done)>, Fault> {
+    let alloc = world.alloc;
+    let class = &mut world.class;
+    if !may_walk(alloc, class, seg, mode, WHO, moment) {
+        return Ok(None);
+    }
+    let Some(entry) = class.from_tail(seg, 0) else {
+        return Ok(None);
+    };
+    let number = entry.number;
+    let judge = Judge::Walk {
+        seg,
+        mode,
+        passed: Passed::of(&[]),
+    };
+    let stripe = &mut world.stripe;
+    let config = &world.config;
+    let done = settle(alloc, class, stripe, WHO, number, &judge, moment, config)?;
+    Ok(Some((number, done)))
+}
+
+// Judges a list's tail by a survey that is made first.
+fn judge_tail(world: &mut World, seg: Seg, moment: u64) -> Result<Option<Done>, Fault> {
+    let survey = world.class.survey(WHO, moment)?;
+    match judge(world, seg, Mode::Plain(survey), moment)? {
+        Some((_, done)) => Ok(Some(done)),
+        None => Ok(None),
+    }
+}
+
+// Asks whether COLD's tail is dead.
+fn ask_tail(world: &mut World, moment: u64) -> Result<Option<Done>, Fault> {
+    let alloc = world.alloc;
+    let class = &mut world.class;
+    let Some(entry) = class.from_tail(Seg::Cold, 0) else {
+        return Ok(None);
+    };
+    let number = entry.number;
+    let stripe = &mut world.stripe;
+    let config = &world.config;
+    let done = settle(
+        alloc,
+        class,
+        stripe,
+        WHO,
+        number,
+        &Judge::Dead,
+        moment,
+        config,
+    )?;
+    Ok(Some(done))
+}
+
+// The text of an outcome.
+fn told_done(alloc: Global, done: Result<Option<Done>, Fault>) -> Result<String, Fail> {
+    match done {
+        Ok(Some(done)) => Ok(format!(in alloc; "{done:?}")?),
+        Ok(None) => Ok(format!(in alloc; "no tail")?),
+        Err(fault) => Ok(format!(in alloc; "{fault:?}")?),
+    }
+}
+
+// A command on the stripe alone.
+fn told_ask(world: &mut World, command: Command) -> Result<String, Fail> {
+    ask(world, command, 1000)?;
+    Ok(format!(in world.alloc; "asked")?)
+}
+
+/// Judges or asks, and tells what came of it.
+pub(super) fn tell_judged(world: &mut World, judged: Judged) -> Result<String, Fail> {
+    let alloc = world.alloc;
+    match judged {
+        Judged::Tail(seg, moment) => told_done(alloc, judge_tail(world, seg, moment)),
+        Judged::IsDead(moment) => told_done(alloc, ask_tail(world, moment)),
+        Judged::Get(letter) => told_ask(world, Command::Get(key(alloc, letter)?)),
+        Judged::Delete(letter) => told_ask(world, Command::Delete(key(alloc, letter)?)),
+        Judged::Set(letter) => {
+            told_ask(world, storage(alloc, Verb::Set, letter, 0, 0, &[letter])?)
+        }
+    }
+}
