@@ -1,8 +1,9 @@
 //! Times a class: links, forced moves from a tail, hits in a random order, and removals in a random order; and links
 //! of which few stay.
-ghost use Rattle.std.specs.Prelude.{◌≡◌, ◌<◌, IfSome};
+ghost use Rattle.std.specs.Prelude.{◌≡◌, IfSome};
 ghost use Rattle.mc_item.specs.Config.{IsSound};
 
+use crate::{nanos_each, print_row};
 use mc_item::{ClassNo, Config, Expiry, Fault, Key, Numbers, Passed, Seg, Who, Why};
 use mc_segment::ClassState;
 use std::alloc::Global;
@@ -11,10 +12,28 @@ use std::time::Instant;
 
 const WHO: Who = Who { caller: 0, turn: 0 };
 
-fn step(x: u64) -> u64 {
-    x.wrapping_mul(6_364_136_223_846_793_005)
-        .wrapping_add(1_442_695_040_888_963_407)
+#[derive(Clone, Copy)]
+enum Call {
+    Link,
+    // A link, of which each thousandth stays and the others go at once.
+    LinkFew,
+    // A move from HOT's tail to COLD.
+    Force,
+    Hit,
+    Unlink,
 }
+
+// A call, its row's label, and what its random numbers begin with.
+type Load = (Call, &'static str, u64);
+
+static LOADS: [Load; 4] = [
+    (Call::Link, "ns a link", 1),
+    (Call::Force, "ns a forced move", 1),
+    (Call::Hit, "ns a random hit", 1),
+    (Call::Unlink, "ns a random unlink", 7),
+];
+
+static FEW: [Load; 1] = [(Call::LinkFew, "ns a link and removal", 1)];
 
 fn link(alloc: Global, class: &mut ClassState, moment: u64) -> Result<(), Fault> {
     let Ok(key) = Key::of(alloc, b"a_key_of_twenty_byte") else {
@@ -26,22 +45,12 @@ fn link(alloc: Global, class: &mut ClassState, moment: u64) -> Result<(), Fault>
     Ok(())
 }
 
-fn link_all(alloc: Global, class: &mut ClassState, entries: u64) -> Result<(), Fault> {
-    for i in 0..entries {
-        link(alloc, class, i)?;
+fn link_few(alloc: Global, class: &mut ClassState, moment: u64) -> Result<(), Fault> {
+    link(alloc, class, moment)?;
+    if moment % 1000 == 0 {
+        return Ok(());
     }
-    Ok(())
-}
-
-// Links entries, of which each thousandth stays and the others go at once.
-fn link_and_remove(alloc: Global, class: &mut ClassState, entries: u64) -> Result<(), Fault> {
-    for i in 0..entries {
-        link(alloc, class, i)?;
-        if i % 1000 != 0 {
-            remove(class, i)?;
-        }
-    }
-    Ok(())
+    unlink(class, moment)
 }
 
 fn force(class: &mut ClassState) -> Result<(), Fault> {
@@ -56,60 +65,70 @@ fn force(class: &mut ClassState) -> Result<(), Fault> {
 }
 
 fn hit(class: &mut ClassState, number: u64, moment: u64) -> Result<(), Fault> {
-    match class.segment_of(number) {
-        Some(Seg::Cold) => class.shift(
-            WHO,
-            number,
-            Seg::Warm,
-            Why::Hit,
-            moment,
-            Passed::of(&[]),
-            0,
-        ),
-        _ => Ok(()),
+    if class.segment_of(number) != Some(Seg::Cold) {
+        return Ok(());
+    }
+    class.shift(WHO, number, Seg::Warm, Why::Hit, moment, Passed::of(&[]), 0)
+}
+
+fn unlink(class: &mut ClassState, number: u64) -> Result<(), Fault> {
+    if class.segment_of(number).is_none() {
+        return Ok(());
+    }
+    class.unlink(WHO, number)
+}
+
+// Makes a call, on an entry of this number where it doesn't choose one itself.
+fn make(
+    alloc: Global,
+    class: &mut ClassState,
+    call: Call,
+    moment: u64,
+    number: u64,
+) -> Result<(), Fault> {
+    match call {
+        Call::Link => link(alloc, class, moment),
+        Call::LinkFew => link_few(alloc, class, moment),
+        Call::Force => force(class),
+        Call::Hit => hit(class, number, moment),
+        Call::Unlink => unlink(class, number),
     }
 }
 
-fn remove(class: &mut ClassState, number: u64) -> Result<(), Fault> {
-    if class.segment_of(number).is_some() {
-        class.unlink(WHO, number)?;
+// Nanoseconds a call of a load, as many times as there are entries. Numbers are drawn without a division, to cost little.
+fn time(rt: &HostRuntime, class: &mut ClassState, load: Load, entries: u64) -> Option<u64> {
+    let start = Instant::now(rt).ok()?;
+    let mut x = load.2;
+    for moment in 0..entries {
+        x = x
+            .wrapping_mul(6_364_136_223_846_793_005)
+            .wrapping_add(1_442_695_040_888_963_407);
+        let number = (x >> 32).wrapping_mul(entries) >> 32;
+        make(rt.alloc(), class, load.0, moment, number).ok()?;
     }
-    Ok(())
+    nanos_each(rt, start, entries)
 }
 
-// Forces every entry from HOT's tail to COLD.
-fn force_all(class: &mut ClassState, entries: u64) -> Result<(), Fault> {
-    for _ in 0..entries {
-        force(class)?;
-    }
-    Ok(())
+// The most memory that the process had, in kilobytes.
+fn peak(rt: &HostRuntime) -> Option<u64> {
+    let status = std::fs::read_to_string(rt, "/proc/self/status").ok()?;
+    let (_, after) = status.as_str().split_once("VmHWM:")?;
+    after.split_whitespace().next()?.parse().ok()
 }
 
-// Hits numbers in a random order.
-fn hit_all(class: &mut ClassState, entries: u64) -> Result<(), Fault>
-    requires { 0 < entries }
-{
-    let mut x = 1u64;
-    for i in 0..entries {
-        x = step(x);
-        hit(class, (x >> 33) % entries, i)?;
+fn time_loads(
+    rt: &HostRuntime,
+    class: &mut ClassState,
+    loads: &[Load],
+    entries: u64,
+) -> io::Result<()> {
+    for load in loads {
+        print_row(rt, load.1, entries, time(rt, class, *load, entries))?;
     }
-    Ok(())
+    print_row(rt, "entries left", entries, Some(class.count()))?;
+    print_row(rt, "kilobytes at the peak", entries, peak(rt))
 }
 
-// Removes numbers in a random order.
-fn remove_all(class: &mut ClassState, entries: u64) -> Result<(), Fault>
-    requires { 0 < entries }
-{
-    let mut x = 7u64;
-    for _ in 0..entries {
-        x = step(x);
-        remove(class, (x >> 33) % entries)?;
-    }
-    Ok(())
-}
-
-// The configuration, where it is sound.
 fn checked(config: Config) -> Option<Config>
     ensures { IfSome result (λ c. IsSound c × (c ≡ config)) }
 {
@@ -119,80 +138,40 @@ fn checked(config: Config) -> Option<Config>
     }
 }
 
-// A class with this many chunks.
-fn class_with(alloc: Global, chunks: u64) -> Option<ClassState> {
-    let Ok(usual) = Config::usual(alloc, 3) else {
-        return None;
-    };
-    let config = Config {
-        sizes: Numbers::from_vec(Vec::from_slice(alloc, &[96]).ok()?),
-        chunks: Numbers::from_vec(Vec::from_slice(alloc, &[chunks]).ok()?),
+// The configuration of a class with this many chunks.
+fn with_chunks(alloc: Global, chunks: u64) -> Option<Config> {
+    let sizes = Numbers::from_vec(Vec::from_slice(alloc, &[96]).ok()?);
+    let chunks = Numbers::from_vec(Vec::from_slice(alloc, &[chunks]).ok()?);
+    let usual = Config::usual(alloc, 3).ok()?;
+    Some(Config {
+        sizes,
+        chunks,
         max_events: 1 << 24,
         ..usual
-    };
-    let config = checked(config)?;
+    })
+}
+
+fn class_with(alloc: Global, chunks: u64) -> Option<ClassState> {
+    let config = checked(with_chunks(alloc, chunks)?)?;
     Some(ClassState::new(alloc, ClassNo(1), &config))
 }
 
-// Times each step in nanoseconds a call.
-fn run(rt: &HostRuntime, entries: u64) -> io::Result<()>
-    requires { 0 < entries }
-{
-    let Some(mut class) = class_with(rt.alloc(), entries) else {
-        println!(rt; "no memory")?;
-        return Ok(());
-    };
-    let start = Instant::now(rt)?;
-    let linked = link_all(rt.alloc(), &mut class, entries).is_ok();
-    let link = start.elapsed(rt)?.as_nanos() / (entries as u128);
-    let start = Instant::now(rt)?;
-    let forced = force_all(&mut class, entries).is_ok();
-    let force = start.elapsed(rt)?.as_nanos() / (entries as u128);
-    let start = Instant::now(rt)?;
-    let was_hit = hit_all(&mut class, entries).is_ok();
-    let hit = start.elapsed(rt)?.as_nanos() / (entries as u128);
-    let start = Instant::now(rt)?;
-    let removed = remove_all(&mut class, entries).is_ok();
-    let remove = start.elapsed(rt)?.as_nanos() / (entries as u128);
-    let left = class.count();
-    println!(rt;
-        "{entries} entries: link {link} ns, forced move {force} ns, random hit {hit} ns, random unlink {remove} ns; {left} left"
-    )?;
-    if !(linked && forced && was_hit && removed) {
-        println!(rt; "a call was refused")?;
+// Times loads on a new class, and prints the most memory that the process had.
+fn run(rt: &HostRuntime, loads: &[Load], entries: u64) -> io::Result<()> {
+    match class_with(rt.alloc(), entries) {
+        Some(mut class) => time_loads(rt, &mut class, loads, entries),
+        None => println!(rt; "no memory"),
     }
-    Ok(())
 }
 
-// Prints the most memory that the process had.
-fn print_memory(rt: &HostRuntime) -> io::Result<()> {
-    let status = std::fs::read_to_string(rt, "/proc/self/status")?;
-    for line in status.as_str().lines() {
-        if line.starts_with("VmHWM") {
-            println!(rt; "{line}")?;
-        }
-    }
-    Ok(())
-}
-
-/// Times classes of three sizes, and prints the most memory that the process had.
+/// Times classes of three sizes.
 pub(crate) fn time_all(rt: &HostRuntime) -> io::Result<()> {
-    run(rt, 10_000)?;
-    run(rt, 100_000)?;
-    run(rt, 1_000_000)?;
-    print_memory(rt)
+    run(rt, &LOADS, 10_000)?;
+    run(rt, &LOADS, 100_000)?;
+    run(rt, &LOADS, 1_000_000)
 }
 
-/// Times a million links of which a thousand stay, and prints the most memory that the process had.
+/// Times a million links of which a thousand stay.
 pub(crate) fn time_few(rt: &HostRuntime) -> io::Result<()> {
-    let entries = 1_000_000;
-    let Some(mut class) = class_with(rt.alloc(), entries) else {
-        return println!(rt; "no memory");
-    };
-    let start = Instant::now(rt)?;
-    let done = link_and_remove(rt.alloc(), &mut class, entries).is_ok();
-    let each = start.elapsed(rt)?.as_nanos() / (entries as u128);
-    let left = class.count();
-    println!(rt; "{entries} links and removals: {each} ns each; {left} left; done: {done}")?;
-    print_memory(rt)
+    run(rt, &FEW, 1_000_000)
 }

@@ -7,18 +7,37 @@ mod lists;
 mod reader;
 
 use std::io;
+use std::time::Instant;
 
-// What the first word asks for.
+// Prints a row: what was measured, of how many entries or in pieces of how many bytes, and the number.
+fn print_row(rt: &HostRuntime, label: &str, of: u64, number: Option<u64>) -> io::Result<()> {
+    match number {
+        Some(number) => println!(rt; "{label} ({of}): {number}"),
+        None => println!(rt; "{label} ({of}): a call failed"),
+    }
+}
+
+// Nanoseconds a call since the first of so many.
+fn nanos_each(rt: &HostRuntime, start: Instant, calls: u64) -> Option<u64> {
+    let nanos = start.elapsed(rt).ok()?.as_nanos();
+    u64::try_from(nanos.checked_div(u128::from(calls))?).ok()
+}
+
+// Runs the load of this name.
+fn run(rt: &HostRuntime, word: &str) -> io::Result<()> {
+    match word {
+        "lists" => lists::time_all(rt),
+        "few" => lists::time_few(rt),
+        "reader" => reader::time_all(rt),
+        _ => println!(rt; "the loads are: lists, few, reader"),
+    }
+}
+
 fn main(rt: HostRuntime) -> io::Result<()> {
     let mut words = std::env::args(&rt)?;
     words.next();
-    let Some(word) = words.next() else {
-        return Ok(());
-    };
-    match word.as_str() {
-        "lists" => lists::time_all(&rt),
-        "few" => lists::time_few(&rt),
-        "reader" => reader::time_all(&rt),
-        _ => println!(rt; "the loads are: lists, few, reader"),
+    match words.next() {
+        Some(word) => run(&rt, word.as_str()),
+        None => Ok(()),
     }
 }

@@ -1,5 +1,5 @@
 //! What the tests share: stripe 1 of 4, and commands of its key `b` as plain data.
-ghost use Rattle.std.specs.Prelude.{◌≡◌, IfOk};
+ghost use Rattle.std.specs.Prelude.{◌<◌};
 ghost use Rattle.mc_item.specs.Config.{IsBounded};
 
 mod alone;
@@ -9,6 +9,7 @@ mod items;
 mod noted;
 mod plain;
 mod plans;
+mod rows;
 mod sets;
 mod table;
 
@@ -16,42 +17,49 @@ use mc_item::{Command, Config, Key, Numbers, StripeNo, Value, Verb, Who};
 use mc_stripe::StripeState;
 use std::alloc::Global;
 use std::hash::RandomState;
+use std::process::Abort;
 use std::random::RandomSource;
-use std::test::Fail;
 
 const WHO: Who = Who { caller: 0, turn: 0 };
 
-fn checked(config: Config) -> Result<Config, Fail>
-    ensures { IfOk result IsBounded }
+fn checked<R: Abort>(rt: &R, config: Config) -> Config
+    ensures bounded { IsBounded result }
+    ensures stripes { 1 < result.stripes }
 {
-    Ok(config.check()?)
+    let config = config.check().expect(rt, "a sound configuration");
+    assert!(rt; config.stripes == 4);
+    config
+}
+
+fn numbers<R: Abort>(rt: &R, alloc: Global, each: &[u64]) -> Numbers {
+    Numbers::from_vec(Vec::from_slice(alloc, each).expect(rt, "a list"))
 }
 
 // The configuration of four stripes, with the sizes 66 and 70; a history holds 16 events.
-fn four_stripes(alloc: Global) -> Result<Config, Fail> {
-    let sizes = Vec::from_slice(alloc, &[66, 70])?;
-    let chunks = Vec::from_slice(alloc, &[4, 4])?;
-    let mut config = Config::usual(alloc, 1)?;
+fn four_stripes<R: Abort>(rt: &R, alloc: Global) -> Config {
+    let mut config = Config::usual(alloc, 1).expect(rt, "a configuration");
     config.stripes = 4;
-    config.sizes = Numbers::from_vec(sizes);
-    config.chunks = Numbers::from_vec(chunks);
+    config.sizes = numbers(rt, alloc, &[66, 70]);
+    config.chunks = numbers(rt, alloc, &[4, 4]);
     config.max_events = 16;
-    Ok(config)
+    config
 }
 
 // Stripe 1 of four.
-fn stripe_one(rt: &impl RandomSource, alloc: Global) -> Result<StripeState, Fail> {
-    let seed = RandomState::new(rt)?;
-    let config = checked(four_stripes(alloc)?)?;
-    if config.stripes < 2 {
-        return Err(Fail::from("there are four stripes"));
-    }
-    Ok(StripeState::new(alloc, StripeNo(1), &config, seed))
+fn stripe_one<R: Abort + RandomSource>(rt: &R, alloc: Global) -> StripeState {
+    let config = checked(rt, four_stripes(rt, alloc));
+    let seed = RandomState::new(rt).expect(rt, "a seed");
+    StripeState::new(alloc, StripeNo(1), &config, seed)
 }
 
 // The key `b`, which is of stripe 1 of 4.
-fn b(alloc: Global) -> Result<Key, Fail> {
-    Ok(Key::of(alloc, b"b")?)
+fn b<R: Abort>(rt: &R, alloc: Global) -> Key {
+    Key::of(alloc, b"b").expect(rt, "a key")
+}
+
+fn value<R: Abort>(rt: &R, alloc: Global, text: &str) -> Value {
+    let bytes = Vec::from_slice(alloc, text.as_bytes()).expect(rt, "bytes");
+    Value::of(alloc, bytes).expect(rt, "a value")
 }
 
 // What is asked of the key `b`.
@@ -59,6 +67,8 @@ fn b(alloc: Global) -> Result<Key, Fail> {
 enum Asked {
     Get,
     Store(Verb, &'static str),
+    // A storage command with this exptime.
+    StoreUntil(Verb, &'static str, i64),
     Huge(Verb),
     Incr(u64),
     Decr(u64),
@@ -66,28 +76,32 @@ enum Asked {
     Delete,
 }
 
-// The storage command of a key, with the flags 7 and no expiry.
-fn store(alloc: Global, verb: Verb, key: Key, text: &str) -> Result<Command, Fail> {
-    let bytes = Vec::from_slice(alloc, text.as_bytes())?;
-    Ok(Command::Store {
+// The storage command of the key `b`, with the flags 7.
+fn store<R: Abort>(rt: &R, alloc: Global, verb: Verb, text: &str, exptime: i64) -> Command {
+    let key = b(rt, alloc);
+    let value = value(rt, alloc, text);
+    Command::Store {
         verb,
         key,
         flags: 7,
-        exptime: 0,
-        value: Value::of(alloc, bytes)?,
-    })
+        exptime,
+        value,
+    }
 }
 
 // The command that asks for it.
-fn command_of(alloc: Global, asked: Asked) -> Result<Command, Fail> {
-    let key = b(alloc)?;
+fn command_of<R: Abort>(rt: &R, alloc: Global, asked: Asked) -> Command {
     match asked {
-        Asked::Get => Ok(Command::Get(key)),
-        Asked::Store(verb, text) => store(alloc, verb, key, text),
-        Asked::Huge(verb) => Ok(Command::Huge { verb, key }),
-        Asked::Incr(delta) => Ok(Command::Incr(key, delta)),
-        Asked::Decr(delta) => Ok(Command::Decr(key, delta)),
-        Asked::Touch(exptime) => Ok(Command::Touch(key, exptime)),
-        Asked::Delete => Ok(Command::Delete(key)),
+        Asked::Get => Command::Get(b(rt, alloc)),
+        Asked::Store(verb, text) => store(rt, alloc, verb, text, 0),
+        Asked::StoreUntil(verb, text, exptime) => store(rt, alloc, verb, text, exptime),
+        Asked::Huge(verb) => Command::Huge {
+            verb,
+            key: b(rt, alloc),
+        },
+        Asked::Incr(delta) => Command::Incr(b(rt, alloc), delta),
+        Asked::Decr(delta) => Command::Decr(b(rt, alloc), delta),
+        Asked::Touch(exptime) => Command::Touch(b(rt, alloc), exptime),
+        Asked::Delete => Command::Delete(b(rt, alloc)),
     }
 }

@@ -17,13 +17,14 @@ use std::test::Fail;
 /// Who makes each call of a world.
 pub const WHO: Who = Who { caller: 0, turn: 0 };
 
-/// A stripe and a class, and what both were made with.
+/// A stripe and a class, and what both were made with. That they belong together need not be said in clauses.
 #[derive(Drop)]
 pub struct World {
     pub alloc: Global,
     pub config: Config,
     pub class: ClassState,
     pub stripe: StripeState,
+    ghost sound: { IsWorld config class stripe },
 }
 
 fn checked(config: Config) -> Result<Config, Fail>
@@ -46,9 +47,7 @@ pub fn one_class(alloc: Global, chunks: u64) -> Result<Config, Fail> {
 }
 
 /// A store of this configuration, which has one stripe.
-pub fn opened<R: RandomSource>(rt: &R, alloc: Global, config: Config) -> Result<World, Fail>
-    ensures { IfOk result (λ w. IsWorld w.config w.class w.stripe) }
-{
+pub fn opened<R: RandomSource>(rt: &R, alloc: Global, config: Config) -> Result<World, Fail> {
     let config = checked(config)?;
     let seed = RandomState::new(rt)?;
     let class = ClassState::new(alloc, ClassNo(1), &config);
@@ -62,10 +61,7 @@ pub fn opened<R: RandomSource>(rt: &R, alloc: Global, config: Config) -> Result<
 }
 
 /// Answers a command on the stripe; a new version gets the next number of the class.
-pub fn ask(world: &mut World, command: Command, moment: u64) -> Result<(), Fail>
-    requires world { IsWorld world.old.config world.old.class world.old.stripe }
-    ensures world { IsWorld world.new.config world.new.class world.new.stripe }
-{
+pub fn ask(world: &mut World, command: Command, moment: u64) -> Result<(), Fail> {
     let alloc = world.alloc;
     let stripe = &mut world.stripe;
     let number = world.class.next_number();
@@ -82,10 +78,7 @@ pub fn ask(world: &mut World, command: Command, moment: u64) -> Result<(), Fail>
 }
 
 /// Stores an item of 66 bytes under the key of one letter and links its entry.
-pub fn store(world: &mut World, letter: u8, exptime: i64, moment: u64) -> Result<(), Fail>
-    requires world { IsWorld world.old.config world.old.class world.old.stripe }
-    ensures world { IsWorld world.new.config world.new.class world.new.stripe }
-{
+pub fn store(world: &mut World, letter: u8, exptime: i64, moment: u64) -> Result<(), Fail> {
     let alloc = world.alloc;
     let command = storage(alloc, Verb::Set, letter, 0, exptime, &[letter])?;
     let key = command.key().copy(alloc)?;
@@ -103,10 +96,7 @@ pub fn store(world: &mut World, letter: u8, exptime: i64, moment: u64) -> Result
 }
 
 /// Juggles the class, through a gate that is lent the stripe.
-pub fn juggle(world: &mut World, moment: u64) -> Result<Moves, Fail>
-    requires world { IsWorld world.old.config world.old.class world.old.stripe }
-    ensures world { IsWorld world.new.config world.new.class world.new.stripe }
-{
+pub fn juggle(world: &mut World, moment: u64) -> Result<Moves, Fail> {
     let alloc = world.alloc;
     let mut answers = Vec::new(alloc);
     let mut gate = Lone {

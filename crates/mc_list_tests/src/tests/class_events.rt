@@ -1,9 +1,14 @@
 //! Each kind of event of a class, read back from its history.
 ghost use Rattle.std.specs.Prelude.{◌≡◌, ◌≤◌, ◌^◌, IfOk};
 
-use super::class_lists::{checked, key};
-use mc_item::{ClassEvent, ClassNo, Config, Expiry, Numbers, Seg, Who, Why};
-use mc_segment::{ClassNoted, ClassState};
+use super::class_lists::checked;
+use super::deeds::{Call, evict, force, hit, key, link, reclaim, refuse, unlink, wake};
+use super::same;
+use mc_item::{
+    ClassEvent, ClassNo, Config, Evicted, Expiry, Linked, Numbers, Reclaimed, Seg, Shifted,
+    Surveyed, Unlinked, Who, Why,
+};
+use mc_segment::ClassState;
 use std::alloc::Global;
 use std::process::Abort;
 use std::test::Fail;
@@ -33,17 +38,29 @@ fn class_of_six(alloc: Global) -> Result<ClassState, Fail>
     Ok(ClassState::new(alloc, ClassNo(1), &config))
 }
 
-// A new entry in a class with a free chunk, in a turn of which the moment is as many seconds behind 1000.
+// Who makes the event of a turn, and the place that it cites.
+fn call_of(turn: u64, at: u64) -> Call {
+    Call {
+        who: who_of(turn),
+        at,
+    }
+}
+
+// A new entry in a turn of which the moment is as many seconds behind 1000.
 fn links<R: Abort>(rt: &R, alloc: Global, class: &mut ClassState, turn: u64, text: &[u8], cost: u64)
-    requires cost { cost ≤ 2 ^ 20 }
-    requires turn { turn ≤ 2 ^ 20 }
+    requires { turn ≤ 2 ^ 20 }
     ensures { class.new.rule ≡ class.old.rule }
 {
     let key = key(rt, alloc, text);
-    assert!(rt; class.count() < class.chunks());
-    class
-        .link(who_of(turn), key, cost, 1000 + turn, Expiry::Never)
-        .expect(rt, "a link");
+    link(
+        rt,
+        class,
+        who_of(turn),
+        key,
+        cost,
+        1000 + turn,
+        Expiry::Never,
+    );
 }
 
 // A survey, and by it a move of the entry at a place from HOT's tail to COLD, for HOT's bytes.
@@ -99,151 +116,99 @@ fn moves_for_age<R: Abort>(rt: &R, class: &mut ClassState, turn: u64, moment: u6
         .expect(rt, "a move");
 }
 
-// The entry at a place from HOT's tail goes to COLD in a full class, with these behind it.
-fn forces<R: Abort>(rt: &R, class: &mut ClassState, turn: u64, j: u64, at: u64)
-    requires turn { turn ≤ 2 ^ 20 }
-    ensures { class.new.rule ≡ class.old.rule }
-{
-    assert!(rt; class.is_full() && j <= 4 && j < class.len(Seg::Hot));
-    let number = class.from_tail(Seg::Hot, j).expect(rt, "an entry").number;
-    let passed = class.passed(Seg::Hot, j);
-    class
-        .shift_from(
-            who_of(turn),
-            number,
-            Seg::Hot,
-            Seg::Cold,
-            Why::Forced,
-            1000 + turn,
-            passed,
-            at,
-        )
-        .expect(rt, "a move");
+fn linked_text<R: Abort>(rt: &R, alloc: Global, e: &Linked) -> String {
+    format!(in alloc;
+        "{:?}: {} linked in {:?} at {}, {} bytes, key {:?}",
+        e.who,
+        e.number,
+        e.seg,
+        e.moment,
+        e.cost,
+        e.key.bytes()
+    )
+    .expect(rt, "a text")
 }
 
-// The entry at a place from HOT's tail is found active.
-fn wakes<R: Abort>(rt: &R, class: &mut ClassState, turn: u64, j: u64, at: u64)
-    requires turn { turn ≤ 2 ^ 20 }
-    ensures { class.new.rule ≡ class.old.rule }
-{
-    assert!(rt; j <= 4 && j < class.len(Seg::Hot));
-    let number = class.from_tail(Seg::Hot, j).expect(rt, "an entry").number;
-    let passed = class.passed(Seg::Hot, j);
-    class
-        .shift_from(
-            who_of(turn),
-            number,
-            Seg::Hot,
-            Seg::Warm,
-            Why::Active,
-            1000 + turn,
-            passed,
-            at,
-        )
-        .expect(rt, "a move");
+fn shifted_text<R: Abort>(rt: &R, alloc: Global, e: &Shifted) -> String {
+    format!(in alloc;
+        "{:?}: {} from {:?} to {:?} at {}, {:?}, past {:?}, {}",
+        e.who,
+        e.number,
+        e.from_seg,
+        e.to_seg,
+        e.moment,
+        e.why,
+        e.passed.as_slice(),
+        e.at
+    )
+    .expect(rt, "a text")
 }
 
-// An entry of COLD is hit.
-fn hits<R: Abort>(rt: &R, class: &mut ClassState, turn: u64, number: u64, at: u64)
-    requires turn { turn ≤ 2 ^ 20 }
-    ensures { class.new.rule ≡ class.old.rule }
-{
-    assert!(rt; class.segment_of(number) == Some(Seg::Cold));
-    let passed = class.passed(Seg::Cold, 0);
-    let moment = 1000 + turn;
-    class
-        .shift(
-            who_of(turn),
-            number,
-            Seg::Warm,
-            Why::Hit,
-            moment,
-            passed,
-            at,
-        )
-        .expect(rt, "a hit");
+fn evicted_text<R: Abort>(rt: &R, alloc: Global, e: &Evicted) -> String {
+    format!(in alloc;
+        "{:?}: {} evicted past {:?}, {}",
+        e.who,
+        e.number,
+        e.passed.as_slice(),
+        e.at
+    )
+    .expect(rt, "a text")
 }
 
-// The entry at a place from COLD's tail is taken in a full class.
-fn evicts<R: Abort>(rt: &R, class: &mut ClassState, turn: u64, j: u64, at: u64)
-    ensures { class.new.rule ≡ class.old.rule }
-{
-    assert!(rt; class.is_full() && j <= 4 && j < class.len(Seg::Cold));
-    let number = class.from_tail(Seg::Cold, j).expect(rt, "an entry").number;
-    let passed = class.passed(Seg::Cold, j);
-    class
-        .evict(who_of(turn), number, passed, at)
-        .expect(rt, "an eviction");
+fn reclaimed_text<R: Abort>(rt: &R, alloc: Global, e: &Reclaimed) -> String {
+    format!(in alloc;
+        "{:?}: {} reclaimed at {}, {}",
+        e.who, e.number, e.moment, e.at
+    )
+    .expect(rt, "a text")
 }
 
-// An entry goes whose item is dead.
-fn reclaims<R: Abort>(rt: &R, class: &mut ClassState, turn: u64, number: u64, at: u64)
-    requires turn { turn ≤ 2 ^ 20 }
-    ensures { class.new.rule ≡ class.old.rule }
-{
-    assert!(rt; class.segment_of(number).is_some());
-    class
-        .reclaim(who_of(turn), number, 1000 + turn, at)
-        .expect(rt, "a removal");
+fn surveyed_text<R: Abort>(rt: &R, alloc: Global, e: &Surveyed) -> String {
+    format!(in alloc;
+        "{:?}: {} bytes at {}, age {}",
+        e.who, e.total, e.moment, e.cold_age
+    )
+    .expect(rt, "a text")
 }
 
-// An entry goes with its item.
-fn unlinks<R: Abort>(rt: &R, class: &mut ClassState, turn: u64, number: u64)
-    ensures { class.new.rule ≡ class.old.rule }
-{
-    assert!(rt; class.segment_of(number).is_some());
-    class.unlink(who_of(turn), number).expect(rt, "a removal");
+fn unlinked_text<R: Abort>(rt: &R, alloc: Global, e: &Unlinked) -> String {
+    format!(in alloc; "{:?}: {} unlinked", e.who, e.number).expect(rt, "a text")
 }
 
-// A full class has no chunk.
-fn refuses<R: Abort>(rt: &R, class: &mut ClassState, turn: u64)
-    ensures { class.new.rule ≡ class.old.rule }
-{
-    assert!(rt; class.is_full());
-    class.refuse(who_of(turn)).expect(rt, "a refusal");
+fn refused_text<R: Abort>(rt: &R, alloc: Global, who: Who) -> String {
+    format!(in alloc; "{who:?}: refused").expect(rt, "a text")
 }
 
 // An event in short.
-fn event_text(alloc: Global, noted: &ClassNoted) -> Result<String, Fail> {
-    match noted.event(alloc)? {
-        ClassEvent::Linked(e) => Ok(format!(in alloc;
-            "{:?}: {} linked in {:?} at {}, {} bytes, key {:?}",
-            e.who,
-            e.number,
-            e.seg,
-            e.moment,
-            e.cost,
-            e.key.bytes()
-        )?),
-        ClassEvent::Unlinked(e) => Ok(format!(in alloc; "{:?}: {} unlinked", e.who, e.number)?),
-        ClassEvent::Shifted(e) => {
-            let moved = format!(in alloc;
-                "{:?}: {} from {:?} to {:?} at {}",
-                e.who, e.number, e.from_seg, e.to_seg, e.moment
-            )?;
-            Ok(format!(in alloc;
-                "{moved}, {:?}, past {:?}, {}",
-                e.why,
-                e.passed.as_slice(),
-                e.at
-            )?)
-        }
-        ClassEvent::Evicted(e) => Ok(format!(in alloc;
-            "{:?}: {} evicted past {:?}, {}",
-            e.who,
-            e.number,
-            e.passed.as_slice(),
-            e.at
-        )?),
-        ClassEvent::Reclaimed(e) => Ok(format!(in alloc;
-            "{:?}: {} reclaimed at {}, {}",
-            e.who, e.number, e.moment, e.at
-        )?),
-        ClassEvent::Surveyed(e) => Ok(format!(in alloc;
-            "{:?}: {} bytes at {}, age {}",
-            e.who, e.total, e.moment, e.cold_age
-        )?),
-        ClassEvent::Refused(e) => Ok(format!(in alloc; "{:?}: refused", e.who)?),
+fn event_text<R: Abort>(rt: &R, alloc: Global, event: &ClassEvent) -> String {
+    match event {
+        ClassEvent::Linked(e) => linked_text(rt, alloc, e),
+        ClassEvent::Unlinked(e) => unlinked_text(rt, alloc, e),
+        ClassEvent::Shifted(e) => shifted_text(rt, alloc, e),
+        ClassEvent::Evicted(e) => evicted_text(rt, alloc, e),
+        ClassEvent::Reclaimed(e) => reclaimed_text(rt, alloc, e),
+        ClassEvent::Surveyed(e) => surveyed_text(rt, alloc, e),
+        ClassEvent::Refused(e) => refused_text(rt, alloc, e.who),
+    }
+}
+
+// The event at a place of the history, in short.
+fn told_event<R: Abort>(rt: &R, alloc: Global, class: &ClassState, place: usize) -> String {
+    let noted = class.history().get(place).expect(rt, "an event");
+    let event = noted.event(alloc).expect(rt, "an event");
+    event_text(rt, alloc, &event)
+}
+
+fn check_event<R: Abort>(rt: &R, alloc: Global, class: &ClassState, place: usize, text: &str) {
+    let told = told_event(rt, alloc, class, place);
+    same(rt, told.as_str(), text, place);
+}
+
+// The events of a class are these.
+fn check_events<R: Abort>(rt: &R, alloc: Global, class: &ClassState, texts: &[&str]) {
+    assert_eq!(rt; class.history().len(), texts.len());
+    for (place, text) in texts.iter().enumerate() {
+        check_event(rt, alloc, class, place, text);
     }
 }
 
@@ -282,17 +247,17 @@ fn plays<R: Abort>(rt: &R, alloc: Global, class: &mut ClassState)
     links(rt, alloc, class, 5, b"e", 64);
     links(rt, alloc, class, 6, b"f", 10);
     moves_for_bytes(rt, class, 7, 4);
-    forces(rt, class, 8, 1, 33);
-    wakes(rt, class, 9, 2, 34);
-    forces(rt, class, 10, 0, 35);
-    forces(rt, class, 11, 0, 36);
-    refuses(rt, class, 12);
-    evicts(rt, class, 13, 3, 37);
-    hits(rt, class, 14, 1, 38);
-    reclaims(rt, class, 15, 4, 39);
+    force(rt, class, call_of(8, 33), 1, 1008);
+    wake(rt, class, call_of(9, 34), 2, 1009);
+    force(rt, class, call_of(10, 35), 0, 1010);
+    force(rt, class, call_of(11, 36), 0, 1011);
+    refuse(rt, class, who_of(12));
+    evict(rt, class, call_of(13, 37), 3);
+    hit(rt, class, call_of(14, 38), 1, 1014);
+    reclaim(rt, class, call_of(15, 39), 4, 1015);
     moves_for_age(rt, class, 16, 2000);
-    unlinks(rt, class, 17, 3);
-    unlinks(rt, class, 18, 0);
+    unlink(rt, class, who_of(17), 3);
+    unlink(rt, class, who_of(18), 0);
 }
 
 #[test]
@@ -300,10 +265,6 @@ fn each_class_event_is_read_as_it_was_noted(rt: HostRuntime) -> Result<(), Fail>
     let alloc = rt.alloc();
     let mut class = class_of_six(alloc)?;
     plays(&rt, alloc, &mut class);
-    assert_eq!(rt; class.history().len(), TEXTS.len());
-    for (place, text) in TEXTS.iter().enumerate() {
-        let noted = class.history().get(place).expect(&rt, "an event");
-        assert_eq!(rt; event_text(alloc, noted)?.as_str(), *text);
-    }
+    check_events(&rt, alloc, &class, TEXTS.as_slice());
     Ok(())
 }

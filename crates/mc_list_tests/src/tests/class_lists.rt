@@ -1,14 +1,19 @@
-//! Small classes by calls: lists, sums and surveys were worked out by hand. Each helper asserts what its call requires,
-//! so that a test is a row of calls with plain numbers.
-ghost use Rattle.std.specs.Prelude.{◌≡◌, ◌≤◌, ◌^◌, IfOk};
+//! Small classes by calls: lists, sums and surveys were worked out by hand.
+ghost use Rattle.std.specs.Prelude.{◌≡◌, IfOk};
 ghost use Rattle.mc_item.specs.Config.{IsSound};
 
-use super::{
-    WHO, asserts_bytes, asserts_count, asserts_events, asserts_gone, asserts_key, asserts_number,
-    asserts_time,
+use super::WHO;
+use super::deeds::{Call, try_force, try_link};
+use super::rows::Ask::{Do, Hit, KeepActive, Reserve, See, Survey, Surveys};
+use super::rows::Deed::{Evict, Force, Link, Reclaim, Refuse, Unlink};
+use super::rows::Sight::{
+    Bytes, Chunks, Count, Events, NextNumber, Number, Segment, Tail, TailKey, Time,
 };
-use mc_item::{ClassNo, Config, Expiry, Fault, Key, KeyBuffer, Numbers, Passed, Seg, Why};
-use mc_segment::{ClassState, Survey};
+use super::rows::{Row, Start, play};
+use mc_item::Expiry::{At, Never};
+use mc_item::Seg::{Cold, Hot, Temp, Warm};
+use mc_item::{ClassNo, Config, Key, KeyBuffer, Numbers};
+use mc_segment::ClassState;
 use std::alloc::Global;
 use std::process::Abort;
 use std::test::Fail;
@@ -19,12 +24,7 @@ pub(super) fn checked(config: Config) -> Result<Config, Fail>
     Ok(config.check()?)
 }
 
-// A class with this many chunks, and TEMP in use or not; its history holds 16 events.
-fn class_with(alloc: Global, chunks: u64, temp: bool) -> Result<ClassState, Fail> {
-    class_of(alloc, chunks, temp, 16)
-}
-
-// The same, with a history that holds this many events.
+/// A class with this many chunks, TEMP in use or not, and a history that holds so many events.
 pub(super) fn class_of(
     alloc: Global,
     chunks: u64,
@@ -44,309 +44,119 @@ pub(super) fn class_of(
     Ok(ClassState::new(alloc, ClassNo(1), &config))
 }
 
-// A new entry in a class with a free chunk.
-fn try_link(
-    rt: &impl Abort,
-    class: &mut ClassState,
-    key: Key,
-    cost: u64,
-    moment: u64,
-    expiry: Expiry,
-) -> Result<u64, Fault>
-    requires { cost ≤ 2 ^ 20 }
-{
-    assert!(rt; class.count() < class.chunks());
-    class.link(WHO, key, cost, moment, expiry)
-}
-
-// A new entry in a class with a free chunk, and its number.
-pub(super) fn link(
-    rt: &impl Abort,
-    class: &mut ClassState,
-    key: Key,
-    cost: u64,
-    moment: u64,
-    expiry: Expiry,
-) -> u64
-    requires { cost ≤ 2 ^ 20 }
-{
-    try_link(rt, class, key, cost, moment, expiry).expect(rt, "a link")
-}
-
-// A new entry of this key, and this is its number.
-fn links(
-    rt: &impl Abort,
-    class: &mut ClassState,
-    key: Key,
-    cost: u64,
-    moment: u64,
-    expiry: Expiry,
-    number: u64,
-)
-    requires { cost ≤ 2 ^ 20 }
-{
-    assert_eq!(rt; link(rt, class, key, cost, moment, expiry), number);
-}
-
-// The key of these bytes.
-pub(super) fn key(rt: &impl Abort, alloc: Global, bytes: &[u8]) -> Key {
-    Key::of(alloc, bytes).expect(rt, "a key")
-}
-
-// HOT's tail, which has this number, is to go to COLD in a full class.
-fn try_force(
-    rt: &impl Abort,
-    class: &mut ClassState,
-    number: u64,
-    moment: u64,
-) -> Result<(), Fault> {
-    assert!(rt; class.chunks() <= class.count());
-    let tail = class.from_tail(Seg::Hot, 0).expect(rt, "a tail").number;
-    assert_eq!(rt; tail, number);
-    class.shift(
-        WHO,
-        tail,
-        Seg::Cold,
-        Why::Forced,
-        moment,
-        Passed::of(&[]),
-        0,
-    )
-}
-
-// HOT's tail, which has this number, goes to COLD in a full class.
-fn force(rt: &impl Abort, class: &mut ClassState, number: u64, moment: u64) {
-    try_force(rt, class, number, moment).expect(rt, "a forced move");
-}
-
-// An entry of COLD is hit.
-fn hit(rt: &impl Abort, class: &mut ClassState, number: u64, moment: u64) {
-    assert!(rt; class.segment_of(number) == Some(Seg::Cold));
-    class
-        .shift(WHO, number, Seg::Warm, Why::Hit, moment, Passed::of(&[]), 0)
-        .expect(rt, "a hit");
-}
-
-// WARM's tail, which has this number, is found active.
-fn keep_active(rt: &impl Abort, class: &mut ClassState, number: u64, moment: u64) {
-    let tail = class.from_tail(Seg::Warm, 0).expect(rt, "a tail").number;
-    assert_eq!(rt; tail, number);
-    class
-        .shift(
-            WHO,
-            tail,
-            Seg::Warm,
-            Why::Active,
-            moment,
-            Passed::of(&[]),
-            0,
-        )
-        .expect(rt, "a move");
-}
-
-// COLD's tail, which has this number, is taken in a full class.
-fn evict(rt: &impl Abort, class: &mut ClassState, number: u64) {
-    assert!(rt; class.chunks() <= class.count());
-    let tail = class.from_tail(Seg::Cold, 0).expect(rt, "a tail").number;
-    assert_eq!(rt; tail, number);
-    class
-        .evict(WHO, tail, Passed::of(&[]), 0)
-        .expect(rt, "an eviction");
-}
-
-// An entry goes with its item.
-pub(super) fn unlink(rt: &impl Abort, class: &mut ClassState, number: u64) {
-    assert!(rt; class.segment_of(number).is_some());
-    class.unlink(WHO, number).expect(rt, "a removal");
-}
-
-// An entry goes whose item is dead.
-fn reclaim(rt: &impl Abort, class: &mut ClassState, number: u64, moment: u64) {
-    assert!(rt; class.segment_of(number).is_some());
-    class
-        .reclaim(WHO, number, moment, 0)
-        .expect(rt, "a removal");
-}
-
-// A full class has no chunk, and its event stands at this place.
-fn refuses(rt: &impl Abort, class: &mut ClassState, place: u64) {
-    assert!(rt; class.chunks() <= class.count());
-    assert_eq!(rt; class.refuse(WHO).expect(rt, "a refusal"), place);
-}
-
-// The survey at a moment: its place, its total and COLD's age.
-fn surveys(rt: &impl Abort, class: &mut ClassState, moment: u64, wanted: [u64; 3]) {
-    let Survey {
-        place,
-        total,
-        cold_age,
-    } = class.survey(WHO, moment).expect(rt, "a survey");
-    assert_eq!(rt; [place, total, cold_age], wanted);
+// A class of so many chunks without TEMP; its history holds 16 events.
+const fn of(chunks: u64) -> Start {
+    Start {
+        chunks,
+        temp: false,
+        max_events: 16,
+    }
 }
 
 // A worked example: two entries, a forced move, an eviction, a third entry and two surveys.
+static OLDEST: [Row; 15] = [
+    (Do(Link("a", 66, 1000, Never)), "0"),
+    (Do(Link("b", 66, 1000, Never)), "1"),
+    (See(Bytes(Hot)), "132"),
+    (See(Count), "2"),
+    (Do(Force(1000)), "0"),
+    (See(Bytes(Hot)), "66"),
+    (See(Bytes(Cold)), "66"),
+    (Survey(1003), "[3, 132, 3]"),
+    (Do(Evict), "0"),
+    (See(Count), "1"),
+    (Do(Link("c", 66, 1004, Never)), "2"),
+    (Do(Unlink(1)), "1"),
+    (See(Segment(1)), "None"),
+    (Survey(1005), "[7, 66, 0]"),
+    (See(Events), "8"),
+];
+
 #[test]
 fn the_oldest_is_forced_out(rt: HostRuntime) -> Result<(), Fail> {
-    let alloc = rt.alloc();
-    let mut class = class_with(alloc, 2, false)?;
-    let (a, b, c) = (
-        key(&rt, alloc, b"a"),
-        key(&rt, alloc, b"b"),
-        key(&rt, alloc, b"c"),
-    );
-    links(&rt, &mut class, a, 66, 1000, Expiry::Never, 0);
-    links(&rt, &mut class, b, 66, 1000, Expiry::Never, 1);
-    asserts_bytes(&rt, &class, Seg::Hot, 132);
-    asserts_count(&rt, &class, 2);
-    force(&rt, &mut class, 0, 1000);
-    asserts_bytes(&rt, &class, Seg::Hot, 66);
-    asserts_bytes(&rt, &class, Seg::Cold, 66);
-    surveys(&rt, &mut class, 1003, [3, 132, 3]);
-    evict(&rt, &mut class, 0);
-    asserts_count(&rt, &class, 1);
-    links(&rt, &mut class, c, 66, 1004, Expiry::Never, 2);
-    unlink(&rt, &mut class, 1);
-    asserts_gone(&rt, &class, 1);
-    surveys(&rt, &mut class, 1005, [7, 66, 0]);
-    asserts_events(&rt, &class, 8);
-    Ok(())
+    play(&rt, rt.alloc(), of(2), OLDEST.as_slice())
 }
+
+static TIMES: [Row; 8] = [
+    (Do(Link("a", 66, 1000, Never)), "0"),
+    (Do(Force(1010)), "0"),
+    (See(Time(Cold)), "1000"),
+    (Hit(0, 1020), "0"),
+    (See(Time(Warm)), "1020"),
+    (KeepActive(1030), "0"),
+    (See(Time(Warm)), "1030"),
+    (See(Segment(0)), "Some(Warm)"),
+];
 
 #[test]
 fn hits_set_the_time_and_forced_moves_keep_it(rt: HostRuntime) -> Result<(), Fail> {
-    let alloc = rt.alloc();
-    let mut class = class_with(alloc, 1, false)?;
-    links(
-        &rt,
-        &mut class,
-        key(&rt, alloc, b"a"),
-        66,
-        1000,
-        Expiry::Never,
-        0,
-    );
-    force(&rt, &mut class, 0, 1010);
-    asserts_time(&rt, &class, Seg::Cold, 1000);
-    hit(&rt, &mut class, 0, 1020);
-    asserts_time(&rt, &class, Seg::Warm, 1020);
-    keep_active(&rt, &mut class, 0, 1030);
-    asserts_time(&rt, &class, Seg::Warm, 1030);
-    assert_eq!(rt; class.segment_of(0), Some(Seg::Warm));
-    Ok(())
+    play(&rt, rt.alloc(), of(1), TIMES.as_slice())
 }
+
+// TEMP isn't counted by a survey.
+static DYING: [Row; 8] = [
+    (Do(Link("a", 66, 1000, At(1061))), "0"),
+    (Do(Link("b", 67, 1000, At(1062))), "1"),
+    (Do(Link("c", 68, 1000, At(1000))), "2"),
+    (Do(Link("d", 69, 1000, Never)), "3"),
+    (See(Bytes(Temp)), "66"),
+    (See(Bytes(Hot)), "204"),
+    (See(NextNumber), "4"),
+    (Survey(1000), "[4, 204, 0]"),
+];
 
 #[test]
 fn what_dies_soon_goes_to_temp(rt: HostRuntime) -> Result<(), Fail> {
-    let alloc = rt.alloc();
-    let mut class = class_with(alloc, 4, true)?;
-    links(
-        &rt,
-        &mut class,
-        key(&rt, alloc, b"a"),
-        66,
-        1000,
-        Expiry::At(1061),
-        0,
-    );
-    links(
-        &rt,
-        &mut class,
-        key(&rt, alloc, b"b"),
-        67,
-        1000,
-        Expiry::At(1062),
-        1,
-    );
-    links(
-        &rt,
-        &mut class,
-        key(&rt, alloc, b"c"),
-        68,
-        1000,
-        Expiry::At(1000),
-        2,
-    );
-    links(
-        &rt,
-        &mut class,
-        key(&rt, alloc, b"d"),
-        69,
-        1000,
-        Expiry::Never,
-        3,
-    );
-    asserts_bytes(&rt, &class, Seg::Temp, 66);
-    asserts_bytes(&rt, &class, Seg::Hot, 204);
-    assert_eq!(rt; class.next_number(), 4);
-    // TEMP isn't counted.
-    surveys(&rt, &mut class, 1000, [4, 204, 0]);
-    Ok(())
+    let start = Start {
+        temp: true,
+        ..of(4)
+    };
+    play(&rt, rt.alloc(), start, DYING.as_slice())
 }
+
+static TAILS: [Row; 11] = [
+    (Do(Link("a", 66, 1000, Never)), "0"),
+    (Do(Link("b", 66, 1001, Never)), "1"),
+    (Do(Link("c", 66, 1002, Never)), "2"),
+    (See(Number), "1"),
+    (See(Chunks), "3"),
+    (Do(Refuse), "3"),
+    (Do(Reclaim(1, 1003)), "1"),
+    (See(Tail(Hot, 0)), "0"),
+    (See(Tail(Hot, 1)), "2"),
+    (See(TailKey(Hot, 1)), "[99]"),
+    (See(Tail(Hot, 2)), "none"),
+];
 
 #[test]
 fn lists_are_read_from_their_tails(rt: HostRuntime) -> Result<(), Fail> {
-    let alloc = rt.alloc();
-    let mut class = class_with(alloc, 3, false)?;
-    links(
-        &rt,
-        &mut class,
-        key(&rt, alloc, b"a"),
-        66,
-        1000,
-        Expiry::Never,
-        0,
-    );
-    links(
-        &rt,
-        &mut class,
-        key(&rt, alloc, b"b"),
-        66,
-        1001,
-        Expiry::Never,
-        1,
-    );
-    links(
-        &rt,
-        &mut class,
-        key(&rt, alloc, b"c"),
-        66,
-        1002,
-        Expiry::Never,
-        2,
-    );
-    assert_eq!(rt; class.number(), ClassNo(1));
-    assert_eq!(rt; class.chunks(), 3);
-    refuses(&rt, &mut class, 3);
-    reclaim(&rt, &mut class, 1, 1003);
-    asserts_number(&rt, &class, Seg::Hot, 0, Some(0));
-    asserts_number(&rt, &class, Seg::Hot, 1, Some(2));
-    asserts_key(&rt, &class, Seg::Hot, 1, b"c");
-    asserts_number(&rt, &class, Seg::Hot, 2, None);
-    Ok(())
+    play(&rt, rt.alloc(), of(3), TAILS.as_slice())
 }
 
 // A class without an entry or an event.
-fn asserts_new(rt: &impl Abort, class: &ClassState) {
-    asserts_events(rt, class, 0);
-    asserts_count(rt, class, 0);
-    assert_eq!(rt; class.next_number(), 0);
+fn asserts_new<R: Abort>(rt: &R, class: &ClassState) {
+    let events = class.history().len() as u64;
+    assert_eq!(rt; [events, class.count(), class.next_number()], [0, 0, 0]);
 }
 
 // A class whose only event is its entry in HOT.
-fn asserts_linked(rt: &impl Abort, class: &ClassState) {
-    asserts_events(rt, class, 1);
-    asserts_bytes(rt, class, Seg::Hot, 66);
-    asserts_bytes(rt, class, Seg::Cold, 0);
+fn asserts_linked<R: Abort>(rt: &R, class: &ClassState) {
+    let events = class.history().len() as u64;
+    assert_eq!(rt; [events, class.bytes(Hot), class.bytes(Cold)], [1, 66, 0]);
+}
+
+fn asserts_forced<R: Abort>(rt: &R, class: &ClassState) {
+    assert_eq!(rt; class.bytes(Cold), 66);
 }
 
 // An entry is linked and forced to COLD: a refused growth leaves the class as it was.
-fn link_and_force(rt: &impl Abort, class: &mut ClassState, key: Key) {
-    if try_link(rt, class, key, 66, 1000, Expiry::Never).is_err() {
+fn link_and_force<R: Abort>(rt: &R, class: &mut ClassState, key: Key) {
+    if try_link(rt, class, WHO, key, 66, 1000, Never).is_err() {
         asserts_new(rt, class);
-    } else if try_force(rt, class, 0, 1000).is_err() {
+    } else if try_force(rt, class, Call { who: WHO, at: 0 }, 0, 1000).is_err() {
         asserts_linked(rt, class);
     } else {
-        asserts_bytes(rt, class, Seg::Cold, 66);
+        asserts_forced(rt, class);
     }
 }
 
@@ -354,27 +164,30 @@ fn link_and_force(rt: &impl Abort, class: &mut ClassState, key: Key) {
 #[test]
 fn a_refused_growth_changes_nothing(rt: HostRuntime) -> Result<(), Fail> {
     let key = Key::of(rt.alloc(), b"a")?;
-    let mut class = class_with(rt.alloc(), 1, false)?;
+    let mut class = class_of(rt.alloc(), 1, false, 16)?;
     link_and_force(&rt, &mut class, key);
     Ok(())
 }
 
-// Sixteen surveys at one moment, the first at place 0.
-fn survey_16_times(rt: &impl Abort, class: &mut ClassState) {
-    for place in 0..16 {
-        surveys(rt, class, 1000, [place, 0, 0]);
-    }
-}
+static FULL: [Row; 5] = [
+    (Reserve(17), "Err(HistoryFull)"),
+    (Reserve(16), "Ok(())"),
+    (Surveys(16), "16"),
+    (Survey(1000), "Err(HistoryFull)"),
+    (See(Events), "16"),
+];
 
 #[test]
 fn a_full_history_refuses(rt: HostRuntime) -> Result<(), Fail> {
-    let mut class = class_with(rt.alloc(), 1, false)?;
-    assert_eq!(rt; class.reserve(17), Err(Fault::HistoryFull));
-    assert_eq!(rt; class.reserve(16), Ok(()));
-    survey_16_times(&rt, &mut class);
-    assert_eq!(rt; class.survey(WHO, 1000), Err(Fault::HistoryFull));
-    asserts_events(&rt, &class, 16);
-    Ok(())
+    play(&rt, rt.alloc(), of(1), FULL.as_slice())
+}
+
+// The key `a` in a wide buffer is the same key, and alone has a buffer to give back.
+fn asserts_buffers<R: Abort>(rt: &R, key: Key, copy: Key) {
+    let same = copy == key;
+    let buffers = (KeyBuffer::of(copy).is_some(), KeyBuffer::of(key).is_some());
+    assert!(rt; same);
+    assert!(rt; buffers == (true, false));
 }
 
 #[test]
@@ -382,8 +195,6 @@ fn wide_buffers_come_back(rt: HostRuntime) -> Result<(), Fail> {
     let buffer = KeyBuffer::new(rt.alloc())?;
     let key = Key::of(rt.alloc(), b"a")?;
     let copy = key.copy_into(buffer);
-    assert_eq!(rt; copy, key);
-    assert!(rt; KeyBuffer::of(copy).is_some());
-    assert!(rt; KeyBuffer::of(key).is_none());
+    asserts_buffers(&rt, key, copy);
     Ok(())
 }

@@ -8,7 +8,6 @@ use mc_history::History;
 use mc_item::{ClassEvent, Cooled, Key, Logged, StripeEvent, Unlinked};
 use std::alloc::Global;
 use std::process::Abort;
-use std::test::Fail;
 use std::thread;
 use std::thread::Threads;
 
@@ -83,18 +82,24 @@ fn asserts_counts(rt: &impl Abort, board: &Board, token: &mut Seen, wanted: [u64
     assert_eq!(rt; three_counts(board, token), wanted);
 }
 
+// The board has this many owners.
+fn asserts_many<R: Abort>(rt: &R, owners: usize, wanted: usize)
+    ensures { owners ≡ wanted }
+{
+    assert_eq!(rt; owners, wanted);
+}
+
 #[test]
-fn three_appended_events_are_counted(rt: HostRuntime) -> Result<(), Fail> {
-    let (board, mut owners, mut root) = Board::open(rt.alloc(), 3)?;
+fn three_appended_events_are_counted(rt: HostRuntime) {
+    let (board, mut owners, mut root) = Board::open(rt.alloc(), 3).expect(&rt, "a board");
     let mut token = root.split(&board);
-    assert_eq!(rt; owners.len(), 3);
+    asserts_many(&rt, owners.len(), 3);
     asserts_counts(&rt, &board, &mut root, [0, 0, 0]);
     append_cooled(&rt, rt.alloc(), &board, &mut owners[1]);
     asserts_counts(&rt, &board, &mut token, [0, 3, 0]);
     tell_and_compare(&board, &mut owners[1], &mut root, &mut token);
     token.meet(&board, &mut root);
     asserts_counts(&rt, &board, &mut root, [0, 3, 0]);
-    Ok(())
 }
 
 // Lets an owner without events catch up with a list, and once more.
@@ -110,7 +115,7 @@ fn catch_up_twice<E: Logged + Drop>(board: &Board, owner: &mut Owner, events: &H
 
 // An owner without events catches up with two, each of which is added once.
 #[test]
-fn an_owner_catches_up_with_a_list(rt: HostRuntime) -> Result<(), Fail> {
+fn an_owner_catches_up_with_a_list(rt: HostRuntime) {
     let first = ClassEvent::Unlinked(Unlinked {
         who: WHO,
         number: 1,
@@ -120,42 +125,39 @@ fn an_owner_catches_up_with_a_list(rt: HostRuntime) -> Result<(), Fail> {
         number: 2,
     });
     let mut events = History::new(rt.alloc());
-    events.reserve(2)?;
+    events.reserve(2).expect(&rt, "room");
     events.push_reserved(first);
     events.push_reserved(second);
-    let (board, mut owners, mut token) = Board::open(rt.alloc(), 3)?;
-    assert_eq!(rt; owners.len(), 3);
+    let (board, mut owners, mut token) = Board::open(rt.alloc(), 3).expect(&rt, "a board");
+    asserts_many(&rt, owners.len(), 3);
     catch_up_twice(&board, &mut owners[2], &events);
     asserts_counts(&rt, &board, &mut token, [0, 0, 2]);
-    Ok(())
 }
 
 // One token was told of lock 0, another of lock 1. Once the second has learnt what the first has seen, it counts both.
 #[test]
-fn a_token_learns_what_another_has_seen(rt: HostRuntime) -> Result<(), Fail> {
+fn a_token_learns_what_another_has_seen(rt: HostRuntime) {
     let event = ClassEvent::Unlinked(Unlinked {
         who: WHO,
         number: 1,
     });
-    let (board, mut owners, mut first) = Board::open(rt.alloc(), 3)?;
+    let (board, mut owners, mut first) = Board::open(rt.alloc(), 3).expect(&rt, "a board");
     let mut second = first.split(&board);
-    assert_eq!(rt; owners.len(), 3);
+    asserts_many(&rt, owners.len(), 3);
     append_and_tell(&board, &mut owners[0], &event, 2, &mut first);
     append_and_tell(&board, &mut owners[1], &event, 1, &mut second);
     second.learn(&board, &mut first);
     owners[0].compare(&board, &mut second);
     owners[1].compare(&board, &mut second);
     asserts_counts(&rt, &board, &mut second, [2, 1, 0]);
-    Ok(())
 }
 
 #[test]
-fn a_board_without_locks_opens(rt: HostRuntime) -> Result<(), Fail> {
-    let (board, owners, mut root) = Board::open(rt.alloc(), 0)?;
-    assert_eq!(rt; owners.len(), 0);
+fn a_board_without_locks_opens(rt: HostRuntime) {
+    let (board, owners, mut root) = Board::open(rt.alloc(), 0).expect(&rt, "a board");
+    asserts_many(&rt, owners.len(), 0);
     let mut token = root.split(&board);
     token.meet(&board, &mut root);
-    Ok(())
 }
 
 // Counts the locks 0 and 1 in turn, and says whether no answer fell.
@@ -227,14 +229,17 @@ fn race<R: Threads + Sync>(
     (rising, [token.count(board, 0), token.count(board, 1)])
 }
 
-#[test]
-fn no_count_falls_while_two_threads_append(rt: HostRuntime) -> Result<(), Fail> {
-    let (board, mut owners, mut token) = Board::open(rt.alloc(), 2)?;
-    let (Some(second), Some(first)) = (owners.pop(), owners.pop()) else {
-        return Ok(());
-    };
-    let (rising, counts) = race(&rt, &board, first, second, &mut token);
+// No answer fell, and both histories were counted at the end.
+fn asserts_race<R: Abort>(rt: &R, rising: bool, counts: [u64; 2]) {
     assert!(rt; rising);
     assert_eq!(rt; counts, [10_000, 10_000]);
-    Ok(())
+}
+
+#[test]
+fn no_count_falls_while_two_threads_append(rt: HostRuntime) {
+    let (board, mut owners, mut token) = Board::open(rt.alloc(), 2).expect(&rt, "a board");
+    let second = owners.pop().expect(&rt, "an owner");
+    let first = owners.pop().expect(&rt, "an owner");
+    let (rising, counts) = race(&rt, &board, first, second, &mut token);
+    asserts_race(&rt, rising, counts);
 }

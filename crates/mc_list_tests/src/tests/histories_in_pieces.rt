@@ -1,57 +1,74 @@
 //! Histories longer than a piece: each event stands where it came, and none moves or is lost as more come.
 use mc_history::History;
 use std::alloc::Global;
-use std::test::Fail;
+use std::process::Abort;
 
 // Events numbered from 0 to a number, each in room made for it alone.
-fn counted(alloc: Global, many: u64) -> Result<History<u64>, Fail> {
+fn counted<R: Abort>(rt: &R, alloc: Global, many: u64) -> History<u64> {
     let mut history = History::new(alloc);
     for number in 0..many {
-        history.reserve(1)?;
+        history.reserve(1).expect(rt, "room");
         history.push_reserved(number);
     }
-    Ok(history)
+    history
+}
+
+// The history has so many events.
+fn asserts_len<R: Abort>(rt: &R, history: &History<u64>, wanted: usize) {
+    assert_eq!(rt; history.len(), wanted);
+}
+
+// The event at a place has this number, where one is there.
+fn asserts_at<R: Abort>(rt: &R, history: &History<u64>, place: usize, wanted: Option<u64>) {
+    assert_eq!(rt; history.get(place).copied(), wanted, "at place {place}");
+}
+
+// Each event below a place has that place for its number.
+fn asserts_order<R: Abort>(rt: &R, history: &History<u64>, end: usize) {
+    for place in 0..end {
+        asserts_at(rt, history, place, Some(place as u64));
+    }
 }
 
 #[test]
-fn events_of_three_pieces_stand_in_order(rt: HostRuntime) -> Result<(), Fail> {
-    let history = counted(rt.alloc(), 10_000)?;
-    assert_eq!(rt; history.len(), 10_000);
-    for place in 0..10_000usize {
-        assert_eq!(rt; history.get(place).copied(), Some(place as u64));
-    }
-    assert_eq!(rt; history.get(10_000), None);
-    assert_eq!(rt; history.get(usize::MAX), None);
-    Ok(())
+fn events_of_three_pieces_stand_in_order(rt: HostRuntime) {
+    let history = counted(&rt, rt.alloc(), 10_000);
+    asserts_len(&rt, &history, 10_000);
+    asserts_order(&rt, &history, 10_000);
+    asserts_at(&rt, &history, 10_000, None);
+    asserts_at(&rt, &history, usize::MAX, None);
 }
 
 #[test]
 fn a_history_begins_with_no_event(rt: HostRuntime) {
     let history = History::<u64>::new(rt.alloc());
-    assert_eq!(rt; history.len(), 0);
-    assert_eq!(rt; history.get(0), None);
+    asserts_len(&rt, &history, 0);
+    asserts_at(&rt, &history, 0, None);
 }
 
 // Room for 5,000 events is two pieces, so 3,192 more need no memory, and the event behind them needs a third.
 #[test]
-fn room_for_many_is_made_at_once(rt: HostRuntime) -> Result<(), Fail> {
-    let mut history = counted(rt.alloc(), 4_095)?;
-    history.reserve(5_000)?;
+fn room_for_many_is_made_at_once(rt: HostRuntime) {
+    let mut history = counted(&rt, rt.alloc(), 4_095);
+    history.reserve(5_000).expect(&rt, "room");
     for number in 4_095..9_095u64 {
         history.push_reserved(number);
     }
-    assert_eq!(rt; history.len(), 9_095);
-    assert_eq!(rt; history.get(4_096).copied(), Some(4_096));
-    assert_eq!(rt; history.get(9_094).copied(), Some(9_094));
-    Ok(())
+    asserts_len(&rt, &history, 9_095);
+    asserts_at(&rt, &history, 4_096, Some(4_096));
+    asserts_at(&rt, &history, 9_094, Some(9_094));
+}
+
+// Room for so many events is refused.
+fn asserts_refused<R: Abort>(rt: &R, history: &mut History<u64>, events: usize) {
+    assert!(rt; history.reserve(events).is_err());
 }
 
 // More events than there are numbers for are refused, and the history stays.
 #[test]
-fn room_for_too_many_is_refused(rt: HostRuntime) -> Result<(), Fail> {
-    let mut history = counted(rt.alloc(), 1)?;
-    assert!(rt; history.reserve(usize::MAX).is_err());
-    assert_eq!(rt; history.len(), 1);
-    assert_eq!(rt; history.get(0).copied(), Some(0));
-    Ok(())
+fn room_for_too_many_is_refused(rt: HostRuntime) {
+    let mut history = counted(&rt, rt.alloc(), 1);
+    asserts_refused(&rt, &mut history, usize::MAX);
+    asserts_len(&rt, &history, 1);
+    asserts_at(&rt, &history, 0, Some(0));
 }

@@ -1,137 +1,95 @@
 //! Which commands a stripe answers alone, and which it gives back since they touch a chunk, or may.
 use super::Asked::{Decr, Delete, Get, Huge, Incr, Store, Touch};
-use super::calls::{asserts, asserts_item, asserts_last, is_answered, is_refused_alone, link_told};
-use super::{Asked, stripe_one};
-use mc_item::{ClassNo, Link, Verb};
-use mc_stripe::StripeState;
-use std::alloc::Global;
-use std::process::Abort;
-use std::test::Fail;
-
-// What is asked at the moment 1000, whether it is answered, and the last reply then.
-type Row = (Asked, bool, &'static str);
-
-// Asserts each row in turn.
-fn asserts_alone<R: Abort>(
-    rt: &R,
-    alloc: Global,
-    stripe: &mut StripeState,
-    rows: &[Row],
-) -> Result<(), Fail> {
-    for row in rows {
-        assert_eq!(rt; is_answered(rt, alloc, stripe, row.0, 1000)?, row.1);
-        asserts_last(rt, alloc, stripe, row.2)?;
-    }
-    Ok(())
-}
-
-static ABSENT: [Row; 8] = [
-    (Store(Verb::Set, "9"), false, "none"),
-    (Get, true, "Miss"),
-    (Incr(1), true, "NotFound"),
-    (Decr(1), true, "NotFound"),
-    (Touch(0), true, "NotFound"),
-    (Delete, true, "NotFound"),
-    (Store(Verb::Replace, "9"), false, "NotFound"),
-    (Huge(Verb::Add), false, "NotFound"),
-];
-
-// A number of 7 digits needs more than the largest class has, which is 70 bytes; one of two needs class 2.
-static NINE: [Row; 9] = [
-    (Incr(1), false, "Stored"),
-    (Incr(999_991), true, "NoSpace"),
-    (Decr(1), true, "Number(8)"),
-    (Incr(1), true, "Number(9)"),
-    (
-        Get,
-        true,
-        "Value { flags: 7, value: Value { bytes: [57] }, cas: 10 }",
-    ),
-    (
-        Get,
-        false,
-        "Value { flags: 7, value: Value { bytes: [57] }, cas: 10 }",
-    ),
-    (
-        Touch(0),
-        false,
-        "Value { flags: 7, value: Value { bytes: [57] }, cas: 10 }",
-    ),
-    (
-        Delete,
-        false,
-        "Value { flags: 7, value: Value { bytes: [57] }, cas: 10 }",
-    ),
-    (
-        Store(Verb::Add, "6"),
-        false,
-        "Value { flags: 7, value: Value { bytes: [57] }, cas: 10 }",
-    ),
-];
+use super::rows::Ask::{Alone, AloneMisses, Answer, Events, Item, Link};
+use super::rows::{Row, play};
+use mc_item::Verb;
 
 const FETCHED: &str =
     "Item { flags: 7, value: Value { bytes: [57] }, expiry: Never, cas: 10, link: Link { class: ClassNo(1), number: 5 }, marks: Marks { fetched: true, active: false } }";
 
-#[test]
-fn a_stripe_answers_alone_what_touches_no_chunk(rt: HostRuntime) -> Result<(), Fail> {
-    let alloc = rt.alloc();
-    let mut stripe = stripe_one(&rt, alloc)?;
-    asserts_alone(&rt, alloc, &mut stripe, ABSENT.as_slice())?;
-    let nine = Store(Verb::Set, "9");
-    asserts(&rt, alloc, &mut stripe, nine, false, "Stored")?;
-    asserts_alone(&rt, alloc, &mut stripe, NINE.as_slice())?;
-    assert_eq!(rt; stripe.history().len(), 10);
-    asserts_item(&rt, alloc, &stripe, FETCHED)
-}
-
-static WORD: [Row; 3] = [
-    (Decr(1), true, "NonNumeric"),
-    (Touch(5), true, "Touched"),
-    (Touch(5), false, "Touched"),
+// A number of 7 digits needs more than the largest class has, which is 70 bytes; one of two needs class 2.
+static NO_CHUNK: [Row; 20] = [
+    (Alone(Store(Verb::Set, "9"), 1000), "given back after none"),
+    (Alone(Get, 1000), "Miss"),
+    (Alone(Incr(1), 1000), "NotFound"),
+    (Alone(Decr(1), 1000), "NotFound"),
+    (Alone(Touch(0), 1000), "NotFound"),
+    (Alone(Delete, 1000), "NotFound"),
+    (
+        Alone(Store(Verb::Replace, "9"), 1000),
+        "given back after NotFound",
+    ),
+    (Alone(Huge(Verb::Add), 1000), "given back after NotFound"),
+    (Answer(Store(Verb::Set, "9")), "Stored"),
+    (Alone(Incr(1), 1000), "given back after Stored"),
+    (Alone(Incr(999_991), 1000), "NoSpace"),
+    (Alone(Decr(1), 1000), "Number(8)"),
+    (Alone(Incr(1), 1000), "Number(9)"),
+    (
+        Alone(Get, 1000),
+        "Value { flags: 7, value: Value { bytes: [57] }, cas: 10 }",
+    ),
+    (
+        Alone(Get, 1000),
+        "given back after Value { flags: 7, value: Value { bytes: [57] }, cas: 10 }",
+    ),
+    (
+        Alone(Touch(0), 1000),
+        "given back after Value { flags: 7, value: Value { bytes: [57] }, cas: 10 }",
+    ),
+    (
+        Alone(Delete, 1000),
+        "given back after Value { flags: 7, value: Value { bytes: [57] }, cas: 10 }",
+    ),
+    (
+        Alone(Store(Verb::Add, "6"), 1000),
+        "given back after Value { flags: 7, value: Value { bytes: [57] }, cas: 10 }",
+    ),
+    (Events, "10"),
+    (Item, FETCHED),
 ];
 
 #[test]
-fn a_stripe_counts_no_word_and_wakes_no_item_alone(rt: HostRuntime) -> Result<(), Fail> {
-    let alloc = rt.alloc();
-    let mut stripe = stripe_one(&rt, alloc)?;
-    let word = Store(Verb::Set, "x");
-    asserts(&rt, alloc, &mut stripe, word, false, "Stored")?;
-    asserts_alone(&rt, alloc, &mut stripe, WORD.as_slice())?;
-    assert!(rt; !is_answered(&rt, alloc, &mut stripe, Incr(1), 1005)?);
-    assert!(rt; !is_answered(&rt, alloc, &mut stripe, Delete, 1005)?);
-    assert_eq!(rt; stripe.history().len(), 3);
-    Ok(())
+fn a_stripe_answers_alone_what_touches_no_chunk(rt: HostRuntime) {
+    play(&rt, rt.alloc(), NO_CHUNK.as_slice());
+}
+
+static WORD: [Row; 7] = [
+    (Answer(Store(Verb::Set, "x")), "Stored"),
+    (Alone(Decr(1), 1000), "NonNumeric"),
+    (Alone(Touch(5), 1000), "Touched"),
+    (Alone(Touch(5), 1000), "given back after Touched"),
+    (Alone(Incr(1), 1005), "given back after Touched"),
+    (Alone(Delete, 1005), "given back after Touched"),
+    (Events, "3"),
+];
+
+#[test]
+fn a_stripe_counts_no_word_and_wakes_no_item_alone(rt: HostRuntime) {
+    play(&rt, rt.alloc(), WORD.as_slice());
 }
 
 // The item has the link of the first event, and the second hit makes it ACTIVE; at the moment 1005 it is dead.
-#[test]
-fn of_an_item_that_a_command_would_touch_the_link_is_told(rt: HostRuntime) -> Result<(), Fail> {
-    let alloc = rt.alloc();
-    let mut stripe = stripe_one(&rt, alloc)?;
-    let nine = Store(Verb::Set, "9");
-    asserts(&rt, alloc, &mut stripe, nine, false, "Stored")?;
-    assert!(rt; is_answered(&rt, alloc, &mut stripe, Touch(5), 1000)?);
-    let link = Link {
-        class: ClassNo(1),
-        number: 0,
-    };
-    assert_eq!(rt; link_told(alloc, &mut stripe, Get, 1004)?, Some(link));
-    assert_eq!(rt; link_told(alloc, &mut stripe, Touch(0), 1004)?, Some(link));
-    assert_eq!(rt; link_told(alloc, &mut stripe, Delete, 1004)?, Some(link));
-    assert_eq!(rt; link_told(alloc, &mut stripe, Get, 1005)?, None);
-    assert_eq!(rt; link_told(alloc, &mut stripe, Touch(0), 1005)?, None);
-    assert_eq!(rt; link_told(alloc, &mut stripe, Delete, 1005)?, None);
-    assert_eq!(rt; stripe.history().len(), 2);
-    Ok(())
-}
+static TOLD: [Row; 9] = [
+    (Answer(Store(Verb::Set, "9")), "Stored"),
+    (Alone(Touch(5), 1000), "Touched"),
+    (Link(Get, 1004), "0 of class 1"),
+    (Link(Touch(0), 1004), "0 of class 1"),
+    (Link(Delete, 1004), "0 of class 1"),
+    (Link(Get, 1005), "no link"),
+    (Link(Touch(0), 1005), "no link"),
+    (Link(Delete, 1005), "no link"),
+    (Events, "2"),
+];
 
 #[test]
-fn a_full_history_answers_nothing_alone(rt: HostRuntime) -> Result<(), Fail> {
-    let alloc = rt.alloc();
-    let mut stripe = stripe_one(&rt, alloc)?;
-    for _i in 0..16 {
-        assert!(rt; is_answered(&rt, alloc, &mut stripe, Get, 1000)?);
-    }
-    assert!(rt; is_refused_alone(alloc, &mut stripe)?);
-    Ok(())
+fn of_an_item_that_a_command_would_touch_the_link_is_told(rt: HostRuntime) {
+    play(&rt, rt.alloc(), TOLD.as_slice());
+}
+
+static FULL: [Row; 2] = [(AloneMisses(16), "16"), (Alone(Get, 1000), "HistoryFull")];
+
+#[test]
+fn a_full_history_answers_nothing_alone(rt: HostRuntime) {
+    play(&rt, rt.alloc(), FULL.as_slice());
 }

@@ -1,15 +1,17 @@
 //! What a command will need and do to chunks, row by row of the table of commands: each plan was worked out by hand.
 //! An item of the key `b` costs 65 bytes and those of its value; class 1 has 66 bytes, class 2 has 70.
+ghost use Rattle.std.specs.Prelude.{◌≤◌, ◌^◌};
+
 use super::Asked::{Decr, Delete, Get, Huge, Incr, Store, Touch};
-use super::calls::{asserts_rows, cools_without_memory};
-use super::{Asked, command_of, stripe_one};
+use super::rows::Ask::{Answer, Events, GetAndCool, Number};
+use super::rows::{check_rows, play};
+use super::{Asked, command_of, rows, stripe_one};
 use mc_item::{ClassNo, Expiry, Link, Verb};
 use mc_stripe::Fate::{Goes, Renewed, Untouched, Woken};
 use mc_stripe::Need::{Fresh, Nothing, Same, TooLarge};
 use mc_stripe::{Fate, Need, Plan, Room, StripeState};
 use std::alloc::Global;
 use std::process::Abort;
-use std::test::Fail;
 
 // What is asked, what it needs, and what becomes of chunks with a link and without one.
 type Row = (Asked, Need, Fate, Fate);
@@ -121,69 +123,90 @@ static DEAD: [Row; 5] = [
     (Delete, Nothing, Untouched, Untouched),
 ];
 
-// Asserts each row in turn, at a moment at which the item of this link is dead.
-fn asserts_plans<R: Abort>(
+// The test goes on where a command may be asked at this moment.
+fn asserts_moment<R: Abort>(rt: &R, moment: u64)
+    ensures { moment ≤ 2 ^ 62 }
+{
+    assert!(rt; moment <= 1 << 62);
+}
+
+fn plan_of<R: Abort>(
+    rt: &R,
+    alloc: Global,
+    stripe: &StripeState,
+    moment: u64,
+    asked: Asked,
+) -> Plan {
+    asserts_moment(rt, moment);
+    let command = command_of(rt, alloc, asked);
+    stripe.plan(&command, moment)
+}
+
+// Ends the test where a plan is another.
+fn check_plan<R: Abort>(rt: &R, plan: &Plan, wanted: &Plan, place: usize) {
+    assert_eq!(rt; plan, wanted, "at row {place}");
+}
+
+// Ends the test where a plan at a moment is another, at which the item of this link is dead.
+fn check_plans<R: Abort>(
     rt: &R,
     alloc: Global,
     stripe: &StripeState,
     moment: u64,
     dead: Option<Link>,
     rows: &[Row],
-) -> Result<(), Fail> {
-    for row in rows {
-        let command = command_of(alloc, row.0)?;
-        if moment > 1_000_000 {
-            return Err(Fail::from("no call"));
-        }
-        let plan = stripe.plan(&command, moment);
-        let want = Plan {
+) {
+    for (place, row) in rows.iter().enumerate() {
+        let wanted = Plan {
             dead,
             need: row.1,
             with_link: row.2,
             without_link: row.3,
         };
-        assert_eq!(rt; plan, want, "{command:?}");
+        let plan = plan_of(rt, alloc, stripe, moment, row.0);
+        check_plan(rt, &plan, &wanted, place);
     }
-    Ok(())
 }
 
 #[test]
-fn plans_of_an_absent_item(rt: HostRuntime) -> Result<(), Fail> {
-    let alloc = rt.alloc();
-    let stripe = stripe_one(&rt, alloc)?;
-    asserts_plans(&rt, alloc, &stripe, 1000, None, ABSENT.as_slice())
+fn plans_of_an_absent_item(rt: HostRuntime) {
+    let stripe = stripe_one(&rt, rt.alloc());
+    check_plans(&rt, rt.alloc(), &stripe, 1000, None, ABSENT.as_slice());
 }
 
-static NINE: [(Asked, bool, &str); 1] = [(Store(Verb::Set, "9"), false, "Stored")];
+static NINE: [rows::Row; 1] = [(Answer(Store(Verb::Set, "9")), "Stored")];
 
-static TOUCH: [(Asked, bool, &str); 1] = [(Touch(100), false, "Touched")];
+static TOUCH: [rows::Row; 1] = [(Answer(Touch(100)), "Touched")];
 
-static HIT: [(Asked, bool, &str); 1] = [(
-    Get,
-    false,
+static HIT: [rows::Row; 1] = [(
+    Answer(Get),
     "Value { flags: 7, value: Value { bytes: [57] }, cas: 2 }",
 )];
 
-static LETTER: [(Asked, bool, &str); 1] = [(Store(Verb::Set, "x"), false, "Stored")];
+static LETTER: [rows::Row; 1] = [(Answer(Store(Verb::Set, "x")), "Stored")];
 
-#[test]
-fn plans_of_an_item_and_its_hits(rt: HostRuntime) -> Result<(), Fail> {
-    let alloc = rt.alloc();
-    let mut stripe = stripe_one(&rt, alloc)?;
-    asserts_rows(&rt, alloc, &mut stripe, NINE.as_slice())?;
-    asserts_plans(&rt, alloc, &stripe, 1000, None, THERE.as_slice())?;
-    asserts_rows(&rt, alloc, &mut stripe, TOUCH.as_slice())?;
-    asserts_plans(&rt, alloc, &stripe, 1000, None, TOUCHED.as_slice())?;
-    asserts_plans(&rt, alloc, &stripe, 1099, None, TOUCHED.as_slice())?;
-    asserts_plans(&rt, alloc, &stripe, 1100, Some(OLD), DEAD.as_slice())?;
-    asserts_rows(&rt, alloc, &mut stripe, HIT.as_slice())?;
-    asserts_plans(&rt, alloc, &stripe, 1000, None, ACTIVE.as_slice())?;
-    asserts_rows(&rt, alloc, &mut stripe, LETTER.as_slice())?;
-    asserts_plans(&rt, alloc, &stripe, 1000, None, TEXT.as_slice())
+// The plans after each hit of an item, and after its end.
+fn check_hits<R: Abort>(rt: &R, alloc: Global, stripe: &mut StripeState) {
+    check_rows(rt, alloc, stripe, NINE.as_slice());
+    check_plans(rt, alloc, stripe, 1000, None, THERE.as_slice());
+    check_rows(rt, alloc, stripe, TOUCH.as_slice());
+    check_plans(rt, alloc, stripe, 1000, None, TOUCHED.as_slice());
+    check_plans(rt, alloc, stripe, 1099, None, TOUCHED.as_slice());
+    check_plans(rt, alloc, stripe, 1100, Some(OLD), DEAD.as_slice());
+    check_rows(rt, alloc, stripe, HIT.as_slice());
+    check_plans(rt, alloc, stripe, 1000, None, ACTIVE.as_slice());
+    check_rows(rt, alloc, stripe, LETTER.as_slice());
+    check_plans(rt, alloc, stripe, 1000, None, TEXT.as_slice());
 }
 
 #[test]
-fn a_room_picks_the_fate(rt: HostRuntime) -> Result<(), Fail> {
+fn plans_of_an_item_and_its_hits(rt: HostRuntime) {
+    let mut stripe = stripe_one(&rt, rt.alloc());
+    check_hits(&rt, rt.alloc(), &mut stripe);
+}
+
+#[test]
+fn a_room_picks_the_fate(rt: HostRuntime) {
     let plan = Plan {
         dead: None,
         need: FIRST,
@@ -194,20 +217,26 @@ fn a_room_picks_the_fate(rt: HostRuntime) -> Result<(), Fail> {
         class: ClassNo(1),
         place: 3,
     };
-    assert_eq!(rt; plan.fate(Room::At(OLD)), OVER_1);
-    assert_eq!(rt; plan.fate(refused), Goes(OLD));
-    assert_eq!(rt; plan.fate(Room::Keep), Goes(OLD));
-    Ok(())
+    let fates = [
+        plan.fate(Room::At(OLD)),
+        plan.fate(refused),
+        plan.fate(Room::Keep),
+    ];
+    assert_eq!(rt; fates, [OVER_1, Goes(OLD), Goes(OLD)]);
 }
 
+static ROOM_BEFORE: [rows::Row; 5] = [
+    (Number, "1"),
+    (Answer(Store(Verb::Set, "9")), "Stored"),
+    (
+        Answer(Get),
+        "Value { flags: 7, value: Value { bytes: [57] }, cas: 2 }",
+    ),
+    (GetAndCool, "cooled"),
+    (Events, "4"),
+];
+
 #[test]
-fn a_hit_and_its_cooling_find_room_made_before(rt: HostRuntime) -> Result<(), Fail> {
-    let alloc = rt.alloc();
-    let mut stripe = stripe_one(&rt, alloc)?;
-    assert_eq!(rt; stripe.number().0, 1);
-    asserts_rows(&rt, alloc, &mut stripe, NINE.as_slice())?;
-    asserts_rows(&rt, alloc, &mut stripe, HIT.as_slice())?;
-    assert!(rt; cools_without_memory(alloc, &mut stripe)?);
-    assert_eq!(rt; stripe.history().len(), 4);
-    Ok(())
+fn a_hit_and_its_cooling_find_room_made_before(rt: HostRuntime) {
+    play(&rt, rt.alloc(), ROOM_BEFORE.as_slice());
 }

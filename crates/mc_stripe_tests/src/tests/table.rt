@@ -1,98 +1,85 @@
 //! The table of commands, row by row: replies and cas numbers were worked out by hand.
 use super::Asked::{Decr, Delete, Get, Huge, Incr, Store, Touch};
-use super::calls::asserts_rows;
-use super::{Asked, stripe_one};
+use super::rows::Ask::{Answer, Events, Full};
+use super::rows::{Row, play};
 use mc_item::Verb;
-use std::test::Fail;
 
-static STORAGE: [(Asked, bool, &str); 13] = [
-    (Store(Verb::Replace, "1"), false, "NotStored"),
-    (Store(Verb::Cas(2), "1"), false, "NotFound"),
-    (Store(Verb::Add, "1"), false, "Stored"),
-    (Store(Verb::Add, "2"), false, "NotStored"),
-    (Store(Verb::Cas(3), "2"), false, "Exists"),
-    (Store(Verb::Cas(2), "2"), false, "Stored"),
-    (Store(Verb::Replace, "3"), false, "Stored"),
-    (Store(Verb::Set, "4"), false, "Stored"),
+static STORAGE: [Row; 14] = [
+    (Answer(Store(Verb::Replace, "1")), "NotStored"),
+    (Answer(Store(Verb::Cas(2), "1")), "NotFound"),
+    (Answer(Store(Verb::Add, "1")), "Stored"),
+    (Answer(Store(Verb::Add, "2")), "NotStored"),
+    (Answer(Store(Verb::Cas(3), "2")), "Exists"),
+    (Answer(Store(Verb::Cas(2), "2")), "Stored"),
+    (Answer(Store(Verb::Replace, "3")), "Stored"),
+    (Answer(Store(Verb::Set, "4")), "Stored"),
     (
-        Get,
-        false,
+        Answer(Get),
         "Value { flags: 7, value: Value { bytes: [52] }, cas: 14 }",
     ),
-    (Delete, false, "Deleted"),
-    (Delete, false, "NotFound"),
-    (Touch(5), false, "NotFound"),
-    (Get, false, "Miss"),
+    (Answer(Delete), "Deleted"),
+    (Answer(Delete), "NotFound"),
+    (Answer(Touch(5)), "NotFound"),
+    (Answer(Get), "Miss"),
+    (Events, "13"),
 ];
 
 #[test]
-fn storage_commands_follow_the_table(rt: HostRuntime) -> Result<(), Fail> {
-    let alloc = rt.alloc();
-    let mut stripe = stripe_one(&rt, alloc)?;
-    asserts_rows(&rt, alloc, &mut stripe, STORAGE.as_slice())?;
-    assert_eq!(rt; stripe.history().len(), 13);
-    Ok(())
+fn storage_commands_follow_the_table(rt: HostRuntime) {
+    play(&rt, rt.alloc(), STORAGE.as_slice());
 }
 
-static NUMBERS: [(Asked, bool, &str); 14] = [
-    (Incr(1), false, "NotFound"),
-    (Decr(1), false, "NotFound"),
-    (Store(Verb::Set, "9"), false, "Stored"),
-    (Incr(1), false, "Number(10)"),
-    (Decr(3), false, "Number(7)"),
+static NUMBERS: [Row; 14] = [
+    (Answer(Incr(1)), "NotFound"),
+    (Answer(Decr(1)), "NotFound"),
+    (Answer(Store(Verb::Set, "9")), "Stored"),
+    (Answer(Incr(1)), "Number(10)"),
+    (Answer(Decr(3)), "Number(7)"),
     (
-        Get,
-        false,
+        Answer(Get),
         "Value { flags: 7, value: Value { bytes: [55, 32] }, cas: 10 }",
     ),
-    (Decr(8), false, "Number(0)"),
-    (Incr(18446744073709551615), false, "NoSpace"),
+    (Answer(Decr(8)), "Number(0)"),
+    (Answer(Incr(18446744073709551615)), "NoSpace"),
     (
-        Get,
-        false,
+        Answer(Get),
         "Value { flags: 7, value: Value { bytes: [48, 32] }, cas: 14 }",
     ),
-    (Store(Verb::Set, "1x"), false, "Stored"),
-    (Incr(1), false, "NonNumeric"),
-    (Store(Verb::Set, "5"), false, "Stored"),
-    (Incr(18446744073709551615), false, "Number(4)"),
+    (Answer(Store(Verb::Set, "1x")), "Stored"),
+    (Answer(Incr(1)), "NonNumeric"),
+    (Answer(Store(Verb::Set, "5")), "Stored"),
+    (Answer(Incr(18446744073709551615)), "Number(4)"),
     (
-        Get,
-        false,
+        Answer(Get),
         "Value { flags: 7, value: Value { bytes: [52] }, cas: 26 }",
     ),
 ];
 
 #[test]
-fn numbers_are_padded_and_grow(rt: HostRuntime) -> Result<(), Fail> {
-    let alloc = rt.alloc();
-    let mut stripe = stripe_one(&rt, alloc)?;
-    asserts_rows(&rt, alloc, &mut stripe, NUMBERS.as_slice())
+fn numbers_are_padded_and_grow(rt: HostRuntime) {
+    play(&rt, rt.alloc(), NUMBERS.as_slice());
 }
 
-static REFUSED: [(Asked, bool, &str); 13] = [
-    (Store(Verb::Add, "9"), true, "NoRoom"),
-    (Store(Verb::Set, "9"), false, "Stored"),
-    (Store(Verb::Replace, "8"), true, "NoRoom"),
-    (Store(Verb::Cas(2), "8"), true, "NoRoom"),
-    (Incr(1), true, "NoSpace"),
-    (Store(Verb::Add, "123456"), false, "TooLarge"),
-    (Huge(Verb::Replace), false, "TooLarge"),
+static REFUSED: [Row; 13] = [
+    (Full(Store(Verb::Add, "9")), "NoRoom"),
+    (Answer(Store(Verb::Set, "9")), "Stored"),
+    (Full(Store(Verb::Replace, "8")), "NoRoom"),
+    (Full(Store(Verb::Cas(2), "8")), "NoRoom"),
+    (Full(Incr(1)), "NoSpace"),
+    (Answer(Store(Verb::Add, "123456")), "TooLarge"),
+    (Answer(Huge(Verb::Replace)), "TooLarge"),
     (
-        Get,
-        false,
+        Answer(Get),
         "Value { flags: 7, value: Value { bytes: [57] }, cas: 2 }",
     ),
-    (Store(Verb::Set, "8"), true, "NoRoom"),
-    (Get, false, "Miss"),
-    (Store(Verb::Set, "8"), false, "Stored"),
-    (Huge(Verb::Set), false, "TooLarge"),
-    (Get, false, "Miss"),
+    (Full(Store(Verb::Set, "8")), "NoRoom"),
+    (Answer(Get), "Miss"),
+    (Answer(Store(Verb::Set, "8")), "Stored"),
+    (Answer(Huge(Verb::Set)), "TooLarge"),
+    (Answer(Get), "Miss"),
 ];
 
 #[test]
-fn a_set_that_finds_no_room_removes_the_item(rt: HostRuntime) -> Result<(), Fail> {
-    let alloc = rt.alloc();
-    let mut stripe = stripe_one(&rt, alloc)?;
-    asserts_rows(&rt, alloc, &mut stripe, REFUSED.as_slice())
+fn a_set_that_finds_no_room_removes_the_item(rt: HostRuntime) {
+    play(&rt, rt.alloc(), REFUSED.as_slice());
 }

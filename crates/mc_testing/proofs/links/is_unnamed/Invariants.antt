@@ -2,7 +2,7 @@ use Rattle.std.proofs.Common.{◌≡◌, ◌≢◌, Some, ℕ, ◌<◌}
 use Rattle.std.specs.List.{slice_get}
 use Rattle.mc_item.specs.Stripe.{link_named}
 use Rattle.mc_item.specs.declared.stripe_event.StripeEvent.{StripeEvent}
-use Rattle.mc_stripe_tests.proofs.tests.calls.is_unnamed.Given as goal
+use Rattle.mc_testing.proofs.links.is_unnamed.Given as goal
 
 -- no event before the place gives the link
 abbrev pub invariant-loop-place : goal.invariant-loop-place

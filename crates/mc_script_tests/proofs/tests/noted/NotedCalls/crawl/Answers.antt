@@ -1,7 +1,7 @@
 -- The crawler's call is one more, and its counts add up.
 use Rattle.std.proofs.Common.{arith, length-append}
 use Rattle.mc_script.specs.Exchanges.{Exchange}
-use Rattle.mc_script_tests.proofs.tests.NotedCalls.crawl.Goals as goal
+use Rattle.mc_script_tests.proofs.tests.noted.NotedCalls.crawl.Goals as goal
 
 pub returns-clause-ok : goal.returns-clause-ok
-returns-clause-ok g c = record { at = λ calls is. omega (arith, length-append {A = Exchange}) }
+returns-clause-ok g c = record { at = λ calls is. omega (arith, length-append {A = Exchange}, c.in_ok-number.ensures.ok) }

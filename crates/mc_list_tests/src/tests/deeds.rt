@@ -1,0 +1,318 @@
+//! Calls of a class, each of which tells the number of its entry, or the place of the event. Where what a call requires
+//! doesn't hold, the test ends.
+ghost use Rattle.std.specs.Prelude.{◌≡◌, ◌≤◌, ◌^◌, IfOk};
+
+use super::WHO;
+use mc_item::{Expiry, Fault, Key, Passed, Seg, Who, Why};
+use mc_segment::ClassState;
+use std::alloc::Global;
+use std::process::Abort;
+
+/// Who calls, and the place that the event cites.
+#[derive(Clone, Copy)]
+pub(super) struct Call {
+    pub who: Who,
+    pub at: u64,
+}
+
+/// The key of these bytes.
+pub(super) fn key<R: Abort>(rt: &R, alloc: Global, bytes: &[u8]) -> Key {
+    Key::of(alloc, bytes).expect(rt, "a key")
+}
+
+// The test goes on where an entry of this cost may be linked.
+fn asserts_cost<R: Abort>(rt: &R, cost: u64)
+    ensures { cost ≤ 2 ^ 20 }
+{
+    assert!(rt; cost <= 1 << 20);
+}
+
+/// A new entry in a class with a free chunk.
+pub(super) fn try_link<R: Abort>(
+    rt: &R,
+    class: &mut ClassState,
+    who: Who,
+    key: Key,
+    cost: u64,
+    moment: u64,
+    expiry: Expiry,
+) -> Result<u64, Fault>
+    ensures { IfOk result (λ number. class.new.rule ≡ class.old.rule) }
+{
+    asserts_cost(rt, cost);
+    assert!(rt; class.count() < class.chunks());
+    class.link(who, key, cost, moment, expiry)
+}
+
+/// A new entry in a class with a free chunk.
+pub(super) fn link<R: Abort>(
+    rt: &R,
+    class: &mut ClassState,
+    who: Who,
+    key: Key,
+    cost: u64,
+    moment: u64,
+    expiry: Expiry,
+) -> u64
+    ensures { class.new.rule ≡ class.old.rule }
+{
+    try_link(rt, class, who, key, cost, moment, expiry).expect(rt, "a link")
+}
+
+/// A new entry in a class with a free chunk, in room that was made.
+pub(super) fn link_reserved<R: Abort>(
+    rt: &R,
+    class: &mut ClassState,
+    key: Key,
+    cost: u64,
+    moment: u64,
+    expiry: Expiry,
+) -> u64 {
+    asserts_cost(rt, cost);
+    class.reserve(1).expect(rt, "room");
+    assert!(rt; class.count() < class.chunks());
+    class.link_reserved(WHO, key, cost, moment, expiry)
+}
+
+/// Two new entries of 66 bytes after one reservation; the number of the second.
+pub(super) fn link_two<R: Abort>(
+    rt: &R,
+    class: &mut ClassState,
+    first: Key,
+    second: Key,
+    moment: u64,
+) -> u64 {
+    class.reserve(2).expect(rt, "room");
+    assert!(rt; class.count() < class.chunks());
+    class.link_reserved(WHO, first, 66, moment, Expiry::Never);
+    assert!(rt; class.count() < class.chunks());
+    class.link_reserved(WHO, second, 66, moment, Expiry::Never)
+}
+
+/// The entry at a place from HOT's tail is to go to COLD in a full class.
+pub(super) fn try_force<R: Abort>(
+    rt: &R,
+    class: &mut ClassState,
+    call: Call,
+    j: u64,
+    moment: u64,
+) -> Result<u64, Fault>
+    ensures { IfOk result (λ number. class.new.rule ≡ class.old.rule) }
+{
+    let (who, at) = (call.who, call.at);
+    assert!(rt; class.is_full() && j <= 4 && j < class.len(Seg::Hot));
+    let number = class.from_tail(Seg::Hot, j).expect(rt, "an entry").number;
+    let passed = class.passed(Seg::Hot, j);
+    match class.shift_from(
+        who,
+        number,
+        Seg::Hot,
+        Seg::Cold,
+        Why::Forced,
+        moment,
+        passed,
+        at,
+    ) {
+        Ok(()) => Ok(number),
+        Err(fault) => Err(fault),
+    }
+}
+
+/// The entry at a place from HOT's tail goes to COLD in a full class.
+pub(super) fn force<R: Abort>(
+    rt: &R,
+    class: &mut ClassState,
+    call: Call,
+    j: u64,
+    moment: u64,
+) -> u64
+    ensures { class.new.rule ≡ class.old.rule }
+{
+    try_force(rt, class, call, j, moment).expect(rt, "a forced move")
+}
+
+/// HOT's tail goes to COLD in a full class, in room that was made.
+pub(super) fn force_reserved<R: Abort>(rt: &R, class: &mut ClassState, moment: u64) -> u64 {
+    class.reserve(1).expect(rt, "room");
+    assert!(rt; class.is_full());
+    let tail = class.from_tail(Seg::Hot, 0).expect(rt, "a tail").number;
+    let passed = Passed::of(&[]);
+    class.shift_reserved(
+        WHO,
+        tail,
+        Seg::Hot,
+        Seg::Cold,
+        Why::Forced,
+        moment,
+        passed,
+        0,
+    );
+    tail
+}
+
+/// The entry at a place from HOT's tail is found active.
+pub(super) fn wake<R: Abort>(rt: &R, class: &mut ClassState, call: Call, j: u64, moment: u64) -> u64
+    ensures { class.new.rule ≡ class.old.rule }
+{
+    let (who, at) = (call.who, call.at);
+    assert!(rt; j <= 4 && j < class.len(Seg::Hot));
+    let number = class.from_tail(Seg::Hot, j).expect(rt, "an entry").number;
+    let passed = class.passed(Seg::Hot, j);
+    class
+        .shift_from(
+            who,
+            number,
+            Seg::Hot,
+            Seg::Warm,
+            Why::Active,
+            moment,
+            passed,
+            at,
+        )
+        .expect(rt, "a move");
+    number
+}
+
+/// An entry of COLD is hit.
+pub(super) fn hit<R: Abort>(
+    rt: &R,
+    class: &mut ClassState,
+    call: Call,
+    number: u64,
+    moment: u64,
+) -> u64
+    ensures { class.new.rule ≡ class.old.rule }
+{
+    let (who, at) = (call.who, call.at);
+    assert!(rt; class.segment_of(number) == Some(Seg::Cold));
+    let passed = class.passed(Seg::Cold, 0);
+    class
+        .shift(who, number, Seg::Warm, Why::Hit, moment, passed, at)
+        .expect(rt, "a hit");
+    number
+}
+
+/// WARM's tail is found active.
+pub(super) fn keep_active<R: Abort>(rt: &R, class: &mut ClassState, moment: u64) -> u64 {
+    let tail = class.from_tail(Seg::Warm, 0).expect(rt, "a tail").number;
+    let passed = Passed::of(&[]);
+    class
+        .shift(WHO, tail, Seg::Warm, Why::Active, moment, passed, 0)
+        .expect(rt, "a move");
+    tail
+}
+
+/// The entry at a place from COLD's tail is taken in a full class.
+pub(super) fn evict<R: Abort>(rt: &R, class: &mut ClassState, call: Call, j: u64) -> u64
+    ensures { class.new.rule ≡ class.old.rule }
+{
+    let (who, at) = (call.who, call.at);
+    assert!(rt; class.is_full() && j <= 4 && j < class.len(Seg::Cold));
+    let number = class.from_tail(Seg::Cold, j).expect(rt, "an entry").number;
+    let passed = class.passed(Seg::Cold, j);
+    class
+        .evict(who, number, passed, at)
+        .expect(rt, "an eviction");
+    number
+}
+
+/// COLD's tail is taken in a full class, in room that was made.
+pub(super) fn evict_reserved<R: Abort>(rt: &R, class: &mut ClassState) -> u64 {
+    class.reserve(1).expect(rt, "room");
+    assert!(rt; class.is_full());
+    let tail = class.from_tail(Seg::Cold, 0).expect(rt, "a tail").number;
+    class.evict_reserved(WHO, tail, Passed::of(&[]), 0);
+    tail
+}
+
+/// An entry goes with its item.
+pub(super) fn unlink<R: Abort>(rt: &R, class: &mut ClassState, who: Who, number: u64) -> u64
+    ensures { class.new.rule ≡ class.old.rule }
+{
+    assert!(rt; class.segment_of(number).is_some());
+    class.unlink(who, number).expect(rt, "a removal");
+    number
+}
+
+/// An entry goes with its item, in room that was made.
+pub(super) fn unlink_reserved<R: Abort>(rt: &R, class: &mut ClassState, number: u64) -> u64 {
+    class.reserve(1).expect(rt, "room");
+    assert!(rt; class.segment_of(number).is_some());
+    class.unlink_reserved(WHO, number);
+    number
+}
+
+/// An entry goes whose item is dead.
+pub(super) fn reclaim<R: Abort>(
+    rt: &R,
+    class: &mut ClassState,
+    call: Call,
+    number: u64,
+    moment: u64,
+) -> u64
+    ensures { class.new.rule ≡ class.old.rule }
+{
+    let (who, at) = (call.who, call.at);
+    assert!(rt; class.segment_of(number).is_some());
+    class
+        .reclaim(who, number, moment, at)
+        .expect(rt, "a removal");
+    number
+}
+
+/// An entry goes whose item is dead, in room that was made.
+pub(super) fn reclaim_reserved<R: Abort>(
+    rt: &R,
+    class: &mut ClassState,
+    number: u64,
+    moment: u64,
+) -> u64 {
+    class.reserve(1).expect(rt, "room");
+    assert!(rt; class.segment_of(number).is_some());
+    class.reclaim_reserved(WHO, number, moment, 0);
+    number
+}
+
+/// A full class has no chunk: the place of its event.
+pub(super) fn refuse<R: Abort>(rt: &R, class: &mut ClassState, who: Who) -> u64
+    ensures { class.new.rule ≡ class.old.rule }
+{
+    assert!(rt; class.is_full());
+    class.refuse(who).expect(rt, "a refusal")
+}
+
+/// A full class has no chunk: the place of its event, in room that was made.
+pub(super) fn refuse_reserved<R: Abort>(rt: &R, class: &mut ClassState) -> u64 {
+    class.reserve(1).expect(rt, "room");
+    assert!(rt; class.is_full());
+    class.refuse_reserved(WHO)
+}
+
+/// New entries of one key until this many were linked: how many of them have the number that was next.
+pub(super) fn link_until<R: Abort>(
+    rt: &R,
+    alloc: Global,
+    class: &mut ClassState,
+    count: u64,
+) -> u64 {
+    let mut right = 0u64;
+    for number in class.next_number()..count {
+        let a = key(rt, alloc, b"a");
+        if link(rt, class, WHO, a, 66, 1000, Expiry::Never) == number {
+            right = right.saturating_add(1);
+        }
+    }
+    right
+}
+
+/// The entries below a number go again, but for one: how many went.
+pub(super) fn unlink_but<R: Abort>(rt: &R, class: &mut ClassState, until: u64, kept: u64) -> u64 {
+    let mut gone = 0u64;
+    for number in 0..until {
+        if number != kept {
+            unlink(rt, class, WHO, number);
+            gone = gone.saturating_add(1);
+        }
+    }
+    gone
+}

@@ -1,0 +1,174 @@
+//! Calls that are made up, with a source and a sink in memory.
+ghost use Rattle.std.specs.Prelude.{◌≡◌, ◌+◌, ◌<◌, IfOk, OnErr, OnOk};
+
+use mc_item::{ClassNo, Command, Fault, Histogram, Moves, Reply};
+use mc_proto::{Limits, ReplyText, Sink, SinkFault};
+use mc_script::{Both, Calls, Outcome, Source, SourceFault, run_script};
+use std::alloc::Global;
+use std::mem;
+use std::process::Abort;
+use std::sync::Wait;
+
+// Three slab classes.
+const LIMITS: Limits = Limits {
+    largest: 1024,
+    classes: 3,
+};
+
+// Calls that are noted; all fail that come after so many. Each command misses; the maintainer reclaims as many entries of a
+// class as its number says, and moves ten times as many. The crawler counts as many with a minute to live, or with none
+// if the number is even, ten times as many with an hour, and so on by tens: without an expiry, reclaimed, passed, gone.
+#[derive(Drop)]
+struct Noted {
+    made: u64,
+    most: u64,
+    upkeep: Vec<(u32, u64)>,
+}
+
+impl Noted {
+    // Makes a call on a class, and answers its number.
+    fn note(&mut self, class: ClassNo, moment: u64) -> Result<u64, Fault>
+        ensures ok { OnOk result (self.new.made ≡ self.old.made + 1) }
+        ensures err { OnErr result (self.new.made ≡ self.old.made) }
+        ensures small { IfOk result (λ number. number < 99) }
+    {
+        if self.made >= self.most || class.0 >= 99 {
+            return Err(Fault::NoMemory);
+        }
+        self.upkeep.push((class.0, moment))?;
+        self.made += 1;
+        Ok(u64::from(class.0))
+    }
+}
+
+impl Calls for Noted {
+    ghost use Rattle.std.specs.Prelude.{length};
+
+    ghost Place = { Unit {0} };
+
+    ghost place = { λ m. tt };
+
+    ghost has_class = { λ place class. Unit {0} };
+
+    ghost caller = { λ m. 0 };
+
+    ghost turn = { λ m. m.made };
+
+    ghost notes = { λ m calls. length calls ≡ m.made };
+
+    ghost is_full = { λ m. Unit {0} };
+
+    ghost may_call = { λ m. Unit {0} };
+
+    fn command(&mut self, _rt: &impl Wait, command: Command, _moment: u64) -> Result<Reply, Fault> {
+        drop(command);
+        if self.made >= self.most {
+            return Err(Fault::NoMemory);
+        }
+        self.made += 1;
+        Ok(Reply::Miss)
+    }
+
+    fn juggle(&mut self, _rt: &impl Wait, class: ClassNo, moment: u64) -> Result<Moves, Fault> {
+        let number = self.note(class, moment)?;
+        Ok(Moves {
+            reclaimed: number,
+            moved: 10 * number,
+        })
+    }
+
+    fn crawl(&mut self, _rt: &impl Wait, class: ClassNo, moment: u64) -> Result<Histogram, Fault> {
+        let number = self.note(class, moment)?;
+        let mut histogram = Histogram::new();
+        histogram.minutes[number as usize % 2] = number;
+        histogram.hour_plus = 10 * number;
+        histogram.no_expiry = 100 * number;
+        histogram.reclaimed = 1_000 * number;
+        histogram.passed = 10_000 * number;
+        histogram.gone = 100_000 * number;
+        histogram.seen = 111_111 * number;
+        Ok(histogram)
+    }
+}
+
+// A source of one piece.
+#[derive(Drop)]
+struct Whole {
+    alloc: Global,
+    bytes: Vec<u8>,
+}
+
+impl Source for Whole {
+    ghost coming = { λ s. s.bytes.items };
+
+    ghost failures = { λ s. 0 };
+
+    fn piece(&mut self) -> Result<Option<Vec<u8>>, SourceFault> {
+        if self.bytes.is_empty() {
+            return Ok(None);
+        }
+        Ok(Some(mem::replace(&mut self.bytes, Vec::new(self.alloc))))
+    }
+}
+
+// A sink that keeps what it takes.
+#[derive(Drop)]
+struct Kept<'a, R: Abort> {
+    rt: &'a R,
+    bytes: Vec<u8>,
+}
+
+impl<R: Abort> Sink for Kept<'_, R> {
+    ghost taken = { λ s. s.bytes.items };
+
+    ghost failures = { λ s. 0 };
+
+    fn put(&mut self, bytes: &[u8]) -> Result<usize, SinkFault> {
+        assert!(self.rt; !bytes.is_empty());
+        self.bytes
+            .extend_from_slice(bytes)
+            .expect(self.rt, "memory");
+        Ok(bytes.len())
+    }
+
+    fn put_whole(&mut self, text: &mut ReplyText) -> Result<(), SinkFault> {
+        text.copy_behind(&mut self.bytes).expect(self.rt, "memory");
+        text.truncate(0);
+        Ok(())
+    }
+}
+
+/// How a script ended, what it printed, how many calls were made, and the classes and moments of those of upkeep.
+#[derive(Drop)]
+pub(super) struct Ran {
+    pub(super) outcome: Outcome,
+    pub(super) text: Vec<u8>,
+    pub(super) made: u64,
+    pub(super) upkeep: Vec<(u32, u64)>,
+}
+
+/// A script over calls of which so many go well.
+pub(super) fn run_noted<R: Abort + Wait>(rt: &R, alloc: Global, script: Vec<u8>, most: u64) -> Ran {
+    let mut calls = Noted {
+        made: 0,
+        most,
+        upkeep: Vec::new(alloc),
+    };
+    let mut ends = Both {
+        source: Whole {
+            alloc,
+            bytes: script,
+        },
+        sink: Kept {
+            rt,
+            bytes: Vec::new(alloc),
+        },
+    };
+    let outcome = run_script(rt, alloc, LIMITS, &mut calls, &mut ends);
+    Ran {
+        outcome,
+        text: ends.sink.bytes,
+        made: calls.made,
+        upkeep: calls.upkeep,
+    }
+}
