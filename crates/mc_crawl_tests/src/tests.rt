@@ -1,10 +1,7 @@
-//! What the tests share: the one who calls.
+//! Tests as rows (`rows`), with the crawls that they ask for (`crawling`).
+mod crawling;
 mod crawls;
-mod lending;
 mod refusals;
 mod refusing;
+mod rows;
 mod snapshots;
-
-use mc_item::Who;
-
-const WHO: Who = Who { caller: 0, turn: 0 };

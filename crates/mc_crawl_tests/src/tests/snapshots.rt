@@ -1,59 +1,41 @@
 //! Snapshots of the links of a class.
-use super::lending::{ask, juggle, key, opened, store, usual};
-use mc_crawl::snapshot;
-use mc_item::{ClassNo, Command, Link, Moves};
-use std::alloc::Global;
-use std::process::Abort;
+use super::rows::Ask::{Get, Juggle, Snapshot, Store};
+use super::rows::{Row, play};
+use mc_testing::one_class;
 use std::test::Fail;
 
-// Asserts that the links are of class 1, and have these numbers.
-fn asserts_numbers<R: Abort>(rt: &R, alloc: Global, links: &[Link], wanted: &[u64]) {
-    let mut numbers = Vec::new(alloc);
-    for link in links {
-        assert_eq!(rt; link.class, ClassNo(1));
-        numbers.push(link.number).expect(rt, "a place");
-    }
-    assert_eq!(rt; numbers.as_slice(), wanted);
-}
+static NO_ENTRIES: [Row; 1] = [(Snapshot, "[]")];
 
 #[test]
 fn an_empty_class_has_no_links(rt: HostRuntime) -> Result<(), Fail> {
     let alloc = rt.alloc();
-    let world = opened(&rt, alloc, usual(alloc)?)?;
-    let links = snapshot(alloc, &world.class)?;
-    asserts_numbers(&rt, alloc, &links, &[]);
-    Ok(())
+    play(&rt, alloc, one_class(alloc, 10)?, NO_ENTRIES.as_slice())
 }
 
 // Six items of 66 bytes without an expiry and one in TEMP: a fifth of 396 bytes is 79, so that HOT keeps 5 and COLD has 0
 // to 4 from its tail. Then 0 is ACTIVE and goes to WARM.
+static FOUR_LISTS: [Row; 12] = [
+    (Store(b'a', 0, 1000), "stored"),
+    (Store(b'b', 0, 1000), "stored"),
+    (Store(b'c', 0, 1000), "stored"),
+    (Store(b'd', 0, 1000), "stored"),
+    (Store(b'e', 0, 1000), "stored"),
+    (Store(b'f', 0, 1000), "stored"),
+    (Store(b'g', 10, 1000), "stored"),
+    (Juggle(1000), "0 reclaimed, 5 moved"),
+    (Get(b'a'), "asked"),
+    (Get(b'a'), "asked"),
+    (Juggle(1000), "0 reclaimed, 1 moved"),
+    (
+        Snapshot,
+        "[(1, 5), (1, 0), (1, 1), (1, 2), (1, 3), (1, 4), (1, 6)]",
+    ),
+];
+
 #[test]
 fn hot_warm_cold_and_temp_from_their_tails(rt: HostRuntime) -> Result<(), Fail> {
-    let alloc = rt.alloc();
-    let mut config = usual(alloc)?;
+    let mut config = one_class(rt.alloc(), 10)?;
     config.temp = true;
     config.temp_ttl = 61;
-    let mut world = opened(&rt, alloc, config)?;
-    store(&rt, &mut world, b'a', 0, 1000);
-    store(&rt, &mut world, b'b', 0, 1000);
-    store(&rt, &mut world, b'c', 0, 1000);
-    store(&rt, &mut world, b'd', 0, 1000);
-    store(&rt, &mut world, b'e', 0, 1000);
-    store(&rt, &mut world, b'f', 0, 1000);
-    store(&rt, &mut world, b'g', 10, 1000);
-    let five = Moves {
-        reclaimed: 0,
-        moved: 5,
-    };
-    assert_eq!(rt; juggle(&rt, &mut world, 1000), five);
-    ask(&rt, &mut world, Command::Get(key(&rt, alloc, b'a')), 1000);
-    ask(&rt, &mut world, Command::Get(key(&rt, alloc, b'a')), 1000);
-    let one = Moves {
-        reclaimed: 0,
-        moved: 1,
-    };
-    assert_eq!(rt; juggle(&rt, &mut world, 1000), one);
-    let links = snapshot(alloc, &world.class)?;
-    asserts_numbers(&rt, alloc, &links, &[5, 0, 1, 2, 3, 4, 6]);
-    Ok(())
+    play(&rt, rt.alloc(), config, FOUR_LISTS.as_slice())
 }
