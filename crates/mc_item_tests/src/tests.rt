@@ -14,6 +14,7 @@ use mc_item::{
 use std::alloc::Global;
 use std::process::Abort;
 
+/// The marks of an item that no command has hit.
 pub const NO_MARKS: Marks = Marks {
     fetched: false,
     active: false,
@@ -24,6 +25,9 @@ pub const AT: Room = Room::At(Link {
     class: ClassNo(1),
     number: 9,
 });
+
+/// An item of the value `old`.
+pub(super) const OLD: There = Some((b"old", NO_MARKS));
 
 /// No place was found in class 1.
 pub const REFUSED: Room = Room::Refused {
@@ -39,12 +43,39 @@ pub const STORED: &str =
 pub const GROWN: &str =
     "Number(10); Renewed(Item { flags: 5, value: Value { bytes: [49, 48] }, expiry: Never, cas: 22, link: Link { class: ClassNo(1), number: 9 }, marks: Marks { fetched: false, active: false } })";
 
-/// The answer has this reply and this change.
-pub(super) fn shows(rt: &impl Abort, alloc: Global, answer: &Answer, want: &str) {
+/// The item that a command finds: its value and its marks.
+pub(super) type There = Option<(&'static [u8], Marks)>;
+
+/// A command, of the key `k` but where it says another.
+#[derive(Clone, Copy)]
+pub(super) enum Asked {
+    Get,
+    // A storage command of this value, of flags 7 and ten seconds.
+    Store(Verb, &'static [u8]),
+    Huge(Verb),
+    Incr(u64),
+    // An incr of a key of 55 bytes.
+    LongIncr(u64),
+    Decr(u64),
+    Touch(i64),
+    Delete,
+}
+
+/// The reply and the change of an answer.
+pub(super) fn told(rt: &impl Abort, alloc: Global, answer: &Answer) -> String {
     let reply = &answer.reply;
     let change = &answer.change;
-    let text = format!(in alloc; "{reply:?}; {change:?}").expect(rt, "memory");
-    assert_eq!(rt; text.as_str(), want);
+    format!(in alloc; "{reply:?}; {change:?}").expect(rt, "memory")
+}
+
+/// Ends the test where a row tells something else.
+pub(super) fn same(rt: &impl Abort, told: &str, wanted: &str, place: usize) {
+    assert_eq!(rt; told, wanted, "at row {place}");
+}
+
+/// Ends the test where the bytes of a row are others.
+pub(super) fn same_bytes(rt: &impl Abort, seen: &[u8], wanted: &[u8], place: usize) {
+    assert_eq!(rt; seen, wanted, "at row {place}");
 }
 
 /// Stripe 1 of 4, with classes of 96 and 120 bytes.
@@ -70,14 +101,35 @@ pub(super) fn value(rt: &impl Abort, alloc: Global, bytes: &[u8]) -> Value {
     Value::of(alloc, bytes).expect(rt, "memory")
 }
 
-/// A storage command of the key `k`, of flags 7 and ten seconds.
-pub(super) fn store(rt: &impl Abort, alloc: Global, verb: Verb, bytes: &[u8]) -> Command {
+// A storage command of the key `k`, of flags 7 and ten seconds.
+fn store(rt: &impl Abort, alloc: Global, verb: Verb, bytes: &[u8]) -> Command {
+    let key = key(rt, alloc, b"k");
+    let value = value(rt, alloc, bytes);
     Command::Store {
         verb,
-        key: key(rt, alloc, b"k"),
+        key,
         flags: 7,
         exptime: 10,
-        value: value(rt, alloc, bytes),
+        value,
+    }
+}
+
+fn huge(rt: &impl Abort, alloc: Global, verb: Verb) -> Command {
+    let key = key(rt, alloc, b"k");
+    Command::Huge { verb, key }
+}
+
+/// The command that is asked.
+pub(super) fn command_of(rt: &impl Abort, alloc: Global, asked: Asked) -> Command {
+    match asked {
+        Asked::Get => Command::Get(key(rt, alloc, b"k")),
+        Asked::Store(verb, bytes) => store(rt, alloc, verb, bytes),
+        Asked::Huge(verb) => huge(rt, alloc, verb),
+        Asked::Incr(delta) => Command::Incr(key(rt, alloc, b"k"), delta),
+        Asked::LongIncr(delta) => Command::Incr(key(rt, alloc, &[b'x'; 55]), delta),
+        Asked::Decr(delta) => Command::Decr(key(rt, alloc, b"k"), delta),
+        Asked::Touch(exptime) => Command::Touch(key(rt, alloc, b"k"), exptime),
+        Asked::Delete => Command::Delete(key(rt, alloc, b"k")),
     }
 }
 
@@ -93,5 +145,13 @@ pub(super) fn item(rt: &impl Abort, alloc: Global, bytes: &[u8], marks: Marks) -
             number: 3,
         },
         marks,
+    }
+}
+
+/// The item that is there, if one is.
+pub(super) fn found_of(rt: &impl Abort, alloc: Global, there: There) -> Option<Item> {
+    match there {
+        Some((bytes, marks)) => Some(item(rt, alloc, bytes, marks)),
+        None => None,
     }
 }

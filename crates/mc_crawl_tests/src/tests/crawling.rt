@@ -41,7 +41,9 @@ fn crawl_into(
     };
     let class = &mut world.class;
     let config = &world.config;
-    crawl_lone(alloc, class, link, WHO, moment, histogram, config, &mut gate)?;
+    crawl_lone(
+        alloc, class, link, WHO, moment, histogram, config, &mut gate,
+    )?;
     Ok(true)
 }
 
@@ -124,11 +126,7 @@ fn told_counts(alloc: Global, histogram: &Histogram) -> Result<String, Fail> {
 }
 
 // The end of a crawl, and what was counted.
-fn told_end(
-    alloc: Global,
-    made: Result<(), Fault>,
-    histogram: &Histogram,
-) -> Result<String, Fail> {
+fn told_end(alloc: Global, made: Result<(), Fault>, histogram: &Histogram) -> Result<String, Fail> {
     let counts = told_counts(alloc, histogram)?;
     match made {
         Ok(()) => Ok(counts),

@@ -17,7 +17,10 @@ static KINDS: [Row; 17] = [
     (Store(b'e', 3599, 1000), "stored"),
     (Store(b'f', 3600, 1000), "stored"),
     (Store(b'h', 0, 1000), "stored"),
-    (Snapshot, "[(1, 0), (1, 1), (1, 2), (1, 3), (1, 4), (1, 5), (1, 6), (1, 7)]"),
+    (
+        Snapshot,
+        "[(1, 0), (1, 1), (1, 2), (1, 3), (1, 4), (1, 5), (1, 6), (1, 7)]",
+    ),
     (Crawl(1000), "[8, 1, 0, 0, 1, 1] [(0, 2), (1, 2), (59, 1)]"),
     (Lengths, "7 9 9"),
     (LastOfClass, "0.0 reclaims 0 at 1000 behind 8"),
@@ -63,5 +66,10 @@ static WITHOUT_AN_ITEM: [Row; 5] = [
 #[test]
 fn an_entry_without_an_item_is_passed(rt: HostRuntime) -> Result<(), Fail> {
     let alloc = rt.alloc();
-    play(&rt, alloc, one_class(alloc, 10)?, WITHOUT_AN_ITEM.as_slice())
+    play(
+        &rt,
+        alloc,
+        one_class(alloc, 10)?,
+        WITHOUT_AN_ITEM.as_slice(),
+    )
 }

@@ -10,7 +10,10 @@ static NOT_HAD: [Row; 6] = [
     (Snapshot, "[(1, 0), (1, 1)]"),
     (Delete(b'b'), "asked"),
     (Unlink(1), "unlinked"),
-    (CrawlRefused(1000), "[2, 0, 1, 1, 0, 0] [] [Answer { stripe: StripeNo(0), judged: None }]"),
+    (
+        CrawlRefused(1000),
+        "[2, 0, 1, 1, 0, 0] [] [Answer { stripe: StripeNo(0), judged: None }]",
+    ),
 ];
 
 // Two items, of which one goes before the crawl; the gate is asked for the stripe of the other alone.

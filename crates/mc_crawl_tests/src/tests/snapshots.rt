@@ -26,7 +26,10 @@ static FOUR_LISTS: [Row; 12] = [
     (Get(b'a'), "asked"),
     (Get(b'a'), "asked"),
     (Juggle(1000), "0 reclaimed, 1 moved"),
-    (Snapshot, "[(1, 5), (1, 0), (1, 1), (1, 2), (1, 3), (1, 4), (1, 6)]"),
+    (
+        Snapshot,
+        "[(1, 5), (1, 0), (1, 1), (1, 2), (1, 3), (1, 4), (1, 6)]",
+    ),
 ];
 
 #[test]

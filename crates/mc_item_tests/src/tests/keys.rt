@@ -1,50 +1,100 @@
 //! Keys and their stripes.
-use crate::tests::key;
+use crate::tests::{key, same, same_bytes};
 use mc_item::{Key, KeyFault, stripe_of};
+use std::alloc::Global;
+use std::process::Abort;
+
+static KEYS: [(&[u8], Option<KeyFault>); 10] = [
+    (b"", Some(KeyFault::Empty)),
+    (b"x", None),
+    (&[b'x'; 250], None),
+    (&[b'x'; 251], Some(KeyFault::TooLong)),
+    (b"a\0b", Some(KeyFault::BadByte)),
+    (b"\n", Some(KeyFault::BadByte)),
+    (b"ab\r", Some(KeyFault::BadByte)),
+    (b" ab", Some(KeyFault::BadByte)),
+    (b"\x01\x7f\xff", None),
+    (&[b' '; 251], Some(KeyFault::TooLong)),
+];
+
+fn same_fault(rt: &impl Abort, seen: Option<KeyFault>, wanted: Option<KeyFault>, place: usize) {
+    assert_eq!(rt; seen, wanted, "at row {place}");
+}
+
+fn check_keys(rt: &impl Abort, alloc: Global, rows: &[(&[u8], Option<KeyFault>)]) {
+    for (place, row) in rows.iter().enumerate() {
+        same_fault(rt, Key::of(alloc, row.0).err(), row.1, place);
+    }
+}
 
 #[test]
 fn limits_of_a_key(rt: HostRuntime) {
-    let long = [b'x'; 251];
-    for (bytes, want) in [
-        (b"".as_slice(), Some(KeyFault::Empty)),
-        (b"x".as_slice(), None),
-        (&long[..250], None),
-        (&long[..251], Some(KeyFault::TooLong)),
-        (b"a\0b".as_slice(), Some(KeyFault::BadByte)),
-        (b"\n".as_slice(), Some(KeyFault::BadByte)),
-        (b"ab\r".as_slice(), Some(KeyFault::BadByte)),
-        (b" ab".as_slice(), Some(KeyFault::BadByte)),
-        (b"\x01\x7f\xff".as_slice(), None),
-        (&[b' '; 251], Some(KeyFault::TooLong)),
-    ] {
-        assert_eq!(rt; Key::of(rt.alloc(), bytes).err(), want, "{bytes:?}");
+    check_keys(&rt, rt.alloc(), KEYS.as_slice());
+}
+
+static EQUAL: [(&[u8], bool); 4] = [
+    (b"abc", true),
+    (b"abd", false),
+    (b"ab", false),
+    (b"abcd", false),
+];
+
+fn same_answer(rt: &impl Abort, seen: bool, wanted: bool, place: usize) {
+    assert_eq!(rt; seen, wanted, "at row {place}");
+}
+
+fn check_equal(rt: &impl Abort, alloc: Global, first: &Key, rows: &[(&[u8], bool)]) {
+    for (place, row) in rows.iter().enumerate() {
+        let other = key(rt, alloc, row.0);
+        same_answer(rt, *first == other, row.1, place);
     }
+}
+
+fn copy_of(rt: &impl Abort, alloc: Global, key: &Key) -> Key {
+    key.copy(alloc).expect(rt, "memory")
 }
 
 #[test]
 fn equal_keys(rt: HostRuntime) {
-    let first = key(&rt, rt.alloc(), b"abc");
-    assert_eq!(rt; first.bytes(), b"abc".as_slice());
-    let copy = first.copy(rt.alloc()).expect(&rt, "memory");
-    assert!(rt; first == copy);
-    for other in [b"abd".as_slice(), b"ab".as_slice(), b"abcd".as_slice()] {
-        assert!(rt; first != key(&rt, rt.alloc(), other));
+    let alloc = rt.alloc();
+    let first = key(&rt, alloc, b"abc");
+    same_bytes(&rt, first.bytes(), b"abc".as_slice(), 0);
+    let copy = copy_of(&rt, alloc, &first);
+    same_answer(&rt, first == copy, true, 0);
+    check_equal(&rt, alloc, &first, EQUAL.as_slice());
+}
+
+// A key, and its stripe of 1, of 4 and of 64. The hashes of `a`, `b`, `c` are those of the authors' own list; the last one's is
+// 9d5e284d.
+static STRIPES: [(&[u8], &str); 4] = [
+    (b"a", "0 0 44"),
+    (b"b", "0 1 37"),
+    (b"c", "0 2 18"),
+    (&[b'x'; 250], "0 1 13"),
+];
+
+fn told_stripes(rt: &impl Abort, alloc: Global, key: &Key) -> String {
+    let (one, four, many) = (
+        stripe_of(key, 1).0,
+        stripe_of(key, 4).0,
+        stripe_of(key, 64).0,
+    );
+    format!(in alloc; "{one} {four} {many}").expect(rt, "memory")
+}
+
+fn check_stripes(rt: &impl Abort, alloc: Global, bytes: &[u8], wanted: &str, place: usize) {
+    let key = key(rt, alloc, bytes);
+    let stripes = told_stripes(rt, alloc, &key);
+    same(rt, stripes.as_str(), wanted, place);
+}
+
+fn check_all_stripes(rt: &impl Abort, alloc: Global, rows: &[(&[u8], &str)]) {
+    for (place, row) in rows.iter().enumerate() {
+        check_stripes(rt, alloc, row.0, row.1, place);
     }
 }
 
-// The hashes of `a`, `b`, `c` are those of the authors' own list; the last one's is 9d5e284d.
 #[test]
 fn stripes_of_keys(rt: HostRuntime) {
-    let long = [b'x'; 250];
-    for (bytes, of_4, of_64) in [
-        (b"a".as_slice(), 0, 44),
-        (b"b".as_slice(), 1, 37),
-        (b"c".as_slice(), 2, 18),
-        (long.as_slice(), 1, 13),
-    ] {
-        let it = key(&rt, rt.alloc(), bytes);
-        assert_eq!(rt; stripe_of(&it, 1).0, 0);
-        assert_eq!(rt; stripe_of(&it, 4).0, of_4);
-        assert_eq!(rt; stripe_of(&it, 64).0, of_64);
-    }
+    check_all_stripes(&rt, rt.alloc(), STRIPES.as_slice());
 }

@@ -1,93 +1,149 @@
 //! Sizes, moments, numerals, marks and counts.
-use crate::tests::{NO_MARKS, item};
+use crate::tests::{NO_MARKS, item, same};
 use mc_item::{
-    ClassNo, ClassSizes, Config, Expiry, Histogram, Marks, Passed, class_of, cost, expiry_of,
+    ClassNo, ClassSizes, Config, Expiry, Histogram, Item, Marks, Passed, class_of, cost, expiry_of,
     number_of, numeral_of,
 };
+use std::alloc::Global;
+use std::process::Abort;
 
-#[test]
-fn classes_of_costs(rt: HostRuntime) {
-    let config = Config::usual(rt.alloc(), 1).expect(&rt, "memory");
-    for (cost, want) in [
-        (0, Some(ClassNo(1))),
-        (96, Some(ClassNo(1))),
-        (97, Some(ClassNo(2))),
-        (1_048_576, Some(ClassNo(43))),
-        (1_048_577, None),
-    ] {
-        assert_eq!(rt; class_of(&config, cost), want, "{cost}");
-    }
-    assert_eq!(rt; cost(250, 1), 315);
+static CLASSES: [(u64, Option<ClassNo>); 5] = [
+    (0, Some(ClassNo(1))),
+    (96, Some(ClassNo(1))),
+    (97, Some(ClassNo(2))),
+    (1_048_576, Some(ClassNo(43))),
+    (1_048_577, None),
+];
+
+// The class of a cost in the usual configuration.
+fn usual_class(rt: &impl Abort, alloc: Global, cost: u64) -> Option<ClassNo> {
+    let config = Config::usual(alloc, 1).expect(rt, "memory");
+    class_of(&config, cost)
+}
+
+fn same_class(rt: &impl Abort, seen: Option<ClassNo>, wanted: Option<ClassNo>, cost: u64) {
+    assert_eq!(rt; seen, wanted, "{cost}");
 }
 
 #[test]
+fn classes_of_costs(rt: HostRuntime) {
+    for (cost, wanted) in CLASSES.as_slice() {
+        same_class(&rt, usual_class(&rt, rt.alloc(), *cost), *wanted, *cost);
+    }
+}
+
+#[test]
+fn the_cost_of_the_longest_key(rt: HostRuntime) {
+    assert_eq!(rt; cost(250, 1), 315);
+}
+
+static EXPIRIES: [(i64, Expiry); 5] = [
+    (0, Expiry::Never),
+    (-1, Expiry::At(0)),
+    (1, Expiry::At(1_001)),
+    (2_592_000, Expiry::At(2_593_000)),
+    (2_592_001, Expiry::At(2_592_001)),
+];
+
+#[test]
 fn expiries(rt: HostRuntime) {
-    for (exptime, want) in [
-        (0, Expiry::Never),
-        (-1, Expiry::At(0)),
-        (1, Expiry::At(1_001)),
-        (2_592_000, Expiry::At(2_593_000)),
-        (2_592_001, Expiry::At(2_592_001)),
-    ] {
-        assert_eq!(rt; expiry_of(exptime, 1_000), want, "{exptime}");
+    for (exptime, wanted) in EXPIRIES.as_slice() {
+        assert_eq!(rt; expiry_of(*exptime, 1_000), *wanted, "{exptime}");
+    }
+}
+
+static DEATHS: [(Expiry, u64, bool); 4] = [
+    (Expiry::Never, 18_446_744_073_709_551_615, false),
+    (Expiry::At(10), 9, false),
+    (Expiry::At(10), 10, true),
+    (Expiry::At(10), 11, true),
+];
+
+fn check_deaths(rt: &impl Abort, one: &mut Item, rows: &[(Expiry, u64, bool)]) {
+    for (expiry, moment, wanted) in rows {
+        one.expiry = *expiry;
+        assert_eq!(rt; one.dead(*moment), *wanted, "{moment}");
     }
 }
 
 #[test]
 fn deaths(rt: HostRuntime) {
     let mut one = item(&rt, rt.alloc(), b"x", NO_MARKS);
-    assert!(rt; !one.dead(18_446_744_073_709_551_615));
-    one.expiry = Expiry::At(10);
-    assert!(rt; !one.dead(9) && one.dead(10) && one.dead(11));
+    check_deaths(&rt, &mut one, DEATHS.as_slice());
 }
 
-#[test]
-fn numerals(rt: HostRuntime) {
-    for (text, want) in [
-        (b"1 ".as_slice(), Some(1)),
-        (b"007  ".as_slice(), Some(7)),
-        (b"1x".as_slice(), None),
-        (b"1 2".as_slice(), None),
-        (b"".as_slice(), None),
-        (b" ".as_slice(), None),
-        (b" 1".as_slice(), None),
-        (b"-1".as_slice(), None),
-        (b"1\0".as_slice(), None),
-        (
-            b"18446744073709551615".as_slice(),
-            Some(18_446_744_073_709_551_615),
-        ),
-        (b"18446744073709551616".as_slice(), None),
-        (b"99999999999999999999".as_slice(), None),
-        (b"000000000000000000001".as_slice(), None),
-    ] {
-        assert_eq!(rt; numeral_of(text), want, "{text:?}");
+static NUMERALS: [(&[u8], Option<u64>); 13] = [
+    (b"1 ", Some(1)),
+    (b"007  ", Some(7)),
+    (b"1x", None),
+    (b"1 2", None),
+    (b"", None),
+    (b" ", None),
+    (b" 1", None),
+    (b"-1", None),
+    (b"1\0", None),
+    (b"18446744073709551615", Some(18_446_744_073_709_551_615)),
+    (b"18446744073709551616", None),
+    (b"99999999999999999999", None),
+    (b"000000000000000000001", None),
+];
+
+fn same_number(rt: &impl Abort, seen: Option<u64>, wanted: Option<u64>, place: usize) {
+    assert_eq!(rt; seen, wanted, "at row {place}");
+}
+
+fn check_numerals(rt: &impl Abort, rows: &[(&[u8], Option<u64>)]) {
+    for (place, row) in rows.iter().enumerate() {
+        same_number(rt, numeral_of(row.0), row.1, place);
     }
 }
 
 #[test]
+fn numerals(rt: HostRuntime) {
+    check_numerals(&rt, NUMERALS.as_slice());
+}
+
+const FETCHED: Marks = Marks {
+    fetched: true,
+    active: false,
+};
+
+const BOTH: Marks = Marks {
+    fetched: true,
+    active: true,
+};
+
+static HITS: [(Marks, Marks); 3] = [(NO_MARKS, FETCHED), (FETCHED, BOTH), (BOTH, BOTH)];
+
+#[test]
 fn hits_of_marks(rt: HostRuntime) {
-    let fetched = Marks {
-        fetched: true,
-        active: false,
-    };
-    let both = Marks {
-        fetched: true,
-        active: true,
-    };
-    assert_eq!(rt; NO_MARKS.hit(), fetched);
-    assert_eq!(rt; fetched.hit(), both);
-    assert_eq!(rt; both.hit(), both);
+    for (before, after) in HITS.as_slice() {
+        assert_eq!(rt; before.hit(), *after, "{before:?}");
+    }
+}
+
+fn same_list(rt: &impl Abort, seen: &[u64], wanted: &[u64]) {
+    assert_eq!(rt; seen, wanted);
 }
 
 #[test]
 fn short_lists(rt: HostRuntime) {
-    assert_eq!(rt; Passed::of(&[]).as_slice(), [].as_slice());
-    assert_eq!(rt;
-        Passed::of(&[4, 3, 2, 1]).as_slice(),
-        [4, 3, 2, 1].as_slice()
-    );
-    assert_eq!(rt; ClassSizes::of(&[96, 120]).as_slice(), [96, 120].as_slice());
+    same_list(&rt, Passed::of(&[]).as_slice(), &[]);
+    same_list(&rt, Passed::of(&[4, 3, 2, 1]).as_slice(), &[4, 3, 2, 1]);
+    same_list(&rt, ClassSizes::of(&[96, 120]).as_slice(), &[96, 120]);
+}
+
+fn told_minutes(rt: &impl Abort, alloc: Global, counts: &Histogram) -> String {
+    let (first, second, last) = (counts.minutes[0], counts.minutes[1], counts.minutes[59]);
+    format!(in alloc; "{first} {second} {last}").expect(rt, "memory")
+}
+
+fn told_others(rt: &impl Abort, alloc: Global, counts: &Histogram) -> String {
+    let (hour_plus, no_expiry, seen) = (counts.hour_plus, counts.no_expiry, counts.seen);
+    let (reclaimed, passed, gone) = (counts.reclaimed, counts.passed, counts.gone);
+    format!(in alloc; "{hour_plus} {no_expiry} {seen} {reclaimed} {passed} {gone}").expect(
+        rt, "memory",
+    )
 }
 
 #[test]
@@ -103,38 +159,36 @@ fn sums_of_counts(rt: HostRuntime) {
     other.passed = 7;
     other.gone = 8;
     sum.add(&other);
-    assert_eq!(rt;
-        (sum.minutes[0], sum.minutes[1], sum.minutes[59]),
-        (1, 0, 2)
-    );
-    assert_eq!(rt; (sum.hour_plus, sum.no_expiry, sum.seen), (3, 4, 5));
-    assert_eq!(rt; (sum.reclaimed, sum.passed, sum.gone), (6, 7, 8));
+    let minutes = told_minutes(&rt, rt.alloc(), &sum);
+    same(&rt, minutes.as_str(), "1 0 2", 0);
+    let others = told_others(&rt, rt.alloc(), &sum);
+    same(&rt, others.as_str(), "3 4 5 6 7 8", 1);
+}
+
+static NUMBERS: [(&[u8], Option<u64>); 14] = [
+    (b"0", Some(0)),
+    (b"007", Some(7)),
+    (b"9999999999999999999", Some(9_999_999_999_999_999_999)),
+    (b"18446744073709551615", Some(18_446_744_073_709_551_615)),
+    (b"18446744073709551616", None),
+    (b"99999999999999999999", None),
+    (b"000000000000000000000000000042", Some(42)),
+    (b"00000000000000000000000000004x", None),
+    (b"", None),
+    (b"+5", None),
+    (b"-1", None),
+    (b"1 ", None),
+    (b"1/", None),
+    (b"1:", None),
+];
+
+fn check_numbers(rt: &impl Abort, rows: &[(&[u8], Option<u64>)]) {
+    for (place, row) in rows.iter().enumerate() {
+        same_number(rt, number_of(row.0), row.1, place);
+    }
 }
 
 #[test]
 fn texts_that_are_numbers(rt: HostRuntime) {
-    for (text, want) in [
-        (b"0".as_slice(), Some(0)),
-        (b"007".as_slice(), Some(7)),
-        (
-            b"9999999999999999999".as_slice(),
-            Some(9_999_999_999_999_999_999),
-        ),
-        (
-            b"18446744073709551615".as_slice(),
-            Some(18_446_744_073_709_551_615),
-        ),
-        (b"18446744073709551616".as_slice(), None),
-        (b"99999999999999999999".as_slice(), None),
-        (b"000000000000000000000000000042".as_slice(), Some(42)),
-        (b"00000000000000000000000000004x".as_slice(), None),
-        (b"".as_slice(), None),
-        (b"+5".as_slice(), None),
-        (b"-1".as_slice(), None),
-        (b"1 ".as_slice(), None),
-        (b"1/".as_slice(), None),
-        (b"1:".as_slice(), None),
-    ] {
-        assert_eq!(rt; number_of(text), want, "{text:?}");
-    }
+    check_numbers(&rt, NUMBERS.as_slice());
 }

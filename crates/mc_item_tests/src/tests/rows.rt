@@ -1,191 +1,212 @@
 //! Parts of the table of commands that can be called alone, each after five versions of stripe 1 of 4: the answer to a storage command, the answer to a count, a new version in an item's place, and a count in place.
-use crate::tests::{AT, GROWN, NO_MARKS, REFUSED, STORED, item, key, shows, site, value};
-use mc_item::{ClassNo, Content, Expiry, Item, Link, Marks, Room, Step, Value, Verb, stores_over};
+use crate::tests::{
+    AT, GROWN, NO_MARKS, OLD, REFUSED, STORED, There, found_of, item, key, same, same_bytes, site,
+    told, value,
+};
+use mc_item::{
+    ClassNo, Content, Expiry, Item, Key, Link, Marks, Room, Step, Value, Verb, stores_over,
+};
 use std::alloc::Global;
 use std::process::Abort;
 
 const CLASS: Option<ClassNo> = Some(ClassNo(1));
 
-// The reply and the change that a storage command is answered, where its class is this one.
-fn stores(
-    rt: &impl Abort,
-    alloc: Global,
-    class: Option<ClassNo>,
-    verb: Verb,
-    found: Option<&Item>,
-    room: Room,
-    want: &str,
-) {
-    let value = value(rt, alloc, b"1");
-    let content = Content {
+// The class of a storage command, its verb, what is there, its room, and its reply and change.
+type StoreRow = (Option<ClassNo>, Verb, There, Room, &'static str);
+
+static STORES: [StoreRow; 9] = [
+    (CLASS, Verb::Set, None, AT, STORED),
+    (CLASS, Verb::Set, OLD, REFUSED, "NoRoom; Goes"),
+    (None, Verb::Set, OLD, Room::Keep, "TooLarge; Goes"),
+    (None, Verb::Cas(6), OLD, Room::Keep, "TooLarge; Stays"),
+    (CLASS, Verb::Add, OLD, Room::Keep, "NotStored; Stays"),
+    (CLASS, Verb::Replace, OLD, AT, STORED),
+    (CLASS, Verb::Cas(6), None, Room::Keep, "NotFound; Stays"),
+    (CLASS, Verb::Cas(6), OLD, AT, STORED),
+    (CLASS, Verb::Cas(7), OLD, Room::Keep, "Exists; Stays"),
+];
+
+// What is stored: this value, with flags 7 and an expiry.
+fn content(value: &Value) -> Content<'_> {
+    Content {
         flags: 7,
-        value: &value,
+        value,
         expiry: Expiry::At(1010),
-    };
-    let answer = site()
-        .store_answer(5, class, verb, found, &content, room)
-        .expect(rt, "memory");
-    shows(rt, alloc, &answer, want);
+    }
 }
 
-// The same where an item of cas number 6 is there.
-fn stores_at_an_item(
+fn told_store(
     rt: &impl Abort,
     alloc: Global,
-    class: Option<ClassNo>,
-    verb: Verb,
-    room: Room,
-    want: &str,
-) {
-    let old = item(rt, alloc, b"old", NO_MARKS);
-    stores(rt, alloc, class, verb, Some(&old), room, want);
+    found: Option<&Item>,
+    value: &Value,
+    row: &StoreRow,
+) -> String {
+    let content = content(value);
+    let answer = site()
+        .store_answer(5, row.0, row.1, found, &content, row.3)
+        .expect(rt, "memory");
+    told(rt, alloc, &answer)
+}
+
+fn check_store(rt: &impl Abort, alloc: Global, row: &StoreRow, place: usize) {
+    let found = found_of(rt, alloc, row.2);
+    let value = value(rt, alloc, b"1");
+    let answer = told_store(rt, alloc, found.as_ref(), &value, row);
+    same(rt, answer.as_str(), row.4, place);
+}
+
+fn check_stores(rt: &impl Abort, alloc: Global, rows: &[StoreRow]) {
+    for (place, row) in rows.iter().enumerate() {
+        check_store(rt, alloc, row, place);
+    }
 }
 
 #[test]
 fn storage_answers_by_class_and_verb(rt: HostRuntime) {
-    let alloc = rt.alloc();
-    stores(&rt, alloc, CLASS, Verb::Set, None, AT, STORED);
-    stores_at_an_item(&rt, alloc, CLASS, Verb::Set, REFUSED, "NoRoom; Goes");
-    stores_at_an_item(&rt, alloc, None, Verb::Set, Room::Keep, "TooLarge; Goes");
-    stores_at_an_item(
-        &rt,
-        alloc,
-        None,
-        Verb::Cas(6),
-        Room::Keep,
-        "TooLarge; Stays",
-    );
-    stores_at_an_item(&rt, alloc, CLASS, Verb::Add, Room::Keep, "NotStored; Stays");
-    stores_at_an_item(&rt, alloc, CLASS, Verb::Replace, AT, STORED);
-    stores(
-        &rt,
-        alloc,
-        CLASS,
-        Verb::Cas(6),
-        None,
-        Room::Keep,
-        "NotFound; Stays",
-    );
-    stores_at_an_item(&rt, alloc, CLASS, Verb::Cas(6), AT, STORED);
-    stores_at_an_item(&rt, alloc, CLASS, Verb::Cas(7), Room::Keep, "Exists; Stays");
+    check_stores(&rt, rt.alloc(), STORES.as_slice());
 }
 
-// The reply and the change that a count of an item of this value is answered.
-fn counts(rt: &impl Abort, alloc: Global, step: Step, text: &[u8], room: Room, want: &str) {
-    let key = key(rt, alloc, b"k");
-    let old = item(rt, alloc, text, NO_MARKS);
+// A step, the value of the item that is there, the room, and the reply and change.
+type CountRow = (Step, &'static [u8], Room, &'static str);
+
+static COUNTS: [CountRow; 4] = [
+    (Step::Down(1), b"x", Room::Keep, "NonNumeric; Stays"),
+    (
+        Step::Down(1),
+        b"10",
+        Room::Keep,
+        "Number(9); Counted(Value { bytes: [57, 32] }, 22)",
+    ),
+    (Step::Up(1), b"9", AT, GROWN),
+    (Step::Up(1), b"9", REFUSED, "NoSpace; Stays"),
+];
+
+fn told_count(
+    rt: &impl Abort,
+    alloc: Global,
+    key: &Key,
+    found: &Item,
+    step: Step,
+    room: Room,
+) -> String {
     let answer = site()
-        .count_answer(alloc, 5, &key, step, Some(&old), None, room)
+        .count_answer(alloc, 5, key, step, Some(found), None, room)
         .expect(rt, "memory");
-    shows(rt, alloc, &answer, want);
+    told(rt, alloc, &answer)
+}
+
+fn check_count(rt: &impl Abort, alloc: Global, row: &CountRow, place: usize) {
+    let key = key(rt, alloc, b"k");
+    let found = item(rt, alloc, row.1, NO_MARKS);
+    let answer = told_count(rt, alloc, &key, &found, row.0, row.2);
+    same(rt, answer.as_str(), row.3, place);
+}
+
+fn check_counts(rt: &impl Abort, alloc: Global, rows: &[CountRow]) {
+    for (place, row) in rows.iter().enumerate() {
+        check_count(rt, alloc, row, place);
+    }
 }
 
 #[test]
 fn count_answers_by_step_and_value(rt: HostRuntime) {
-    let alloc = rt.alloc();
-    let shorter = "Number(9); Counted(Value { bytes: [57, 32] }, 22)";
-    counts(
-        &rt,
-        alloc,
-        Step::Down(1),
-        b"x",
-        Room::Keep,
-        "NonNumeric; Stays",
-    );
-    counts(&rt, alloc, Step::Down(1), b"10", Room::Keep, shorter);
-    counts(&rt, alloc, Step::Up(1), b"9", AT, GROWN);
-    counts(&rt, alloc, Step::Up(1), b"9", REFUSED, "NoSpace; Stays");
+    check_counts(&rt, rt.alloc(), COUNTS.as_slice());
 }
 
-// The item is shown so.
-fn shows_item(rt: &impl Abort, alloc: Global, item: &Item, want: &str) {
-    let text = format!(in alloc; "{item:?}").expect(rt, "memory");
-    assert_eq!(rt; text.as_str(), want);
+const BOTH: Marks = Marks {
+    fetched: true,
+    active: true,
+};
+
+const OTHER: Link = Link {
+    class: ClassNo(2),
+    number: 9,
+};
+
+fn renew(rt: &impl Abort, held: &mut Item, value: &Value, link: Link) {
+    let content = content(value);
+    site().renew(5, held, &content, link).expect(rt, "memory");
+}
+
+fn told_item(rt: &impl Abort, alloc: Global, item: &Item) -> String {
+    format!(in alloc; "{item:?}").expect(rt, "memory")
 }
 
 #[test]
 fn a_renewed_item_is_the_new_version(rt: HostRuntime) {
     let alloc = rt.alloc();
-    let both = Marks {
-        fetched: true,
-        active: true,
-    };
-    let link = Link {
-        class: ClassNo(2),
-        number: 9,
-    };
-    let mut held = item(&rt, alloc, b"old", both);
+    let mut held = item(&rt, alloc, b"old", BOTH);
     let value = value(&rt, alloc, b"1");
-    let content = Content {
-        flags: 7,
-        value: &value,
-        expiry: Expiry::At(1010),
-    };
-    site()
-        .renew(5, &mut held, &content, link)
-        .expect(&rt, "memory");
-    shows_item(
+    renew(&rt, &mut held, &value, OTHER);
+    let shown = told_item(&rt, alloc, &held);
+    same(
         &rt,
-        alloc,
-        &held,
+        shown.as_str(),
         "Item { flags: 7, value: Value { bytes: [49] }, expiry: At(1010), cas: 22, link: Link { class: ClassNo(2), number: 9 }, marks: Marks { fetched: false, active: false } }",
+        0,
     );
 }
 
-// What counting an item of this value in place answers, and the value and the cas number then.
-fn counts_in_place(
-    rt: &impl Abort,
-    text: Value,
-    step: Step,
-    want: Option<u64>,
-    bytes: &[u8],
-    cas: u64,
-) {
-    let mut held = Item {
-        flags: 5,
-        value: text,
-        expiry: Expiry::Never,
-        cas: 6,
-        link: Link {
-            class: ClassNo(1),
-            number: 3,
-        },
-        marks: NO_MARKS,
-    };
-    assert_eq!(rt; held.count(step, 22), want);
-    assert_eq!(rt; held.value.bytes(), bytes);
-    assert_eq!(rt; held.cas, cas);
+// The value of an item, a step, and what counting it in place answers, the bytes and the cas number then.
+type InPlaceRow = (&'static [u8], Step, &'static str);
+
+static IN_PLACE: [InPlaceRow; 4] = [
+    (b"10", Step::Down(1), "Some(9), [57, 32], 22"),
+    (b"9 ", Step::Up(1), "Some(10), [49, 48], 22"),
+    (b"9", Step::Up(1), "None, [57], 6"),
+    (b"x", Step::Up(1), "None, [120], 6"),
+];
+
+// Counts an item in place.
+fn told_in_place(rt: &impl Abort, alloc: Global, held: &mut Item, step: Step) -> String {
+    let number = held.count(step, 22);
+    let bytes = held.value.bytes();
+    let cas = held.cas;
+    format!(in alloc; "{number:?}, {bytes:?}, {cas}").expect(rt, "memory")
+}
+
+fn check_in_place(rt: &impl Abort, alloc: Global, row: &InPlaceRow, place: usize) {
+    let mut held = item(rt, alloc, row.0, NO_MARKS);
+    let counted = told_in_place(rt, alloc, &mut held, row.1);
+    same(rt, counted.as_str(), row.2, place);
+}
+
+fn check_all_in_place(rt: &impl Abort, alloc: Global, rows: &[InPlaceRow]) {
+    for (place, row) in rows.iter().enumerate() {
+        check_in_place(rt, alloc, row, place);
+    }
 }
 
 #[test]
 fn items_count_in_place_where_the_number_fits(rt: HostRuntime) {
-    let alloc = rt.alloc();
-    let shared = value(&rt, alloc, b"9 ");
-    let copy = shared.copy().expect(&rt, "memory");
-    counts_in_place(
-        &rt,
-        value(&rt, alloc, b"10"),
-        Step::Down(1),
-        Some(9),
-        b"9 ",
-        22,
-    );
-    counts_in_place(
-        &rt,
-        value(&rt, alloc, b"9 "),
-        Step::Up(1),
-        Some(10),
-        b"10",
-        22,
-    );
-    counts_in_place(&rt, value(&rt, alloc, b"9"), Step::Up(1), None, b"9", 6);
-    counts_in_place(&rt, value(&rt, alloc, b"x"), Step::Up(1), None, b"x", 6);
-    counts_in_place(&rt, shared, Step::Up(1), None, b"9 ", 6);
-    assert_eq!(rt; copy.bytes(), b"9 ".as_slice());
+    check_all_in_place(&rt, rt.alloc(), IN_PLACE.as_slice());
+}
+
+fn copy_of(rt: &impl Abort, value: &Value) -> Value {
+    value.copy().expect(rt, "memory")
 }
 
 #[test]
+fn a_shared_value_is_not_counted_in_place(rt: HostRuntime) {
+    let alloc = rt.alloc();
+    let mut held = item(&rt, alloc, b"9 ", NO_MARKS);
+    let copy = copy_of(&rt, &held.value);
+    let counted = told_in_place(&rt, alloc, &mut held, Step::Up(1));
+    same(&rt, counted.as_str(), "None, [57, 32], 6", 0);
+    same_bytes(&rt, copy.bytes(), b"9 ".as_slice(), 0);
+}
+
+static OVER: [(Verb, bool); 4] = [
+    (Verb::Set, true),
+    (Verb::Replace, true),
+    (Verb::Add, false),
+    (Verb::Cas(6), false),
+];
+
+#[test]
 fn only_set_and_replace_store_over_any_item(rt: HostRuntime) {
-    assert!(rt; stores_over(Verb::Set) && stores_over(Verb::Replace));
-    assert!(rt; !stores_over(Verb::Add) && !stores_over(Verb::Cas(6)));
+    for (verb, wanted) in OVER.as_slice() {
+        assert_eq!(rt; stores_over(*verb), *wanted, "{verb:?}");
+    }
 }

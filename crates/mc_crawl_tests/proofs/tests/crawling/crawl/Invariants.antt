@@ -3,4 +3,4 @@ use Rattle.mc_crawl_tests.proofs.tests.crawling.crawl.Given as goal
 
 -- the kinds go on adding up
 abbrev pub invariant-loop-link : goal.invariant-loop-link
-invariant-loop-link g l = IsBalanced l.histogram
+invariant-loop-link l = IsBalanced l.histogram
