@@ -2,7 +2,7 @@ use Rattle.std.proofs.Common.{◌≡◌, Option, Some, None, Result, Ok, Err, re
 use Rattle.mc_item.specs.declared.config.Config.{Config}
 use Rattle.mc_item.specs.declared.config.ConfigFault.{ConfigFault}
 use Rattle.mc_item.specs.Config.{fault_of, IsSound}
-use Rattle.mc_shared_example.proofs.checked.Goals as goal
+use Rattle.mc_examples.proofs.sharing.checked.Goals as goal
 
 abbrev fine : Config → Result Config ConfigFault
 fine x = Ok x
@@ -20,5 +20,5 @@ checked_as : (o : Option ConfigFault) (x y : Config) → fault_of x ≡ o → Ma
 checked_as None x y is h = (ap fault_of (same_ok x y h) ∙ is, same_ok x y h)
 checked_as (Some f) x y is h = absurd (not_wrong y f h)
 
-pub returns-clause-sound : goal.returns-clause-sound
-returns-clause-sound c = checked_as _ c.args.config c.in_ok-check.field-0 refl c.in_ok-check.ensures.fault
+pub returns-in-Ok-clause-sound : goal.returns-in-Ok-clause-sound
+returns-in-Ok-clause-sound c = checked_as _ c.args.config c.in-Ok.config refl c.in-Ok.ensures.fault

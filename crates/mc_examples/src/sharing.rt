@@ -1,0 +1,205 @@
+//! A store that threads share: two of them count visits, and a third caller reads.
+ghost use Rattle.std.specs.Prelude.{◌≡◌, IfSome};
+ghost use Rattle.mc_item.specs.Config.{IsBounded, IsSound};
+ghost use Rattle.mc_board.specs.Histories.{blind};
+ghost use Rattle.mc_board.specs.Views.{locks_of, AreOwners};
+ghost use Rattle.mc_store.specs.Locked.{histories_for};
+ghost use Rattle.mc_examples.specs.Parts.{AreParts};
+
+use crate::no_memory;
+use mc_board::{Board, Owner, Seen};
+use mc_item::{Command, Config, Fault, Key, NoMemory, Reply, Value, Verb};
+use mc_store::{Named, Pass, Store};
+use std::alloc::Global;
+use std::hash::RandomState;
+use std::io::{self, Print, Write};
+use std::marker::Brand;
+use std::sync::Wait;
+use std::thread::{self, Threads};
+
+// What a store is opened with.
+#[derive(Drop)]
+struct Parts {
+    config: Config,
+    board: Board,
+    owners: Vec<Owner>,
+    seen: Seen,
+    seed: RandomState,
+}
+
+// The configuration, where it is sound.
+fn checked(config: Config) -> Option<Config>
+    ensures sound { IfSome result (λ c. IsSound c × (c ≡ config)) }
+    ensures bounded { IfSome result IsBounded }
+{
+    match config.check() {
+        Ok(config) => Some(config),
+        Err(_) => None,
+    }
+}
+
+// A board with a history for each stripe, each slab class and each caller.
+fn board_for(alloc: Global, config: &Config) -> Option<(Board, Vec<Owner>, Seen)>
+    requires { IsBounded config.now }
+    ensures locks { IfSome result (λ r. locks_of r.0.counts ≡ histories_for config.now) }
+    ensures owners { IfSome result (λ r. AreOwners r.0.table (histories_for config.now) r.1.items) }
+    ensures seen { IfSome result (λ r. r.2 ≡ record { board = r.0.table; sight = blind }) }
+{
+    let locks = config.stripes as usize + config.sizes.as_slice().len();
+    Board::open(alloc, locks + config.callers as usize).ok()
+}
+
+// The parts of a store of the usual configuration with three callers.
+fn parts_for(alloc: Global, seed: RandomState) -> Option<Parts>
+    ensures { IfSome result (λ p. AreParts p.board p.config p.owners.items p.seen) }
+{
+    let config = checked(Config::usual(alloc, 3).ok()?)?;
+    match board_for(alloc, &config) {
+        Some((board, owners, seen)) => Some(Parts {
+            config,
+            board,
+            owners,
+            seen,
+            seed,
+        }),
+        None => None,
+    }
+}
+
+fn page(alloc: Global) -> Result<Key, NoMemory> {
+    match Key::of(alloc, b"page") {
+        Ok(key) => Ok(key),
+        Err(_) => Err(NoMemory),
+    }
+}
+
+// A set of the page to no visits.
+fn no_visits(alloc: Global) -> Result<Command, NoMemory> {
+    let value = Value::of(alloc, Vec::from_slice(alloc, b"0")?)?;
+    let key = page(alloc)?;
+    Ok(Command::Store {
+        verb: Verb::Set,
+        key,
+        flags: 0,
+        exptime: 0,
+        value,
+    })
+}
+
+// Counts so many visits of the page, as one caller.
+fn visit<N: Named>(
+    rt: &impl Wait,
+    alloc: Global,
+    store: &Store<N>,
+    pass: &mut Pass<N>,
+    times: u32,
+) -> Result<(), Fault> {
+    for _ in 0..times {
+        let command = Command::Incr(page(alloc)?, 1);
+        store.command(alloc, rt, pass, command, 1000)?;
+    }
+    Ok(())
+}
+
+// One caller sets the page to no visits, and two others count them at once, each on a thread: what the first reads then.
+fn visited<N: Named + Send + Sync, R: Threads + Wait + Sync>(
+    rt: &R,
+    alloc: Global,
+    store: &Store<N>,
+    reader: &mut Pass<N>,
+    first: &mut Pass<N>,
+    second: &mut Pass<N>,
+) -> Result<Reply, Fault> {
+    store.command(alloc, rt, reader, no_visits(alloc)?, 1000)?;
+    let (one, other) = thread::join(
+        rt,
+        || visit(rt, alloc, store, first, 100),
+        || visit(rt, alloc, store, second, 200),
+    );
+    one?;
+    other?;
+    store.command(alloc, rt, reader, Command::Get(page(alloc)?), 1000)
+}
+
+// Shares a store, closes it, and compares what each caller has seen with what is left: what the reader was answered.
+fn closed<N: Named + Send + Sync, R: Threads + Wait + Sync>(
+    rt: &R,
+    alloc: Global,
+    store: Store<N>,
+    reader: Pass<N>,
+    first: Pass<N>,
+    second: Pass<N>,
+) -> Result<Reply, Fault> {
+    let mut reader = reader;
+    let mut first = first;
+    let mut second = second;
+    let reply = visited(rt, alloc, &store, &mut reader, &mut first, &mut second);
+    let mut ledger = store.close(rt);
+    ledger.compare(&mut reader);
+    ledger.compare(&mut first);
+    ledger.compare(&mut second);
+    reply
+}
+
+// Shares a store among three callers, who have a pass each.
+fn with_passes<N: Named + Send + Sync, R: Threads + Wait + Sync>(
+    rt: &R,
+    alloc: Global,
+    store: Store<N>,
+    passes: Vec<Pass<N>>,
+) -> Result<Reply, Fault> {
+    let mut passes = passes;
+    match (passes.pop(), passes.pop(), passes.pop()) {
+        (Some(reader), Some(second), Some(first)) => {
+            closed(rt, alloc, store, reader, first, second)
+        }
+        _ => Err(Fault::NoMemory),
+    }
+}
+
+// Opens a store, and shares it.
+fn shared<N: Named + Send + Sync, R: Threads + Wait + Sync>(
+    rt: &R,
+    alloc: Global,
+    parts: Parts,
+) -> Result<Reply, Fault>
+    requires named { (parts.board ≡ N.board) × (parts.config ≡ N.config) }
+    requires fit { AreParts N.board N.config parts.owners.items parts.seen }
+{
+    let Parts {
+        config,
+        board,
+        owners,
+        seen,
+        seed,
+    } = parts;
+    match Store::<N>::open(alloc, config, board, owners, seen, seed) {
+        Ok((store, passes)) => with_passes(rt, alloc, store, passes),
+        Err(_) => Err(Fault::NoMemory),
+    }
+}
+
+fn show_visits(rt: &impl Print, visits: &[u8]) -> io::Result<()> {
+    io::writer(rt).write_all(visits)?;
+    println!(rt; " visits")
+}
+
+fn show_reply(rt: &impl Print, reply: Result<Reply, Fault>) -> io::Result<()> {
+    match reply {
+        Ok(Reply::Value { value, .. }) => show_visits(rt, value.bytes()),
+        Ok(_) => println!(rt; "no visits"),
+        Err(fault) => println!(rt; "broken off: {fault:?}"),
+    }
+}
+
+/// Opens a store, shares it, and shows how many visits were counted.
+pub(crate) fn show<R: Threads + Wait + Sync + Print>(
+    rt: &R,
+    alloc: Global,
+    seed: RandomState,
+) -> io::Result<()> {
+    match parts_for(alloc, seed) {
+        Some(parts) => show_reply(rt, shared::<Brand, R>(rt, alloc, parts)),
+        None => Err(no_memory()),
+    }
+}
