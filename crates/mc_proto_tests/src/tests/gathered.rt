@@ -34,8 +34,9 @@ fn two_values(rt: &impl Abort, alloc: Global, count: usize) -> ReplyText {
 fn wanted_of(rt: &impl Abort, alloc: Global, count: usize) -> Vec<u8> {
     let letters = letters(rt, alloc, b'y', count);
     let first = format!(in alloc; "VALUE k 4294967295 {count}\r\n").expect(rt, "memory");
-    let second = format!(in alloc; "VALUE k 4294967295 {count} 18446744073709551615\r\n")
-        .expect(rt, "memory");
+    let second = format!(in alloc; "VALUE k 4294967295 {count} 18446744073709551615\r\n").expect(
+        rt, "memory",
+    );
     let mut wanted = Vec::new(alloc);
     text(rt, &mut wanted, first.as_bytes());
     text(rt, &mut wanted, letters.as_slice());
