@@ -1,0 +1,27 @@
+//! Dice for tests that draw: a seed always draws the same numbers.
+ghost use Rattle.std.specs.Prelude.{◌<◌};
+
+/// A linear congruential generator, by the multiplier and the increment of Knuth's MMIX.
+#[derive(Drop)]
+pub struct Dice {
+    state: u64,
+}
+
+impl Dice {
+    /// Dice of a seed.
+    pub fn new(seed: u64) -> Dice {
+        Dice { state: seed }
+    }
+
+    /// A number below another one.
+    pub fn below(&mut self, many: u64) -> u64
+        requires { 0 < many }
+        ensures { result < many }
+    {
+        self.state = self
+            .state
+            .wrapping_mul(6_364_136_223_846_793_005)
+            .wrapping_add(1_442_695_040_888_963_407);
+        (self.state >> 33) % many
+    }
+}
