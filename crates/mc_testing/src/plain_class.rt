@@ -206,8 +206,14 @@ impl PlainClass {
     // What is wrong with a move's segments, its neighbours and its ground.
     fn check_move(&self, shifted: &Shifted, history: &History<ClassNoted>) -> Checked {
         holds(shifted.to_seg == goal_of(shifted.why), "a move elsewhere")?;
-        holds(may_leave(shifted.why, shifted.from_seg), "a move from elsewhere")?;
-        holds(self.has_ground(shifted, history), "a move without its ground")?;
+        holds(
+            may_leave(shifted.why, shifted.from_seg),
+            "a move from elsewhere",
+        )?;
+        holds(
+            self.has_ground(shifted, history),
+            "a move without its ground",
+        )?;
         holds(self.is_there(shifted), "a move of another entry")
     }
 
@@ -277,7 +283,10 @@ impl PlainClass {
 
     // Whether the entry at a place of a segment is the class's.
     fn is_same_at(&self, class: &ClassState, seg: Seg, place: u64) -> bool {
-        match (class.from_tail(seg, place), self.from_tail(seg, place as usize)) {
+        match (
+            class.from_tail(seg, place),
+            self.from_tail(seg, place as usize),
+        ) {
             (Some(entry), Some(kept)) => kept.is(entry),
             _ => false,
         }
