@@ -1,11 +1,40 @@
-//! Commands of keys of one letter.
-use mc_item::{Command, Key, Value, Verb};
+//! Commands of keys of one letter. A thread can't hand out a test's failure, so for threads there are calls that answer a
+//! fault.
+use mc_item::{Command, Key, KeyFault, Value, Verb};
 use std::alloc::Global;
 use std::test::Fail;
 
+/// The key of one letter, for threads.
+pub fn try_key(alloc: Global, letter: u8) -> Result<Key, KeyFault> {
+    Key::of(alloc, &[letter])
+}
+
+/// A storage command for the key of one letter, with a text for its value, for threads.
+pub fn try_storage(
+    alloc: Global,
+    verb: Verb,
+    letter: u8,
+    flags: u32,
+    exptime: i64,
+    text: &[u8],
+) -> Result<Command, KeyFault> {
+    let bytes = Vec::from_slice(alloc, text)?;
+    let Ok(value) = Value::of(alloc, bytes) else {
+        return Err(KeyFault::NoMemory);
+    };
+    let key = try_key(alloc, letter)?;
+    Ok(Command::Store {
+        verb,
+        key,
+        flags,
+        exptime,
+        value,
+    })
+}
+
 /// The key of one letter.
 pub fn key(alloc: Global, letter: u8) -> Result<Key, Fail> {
-    Ok(Key::of(alloc, &[letter])?)
+    Ok(try_key(alloc, letter)?)
 }
 
 /// A storage command for the key of one letter, with a text for its value.
@@ -17,14 +46,5 @@ pub fn storage(
     exptime: i64,
     text: &[u8],
 ) -> Result<Command, Fail> {
-    let key = key(alloc, letter)?;
-    let bytes = Vec::from_slice(alloc, text)?;
-    let value = Value::of(alloc, bytes)?;
-    Ok(Command::Store {
-        verb,
-        key,
-        flags,
-        exptime,
-        value,
-    })
+    Ok(try_storage(alloc, verb, letter, flags, exptime, text)?)
 }

@@ -1,13 +1,20 @@
-//! What tests share: a store of one stripe and one class, links and rooms, commands, and dice. No call here asserts: the gate
-//! lets tests alone end the process, so each answers what the test then compares.
+//! What tests share: a store of one stripe and one class, links and rooms, commands, dice and what is drawn by them, and a
+//! plain memcached. No call here asserts: the gate lets tests alone end the process, so each answers what the test then
+//! compares.
 #![tactic(auto)]
 
 mod commands;
 mod dice;
+mod drawing;
 mod links;
+mod plain;
+mod plain_class;
 mod world;
 
-pub use commands::{key, storage};
+pub use commands::{key, storage, try_key, try_storage};
 pub use dice::Dice;
+pub use drawing::Drawing;
 pub use links::{is_dead, is_unnamed, room_for};
+pub use plain::Plain;
+pub use plain_class::{Checked, PlainClass};
 pub use world::{WHO, World, ask, juggle, one_class, opened, store};

@@ -1,4 +1,0 @@
-use Rattle.mc_store_tests.proofs.tests.running.run.Given as goal
-
-abbrev pub ghosts-check_store : goal.ghosts-check_store
-ghosts-check_store g a = record { board = a.parts.board; config = a.parts.config }

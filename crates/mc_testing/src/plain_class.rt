@@ -1,0 +1,312 @@
+//! A plain slab class, by new_lru.txt: entries in the order in which they came to their segments, which take one event after
+//! another and say what is wrong with it, where something is.
+use mc_history::History;
+use mc_item::{ClassEvent, Entry, Evicted, Linked, Seg, Shifted, Surveyed, Who, Why};
+use mc_segment::{ClassNoted, ClassState};
+use std::alloc::Global;
+
+// How many entries may stand nearer the tail than one that is judged.
+const MOST_PASSED: usize = 4;
+
+static SEGS: [Seg; 4] = [Seg::Hot, Seg::Warm, Seg::Cold, Seg::Temp];
+
+/// Nothing, or what is wrong.
+pub type Checked = Result<(), &'static str>;
+
+// An entry.
+#[derive(Drop)]
+struct Kept {
+    number: u64,
+    seg: Seg,
+    key: Vec<u8>,
+    cost: u64,
+    time: u64,
+}
+
+/// The entries of a class of so many chunks, of each segment the oldest first, and the number of the next one.
+#[derive(Drop)]
+pub struct PlainClass {
+    alloc: Global,
+    chunks: u64,
+    next: u64,
+    entries: Vec<Kept>,
+}
+
+// What is wrong where something doesn't hold.
+fn holds(is_so: bool, wrong: &'static str) -> Checked {
+    if is_so { Ok(()) } else { Err(wrong) }
+}
+
+// Whether the event at a place of the history is a survey by this call at this moment.
+fn is_survey(
+    alloc: Global,
+    history: &History<ClassNoted>,
+    place: u64,
+    who: Who,
+    moment: u64,
+) -> bool {
+    let Some(noted) = history.get(place as usize) else {
+        return false;
+    };
+    match noted.event(alloc) {
+        Ok(ClassEvent::Surveyed(survey)) => survey.who == who && survey.moment == moment,
+        _ => false,
+    }
+}
+
+// The segment to which a move of this reason goes.
+fn goal_of(why: Why) -> Seg {
+    match why {
+        Why::Hit | Why::Active => Seg::Warm,
+        Why::Over(_) | Why::Old(_) | Why::Forced => Seg::Cold,
+    }
+}
+
+// Whether a move of this reason may come from a segment.
+fn may_leave(why: Why, seg: Seg) -> bool {
+    match why {
+        Why::Hit => seg == Seg::Cold,
+        Why::Active => seg != Seg::Temp,
+        Why::Over(_) | Why::Old(_) => seg == Seg::Hot || seg == Seg::Warm,
+        Why::Forced => seg == Seg::Hot,
+    }
+}
+
+impl Kept {
+    // Whether a class's entry is this one.
+    fn is(&self, entry: &Entry) -> bool {
+        entry.number == self.number
+            && entry.cost == self.cost
+            && entry.time == self.time
+            && entry.key.bytes() == self.key.as_slice()
+    }
+}
+
+impl PlainClass {
+    /// A class of so many chunks, without entries.
+    pub fn new(alloc: Global, chunks: u64) -> PlainClass {
+        PlainClass {
+            alloc,
+            chunks,
+            next: 0,
+            entries: Vec::new(alloc),
+        }
+    }
+
+    // The entry at a place of a segment, counted from its tail.
+    fn from_tail(&self, seg: Seg, place: usize) -> Option<&Kept> {
+        let mut passed = 0usize;
+        for kept in &self.entries {
+            if kept.seg == seg && passed == place {
+                return Some(kept);
+            }
+            if kept.seg == seg {
+                passed = passed.wrapping_add(1);
+            }
+        }
+        None
+    }
+
+    // Whether the entry at a place of a segment has a number.
+    fn is_at(&self, seg: Seg, place: usize, number: u64) -> bool {
+        match self.from_tail(seg, place) {
+            Some(kept) => kept.number == number,
+            None => false,
+        }
+    }
+
+    // How many entries a segment has.
+    fn len(&self, seg: Seg) -> u64 {
+        let mut many = 0u64;
+        for kept in &self.entries {
+            if kept.seg == seg {
+                many = many.wrapping_add(1);
+            }
+        }
+        many
+    }
+
+    // Whether no chunk is free.
+    fn is_full(&self) -> bool {
+        self.entries.len() as u64 == self.chunks
+    }
+
+    // Takes out the entry of a number.
+    fn take(&mut self, number: u64) -> Option<Kept> {
+        let place = self.entries.iter().position(|kept| kept.number == number)?;
+        Some(self.entries.remove(place))
+    }
+
+    fn remove(&mut self, number: u64) -> Checked {
+        holds(self.take(number).is_some(), "no entry of the number")
+    }
+
+    // Adds an entry, at its segment's head.
+    fn add(&mut self, kept: Kept) -> Checked {
+        holds(self.entries.push(kept).is_ok(), "no memory")
+    }
+
+    // Whether these numbers are just those between an entry and its segment's tail, and not too many.
+    fn is_near_tail(&self, seg: Seg, number: u64, passed: &[u64]) -> bool {
+        for place in 0..passed.len() {
+            if !self.is_at(seg, place, passed[place]) {
+                return false;
+            }
+        }
+        passed.len() <= MOST_PASSED && self.is_at(seg, passed.len(), number)
+    }
+
+    // What is wrong with a new entry: it needs a chunk, and has the next number.
+    fn check_new(&self, linked: &Linked) -> Checked {
+        holds(!self.is_full(), "a new entry without a chunk")?;
+        holds(linked.number == self.next, "not the next number")
+    }
+
+    // A new entry at its segment's head.
+    fn link(&mut self, linked: &Linked) -> Checked {
+        self.check_new(linked)?;
+        self.next = self.next.wrapping_add(1);
+        match Vec::from_slice(self.alloc, linked.key.bytes()) {
+            Err(_) => Err("no memory"),
+            Ok(key) => self.add(Kept {
+                number: linked.number,
+                seg: linked.seg,
+                key,
+                cost: linked.cost,
+                time: linked.moment,
+            }),
+        }
+    }
+
+    // Whether a move has the ground that its reason asks for.
+    fn has_ground(&self, shifted: &Shifted, history: &History<ClassNoted>) -> bool {
+        match shifted.why {
+            Why::Hit | Why::Active => true,
+            Why::Over(place) | Why::Old(place) => {
+                is_survey(self.alloc, history, place, shifted.who, shifted.moment)
+            }
+            Why::Forced => self.is_full(),
+        }
+    }
+
+    // Whether an entry is where a move says: of a hit in its segment, of another one near its tail.
+    fn is_there(&self, shifted: &Shifted) -> bool {
+        let passed = shifted.passed.as_slice();
+        if shifted.why != Why::Hit {
+            return self.is_near_tail(shifted.from_seg, shifted.number, passed);
+        }
+        for kept in &self.entries {
+            if kept.number == shifted.number {
+                return kept.seg == shifted.from_seg && passed.is_empty();
+            }
+        }
+        false
+    }
+
+    // What is wrong with a move's segments, its neighbours and its ground.
+    fn check_move(&self, shifted: &Shifted, history: &History<ClassNoted>) -> Checked {
+        holds(shifted.to_seg == goal_of(shifted.why), "a move elsewhere")?;
+        holds(
+            may_leave(shifted.why, shifted.from_seg),
+            "a move from elsewhere",
+        )?;
+        holds(
+            self.has_ground(shifted, history),
+            "a move without its ground",
+        )?;
+        holds(self.is_there(shifted), "a move of another entry")
+    }
+
+    // An entry goes to another segment's head, or to its own's. A hit sets its time, and so does the move of an active one.
+    fn shift(&mut self, shifted: &Shifted, history: &History<ClassNoted>) -> Checked {
+        self.check_move(shifted, history)?;
+        let Some(mut kept) = self.take(shifted.number) else {
+            return Err("no entry to move");
+        };
+        kept.seg = shifted.to_seg;
+        if goal_of(shifted.why) == Seg::Warm {
+            kept.time = shifted.moment;
+        }
+        self.add(kept)
+    }
+
+    // An entry near COLD's tail gives its chunk, where none is free.
+    fn evict(&mut self, evicted: &Evicted) -> Checked {
+        let passed = evicted.passed.as_slice();
+        holds(self.is_full(), "an eviction, and a chunk is free")?;
+        holds(
+            self.is_near_tail(Seg::Cold, evicted.number, passed),
+            "an eviction elsewhere",
+        )?;
+        self.remove(evicted.number)
+    }
+
+    // The bytes of HOT, WARM and COLD together.
+    fn total(&self) -> u64 {
+        let mut total = 0u64;
+        for kept in &self.entries {
+            if kept.seg != Seg::Temp {
+                total = total.saturating_add(kept.cost);
+            }
+        }
+        total
+    }
+
+    // The age of COLD's tail.
+    fn cold_age(&self, moment: u64) -> u64 {
+        match self.from_tail(Seg::Cold, 0) {
+            Some(kept) => moment.saturating_sub(kept.time),
+            None => 0,
+        }
+    }
+
+    fn check_survey(&self, survey: &Surveyed) -> Checked {
+        holds(survey.total == self.total(), "a survey of another total")?;
+        holds(
+            survey.cold_age == self.cold_age(survey.moment),
+            "a survey of another age",
+        )
+    }
+
+    /// One event more of a history.
+    pub fn next(&mut self, event: &ClassEvent, history: &History<ClassNoted>) -> Checked {
+        match event {
+            ClassEvent::Linked(linked) => self.link(linked),
+            ClassEvent::Unlinked(unlinked) => self.remove(unlinked.number),
+            ClassEvent::Shifted(shifted) => self.shift(shifted, history),
+            ClassEvent::Evicted(evicted) => self.evict(evicted),
+            ClassEvent::Reclaimed(reclaimed) => self.remove(reclaimed.number),
+            ClassEvent::Surveyed(survey) => self.check_survey(survey),
+            ClassEvent::Refused(_) => holds(self.is_full(), "a refusal, and a chunk is free"),
+        }
+    }
+
+    // Whether the entry at a place of a segment is the class's.
+    fn is_same_at(&self, class: &ClassState, seg: Seg, place: u64) -> bool {
+        match (
+            class.from_tail(seg, place),
+            self.from_tail(seg, place as usize),
+        ) {
+            (Some(entry), Some(kept)) => kept.is(entry),
+            _ => false,
+        }
+    }
+
+    // What is wrong with a list of a class.
+    fn compare_list(&self, class: &ClassState, seg: Seg) -> Checked {
+        holds(class.len(seg) == self.len(seg), "a list of another length")?;
+        for place in 0..self.len(seg) {
+            holds(self.is_same_at(class, seg, place), "another entry")?;
+        }
+        Ok(())
+    }
+
+    /// What is wrong with a class's lists, which are to be these.
+    pub fn compare(&self, class: &ClassState) -> Checked {
+        holds(class.next_number() == self.next, "another next number")?;
+        for seg in SEGS.as_slice() {
+            self.compare_list(class, *seg)?;
+        }
+        Ok(())
+    }
+}
