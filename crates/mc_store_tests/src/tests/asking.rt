@@ -1,54 +1,78 @@
 //! What the tests ask stores for; where that fails, the test ends.
-ghost use Rattle.std.specs.Prelude.{◌≡◌, ◌<◌, ◌≤◌, length};
+ghost use Rattle.std.specs.Prelude.{◌<◌, ◌≤◌, length};
 
-use mc_item::{ClassNo, Command, Histogram, Key, Moves, Reply, Value, Verb};
+use mc_item::{ClassNo, Command, Histogram, Moves, Reply, Verb};
 use mc_store::{Named, Pass, Store};
+use mc_testing::{try_key, try_storage};
 use std::alloc::Global;
 use std::process::Abort;
 use std::sync::Wait;
 
-/// The key of one letter.
-pub(super) fn key<R: Abort>(rt: &R, alloc: Global, letter: u8) -> Key {
-    Key::of(alloc, &[letter]).expect(rt, "a key")
+/// What is asked for a key.
+#[derive(Clone, Copy)]
+pub(super) enum Ask {
+    Get,
+    /// A storage command of these flags and this value, which doesn't expire.
+    Store(Verb, u32, &'static str),
+    /// A set of this exptime and value, without flags.
+    Expiring(i64, &'static str),
+    /// A cas to this value, with the number that was shown last, or 0.
+    Cas(&'static str),
+    Incr(u64),
+    Decr(u64),
+    Touch(i64),
+    Delete,
+    /// A set of a block that was skipped.
+    Huge,
 }
 
-/// A storage command for the key of one letter.
-pub(super) fn store<R: Abort>(
+// A storage command that stores a text.
+fn store<R: Abort>(
     rt: &R,
     alloc: Global,
     verb: Verb,
     letter: u8,
     flags: u32,
     exptime: i64,
-    text: &[u8],
+    text: &str,
 ) -> Command {
-    let bytes = Vec::from_slice(alloc, text).expect(rt, "a value");
-    Command::Store {
-        verb,
-        key: key(rt, alloc, letter),
-        flags,
-        exptime,
-        value: Value::of(alloc, bytes).expect(rt, "a value"),
+    try_storage(alloc, verb, letter, flags, exptime, text.as_bytes()).expect(rt, "a command")
+}
+
+// A command that stores nothing new, or a get.
+fn other_of<R: Abort>(rt: &R, alloc: Global, letter: u8, ask: Ask) -> Command {
+    let key = try_key(alloc, letter).expect(rt, "a key");
+    match ask {
+        Ask::Incr(delta) => Command::Incr(key, delta),
+        Ask::Decr(delta) => Command::Decr(key, delta),
+        Ask::Touch(exptime) => Command::Touch(key, exptime),
+        Ask::Delete => Command::Delete(key),
+        Ask::Huge => Command::Huge {
+            verb: Verb::Set,
+            key,
+        },
+        _ => Command::Get(key),
     }
 }
 
-/// A set of the key of one letter, without flags, that doesn't expire.
-pub(super) fn set<R: Abort>(rt: &R, alloc: Global, letter: u8, text: &[u8]) -> Command {
-    store(rt, alloc, Verb::Set, letter, 0, 0, text)
-}
-
-/// A get of the key of one letter.
-pub(super) fn get<R: Abort>(rt: &R, alloc: Global, letter: u8) -> Command {
-    Command::Get(key(rt, alloc, letter))
-}
-
-/// An incr of the key of one letter.
-pub(super) fn incr<R: Abort>(rt: &R, alloc: Global, letter: u8, delta: u64) -> Command {
-    Command::Incr(key(rt, alloc, letter), delta)
+/// What is asked for the key of one letter, where this cas number was shown last.
+pub(super) fn command_of<R: Abort>(
+    rt: &R,
+    alloc: Global,
+    letter: u8,
+    ask: Ask,
+    shown: u64,
+) -> Command {
+    match ask {
+        Ask::Store(verb, flags, text) => store(rt, alloc, verb, letter, flags, 0, text),
+        Ask::Expiring(exptime, text) => store(rt, alloc, Verb::Set, letter, 0, exptime, text),
+        Ask::Cas(text) => store(rt, alloc, Verb::Cas(shown), letter, 0, 0, text),
+        other => other_of(rt, alloc, letter, other),
+    }
 }
 
 /// What a command is answered.
-pub(super) fn ask<N: Named, R: Abort + Wait>(
+pub(super) fn answer<N: Named, R: Abort + Wait>(
     rt: &R,
     alloc: Global,
     store: &Store<N>,
@@ -61,7 +85,7 @@ pub(super) fn ask<N: Named, R: Abort + Wait>(
         .expect(rt, "a reply")
 }
 
-/// Juggles one of two classes.
+/// Juggles a class.
 pub(super) fn juggle<N: Named, R: Abort + Wait>(
     rt: &R,
     alloc: Global,
@@ -70,15 +94,14 @@ pub(super) fn juggle<N: Named, R: Abort + Wait>(
     class: ClassNo,
     moment: u32,
 ) -> Moves
-    requires two { length N.config.sizes ≡ 2 }
-    requires class { (0 < class.0) × (class.0 ≤ 2) }
+    requires { (0 < class.0) × (class.0 ≤ length N.config.sizes) }
 {
     store
         .juggle(alloc, rt, pass, class, u64::from(moment))
         .expect(rt, "moves")
 }
 
-/// Crawls one of two classes.
+/// Crawls a class.
 pub(super) fn crawl<N: Named, R: Abort + Wait>(
     rt: &R,
     alloc: Global,
@@ -87,12 +110,28 @@ pub(super) fn crawl<N: Named, R: Abort + Wait>(
     class: ClassNo,
     moment: u32,
 ) -> Histogram
-    requires two { length N.config.sizes ≡ 2 }
-    requires class { (0 < class.0) × (class.0 ≤ 2) }
+    requires { (0 < class.0) × (class.0 ≤ length N.config.sizes) }
 {
     store
         .crawl(alloc, rt, pass, class, u64::from(moment))
         .expect(rt, "a histogram")
+}
+
+// A text of its own.
+fn owned<R: Abort>(rt: &R, alloc: Global, text: &str) -> String {
+    format!(in alloc; "{text}").expect(rt, "a text")
+}
+
+// Bytes as a text.
+fn text_of<R: Abort>(rt: &R, alloc: Global, bytes: &[u8]) -> String {
+    let text = str::from_utf8(bytes).expect(rt, "a text");
+    owned(rt, alloc, text)
+}
+
+// The flags and the text of an item.
+fn shown_item<R: Abort>(rt: &R, alloc: Global, flags: u32, bytes: &[u8]) -> String {
+    let text = text_of(rt, alloc, bytes);
+    format!(in alloc; "{flags} {}", text.as_str()).expect(rt, "a line")
 }
 
 /// The reply in one line: of an item its flags and its value.
@@ -103,17 +142,10 @@ pub(super) fn told<R: Abort>(rt: &R, alloc: Global, reply: &Reply) -> String {
     }
 }
 
-// The flags and the text of an item.
-fn shown_item<R: Abort>(rt: &R, alloc: Global, flags: u32, text: &[u8]) -> String {
-    let mut line = format!(in alloc; "{flags} ").expect(rt, "a line");
-    for byte in text {
-        line.push(*byte as char).ok().expect(rt, "room in a line");
+/// An item's value, or `-` where there is none.
+pub(super) fn told_value<R: Abort>(rt: &R, alloc: Global, reply: &Reply) -> String {
+    match reply {
+        Reply::Value { value, .. } => text_of(rt, alloc, value.bytes()),
+        _ => owned(rt, alloc, "-"),
     }
-    line
-}
-
-/// Ends the test where a reply isn't the one that is wanted.
-pub(super) fn check_reply<R: Abort>(rt: &R, alloc: Global, reply: &Reply, wanted: &str) {
-    let line = told(rt, alloc, reply);
-    assert_eq!(rt; line.as_str(), wanted);
 }

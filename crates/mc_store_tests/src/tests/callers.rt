@@ -1,92 +1,86 @@
-//! Callers of a shared store: how many answered commands name each.
-ghost use Rattle.std.specs.Prelude.{◌≡◌, length};
-ghost use Rattle.mc_store_tests.specs.Opening.{AreParts};
+//! Callers of a shared store: what each can know without a lock, and how many answered commands name each. With four stripes
+//! `a` is of stripe 0 and `b` of stripe 1.
+use super::asking::Ask::{Get, Store as Put};
+use super::ends::{End, Ended};
+use super::opening::four_stripes;
+use super::running::Act::{Callers, Juggle, OfClass, OfStripe, On, Turn, Visit};
+use super::running::{Row, check_script};
+use mc_item::Verb::Set;
 
-use super::asking::{ask, get, juggle, set};
-use super::opening::{Parts, four_stripes, opened};
-use mc_history::History;
-use mc_item::{ClassNo, StripeEvent, StripeNo};
-use mc_store::{Final, Named, Pass, Store};
-use mc_stripe::Noted;
-use std::alloc::Global;
-use std::marker::Brand;
-use std::process::Abort;
-use std::sync::Wait;
+// Two of three callers make commands by turns, and the third juggles. The only entry was read three times, so that it is active:
+// it goes from HOT to WARM, and from there, where the limit is below its bytes, to COLD.
+static BY_TURNS: [Row; 12] = [
+    (0, 1000, On(b'a', Put(Set, 0, "1")), "Stored"),
+    (0, 1000, On(b'a', Get), "0 1"),
+    (0, 1000, On(b'b', Get), "Miss"),
+    (1, 1000, On(b'a', Put(Set, 0, "1")), "Stored"),
+    (1, 1000, On(b'a', Get), "0 1"),
+    (1, 1000, On(b'b', Get), "Miss"),
+    (1, 1000, On(b'a', Get), "0 1"),
+    (1, 1000, On(b'b', Get), "Miss"),
+    (1, 1000, On(b'a', Get), "0 1"),
+    (1, 1000, On(b'b', Get), "Miss"),
+    (2, 1000, Juggle(1), "reclaimed 0, moved 2"),
+    (0, 1000, On(b'a', Put(Set, 0, "1")), "Stored"),
+];
 
-// How many answered commands of a history name a caller.
-fn named_in<R: Abort>(rt: &R, alloc: Global, history: &History<Noted>, caller: u32) -> u64 {
-    let mut many = 0u64;
-    for place in 0..history.len() {
-        let noted = history.get(place).expect(rt, "an event");
-        if let StripeEvent::Did(did) = noted.event(alloc).expect(rt, "a copy") {
-            if did.who.caller == caller {
-                many = many.saturating_add(1);
-            }
-        }
-    }
-    many
-}
-
-// How many answered commands of a closed store of four stripes name a caller.
-fn named<R: Abort>(rt: &R, alloc: Global, ledger: &Final, caller: u32) -> u64
-    requires { length ledger.now.stripes ≡ 4 }
-{
-    let mut many = 0u64;
-    for stripe in 0..4u32 {
-        let history = ledger.stripe(StripeNo(stripe)).history();
-        many = many.saturating_add(named_in(rt, alloc, history, caller));
-    }
-    many
-}
-
-// A get of a key, and one of a key that isn't there.
-fn read<N: Named, R: Abort + Wait>(rt: &R, alloc: Global, store: &Store<N>, pass: &mut Pass<N>) {
-    ask(rt, alloc, store, pass, get(rt, alloc, b'a'), 1000);
-    ask(rt, alloc, store, pass, get(rt, alloc, b'b'), 1000);
-}
-
-// A set and so many gets of it, and of a key that isn't there.
-fn make<N: Named, R: Abort + Wait>(
-    rt: &R,
-    alloc: Global,
-    store: &Store<N>,
-    pass: &mut Pass<N>,
-    times: u32,
-) {
-    ask(rt, alloc, store, pass, set(rt, alloc, b'a', b"1"), 1000);
-    for _ in 0..times {
-        read(rt, alloc, store, pass);
-    }
-}
-
-// Two of three passes make commands by turns, and the third juggles; each is held against the closed store, where the test
-// ends if a caller isn't named by as many answered commands as its pass was answered.
-fn check_named<N: Named, R: Abort + Wait>(rt: &R, alloc: Global, parts: Parts)
-    requires named { (parts.board ≡ N.board) × (parts.config ≡ N.config) }
-    requires fit { AreParts N.board N.config parts.owners.items parts.seen }
-    requires shape { (N.config.stripes ≡ 4) × (length N.config.sizes ≡ 2) }
-{
-    let (store, mut passes) = opened::<N, R>(rt, alloc, parts);
-    let mut third = passes.pop().expect(rt, "a pass");
-    let mut second = passes.pop().expect(rt, "a pass");
-    let mut first = passes.pop().expect(rt, "a pass");
-    make(rt, alloc, &store, &mut first, 1);
-    make(rt, alloc, &store, &mut second, 3);
-    juggle(rt, alloc, &store, &mut third, ClassNo(1), 1000);
-    make(rt, alloc, &store, &mut first, 0);
-    let mut ledger = store.close(rt);
-    ledger.compare(&mut first);
-    ledger.compare(&mut second);
-    ledger.compare(&mut third);
-    assert_eq!(rt; named(rt, alloc, &ledger, 0), 4);
-    assert_eq!(rt; named(rt, alloc, &ledger, 1), 7);
-    assert_eq!(rt; named(rt, alloc, &ledger, 2), 0);
-}
+static NAMED: [Ended; 3] = [(End::Named(0), 4), (End::Named(1), 7), (End::Named(2), 0)];
 
 // As many answered commands name a caller as its pass was answered.
 #[test]
 fn commands_are_named_for_who_made_them(rt: HostRuntime) {
     let alloc = rt.alloc();
-    let parts = four_stripes(&rt, alloc);
-    check_named::<Brand, HostRuntime>(&rt, alloc, parts);
+    let config = four_stripes(&rt, alloc);
+    check_script(&rt, alloc, config, BY_TURNS.as_slice(), NAMED.as_slice());
+}
+
+// Each caller's next turn is its first one, and no stripe or class has an event.
+static NEW: [Row; 14] = [
+    (0, 1000, Callers, "3"),
+    (0, 1000, Turn, "0 0"),
+    (1, 1000, Turn, "1 0"),
+    (2, 1000, Turn, "2 0"),
+    (2, 1000, OfStripe(0), "0"),
+    (2, 1000, OfStripe(1), "0"),
+    (2, 1000, OfStripe(2), "0"),
+    (2, 1000, OfStripe(3), "0"),
+    (2, 1000, OfClass(1), "0"),
+    (2, 1000, OfClass(2), "0"),
+    (2, 1000, Visit(0), "0"),
+    (2, 1000, Visit(1), "0"),
+    (2, 1000, Visit(2), "0"),
+    (2, 1000, Visit(3), "0"),
+];
+
+static EMPTY: [Ended; 6] = [
+    (End::OfStripe(0), 0),
+    (End::OfStripe(1), 0),
+    (End::OfStripe(2), 0),
+    (End::OfStripe(3), 0),
+    (End::OfClass(1), 0),
+    (End::OfClass(2), 0),
+];
+
+#[test]
+fn a_store_opens_is_looked_at_and_closes(rt: HostRuntime) {
+    let alloc = rt.alloc();
+    let config = four_stripes(&rt, alloc);
+    check_script(&rt, alloc, config, NEW.as_slice(), EMPTY.as_slice());
+}
+
+// A get of an absent key is one event of its stripe. The caller who counts has made no call.
+static OF_ANOTHER: [Row; 6] = [
+    (1, 1000, OfStripe(0), "0"),
+    (0, 1000, On(b'a', Get), "Miss"),
+    (1, 1000, OfStripe(0), "1"),
+    (1, 1000, OfStripe(1), "0"),
+    (1, 1000, Turn, "1 0"),
+    (0, 1000, Turn, "0 1"),
+];
+
+#[test]
+fn a_second_pass_counts_a_first_ones_command(rt: HostRuntime) {
+    let alloc = rt.alloc();
+    let config = four_stripes(&rt, alloc);
+    check_script(&rt, alloc, config, OF_ANOTHER.as_slice(), &[]);
 }

@@ -1,18 +1,16 @@
 //! Threads that add to one number by reading it and a cas, each again and again until its cas is stored.
-ghost use Rattle.std.specs.Prelude.{◌≡◌};
-ghost use Rattle.mc_store_tests.specs.Opening.{AreParts};
-
-use super::asking::{ask, check_reply, get, set, store};
-use super::opening::{Parts, opened, parts_for, two_classes};
+use super::asking::Ask::{Get, Store as Put};
+use super::asking::{Ask, command_of};
+use super::opening::two_classes;
+use super::running::Act::On;
+use super::running::Row;
+use super::sharing::{Call, Task, Work, make_call, share};
 use mc_item::{Reply, Verb};
-use mc_store::{Named, Pass, Store};
+use mc_store::{Named, Store};
+use mc_testing::try_storage;
 use std::alloc::Global;
-use std::marker::Brand;
 use std::process::Abort;
-use std::random::RandomSource;
 use std::sync::Wait;
-use std::thread;
-use std::thread::Threads;
 
 // Each thread adds so many.
 const TIMES: u32 = 200;
@@ -31,89 +29,104 @@ fn number_in(text: &[u8]) -> u64 {
     number
 }
 
-// Reads the number and stores the next one, where nobody has stored another meanwhile: whether it was stored.
-fn add_one<N: Named, R: Abort + Wait>(
-    rt: &R,
-    alloc: Global,
-    shared: &Store<N>,
-    pass: &mut Pass<N>,
-) -> bool {
-    let reply = ask(rt, alloc, shared, pass, get(rt, alloc, b'n'), 1000);
-    let Reply::Value { value, cas, .. } = reply else {
-        return false;
-    };
-    let next = number_in(value.bytes()).wrapping_add(1);
-    let text = format!(in alloc; "{next}").expect(rt, "digits");
-    let command = store(
-        rt,
-        alloc,
-        Verb::Cas(cas),
-        b'n',
-        0,
-        0,
-        text.as_str().as_bytes(),
-    );
-    match ask(rt, alloc, shared, pass, command, 1000) {
-        Reply::Stored => true,
-        _ => false,
+// The number that the last call read, and its cas number.
+fn last_read(calls: &Vec<Call>) -> (u64, u64) {
+    match calls.as_slice().last() {
+        None => (0, 0),
+        Some(call) => match &call.reply {
+            Reply::Value { value, cas, .. } => (number_in(value.bytes()), *cas),
+            _ => (0, 0),
+        },
     }
 }
 
-// Adds one, and again, as often as is wanted: how often that was.
-fn add_all<N: Named, R: Abort + Wait>(
+// One where a call stored by a cas.
+fn stored_by(call: &Call) -> u32 {
+    match call.reply {
+        Reply::Stored => 1,
+        _ => 0,
+    }
+}
+
+// One where the last call stored.
+fn last_stored(calls: &Vec<Call>) -> u32 {
+    match calls.as_slice().last() {
+        None => 0,
+        Some(call) => stored_by(call),
+    }
+}
+
+// Stores a number where nobody has stored since this cas number was shown.
+fn store_next<N: Named, R: Abort + Wait>(
     rt: &R,
     alloc: Global,
-    shared: &Store<N>,
-    pass: Pass<N>,
-) -> u32 {
-    let mut pass = pass;
+    store: &Store<N>,
+    work: &mut Work<N>,
+    number: u64,
+    cas: u64,
+) {
+    let text = number.to_string(alloc).expect(rt, "digits");
+    let bytes = text.as_str().as_bytes();
+    let command = try_storage(alloc, Verb::Cas(cas), b'n', 0, 0, bytes).expect(rt, "a command");
+    make_call(rt, alloc, store, work, command, 1000);
+}
+
+// Reads the number and stores the next one, where nobody has stored another meanwhile.
+fn add_one<N: Named, R: Abort + Wait>(rt: &R, alloc: Global, store: &Store<N>, work: &mut Work<N>) {
+    let command = command_of(rt, alloc, b'n', Ask::Get, 0);
+    make_call(rt, alloc, store, work, command, 1000);
+    let (number, cas) = last_read(&work.calls);
+    store_next(rt, alloc, store, work, number.wrapping_add(1), cas);
+}
+
+/// Adds one, and again, as often as is wanted.
+pub(super) fn add_all<N: Named, R: Abort + Wait>(
+    rt: &R,
+    alloc: Global,
+    store: &Store<N>,
+    work: &mut Work<N>,
+) {
     let mut added = 0u32;
     for _ in 0..TRIES {
         if added == TIMES {
             break;
         }
-        if add_one(rt, alloc, shared, &mut pass) {
-            added = added.wrapping_add(1);
-        }
+        add_one(rt, alloc, store, work);
+        added = added.wrapping_add(last_stored(&work.calls));
     }
-    added
 }
 
-// Three threads add to one number, which one more caller has set to 0 and reads at the end.
-fn add_at_once<N: Named + Send + Sync, R: Threads + Abort + Wait + Sync>(
-    rt: &R,
-    alloc: Global,
-    parts: Parts,
-)
-    requires named { (parts.board ≡ N.board) × (parts.config ≡ N.config) }
-    requires fit { AreParts N.board N.config parts.owners.items parts.seen }
-{
-    let (shared, mut passes) = opened::<N, R>(rt, alloc, parts);
-    let mut pass = passes.pop().expect(rt, "a pass");
-    ask(
-        rt,
-        alloc,
-        &shared,
-        &mut pass,
-        set(rt, alloc, b'n', b"0"),
-        1000,
-    );
-    let threads = thread::map_vec(rt, passes, &|own| add_all(rt, alloc, &shared, own)).expect(
-        rt,
-        "room for threads",
-    );
-    for added in &threads {
-        assert_eq!(rt; *added, TIMES);
+// How many calls stored.
+fn many_stored(calls: &Vec<Call>) -> u32 {
+    let mut many = 0u32;
+    for call in calls {
+        many = many.wrapping_add(stored_by(call));
     }
-    let reply = ask(rt, alloc, &shared, &mut pass, get(rt, alloc, b'n'), 1000);
-    check_reply(rt, alloc, &reply, "0 600");
+    many
 }
+
+/// Ends the test where a thread didn't add as often as is wanted.
+pub(super) fn check_added<R: Abort>(rt: &R, threads: &Vec<Vec<Call>>) {
+    for calls in threads {
+        assert_eq!(rt; many_stored(calls), TIMES);
+    }
+}
+
+static ZERO: [Row; 1] = [(0, 1000, On(b'n', Put(Verb::Set, 0, "0")), "Stored")];
+
+static SUM: [Row; 1] = [(0, 1000, On(b'n', Get), "0 600")];
 
 // Each of 600 additions by three threads is in the number, though each thread's cas is refused where another was quicker.
 #[test]
 fn no_cas_of_three_threads_is_lost(rt: HostRuntime) {
     let alloc = rt.alloc();
     let config = two_classes(&rt, alloc, 1, [8, 8], 4);
-    let parts = parts_for(&rt, alloc, config);
-    add_at_once::<Brand, HostRuntime>(&rt, alloc, parts);
+    share(
+        &rt,
+        alloc,
+        config,
+        Task::Cas,
+        ZERO.as_slice(),
+        SUM.as_slice(),
+    );
 }

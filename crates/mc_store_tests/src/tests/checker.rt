@@ -1,31 +1,35 @@
 //! Threads make drawn commands on a shared store while two others juggle and crawl its classes; then a plain memcached
 //! replays what the closed store's stripes say happened, and each thread finds there what it was answered.
 ghost use Rattle.std.specs.Prelude.{◌≡◌, length};
-ghost use Rattle.mc_store_tests.specs.Opening.{AreParts};
 
+use super::SEED;
 use super::class_checker::check_classes;
-use super::opening::{Parts, opened, parts_for, two_classes};
-use super::plain::Plain;
-use super::playing::{COMMANDS, Call, PLAYERS, work};
+use super::ends::stripe_event;
+use super::opening::two_classes;
+use super::playing::{COMMANDS, PLAYERS};
+use super::sharing::{Call, Task, share};
 use mc_history::History;
-use mc_item::{Cause, ClassEvent, ClassNo, Did, Lost, Room, StripeEvent, StripeNo};
-use mc_store::{Final, Named};
+use mc_item::{Cause, ClassEvent, ClassNo, Did, Lost, Reply, Room, StripeEvent, StripeNo};
+use mc_store::Final;
 use mc_stripe::Noted;
+use mc_testing::Plain;
 use std::alloc::Global;
 use std::fmt::Debug;
-use std::marker::Brand;
 use std::process::Abort;
 use std::random::RandomSource;
 use std::sync::Wait;
-use std::sync::atomic::AtomicU64;
-use std::thread;
 use std::thread::Threads;
 
-// Whether two values are shown by the same text.
-fn is_same<T: Debug, R: Abort>(rt: &R, alloc: Global, one: &T, other: &T) -> bool {
-    let first = format!(in alloc; "{one:?}").expect(rt, "a text");
-    let second = format!(in alloc; "{other:?}").expect(rt, "a text");
-    first.as_str() == second.as_str()
+// A value as a text.
+fn shown<T: Debug, R: Abort>(rt: &R, alloc: Global, value: &T) -> String {
+    format!(in alloc; "{value:?}").expect(rt, "a text")
+}
+
+// Ends the test where two values aren't shown by the same text.
+fn check_same<T: Debug, R: Abort>(rt: &R, alloc: Global, one: &T, other: &T) {
+    let first = shown(rt, alloc, one);
+    let second = shown(rt, alloc, other);
+    assert_eq!(rt; first.as_str(), second.as_str());
 }
 
 // Ends the test where an answered command isn't this call, which is found for the first time, with the reply that its caller
@@ -34,8 +38,8 @@ fn check_call<R: Abort>(rt: &R, alloc: Global, call: &mut Call, did: &Did) {
     assert!(rt; !call.found);
     call.found = true;
     assert_eq!(rt; u64::from(call.moment), did.moment);
-    assert!(rt; is_same(rt, alloc, &call.command, &did.command));
-    assert!(rt; is_same(rt, alloc, &call.reply, &did.reply));
+    check_same(rt, alloc, &call.command, &did.command);
+    check_same(rt, alloc, &call.reply, &did.reply);
 }
 
 // Ends the test where an answered command isn't one that its caller made in that turn, with the reply that the caller was
@@ -73,32 +77,44 @@ fn is_refused(alloc: Global, ledger: &Final, room: Room) -> bool
     }
 }
 
-// Whether an item was dead where that is said, and else its chunk was taken by an eviction, as the event that is cited says.
-fn is_lost(alloc: Global, ledger: &Final, plain: &mut Plain, lost: &Lost) -> bool
+// Whether an item may go for a cause: where its chunk was taken, the event that is cited says so.
+fn is_told(alloc: Global, ledger: &Final, cause: Cause) -> bool
     requires { length ledger.now.classes ≡ 2 }
 {
-    let was_there = plain.lose(lost.key.bytes(), lost.cause);
-    match lost.cause {
-        Cause::Expired(_) => was_there,
+    match cause {
+        Cause::Expired(_) => true,
         Cause::Taken { class, place } => match event_of(alloc, ledger, class, place) {
-            Some(ClassEvent::Evicted(_)) => was_there,
+            Some(ClassEvent::Evicted(_)) => true,
             _ => false,
         },
     }
 }
 
+// Ends the test where an item that goes wasn't there, or wasn't dead where that is said, or else the event that is cited isn't
+// an eviction.
+fn check_lost<R: Abort>(rt: &R, alloc: Global, ledger: &Final, plain: &mut Plain, lost: &Lost)
+    requires { length ledger.now.classes ≡ 2 }
+{
+    assert!(rt; plain.lose(lost.key.bytes(), lost.cause));
+    assert!(rt; is_told(alloc, ledger, lost.cause));
+}
+
 // Ends the test where an answered command's reply isn't that of the plain memcached.
+fn check_told<R: Abort>(rt: &R, alloc: Global, did: &Did, wanted: &Reply) {
+    let reply = shown(rt, alloc, &did.reply);
+    let wanted = shown(rt, alloc, wanted);
+    assert_eq!(rt; reply.as_str(), wanted.as_str(), "to {:?}", did.command);
+}
+
+// The same, where the plain memcached answers the command too.
 fn check_reply<R: Abort>(rt: &R, alloc: Global, ledger: &Final, plain: &mut Plain, did: &Did)
     requires { length ledger.now.classes ≡ 2 }
 {
     let refused = is_refused(alloc, ledger, did.room);
-    let wanted = plain.answer(rt, &did.command, did.moment, refused);
-    let is_wanted = is_same(rt, alloc, &did.reply, &wanted);
-    assert!(rt;
-        is_wanted,
-        "{:?} is answered {:?} and not {:?}",
-        did.command, did.reply, wanted
-    );
+    let wanted = plain
+        .answer(&did.command, did.moment, refused)
+        .expect(rt, "memory");
+    check_told(rt, alloc, did, &wanted);
 }
 
 // Ends the test where an event of a stripe's history isn't one that may happen to the plain memcached, or an answered
@@ -118,12 +134,8 @@ fn check_event<R: Abort>(
             check_reply(rt, alloc, ledger, plain, did);
             find_call(rt, alloc, threads, did);
         }
-        StripeEvent::Lost(lost) => {
-            assert!(rt; is_lost(alloc, ledger, plain, lost));
-        }
-        StripeEvent::Cooled(cooled) => {
-            assert!(rt; plain.has(cooled.key.bytes()));
-        }
+        StripeEvent::Lost(lost) => check_lost(rt, alloc, ledger, plain, lost),
+        StripeEvent::Cooled(cooled) => assert!(rt; plain.has(cooled.key.bytes())),
     }
 }
 
@@ -139,8 +151,7 @@ fn replay_one<R: Abort>(
     requires { length ledger.now.classes ≡ 2 }
 {
     for place in 0..history.len() {
-        let noted = history.get(place).expect(rt, "an event");
-        let event = noted.event(alloc).expect(rt, "a copy");
+        let event = stripe_event(rt, alloc, history, place);
         check_event(rt, alloc, ledger, plain, threads, &event);
     }
 }
@@ -163,59 +174,61 @@ fn replay<R: Abort>(
     }
 }
 
-// Ends the test where a thread didn't make so many calls, or one that was answered was found nowhere.
-fn check_calls<R: Abort>(rt: &R, calls: &Vec<Call>, many: u64) {
-    assert_eq!(rt; calls.len() as u64, many);
+// Whether each call was found.
+fn are_found(calls: &Vec<Call>) -> bool {
     for call in calls {
-        assert!(rt; call.found);
+        if !call.found {
+            return false;
+        }
     }
+    true
 }
 
 // Ends the test where a call that was answered was found nowhere, or a player didn't make all its calls.
 fn check_found<R: Abort>(rt: &R, threads: &Vec<Vec<Call>>) {
     assert_eq!(rt; threads.len(), PLAYERS as usize + 2);
-    let mut caller = 0u32;
-    for calls in threads {
-        check_calls(rt, calls, if caller < PLAYERS { COMMANDS } else { 0 });
-        caller = caller.wrapping_add(1);
+    for (caller, calls) in threads.iter().enumerate() {
+        let wanted = if caller < PLAYERS as usize {
+            COMMANDS
+        } else {
+            0
+        };
+        assert_eq!(rt; calls.len() as u64, wanted, "calls of {caller}");
+        assert!(rt; are_found(calls), "calls of {caller}");
     }
 }
 
-// Threads play on a store, of which the closed store is then replayed.
-fn play<N: Named + Send + Sync, R: Threads + Abort + Wait + Sync>(
+/// Replays the closed store's histories, and ends the test where they aren't what the threads were answered.
+pub(super) fn check_played<R: Abort>(
     rt: &R,
     alloc: Global,
-    parts: Parts,
+    ledger: &Final,
+    stripes: u32,
+    threads: &mut Vec<Vec<Call>>,
 )
-    requires named { (parts.board ≡ N.board) × (parts.config ≡ N.config) }
-    requires fit { AreParts N.board N.config parts.owners.items parts.seen }
-    requires two { length N.config.sizes ≡ 2 }
+    requires stripes { length ledger.now.stripes ≡ stripes }
+    requires classes { length ledger.now.classes ≡ 2 }
 {
-    let stripes = parts.config.stripes;
-    let (store, passes) = opened::<N, R>(rt, alloc, parts);
-    let ended = AtomicU64::new(0);
-    let mut threads = thread::map_vec(
-        rt,
-        passes,
-        &|own| work(rt, alloc, &store, own, &ended),
-    ).expect(rt, "room for threads");
-    let ledger = store.close(rt);
-    replay(rt, alloc, &ledger, stripes, &mut threads);
-    check_classes(rt, alloc, &ledger, stripes);
-    check_found(rt, &threads);
+    replay(rt, alloc, ledger, stripes, threads);
+    check_classes(rt, alloc, ledger, stripes);
+    check_found(rt, threads);
 }
 
-// Threads play on a new store of so many stripes.
-fn run<R: Threads + Abort + Wait + RandomSource + Sync>(rt: &R, alloc: Global, stripes: u32) {
-    let config = two_classes(rt, alloc, stripes, [4, 1], PLAYERS + 2);
-    let parts = parts_for(rt, alloc, config);
-    play::<Brand, R>(rt, alloc, parts);
+/// Threads play what a seed draws on a new store of so many stripes.
+pub(super) fn run<R: Threads + Abort + Wait + RandomSource + Sync>(
+    rt: &R,
+    alloc: Global,
+    stripes: u32,
+    seed: u64,
+) {
+    let config = two_classes(rt, alloc, stripes, [4, 1], PLAYERS + 3);
+    share(rt, alloc, config, Task::Play(seed), &[], &[]);
 }
 
 // On one lock for all keys, on four, and on more than there are keys.
 #[test]
 fn drawn_commands_are_answered_as_memcached_does(rt: HostRuntime) {
     for stripes in [1, 4, 64] {
-        run(&rt, rt.alloc(), stripes);
+        run(&rt, rt.alloc(), stripes, SEED);
     }
 }

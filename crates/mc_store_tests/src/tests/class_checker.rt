@@ -2,36 +2,51 @@
 //! entry has one command that was given its chunk, by the same call, for the same key.
 ghost use Rattle.std.specs.Prelude.{◌≡◌, length};
 
-use super::plain_class::PlainClass;
+use super::ends::stripe_event;
 use mc_history::History;
-use mc_item::{ClassEvent, ClassNo, Did, Linked, Room, StripeEvent, StripeNo, Who};
-use mc_segment::ClassState;
+use mc_item::{ClassEvent, ClassNo, Did, Link, Linked, Room, StripeEvent, StripeNo, Who};
+use mc_segment::{ClassNoted, ClassState};
 use mc_store::Final;
+use mc_stripe::Noted;
+use mc_testing::{Checked, PlainClass};
 use std::alloc::Global;
 use std::process::Abort;
 
 // Who was given a chunk, and for which key; found again or not.
 #[derive(Drop)]
 struct Given {
-    class: u32,
-    number: u64,
+    link: Link,
     who: Who,
     key: Vec<u8>,
     found: bool,
 }
 
+// The chunk that a command was given.
+fn given_to<R: Abort>(rt: &R, alloc: Global, link: Link, did: &Did) -> Given {
+    let key = Vec::from_slice(alloc, did.command.key().bytes()).expect(rt, "a copy");
+    Given {
+        link,
+        who: did.who,
+        key,
+        found: false,
+    }
+}
+
 // Notes a command that was given a chunk.
-fn note_given<R: Abort>(rt: &R, alloc: Global, given: &mut Vec<Given>, did: &Did) {
-    if let Room::At(link) = did.room {
-        let key = Vec::from_slice(alloc, did.command.key().bytes()).expect(rt, "a copy");
-        let one = Given {
-            class: link.class.0,
-            number: link.number,
-            who: did.who,
-            key,
-            found: false,
-        };
-        given.push(one).ok().expect(rt, "room for a chunk");
+fn note_given<R: Abort>(rt: &R, alloc: Global, given: &mut Vec<Given>, event: &StripeEvent) {
+    if let StripeEvent::Did(did) = event {
+        if let Room::At(link) = did.room {
+            let one = given_to(rt, alloc, link, did);
+            given.push(one).ok().expect(rt, "room for a chunk");
+        }
+    }
+}
+
+// Notes the chunks that a stripe's commands were given.
+fn note_all<R: Abort>(rt: &R, alloc: Global, given: &mut Vec<Given>, history: &History<Noted>) {
+    for place in 0..history.len() {
+        let event = stripe_event(rt, alloc, history, place);
+        note_given(rt, alloc, given, &event);
     }
 }
 
@@ -42,44 +57,86 @@ fn all_given<R: Abort>(rt: &R, alloc: Global, ledger: &Final, stripes: u32) -> V
     let mut given = Vec::new(alloc);
     for stripe in 0..stripes {
         let history = ledger.stripe(StripeNo(stripe)).history();
-        for place in 0..history.len() {
-            let noted = history.get(place).expect(rt, "an event");
-            if let StripeEvent::Did(did) = noted.event(alloc).expect(rt, "a copy") {
-                note_given(rt, alloc, &mut given, &did);
-            }
-        }
+        note_all(rt, alloc, &mut given, history);
     }
     given
 }
 
+// Ends the test where a chunk was found before, or was given by another call or for another key.
+fn check_given<R: Abort>(rt: &R, one: &mut Given, linked: &Linked) {
+    assert!(rt; !one.found);
+    assert_eq!(rt; one.who, linked.who);
+    assert_eq!(rt; one.key.as_slice(), linked.key.bytes());
+    one.found = true;
+}
+
 // Ends the test where no command, or more than one, was given the chunk of a new entry by the same call for its key.
-fn find_given<R: Abort>(rt: &R, given: &mut Vec<Given>, class: ClassNo, linked: &Linked) {
+fn find_given<R: Abort>(rt: &R, given: &mut Vec<Given>, link: Link, linked: &Linked) {
     let mut many = 0u64;
     for one in given.as_mut_slice() {
-        if one.class == class.0 && one.number == linked.number {
-            assert!(rt; !one.found);
-            assert_eq!(rt; one.who, linked.who);
-            assert_eq!(rt; one.key.as_slice(), linked.key.bytes());
-            one.found = true;
-            many = many.saturating_add(1);
+        if one.link == link {
+            check_given(rt, one, linked);
+            many = many.wrapping_add(1);
         }
     }
     assert_eq!(rt; many, 1);
 }
 
-// Replays a class's history, and compares what it leaves with the class.
-fn replay_class<R: Abort>(rt: &R, alloc: Global, class: &ClassState, given: &mut Vec<Given>) {
-    let mut plain = PlainClass::new(alloc, class.chunks());
+// The event at a place of a class's history.
+fn class_event<R: Abort>(
+    rt: &R,
+    alloc: Global,
+    history: &History<ClassNoted>,
+    place: usize,
+) -> ClassEvent {
+    let noted = history.get(place).expect(rt, "an event");
+    noted.event(alloc).expect(rt, "a copy")
+}
+
+// Ends the test where something is wrong.
+fn check<R: Abort>(rt: &R, checked: Checked, place: usize) {
+    assert_eq!(rt; checked, Ok(()), "at event {place}");
+}
+
+// Looks for the command of a new entry.
+fn check_event<R: Abort>(rt: &R, given: &mut Vec<Given>, class: ClassNo, event: &ClassEvent) {
+    if let ClassEvent::Linked(linked) = event {
+        let link = Link {
+            class,
+            number: linked.number,
+        };
+        find_given(rt, given, link, linked);
+    }
+}
+
+// Replays a class's history.
+fn replay<R: Abort>(
+    rt: &R,
+    alloc: Global,
+    class: &ClassState,
+    plain: &mut PlainClass,
+    given: &mut Vec<Given>,
+) {
     let history = class.history();
     for place in 0..history.len() {
-        let noted = history.get(place).expect(rt, "an event");
-        let event = noted.event(alloc).expect(rt, "a copy");
-        plain.next(rt, &event, history);
-        if let ClassEvent::Linked(linked) = event {
-            find_given(rt, given, class.number(), &linked);
-        }
+        let event = class_event(rt, alloc, history, place);
+        check(rt, plain.next(&event, history), place);
+        check_event(rt, given, class.number(), &event);
     }
-    plain.compare(rt, class);
+}
+
+// Replays a class's history, and compares what it leaves with the class.
+fn check_class<R: Abort>(rt: &R, alloc: Global, class: &ClassState, given: &mut Vec<Given>) {
+    let mut plain = PlainClass::new(alloc, class.chunks());
+    replay(rt, alloc, class, &mut plain, given);
+    check(rt, plain.compare(class), class.history().len());
+}
+
+// Ends the test where a chunk was found nowhere.
+fn check_all<R: Abort>(rt: &R, given: &Vec<Given>) {
+    for one in given {
+        assert!(rt; one.found);
+    }
 }
 
 /// Replays the histories of both classes. Ends the test where an event may not happen, where a list isn't what its history
@@ -89,10 +146,7 @@ pub(super) fn check_classes<R: Abort>(rt: &R, alloc: Global, ledger: &Final, str
     requires classes { length ledger.now.classes ≡ 2 }
 {
     let mut given = all_given(rt, alloc, ledger, stripes);
-    for number in 1..3u32 {
-        replay_class(rt, alloc, ledger.class(ClassNo(number)), &mut given);
-    }
-    for one in given.as_slice() {
-        assert!(rt; one.found);
-    }
+    check_class(rt, alloc, ledger.class(ClassNo(1)), &mut given);
+    check_class(rt, alloc, ledger.class(ClassNo(2)), &mut given);
+    check_all(rt, &given);
 }

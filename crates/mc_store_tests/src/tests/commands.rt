@@ -1,83 +1,106 @@
 //! Commands on shared stores of one stripe and of two: what is answered, by protocol.txt and worked out by hand.
-use super::running::{Ask, check_script};
-use mc_item::Verb;
+use super::asking::Ask::{Cas, Decr, Delete, Get, Huge, Incr, Store as Put, Touch};
+use super::opening::two_classes;
+use super::running::Act::On;
+use super::running::{Row, check_script};
+use mc_item::Verb::{Add, Replace, Set};
+use std::alloc::Global;
+use std::process::Abort;
+use std::random::RandomSource;
+use std::sync::Wait;
+
+// Ends the test where the rows aren't answered as they say by a new store of one stripe, and by one of two, with so many chunks
+// of each class.
+fn check<R: Abort + Wait + RandomSource>(rt: &R, alloc: Global, chunks: u64, rows: &[Row]) {
+    for stripes in 1..3u32 {
+        let config = two_classes(rt, alloc, stripes, [chunks, chunks], 1);
+        check_script(rt, alloc, config, rows, &[]);
+    }
+}
+
+static EACH: [Row; 22] = [
+    (0, 1000, On(b'a', Put(Set, 5, "1")), "Stored"),
+    (0, 1000, On(b'a', Get), "5 1"),
+    (0, 1000, On(b'b', Get), "Miss"),
+    (0, 1000, On(b'a', Put(Add, 0, "2")), "NotStored"),
+    (0, 1000, On(b'b', Put(Add, 0, "x")), "Stored"),
+    (0, 1000, On(b'c', Put(Replace, 0, "y")), "NotStored"),
+    (0, 1000, On(b'b', Put(Replace, 0, "y")), "Stored"),
+    (0, 1000, On(b'b', Get), "0 y"),
+    (0, 1000, On(b'a', Incr(5)), "Number(6)"),
+    (0, 1000, On(b'a', Incr(10)), "Number(16)"),
+    (0, 1000, On(b'a', Get), "5 16"),
+    (0, 1000, On(b'a', Decr(3)), "Number(13)"),
+    (0, 1000, On(b'b', Incr(1)), "NonNumeric"),
+    (0, 1000, On(b'c', Incr(1)), "NotFound"),
+    (0, 1000, On(b'b', Delete), "Deleted"),
+    (0, 1000, On(b'b', Delete), "NotFound"),
+    (0, 1000, On(b'c', Huge), "TooLarge"),
+    (0, 1000, On(b'a', Touch(10)), "Touched"),
+    (0, 1000, On(b'c', Touch(10)), "NotFound"),
+    (0, 1009, On(b'a', Get), "5 13"),
+    (0, 1010, On(b'a', Get), "Miss"),
+    (0, 1010, On(b'a', Put(Set, 0, "7")), "Stored"),
+];
 
 // Each kind of command, where chunks are free.
 #[test]
 fn each_command_is_answered(rt: HostRuntime) {
-    let script = [
-        (1000, b'a', Ask::Store(Verb::Set, 5, "1"), "Stored"),
-        (1000, b'a', Ask::Get, "5 1"),
-        (1000, b'b', Ask::Get, "Miss"),
-        (1000, b'a', Ask::Store(Verb::Add, 0, "2"), "NotStored"),
-        (1000, b'b', Ask::Store(Verb::Add, 0, "x"), "Stored"),
-        (1000, b'c', Ask::Store(Verb::Replace, 0, "y"), "NotStored"),
-        (1000, b'b', Ask::Store(Verb::Replace, 0, "y"), "Stored"),
-        (1000, b'b', Ask::Get, "0 y"),
-        (1000, b'a', Ask::Incr(5), "Number(6)"),
-        (1000, b'a', Ask::Incr(10), "Number(16)"),
-        (1000, b'a', Ask::Get, "5 16"),
-        (1000, b'a', Ask::Decr(3), "Number(13)"),
-        (1000, b'b', Ask::Incr(1), "NonNumeric"),
-        (1000, b'c', Ask::Incr(1), "NotFound"),
-        (1000, b'b', Ask::Delete, "Deleted"),
-        (1000, b'b', Ask::Delete, "NotFound"),
-        (1000, b'c', Ask::Huge, "TooLarge"),
-        (1000, b'a', Ask::Touch(10), "Touched"),
-        (1000, b'c', Ask::Touch(10), "NotFound"),
-        (1009, b'a', Ask::Get, "5 13"),
-        (1010, b'a', Ask::Get, "Miss"),
-        (1010, b'a', Ask::Store(Verb::Set, 0, "7"), "Stored"),
-    ];
-    check_script(&rt, rt.alloc(), 9, &script);
+    check(&rt, rt.alloc(), 9, EACH.as_slice());
 }
+
+const LONG: &str = "0123456789012345678901234567890123456789";
+
+const SHOWN: &str = "0 0123456789012345678901234567890123456789";
+
+static CHANGING: [Row; 5] = [
+    (0, 1000, On(b'a', Put(Set, 0, "1")), "Stored"),
+    (0, 1000, On(b'a', Put(Set, 0, LONG)), "Stored"),
+    (0, 1000, On(b'a', Get), SHOWN),
+    (0, 1000, On(b'a', Put(Set, 0, "2")), "Stored"),
+    (0, 1000, On(b'a', Get), "0 2"),
+];
 
 // A longer value has its chunk in the other class: both classes are locked, and the old chunk is free again.
 #[test]
 fn a_value_changes_its_class(rt: HostRuntime) {
-    let long = "0123456789012345678901234567890123456789";
-    let shown = "0 0123456789012345678901234567890123456789";
-    let script = [
-        (1000, b'a', Ask::Store(Verb::Set, 0, "1"), "Stored"),
-        (1000, b'a', Ask::Store(Verb::Set, 0, long), "Stored"),
-        (1000, b'a', Ask::Get, shown),
-        (1000, b'a', Ask::Store(Verb::Set, 0, "2"), "Stored"),
-        (1000, b'a', Ask::Get, "0 2"),
-    ];
-    check_script(&rt, rt.alloc(), 1, &script);
+    check(&rt, rt.alloc(), 1, CHANGING.as_slice());
 }
+
+static EVICTING: [Row; 4] = [
+    (0, 1000, On(b'a', Put(Set, 0, "1")), "Stored"),
+    (0, 1000, On(b'b', Put(Set, 0, "9")), "Stored"),
+    (0, 1000, On(b'a', Get), "Miss"),
+    (0, 1000, On(b'b', Incr(1)), "NotFound"),
+];
+
+static REFUSING: [Row; 5] = [
+    (0, 1000, On(b'a', Put(Set, 0, "1")), "Stored"),
+    (0, 1000, On(b'a', Get), "0 1"),
+    (0, 1000, On(b'a', Get), "0 1"),
+    (0, 1000, On(b'b', Put(Set, 0, "2")), "NoRoom"),
+    (0, 1000, On(b'a', Get), "0 1"),
+];
 
 // Each class has one chunk: another key takes it; an item that was hit twice keeps it; and a number that grows may lose
 // its own item.
 #[test]
 fn a_full_class_evicts_or_refuses(rt: HostRuntime) {
-    let evicting = [
-        (1000, b'a', Ask::Store(Verb::Set, 0, "1"), "Stored"),
-        (1000, b'b', Ask::Store(Verb::Set, 0, "9"), "Stored"),
-        (1000, b'a', Ask::Get, "Miss"),
-        (1000, b'b', Ask::Incr(1), "NotFound"),
-    ];
-    check_script(&rt, rt.alloc(), 1, &evicting);
-    let refusing = [
-        (1000, b'a', Ask::Store(Verb::Set, 0, "1"), "Stored"),
-        (1000, b'a', Ask::Get, "0 1"),
-        (1000, b'a', Ask::Get, "0 1"),
-        (1000, b'b', Ask::Store(Verb::Set, 0, "2"), "NoRoom"),
-        (1000, b'a', Ask::Get, "0 1"),
-    ];
-    check_script(&rt, rt.alloc(), 1, &refusing);
+    check(&rt, rt.alloc(), 1, EVICTING.as_slice());
+    check(&rt, rt.alloc(), 1, REFUSING.as_slice());
 }
+
+static COMPARED: [Row; 6] = [
+    (0, 1000, On(b'a', Cas("0")), "NotFound"),
+    (0, 1000, On(b'a', Put(Set, 0, "1")), "Stored"),
+    (0, 1000, On(b'a', Get), "0 1"),
+    (0, 1000, On(b'a', Cas("2")), "Stored"),
+    (0, 1000, On(b'a', Cas("3")), "Exists"),
+    (0, 1000, On(b'a', Get), "0 2"),
+];
 
 // A cas stores where its number is the one that was shown last, and not where the item was changed since.
 #[test]
 fn a_cas_is_compared(rt: HostRuntime) {
-    let script = [
-        (1000, b'a', Ask::Cas("0"), "NotFound"),
-        (1000, b'a', Ask::Store(Verb::Set, 0, "1"), "Stored"),
-        (1000, b'a', Ask::Get, "0 1"),
-        (1000, b'a', Ask::Cas("2"), "Stored"),
-        (1000, b'a', Ask::Cas("3"), "Exists"),
-        (1000, b'a', Ask::Get, "0 2"),
-    ];
-    check_script(&rt, rt.alloc(), 9, &script);
+    check(&rt, rt.alloc(), 9, COMPARED.as_slice());
 }

@@ -1,101 +1,56 @@
 //! Threads that count on the same keys: no count is lost, and each thread's own numbers rise.
-ghost use Rattle.std.specs.Prelude.{◌≡◌, length};
-ghost use Rattle.mc_store_tests.specs.Opening.{AreParts};
-
-use super::asking::{ask, check_reply, get, incr, set};
-use super::opening::{Parts, opened, parts_for, two_classes};
+use super::asking::Ask::{Get, Incr, Store as Put};
+use super::asking::{Ask, command_of};
+use super::opening::{four_stripes, two_classes};
+use super::running::Act::{Juggle, On};
+use super::running::Row;
+use super::sharing::{Call, Task, Work, make_call, share};
 use mc_item::Reply;
-use mc_store::{Named, Pass, Store};
+use mc_item::Verb::Set;
+use mc_store::{Named, Store};
 use std::alloc::Global;
-use std::marker::Brand;
 use std::process::Abort;
-use std::random::RandomSource;
 use std::sync::Wait;
-use std::thread;
-use std::thread::Threads;
 
-// A number that a thread was answered, and the letter of its key.
-#[derive(Clone, Copy)]
-struct Number {
-    letter: u8,
-    number: u64,
-}
+// Each thread adds so often to each key.
+const TIMES: usize = 500;
 
-// The number that is answered. What is no number is 0.
-fn number_of(reply: &Reply) -> u64 {
-    match reply {
-        Reply::Number(number) => *number,
-        _ => 0,
-    }
-}
-
-// Adds one to the key of one letter, and notes the number.
-fn add_one<N: Named, R: Abort + Wait>(
+/// Adds one to each key, again and again.
+pub(super) fn count<N: Named, R: Abort + Wait>(
     rt: &R,
     alloc: Global,
     store: &Store<N>,
-    pass: &mut Pass<N>,
-    letter: u8,
-    counts: &mut Vec<Number>,
-) {
-    let reply = ask(rt, alloc, store, pass, incr(rt, alloc, letter, 1), 1000);
-    let number = number_of(&reply);
-    counts
-        .push(Number { letter, number })
-        .ok()
-        .expect(rt, "room for a number");
-}
-
-// Adds one to each key, 500 times: the numbers, as they were answered.
-fn count<N: Named, R: Abort + Wait>(
-    rt: &R,
-    alloc: Global,
-    store: &Store<N>,
-    pass: Pass<N>,
+    work: &mut Work<N>,
     letters: &[u8],
-) -> Vec<Number> {
-    let mut pass = pass;
-    let mut counts = Vec::new(alloc);
-    for _ in 0..500 {
+) {
+    for _ in 0..TIMES {
         for letter in letters {
-            add_one(rt, alloc, store, &mut pass, *letter, &mut counts);
+            let command = command_of(rt, alloc, *letter, Ask::Incr(1), 0);
+            make_call(rt, alloc, store, work, command, 1000);
         }
     }
-    counts
 }
 
-// Sets each key to four zeros.
-fn set_zeros<N: Named, R: Abort + Wait>(
-    rt: &R,
-    alloc: Global,
-    store: &Store<N>,
-    pass: &mut Pass<N>,
-    letters: &[u8],
-) {
-    for letter in letters {
-        ask(
-            rt,
-            alloc,
-            store,
-            pass,
-            set(rt, alloc, *letter, b"0000"),
-            1000,
-        );
+// The number that a call on the key of one letter was answered. What is no number is 0.
+fn number_of(call: &Call, letter: u8) -> Option<u64> {
+    if call.command.key().bytes() != [letter].as_slice() {
+        return None;
+    }
+    match call.reply {
+        Reply::Number(number) => Some(number),
+        _ => Some(0),
     }
 }
 
-// Ends the test where a key's value isn't 2000.
-fn check_sums<N: Named, R: Abort + Wait>(
-    rt: &R,
-    alloc: Global,
-    store: &Store<N>,
-    pass: &mut Pass<N>,
-    letters: &[u8],
-) {
-    for letter in letters {
-        let reply = ask(rt, alloc, store, pass, get(rt, alloc, *letter), 1000);
-        check_reply(rt, alloc, &reply, "0 2000");
+// The numbers of one key.
+fn numbers_of<R: Abort>(rt: &R, alloc: Global, calls: &Vec<Call>, letter: u8) -> Vec<u64> {
+    let mut numbers = Vec::new(alloc);
+    for call in calls {
+        if let Some(number) = number_of(call, letter) {
+            numbers.push(number).ok().expect(rt, "room for a number");
+        }
     }
+    numbers
 }
 
 // Whether each number is larger than the one before.
@@ -110,95 +65,131 @@ fn is_rising(numbers: &[u64]) -> bool {
     true
 }
 
-// The numbers of one key.
-fn numbers_of<R: Abort>(rt: &R, alloc: Global, counts: &Vec<Number>, letter: u8) -> Vec<u64> {
-    let mut numbers = Vec::new(alloc);
-    for count in counts {
-        if count.letter == letter {
-            numbers
-                .push(count.number)
-                .ok()
-                .expect(rt, "room for a number");
-        }
-    }
-    numbers
-}
-
 // Adds a thread's numbers of a key to all of them, and ends the test where they don't rise.
-fn check_rise<R: Abort>(
-    rt: &R,
-    alloc: Global,
-    counts: &Vec<Number>,
-    letter: u8,
-    all: &mut Vec<u64>,
-) {
-    let numbers = numbers_of(rt, alloc, counts, letter);
-    assert_eq!(rt; numbers.len(), 500);
+fn check_rise<R: Abort>(rt: &R, numbers: &Vec<u64>, all: &mut Vec<u64>) {
+    assert_eq!(rt; numbers.len(), TIMES);
     assert!(rt; is_rising(numbers.as_slice()));
     all.extend_from_slice(numbers.as_slice())
         .expect(rt, "room for all");
 }
 
-// Ends the test where the numbers aren't those from 1 to 2000, each once.
-fn check_all<R: Abort>(rt: &R, all: &[u64]) {
-    assert_eq!(rt; all.len(), 2000);
+// Whether the numbers are those from 1, each once.
+fn are_all(numbers: &[u64]) -> bool {
     let mut wanted = 0u64;
-    for number in all {
+    for number in numbers {
         wanted = wanted.wrapping_add(1);
-        assert_eq!(rt; *number, wanted);
+        if *number != wanted {
+            return false;
+        }
     }
+    true
 }
 
-// Ends the test where a thread's numbers of a key don't rise, or where the threads' numbers of it aren't those from 1 to
-// 2000, each once.
-fn check_counts<R: Abort>(rt: &R, alloc: Global, threads: &Vec<Vec<Number>>, letter: u8) {
-    let mut all = Vec::new(alloc);
-    for counts in threads {
-        check_rise(rt, alloc, counts, letter, &mut all);
-    }
+// Ends the test where so many threads' numbers aren't those from 1 to their number, each once.
+fn check_all<R: Abort>(rt: &R, all: &mut Vec<u64>, threads: usize) {
     all.sort().expect(rt, "room to sort");
-    check_all(rt, all.as_slice());
+    assert_eq!(rt; all.len(), threads.wrapping_mul(TIMES));
+    assert!(rt; are_all(all.as_slice()));
 }
 
-// Sets each key, lets four threads count, and ends the test where that doesn't add up.
-fn count_on<N: Named + Send + Sync, R: Threads + Abort + Wait + Sync>(
-    rt: &R,
-    alloc: Global,
-    parts: Parts,
-    letters: &[u8],
-)
-    requires named { (parts.board ≡ N.board) × (parts.config ≡ N.config) }
-    requires fit { AreParts N.board N.config parts.owners.items parts.seen }
-{
-    let (store, mut passes) = opened::<N, R>(rt, alloc, parts);
-    let mut pass = passes.pop().expect(rt, "a pass");
-    set_zeros(rt, alloc, &store, &mut pass, letters);
-    let threads = thread::map_vec(rt, passes, &|own| count(rt, alloc, &store, own, letters)).expect(
-        rt,
-        "room for threads",
-    );
-    check_sums(rt, alloc, &store, &mut pass, letters);
-    assert_eq!(rt; threads.len(), 4);
-    for letter in letters {
-        check_counts(rt, alloc, &threads, *letter);
+// Ends the test where a thread's numbers of a key don't rise, or where the threads' numbers of it aren't those from 1 on,
+// each once.
+fn check_key<R: Abort>(rt: &R, alloc: Global, threads: &Vec<Vec<Call>>, letter: u8) {
+    let mut all = Vec::new(alloc);
+    for calls in threads {
+        let numbers = numbers_of(rt, alloc, calls, letter);
+        check_rise(rt, &numbers, &mut all);
     }
+    check_all(rt, &mut all, threads.len());
 }
 
-// Ends the test where what four threads count on a new store of so many stripes doesn't add up.
-fn run<R: Threads + Abort + Wait + RandomSource + Sync>(
+/// The same of each key.
+pub(super) fn check_counts<R: Abort>(
     rt: &R,
     alloc: Global,
-    stripes: u32,
+    threads: &Vec<Vec<Call>>,
     letters: &[u8],
 ) {
-    let config = two_classes(rt, alloc, stripes, [8, 8], 5);
-    let parts = parts_for(rt, alloc, config);
-    count_on::<Brand, R>(rt, alloc, parts, letters);
+    for letter in letters {
+        check_key(rt, alloc, threads, *letter);
+    }
 }
 
-// Four threads add 500 times one to a key, and then to each of four keys, one of each stripe.
+static ZERO: [Row; 1] = [(0, 1000, On(b'a', Put(Set, 0, "0000")), "Stored")];
+
+static SUM: [Row; 1] = [(0, 1000, On(b'a', Get), "0 2000")];
+
+static ZEROS: [Row; 4] = [
+    (0, 1000, On(b'a', Put(Set, 0, "0000")), "Stored"),
+    (0, 1000, On(b'b', Put(Set, 0, "0000")), "Stored"),
+    (0, 1000, On(b'c', Put(Set, 0, "0000")), "Stored"),
+    (0, 1000, On(b'd', Put(Set, 0, "0000")), "Stored"),
+];
+
+static SUMS: [Row; 4] = [
+    (0, 1000, On(b'a', Get), "0 2000"),
+    (0, 1000, On(b'b', Get), "0 2000"),
+    (0, 1000, On(b'c', Get), "0 2000"),
+    (0, 1000, On(b'd', Get), "0 2000"),
+];
+
+static PADDED: [Row; 1] = [(0, 1000, On(b'n', Put(Set, 0, "0   ")), "Stored")];
+
+static PADDED_SUM: [Row; 1] = [(0, 1000, On(b'n', Get), "0 2000")];
+
+// Four threads add 500 times one to a key, then to each of four keys, one of each stripe, and then to a number that is padded
+// to four bytes.
 #[test]
 fn counters_of_four_threads_add_up(rt: HostRuntime) {
-    run(&rt, rt.alloc(), 1, b"a");
-    run(&rt, rt.alloc(), 4, b"abcd");
+    let alloc = rt.alloc();
+    let one = two_classes(&rt, alloc, 1, [8, 8], 5);
+    share(
+        &rt,
+        alloc,
+        one,
+        Task::Count(b"a"),
+        ZERO.as_slice(),
+        SUM.as_slice(),
+    );
+    let four = two_classes(&rt, alloc, 4, [8, 8], 5);
+    share(
+        &rt,
+        alloc,
+        four,
+        Task::Count(b"abcd"),
+        ZEROS.as_slice(),
+        SUMS.as_slice(),
+    );
+    let padded = two_classes(&rt, alloc, 1, [8, 8], 5);
+    share(
+        &rt,
+        alloc,
+        padded,
+        Task::Count(b"n"),
+        PADDED.as_slice(),
+        PADDED_SUM.as_slice(),
+    );
+}
+
+static FLAGGED: [Row; 1] = [(0, 1000, On(b'n', Put(Set, 7, "0")), "Stored")];
+
+// HOT may hold a fifth of its class's bytes, so that its only entry, which was never read, goes to COLD.
+static ONE_MORE: [Row; 2] = [
+    (0, 1000, Juggle(1), "reclaimed 0, moved 1"),
+    (0, 1000, On(b'n', Incr(1)), "Number(1001)"),
+];
+
+// No count is lost: 500 by each of two threads, and one more, are 1001.
+#[test]
+fn counters_of_two_threads_add_up(rt: HostRuntime) {
+    let alloc = rt.alloc();
+    let config = four_stripes(&rt, alloc);
+    share(
+        &rt,
+        alloc,
+        config,
+        Task::Count(b"n"),
+        FLAGGED.as_slice(),
+        ONE_MORE.as_slice(),
+    );
 }

@@ -1,8 +1,8 @@
 //! Each command on a store of one class without a free chunk, by the rules of commands and of making room. Room is made
 //! first: COLD's tail is taken, or else HOT's tail is forced to COLD, so of entries in HOT the oldest goes. TEMP and WARM
 //! are never taken from. Then the command is answered on what is left.
+use super::asking::Ask::{Decr, Delete, Get, Incr, Store, Touch};
 use super::full_store::{Before, IN_TEMP, Mode, PLAIN, Row, check_rows};
-use super::running::Ask::{Decr, Delete, Get, Incr, Store, Touch};
 use mc_item::Verb::{Add, Cas, Replace, Set};
 
 // A value of which no class of 96 bytes has the cost, under a key of one letter.

@@ -1,7 +1,7 @@
 //! Storage commands across two classes of which one or both are full, and on the last of 63 classes. Room is made in
 //! the new version's class alone, so an own item in another class isn't taken; its entry goes when the new one stands.
+use super::asking::Ask::{Get, Incr, Store};
 use super::full_store::{Before, IN_TEMP, PLAIN, Row, check_rows};
-use super::running::Ask::{Get, Incr, Store};
 use mc_item::Verb::{Add, Cas, Replace, Set};
 
 // Chunks of 66 and of 120 bytes, one each: a value of one letter is of class 1, a longer one of class 2. The own item has the

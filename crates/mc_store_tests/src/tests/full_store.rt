@@ -1,14 +1,10 @@
 //! Stores with full classes, and what a command answers and leaves there.
-ghost use Rattle.std.specs.Prelude.{◌≡◌, ◌≤◌, length};
-ghost use Rattle.mc_store_tests.specs.Opening.{AreParts};
-
-use super::asking::{ask, check_reply, get, store};
-use super::opening::{Parts, opened, parts_for};
-use super::running::{Ask, command_of};
-use mc_item::{ClassNo, Command, Config, Numbers, Reply, Verb};
-use mc_store::{Final, Named, Pass, Store};
+use super::asking::Ask;
+use super::ends::{End, Ended};
+use super::running::Act::{On, Value};
+use super::running::{self, check_script};
+use mc_item::{Config, Numbers};
 use std::alloc::Global;
-use std::marker::Brand;
 use std::process::Abort;
 use std::random::RandomSource;
 use std::sync::Wait;
@@ -81,51 +77,37 @@ fn exptime_of(mode: Mode, letter: u8) -> i64 {
     }
 }
 
-// Sets what is there before the command, and hits the own item.
-fn fill<N: Named, R: Abort + Wait>(
-    rt: &R,
-    alloc: Global,
-    shared: &Store<N>,
-    pass: &mut Pass<N>,
-    before: &Before,
-    mode: Mode,
-) {
+// The moment of the command.
+fn moment_of(mode: Mode) -> u32 {
+    if mode.dead { 1010 } else { 1000 }
+}
+
+// The rows of a script, as far as they are written.
+#[derive(Drop)]
+struct Script {
+    rows: Vec<running::Row>,
+}
+
+fn add<R: Abort>(rt: &R, script: &mut Script, row: running::Row) {
+    script.rows.push(row).ok().expect(rt, "room for a row");
+}
+
+// Sets what is there before the command, and hits the own item, whose value is the first one's.
+fn fill<R: Abort>(rt: &R, script: &mut Script, before: &Before, mode: Mode) {
     for (letter, text) in before.sets {
-        let exptime = exptime_of(mode, *letter);
-        let command = store(rt, alloc, Verb::Set, *letter, 0, exptime, text.as_bytes());
-        let reply = ask(rt, alloc, shared, pass, command, 1000);
-        check_reply(rt, alloc, &reply, "Stored");
+        let put = Ask::Expiring(exptime_of(mode, *letter), *text);
+        add(rt, script, (0, 1000, On(*letter, put), "Stored"));
     }
     for _hit in 0..mode.hits {
-        ask(rt, alloc, shared, pass, get(rt, alloc, b'o'), 1000);
+        add(rt, script, (0, 1000, Value(b'o'), "5"));
     }
 }
 
-// Ends the test where a get isn't answered so: with a value, or `-` for none.
-fn check_value<R: Abort>(rt: &R, reply: &Reply, wanted: &str) {
-    match reply {
-        Reply::Value { value, .. } => assert_eq!(rt; value.bytes(), wanted.as_bytes()),
-        _ => assert_eq!(rt; wanted, "-"),
-    }
-}
-
-// Ends the test where the command of a row isn't answered as it says, or leaves other items.
-fn check_answers<N: Named, R: Abort + Wait>(
-    rt: &R,
-    alloc: Global,
-    shared: &Store<N>,
-    pass: &mut Pass<N>,
-    other: u8,
-    moment: u32,
-    row: &Row,
-) {
-    let command = command_of(rt, alloc, b'o', row.0, 0);
-    let reply = ask(rt, alloc, shared, pass, command, moment);
-    check_reply(rt, alloc, &reply, row.1);
-    let own = ask(rt, alloc, shared, pass, get(rt, alloc, b'o'), moment);
-    check_value(rt, &own, row.2);
-    let left = ask(rt, alloc, shared, pass, get(rt, alloc, other), moment);
-    check_value(rt, &left, row.3);
+// The command of a row, and what the own key and the other one have then.
+fn look<R: Abort>(rt: &R, script: &mut Script, moment: u32, other: u8, row: &Row) {
+    add(rt, script, (0, moment, On(b'o', row.0), row.1));
+    add(rt, script, (0, moment, Value(b'o'), row.2));
+    add(rt, script, (0, moment, Value(other), row.3));
 }
 
 // How many entries the class at a place has: the last ones, behind these others, those of a list, and the others none.
@@ -136,38 +118,17 @@ fn wanted_at(place: usize, others: usize, last: &[u64]) -> u64 {
     }
 }
 
-// Ends the test where one of so many classes has other than so many entries.
-fn check_entries<R: Abort>(rt: &R, ledger: &Final, classes: usize, last: &[u64])
-    requires { (length ledger.now.classes ≡ classes) × (classes ≤ 63) }
-{
+// How many entries each of so many classes is to have.
+fn entries_of<R: Abort>(rt: &R, alloc: Global, classes: usize, last: &[u64]) -> Vec<Ended> {
+    let mut ends = Vec::new(alloc);
     let others = classes.saturating_sub(last.len());
+    let mut class = 0u32;
     for place in 0..classes {
-        let class = ledger.class(ClassNo(place as u32 + 1));
-        assert_eq!(rt; class.count(), wanted_at(place, others, last));
+        class = class.wrapping_add(1);
+        let end = (End::Entries(class), wanted_at(place, others, last));
+        ends.push(end).ok().expect(rt, "room for an end");
     }
-}
-
-// Ends the test where a row isn't so of a new store of these parts and so many classes.
-fn check_store<N: Named, R: Abort + Wait>(
-    rt: &R,
-    alloc: Global,
-    parts: Parts,
-    classes: usize,
-    before: &Before,
-    mode: Mode,
-    row: &Row,
-)
-    requires named { (parts.board ≡ N.board) × (parts.config ≡ N.config) }
-    requires fit { AreParts N.board N.config parts.owners.items parts.seen }
-    requires classes { (length N.config.sizes ≡ classes) × (classes ≤ 63) }
-{
-    let (shared, mut passes) = opened::<N, R>(rt, alloc, parts);
-    let mut pass = passes.pop().expect(rt, "a pass");
-    fill(rt, alloc, &shared, &mut pass, before, mode);
-    let moment = if mode.dead { 1010 } else { 1000 };
-    check_answers(rt, alloc, &shared, &mut pass, before.other, moment, row);
-    let ledger = shared.close(rt);
-    check_entries(rt, &ledger, classes, row.4);
+    ends
 }
 
 // Ends the test where a row isn't so of such a store.
@@ -178,11 +139,14 @@ fn check_row<R: Abort + Wait + RandomSource>(
     mode: Mode,
     row: &Row,
 ) {
+    let mut script = Script {
+        rows: Vec::new(alloc),
+    };
+    fill(rt, &mut script, before, mode);
+    look(rt, &mut script, moment_of(mode), before.other, row);
+    let ends = entries_of(rt, alloc, before.sizes.len(), row.4);
     let config = config_of(rt, alloc, before, mode.temp);
-    let classes = config.sizes.as_slice().len();
-    assert!(rt; classes <= 63);
-    let parts = parts_for(rt, alloc, config);
-    check_store::<Brand, R>(rt, alloc, parts, classes, before, mode, row);
+    check_script(rt, alloc, config, script.rows.as_slice(), ends.as_slice());
 }
 
 /// Ends the test where one of the rows isn't so of such a store.

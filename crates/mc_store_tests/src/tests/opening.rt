@@ -8,7 +8,7 @@ ghost use Rattle.mc_store_tests.specs.Opening.{AreParts};
 
 use mc_board::{Board, Owner, Seen};
 use mc_item::{Config, ConfigFault, NoMemory, Numbers};
-use mc_store::{Named, Pass, Store};
+use mc_store::{Final, Named, Pass, Store};
 use std::alloc::Global;
 use std::hash::RandomState;
 use std::process::Abort;
@@ -103,11 +103,48 @@ pub(super) fn opened<N: Named, R: Abort>(
     Store::<N>::open(alloc, config, board, owners, seen, seed).expect(rt, "a store")
 }
 
-/// The parts of a store of four stripes, three callers and two classes: two chunks of 96 bytes, and three of 120.
-pub(super) fn four_stripes<R: Abort + RandomSource>(rt: &R, alloc: Global) -> Parts
-    ensures shape { (result.config.stripes ≡ 4) × (length result.config.sizes ≡ 2) × (result.config.callers ≡ 3) }
-    ensures fit { AreParts result.board result.config result.owners.items result.seen }
+/// How many stripes and classes a store has.
+#[derive(Clone, Copy)]
+pub(super) struct Shape {
+    pub(super) stripes: u32,
+    pub(super) classes: usize,
+}
+
+/// How many stripes and classes a store of a configuration has.
+pub(super) fn shape_of(config: &Config) -> Shape
+    ensures { (result.stripes ≡ config.now.stripes) × (result.classes ≡ length config.now.sizes) }
 {
-    let config = two_classes(rt, alloc, 4, [2, 3], 3);
-    parts_for(rt, alloc, config)
+    Shape {
+        stripes: config.stripes,
+        classes: config.sizes.as_slice().len(),
+    }
+}
+
+/// A store of four stripes, three callers and two classes: two chunks of 96 bytes, and three of 120.
+pub(super) fn four_stripes<R: Abort>(rt: &R, alloc: Global) -> Config
+    ensures shape { (result.stripes ≡ 4) × (length result.sizes ≡ 2) × (result.callers ≡ 3) }
+{
+    two_classes(rt, alloc, 4, [2, 3], 3)
+}
+
+/// Takes the last pass out, alone.
+pub(super) fn last_of<N: Named, R: Abort>(
+    rt: &R,
+    alloc: Global,
+    passes: &mut Vec<Pass<N>>,
+) -> Vec<Pass<N>> {
+    let pass = passes.pop().expect(rt, "a pass");
+    let mut last = Vec::new(alloc);
+    last.push(pass).ok().expect(rt, "room for a pass");
+    last
+}
+
+/// Compares all passes with the closed store.
+pub(super) fn compare_all<N: Named>(ledger: &mut Final, passes: &mut Vec<Pass<N>>)
+    requires { ledger.old.board ≡ N.board.table }
+    ensures { ledger.new ≡ ledger.old }
+{
+    for pass in passes.as_mut_slice() {
+        ledger.compare(pass);
+    }
 }

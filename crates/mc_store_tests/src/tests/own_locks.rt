@@ -3,10 +3,12 @@
 ghost use Rattle.std.specs.Prelude.{◌≡◌, length};
 ghost use Rattle.mc_store_tests.specs.Opening.{AreParts};
 
-use super::asking::{ask, check_reply, get, incr, set};
-use super::is_set_in_time;
-use super::opening::{Parts, four_stripes, opened};
+use super::asking::Ask::{Get, Incr, Store as Put};
+use super::opening::{Parts, Shape, four_stripes, last_of, opened, parts_for};
+use super::running::Act::{On, Visit};
+use super::running::{Row, check_rows};
 use mc_item::StripeNo;
+use mc_item::Verb::Set;
 use mc_store::{Named, Pass, Store};
 use std::alloc::Global;
 use std::marker::Brand;
@@ -16,12 +18,26 @@ use std::sync::atomic::{AtomicBool, Ordering};
 use std::thread;
 use std::thread::Threads;
 
+// Whoever waits for another thread yields so many turns at most.
+const TURNS: u32 = 10_000_000;
+
 // What the threads tell each other: that stripe 0 is held, and which stripe's commands were answered.
 #[derive(Drop)]
 struct Signs {
     held: AtomicBool,
     other: AtomicBool,
     same: AtomicBool,
+}
+
+// Whether the flag is set before the turns run out.
+fn is_set_in_time(flag: &AtomicBool) -> bool {
+    for _turn in 0..TURNS {
+        if flag.load(Ordering::SeqCst) {
+            return true;
+        }
+        thread::yield_now();
+    }
+    false
 }
 
 // Holds stripe 0 until another stripe's commands were answered: whether they were in time, and whether one on stripe 0 was
@@ -36,36 +52,37 @@ fn hold<N: Named>(rt: &impl Wait, store: &Store<N>, signs: &Signs) -> (bool, boo
     })
 }
 
-// Sets `b` to 1, adds 5 to it and reads it while stripe 0 is held, and then says so.
-fn ask_another<N: Named, R: Abort + Wait>(
-    rt: &R,
-    alloc: Global,
-    store: &Store<N>,
-    pass: &mut Pass<N>,
-    signs: &Signs,
-) {
-    assert!(rt; is_set_in_time(&signs.held));
-    let stored = ask(rt, alloc, store, pass, set(rt, alloc, b'b', b"1"), 1000);
-    check_reply(rt, alloc, &stored, "Stored");
-    let added = ask(rt, alloc, store, pass, incr(rt, alloc, b'b', 5), 1000);
-    check_reply(rt, alloc, &added, "Number(6)");
-    let shown = ask(rt, alloc, store, pass, get(rt, alloc, b'b'), 1000);
-    check_reply(rt, alloc, &shown, "0 6");
-    signs.other.store(true, Ordering::SeqCst);
-}
+// What is asked of other stripes while stripe 0 is held; a further one is visited.
+static OTHER: [Row; 4] = [
+    (0, 1000, On(b'b', Put(Set, 0, "1")), "Stored"),
+    (0, 1000, On(b'b', Incr(5)), "Number(6)"),
+    (0, 1000, On(b'b', Get), "0 6"),
+    (0, 1000, Visit(3), "0"),
+];
 
-// Asks for `a` while stripe 0 is held, and says so once it is answered.
-fn ask_the_same<N: Named, R: Abort + Wait>(
+// What is asked of the stripe that is held.
+static SAME: [Row; 1] = [(0, 1000, On(b'a', Get), "Miss")];
+
+// Makes rows while stripe 0 is held, and says so once they are answered.
+fn ask_while_held<N: Named, R: Abort + Wait>(
     rt: &R,
     alloc: Global,
     store: &Store<N>,
-    pass: &mut Pass<N>,
-    signs: &Signs,
-) {
-    assert!(rt; is_set_in_time(&signs.held));
-    let reply = ask(rt, alloc, store, pass, get(rt, alloc, b'a'), 1000);
-    signs.same.store(true, Ordering::SeqCst);
-    check_reply(rt, alloc, &reply, "Miss");
+    passes: &mut Vec<Pass<N>>,
+    rows: &[Row],
+    held: &AtomicBool,
+    answered: &AtomicBool,
+)
+    requires four { N.config.stripes ≡ 4 }
+    requires two { length N.config.sizes ≡ 2 }
+{
+    assert!(rt; is_set_in_time(held));
+    let shape = Shape {
+        stripes: 4,
+        classes: 2,
+    };
+    check_rows(rt, alloc, store, passes, shape, rows);
+    answered.store(true, Ordering::SeqCst);
 }
 
 // Two threads ask, one for `b` and one for `a`.
@@ -73,14 +90,20 @@ fn ask_both<N: Named + Send + Sync, R: Threads + Abort + Wait + Sync>(
     rt: &R,
     alloc: Global,
     store: &Store<N>,
-    first: &mut Pass<N>,
-    second: &mut Pass<N>,
+    first: &mut Vec<Pass<N>>,
+    second: &mut Vec<Pass<N>>,
     signs: &Signs,
-) {
+)
+    requires four { N.config.stripes ≡ 4 }
+    requires two { length N.config.sizes ≡ 2 }
+{
+    let held = &signs.held;
+    let other = OTHER.as_slice();
+    let same = SAME.as_slice();
     thread::join(
         rt,
-        || ask_another(rt, alloc, store, first, signs),
-        || ask_the_same(rt, alloc, store, second, signs),
+        || ask_while_held(rt, alloc, store, first, other, held, &signs.other),
+        || ask_while_held(rt, alloc, store, second, same, held, &signs.same),
     );
 }
 
@@ -90,10 +113,11 @@ fn asked_under_a_lock<N: Named + Send + Sync, R: Threads + Abort + Wait + Sync>(
     rt: &R,
     alloc: Global,
     store: &Store<N>,
-    first: &mut Pass<N>,
-    second: &mut Pass<N>,
+    first: &mut Vec<Pass<N>>,
+    second: &mut Vec<Pass<N>>,
 ) -> (bool, bool)
-    requires { N.config.stripes ≡ 4 }
+    requires four { N.config.stripes ≡ 4 }
+    requires two { length N.config.sizes ≡ 2 }
 {
     let signs = Signs {
         held: AtomicBool::new(false),
@@ -103,12 +127,20 @@ fn asked_under_a_lock<N: Named + Send + Sync, R: Threads + Abort + Wait + Sync>(
     let (held, ()) = thread::join(
         rt,
         || hold(rt, store, &signs),
-        || ask_both(rt, alloc, store, first, second, &signs),
+        ||
+            requires four { N.config.stripes ≡ 4 }
+            requires two { length N.config.sizes ≡ 2 }
+        { ask_both(rt, alloc, store, first, second, &signs) },
     );
     held
 }
 
-// Ends the test where commands on another stripe of a new store aren't answered while one is held, or those on it are.
+// Ends the test where commands on another stripe weren't answered while one was held, or those on it were.
+fn check_held<R: Abort>(rt: &R, held: (bool, bool)) {
+    assert_eq!(rt; held, (true, false));
+}
+
+// The same of a new store.
 fn ask_under_a_lock<N: Named + Send + Sync, R: Threads + Abort + Wait + Sync>(
     rt: &R,
     alloc: Global,
@@ -117,19 +149,19 @@ fn ask_under_a_lock<N: Named + Send + Sync, R: Threads + Abort + Wait + Sync>(
     requires named { (parts.board ≡ N.board) × (parts.config ≡ N.config) }
     requires fit { AreParts N.board N.config parts.owners.items parts.seen }
     requires four { N.config.stripes ≡ 4 }
+    requires two { length N.config.sizes ≡ 2 }
 {
     let (store, mut passes) = opened::<N, R>(rt, alloc, parts);
-    let mut first = passes.pop().expect(rt, "a pass");
-    let mut second = passes.pop().expect(rt, "a pass");
-    let (other, same) = asked_under_a_lock(rt, alloc, &store, &mut first, &mut second);
-    assert!(rt; other);
-    assert!(rt; !same);
+    let mut own = last_of(rt, alloc, &mut passes);
+    let held = asked_under_a_lock(rt, alloc, &store, &mut own, &mut passes);
+    check_held(rt, held);
 }
 
-// While one stripe is held commands on another are answered, and those on it wait.
+// While one stripe is held commands on another are answered and a third is visited, and commands on it wait.
 #[test]
 fn another_stripe_answers_while_one_is_held(rt: HostRuntime) {
     let alloc = rt.alloc();
-    let parts = four_stripes(&rt, alloc);
+    let config = four_stripes(&rt, alloc);
+    let parts = parts_for(&rt, alloc, config);
     ask_under_a_lock::<Brand, HostRuntime>(&rt, alloc, parts);
 }

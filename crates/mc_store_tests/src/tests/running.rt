@@ -1,132 +1,301 @@
-//! Scripts of commands on shared stores.
+//! Scripts on shared stores: rows of what callers ask and look at, one after another.
 ghost use Rattle.std.specs.Prelude.{◌≡◌, ◌≤◌, ◌<◌, length};
 ghost use Rattle.mc_store_tests.specs.Opening.{AreParts};
 
-use super::asking::{ask, check_reply, key, store};
-use super::opening::{Parts, opened, parts_for, two_classes};
-use mc_item::{Command, Reply, Verb};
-use mc_store::{Named, Pass, Store};
+use super::asking::{self, Ask, command_of, told, told_value};
+use super::ends::{Ended, check_ends};
+use super::opening::{Parts, Shape, compare_all, opened, parts_for, shape_of};
+use mc_item::{ClassNo, Config, Reply, StripeNo, Who};
+use mc_store::{LockNo, Named, Pass, Store};
 use std::alloc::Global;
 use std::marker::Brand;
 use std::process::Abort;
 use std::random::RandomSource;
 use std::sync::Wait;
 
-/// What is asked for a key.
+/// What a row does.
 #[derive(Clone, Copy)]
-pub(super) enum Ask {
-    Get,
-    /// A storage command of these flags and this value, which doesn't expire.
-    Store(Verb, u32, &'static str),
-    /// A cas to this value, with the number that was shown last, or 0.
-    Cas(&'static str),
-    Incr(u64),
-    Decr(u64),
-    Touch(i64),
-    Delete,
-    /// A set of a block that was skipped.
-    Huge,
+pub(super) enum Act {
+    /// Asks for the key of one letter, and tells the reply.
+    On(u8, Ask),
+    /// Tells the value that the key of one letter has, or `-`.
+    Value(u8),
+    /// Juggles a class, and tells what became of its entries.
+    Juggle(u32),
+    /// Crawls a class, and tells what became of its entries.
+    Crawl(u32),
+    /// Tells how many events the caller's pass counts of a stripe.
+    OfStripe(u32),
+    /// Tells how many events the caller's pass counts of a class.
+    OfClass(u32),
+    /// Tells how many events a stripe has.
+    Visit(u32),
+    /// Tells whose the caller's next turn is, and its number.
+    Turn,
+    /// Tells how many callers there are.
+    Callers,
 }
 
-/// A row of a script: a moment, the letter of a key, what is asked for it, and what that is answered.
-pub(super) type Row = (u32, u8, Ask, &'static str);
+/// A row of a script: a caller, a moment, what is done, and what that tells.
+pub(super) type Row = (usize, u32, Act, &'static str);
 
-/// What is asked for the key of one letter, where this cas number was shown last.
-pub(super) fn command_of<R: Abort>(
+// A number as a text.
+fn digits<R: Abort>(rt: &R, alloc: Global, number: u64) -> String {
+    number.to_string(alloc).expect(rt, "digits")
+}
+
+// A caller and a turn as a text.
+fn turn_of<R: Abort>(rt: &R, alloc: Global, who: Who) -> String {
+    format!(in alloc; "{} {}", who.caller, who.turn).expect(rt, "a text")
+}
+
+// What a command is answered; the cas number that it shows is noted.
+fn reply_to<N: Named, R: Abort + Wait>(
     rt: &R,
     alloc: Global,
+    store: &Store<N>,
+    pass: &mut Pass<N>,
+    moment: u32,
     letter: u8,
-    ask: Ask,
-    shown: u64,
-) -> Command {
-    match ask {
-        Ask::Get => Command::Get(key(rt, alloc, letter)),
-        Ask::Store(verb, flags, text) => {
-            store(rt, alloc, verb, letter, flags, 0, text.as_bytes())
-        }
-        Ask::Cas(text) => store(rt, alloc, Verb::Cas(shown), letter, 0, 0, text.as_bytes()),
-        Ask::Incr(delta) => Command::Incr(key(rt, alloc, letter), delta),
-        Ask::Decr(delta) => Command::Decr(key(rt, alloc, letter), delta),
-        Ask::Touch(exptime) => Command::Touch(key(rt, alloc, letter), exptime),
-        Ask::Delete => Command::Delete(key(rt, alloc, letter)),
-        Ask::Huge => Command::Huge {
-            verb: Verb::Set,
-            key: key(rt, alloc, letter),
-        },
+    what: Ask,
+    shown: &mut u64,
+) -> Reply {
+    let command = command_of(rt, alloc, letter, what, *shown);
+    let reply = asking::answer(rt, alloc, store, pass, command, moment);
+    if let Reply::Value { cas, .. } = &reply {
+        *shown = *cas;
+    }
+    reply
+}
+
+// What is told of a command.
+fn replied<N: Named, R: Abort + Wait>(
+    rt: &R,
+    alloc: Global,
+    store: &Store<N>,
+    pass: &mut Pass<N>,
+    moment: u32,
+    letter: u8,
+    what: Ask,
+    shown: &mut u64,
+) -> String {
+    let reply = reply_to(rt, alloc, store, pass, moment, letter, what, shown);
+    told(rt, alloc, &reply)
+}
+
+// What is told of a key's value.
+fn value_of<N: Named, R: Abort + Wait>(
+    rt: &R,
+    alloc: Global,
+    store: &Store<N>,
+    pass: &mut Pass<N>,
+    moment: u32,
+    letter: u8,
+) -> String {
+    let command = command_of(rt, alloc, letter, Ask::Get, 0);
+    let reply = asking::answer(rt, alloc, store, pass, command, moment);
+    told_value(rt, alloc, &reply)
+}
+
+// What is told of a class that is juggled.
+fn juggled<N: Named, R: Abort + Wait>(
+    rt: &R,
+    alloc: Global,
+    store: &Store<N>,
+    pass: &mut Pass<N>,
+    moment: u32,
+    shape: Shape,
+    class: u32,
+) -> String
+    requires { length N.config.sizes ≡ shape.classes }
+{
+    assert!(rt; class > 0 && class as usize <= shape.classes);
+    let moves = asking::juggle(rt, alloc, store, pass, ClassNo(class), moment);
+    format!(in alloc; "reclaimed {}, moved {}", moves.reclaimed, moves.moved).expect(rt, "a text")
+}
+
+// What is told of a class that is crawled.
+fn crawled<N: Named, R: Abort + Wait>(
+    rt: &R,
+    alloc: Global,
+    store: &Store<N>,
+    pass: &mut Pass<N>,
+    moment: u32,
+    shape: Shape,
+    class: u32,
+) -> String
+    requires { length N.config.sizes ≡ shape.classes }
+{
+    assert!(rt; class > 0 && class as usize <= shape.classes);
+    let found = asking::crawl(rt, alloc, store, pass, ClassNo(class), moment);
+    format!(in alloc;
+        "seen {}, reclaimed {}, no expiry {}, passed {}",
+        found.seen, found.reclaimed, found.no_expiry, found.passed
+    )
+    .expect(rt, "a text")
+}
+
+// How many events a pass counts of a stripe.
+fn of_stripe<N: Named, R: Abort>(
+    rt: &R,
+    store: &Store<N>,
+    pass: &mut Pass<N>,
+    shape: Shape,
+    stripe: u32,
+) -> u64
+    requires { N.config.stripes ≡ shape.stripes }
+{
+    assert!(rt; stripe < shape.stripes);
+    store.events(pass, LockNo::Stripe(StripeNo(stripe)))
+}
+
+// How many events a pass counts of a class.
+fn of_class<N: Named, R: Abort>(
+    rt: &R,
+    store: &Store<N>,
+    pass: &mut Pass<N>,
+    shape: Shape,
+    class: u32,
+) -> u64
+    requires { length N.config.sizes ≡ shape.classes }
+{
+    assert!(rt; class > 0 && class as usize <= shape.classes);
+    store.events(pass, LockNo::Class(ClassNo(class)))
+}
+
+// How many events a stripe has.
+fn visited<N: Named, R: Abort + Wait>(rt: &R, store: &Store<N>, shape: Shape, stripe: u32) -> u64
+    requires { N.config.stripes ≡ shape.stripes }
+{
+    assert!(rt; stripe < shape.stripes);
+    store.visit_stripe(rt, StripeNo(stripe), |state| state.history().len() as u64)
+}
+
+// How many events a row counts.
+fn counted<N: Named, R: Abort + Wait>(
+    rt: &R,
+    store: &Store<N>,
+    pass: &mut Pass<N>,
+    shape: Shape,
+    act: Act,
+) -> u64
+    requires { (N.config.stripes ≡ shape.stripes) × (length N.config.sizes ≡ shape.classes) }
+{
+    match act {
+        Act::OfStripe(stripe) => of_stripe(rt, store, pass, shape, stripe),
+        Act::OfClass(class) => of_class(rt, store, pass, shape, class),
+        Act::Visit(stripe) => visited(rt, store, shape, stripe),
+        _ => 0,
     }
 }
 
-// The cas number that a reply shows, or else the one that was shown before.
-fn shown_by(reply: &Reply, before: u64) -> u64 {
-    match reply {
-        Reply::Value { cas, .. } => *cas,
-        _ => before,
+// What a caller's row tells.
+fn tell<N: Named, R: Abort + Wait>(
+    rt: &R,
+    alloc: Global,
+    store: &Store<N>,
+    pass: &mut Pass<N>,
+    shape: Shape,
+    moment: u32,
+    act: Act,
+    shown: &mut u64,
+) -> String
+    requires { (N.config.stripes ≡ shape.stripes) × (length N.config.sizes ≡ shape.classes) }
+{
+    match act {
+        Act::On(letter, what) => { replied(rt, alloc, store, pass, moment, letter, what, shown) }
+        Act::Value(letter) => value_of(rt, alloc, store, pass, moment, letter),
+        Act::Juggle(class) => juggled(rt, alloc, store, pass, moment, shape, class),
+        Act::Crawl(class) => crawled(rt, alloc, store, pass, moment, shape, class),
+        Act::Turn => turn_of(rt, alloc, pass.next_who()),
+        other => digits(rt, alloc, counted(rt, store, pass, shape, other)),
     }
 }
 
-// Ends the test where a row isn't answered as it says: the cas number that was shown last.
+// What a row tells.
+fn tell_row<N: Named, R: Abort + Wait>(
+    rt: &R,
+    alloc: Global,
+    store: &Store<N>,
+    passes: &mut Vec<Pass<N>>,
+    shape: Shape,
+    row: &Row,
+    shown: &mut u64,
+) -> String
+    requires { (N.config.stripes ≡ shape.stripes) × (length N.config.sizes ≡ shape.classes) }
+{
+    let callers = passes.len() as u64;
+    let pass = passes.get_mut(row.0).expect(rt, "a caller");
+    match row.2 {
+        Act::Callers => digits(rt, alloc, callers),
+        act => tell(rt, alloc, store, pass, shape, row.1, act, shown),
+    }
+}
+
+// Ends the test where a row tells something else.
 fn check_row<N: Named, R: Abort + Wait>(
     rt: &R,
     alloc: Global,
     store: &Store<N>,
-    pass: &mut Pass<N>,
-    row: Row,
-    shown: u64,
-) -> u64 {
-    let (moment, letter, what, wanted) = row;
-    let command = command_of(rt, alloc, letter, what, shown);
-    let reply = ask(rt, alloc, store, pass, command, moment);
-    check_reply(rt, alloc, &reply, wanted);
-    shown_by(&reply, shown)
+    passes: &mut Vec<Pass<N>>,
+    shape: Shape,
+    row: &Row,
+    place: usize,
+    shown: &mut u64,
+)
+    requires { (N.config.stripes ≡ shape.stripes) × (length N.config.sizes ≡ shape.classes) }
+{
+    let text = tell_row(rt, alloc, store, passes, shape, row, shown);
+    assert_eq!(rt; text.as_str(), row.3, "at row {place}");
 }
 
-// Ends the test where the rows of a script aren't answered as they say, one after another.
-fn check_rows<N: Named, R: Abort + Wait>(
+/// Ends the test where one of the rows tells something else.
+pub(super) fn check_rows<N: Named, R: Abort + Wait>(
     rt: &R,
     alloc: Global,
     store: &Store<N>,
-    pass: &mut Pass<N>,
-    script: &[Row],
-) {
+    passes: &mut Vec<Pass<N>>,
+    shape: Shape,
+    rows: &[Row],
+)
+    requires { (N.config.stripes ≡ shape.stripes) × (length N.config.sizes ≡ shape.classes) }
+{
     let mut shown = 0;
-    for row in script {
-        shown = check_row(rt, alloc, store, pass, *row, shown);
+    for (place, row) in rows.iter().enumerate() {
+        check_row(rt, alloc, store, passes, shape, row, place, &mut shown);
     }
 }
 
-// The same of a new store, which is then closed and held against the pass.
-fn check_store<N: Named, R: Abort + Wait>(rt: &R, alloc: Global, parts: Parts, script: &[Row])
-    requires named { (parts.board ≡ N.board) × (parts.config ≡ N.config) }
-    requires fit { AreParts N.board N.config parts.owners.items parts.seen }
-{
-    let (store, mut passes) = opened::<N, R>(rt, alloc, parts);
-    let mut pass = passes.pop().expect(rt, "a pass");
-    check_rows(rt, alloc, &store, &mut pass, script);
-    let mut ledger = store.close(rt);
-    ledger.compare(&mut pass);
-}
-
-// The same of a new store of so many stripes, with so many chunks of each class.
-fn run<R: Abort + Wait + RandomSource>(
+// The same of a new store, which is then closed and held against its passes.
+fn check_store<N: Named, R: Abort + Wait>(
     rt: &R,
     alloc: Global,
-    stripes: u32,
-    chunks: u64,
-    script: &[Row],
-) {
-    let config = two_classes(rt, alloc, stripes, [chunks, chunks], 1);
-    let parts = parts_for(rt, alloc, config);
-    check_store::<Brand, R>(rt, alloc, parts, script);
+    parts: Parts,
+    shape: Shape,
+    rows: &[Row],
+    ends: &[Ended],
+)
+    requires named { (parts.board ≡ N.board) × (parts.config ≡ N.config) }
+    requires fit { AreParts N.board N.config parts.owners.items parts.seen }
+    requires shape { (N.config.stripes ≡ shape.stripes) × (length N.config.sizes ≡ shape.classes) }
+{
+    let (store, mut passes) = opened::<N, R>(rt, alloc, parts);
+    check_rows(rt, alloc, &store, &mut passes, shape, rows);
+    let mut ledger = store.close(rt);
+    compare_all(&mut ledger, &mut passes);
+    check_ends(rt, alloc, &ledger, shape, ends);
 }
 
-/// Ends the test where the rows of a script aren't answered as they say by a new store of one stripe, and by one of two, with
-/// so many chunks of each class.
+/// Ends the test where a row of a script tells something else of a new store of this configuration, or where the closed store
+/// has something else.
 pub(super) fn check_script<R: Abort + Wait + RandomSource>(
     rt: &R,
     alloc: Global,
-    chunks: u64,
-    script: &[Row],
+    config: Config,
+    rows: &[Row],
+    ends: &[Ended],
 ) {
-    run(rt, alloc, 1, chunks, script);
-    run(rt, alloc, 2, chunks, script);
+    let shape = shape_of(&config);
+    let parts = parts_for(rt, alloc, config);
+    check_store::<Brand, R>(rt, alloc, parts, shape, rows, ends);
 }
