@@ -259,7 +259,10 @@ fn fault_for<R: Abort + RandomSource + Threads + Wait + Sync>(
 ) -> Option<RunFault> {
     let config = config_of(rt, alloc, &["mcseg"]);
     let scripts = equal_scripts(rt, alloc, b"", count, NONE);
-    run_scripts(rt, alloc, config, seed_of(rt), scripts, &[]).err()
+    match run_scripts(rt, alloc, config, seed_of(rt), scripts, &[]) {
+        Ok(_) => None,
+        Err(fault) => Some(fault),
+    }
 }
 
 #[test]
