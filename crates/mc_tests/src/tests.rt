@@ -3,15 +3,20 @@ mod asking;
 mod at_once;
 mod classes;
 mod crawls;
+mod drawing;
+mod drawn;
 mod examples;
 mod failures;
+mod faulty;
 mod histories;
-mod moves;
+mod long;
 mod pieces;
 mod places;
+mod runs;
 mod scripts;
 mod stripes;
 mod supplies;
+mod upkeep;
 mod words;
 
 use mc_driver::run_words;
@@ -32,16 +37,29 @@ struct Example {
     errors: &'static str,
 }
 
-// The bytes of a text in which a bar stands for CR LF.
-fn lines(rt: &impl Abort, alloc: Global, text: &str) -> Vec<u8> {
-    let mut bytes = Vec::new(alloc);
+// The seed of the scripts that are drawn.
+const SEED: u64 = 20_260_101;
+
+// Adds bytes to others.
+fn add<R: Abort>(rt: &R, bytes: &mut Vec<u8>, more: &[u8]) {
+    bytes.extend_from_slice(more).expect(rt, "memory");
+}
+
+// Adds a text in which a bar stands for CR LF.
+fn add_lines<R: Abort>(rt: &R, bytes: &mut Vec<u8>, text: &str) {
     for byte in text.as_bytes() {
         if *byte == b'|' {
-            bytes.extend_from_slice(b"\r\n").expect(rt, "memory");
+            add(rt, bytes, b"\r\n");
         } else {
-            bytes.push(*byte).expect(rt, "memory");
+            add(rt, bytes, &[*byte]);
         }
     }
+}
+
+// The bytes of a text in which a bar stands for CR LF.
+fn lines<R: Abort>(rt: &R, alloc: Global, text: &str) -> Vec<u8> {
+    let mut bytes = Vec::new(alloc);
+    add_lines(rt, &mut bytes, text);
     bytes
 }
 
@@ -85,6 +103,30 @@ fn run_program<R: Abort + RandomSource + Threads + Wait + Sync>(
     }
 }
 
+// What is wanted of a run of the program.
+#[derive(Clone, Copy)]
+struct Wanted<'a> {
+    name: &'a str,
+    status: u8,
+    output: &'a [u8],
+    errors: &'a [u8],
+}
+
+fn same_bytes<R: Abort>(rt: &R, told: &[u8], wanted: &[u8], name: &str, place: usize) {
+    assert_eq!(rt; told, wanted, "{name}, at {place}");
+}
+
+fn same_status<R: Abort>(rt: &R, told: u8, wanted: u8, name: &str, place: usize) {
+    assert_eq!(rt; told, wanted, "{name}, at {place}");
+}
+
+// Asserts that a run is as wanted; a place tells it from others of its name.
+fn asserts_ran<R: Abort>(rt: &R, ran: &Ran, wanted: &Wanted<'_>, place: usize) {
+    same_bytes(rt, ran.output.as_slice(), wanted.output, wanted.name, place);
+    same_status(rt, ran.status, wanted.status, wanted.name, place);
+    same_bytes(rt, ran.errors.as_slice(), wanted.errors, wanted.name, place);
+}
+
 // The program answers what an example wants.
 fn holds<R: Abort + RandomSource + Threads + Wait + Sync>(
     rt: &R,
@@ -94,17 +136,21 @@ fn holds<R: Abort + RandomSource + Threads + Wait + Sync>(
     let input = lines(rt, alloc, example.input);
     let output = lines(rt, alloc, example.output);
     let ran = run_program(rt, alloc, example.words, input.as_slice());
-    assert_eq!(rt;
-        ran.output.as_slice(),
-        output.as_slice(),
-        "{}",
-        example.name
-    );
-    assert_eq!(rt; ran.status, example.status, "{}", example.name);
-    assert_eq!(rt;
-        ran.errors.as_slice(),
-        example.errors.as_bytes(),
-        "{}",
-        example.name
-    );
+    let wanted = Wanted {
+        name: example.name,
+        status: example.status,
+        output: output.as_slice(),
+        errors: example.errors.as_bytes(),
+    };
+    asserts_ran(rt, &ran, &wanted, 0);
+}
+
+fn all_hold<R: Abort + RandomSource + Threads + Wait + Sync>(
+    rt: &R,
+    alloc: Global,
+    examples: &[Example],
+) {
+    for example in examples {
+        holds(rt, alloc, example);
+    }
 }

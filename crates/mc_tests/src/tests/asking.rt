@@ -1,5 +1,5 @@
 //! A source that sees its sink: each piece is asked for only when the replies to all that came are out.
-ghost use Rattle.std.specs.Prelude.{◌≡◌, ◌<◌};
+ghost use Rattle.std.specs.Prelude.{◌≡◌};
 
 use super::supplies::{Pieces, Slow};
 use mc_driver::Outcome;
@@ -7,10 +7,8 @@ use mc_item::{ClassNo, Command, Fault, Histogram, Moves, Reply};
 use mc_proto::{Limits, ReplyText, Sink, SinkFault};
 use mc_script::{Calls, Ends, Source, SourceFault, run_script};
 use std::alloc::Global;
-use std::marker::Brand;
 use std::process::Abort;
 use std::sync::Wait;
-use std::sync::ledger::{Blank, Ledger};
 
 // The only script of these tests: three lines of 7 bytes, the one that ends it, of 6, and one behind that.
 const SCRIPT: &[u8] = b"get a\r\nget b\r\nget c\r\nquit\r\nget d\r\n";
@@ -23,14 +21,14 @@ const LIMITS: Limits = Limits {
 // A source and a sink that notes at each read how many bytes were taken. It may be asked only while no read failed, its end
 // wasn't reached, and the replies to all that came are out.
 #[derive(Drop)]
-struct Watched<'a, L: Ledger> {
+struct Watched<'a, R: Abort> {
     source: Pieces<'a>,
-    sink: Slow<L>,
+    sink: Slow<'a, R>,
     seen: Vec<usize>,
     ended: bool,
 }
 
-impl<L: Ledger> Ends for Watched<'_, L> {
+impl<R: Abort> Ends for Watched<'_, R> {
     ghost use Rattle.std.specs.Prelude.{if◌then◌else◌};
     ghost use Rattle.mc_tests.specs.Asking.{MayAsk};
     ghost use Rattle.mc_tests.specs.declared.tests.asking.TheConstants.{LIMITS, SCRIPT};
@@ -41,7 +39,7 @@ impl<L: Ledger> Ends for Watched<'_, L> {
 
     ghost reads = { λ e. if e.source.failed then 1 else 0 };
 
-    ghost writes = { λ e. e.sink.little.book.total };
+    ghost writes = { λ e. if e.sink.little.failed then 1 else 0 };
 
     ghost over = { λ e. if e.ended then 1 else 0 };
 
@@ -137,22 +135,17 @@ struct Asked {
     left: usize,
 }
 
-// The script in pieces of one size, of which one may fail to be read.
-fn run_watched<L: Ledger>(
-    rt: &impl Wait,
+// The script in pieces of these sizes, of which one may fail to be read.
+fn run_watched<R: Abort + Wait>(
+    rt: &R,
     alloc: Global,
-    size: usize,
+    sizes: &[usize],
     read: Option<u64>,
-    blank: Blank,
-) -> Asked
-    requires name { blank.name ≡ L.name }
-    requires parts { blank.parts ≡ L.parts }
-    requires part { 0 < blank.parts }
-{
+) -> Asked {
     let mut calls = Misses { made: 0 };
     let mut ends = Watched {
-        source: Pieces::new(alloc, SCRIPT, size, read),
-        sink: Slow::<L>::new(alloc, 2, None, blank),
+        source: Pieces::new(alloc, SCRIPT, sizes, read),
+        sink: Slow::new(rt, alloc, 2, None),
         seen: Vec::new(alloc),
         ended: false,
     };
@@ -164,35 +157,102 @@ fn run_watched<L: Ledger>(
     }
 }
 
+// The size of the script's pieces and the read that fails; then how the script ends, how many bytes were taken at each read,
+// and how many are still to come.
+struct Row {
+    sizes: &'static [usize],
+    read: Option<u64>,
+    outcome: Outcome,
+    seen: &'static [usize],
+    left: usize,
+}
+
 // A reply has 5 bytes. A line's reply is out when the piece behind its last byte is asked for, and none is asked for behind
-// that which ends the script.
-#[test]
-fn a_piece_is_asked_for_when_all_replies_are_out(rt: HostRuntime) {
-    for (size, seen, left) in [
-        (7, [0, 5, 10, 15].as_slice(), 6),
-        (14, [0, 10].as_slice(), 6),
-        (10, [0, 5, 10].as_slice(), 4),
-        (20, [0, 10].as_slice(), 0),
-        (100, [0].as_slice(), 0),
-    ] {
-        let asked = run_watched::<Brand>(&rt, rt.alloc(), size, None, Blank::new(1));
-        assert_eq!(rt; asked.outcome, Outcome::Done, "in pieces of {size}");
-        assert_eq!(rt; asked.seen.as_slice(), seen, "in pieces of {size}");
-        assert_eq!(rt; asked.left, left, "in pieces of {size}");
-    }
+// that which ends the script, nor behind a failed read.
+static ROWS: [Row; 9] = [
+    Row {
+        sizes: &[7],
+        read: None,
+        outcome: Outcome::Done,
+        seen: &[0, 5, 10, 15],
+        left: 6,
+    },
+    Row {
+        sizes: &[14],
+        read: None,
+        outcome: Outcome::Done,
+        seen: &[0, 10],
+        left: 6,
+    },
+    Row {
+        sizes: &[10],
+        read: None,
+        outcome: Outcome::Done,
+        seen: &[0, 5, 10],
+        left: 4,
+    },
+    Row {
+        sizes: &[20],
+        read: None,
+        outcome: Outcome::Done,
+        seen: &[0, 10],
+        left: 0,
+    },
+    Row {
+        sizes: &[100],
+        read: None,
+        outcome: Outcome::Done,
+        seen: &[0],
+        left: 0,
+    },
+    Row {
+        sizes: &[7],
+        read: Some(0),
+        outcome: Outcome::Input,
+        seen: &[0],
+        left: 34,
+    },
+    Row {
+        sizes: &[7],
+        read: Some(1),
+        outcome: Outcome::Input,
+        seen: &[0, 5],
+        left: 27,
+    },
+    Row {
+        sizes: &[7],
+        read: Some(2),
+        outcome: Outcome::Input,
+        seen: &[0, 5, 10],
+        left: 20,
+    },
+    Row {
+        sizes: &[7],
+        read: Some(3),
+        outcome: Outcome::Input,
+        seen: &[0, 5, 10, 15],
+        left: 13,
+    },
+];
+
+fn same_outcome<R: Abort>(rt: &R, told: Outcome, wanted: Outcome, place: usize) {
+    assert_eq!(rt; told, wanted, "at row {place}");
+}
+
+fn same_counts<R: Abort>(rt: &R, told: &[usize], wanted: &[usize], place: usize) {
+    assert_eq!(rt; told, wanted, "at row {place}");
+}
+
+fn asserts_asked<R: Abort>(rt: &R, asked: &Asked, row: &Row, place: usize) {
+    same_outcome(rt, asked.outcome, row.outcome, place);
+    same_counts(rt, asked.seen.as_slice(), row.seen, place);
+    same_counts(rt, &[asked.left], &[row.left], place);
 }
 
 #[test]
-fn a_failed_read_is_not_tried_again(rt: HostRuntime) {
-    for (read, seen) in [
-        (0, [0].as_slice()),
-        (1, [0, 5].as_slice()),
-        (2, [0, 5, 10].as_slice()),
-        (3, [0, 5, 10, 15].as_slice()),
-    ] {
-        let asked = run_watched::<Brand>(&rt, rt.alloc(), 7, Some(read), Blank::new(1));
-        assert_eq!(rt; asked.outcome, Outcome::Input, "at read {read}");
-        assert_eq!(rt; asked.seen.as_slice(), seen, "at read {read}");
-        assert_eq!(rt; asked.left, 34 - 7 * read as usize, "at read {read}");
+fn a_piece_is_asked_for_when_all_replies_are_out(rt: HostRuntime) {
+    for (place, row) in ROWS.iter().enumerate() {
+        let asked = run_watched(&rt, rt.alloc(), row.sizes, row.read);
+        asserts_asked(&rt, &asked, row, place);
     }
 }

@@ -1,5 +1,5 @@
 //! Slab classes through the program: full ones at each command, TEMP, and juggling.
-use super::{Example, holds, lines, run_program};
+use super::{Example, all_hold};
 
 // An item of one byte under a key of one costs 66, so it is of class 1, whose items have at most 96.
 static EXAMPLES: [Example; 20] = [
@@ -186,39 +186,5 @@ static EXAMPLES: [Example; 20] = [
 
 #[test]
 fn full_classes_and_juggling_hold(rt: HostRuntime) {
-    for example in EXAMPLES.as_slice() {
-        holds(&rt, rt.alloc(), example);
-    }
-}
-
-// So many sets of keys of four bytes, each of cost 69.
-const MANY: u32 = 700;
-
-#[test]
-fn juggling_stops_after_500_rounds(rt: HostRuntime) {
-    let alloc = rt.alloc();
-    let mut input = Vec::new(alloc);
-    let mut output = Vec::new(alloc);
-    for n in 0..MANY {
-        let set = format!(in alloc; "set k{}{}{} 0 0 1|1|", n / 100, n / 10 % 10, n % 10).expect(
-            &rt, "memory",
-        );
-        let line = lines(&rt, alloc, set.as_str());
-        input
-            .extend_from_slice(line.as_slice())
-            .expect(&rt, "memory");
-        output
-            .extend_from_slice(b"STORED\r\n")
-            .expect(&rt, "memory");
-    }
-    input
-        .extend_from_slice(b"%juggle 1\r\n%juggle 1\r\n")
-        .expect(&rt, "memory");
-    output
-        .extend_from_slice(b"JUGGLED 0 500\r\nJUGGLED 0 60\r\n")
-        .expect(&rt, "memory");
-    let words = ["mcseg", "--sizes", "96"];
-    let ran = run_program(&rt, alloc, words.as_slice(), input.as_slice());
-    assert_eq!(rt; ran.output.as_slice(), output.as_slice());
-    assert_eq!(rt; ran.status, 0);
+    all_hold(&rt, rt.alloc(), EXAMPLES.as_slice());
 }

@@ -1,5 +1,5 @@
 //! The crawler through the program: kinds by the seconds left, what is reclaimed, and classes summed.
-use super::{Example, holds};
+use super::{Example, all_hold};
 
 static EXAMPLES: [Example; 5] = [
     // At 1000 `g` and `a` have died or die within a minute, and so on; `f` never does.
@@ -47,7 +47,5 @@ static EXAMPLES: [Example; 5] = [
 
 #[test]
 fn crawls_count_and_reclaim(rt: HostRuntime) {
-    for example in EXAMPLES.as_slice() {
-        holds(&rt, rt.alloc(), example);
-    }
+    all_hold(&rt, rt.alloc(), EXAMPLES.as_slice());
 }

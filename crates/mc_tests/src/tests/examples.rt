@@ -1,5 +1,5 @@
 //! The worked examples, through the program.
-use super::{Example, holds, run_program};
+use super::{Example, all_hold};
 
 /// The worked examples of one script, those with options too.
 pub static EXAMPLES: [Example; 37] = [
@@ -303,24 +303,5 @@ pub static EXAMPLES: [Example; 37] = [
 
 #[test]
 fn the_worked_examples_hold(rt: HostRuntime) {
-    for example in EXAMPLES.as_slice() {
-        holds(&rt, rt.alloc(), example);
-    }
-}
-
-#[test]
-fn a_line_that_is_too_long_closes_the_reader(rt: HostRuntime) {
-    let mut input = Vec::new(rt.alloc());
-    for _ in 0..65537u32 {
-        input.push(b'x').expect(&rt, "memory");
-    }
-    input
-        .extend_from_slice(b"\r\nget a\r\n")
-        .expect(&rt, "memory");
-    let ran = run_program(&rt, rt.alloc(), &["mcseg"], input.as_slice());
-    assert_eq!(rt;
-        ran.output.as_slice(),
-        b"CLIENT_ERROR line too long\r\n".as_slice()
-    );
-    assert_eq!(rt; ran.status, 0);
+    all_hold(&rt, rt.alloc(), EXAMPLES.as_slice());
 }

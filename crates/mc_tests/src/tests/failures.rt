@@ -1,88 +1,11 @@
 //! Readers and writers that fail, under the program.
-use super::{Ran, lines, seed_of};
-use mc_driver::run_words;
+use super::faulty::{ERRORS, FLUSH, Fails, READ, WRITE, run_faulty};
+use super::{Wanted, asserts_ran, lines};
 use std::alloc::Global;
-use std::io::{self, ErrorKind, Read, Write};
 use std::process::Abort;
 use std::random::RandomSource;
 use std::sync::Wait;
 use std::thread::Threads;
-
-// A reader of some bytes, behind which it fails or ends.
-#[derive(Drop)]
-struct Bytes<'a> {
-    rest: &'a [u8],
-    fails: bool,
-}
-
-impl Read for Bytes<'_> {
-    fn read(&mut self, buf: &mut [u8]) -> io::Result<usize> {
-        if self.fails && self.rest.is_empty() {
-            return Err(io::Error::from(ErrorKind::Other));
-        }
-        self.rest.read(buf)
-    }
-}
-
-// A writer that keeps what it takes. Its writes may fail, or its flushes.
-#[derive(Drop)]
-struct Kept {
-    bytes: Vec<u8>,
-    refuses: bool,
-    holds_back: bool,
-}
-
-impl Write for Kept {
-    fn write(&mut self, buf: &[u8]) -> io::Result<usize> {
-        if self.refuses {
-            return Err(io::Error::from(ErrorKind::Other));
-        }
-        self.bytes.write(buf)
-    }
-
-    fn flush(&mut self) -> io::Result<()> {
-        if self.holds_back {
-            return Err(io::Error::from(ErrorKind::Other));
-        }
-        Ok(())
-    }
-}
-
-// What fails.
-#[derive(Clone, Copy)]
-struct Fails {
-    read: bool,
-    write: bool,
-    flush: bool,
-    errors: bool,
-}
-
-const NOTHING: Fails = Fails {
-    read: false,
-    write: false,
-    flush: false,
-    errors: false,
-};
-
-const READ: Fails = Fails {
-    read: true,
-    ..NOTHING
-};
-
-const WRITE: Fails = Fails {
-    write: true,
-    ..NOTHING
-};
-
-const FLUSH: Fails = Fails {
-    flush: true,
-    ..NOTHING
-};
-
-const ERRORS: Fails = Fails {
-    errors: true,
-    ..NOTHING
-};
 
 // A run of the program in which something fails, and what is wanted of it.
 struct Failure {
@@ -215,63 +138,26 @@ static FAILURES: [Failure; 13] = [
     },
 ];
 
-// The program where something fails.
-fn run_failing<R: Abort + RandomSource + Threads + Wait + Sync>(
+fn check_failure<R: Abort + RandomSource + Threads + Wait + Sync>(
     rt: &R,
     alloc: Global,
     failure: &Failure,
-    input: &[u8],
-) -> Ran {
-    let mut reader = Bytes {
-        rest: input,
-        fails: failure.fails.read,
+) {
+    let input = lines(rt, alloc, failure.input);
+    let output = lines(rt, alloc, failure.output);
+    let ran = run_faulty(rt, alloc, failure.words, input.as_slice(), failure.fails);
+    let wanted = Wanted {
+        name: failure.name,
+        status: failure.status,
+        output: output.as_slice(),
+        errors: failure.errors.as_bytes(),
     };
-    let mut writer = Kept {
-        bytes: Vec::new(alloc),
-        refuses: failure.fails.write,
-        holds_back: failure.fails.flush,
-    };
-    let mut errors = Kept {
-        bytes: Vec::new(alloc),
-        refuses: failure.fails.errors,
-        holds_back: failure.fails.errors,
-    };
-    let seed = seed_of(rt);
-    let words = failure.words;
-    let status = run_words(
-        rt,
-        alloc,
-        seed,
-        words,
-        &mut reader,
-        &mut writer,
-        &mut errors,
-    );
-    Ran {
-        status,
-        output: writer.bytes,
-        errors: errors.bytes,
-    }
+    asserts_ran(rt, &ran, &wanted, 0);
 }
 
 #[test]
 fn a_failed_read_or_write_ends_with_status_3(rt: HostRuntime) {
     for failure in FAILURES.as_slice() {
-        let input = lines(&rt, rt.alloc(), failure.input);
-        let output = lines(&rt, rt.alloc(), failure.output);
-        let ran = run_failing(&rt, rt.alloc(), failure, input.as_slice());
-        assert_eq!(rt; ran.status, failure.status, "{}", failure.name);
-        assert_eq!(rt;
-            ran.output.as_slice(),
-            output.as_slice(),
-            "{}",
-            failure.name
-        );
-        assert_eq!(rt;
-            ran.errors.as_slice(),
-            failure.errors.as_bytes(),
-            "{}",
-            failure.name
-        );
+        check_failure(&rt, rt.alloc(), failure);
     }
 }

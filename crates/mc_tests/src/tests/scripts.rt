@@ -1,7 +1,5 @@
 //! Several scripts through the program, with and without upkeep.
-use super::{Example, holds, lines, run_program};
-use std::alloc::Global;
-use std::process::Abort;
+use super::{Example, all_hold};
 
 static EXAMPLES: [Example; 10] = [
     Example {
@@ -96,52 +94,5 @@ static EXAMPLES: [Example; 10] = [
 
 #[test]
 fn scripts_answer_each_for_itself(rt: HostRuntime) {
-    for example in EXAMPLES.as_slice() {
-        holds(&rt, rt.alloc(), example);
-    }
-}
-
-// A text, and behind it a second one so many times; a bar stands for CR LF.
-fn repeated(rt: &impl Abort, alloc: Global, text: &str, again: &str, count: u64) -> Vec<u8> {
-    let mut bytes = lines(rt, alloc, text);
-    let more = lines(rt, alloc, again);
-    for _ in 0..count {
-        bytes
-            .extend_from_slice(more.as_slice())
-            .expect(rt, "memory");
-    }
-    bytes
-}
-
-#[test]
-fn there_are_at_most_62_scripts(rt: HostRuntime) {
-    let most = repeated(&rt, rt.alloc(), "get a|", "%next|get a|", 61);
-    let ran = run_program(&rt, rt.alloc(), &["mcseg"], most.as_slice());
-    let replies = repeated(&rt, rt.alloc(), "", "END|", 62);
-    assert_eq!(rt; ran.output.as_slice(), replies.as_slice());
-    assert_eq!(rt; ran.status, 0);
-    assert!(rt; ran.errors.is_empty());
-    let many = repeated(&rt, rt.alloc(), "get a|", "%next|get a|", 62);
-    let ran = run_program(&rt, rt.alloc(), &["mcseg"], many.as_slice());
-    assert!(rt; ran.output.is_empty());
-    assert_eq!(rt; ran.status, 2);
-    assert_eq!(rt;
-        ran.errors.as_slice(),
-        b"mcseg: too many scripts\n".as_slice()
-    );
-}
-
-// Nothing behind a line that is too long is read as a request, so nothing there begins a script.
-#[test]
-fn no_script_begins_behind_a_line_that_is_too_long(rt: HostRuntime) {
-    let mut input = repeated(&rt, rt.alloc(), "", "x", 65_537);
-    let behind = lines(&rt, rt.alloc(), "|%next|get a|");
-    input
-        .extend_from_slice(behind.as_slice())
-        .expect(&rt, "memory");
-    let ran = run_program(&rt, rt.alloc(), &["mcseg"], input.as_slice());
-    let output = lines(&rt, rt.alloc(), "CLIENT_ERROR line too long|");
-    assert_eq!(rt; ran.output.as_slice(), output.as_slice());
-    assert_eq!(rt; ran.status, 0);
-    assert!(rt; ran.errors.is_empty());
+    all_hold(&rt, rt.alloc(), EXAMPLES.as_slice());
 }

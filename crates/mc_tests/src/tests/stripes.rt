@@ -1,5 +1,5 @@
 //! Several stripes through the program.
-use super::{Example, holds, lines, run_program};
+use super::{Example, all_hold};
 
 // The stripe of a key is that of its hash, so a version's cas number tells which: with four stripes 1 is the first one
 // of stripe 0, 2 of stripe 1, and 3 of stripe 2.
@@ -40,37 +40,57 @@ static EXAMPLES: [Example; 4] = [
 
 #[test]
 fn several_stripes_hold(rt: HostRuntime) {
-    for example in EXAMPLES.as_slice() {
-        holds(&rt, rt.alloc(), example);
-    }
+    all_hold(&rt, rt.alloc(), EXAMPLES.as_slice());
 }
 
 // Each command, where nothing is full, and no cas number is asked for.
-static SCRIPT: &str =
+const SCRIPT: &str =
     "set a 1 0 1|1|set b 2 0 2|22|set c 3 0 3|333|add a 0 0 1|x|add d 0 0 1|9|replace b 5 0 1|7|replace e 0 0 1|x|\
 cas f 0 0 1 1|x|incr a 5|incr d 1|decr b 3|decr zz 1|get a b c d e|touch c 10|touch e 0|%at 1010|get c|delete a|delete a|\
 get a b c d|set k 0 0 2 noreply|hi|get k b|%juggle 43|set a 0 100 1|z|get a a|%at 1110|get a k|bogus|incr k 1|";
 
-static REPLIES: &str =
+const REPLIES: &str =
     "STORED|STORED|STORED|NOT_STORED|STORED|STORED|NOT_STORED|NOT_FOUND|6|10|4|NOT_FOUND|\
 VALUE a 1 1|6|VALUE b 5 1|4|VALUE c 3 3|333|VALUE d 0 2|10|END|TOUCHED|NOT_FOUND|END|DELETED|NOT_FOUND|\
 VALUE b 5 1|4|VALUE d 0 2|10|END|VALUE k 0 2|hi|VALUE b 5 1|4|END|JUGGLED 0 0|STORED|VALUE a 0 1|z|VALUE a 0 1|z|END|\
 VALUE k 0 2|hi|END|ERROR|CLIENT_ERROR cannot increment or decrement non-numeric value|";
 
-static STRIPES: [&str; 4] = ["1", "2", "4", "64"];
+static STRIPES: [Example; 4] = [
+    Example {
+        name: "one stripe",
+        words: &["mcseg", "--stripes", "1"],
+        input: SCRIPT,
+        output: REPLIES,
+        status: 0,
+        errors: "",
+    },
+    Example {
+        name: "two stripes",
+        words: &["mcseg", "--stripes", "2"],
+        input: SCRIPT,
+        output: REPLIES,
+        status: 0,
+        errors: "",
+    },
+    Example {
+        name: "four stripes",
+        words: &["mcseg", "--stripes", "4"],
+        input: SCRIPT,
+        output: REPLIES,
+        status: 0,
+        errors: "",
+    },
+    Example {
+        name: "64 stripes",
+        words: &["mcseg", "--stripes", "64"],
+        input: SCRIPT,
+        output: REPLIES,
+        status: 0,
+        errors: "",
+    },
+];
 
 #[test]
 fn no_reply_depends_on_the_stripes_where_nothing_is_full(rt: HostRuntime) {
-    let input = lines(&rt, rt.alloc(), SCRIPT);
-    let output = lines(&rt, rt.alloc(), REPLIES);
-    for stripes in STRIPES.as_slice() {
-        let words = ["mcseg", "--stripes", *stripes];
-        let ran = run_program(&rt, rt.alloc(), words.as_slice(), input.as_slice());
-        assert_eq!(rt;
-            ran.output.as_slice(),
-            output.as_slice(),
-            "{stripes} stripes"
-        );
-        assert_eq!(rt; ran.status, 0);
-    }
+    all_hold(&rt, rt.alloc(), STRIPES.as_slice());
 }

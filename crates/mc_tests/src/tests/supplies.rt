@@ -1,50 +1,53 @@
 //! Sources and sinks for tests: pieces of any size, one read that fails, one write that fails, slow sinks.
-ghost use Rattle.std.specs.Prelude.{◌≡◌, ◌+◌, ◌<◌, ◌≤◌, [], false};
+ghost use Rattle.std.specs.Prelude.{◌≡◌, [], false};
 
 use mc_driver::{Source, SourceFault};
 use mc_proto::{ReplyText, Sink, SinkFault, write_whole};
 use std::alloc::Global;
-use std::sync::ledger::{Blank, Book, Ledger, Share};
+use std::process::Abort;
 
-/// A source of a first piece of one size and further ones of another. The read of one number fails, once, where there
-/// is one.
+/// A source of some bytes, in pieces of these sizes, of which the last one goes on. The read of one number fails, once, if
+/// there is one.
 #[derive(Drop)]
 pub struct Pieces<'a> {
     alloc: Global,
     pub rest: &'a [u8],
-    size: usize,
-    next: usize,
+    sizes: &'a [usize],
     reads: Option<u64>,
     pub failed: bool,
 }
 
 impl<'a> Pieces<'a> {
-    /// These bytes, in pieces of this size.
-    pub(super) fn new(alloc: Global, bytes: &'a [u8], size: usize, reads: Option<u64>) -> Pieces<'a>
+    /// These bytes, in pieces of these sizes.
+    pub(super) fn new(
+        alloc: Global,
+        bytes: &'a [u8],
+        sizes: &'a [usize],
+        reads: Option<u64>,
+    ) -> Pieces<'a>
         ensures bytes { result.rest.now ≡ bytes.now }
         ensures fine { result.failed ≡ false }
     {
         Pieces {
             alloc,
             rest: bytes,
-            size,
-            next: size,
+            sizes,
             reads,
             failed: false,
         }
     }
+}
 
-    /// These bytes, cut once, behind so many. No read fails.
-    pub(super) fn cut_once(alloc: Global, bytes: &'a [u8], front: usize) -> Pieces<'a> {
-        Pieces {
-            alloc,
-            rest: bytes,
-            size: front,
-            next: bytes.len(),
-            reads: None,
-            failed: false,
-        }
+// The size of the next piece, behind which the next size comes, if there is one more.
+fn next_size<'a>(sizes: &mut &'a [usize]) -> usize {
+    let left: &'a [usize] = *sizes;
+    let Some((first, more)) = left.split_first() else {
+        return usize::MAX;
+    };
+    if !more.is_empty() {
+        *sizes = more;
     }
+    *first
 }
 
 impl Source for Pieces<'_> {
@@ -67,113 +70,94 @@ impl Source for Pieces<'_> {
             }
             None => {}
         }
+        let size = next_size(&mut self.sizes);
         let rest = self.rest;
         if rest.is_empty() {
             return Ok(None);
         }
-        let end = self.size.min(rest.len());
-        let (front, behind) = rest.split_at(end);
-        match Vec::from_slice(self.alloc, front) {
-            Ok(piece) => {
-                self.rest = behind;
-                self.size = self.next;
-                Ok(Some(piece))
-            }
-            Err(_) => Ok(Some(Vec::new(self.alloc))),
-        }
+        let (front, behind) = rest.split_at(size.min(rest.len()));
+        let Ok(piece) = Vec::from_slice(self.alloc, front) else {
+            return Ok(Some(Vec::new(self.alloc)));
+        };
+        self.rest = behind;
+        Ok(Some(piece))
     }
 }
 
-/// A sink that takes so many bytes at a time, and keeps them; a whole text it takes at once. The write of one number
-/// fails, once, where there is one.
+/// A sink that takes so many bytes at a time, but one at least, and keeps them; a whole text it takes at once. The write of
+/// one number fails, once, if there is one. Want of memory ends the test.
 #[derive(Drop)]
-pub struct Little<L: Ledger> {
+pub struct Little<'a, R: Abort> {
+    rt: &'a R,
     pub bytes: Vec<u8>,
     size: usize,
     writes: Option<u64>,
-    book: Book<L>,
-    share: Share<L>,
-    ghost has_part: { 0 < share.parts },
-    ghost some: { 0 < size },
+    pub failed: bool,
 }
 
-impl<L: Ledger> Little<L> {
-    // A write that fails.
-    fn fail(&mut self) -> SinkFault
-        ensures bytes { self.new.bytes.items ≡ self.old.bytes.items }
-        ensures count { self.new.book.total ≡ self.old.book.total + 1 }
-    {
-        self.book.add(&mut self.share, 1);
-        SinkFault
-    }
-}
+impl<R: Abort> Sink for Little<'_, R> {
+    ghost use Rattle.std.specs.Prelude.{if◌then◌else◌};
 
-impl<L: Ledger> Sink for Little<L> {
     ghost taken = { λ s. s.bytes.items };
 
-    ghost failures = { λ s. s.book.total };
+    ghost failures = { λ s. if s.failed then 1 else 0 };
 
     fn put(&mut self, bytes: &[u8]) -> Result<usize, SinkFault> {
         match self.writes {
             Some(0) => {
-                self.writes = None;
-                return Err(self.fail());
+                if !self.failed {
+                    self.failed = true;
+                    return Err(SinkFault);
+                }
             }
             Some(left) => {
                 self.writes = Some(left - 1);
             }
             None => {}
         }
-        let end = self.size.min(bytes.len());
-        match self.bytes.extend_from_slice(bytes.split_at(end).0) {
-            Ok(()) => Ok(end),
-            Err(_) => Err(self.fail()),
-        }
+        let end = self.size.max(1).min(bytes.len());
+        self.bytes
+            .extend_from_slice(bytes.split_at(end).0)
+            .expect(self.rt, "memory");
+        Ok(end)
     }
 
     fn put_whole(&mut self, text: &mut ReplyText) -> Result<(), SinkFault> {
-        match text.copy_behind(&mut self.bytes) {
-            Ok(()) => {
-                text.truncate(0);
-                Ok(())
-            }
-            Err(_) => Err(self.fail()),
-        }
+        text.copy_behind(&mut self.bytes).expect(self.rt, "memory");
+        text.truncate(0);
+        Ok(())
     }
 }
 
 /// A sink that takes whole texts a little at a time too.
 #[derive(Drop)]
-pub struct Slow<L: Ledger> {
-    pub little: Little<L>,
+pub struct Slow<'a, R: Abort> {
+    pub little: Little<'a, R>,
 }
 
-impl<L: Ledger> Slow<L> {
+impl<'a, R: Abort> Slow<'a, R> {
     /// A sink that has taken nothing.
-    pub(super) fn new(alloc: Global, size: usize, writes: Option<u64>, blank: Blank) -> Slow<L>
-        requires name { blank.name ≡ L.name }
-        requires parts { blank.parts ≡ L.parts }
-        requires part { 0 < blank.parts }
-        requires some { 0 < size }
+    pub(super) fn new(rt: &'a R, alloc: Global, size: usize, writes: Option<u64>) -> Slow<'a, R>
         ensures { result.little.bytes.items ≡ [] }
     {
-        let (book, share) = blank.open::<L>();
         Slow {
             little: Little {
+                rt,
                 bytes: Vec::new(alloc),
                 size,
                 writes,
-                book,
-                share,
+                failed: false,
             },
         }
     }
 }
 
-impl<L: Ledger> Sink for Slow<L> {
+impl<R: Abort> Sink for Slow<'_, R> {
+    ghost use Rattle.std.specs.Prelude.{if◌then◌else◌};
+
     ghost taken = { λ s. s.little.bytes.items };
 
-    ghost failures = { λ s. s.little.book.total };
+    ghost failures = { λ s. if s.little.failed then 1 else 0 };
 
     fn put(&mut self, bytes: &[u8]) -> Result<usize, SinkFault> {
         self.little.put(bytes)

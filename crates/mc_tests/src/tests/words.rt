@@ -1,6 +1,11 @@
 //! The words of the command line: help and version, and what is refused.
-use super::{Example, holds, run_program};
+use super::{Example, Ran, all_hold, run_program};
+use std::alloc::Global;
+use std::process::Abort;
+use std::random::RandomSource;
 use std::str;
+use std::sync::Wait;
+use std::thread::Threads;
 
 static EXAMPLES: [Example; 18] = [
     Example {
@@ -157,9 +162,7 @@ static EXAMPLES: [Example; 18] = [
 
 #[test]
 fn words_that_are_refused_say_why(rt: HostRuntime) {
-    for example in EXAMPLES.as_slice() {
-        holds(&rt, rt.alloc(), example);
-    }
+    all_hold(&rt, rt.alloc(), EXAMPLES.as_slice());
 }
 
 static REFUSED: [&[&str]; 7] = [
@@ -172,13 +175,25 @@ static REFUSED: [&[&str]; 7] = [
     &["mcseg", "--sizes", "96", "--sizes", "96"],
 ];
 
+fn asserts_refused<R: Abort>(rt: &R, ran: &Ran) {
+    assert_eq!(rt; ran.status, 2);
+    assert!(rt; ran.output.is_empty());
+    assert!(rt; ran.errors.as_slice().starts_with(b"error: "));
+}
+
+fn check_refused<R: Abort + RandomSource + Threads + Wait + Sync>(
+    rt: &R,
+    alloc: Global,
+    words: &[&str],
+) {
+    let ran = run_program(rt, alloc, words, b"get a\r\n");
+    asserts_refused(rt, &ran);
+}
+
 #[test]
 fn words_that_are_no_options_are_refused(rt: HostRuntime) {
     for words in REFUSED.as_slice() {
-        let ran = run_program(&rt, rt.alloc(), words, b"get a\r\n");
-        assert_eq!(rt; ran.status, 2);
-        assert!(rt; ran.output.is_empty());
-        assert!(rt; ran.errors.as_slice().starts_with(b"error: "));
+        check_refused(&rt, rt.alloc(), words);
     }
 }
 
@@ -220,20 +235,35 @@ static HELP: [&str; 34] = [
     "| mcseg\n",
 ];
 
-#[test]
-fn help_names_each_line_and_limit(rt: HostRuntime) {
-    let short = run_program(&rt, rt.alloc(), &["mcseg", "-h"], b"get a\r\n");
-    assert_eq!(rt; short.status, 0);
-    assert!(rt; short.errors.is_empty());
-    let long = run_program(&rt, rt.alloc(), &["mcseg", "--help"], b"");
-    assert_eq!(rt; long.status, 0);
-    assert!(rt; long.errors.is_empty());
-    assert_eq!(rt; short.output.as_slice(), long.output.as_slice());
-    let text = str::from_utf8(long.output.as_slice()).expect(&rt, "text");
+fn asserts_shown<R: Abort>(rt: &R, ran: &Ran) {
+    assert_eq!(rt; ran.status, 0);
+    assert!(rt; ran.errors.is_empty());
+}
+
+fn asserts_parts<R: Abort>(rt: &R, text: &str) {
     for part in HELP.as_slice() {
         assert!(rt; text.contains(*part), "{part}");
     }
+}
+
+fn asserts_widths<R: Abort>(rt: &R, text: &str) {
     for line in text.lines() {
         assert!(rt; line.len() <= 100, "{line}");
     }
+}
+
+fn asserts_help<R: Abort>(rt: &R, short: &Ran, long: &Ran) {
+    asserts_shown(rt, short);
+    asserts_shown(rt, long);
+    assert_eq!(rt; short.output.as_slice(), long.output.as_slice());
+    let text = str::from_utf8(long.output.as_slice()).expect(rt, "text");
+    asserts_parts(rt, text);
+    asserts_widths(rt, text);
+}
+
+#[test]
+fn help_names_each_line_and_limit(rt: HostRuntime) {
+    let short = run_program(&rt, rt.alloc(), &["mcseg", "-h"], b"get a\r\n");
+    let long = run_program(&rt, rt.alloc(), &["mcseg", "--help"], b"");
+    asserts_help(&rt, &short, &long);
 }
