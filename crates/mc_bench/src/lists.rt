@@ -1,7 +1,7 @@
 //! Times a class: links, forced moves from a tail, hits in a random order, and removals in a random order; and links
 //! of which few stay.
 ghost use Rattle.std.specs.Prelude.{◌≡◌, IfSome};
-ghost use Rattle.mc_item.specs.Config.{IsSound};
+ghost use Rattle.mc_item.specs.Config.{IsBounded, IsSound};
 
 use crate::{nanos_each, print_row};
 use mc_item::{ClassNo, Config, Expiry, Fault, Key, Numbers, Passed, Seg, Who, Why};
@@ -109,8 +109,8 @@ fn time(rt: &HostRuntime, class: &mut ClassState, load: Load, entries: u64) -> O
     nanos_each(rt, start, entries)
 }
 
-// The most memory that the process had, in kilobytes.
-fn peak(rt: &HostRuntime) -> Option<u64> {
+/// The most memory that the process had, in kilobytes.
+pub(crate) fn peak(rt: &HostRuntime) -> Option<u64> {
     let status = std::fs::read_to_string(rt, "/proc/self/status").ok()?;
     let (_, after) = status.as_str().split_once("VmHWM:")?;
     after.split_whitespace().next()?.parse().ok()
@@ -129,8 +129,10 @@ fn time_loads(
     print_row(rt, "kilobytes at the peak", entries, peak(rt))
 }
 
-fn checked(config: Config) -> Option<Config>
-    ensures { IfSome result (λ c. IsSound c × (c ≡ config)) }
+/// The configuration, where it is sound.
+pub(crate) fn checked(config: Config) -> Option<Config>
+    ensures sound { IfSome result (λ c. IsSound c × (c ≡ config)) }
+    ensures bounded { IfSome result IsBounded }
 {
     match config.check() {
         Ok(config) => Some(config),

@@ -1,9 +1,10 @@
 //! Benchmarks of one layer alone. The first word on the command line names the load: `rt run -- lists` times class
-//! lists, `rt run -- few` links of which few stay, `rt run -- reader` the reader of requests. Without a word it does
-//! nothing, so that a gate's run is short.
+//! lists, `rt run -- few` links of which few stay, `rt run -- reader` the reader of requests, `rt run -- long` a store that
+//! answers a hundred million commands. Without a word it does nothing, so that a gate's run is short.
 #![tactic(auto)]
 
 mod lists;
+mod long;
 mod reader;
 
 use std::io;
@@ -29,7 +30,8 @@ fn run(rt: &HostRuntime, word: &str) -> io::Result<()> {
         "lists" => lists::time_all(rt),
         "few" => lists::time_few(rt),
         "reader" => reader::time_all(rt),
-        _ => println!(rt; "the loads are: lists, few, reader"),
+        "long" => long::time_long(rt),
+        _ => println!(rt; "the loads are: lists, few, reader, long"),
     }
 }
 

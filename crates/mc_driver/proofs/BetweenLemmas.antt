@@ -28,12 +28,12 @@ use Rattle.mc_proto.specs.Answers.{Moved, Replied, Counted}
 use Rattle.mc_pull.specs.Juggle.{IsJuggle}
 use Rattle.mc_pull.specs.Performed.{cooled_if}
 use Rattle.mc_pull.specs.Rounds.{Rounds, rounds}
-use Rattle.mc_rule.specs.Segment.{Rule}
 use Rattle.mc_script.specs.Exchanges.{Asks, Juggles, exchange, Crawls}
-use Rattle.mc_segment.specs.ClassState.{ClassView, chunks_for, class_view, opened}
+use Rattle.mc_segment.specs.ClassState.{ClassView}
 use Rattle.mc_store.specs.Calls.{IsJuggledBy, IsRepliedBy}
 use Rattle.mc_store.specs.Locked.{setting_of, class_lock}
 use Rattle.mc_store.specs.Sides.{class_told}
+use Rattle.mc_store.proofs.EarnedLemmas.{opened_again}
 use Rattle.mc_store.proofs.PairLemmas.{site_of_number}
 use Rattle.mc_driver.specs.Caller.{histories_seen}
 use Rattle.mc_driver.specs.Noted.{answered_command, answered_event}
@@ -82,13 +82,6 @@ replied_between config before after calls calls_new who command moment reply som
       evidence = subst (λ (h : List StripeEvent). StripeKeeps (setting_of config) number h (histories_seen config after).classes) (sym now) by.grew.sound;
     }
 
--- a class by its parts, without events
-parts_same : (n n' : ClassNo) (chunks chunks' events events' : ℕ) (rule rule' : Rule) → n ≡ n' → chunks ≡ chunks' → events ≡ events' → rule ≡ rule'
-    → class_view n chunks events rule [] 0 ≡ class_view n' chunks' events' rule' [] 0
-parts_same n n' chunks chunks' events events' rule rule' a b c d =
-    ap (λ (x : ClassNo). class_view x chunks events rule [] 0) a ∙ ap (λ (x : ℕ). class_view n' x events rule [] 0) b
-    ∙ ap (λ (x : ℕ). class_view n' chunks' x rule [] 0) c ∙ ap (λ (x : Rule). class_view n' chunks' events' x [] 0) d
-
 -- and by juggling
 pub juggled_between : (config : Config) (class : ClassNo) (before after : Sight) (who : Who) (moment : ℕ) (moves : Moves) → IsClass (setting_of config) class → Grows before after
     → IsJuggledBy config class before after who moment moves
@@ -96,10 +89,7 @@ pub juggled_between : (config : Config) (class : ClassNo) (before after : Sight)
 juggled_between config class before after who moment moves is grows by =
     let c = by.old in
     let now : (histories_seen config after).classes class ≡ c.history ++ by.own = ap class_events by.grew.now ∙ class_events-map (c.history ++ by.own) in
-    let made = by.grew.made_with in
-    let number = by.grew.number_is in
-    let same = parts_same c.number class c.chunks (chunks_for config class) c.max_events config.max_events c.rule (opened config class).rule
-    number (made.chunks ∙ ap (chunks_for config) number) made.max_events made.rule in
+    let same = opened_again config c class by.grew.made_with by.grew.number_is in
     record {
       grew = seen_grow config before after grows;
       placed = is;

@@ -52,6 +52,7 @@ module _ (config : Config) (final : FinalView) (all : AreStripes final.board con
         record {
           site = site;
           limit = under.kept.made_with.limit;
+          keeps_events = under.kept.made_with.keeps_events;
           legal = subst (λ (x : Site). IsLegal x s.stripe.history) (sym site)
               (subst (λ (k : ℕ). IsLegal (record { stripe = k; stripes = config.stripes; sizes = config.sizes }) s.stripe.history) under.number_is under.kept.keeps.legal);
         };

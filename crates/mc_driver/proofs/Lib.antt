@@ -13,3 +13,4 @@ pub mod InputLemmas
 pub mod PieceLemmas
 pub mod CutLemmas
 pub mod StatusLemmas
+pub mod SendLemmas

@@ -40,6 +40,7 @@ with_callers scripts config =
       temp_ttl = config.temp_ttl;
       callers = scripts + 2;
       max_events = config.max_events;
+      keeps_events = config.keeps_events;
     }
 
 -- so many scripts may be run at once
@@ -69,6 +70,7 @@ callers_at_work scripts (moment ∷ moments) = scripts + 2
 pub record IsStripe (config : Config) (number : ℕ) (s : Stripe) : Type 0 where
   pub site : s.site ≡ site_of config number
   pub limit : s.limit ≡ config.max_events
+  pub keeps_events : s.keeps_events ≡ config.keeps_events
   pub legal : IsLegal s.site s.history
 
 -- a class of this number of a configuration

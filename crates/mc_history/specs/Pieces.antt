@@ -1,19 +1,8 @@
--- A history's events, and the pieces that they lie in.
-use Rattle.std.specs.Prelude.{ℕ, ◌≡◌, ◌+◌, ◌-◌, ◌*◌, ◌^◌, ◌<◌, ◌≤◌, List, ◌++◌, Vec, length, vec_capacity, refl}
+-- The pieces that a history's events lie in.
+use Rattle.std.specs.Prelude.{ℕ, ◌≡◌, ◌+◌, ◌-◌, ◌*◌, ◌^◌, ◌<◌, ◌≤◌, List, ◌++◌, Vec, length, vec_capacity}
 use Rattle.std.specs.List.{All, flat_map}
-use Rattle.std.specs.Coded.{Coded, code_by, coded×, coded_ℕ, coded_list}
 use Rattle.std.specs.declared.alloc.Global.{Global}
 use Rattle.mc_history.specs.declared.pieces.Pieces.{Pieces}
-
--- a history: its events, oldest first, and how many more need no memory
-pub record Events (E : Type 0) : Type 0 where
-  pub items : List E
-  pub room : ℕ
-
--- a history is told from another by its two parts
-abbrev pub events_code : {E : Type 0} → Coded E → Coded (Events E)
-events_code {E} code =
-    code_by (List E × ℕ) (coded× (coded_list code) coded_ℕ) (λ h. (h.items, h.room)) (λ p. record { items = p.0; room = p.1 }) (λ _. refl)
 
 -- the events of the full pieces, one piece after another, and then those of the last
 abbrev pub events_of : {E : Type 0} → Pieces E → List E

@@ -2,6 +2,8 @@
 #![tactic(auto)]
 
 mod history;
+mod let_go;
 mod pieces;
+mod told;
 
 pub use history::History;

@@ -84,6 +84,22 @@ impl<E: Drop> Pieces<E> {
         self.left() + PIECE_LEN * self.ahead.len()
     }
 
+    // Makes room for n more events, where the last piece has too little.
+    #[inline(always)]
+    pub(crate) fn reserve(&mut self, alloc: Global, n: usize) -> Result<(), AllocError>
+        requires kept { IsKept self.old }
+        ensures kept { IsKept self.new }
+        ensures events { events_of self.new ≡ events_of self.old }
+        ensures ok { OnOk result (n ≤ room_of self.new) }
+        ensures room { room_of self.old ≤ room_of self.new }
+        ensures succeeds { n ≤ room_of self.old → IsOk result }
+    {
+        if n <= self.left() {
+            return Ok(());
+        }
+        self.make_room(alloc, n)
+    }
+
     // Makes room for n more events, piece by piece until there is enough.
     #[cold]
     #[inline(never)]

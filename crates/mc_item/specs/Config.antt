@@ -109,4 +109,5 @@ usual_config callers =
       temp_ttl = 61;
       callers = callers;
       max_events = 1048576;
+      keeps_events = true;
     }

@@ -7,7 +7,8 @@ use crate::fault::NoMemory;
 use crate::numbers::Numbers;
 use std::alloc::Global;
 
-/// The number of stripes, the slab classes with their sizes and limits, and the limits of histories.
+/// The number of stripes, the slab classes with their sizes and limits, the limits of histories, and whether their
+/// events are kept in memory.
 /// Percents are of the bytes of HOT, WARM and COLD; factors are hundredths of an age.
 #[derive(Drop)]
 pub struct Config {
@@ -22,6 +23,7 @@ pub struct Config {
     pub temp_ttl: u64,
     pub callers: u32,
     pub max_events: u64,
+    pub keeps_events: bool,
 }
 
 /// What is wrong with a configuration. The first that fits is answered.
@@ -158,6 +160,7 @@ impl Config {
             temp_ttl: 61,
             callers,
             max_events: 1_048_576,
+            keeps_events: true,
         })
     }
 

@@ -1,5 +1,5 @@
 -- What options ask for: which numbers a list is, and which configuration is meant (own).
-use Rattle.std.specs.Prelude.{ℕ, ◌≡◌, ◌≤◌, ◌^◌, List, [], ◌∷◌, ◌++◌, Bool, Option, Some, None, codes, length, replicate, ◌⊎◌}
+use Rattle.std.specs.Prelude.{ℕ, ◌≡◌, ◌≤◌, ◌^◌, List, [], ◌∷◌, ◌++◌, Bool, Option, Some, None, codes, length, replicate, false, ◌⊎◌}
 use Rattle.std.specs.List.{All}
 use Rattle.std.specs.Str.Parse.{without_leading_plus}
 use Rattle.clap.specs.Words.{Accepts, Text, one_text}
@@ -131,11 +131,11 @@ with_events (Some events) config = record config { max_events = events }
 abbrev pub sized : Option (List ℕ) → Config
 sized sizes = with_sizes sizes (usual_config 3)
 
--- the configuration that is asked for: the usual one with 3 callers, but for what the options say
+-- the configuration that is asked for: the usual one with 3 callers, but for what the options say, and its events go as they come
 unfoldable pub asked : Option (List ℕ) → Options → Config
 asked sizes options =
     with_events options.events (with_temp_ttl options.temp_ttl
-    (record (with_chunks options.chunks (with_stripes options.stripes (sized sizes))) { temp = options.temp }))
+    (record (with_chunks options.chunks (with_stripes options.stripes (sized sizes))) { temp = options.temp; keeps_events = false }))
 
 -- the fault's number, from 1, in the order in which faults are looked at
 abbrev pub fault_number : ConfigFault → ℕ

@@ -199,6 +199,7 @@ fn config_of(alloc: Global, sizes: Option<Vec<u64>>, options: Options) -> Result
     let striped = with_stripes(sized, options.stripes);
     let mut config = with_chunks(alloc, striped, options.chunks)?;
     config.temp = options.temp;
+    config.keeps_events = false;
     let config = with_temp_ttl(config, options.temp_ttl);
     Ok(with_events(config, options.events))
 }

@@ -27,7 +27,7 @@ grows_both a b c first more = record {
 -- a class that has only grown was made with the same configuration
 pub class_later : (config : Config) (c d : ClassView) → IsClassOf config c → Grows c d → IsClassOf config d
 class_later config c d of grows =
-    subst (IsClassOf config) (sym grows.same) record { bounded = of.bounded; chunks = of.chunks; max_events = of.max_events; rule = of.rule }
+    subst (IsClassOf config) (sym grows.same) record { bounded = of.bounded; chunks = of.chunks; max_events = of.max_events; keeps_events = of.keeps_events; rule = of.rule }
 
 none_some : {A : Type 0} {x : A} → None ≡ Some x → ⊥
 none_some h = cc

@@ -33,7 +33,7 @@ all_both w (x ∷ xs) ys first more = (first.0, all_both w xs ys first.1 more)
 -- nothing was done
 pub walked_itself : (w : Walker) (s : Stripe) (history : List ClassEvent) → Walked w s history s history
 walked_itself w s history = record {
-  grows = record { site = record { site = refl; limit = refl }; events = []; each = tt; history_is = sym (append-nil s.history) };
+  grows = record { site = record { site = refl; limit = refl; keeps_events = refl }; events = []; each = tt; history_is = sym (append-nil s.history) };
   own = λ agree. agree;
   others = λ other rule es apart agree. agree;
 }
@@ -42,7 +42,7 @@ walked_itself w s history = record {
 pub walked_both : (w : Walker) (a b c : Stripe) (x y z : List ClassEvent) → Walked w a x b y → Walked w b y c z → Walked w a x c z
 walked_both w a b c x y z first more = record {
   grows = record {
-    site = record { site = more.grows.site.site ∙ first.grows.site.site; limit = more.grows.site.limit ∙ first.grows.site.limit };
+    site = record { site = more.grows.site.site ∙ first.grows.site.site; limit = more.grows.site.limit ∙ first.grows.site.limit; keeps_events = more.grows.site.keeps_events ∙ first.grows.site.keeps_events };
     events = first.grows.events ++ more.grows.events;
     each = all_both w first.grows.events more.grows.events first.grows.each more.grows.each;
     history_is = more.grows.history_is ∙ (ap (λ (h : List StripeEvent). h ++ more.grows.events) first.grows.history_is ∙ append_assoc a.history first.grows.events more.grows.events);

@@ -43,6 +43,7 @@ pub record IsClassOf (config : Config) (c : ClassView) : Type 0 where
   pub bounded : IsBounded config
   pub chunks : c.chunks ≡ chunks_for config c.number
   pub max_events : c.max_events ≡ config.max_events
+  pub keeps_events : c.keeps_events ≡ config.keeps_events
   pub rule : c.rule ≡ rule_of config
 
 -- the stripe was made with this configuration
@@ -50,6 +51,7 @@ pub record IsStripeOf (config : Config) (s : Stripe) : Type 0 where
   pub stripes : s.site.stripes ≡ config.stripes
   pub sizes : s.site.sizes ≡ config.sizes
   pub limit : s.limit ≡ config.max_events
+  pub keeps_events : s.keeps_events ≡ config.keeps_events
 
 -- the survey is the event at its place of this history, by this caller's call and of this moment
 abbrev pub IsSurveyIn : List ClassEvent → Who → ℕ → Survey → Type 0

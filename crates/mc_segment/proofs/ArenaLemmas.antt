@@ -13,8 +13,9 @@ use Rattle.mc_segment.specs.declared.ends.Ends.{Ends}
 use Rattle.mc_segment.specs.declared.ends.Heads.{Heads}
 use Rattle.mc_segment.specs.Links.{with_newer, with_older, points_to, apply_newer, apply_older}
 use Rattle.mc_segment.specs.Nodes.{node, node_at, lacks}
-use Rattle.mc_segment.specs.Slots.{Block, slot, renewed, reolded, place_newer, place_older}
-use Rattle.mc_segment.specs.Arena.{Held, IsKept, held, all_bytes, code, part, nodes_of, ends_of, with_ends, pushed_ends, taken_ends, lists_in, IsPart, IsArena}
+use Rattle.std.specs.HashMap.{spare}
+use Rattle.mc_segment.specs.Slots.{Slots, slot, renewed, reolded, place_newer, place_older}
+use Rattle.mc_segment.specs.Arena.{Held, held, all_bytes, code, part, nodes_of, ends_of, with_ends, pushed_ends, taken_ends, lists_in, IsPart, IsArena}
 use Rattle.mc_segment.proofs.ChainLemmas.{by_eq, not_equal, some_none, walk_is, chain_cong, push_chain, take_chain, absent, node_entry, lacks_absent, first_lacked, names_lacked, cost_le, taken_length}
 use Rattle.mc_segment.proofs.PartLemmas.{entry_of, named, four, own_part, other_part, part_newer, part_relinked, still, quiet, untouched, with_count, with_bytes, numbered, one_if, at_most, times_at}
 
@@ -31,10 +32,10 @@ closed f next h l a =
     subst P (sym (whole f next h l a)) a
 
 -- the same, of the lists that contracts see
-pub seen : (bs : List Block) (next : ℕ) (h : Heads) (room : ℕ) (v : Held) → held (lists_in (slot bs) h) next room bs ≡ v → IsKept bs next h → IsArena (slot bs) next h v.lists
-seen bs next h room v is k =
-    let P : Held → Type 0 = λ x. IsArena (slot bs) next h x.lists in
-    subst P is k.arena
+pub seen : (slots : Slots) (next : ℕ) (h : Heads) (v : Held) → held (lists_in (slot slots) h) next (spare slots) slots.entries ≡ v → IsArena (slot slots) next h (lists_in (slot slots) h) → IsArena (slot slots) next h v.lists
+seen slots next h v is a =
+    let P : Held → Type 0 = λ x. IsArena (slot slots) next h x.lists in
+    subst P is a
 
 found_pure : (o : Option Place) → found_in Hot (entry_of (part 0 o)) (found_in Warm (entry_of (part 1 o)) (found_in Cold (entry_of (part 2 o)) (found_in Temp (entry_of (part 3 o)) None))) ≡ named o
 found_pure None = refl

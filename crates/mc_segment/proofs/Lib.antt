@@ -2,6 +2,6 @@ pub mod ChainLemmas
 pub mod TailLemmas
 pub mod PartLemmas
 pub mod ArenaLemmas
-pub mod BlockLemmas
+pub mod SlotLemmas
 pub mod StateLemmas
 pub mod FoundLemmas

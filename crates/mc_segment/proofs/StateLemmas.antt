@@ -83,8 +83,8 @@ kept h later chunks max_events rule old e r lists next place fresh may =
     }
 
 -- the same, where the class is told of as its callers see it
-module _ (h : Held) (number : ClassNo) (chunks max_events : ℕ) (rule : Rule) (old : List ClassEvent) (room : ℕ) (v : ClassView) (r : IsReplay h chunks max_events rule old)
-    (is : class_view number chunks max_events rule old room ≡ v) where
+module _ (h : Held) (number : ClassNo) (chunks max_events : ℕ) (keeps_events : Bool) (rule : Rule) (old : List ClassEvent) (room : ℕ) (v : ClassView) (r : IsReplay h chunks max_events rule old)
+    (is : class_view number chunks max_events keeps_events rule old room ≡ v) where
   pub seen_lists : h.lists ≡ lists_of v.history
   seen_lists = r.lists_is ∙ ap (λ (x : ClassView). lists_of x.history) is
 

@@ -1,5 +1,5 @@
 -- Four lists over one table of places: which lists the places and the ends stand for.
-use Rattle.std.specs.Prelude.{ℕ, ◌≡◌, ◌==◌, ◌+◌, ◌-◌, ◌*◌, ◌%◌, ◌^◌, ◌<◌, ◌≤◌, List, Option, Some, None, if◌then◌else◌}
+use Rattle.std.specs.Prelude.{ℕ, ◌≡◌, ◌==◌, ◌+◌, ◌-◌, ◌*◌, ◌^◌, ◌<◌, ◌≤◌, List, Option, Some, None, true, if◌then◌else◌}
 use Rattle.mc_item.specs.declared.lists.Entry.{Entry}
 use Rattle.mc_item.specs.declared.lists.Seg.{Seg}
 use Rattle.mc_item.specs.declared.lists.Seg.TheVariants.{Hot, Warm, Cold, Temp}
@@ -10,22 +10,22 @@ use Rattle.mc_segment.specs.declared.ends.Ends.{Ends}
 use Rattle.mc_segment.specs.declared.ends.Heads.{Heads}
 use Rattle.mc_segment.specs.Nodes.{walk, IsChain}
 use Rattle.mc_segment.specs.Links.{end_of}
-use Rattle.mc_segment.specs.Slots.{Block, slot, slots_of, IsReady}
+use Rattle.mc_segment.specs.Slots.{is_among}
 
--- an arena as contracts see it: its lists, the next number, how many more entries it takes without memory, and its blocks
+-- an arena as contracts see it: its lists, the next number, how many more entries it takes without memory, and its slots
 pub record Held : Type 0 where
   pub lists : Lists
   pub next : ℕ
   pub room : ℕ
-  pub blocks : List Block
+  pub slots : List (ℕ × Option Place)
 
 -- an arena by its parts
-abbrev pub held : Lists → ℕ → ℕ → List Block → Held
-held lists next room blocks = record { lists = lists; next = next; room = room; blocks = blocks }
+abbrev pub held : Lists → ℕ → ℕ → List (ℕ × Option Place) → Held
+held lists next room slots = record { lists = lists; next = next; room = room; slots = slots }
 
 -- the number has a slot in memory
 abbrev pub HasSlot : Held → ℕ → Type 0
-HasSlot h q = q % 16 < slots_of h.blocks q
+HasSlot h q = is_among h.slots q ≡ true
 
 -- the bytes of all four lists
 abbrev pub all_bytes : Lists → ℕ
@@ -88,8 +88,3 @@ pub record IsArena (f : ℕ → Option Place) (next : ℕ) (h : Heads) (l : List
   pub count : count_of l ≤ next
   pub bytes : all_bytes l ≤ 2 ^ 20 * next
   pub limit : next ≤ 2 ^ 32
-
--- what an arena keeps: its lists over the places of its blocks, and blocks that are ready for the next numbers
-pub record IsKept (bs : List Block) (next : ℕ) (h : Heads) : Type 0 where
-  pub arena : IsArena (slot bs) next h (lists_in (slot bs) h)
-  pub ready : IsReady bs next

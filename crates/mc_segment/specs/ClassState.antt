@@ -10,20 +10,21 @@ use Rattle.mc_rule.specs.Segment.{Rule, rule_of}
 use Rattle.mc_rule.specs.Lawful.{is_named, IsLawfulHistoryByLists}
 use Rattle.mc_segment.specs.Arena.{Held}
 
--- a class: its number, its limit of chunks and of events, the numbers of its rule, all that happened, oldest first, and
--- how many more events take no memory
+-- a class: its number, its limit of chunks and of events, whether events are kept in memory, the numbers of its rule, all
+-- that happened, oldest first, and how many more events take no memory
 pub record ClassView : Type 0 where
   pub number : ClassNo
   pub chunks : ℕ
   pub max_events : ℕ
+  pub keeps_events : Bool
   pub rule : Rule
   pub history : List ClassEvent
   pub room : ℕ
 
 -- a class by its parts
-abbrev pub class_view : ClassNo → ℕ → ℕ → Rule → List ClassEvent → ℕ → ClassView
-class_view number chunks max_events rule history room =
-    record { number = number; chunks = chunks; max_events = max_events; rule = rule; history = history; room = room }
+abbrev pub class_view : ClassNo → ℕ → ℕ → Bool → Rule → List ClassEvent → ℕ → ClassView
+class_view number chunks max_events keeps_events rule history room =
+    record { number = number; chunks = chunks; max_events = max_events; keeps_events = keeps_events; rule = rule; history = history; room = room }
 
 -- a rule by its numbers
 abbrev pub rule_with : Bool → ℕ → ℕ → ℕ → ℕ → ℕ → Rule
@@ -36,7 +37,7 @@ chunks_for config class = slice_index config.chunks (class.0 - 1)
 
 -- a class of a configuration without events
 abbrev pub opened : Config → ClassNo → ClassView
-opened config class = class_view class (chunks_for config class) config.max_events (rule_of config) [] 0
+opened config class = class_view class (chunks_for config class) config.max_events config.keeps_events (rule_of config) [] 0
 
 -- the class with one event more, and this room
 abbrev pub appended : ClassView → ClassEvent → ℕ → ClassView

@@ -3,11 +3,11 @@ ghost use Rattle.std.specs.Prelude.{◌≡◌, ◌+◌, ◌*◌, ◌<◌, ◌≤
 ghost use Rattle.mc_rule.specs.Lists.{no_lists, list_of, with_list, find, without, found, segment_of, linked, unlinked, moved, cost_sum, count_of, times_in};
 ghost use Rattle.mc_segment.specs.Arena.{all_bytes, HasSlot};
 
-use crate::blocks::BLOCK_LEN;
 use crate::ends::{Ends, Heads};
-use crate::slots::{empty, fill, give_back, make_blocks, set_newer, set_older};
+use crate::slots::{Slots, empty, fill, give_back, make, reserve, set_newer, set_older};
 use mc_item::{Entry, Seg, Why};
 use std::alloc::{AllocError, Global};
+use std::collections::HashMap;
 use std::marker::Model;
 
 /// An entry, with the numbers beside it.
@@ -25,25 +25,24 @@ pub struct Place {
     pub node: Node,
 }
 
-/// Four lists, newest first. A number is given once; its slot's memory is given back with its block.
+/// Four lists, newest first. A number is given once, and its slot is given back when its entry goes.
 #[derive(Drop)]
 pub struct Arena {
-    pub(crate) slots: Vec<Vec<Option<Place>>>,
+    pub(crate) slots: Slots,
     pub(crate) next: u64,
     pub(crate) heads: Heads,
-    alloc: Global,
 }
 
 impl Model for Arena {
-    ghost use Rattle.std.specs.Prelude.{◌-◌, ◌*◌, length};
+    ghost use Rattle.std.specs.HashMap.{spare};
     ghost use Rattle.mc_segment.specs.Slots.{slot};
-    ghost use Rattle.mc_segment.specs.Arena.{Held, held, lists_in, IsKept};
+    ghost use Rattle.mc_segment.specs.Arena.{Held, held, lists_in, IsArena};
 
     ghost Value = { Held };
 
-    ghost view = { λ a. held (lists_in (slot a.slots.items) a.heads) a.next (16 * length a.slots.items - a.next) a.slots.items };
+    ghost view = { λ a. held (lists_in (slot a.slots) a.heads) a.next (spare a.slots) a.slots.entries };
 
-    ghost invariant = { λ a. IsKept a.slots.items a.next a.heads };
+    ghost invariant = { λ a. IsArena (slot a.slots) a.next a.heads (lists_in (slot a.slots) a.heads) };
 }
 
 // The time of an entry after a move.
@@ -62,7 +61,7 @@ fn time_after(why: Why, moment: u64, time: u64) -> u64
 impl Arena {
     /// Four empty lists. It takes no memory.
     pub fn new(alloc: Global) -> Arena
-        ensures { (result.lists ≡ no_lists) × (result.next ≡ 0) × (result.room ≡ 0) }
+        ensures { (result.lists ≡ no_lists) × (result.next ≡ 0) }
     {
         let ends = Ends {
             newest: None,
@@ -71,7 +70,7 @@ impl Arena {
             bytes: 0,
         };
         Arena {
-            slots: Vec::new(alloc),
+            slots: HashMap::new(alloc),
             next: 0,
             heads: Heads {
                 hot: ends,
@@ -79,21 +78,18 @@ impl Arena {
                 cold: ends,
                 temp: ends,
             },
-            alloc,
         }
     }
 
     /// Makes room for n more numbers.
     #[inline(always)]
     pub fn reserve(&mut self, n: usize) -> Result<(), AllocError>
-        requires few { n ≤ 2 ^ 32 }
         ensures same { (self.new.lists ≡ self.old.lists) × (self.new.next ≡ self.old.next) }
         ensures room { OnOk result (n ≤ self.new.room) }
         ensures kept { self.old.room ≤ self.new.room }
         ensures succeeds { n ≤ self.old.room → IsOk result }
     {
-        let count = (self.next + n as u64).div_ceil(BLOCK_LEN);
-        make_blocks(&mut self.slots, self.alloc, count)
+        reserve(&mut self.slots, n)
     }
 
     /// The number of the next push.
@@ -144,6 +140,7 @@ impl Arena {
         ensures room { (self.new.next ≡ self.old.next + 1) × (self.old.room ≤ self.new.room + 1) }
         ensures slot { HasSlot self.new self.old.next }
     {
+        make(&mut self.slots, self.next);
         self.next += 1;
     }
 
@@ -214,13 +211,13 @@ impl Arena {
         Some((seg, entry))
     }
 
-    // Gives back the memory of a number's block, where it has no entry and no number of it is to come.
+    // Gives back the slot of a number that is in no list.
     fn give_back(&mut self, number: u64)
-        ensures { (self.new.lists ≡ self.old.lists) × (self.new.next ≡ self.old.next) × (self.new.room ≡ self.old.room) }
+        requires gone { found number self.old.lists ≡ None }
+        ensures same { (self.new.lists ≡ self.old.lists) × (self.new.next ≡ self.old.next) }
+        ensures room { self.old.room ≤ self.new.room }
     {
-        if number / BLOCK_LEN < self.next / BLOCK_LEN {
-            give_back(&mut self.slots, self.alloc, number);
-        }
+        give_back(&mut self.slots, number);
     }
 
     /// Takes the entry of a number that is in a list.
@@ -229,7 +226,8 @@ impl Arena {
         ensures lists { self.new.lists ≡ unlinked number self.old.lists }
         ensures inside { number < self.old.next }
         ensures count { count_of self.new.lists ≤ count_of self.old.lists }
-        ensures same { (self.new.next ≡ self.old.next) × (self.new.room ≡ self.old.room) }
+        ensures same { self.new.next ≡ self.old.next }
+        ensures room { self.old.room ≤ self.new.room }
     {
         let (_, entry) = self.take(number).unwrap();
         self.give_back(number);

@@ -2,7 +2,6 @@
 #![tactic(auto)]
 
 mod arena;
-mod blocks;
 mod ends;
 mod leaving;
 mod linking;

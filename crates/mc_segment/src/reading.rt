@@ -23,7 +23,8 @@ impl ClassState {
 
     /// All that happened, oldest first.
     pub fn history(&self) -> &History<ClassNoted>
-        ensures { result.now.items ≡ self.now.history }
+        ensures value { result.now.items ≡ self.now.history }
+        ensures kept { result.now.kept ≡ self.now.keeps_events }
     {
         &self.history
     }

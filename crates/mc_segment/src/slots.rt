@@ -1,100 +1,112 @@
-//! The slots of a class, by the numbers of their entries. A block is made when its first number is to come, and given
-//! back when its last entry goes.
-ghost use Rattle.std.specs.Prelude.{◌≡◌, ◌≢◌, ◌<◌, ◌≤◌, ◌==◌, ◌/◌, ◌%◌, ℕ, Some, None, OnOk, IsOk, if◌then◌else◌, length};
-ghost use Rattle.std.specs.Option.{option_copied};
-ghost use Rattle.mc_segment.specs.Slots.{slot, slots_of, place_newer, place_older, IsShaped, IsLonger};
+//! The slots of a class, under the numbers of their entries: one is made for each new number, and given back when its entry goes.
+ghost use Rattle.std.specs.Prelude.{◌≡◌, ◌<◌, ◌≤◌, ◌+◌, ◌==◌, ℕ, Some, None, true, OnOk, IsOk, if◌then◌else◌};
+ghost use Rattle.std.specs.HashMap.{spare};
+ghost use Rattle.std.specs.Option.{option_copied, option_map};
+ghost use Rattle.mc_segment.specs.Slots.{slot, has_slot, place_newer, place_older, renewed, reolded, IsShaped};
 
 use crate::arena::Place;
-use crate::blocks;
-use crate::blocks::{BLOCK_LEN, is_free, new_block};
-use std::alloc::{AllocError, Global};
+use std::alloc::AllocError;
+use std::collections::HashMap;
 
-// Makes blocks until there are this many.
-#[inline(always)]
-pub(crate) fn make_blocks(
-    slots: &mut Vec<Vec<Option<Place>>>,
-    alloc: Global,
-    count: u64,
-) -> Result<(), AllocError>
-    ensures longer { IsLonger slots.old.items slots.new.items }
-    ensures ok { OnOk result (count ≤ length slots.new.items) }
-    ensures succeeds { count ≤ length slots.old.items → IsOk result }
-{
-    'making: while (slots.len() as u64) < count {
-        slots.push(new_block(alloc)?)?;
-    }
-    Ok(())
-}
+/// The slots, under their numbers.
+pub(crate) type Slots = HashMap<u64, Option<Place>>;
 
 // The place of a number.
-pub(crate) fn place_at(slots: &Vec<Vec<Option<Place>>>, number: u64) -> Option<&Place>
-    ensures { option_copied result ≡ slot slots.now.items number }
+pub(crate) fn place_at(slots: &Slots, number: u64) -> Option<&Place>
+    ensures { option_copied result ≡ slot slots.now number }
 {
-    blocks::place_at(
-        slots.get((number / BLOCK_LEN) as usize)?,
-        number % BLOCK_LEN,
-    )
+    slots.get(&number)?.as_ref()
+}
+
+// Makes room for the slots of n more numbers.
+pub(crate) fn reserve(slots: &mut Slots, n: usize) -> Result<(), AllocError>
+    ensures slots { (q : ℕ) → slot slots.new q ≡ slot slots.old q }
+    ensures ok { OnOk result (n ≤ spare slots.new) }
+    ensures room { spare slots.old ≤ spare slots.new }
+    ensures succeeds { n ≤ spare slots.old → IsOk result }
+{
+    slots.reserve(n)
+}
+
+// Makes an empty slot for a number without a place.
+pub(crate) fn make(slots: &mut Slots, number: u64)
+    requires room { 0 < spare slots.old }
+    requires none { slot slots.old number ≡ None }
+    ensures slots { (q : ℕ) → slot slots.new q ≡ slot slots.old q }
+    ensures made { has_slot slots.new number ≡ true }
+    ensures room { spare slots.old ≤ spare slots.new + 1 }
+{
+    let _ = slots.insert(number, None);
+}
+
+// Gives the slot of a number without a place back.
+pub(crate) fn give_back(slots: &mut Slots, number: u64)
+    requires none { slot slots.old number ≡ None }
+    ensures slots { (q : ℕ) → slot slots.new q ≡ slot slots.old q }
+    ensures room { spare slots.old ≤ spare slots.new }
+{
+    let _ = slots.remove(&number);
 }
 
 // Takes the place out of a slot.
-pub(crate) fn empty(slots: &mut Vec<Vec<Option<Place>>>, number: u64) -> Option<Place>
-    ensures place { result ≡ slot slots.old.items number }
-    ensures slots { (q : ℕ) → slot slots.new.items q ≡ (if number == q then None else slot slots.old.items q) }
-    ensures shape { IsShaped slots.old.items slots.new.items }
+pub(crate) fn empty(slots: &mut Slots, number: u64) -> Option<Place>
+    ensures place { result ≡ slot slots.old number }
+    ensures slots { (q : ℕ) → slot slots.new q ≡ (if number == q then None else slot slots.old q) }
+    ensures shape { IsShaped slots.old slots.new }
 {
-    let Some(block) = slots.get_mut((number / BLOCK_LEN) as usize) else {
-        return None;
-    };
-    blocks::empty(block, number % BLOCK_LEN)
+    slots.get_mut(&number)?.take()
 }
 
 // Fills a slot.
-pub(crate) fn fill(slots: &mut Vec<Vec<Option<Place>>>, number: u64, place: Place)
-    requires { number % 16 < slots_of slots.old.items number }
-    ensures slots { (q : ℕ) → slot slots.new.items q ≡ (if number == q then Some place else slot slots.old.items q) }
-    ensures shape { IsShaped slots.old.items slots.new.items }
+pub(crate) fn fill(slots: &mut Slots, number: u64, place: Place)
+    requires { has_slot slots.old number ≡ true }
+    ensures slots { (q : ℕ) → slot slots.new q ≡ (if number == q then Some place else slot slots.old q) }
+    ensures shape { IsShaped slots.old slots.new }
 {
-    let Some(block) = slots.get_mut((number / BLOCK_LEN) as usize) else {
+    let Some(slot) = slots.get_mut(&number) else {
         unreachable!();
     };
-    blocks::fill(block, number % BLOCK_LEN, place);
+    *slot = Some(place);
 }
 
 // Tells a node the number before it.
-pub(crate) fn set_newer(slots: &mut Vec<Vec<Option<Place>>>, at: Option<u64>, to: Option<u64>)
-    ensures slots { (q : ℕ) → slot slots.new.items q ≡ place_newer at to q (slot slots.old.items q) }
-    ensures shape { IsShaped slots.old.items slots.new.items }
+pub(crate) fn set_newer(slots: &mut Slots, at: Option<u64>, to: Option<u64>)
+    ensures slots { (q : ℕ) → slot slots.new q ≡ place_newer at to q (slot slots.old q) }
+    ensures shape { IsShaped slots.old slots.new }
 {
     let Some(at) = at else {
         return;
     };
-    if let Some(block) = slots.get_mut((at / BLOCK_LEN) as usize) {
-        blocks::set_newer(block, at % BLOCK_LEN, to);
+    if let Some(slot) = slots.get_mut(&at) {
+        tell_newer(slot, to);
     }
 }
 
 // Tells a node the number behind it.
-pub(crate) fn set_older(slots: &mut Vec<Vec<Option<Place>>>, at: Option<u64>, to: Option<u64>)
-    ensures slots { (q : ℕ) → slot slots.new.items q ≡ place_older at to q (slot slots.old.items q) }
-    ensures shape { IsShaped slots.old.items slots.new.items }
+pub(crate) fn set_older(slots: &mut Slots, at: Option<u64>, to: Option<u64>)
+    ensures slots { (q : ℕ) → slot slots.new q ≡ place_older at to q (slot slots.old q) }
+    ensures shape { IsShaped slots.old slots.new }
 {
     let Some(at) = at else {
         return;
     };
-    if let Some(block) = slots.get_mut((at / BLOCK_LEN) as usize) {
-        blocks::set_older(block, at % BLOCK_LEN, to);
+    if let Some(slot) = slots.get_mut(&at) {
+        tell_older(slot, to);
     }
 }
 
-// Gives back the memory of a number's block, where no slot of it has a place.
-pub(crate) fn give_back(slots: &mut Vec<Vec<Option<Place>>>, alloc: Global, number: u64)
-    ensures slots { (q : ℕ) → slot slots.new.items q ≡ slot slots.old.items q }
-    ensures blocks { length slots.new.items ≡ length slots.old.items }
-    ensures others { (q : ℕ) → number / 16 ≢ q / 16 → slots_of slots.new.items q ≡ slots_of slots.old.items q }
+fn tell_newer(slot: &mut Option<Place>, to: Option<u64>)
+    ensures { slot.new ≡ option_map (renewed to) slot.old }
 {
-    if let Some(block) = slots.get_mut((number / BLOCK_LEN) as usize) {
-        if is_free(block) {
-            *block = Vec::new(alloc);
-        }
+    if let Some(place) = slot {
+        place.node.newer = to;
+    }
+}
+
+fn tell_older(slot: &mut Option<Place>, to: Option<u64>)
+    ensures { slot.new ≡ option_map (reolded to) slot.old }
+{
+    if let Some(place) = slot {
+        place.node.older = to;
     }
 }

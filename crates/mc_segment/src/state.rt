@@ -35,7 +35,7 @@ impl Model for ClassState {
 
     ghost Value = { ClassView };
 
-    ghost view = { λ s. class_view s.number s.chunks s.max_events
+    ghost view = { λ s. class_view s.number s.chunks s.max_events s.history.kept
         (rule_with s.temp s.temp_ttl s.hot_percent s.warm_percent s.hot_factor s.warm_factor) s.history.items
         (min s.lists.room (min s.history.room (vec_len s.spares))) };
 
@@ -74,7 +74,7 @@ impl ClassState {
             hot_factor: config.hot_factor,
             warm_factor: config.warm_factor,
             lists: Arena::new(alloc),
-            history: History::new(alloc),
+            history: History::keeping(alloc, config.keeps_events),
             spares: Vec::new(alloc),
             alloc,
         }

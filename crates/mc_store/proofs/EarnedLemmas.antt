@@ -1,5 +1,5 @@
 -- A refusal that was earned: when it is noted, and as more is seen.
-use Rattle.std.proofs.Common.{◌≡◌, ◌<◌, ◌⊎◌, ℕ, false, List, [], ◌∷◌, ◌++◌, inl, inr, length, refl, sym, ap, ◌∙◌, subst, append_assoc}
+use Rattle.std.proofs.Common.{◌≡◌, ◌<◌, ◌⊎◌, ℕ, Bool, false, List, [], ◌∷◌, ◌++◌, inl, inr, length, refl, sym, ap, ◌∙◌, subst, append_assoc}
 use Rattle.std.specs.Prelude.{Option, Some, None, IfSome}
 use mathlib.Core.List.{IsPrefix}
 use Rattle.mc_item.specs.Command.{key_of}
@@ -45,18 +45,20 @@ pub class_seen : (config : Config) (sight : Sight) (lock : ℕ) (class : ClassNo
 class_seen config sight lock class history at told =
     ap (λ (k : ℕ). class_events (list_at sight.seen k)) (sym at) ∙ (ap class_events told ∙ class_events-map history)
 
--- a class by its parts, without events
-parts_same : (n n' : ClassNo) (chunks chunks' events events' : ℕ) (rule rule' : Rule) → n ≡ n' → chunks ≡ chunks' → events ≡ events' → rule ≡ rule'
-    → class_view n chunks events rule [] 0 ≡ class_view n' chunks' events' rule' [] 0
-parts_same n n' chunks chunks' events events' rule rule' a b c d =
-    ap (λ (x : ClassNo). class_view x chunks events rule [] 0) a ∙ ap (λ (x : ℕ). class_view n' x events rule [] 0) b
-    ∙ ap (λ (x : ℕ). class_view n' chunks' x rule [] 0) c ∙ ap (λ (x : Rule). class_view n' chunks' events' x [] 0) d
+-- a class of a configuration is, without its events, the one that the configuration opens
+pub opened_again : (config : Config) (v : ClassView) (class : ClassNo) → IsClassOf config v → v.number ≡ class
+    → class_view v.number v.chunks v.max_events v.keeps_events v.rule [] 0 ≡ opened config class
+opened_again config v class made is =
+    let chunks = chunks_for config class in
+    ap (λ (x : ClassNo). class_view x v.chunks v.max_events v.keeps_events v.rule [] 0) is
+    ∙ ap (λ (x : ℕ). class_view class x v.max_events v.keeps_events v.rule [] 0) (made.chunks ∙ ap (chunks_for config) is)
+    ∙ ap (λ (x : ℕ). class_view class chunks x v.keeps_events v.rule [] 0) made.max_events
+    ∙ ap (λ (x : Bool). class_view class chunks config.max_events x v.rule [] 0) made.keeps_events
+    ∙ ap (λ (x : Rule). class_view class chunks config.max_events config.keeps_events x [] 0) made.rule
 
 -- a class of a configuration has the rounds that the configuration gives a class of its number
 rounds_same : (config : Config) (v : ClassView) (class : ClassNo) (who : Who) (moment : ℕ) → IsClassOf config v → v.number ≡ class → rounds v who moment config ≡ rounds (opened config class) who moment config
-rounds_same config v class who moment made is =
-    ap (λ (c : ClassView). rounds c who moment config)
-    (parts_same v.number class v.chunks (chunks_for config class) v.max_events config.max_events v.rule (opened config class).rule is (made.chunks ∙ ap (chunks_for config) is) made.max_events made.rule)
+rounds_same config v class who moment made is = ap (λ (c : ClassView). rounds c who moment config) (opened_again config v class made is)
 
 -- rounds in vain are all rounds of a search
 pub gone_through : (config : Config) (number : StripeNo) (v : ClassView) (class : ClassNo) (who : Who) (moment : ℕ) (after : List ClassEvent) → IsClassOf config v → v.number ≡ class

@@ -33,7 +33,7 @@ use Rattle.mc_store.proofs.ServedLemmas.{map_append, short_of}
 
 -- a stripe to which nothing was done
 pub grew_itself : (w : Walker) (s : Stripe) → StripeGrows w s s
-grew_itself w s = record { site = record { site = refl; limit = refl }; events = []; each = tt; history_is = sym (append-nil s.history) }
+grew_itself w s = record { site = record { site = refl; limit = refl; keeps_events = refl }; events = []; each = tt; history_is = sym (append-nil s.history) }
 
 made_both : (w : Walker) (xs ys : List StripeEvent) → AreMadeBy w xs → AreMadeBy w ys → AreMadeBy w (xs ++ ys)
 made_both w [] ys first more = more
@@ -42,7 +42,7 @@ made_both w (x ∷ xs) ys first more = (first.0, made_both w xs ys first.1 more)
 -- one walk after another
 pub grew_on : (w : Walker) (a b c : Stripe) → StripeGrows w a b → StripeGrows w b c → StripeGrows w a c
 grew_on w a b c first more = record {
-  site = record { site = more.site.site ∙ first.site.site; limit = more.site.limit ∙ first.site.limit };
+  site = record { site = more.site.site ∙ first.site.site; limit = more.site.limit ∙ first.site.limit; keeps_events = more.site.keeps_events ∙ first.site.keeps_events };
   events = first.events ++ more.events;
   each = made_both w first.events more.events first.each more.each;
   history_is = more.history_is ∙ (ap (λ (h : List StripeEvent). h ++ more.events) first.history_is ∙ append_assoc a.history first.events more.events);
@@ -52,11 +52,11 @@ grew_on w a b c first more = record {
 
 -- a class with another room
 room_of : (config : Config) (c : ClassView) (room : ℕ) → IsClassOf config c → IsClassOf config (with_room c room)
-room_of config c room of = record { bounded = of.bounded; chunks = of.chunks; max_events = of.max_events; rule = of.rule }
+room_of config c room of = record { bounded = of.bounded; chunks = of.chunks; max_events = of.max_events; keeps_events = of.keeps_events; rule = of.rule }
 
 -- and with more events
 more_of : (config : Config) (c : ClassView) (es : List ClassEvent) (room : ℕ) → IsClassOf config c → IsClassOf config (class_with c es room)
-more_of config c es room of = record { bounded = of.bounded; chunks = of.chunks; max_events = of.max_events; rule = of.rule }
+more_of config c es room of = record { bounded = of.bounded; chunks = of.chunks; max_events = of.max_events; keeps_events = of.keeps_events; rule = of.rule }
 
 -- a class is served whatever its room is
 pub served_room : (table : TableId) (config : Config) (owner : OwnerView) (seen : SeenView) (c : ClassView) (room : ℕ) → IsServed table config owner seen c → IsServed table config owner seen (with_room c room)

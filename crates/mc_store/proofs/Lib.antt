@@ -32,3 +32,4 @@ pub mod GrownLemmas
 pub mod CrawledLemmas
 pub mod AnswerLemmas
 pub mod CallLemmas
+pub mod SendLemmas

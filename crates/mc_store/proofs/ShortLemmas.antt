@@ -119,6 +119,7 @@ stripe_made config s s_new site made = record {
   stripes = ap (λ (t : Site). t.stripes) site.site ∙ made.stripes;
   sizes = ap (λ (t : Site). t.sizes) site.site ∙ made.sizes;
   limit = site.limit ∙ made.limit;
+  keeps_events = site.keeps_events ∙ made.keeps_events;
 }
 
 -- a refusal that was made stands at its place

@@ -113,6 +113,7 @@ module _ (config : Config) (who : Who) (command : Command) (moment : ℕ) (s s_n
           stripes = ap (λ (t : Site). t.stripes) site.site ∙ was_planned.made_with.stripes;
           sizes = ap (λ (t : Site). t.sizes) site.site ∙ was_planned.made_with.sizes;
           limit = site.limit ∙ was_planned.made_with.limit;
+          keeps_events = site.keeps_events ∙ was_planned.made_with.keeps_events;
         };
         is = record {
           dead = was_planned.is.dead ∙ sym (ap (λ (o : Option Item). dead_link o moment) items_same);

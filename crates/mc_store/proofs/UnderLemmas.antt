@@ -54,10 +54,10 @@ grows_but but old new grows = record { at = λ lock apart. grows.at lock }
 
 -- what is fixed stays, over no step and over two
 pub site_itself : (s : Stripe) → KeepsSite s s
-site_itself s = record { site = refl; limit = refl }
+site_itself s = record { site = refl; limit = refl; keeps_events = refl }
 
 pub site_both : (a b c : Stripe) → KeepsSite a b → KeepsSite b c → KeepsSite a c
-site_both a b c first more = record { site = more.site ∙ first.site; limit = more.limit ∙ first.limit }
+site_both a b c first more = record { site = more.site ∙ first.site; limit = more.limit ∙ first.limit; keeps_events = more.keeps_events ∙ first.keeps_events }
 
 -- a walk in the class that is needed is a search
 pub searched_walk : (config : Config) (who : Who) (command : Command) (moment : ℕ) (s s_new : Stripe) (v : ClassView) (class : ClassNo) (plan : Plan) → GoesBy config s command moment plan → plan.need ≡ needs.Fresh class → v.number ≡ class

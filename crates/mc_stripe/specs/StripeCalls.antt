@@ -8,10 +8,11 @@ use Rattle.mc_item.specs.declared.stripe_event.StripeEvent.{StripeEvent}
 use Rattle.mc_item.specs.declared.stripe_event.StripeEvent.TheVariants as events
 use Rattle.mc_stripe.specs.StripeState.{Stripe, cache_now}
 
--- what is fixed and the limit stay
+-- what is fixed stays, and so do the limit and whether events are kept
 pub record KeepsSite (old new : Stripe) : Type 0 where
   pub site : new.site ≡ old.site
   pub limit : new.limit ≡ old.limit
+  pub keeps_events : new.keeps_events ≡ old.keeps_events
 
 -- the history gains just this event, at its end
 abbrev pub Gains : Stripe → Stripe → StripeEvent → Type 0

@@ -1,5 +1,5 @@
 -- A stripe as contracts see it, and what its fields keep.
-use Rattle.std.specs.Prelude.{ℕ, ◌≡◌, ◌<◌, ◌≤◌, ◌^◌, List, Option, length}
+use Rattle.std.specs.Prelude.{ℕ, ◌≡◌, ◌<◌, ◌≤◌, ◌^◌, Bool, List, Option, length}
 use Rattle.std.specs.List.{All}
 use Rattle.mc_item.specs.Cache.{Cache}
 use Rattle.mc_item.specs.Stripe.{cache_of, IsLegal}
@@ -7,17 +7,18 @@ use Rattle.mc_item.specs.declared.answer.Site.{Site}
 use Rattle.mc_item.specs.declared.item.Item.{Item}
 use Rattle.mc_item.specs.declared.stripe_event.StripeEvent.{StripeEvent}
 
--- a stripe: what is fixed, how many events its history may have, the history, oldest first, and how many more
--- events need no memory
+-- a stripe: what is fixed, how many events its history may have, whether they are kept in memory, the history, oldest
+-- first, and how many more events need no memory
 pub record Stripe : Type 0 where
   pub site : Site
   pub limit : ℕ
+  pub keeps_events : Bool
   pub history : List StripeEvent
   pub room : ℕ
 
 -- a stripe of these parts
-abbrev pub stripe : Site → ℕ → List StripeEvent → ℕ → Stripe
-stripe site limit history room = record { site = site; limit = limit; history = history; room = room }
+abbrev pub stripe : Site → ℕ → Bool → List StripeEvent → ℕ → Stripe
+stripe site limit keeps_events history room = record { site = site; limit = limit; keeps_events = keeps_events; history = history; room = room }
 
 -- the cache that a stripe's history leaves
 abbrev pub cache_now : Stripe → Cache

@@ -216,6 +216,7 @@ fn push_other(
     requires valueless { IsValueless reply }
     ensures items { history.new.items ≡ history.old.items ++ did_of who (command_of asked.kind asked.key (verb_of asked.verb asked.amount) asked.amount asked.exptime) moment reply room ∷ [] }
     ensures room { history.old.room ≡ history.new.room + 1 }
+    ensures kept { history.new.kept ≡ history.old.kept }
 {
     history.push_reserved(Noted::other(who, asked, moment, reply, room));
 }
@@ -227,6 +228,7 @@ fn push_got(history: &mut History<Noted>, who: Who, key: Key, moment: u64, reply
     requires notable { IsOfGet reply room }
     ensures items { history.new.items ≡ history.old.items ++ did_of who (commands.Get key) moment reply room ∷ [] }
     ensures room { history.old.room ≡ history.new.room + 1 }
+    ensures kept { history.new.kept ≡ history.old.kept }
 {
     match reply {
         Reply::Value { flags, value, cas } => {
@@ -251,6 +253,7 @@ pub(crate) fn push_answer(
     requires notable { IsNotable command reply room }
     ensures items { history.new.items ≡ history.old.items ++ events.Did (record { who = who; command = command; moment = moment; reply = reply; room = room }) ∷ [] }
     ensures room { history.old.room ≡ history.new.room + 1 }
+    ensures kept { history.new.kept ≡ history.old.kept }
 {
     let asked = match command {
         Command::Get(key) => return push_got(history, who, key, moment, reply, room),

@@ -16,8 +16,8 @@ use std::collections::HashMap;
 use std::hash::RandomState;
 use std::marker::Model;
 
-/// One stripe's items, under their keys, and its history. Contracts see what is fixed, the limit of events, the
-/// history, and how many more events need no memory. The map hashes with the seed that it was made with: no reply
+/// One stripe's items, under their keys, and its history. Contracts see what is fixed, the limit of events, whether
+/// they are kept in memory, the history, and how many more events need no memory. The map hashes with the seed that it was made with: no reply
 /// depends on it, and where it is drawn anew for each run, no list of colliding keys can be made beforehand.
 #[derive(Drop)]
 pub struct StripeState {
@@ -37,7 +37,7 @@ impl Model for StripeState {
 
     ghost Value = { Stripe };
 
-    ghost view = { λ s. stripe s.site s.limit s.history.items (min (spare s.items) s.history.room) };
+    ghost view = { λ s. stripe s.site s.limit s.history.kept s.history.items (min (spare s.items) s.history.room) };
 
     ghost invariant = { λ s. IsKept s.site s.limit s.history.items s.versions (get (pointwise nat_eq) s.items) };
 }
@@ -58,12 +58,13 @@ impl StripeState {
         requires number { number.0 < config.now.stripes }
         ensures site { result.site ≡ record { stripe = number.0; stripes = config.now.stripes; sizes = config.now.sizes } }
         ensures limit { result.limit ≡ config.now.max_events }
+        ensures kept { result.keeps_events ≡ config.now.keeps_events }
         ensures history { result.history ≡ [] }
     {
         StripeState {
             limit: config.max_events,
             versions: 0,
-            history: History::new(alloc),
+            history: History::keeping(alloc, config.keeps_events),
             items: HashMap::with_hasher(alloc, seed),
             alloc,
             site: Site {
@@ -98,6 +99,7 @@ impl StripeState {
     /// All that happened, oldest first, as it lies in memory.
     pub fn history(&self) -> &History<Noted>
         ensures value { result.now.items ≡ self.now.history }
+        ensures kept { result.now.kept ≡ self.now.keeps_events }
         ensures legal { IsLegal self.now.site self.now.history }
         ensures within { length self.now.history ≤ self.now.limit }
         ensures bounds { HasBounds self.now.site self.now.limit }

@@ -33,8 +33,8 @@ fn told_rule(rt: &impl Abort, alloc: Global, config: &Config) -> String {
 }
 
 fn told_temp(rt: &impl Abort, alloc: Global, config: &Config) -> String {
-    let (temp, temp_ttl) = (config.temp, config.temp_ttl);
-    format!(in alloc; "{temp} {temp_ttl}").expect(rt, "memory")
+    let (temp, temp_ttl, keeps) = (config.temp, config.temp_ttl, config.keeps_events);
+    format!(in alloc; "{temp} {temp_ttl}, events kept {keeps}").expect(rt, "memory")
 }
 
 fn checked(rt: &impl Abort, alloc: Global) -> Config {
@@ -50,7 +50,7 @@ fn usual_numbers(rt: HostRuntime) {
     let rule = told_rule(&rt, alloc, &config);
     same(&rt, rule.as_str(), "20 40 20 200", 1);
     let temp = told_temp(&rt, alloc, &config);
-    same(&rt, temp.as_str(), "false 61", 2);
+    same(&rt, temp.as_str(), "false 61, events kept true", 2);
 }
 
 #[test]

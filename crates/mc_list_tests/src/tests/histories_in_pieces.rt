@@ -1,11 +1,11 @@
-//! Histories longer than a piece: each event stands where it came, and none moves or is lost as more come.
+//! Histories longer than a piece: each event stands where it came, and none moves or is lost as more come. One that lets
+//! its events go counts them.
 use mc_history::History;
-use std::alloc::Global;
 use std::process::Abort;
 
-// Events numbered from 0 to a number, each in room made for it alone.
-fn counted<R: Abort>(rt: &R, alloc: Global, many: u64) -> History<u64> {
-    let mut history = History::new(alloc);
+// A history with events numbered from 0 to a number, each in room made for it alone.
+fn counted<R: Abort>(rt: &R, history: History<u64>, many: u64) -> History<u64> {
+    let mut history = history;
     for number in 0..many {
         history.reserve(1).expect(rt, "room");
         history.push_reserved(number);
@@ -32,7 +32,7 @@ fn asserts_order<R: Abort>(rt: &R, history: &History<u64>, end: usize) {
 
 #[test]
 fn events_of_three_pieces_stand_in_order(rt: HostRuntime) {
-    let history = counted(&rt, rt.alloc(), 10_000);
+    let history = counted(&rt, History::new(rt.alloc()), 10_000);
     asserts_len(&rt, &history, 10_000);
     asserts_order(&rt, &history, 10_000);
     asserts_at(&rt, &history, 10_000, None);
@@ -49,7 +49,7 @@ fn a_history_begins_with_no_event(rt: HostRuntime) {
 // Room for 5,000 events is two pieces, so 3,192 more need no memory, and the event behind them needs a third.
 #[test]
 fn room_for_many_is_made_at_once(rt: HostRuntime) {
-    let mut history = counted(&rt, rt.alloc(), 4_095);
+    let mut history = counted(&rt, History::new(rt.alloc()), 4_095);
     history.reserve(5_000).expect(&rt, "room");
     for number in 4_095..9_095u64 {
         history.push_reserved(number);
@@ -67,8 +67,18 @@ fn asserts_refused<R: Abort>(rt: &R, history: &mut History<u64>, events: usize) 
 // More events than there are numbers for are refused, and the history stays.
 #[test]
 fn room_for_too_many_is_refused(rt: HostRuntime) {
-    let mut history = counted(&rt, rt.alloc(), 1);
+    let mut history = counted(&rt, History::new(rt.alloc()), 1);
     asserts_refused(&rt, &mut history, usize::MAX);
     asserts_len(&rt, &history, 1);
     asserts_at(&rt, &history, 0, Some(0));
+}
+
+#[test]
+fn events_that_are_let_go_are_counted(rt: HostRuntime) {
+    let mut history = counted(&rt, History::keeping(rt.alloc(), false), 10_000);
+    asserts_len(&rt, &history, 10_000);
+    asserts_at(&rt, &history, 0, None);
+    asserts_at(&rt, &history, 9_999, None);
+    asserts_refused(&rt, &mut history, usize::MAX);
+    asserts_len(&rt, &history, 10_000);
 }

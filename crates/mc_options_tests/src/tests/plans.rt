@@ -32,25 +32,25 @@ static WANTED: [Row; 20] = [
         None,
         NONE,
         &["mcseg"],
-        "1 stripes, sizes usual, 43 of 1024 chunks, no temp 61, 1048576 events",
+        "1 stripes, sizes usual, 43 of 1024 chunks, no temp 61, 1048576 events let go",
     ),
     (
         Some(b"96,1024"),
         (None, None, false, None, Some(20)),
         &["mcseg", "--events", "20", "--sizes", "96,1024"],
-        "1 stripes, sizes [96, 1024], 2 of 1024 chunks, no temp 61, 20 events",
+        "1 stripes, sizes [96, 1024], 2 of 1024 chunks, no temp 61, 20 events let go",
     ),
     (
         Some(b"0065"),
         NONE,
         &["mcseg", "--sizes=0065"],
-        "1 stripes, sizes [65], 1 of 1024 chunks, no temp 61, 1048576 events",
+        "1 stripes, sizes [65], 1 of 1024 chunks, no temp 61, 1048576 events let go",
     ),
     (
         None,
         (None, None, false, None, Some(16)),
         &["mcseg", "--events", "+16"],
-        "1 stripes, sizes usual, 43 of 1024 chunks, no temp 61, 16 events",
+        "1 stripes, sizes usual, 43 of 1024 chunks, no temp 61, 16 events let go",
     ),
     (
         Some(b"96,1024,2048"),
@@ -65,19 +65,19 @@ static WANTED: [Row; 20] = [
             "--sizes",
             "96,1024,2048",
         ],
-        "1 stripes, sizes [96, 1024, 2048], 3 of 3 chunks, temp 2592000, 1048576 events",
+        "1 stripes, sizes [96, 1024, 2048], 3 of 3 chunks, temp 2592000, 1048576 events let go",
     ),
     (
         None,
         (None, Some(1_048_576), false, Some(1), None),
         &["mcseg", "--chunks=+1048576", "--temp-ttl=1"],
-        "1 stripes, sizes usual, 43 of 1048576 chunks, no temp 1, 1048576 events",
+        "1 stripes, sizes usual, 43 of 1048576 chunks, no temp 1, 1048576 events let go",
     ),
     (
         None,
         (None, None, true, None, None),
         &["mcseg", "--temp"],
-        "1 stripes, sizes usual, 43 of 1024 chunks, temp 61, 1048576 events",
+        "1 stripes, sizes usual, 43 of 1024 chunks, temp 61, 1048576 events let go",
     ),
     (
         Some(b"96,"),
@@ -131,13 +131,13 @@ static WANTED: [Row; 20] = [
         None,
         (Some(4), None, false, None, Some(20)),
         &["mcseg", "--stripes", "4", "--events", "20"],
-        "4 stripes, sizes usual, 43 of 1024 chunks, no temp 61, 20 events",
+        "4 stripes, sizes usual, 43 of 1024 chunks, no temp 61, 20 events let go",
     ),
     (
         None,
         (Some(64), None, false, None, None),
         &["mcseg", "--stripes=+64"],
-        "64 stripes, sizes usual, 43 of 1024 chunks, no temp 61, 1048576 events",
+        "64 stripes, sizes usual, 43 of 1024 chunks, no temp 61, 1048576 events let go",
     ),
     (
         Some(b"96,80"),
@@ -215,6 +215,10 @@ fn told_temp(temp: bool) -> &'static str {
     if temp { "temp" } else { "no temp" }
 }
 
+fn told_kept(kept: bool) -> &'static str {
+    if kept { "kept" } else { "let go" }
+}
+
 // What a plan has.
 fn told_plan(rt: &impl Abort, alloc: Global, plan: &Plan) -> String {
     let config = &plan.config;
@@ -223,8 +227,9 @@ fn told_plan(rt: &impl Abort, alloc: Global, plan: &Plan) -> String {
     let temp = told_temp(config.temp);
     let rest = told_rest(rt, alloc, plan);
     let (stripes, life, events) = (config.stripes, config.temp_ttl, config.max_events);
+    let kept = told_kept(config.keeps_events);
     format!(in alloc;
-        "{stripes} stripes, sizes {sizes}, {chunks} chunks, {temp} {life}, {events} events{rest}"
+        "{stripes} stripes, sizes {sizes}, {chunks} chunks, {temp} {life}, {events} events {kept}{rest}"
     ).expect(rt, "memory")
 }
 

@@ -60,7 +60,7 @@ pub(super) fn one_script<'a, R: Abort>(
     scripts
 }
 
-/// The configuration that words ask for.
+/// The configuration that words ask for, with histories that can be read.
 pub(super) fn config_of<R: Abort>(rt: &R, alloc: Global, words: &[&str]) -> Config
     ensures stripes { 1 ≤ result.stripes }
     ensures classes { 1 ≤ length result.sizes }
@@ -68,7 +68,8 @@ pub(super) fn config_of<R: Abort>(rt: &R, alloc: Global, words: &[&str]) -> Conf
     let Ok(plan) = read_words(alloc, words) else {
         panic!(rt; "words are refused");
     };
-    let config = plan.config;
+    let mut config = plan.config;
+    config.keeps_events = true;
     assert!(rt; config.stripes >= 1);
     assert!(rt; !config.sizes.as_slice().is_empty());
     config

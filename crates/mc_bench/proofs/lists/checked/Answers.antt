@@ -20,5 +20,5 @@ checked_as : (o : Option ConfigFault) (x y : Config) → fault_of x ≡ o → Ma
 checked_as None x y is h = (ap fault_of (same_ok x y h) ∙ is, same_ok x y h)
 checked_as (Some f) x y is h = absurd (not_wrong y f h)
 
-pub returns-in-Ok : goal.returns-in-Ok
-returns-in-Ok c = checked_as _ c.args.config c.in-Ok.config refl c.in-Ok.ensures.fault
+pub returns-in-Ok-clause-sound : goal.returns-in-Ok-clause-sound
+returns-in-Ok-clause-sound c = checked_as _ c.args.config c.in-Ok.config refl c.in-Ok.ensures.fault

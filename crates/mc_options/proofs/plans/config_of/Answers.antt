@@ -1,4 +1,4 @@
-use Rattle.std.proofs.Common.{ap, ◌∙◌}
+use Rattle.std.proofs.Common.{ap, ◌∙◌, false}
 use Rattle.std.specs.Option.{option_map}
 use Rattle.mc_item.specs.declared.config.Config.{Config}
 use Rattle.mc_options.specs.Asked.{asked, with_chunks, with_events, with_sizes, with_stripes, with_temp_ttl}
@@ -11,4 +11,4 @@ returns c =
     let striped = c.with_stripes-striped.ensures ∙ ap (with_stripes c.args.options.stripes) sized in
     let chunked = c.in_ok-config.ensures ∙ ap (with_chunks c.args.options.chunks) striped in
     c.with_events.ensures
-    ∙ ap (with_events c.args.options.events) (c.with_temp_ttl-config.ensures ∙ ap (λ (config : Config). with_temp_ttl c.args.options.temp_ttl (record config { temp = c.args.options.temp })) chunked)
+    ∙ ap (with_events c.args.options.events) (c.with_temp_ttl-config.ensures ∙ ap (λ (config : Config). with_temp_ttl c.args.options.temp_ttl (record config { temp = c.args.options.temp; keeps_events = false })) chunked)

@@ -1,21 +1,16 @@
-use Rattle.std.proofs.Common.{ℕ, ◌*◌, ◌-◌, ◌∙◌, ap, arith}
+use Rattle.std.proofs.Common.{ap}
 use Rattle.mc_segment.specs.Arena.{Held}
 use Rattle.mc_segment.specs.Slots.{slot}
-use Rattle.mc_segment.proofs.ArenaLemmas.{seen, closed, whole, same_slots}
-use Rattle.mc_segment.proofs.BlockLemmas.{back_ready}
+use Rattle.mc_segment.proofs.ArenaLemmas.{seen, closed, whole, same_slots, slot_none}
 use Rattle.mc_segment.proofs.arena.Arena.give_back.Goals as goal
 
-pub invariant_of-self : goal.invariant_of-self
-invariant_of-self c =
-    let given = c.give_back.ensures in
-    let kept = same_slots _ _ _ _ (seen _ _ _ _ _ c.self.view_is c.self.invariant) (slot c.give_back.new.slots.items) given.slots in
-    record { arena = closed _ _ _ _ kept; ready = back_ready _ _ c.args.number _ given.blocks given.others (omega arith) c.self.invariant.ready }
+pub give_back-requires : goal.give_back-requires
+give_back-requires c = record { none = slot_none _ _ _ _ (seen c.self.inside.slots _ _ _ c.self.view_is c.self.invariant) c.args.number c.requires.gone }
 
-pub returns-then-number-self : goal.returns-then-number-self
-returns-then-number-self c =
-    let given = c.give_back.ensures in
-    let kept = same_slots _ _ _ _ (seen _ _ _ _ _ c.self.view_is c.self.invariant) (slot c.give_back.new.slots.items) given.slots in (
-      whole _ _ _ _ kept,
-      ap (λ (v : Held). v.next) c.self.view_is,
-      ap (λ (n : ℕ). 16 * n - c.self.inside.next) given.blocks ∙ ap (λ (v : Held). v.room) c.self.view_is,
-    )
+pub invariant_of-self : goal.invariant_of-self
+invariant_of-self c = closed _ _ _ _ (same_slots _ _ _ _ (seen c.self.inside.slots _ _ _ c.self.view_is c.self.invariant) (slot c.give_back.new.slots) c.give_back.ensures.slots)
+
+pub returns-clause-same : goal.returns-clause-same
+returns-clause-same c =
+    let kept = same_slots _ _ _ _ (seen c.self.inside.slots _ _ _ c.self.view_is c.self.invariant) (slot c.give_back.new.slots) c.give_back.ensures.slots in
+    (whole _ _ _ _ kept, ap (λ (v : Held). v.next) c.self.view_is)

@@ -14,18 +14,18 @@ use Rattle.mc_segment.proofs.arena.Arena.passed.Goals as goal
 pub loop-i-init : goal.loop-i-init
 loop-i-init c =
     let es = list_of c.args.self.now.lists c.args.seg in
-    let p = (seen _ _ _ _ _ c.self.view_is c.self.invariant).parts c.args.seg in
+    let p = (seen c.self.inside.slots _ _ _ c.self.view_is c.self.invariant).parts c.args.seg in
     let zero : length es ≡ length es - 0 = omega arith in
     (ap (λ (x : Ends). x.oldest) c.of-next.ensures ∙ (p.oldest_is ∙ (sym (before_last None es) ∙ ap (before None es) zero)), refl, refl)
 
 pub unreachable-requires : goal.unreachable-requires
 unreachable-requires c =
-    let p = (seen _ _ _ _ _ c.self.view_is c.self.invariant).parts c.args.seg in
+    let p = (seen c.self.inside.slots _ _ _ c.self.view_is c.self.invariant).parts c.args.seg in
     not_yet _ _ _ _ _ _ c.loop-i.i 0 c.loop-i.next p c.loop-i.invariant.0 (omega (arith, c.loop-i-test.true, c.requires.there)) c.in_default.is (omega (arith, c.loop-i-test.true, c.requires.there))
 
 pub unreachable-requires-in_default-place_at : goal.unreachable-requires-in_default-place_at
 unreachable-requires-in_default-place_at c =
-    let p = (seen _ _ _ _ _ c.self.view_is c.self.invariant).parts c.args.seg in
+    let p = (seen c.self.inside.slots _ _ _ c.self.view_is c.self.invariant).parts c.args.seg in
     missing _ _ _ _ _ _ c.loop-i.i c.in-Some.number c.loop-i.next p c.loop-i.invariant.0 (omega (arith, c.loop-i-test.true, c.requires.there)) c.in-Some.is
     (ap (part (code c.args.seg)) (sym c.place_at.ensures ∙ ap option_copied c.in_default-place_at.is))
 
@@ -34,7 +34,7 @@ loop-i-preserved c =
     let es = list_of c.args.self.now.lists c.args.seg in
     let i = c.loop-i.i in
     let n = c.in-Some.number in
-    let p = (seen _ _ _ _ _ c.self.view_is c.self.invariant).parts c.args.seg in
+    let p = (seen c.self.inside.slots _ _ _ c.self.view_is c.self.invariant).parts c.args.seg in
     let le : i ≤ length es = omega (arith, c.loop-i-test.true, c.requires.there) in
     let less : i < length es = omega (arith, c.loop-i-test.true, c.requires.there) in
     let stands = here _ _ _ _ _ _ i n c.loop-i.next p c.loop-i.invariant.0 le c.in-Some.is in

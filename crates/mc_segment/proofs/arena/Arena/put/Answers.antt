@@ -9,20 +9,19 @@ use Rattle.mc_segment.specs.Slots.{slot, place_newer}
 use Rattle.mc_segment.specs.Arena.{Held, IsArena, ends_of, with_ends, pushed_ends}
 use Rattle.mc_segment.proofs.PartLemmas.{linked_count}
 use Rattle.mc_segment.proofs.ArenaLemmas.{seen, closed, whole, put_arena}
-use Rattle.mc_segment.proofs.BlockLemmas.{shaped_ready}
 use Rattle.mc_segment.proofs.arena.Arena.put.Goals as goal
 
-put_is : (c : goal.After-set) → IsArena (slot c.fill.new.slots.items) c.self.inside.next c.set.new.self (linked c.args.seg c.args.entry c.args.self.now.lists)
+put_is : (c : goal.After-set) → IsArena (slot c.fill.new.slots) c.self.inside.next c.set.new.self (linked c.args.seg c.args.entry c.args.self.now.lists)
 put_is c =
-    let xs = c.self.inside.slots.items in
+    let xs = c.self.inside.slots in
     let h = c.self.inside.heads in
     let s = c.args.seg in
     let e = c.args.entry in
     let ends : c.of-ends.result ≡ ends_of h s = c.of-ends.ensures in
     let next : c.self.inside.next ≡ c.args.self.now.next = ap (λ (v : Held). v.next) c.self.view_is in
     let heads : c.set.new.self ≡ with_ends h s (pushed_ends (ends_of h s) e.number e.cost) = c.set.ensures ∙ ap (with_ends h s) (c.pushed.ensures ∙ ap (λ (x : Ends). pushed_ends x e.number e.cost) ends) in
-    subst (λ (v : Heads). IsArena (slot c.fill.new.slots.items) c.self.inside.next v (linked s e c.args.self.now.lists)) (sym heads)
-    (put_arena _ _ h _ (seen _ _ _ _ _ c.self.view_is c.self.invariant) (slot c.fill.new.slots.items) s e c.requires.absent
+    subst (λ (v : Heads). IsArena (slot c.fill.new.slots) c.self.inside.next v (linked s e c.args.self.now.lists)) (sym heads)
+    (put_arena _ _ h _ (seen c.self.inside.slots _ _ _ c.self.view_is c.self.invariant) (slot c.fill.new.slots) s e c.requires.absent
     (omega (arith, c.requires.inside, next))
     (omega (arith, c.requires.count, next))
     (omega (arith, c.requires.cost, next))
@@ -31,8 +30,7 @@ put_is c =
     ∙ ap (λ (x : Ends). if e.number == q then Some (record { seg = s; node = node e None x.newest }) else place_newer x.newest (Some e.number) q (slot xs q)) ends)))
 
 pub invariant_of-self : goal.invariant_of-self
-invariant_of-self c =
-    record { arena = closed _ _ _ _ (put_is c); ready = shaped_ready _ _ _ c.fill.ensures.shape (shaped_ready _ _ _ c.set_newer.ensures.shape c.self.invariant.ready) }
+invariant_of-self c = closed _ _ _ _ (put_is c)
 
 pub returns-clause-lists : goal.returns-clause-lists
 returns-clause-lists c = whole _ _ _ _ (put_is c)

@@ -10,7 +10,7 @@ pub push-requires-clause-limit : goal.push-requires-clause-limit
 push-requires-clause-limit c =
     let v = c.args.self.now in
     let place : HasPlaces v 1 = search rules in
-    omega (arith, c.reserve-2.ensures.same, seen_next _ _ _ _ _ _ _ _ c.self.invariant c.self.view_is, links_of-le v.history, place, c.self.invariant.limit, ap (λ (x : ClassView). x.max_events) c.self.view_is)
+    omega (arith, c.reserve-2.ensures.same, seen_next _ _ _ _ _ _ _ _ _ c.self.invariant c.self.view_is, links_of-le v.history, place, c.self.invariant.limit, ap (λ (x : ClassView). x.max_events) c.self.view_is)
 
 pub invariant_of-self-2 : goal.invariant_of-self-2
 invariant_of-self-2 c =
@@ -18,12 +18,12 @@ invariant_of-self-2 c =
     let n = c.next-number.result in
     let place : HasPlaces a.self.now 1 = search rules in
     let same = c.reserve-2.ensures.same in
-    let seen = seen_lists _ _ _ _ _ _ _ _ c.self.invariant c.self.view_is in
+    let seen = seen_lists _ _ _ _ _ _ _ _ _ c.self.invariant c.self.view_is in
     let e : ClassEvent = events.Linked (record { who = a.who; number = n; key = a.key; cost = a.cost; seg = a.seg; moment = a.moment }) in
-    keeps _ _ _ _ _ _ _ _ c.self.invariant c.self.view_is c.push.new.self _ e (search rules)
+    keeps _ _ _ _ _ _ _ _ _ c.self.invariant c.self.view_is c.push.new.self _ e (search rules)
     (c.push.ensures.lists
     ∙ (ap (λ (key : List ℕ). linked a.seg (entry n key a.cost a.moment) c.reserve-2.new.self.lists) c.in_ok-copy.ensures.value
     ∙ ap (λ (l : Lists). linked a.seg (entry n a.key a.cost a.moment) l) (same.0 ∙ seen)))
     (omega (arith, same, c.push.ensures.room)) place
     (λ q below. not_to_come n (n + 1) q (omega arith) (omega (arith, same, c.push.ensures.room, c.next-number.ensures, below)))
-    (c.requires.free, seen_fresh _ _ _ _ _ _ _ _ c.self.invariant c.self.view_is n (omega (arith, same, c.next-number.ensures)))
+    (c.requires.free, seen_fresh _ _ _ _ _ _ _ _ _ c.self.invariant c.self.view_is n (omega (arith, same, c.next-number.ensures)))

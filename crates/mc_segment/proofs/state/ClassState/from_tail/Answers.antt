@@ -14,7 +14,7 @@ returns-clause-behind c =
     let l = c.self.inside.lists.lists in
     let o = option_copied c.from_tail.result in
     let P : Lists → Type 0 = λ x. IfSome o (λ e. numbers_behind e.number (list_of x s) ≡ take c.args.j (reverse (numbers_of (list_of x s)))) in
-    subst P (seen_lists _ _ _ _ _ _ _ _ c.self.invariant c.self.view_is)
+    subst P (seen_lists _ _ _ _ _ _ _ _ _ c.self.invariant c.self.view_is)
     (behind_read (list_of l s) c.args.j o c.from_tail.ensures.inside (λ past. ap option_copied (c.from_tail.ensures.outside past)) (λ q. once_in q l s (c.law.ensures.once q)))
 
 pub returns-clause-there : goal.returns-clause-there
@@ -23,5 +23,5 @@ returns-clause-there c =
     let l = c.self.inside.lists.lists in
     let o = option_copied c.from_tail.result in
     let P : Lists → Type 0 = λ x. IfSome o (λ e. (find e.number (list_of x s) ≡ Some e) × (found e.number x ≡ Some (s, e))) in
-    subst P (seen_lists _ _ _ _ _ _ _ _ c.self.invariant c.self.view_is)
+    subst P (seen_lists _ _ _ _ _ _ _ _ _ c.self.invariant c.self.view_is)
     (found_tail l s c.args.j o c.from_tail.ensures.inside (λ past. ap option_copied (c.from_tail.ensures.outside past)) c.law.ensures.once)

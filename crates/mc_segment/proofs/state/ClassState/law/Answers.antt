@@ -9,4 +9,4 @@ returns-clause-inside c = λ s q. is_inside (lists_of c.args.self.now.history) q
 
 pub returns-clause-lists : goal.returns-clause-lists
 returns-clause-lists c = λ s q there. segment_is (lists_of c.args.self.now.history) q s there
-    (subst (λ (l : Lists). times_in q l ≤ 1) (seen_lists _ _ _ _ _ _ _ _ c.self.invariant c.self.view_is) (c.law.ensures.once q))
+    (subst (λ (l : Lists). times_in q l ≤ 1) (seen_lists _ _ _ _ _ _ _ _ _ c.self.invariant c.self.view_is) (c.law.ensures.once q))

@@ -13,6 +13,6 @@ returns-clause-behind c =
     let l = c.self.inside.lists.lists in
     let es = list_of l s in
     let P : Lists → Type 0 = λ x. IfSome (from_tail (list_of x s) j) (λ e. numbers_behind e.number (list_of x s) ≡ c.passed.result) in
-    subst P (seen_lists _ _ _ _ _ _ _ _ c.self.invariant c.self.view_is)
+    subst P (seen_lists _ _ _ _ _ _ _ _ _ c.self.invariant c.self.view_is)
     (subst (λ (ns : List ℕ). IfSome (from_tail es j) (λ e. numbers_behind e.number es ≡ ns)) (sym c.passed.ensures)
     (behind_read es j (from_tail es j) (from_head es j) (past_tail es j) (λ q. once_in q l s (c.law.ensures.once q))))

@@ -9,7 +9,7 @@ use Rattle.mc_segment.proofs.state.ClassState.turn.Goals as goal
 pub move_to-requires : goal.move_to-requires
 move_to-requires c =
     let e = c.args in
-    let seen = seen_lists _ _ _ _ _ _ _ _ c.self.invariant c.self.view_is in
+    let seen = seen_lists _ _ _ _ _ _ _ _ _ c.self.invariant c.self.view_is in
     let once = subst (λ (l : Lists). times_in e.number l ≤ 1) seen (c.law.ensures.once e.number) in
     record { there = ap (segment_of e.number) seen ∙ segment_is _ e.number e.from_seg c.requires.lawful.0 once }
 
@@ -18,8 +18,8 @@ invariant_of-self-2 c =
     let e = c.args in
     let now = c.move_to in
     let place : HasPlaces c.args.self.now 1 = search rules in
-    keeps _ _ _ _ _ _ _ _ c.self.invariant c.self.view_is now.new.self _ (shifted_event e.who e.number e.to_seg e.why e.moment e.passed e.at e.from_seg) (search rules)
-    (now.ensures.lists ∙ ap (moved e.number e.from_seg e.to_seg e.why e.moment) (seen_lists _ _ _ _ _ _ _ _ c.self.invariant c.self.view_is))
+    keeps _ _ _ _ _ _ _ _ _ c.self.invariant c.self.view_is now.new.self _ (shifted_event e.who e.number e.to_seg e.why e.moment e.passed e.at e.from_seg) (search rules)
+    (now.ensures.lists ∙ ap (moved e.number e.from_seg e.to_seg e.why e.moment) (seen_lists _ _ _ _ _ _ _ _ _ c.self.invariant c.self.view_is))
     (omega (arith, now.ensures.same)) place
     (λ q below. not_to_come e.number c.self.inside.lists.next q now.ensures.inside (omega (arith, now.ensures.same, below)))
     c.requires.lawful

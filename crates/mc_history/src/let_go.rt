@@ -1,0 +1,81 @@
+//! Events that are let go as they come.
+ghost use Rattle.std.specs.Prelude.{◌≡◌, ◌+◌, ◌<◌, ◌≤◌, ◌∷◌, ◌++◌, [], false, length, OnOk, IsOk};
+ghost use Rattle.mc_history.specs.Events.{Events};
+
+use crate::told::Told;
+use std::alloc::AllocError;
+use std::marker::Model;
+
+/// How many events there can be, so that sums of them are numbers of 64 bits.
+const MOST_EVENTS: usize = 1 << 63;
+
+/// Events of which the machine keeps the number alone, and up to which number it has promised room.
+#[derive(Drop)]
+pub(crate) struct LetGo<E> {
+    told: Told<E>,
+    len: usize,
+    end: usize,
+}
+
+impl<E> Model for LetGo<E> {
+    ghost use Rattle.std.specs.Prelude.{◌≡◌, ◌-◌, ◌≤◌, ◌^◌, false, length};
+    ghost use Rattle.mc_history.specs.Events.{Events, events_code};
+
+    ghost Value = { Events E };
+
+    ghost coded = { events_code E.code };
+
+    ghost view = { λ l. record { items = l.told; room = l.end - l.len; kept = false } };
+
+    ghost invariant = { λ l. (length l.told ≡ l.len) × (l.len ≤ l.end) × (l.end ≤ 2 ^ 63) };
+}
+
+impl<E: Drop> LetGo<E> {
+    // No events, and room for none.
+    pub(crate) fn new() -> LetGo<E>
+        ensures { result ≡ record { items = []; room = 0; kept = false } }
+    {
+        LetGo {
+            told: Told::new(),
+            len: 0,
+            end: 0,
+        }
+    }
+
+    // How many events there are.
+    #[inline(always)]
+    pub(crate) fn len(&self) -> usize
+        ensures { result ≡ length self.now.items }
+    {
+        self.len
+    }
+
+    // Promises room for n more events. It takes no memory: it is an error only where they could not be counted.
+    #[inline(always)]
+    pub(crate) fn reserve(&mut self, n: usize) -> Result<(), AllocError>
+        ensures items { self.new ≡ record self.old { room = self.new.room } }
+        ensures ok { OnOk result (n ≤ self.new.room) }
+        ensures room { self.old.room ≤ self.new.room }
+        ensures succeeds { n ≤ self.old.room → IsOk result }
+    {
+        if n <= self.end - self.len {
+            return Ok(());
+        }
+        if MOST_EVENTS - self.len < n {
+            return Err(AllocError);
+        }
+        self.end = self.len + n;
+        Ok(())
+    }
+
+    // Lets an event go. It is the last of the list, where there is room for it.
+    #[inline(always)]
+    pub(crate) fn push_reserved(&mut self, event: E)
+        requires room { 0 < self.old.room }
+        ensures items { self.new ≡ record self.old { items = self.old.items ++ event ∷ []; room = self.new.room } }
+        ensures room { self.old.room ≡ self.new.room + 1 }
+    {
+        self.told.push(&event);
+        self.len += 1;
+    }
+}
