@@ -14,21 +14,38 @@ use std::alloc::Global;
 use std::hash::RandomState;
 use std::io;
 use std::marker::Brand;
+use std::ops::Range;
+use std::sync::Wait;
 use std::time::Instant;
 
 #[derive(Clone, Copy)]
 enum Load {
     Get,
+    Miss,
     Set,
+    Anew,
+    Evict,
 }
+
+// The loads, and what a row says of each.
+static LOADS: [(Load, &str); 5] = [
+    (Load::Get, "ns a get"),
+    (Load::Miss, "ns a get of an absent key"),
+    (Load::Set, "ns a set"),
+    (Load::Anew, "ns a delete, or a set of its key"),
+    (Load::Evict, "ns a set that evicts"),
+];
+
+// A row is printed after so many commands of a load.
+static ROWS: [u64; 4] = [100_000, 1_000_000, 10_000_000, 100_000_000];
 
 // So many keys are got or set, one after the other.
 const KEYS: u64 = 10_000;
 
-// So many commands are timed together.
-const TENTH: u64 = 10_000_000;
+// So many keys are set where one evicts another.
+const MANY_KEYS: u64 = 400_000;
 
-// One stripe and one class with a chunk for each key, one caller, and histories of the greatest length.
+// One stripe, one class with two chunks for each key that is got or set, one caller, and histories of the greatest length.
 fn config_of(alloc: Global) -> Option<Config> {
     let sizes = Numbers::from_vec(Vec::from_slice(alloc, &[240]).ok()?);
     let chunks = Numbers::from_vec(Vec::from_slice(alloc, &[2 * KEYS]).ok()?);
@@ -50,35 +67,41 @@ fn key_of(alloc: Global, number: u64) -> Result<Key, NoMemory> {
     }
 }
 
-// A get of a key, or a set of it to 100 bytes.
-fn command_of(alloc: Global, load: Load, number: u64) -> Result<Command, NoMemory> {
-    let key = key_of(alloc, number)?;
+// A set of a key to 100 bytes.
+fn set_of(alloc: Global, number: u64) -> Result<Command, NoMemory> {
+    let value = Value::of(alloc, Vec::from_slice(alloc, &[b'v'; 100])?)?;
+    Ok(Command::Store {
+        verb: Verb::Set,
+        key: key_of(alloc, number)?,
+        flags: 0,
+        exptime: 0,
+        value,
+    })
+}
+
+fn command_of(alloc: Global, load: Load, turn: u64) -> Result<Command, NoMemory> {
     match load {
-        Load::Get => Ok(Command::Get(key)),
-        Load::Set => {
-            let value = Value::of(alloc, Vec::from_slice(alloc, &[b'v'; 100])?)?;
-            Ok(Command::Store {
-                verb: Verb::Set,
-                key,
-                flags: 0,
-                exptime: 0,
-                value,
-            })
-        }
+        Load::Get => Ok(Command::Get(key_of(alloc, turn % KEYS)?)),
+        Load::Miss => Ok(Command::Get(key_of(alloc, MANY_KEYS + turn % KEYS)?)),
+        Load::Set => set_of(alloc, turn % KEYS),
+        Load::Anew if turn % 2 == 0 => Ok(Command::Delete(key_of(alloc, turn / 2 % KEYS)?)),
+        Load::Anew => set_of(alloc, turn / 2 % KEYS),
+        Load::Evict => set_of(alloc, turn % MANY_KEYS),
     }
 }
 
-// Makes so many commands, key after key.
+// Makes a load's commands of these turns.
 fn make<N: Named>(
-    rt: &HostRuntime,
+    wait: &impl Wait,
+    alloc: Global,
     store: &Store<N>,
     pass: &mut Pass<N>,
     load: Load,
-    many: u64,
+    turns: Range<u64>,
 ) -> Result<(), Fault> {
-    for turn in 0..many {
-        let command = command_of(rt.alloc(), load, turn % KEYS)?;
-        store.command(rt.alloc(), rt, pass, command, 1000)?;
+    for turn in turns {
+        let command = command_of(alloc, load, turn)?;
+        store.command(alloc, wait, pass, command, 1000)?;
     }
     Ok(())
 }
@@ -86,45 +109,60 @@ fn make<N: Named>(
 // Nanoseconds a command.
 fn time<N: Named>(
     rt: &HostRuntime,
+    wait: &impl Wait,
     store: &Store<N>,
     pass: &mut Pass<N>,
     load: Load,
+    turns: Range<u64>,
 ) -> Option<u64> {
+    let many = turns.end.saturating_sub(turns.start);
     let start = Instant::now(rt).ok()?;
-    make(rt, store, pass, load, TENTH).ok()?;
-    nanos_each(rt, start, TENTH)
+    make(wait, rt.alloc(), store, pass, load, turns).ok()?;
+    nanos_each(rt, start, many)
 }
 
-// Makes ten times as many commands, and prints what each took and the most memory so far.
-fn time_tenths<N: Named>(
+// Makes a load's commands, and prints what one took between two rows and the most memory so far.
+fn time_load<N: Named>(
     rt: &HostRuntime,
+    wait: &impl Wait,
     store: &Store<N>,
     pass: &mut Pass<N>,
-    load: Load,
-    label: &str,
+    load: (Load, &str),
 ) -> io::Result<()> {
-    for tenth in 1..11u64 {
-        print_row(rt, label, tenth * TENTH, time(rt, store, pass, load))?;
-        print_row(rt, "kilobytes at the peak", tenth * TENTH, peak(rt))?;
+    let mut from = 0;
+    for to in ROWS.as_slice() {
+        print_row(rt, load.1, *to, time(rt, wait, store, pass, load.0, from..*to))?;
+        print_row(rt, "kilobytes at the peak", *to, peak(rt))?;
+        from = *to;
     }
     Ok(())
 }
 
-// Opens a store, sets each key, and then gets and sets them for long.
-fn run<N: Named>(
-    rt: &HostRuntime,
+// What a store is opened with.
+#[derive(Drop)]
+struct Parts {
     config: Config,
     board: Board,
     owners: Vec<Owner>,
     seen: Seen,
     seed: RandomState,
-) -> io::Result<()>
-    requires named { (board ≡ N.board) × (config ≡ N.config) }
+}
+
+// Opens a store, sets each key, and then makes each load's commands.
+fn run<N: Named>(rt: &HostRuntime, wait: &impl Wait, parts: Parts) -> io::Result<()>
+    requires named { (parts.board ≡ N.board) × (parts.config ≡ N.config) }
     requires sound { IsBounded N.config × IsSound N.config }
     requires locks { locks_of N.board.counts ≡ histories_for N.config }
-    requires owners { AreOwners N.board.table (histories_for N.config) owners.items }
-    requires seen { seen ≡ record { board = N.board.table; sight = blind } }
+    requires owners { AreOwners N.board.table (histories_for N.config) parts.owners.items }
+    requires seen { parts.seen ≡ record { board = N.board.table; sight = blind } }
 {
+    let Parts {
+        config,
+        board,
+        owners,
+        seen,
+        seed,
+    } = parts;
     let Ok((store, mut passes)) = Store::<N>::open(rt.alloc(), config, board, owners, seen, seed)
     else {
         return println!(rt; "no memory");
@@ -132,11 +170,13 @@ fn run<N: Named>(
     let Some(mut pass) = passes.pop() else {
         return println!(rt; "no caller");
     };
-    if make(rt, &store, &mut pass, Load::Set, KEYS).is_err() {
+    if make(wait, rt.alloc(), &store, &mut pass, Load::Set, 0..KEYS).is_err() {
         return println!(rt; "a set failed");
     }
-    time_tenths(rt, &store, &mut pass, Load::Get, "ns a get")?;
-    time_tenths(rt, &store, &mut pass, Load::Set, "ns a set")
+    for load in LOADS.as_slice() {
+        time_load(rt, wait, &store, &mut pass, *load)?;
+    }
+    Ok(())
 }
 
 // A board with a history for each stripe, each slab class and each caller.
@@ -150,14 +190,21 @@ fn board_for(alloc: Global, config: &Config) -> Option<(Board, Vec<Owner>, Seen)
     Board::open(alloc, locks + config.callers as usize).ok()
 }
 
-/// Times a hundred million gets and as many sets.
-pub(crate) fn time_long(rt: &HostRuntime) -> io::Result<()> {
+/// Times a hundred million commands of each load.
+pub(crate) fn time_long(rt: &HostRuntime, wait: &impl Wait) -> io::Result<()> {
     let seed = RandomState::new(rt)?;
     let Some(config) = config_of(rt.alloc()).and_then(checked) else {
         return println!(rt; "no configuration");
     };
-    match board_for(rt.alloc(), &config) {
-        Some((board, owners, seen)) => run::<Brand>(rt, config, board, owners, seen, seed),
-        None => println!(rt; "no memory"),
-    }
+    let Some((board, owners, seen)) = board_for(rt.alloc(), &config) else {
+        return println!(rt; "no memory");
+    };
+    let parts = Parts {
+        config,
+        board,
+        owners,
+        seen,
+        seed,
+    };
+    run::<Brand>(rt, wait, parts)
 }

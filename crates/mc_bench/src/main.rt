@@ -8,6 +8,7 @@ mod long;
 mod reader;
 
 use std::io;
+use std::sync::Wait;
 use std::time::Instant;
 
 // Prints a row: what was measured, of how many entries or in pieces of how many bytes, and the number.
@@ -25,12 +26,12 @@ fn nanos_each(rt: &HostRuntime, start: Instant, calls: u64) -> Option<u64> {
 }
 
 // Runs the load of this name.
-fn run(rt: &HostRuntime, word: &str) -> io::Result<()> {
+fn run(rt: &HostRuntime, wait: &impl Wait, word: &str) -> io::Result<()> {
     match word {
         "lists" => lists::time_all(rt),
         "few" => lists::time_few(rt),
         "reader" => reader::time_all(rt),
-        "long" => long::time_long(rt),
+        "long" => long::time_long(rt, wait),
         _ => println!(rt; "the loads are: lists, few, reader, long"),
     }
 }
@@ -39,7 +40,7 @@ fn main(rt: HostRuntime) -> io::Result<()> {
     let mut words = std::env::args(&rt)?;
     words.next();
     match words.next() {
-        Some(word) => run(&rt, word.as_str()),
+        Some(word) => run(&rt, &rt, word.as_str()),
         None => Ok(()),
     }
 }

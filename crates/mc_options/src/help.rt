@@ -51,11 +51,11 @@ An item has a chunk of the smallest slab class that holds 64 bytes, its key and 
 that class has no free chunk, one is taken from an item near the tail of the class's lists; where
 none can be taken, the reply is SERVER_ERROR out of memory storing object.
 
-Each key belongs to one stripe. There is a history of the commands of each stripe, and one of each
-slab class. That of a stripe keeps an event for each command that is answered, one for each key of a
-get, for each item that goes since it is dead or its chunk is taken, and for each mark that is
-cleared; that of a class for each entry that comes, moves or goes, and one or two for each %juggle
-or moment of upkeep. Each may have as many events as --events allows. With n stripes the new
+Each key belongs to one stripe. Each stripe and each slab class counts its events, as many as
+--events allows, and keeps none: a stripe one for each command that is answered, one for each key of
+a get, for each item that goes since it is dead or its chunk is taken, and for each mark that is
+cleared; a class one for each entry that comes, moves or goes, and one or two for each %juggle or
+moment of upkeep. So memory holds the items, the input and the replies. With n stripes the new
 versions of a stripe's items have cas numbers n apart.
 
 Exit statuses, and the lines on standard error:

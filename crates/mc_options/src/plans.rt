@@ -33,7 +33,7 @@ pub struct Options {
     pub temp: bool,
     /// Within how many seconds an item expires that begins in TEMP, instead of 61.
     pub temp_ttl: Option<u64>,
-    /// How many events a history may hold, instead of 1,048,576.
+    /// How many events a history may count, instead of 1,048,576.
     pub events: Option<u64>,
 }
 

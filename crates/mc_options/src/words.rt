@@ -130,7 +130,7 @@ fn command_of<'a>(alloc: Global) -> Result<Command<'a>, AllocError>
     let temp_ttl =
         "within how many seconds an item of TEMP expires, from 1 to{n}2,592,000 [default: 61]";
     let events =
-        "how many events a history may hold, from 16 to{n}4,294,967,296 [default: 1,048,576]";
+        "how many events a history may count, from 16 to{n}4,294,967,296 [default: 1,048,576]";
     Command::new(alloc, "mcseg")
         .version(VERSION)
         .about(ABOUT)

@@ -13,3 +13,6 @@ mod rows;
 mod seeing;
 mod table_compared;
 mod walks;
+
+/// What tests draw by.
+const SEED: u64 = 1;

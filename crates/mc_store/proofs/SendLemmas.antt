@@ -1,7 +1,15 @@
 -- A store may be shared by threads, and a pass may be sent to one: a lemma for each layer, since the search that goes
 -- down through all of them ends at a limit.
+use mathlib.Core.List.{List, [], ◌∷◌}
+use Prim.Native.Nat.{ℕ}
+use mir.Syntax.{Sym, Ty}
+use denote.Exit.{no}
 use denote.RattleType.{RattleType}
-use denote.Param.Send.{IsSend, IsSync, sendable}
+use denote.Param.{param, arg}
+use denote.Param.Send.{IsSend, IsSync, arg_send, arg_sync, param_send, param_sync, sendable}
+use denote.Param.SendFields.{FieldsHave, as_row_send, as_row_sync, declared_send, declared_sync}
+use denote.Struct.Field.{row_field}
+use denote.Struct.Tuple.{TupleAt, type_at, parts}
 use Rattle.std.proofs.Crossing.{crosses, send, sync}
 use Rattle.std.proofs.MapsCrossing as maps
 use Rattle.atomic_table.proofs.shared.Seat.TheSendSync as seat
@@ -71,3 +79,29 @@ store_sync N g s y = search (class_send, stripe_send, owner_send, seen_send, boa
 -- a caller has a pass
 pub pass_send : (N : RattleType) (g : Named.Ghosts N.Denot) → IsSend N → IsSend (Pass.the_row N g)
 pass_send N g s = search (owner_send, seen_send, sendable, crosses) depth 40 fits 50000
+
+-- H holds of each value that a closure has captured
+pub Captured : (RattleType → Type 0) → List RattleType → Type 0
+Captured H Ts = FieldsHave H (parts Ts)
+
+pub nothing : (H : RattleType → Type 0) → Captured H []
+unfolding Captured
+nothing H = tt
+
+pub one_sent : (T : RattleType) (Ts : List RattleType) → IsSend T → Captured IsSend Ts → Captured IsSend (T ∷ Ts)
+unfolding Captured
+one_sent T Ts s ss = (as_row_send (row_field T) s, ss)
+
+pub one_shared : (T : RattleType) (Ts : List RattleType) → IsSync T → Captured IsSync Ts → Captured IsSync (T ∷ Ts)
+unfolding Captured
+one_shared T Ts s ss = (as_row_sync (row_field T) s, ss)
+
+-- a closure that a call is given may be sent if each value may that it has captured
+pub closure_send : (i : ℕ) (δ : Ty) (ν : Sym) (Ts : List RattleType) → Captured IsSend Ts → IsSend (param i (arg δ no (TupleAt ν Ts)))
+unfolding Captured
+closure_send i δ ν Ts s = param_send i _ (arg_send δ no (TupleAt ν Ts) (declared_send (type_at ν Ts) s))
+
+-- and shared, if each may be
+pub closure_sync : (i : ℕ) (δ : Ty) (ν : Sym) (Ts : List RattleType) → Captured IsSync Ts → IsSync (param i (arg δ no (TupleAt ν Ts)))
+unfolding Captured
+closure_sync i δ ν Ts s = param_sync i _ (arg_sync δ no (TupleAt ν Ts) (declared_sync (type_at ν Ts) s))

@@ -1,5 +1,6 @@
 //! Tails of small classes are judged by `settle` and by the plain program of the table, and whatever they leave is
 //! compared.
+use super::SEED;
 use super::judging::judge;
 use super::plain_lists::{Lists, Piece, Sums};
 use super::plain_table::Row::{
@@ -19,8 +20,10 @@ use std::process::Abort;
 use std::random::RandomSource;
 use std::test::Fail;
 
-// How many classes are tried, and how many turns each has.
+// How many classes are tried before it is looked whether each row was met, how often at most, and how many turns each has.
 const CLASSES: u64 = 200;
+
+const ROUNDS: u32 = 20;
 
 const TURNS: u64 = 12;
 
@@ -320,12 +323,38 @@ fn check_met<R: Abort>(rt: &R, met: &[Met]) {
     }
 }
 
-// Plays the classes that a seed draws.
+// Whether each row was met.
+fn is_each_met(met: &[Met]) -> bool {
+    for row in TABLE {
+        if count_of(met, row) == 0 {
+            return false;
+        }
+    }
+    true
+}
+
+// Plays classes that are drawn.
+fn play_classes<R: Abort + RandomSource>(
+    rt: &R,
+    alloc: Global,
+    dice: &mut Dice,
+    met: &mut Vec<Met>,
+) -> Result<(), Fail> {
+    for _ in 0..CLASSES {
+        play_class(rt, alloc, dice, met)?;
+    }
+    Ok(())
+}
+
+// Plays the classes that a seed draws, and further ones while a row wasn't met.
 fn run<R: Abort + RandomSource>(rt: &R, alloc: Global, seed: u64) -> Result<(), Fail> {
     let mut dice = Dice::new(seed);
     let mut met = Vec::new(alloc);
-    for _ in 0..CLASSES {
-        play_class(rt, alloc, &mut dice, &mut met)?;
+    for _ in 0..ROUNDS {
+        play_classes(rt, alloc, &mut dice, &mut met)?;
+        if is_each_met(met.as_slice()) {
+            break;
+        }
     }
     check_met(rt, met.as_slice());
     Ok(())
@@ -333,5 +362,5 @@ fn run<R: Abort + RandomSource>(rt: &R, alloc: Global, seed: u64) -> Result<(), 
 
 #[test]
 fn tails_are_judged_by_the_table(rt: HostRuntime) -> Result<(), Fail> {
-    run(&rt, rt.alloc(), 1)
+    run(&rt, rt.alloc(), SEED)
 }

@@ -63,7 +63,7 @@ static OTHER: [Row; 4] = [
 // What is asked of the stripe that is held.
 static SAME: [Row; 1] = [(0, 1000, On(b'a', Get), "Miss")];
 
-// Makes rows while stripe 0 is held, and says so once they are answered.
+// Makes rows while stripe 0 is held.
 fn ask_while_held<N: Named, R: Abort + Wait>(
     rt: &R,
     alloc: Global,
@@ -71,7 +71,6 @@ fn ask_while_held<N: Named, R: Abort + Wait>(
     passes: &mut Vec<Pass<N>>,
     rows: &[Row],
     held: &AtomicBool,
-    answered: &AtomicBool,
 )
     requires four { N.config.stripes ≡ 4 }
     requires two { length N.config.sizes ≡ 2 }
@@ -82,7 +81,36 @@ fn ask_while_held<N: Named, R: Abort + Wait>(
         classes: 2,
     };
     check_rows(rt, alloc, store, passes, shape, rows);
-    answered.store(true, Ordering::SeqCst);
+}
+
+// Asks other stripes, and says so once they have answered.
+fn ask_others<N: Named, R: Abort + Wait>(
+    rt: &R,
+    alloc: Global,
+    store: &Store<N>,
+    passes: &mut Vec<Pass<N>>,
+    signs: &Signs,
+)
+    requires four { N.config.stripes ≡ 4 }
+    requires two { length N.config.sizes ≡ 2 }
+{
+    ask_while_held(rt, alloc, store, passes, OTHER.as_slice(), &signs.held);
+    signs.other.store(true, Ordering::SeqCst);
+}
+
+// Asks the stripe that is held, and says so once it has answered.
+fn ask_same<N: Named, R: Abort + Wait>(
+    rt: &R,
+    alloc: Global,
+    store: &Store<N>,
+    passes: &mut Vec<Pass<N>>,
+    signs: &Signs,
+)
+    requires four { N.config.stripes ≡ 4 }
+    requires two { length N.config.sizes ≡ 2 }
+{
+    ask_while_held(rt, alloc, store, passes, SAME.as_slice(), &signs.held);
+    signs.same.store(true, Ordering::SeqCst);
 }
 
 // Two threads ask, one for `b` and one for `a`.
@@ -97,13 +125,10 @@ fn ask_both<N: Named + Send + Sync, R: Threads + Abort + Wait + Sync>(
     requires four { N.config.stripes ≡ 4 }
     requires two { length N.config.sizes ≡ 2 }
 {
-    let held = &signs.held;
-    let other = OTHER.as_slice();
-    let same = SAME.as_slice();
     thread::join(
         rt,
-        || ask_while_held(rt, alloc, store, first, other, held, &signs.other),
-        || ask_while_held(rt, alloc, store, second, same, held, &signs.same),
+        || ask_others(rt, alloc, store, first, signs),
+        || ask_same(rt, alloc, store, second, signs),
     );
 }
 

@@ -89,10 +89,10 @@ struct Left {
 }
 
 // Runs a script on a store that keeps its events or lets them go.
-fn left_by<R: Abort + RandomSource + Threads + Wait + Sync>(
-    rt: &R,
+fn left_by<'a, R: Abort + RandomSource + Threads + Wait + Sync>(
+    rt: &'a R,
     alloc: Global,
-    script: &[u8],
+    script: &'a [u8],
     keeps: bool,
 ) -> Left {
     let mut config = config_of(rt, alloc, WORDS.as_slice());

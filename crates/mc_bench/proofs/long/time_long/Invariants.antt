@@ -1,4 +1,4 @@
 use Rattle.mc_bench.proofs.long.time_long.Given as goal
 
 abbrev pub ghosts-run : goal.ghosts-run
-ghosts-run g a = record { board = a.board; config = a.config }
+ghosts-run g a = record { board = a.parts.board; config = a.parts.config }

@@ -1,0 +1,15 @@
+use denote.Param.{param}
+use denote.Param.Send.{shr_send, mut_send}
+use Rattle.std.proofs.Crossing.{sync}
+use Rattle.mc_store.proofs.SendLemmas.{store_sync, pass_send, closure_send, nothing, one_sent}
+use Rattle.mc_examples.proofs.sharing.visited.Goals as goal
+
+pub join-one-requires-send-F : goal.join-one-requires-send-F
+join-one-requires-send-F g c κs within =
+    let store = store_sync (param 0 g.row.N) g.N.Named c.type_bounds.send-N c.type_bounds.sync-N in
+    let pass = pass_send (param 0 g.row.N) g.N.Named c.type_bounds.send-N in
+    closure_send 1 _ _ _
+        (one_sent _ _ (shr_send _ _ _ c.type_bounds.sync-R)
+        (one_sent _ _ (shr_send _ _ _ sync)
+        (one_sent _ _ (shr_send _ _ _ store)
+        (one_sent _ _ (mut_send _ _ _ pass) (nothing _)))))
