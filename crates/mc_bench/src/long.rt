@@ -131,7 +131,12 @@ fn time_load<N: Named>(
 ) -> io::Result<()> {
     let mut from = 0;
     for to in ROWS.as_slice() {
-        print_row(rt, load.1, *to, time(rt, wait, store, pass, load.0, from..*to))?;
+        print_row(
+            rt,
+            load.1,
+            *to,
+            time(rt, wait, store, pass, load.0, from..*to),
+        )?;
         print_row(rt, "kilobytes at the peak", *to, peak(rt))?;
         from = *to;
     }

@@ -9,7 +9,7 @@ join-one-requires-send-F g c κs within =
     let store = store_sync (param 0 g.row.N) g.N.Named c.type_bounds.send-N c.type_bounds.sync-N in
     let pass = pass_send (param 0 g.row.N) g.N.Named c.type_bounds.send-N in
     closure_send 1 _ _ _
-        (one_sent _ _ (shr_send _ _ _ c.type_bounds.sync-R)
-        (one_sent _ _ (shr_send _ _ _ sync)
-        (one_sent _ _ (shr_send _ _ _ store)
-        (one_sent _ _ (mut_send _ _ _ pass) (nothing _)))))
+    (one_sent _ _ (shr_send _ _ _ c.type_bounds.sync-R)
+    (one_sent _ _ (shr_send _ _ _ sync)
+    (one_sent _ _ (shr_send _ _ _ store)
+    (one_sent _ _ (mut_send _ _ _ pass) (nothing _)))))
