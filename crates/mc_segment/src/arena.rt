@@ -1,10 +1,10 @@
 //! Four lists of entries over one table of places, from which any number is taken out in one step.
-ghost use Rattle.std.specs.Prelude.{◌≡◌, ◌+◌, ◌*◌, ◌<◌, ◌≤◌, ◌^◌, ℕ, length, None, Some, OnOk, IsOk, IfSome, IsSome};
+ghost use Rattle.std.specs.Prelude.{◌≡◌, ◌+◌, ◌*◌, ◌<◌, ◌≤◌, ◌^◌, ℕ, length, None, Some, true, false, OnOk, IsOk, IfSome, IsSome};
 ghost use Rattle.mc_rule.specs.Lists.{no_lists, list_of, with_list, find, without, found, segment_of, linked, unlinked, moved, cost_sum, count_of, times_in};
 ghost use Rattle.mc_segment.specs.Arena.{all_bytes, HasSlot};
 
 use crate::ends::{Ends, Heads};
-use crate::slots::{Slots, empty, fill, give_back, make, reserve, set_newer, set_older};
+use crate::slots::{Slots, empty, fill, reserve, set_newer, set_older};
 use mc_item::{Entry, Seg, Why};
 use std::alloc::{AllocError, Global};
 use std::collections::HashMap;
@@ -130,31 +130,31 @@ impl Arena {
         let _ = self.heads.of(Seg::Hot);
     }
 
-    // Gives the next number an empty slot.
+    // The next number is given.
     fn grow(&mut self)
-        requires room { 0 < self.old.room }
         requires limit { self.old.next < 2 ^ 32 }
         ensures same { self.new.lists ≡ self.old.lists }
         ensures fresh { found self.old.next self.new.lists ≡ None }
         ensures sums { (count_of self.new.lists < self.new.next) × (all_bytes self.new.lists + 2 ^ 20 ≤ 2 ^ 20 * self.new.next) }
-        ensures room { (self.new.next ≡ self.old.next + 1) × (self.old.room ≤ self.new.room + 1) }
-        ensures slot { HasSlot self.new self.old.next }
+        ensures room { (self.new.next ≡ self.old.next + 1) × (self.new.room ≡ self.old.room) }
     {
-        make(&mut self.slots, self.next);
         self.next += 1;
     }
 
     // Puts an entry at a head, where its number is in no list.
     #[inline(always)]
-    fn put(&mut self, seg: Seg, entry: Entry)
+    fn put(&mut self, seg: Seg, entry: Entry, is_new: bool)
         requires absent { found entry.number self.old.lists ≡ None }
         requires inside { entry.number < self.old.next }
-        requires slot { HasSlot self.old entry.number }
+        requires room { is_new ≡ true → 0 < self.old.room }
+        requires slot { is_new ≡ false → HasSlot self.old entry.number }
         requires count { count_of self.old.lists < self.old.next }
         requires cost { all_bytes self.old.lists + entry.cost ≤ 2 ^ 20 * self.old.next }
         ensures lists { self.new.lists ≡ linked seg entry self.old.lists }
         ensures count { count_of self.new.lists ≡ count_of self.old.lists + 1 }
-        ensures same { (self.new.next ≡ self.old.next) × (self.new.room ≡ self.old.room) }
+        ensures next { self.new.next ≡ self.old.next }
+        ensures same { is_new ≡ false → self.new.room ≡ self.old.room }
+        ensures spare { self.old.room ≤ self.new.room + 1 }
     {
         let number = entry.number;
         let cost = entry.cost;
@@ -166,7 +166,7 @@ impl Arena {
             newer: None,
             older,
         };
-        fill(&mut self.slots, number, Place { seg, node });
+        fill(&mut self.slots, number, Place { seg, node }, is_new);
         self.heads.set(seg, ends.pushed(number, cost));
     }
 
@@ -181,23 +181,25 @@ impl Arena {
         ensures room { (self.new.next ≡ self.old.next + 1) × (self.old.room ≤ self.new.room + 1) }
     {
         self.grow();
-        self.put(seg, entry);
+        self.put(seg, entry, true);
     }
 
-    // Takes the entry of a number out of the list that it is in.
+    // Takes the entry of a number out of the list that it is in; its slot is kept where the entry comes back.
     #[inline(always)]
-    fn take(&mut self, number: u64) -> Option<(Seg, Entry)>
+    fn take(&mut self, number: u64, keeps: bool) -> Option<(Seg, Entry)>
         ensures entry { result ≡ found number self.old.lists }
         ensures there { IfSome result (λ p. find number (list_of self.old.lists p.0) ≡ Some p.1) }
         ensures left { IfSome result (λ p. with_list self.old.lists p.0 (without number (list_of self.old.lists p.0)) ≡ unlinked number self.old.lists) }
         ensures lists { self.new.lists ≡ unlinked number self.old.lists }
         ensures gone { found number self.new.lists ≡ None }
         ensures sums { IfSome result (λ p. (p.1.number ≡ number) × (number < self.old.next) × (count_of self.new.lists + 1 ≡ count_of self.old.lists) × (all_bytes self.new.lists + p.1.cost ≡ all_bytes self.old.lists)) }
-        ensures slot { IfSome result (λ p. HasSlot self.new number) }
+        ensures slot { keeps ≡ true → IfSome result (λ p. HasSlot self.new number) }
         ensures fits { IfSome result (λ p. (count_of self.new.lists < self.new.next) × (all_bytes self.new.lists + p.1.cost ≤ 2 ^ 20 * self.new.next)) }
-        ensures same { (self.new.next ≡ self.old.next) × (self.new.room ≡ self.old.room) }
+        ensures next { self.new.next ≡ self.old.next }
+        ensures same { keeps ≡ true → self.new.room ≡ self.old.room }
+        ensures room { self.old.room ≤ self.new.room }
     {
-        let place = empty(&mut self.slots, number)?;
+        let place = empty(&mut self.slots, number, keeps)?;
         let Place { seg, node } = place;
         let Node {
             entry,
@@ -211,15 +213,6 @@ impl Arena {
         Some((seg, entry))
     }
 
-    // Gives back the slot of a number that is in no list.
-    fn give_back(&mut self, number: u64)
-        requires gone { found number self.old.lists ≡ None }
-        ensures same { (self.new.lists ≡ self.old.lists) × (self.new.next ≡ self.old.next) }
-        ensures room { self.old.room ≤ self.new.room }
-    {
-        give_back(&mut self.slots, number);
-    }
-
     /// Takes the entry of a number that is in a list.
     pub fn remove(&mut self, number: u64) -> Entry
         requires there { IsSome (found number self.old.lists) }
@@ -229,8 +222,7 @@ impl Arena {
         ensures same { self.new.next ≡ self.old.next }
         ensures room { self.old.room ≤ self.new.room }
     {
-        let (_, entry) = self.take(number).unwrap();
-        self.give_back(number);
+        let (_, entry) = self.take(number, false).unwrap();
         entry
     }
 
@@ -242,8 +234,8 @@ impl Arena {
         ensures count { count_of self.new.lists ≡ count_of self.old.lists }
         ensures same { (self.new.next ≡ self.old.next) × (self.new.room ≡ self.old.room) }
     {
-        let (_, mut entry) = self.take(number).unwrap();
+        let (_, mut entry) = self.take(number, true).unwrap();
         entry.time = time_after(why, moment, entry.time);
-        self.put(to_seg, entry);
+        self.put(to_seg, entry, false);
     }
 }

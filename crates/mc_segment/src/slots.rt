@@ -1,5 +1,5 @@
-//! The slots of a class, under the numbers of their entries: one is made for each new number, and given back when its entry goes.
-ghost use Rattle.std.specs.Prelude.{◌≡◌, ◌<◌, ◌≤◌, ◌+◌, ◌==◌, ℕ, Some, None, true, OnOk, IsOk, if◌then◌else◌};
+//! The slots of a class, under the numbers of their entries: one is made with each new entry, and given back when it goes.
+ghost use Rattle.std.specs.Prelude.{◌≡◌, ◌<◌, ◌≤◌, ◌+◌, ◌==◌, ℕ, Some, None, true, false, OnOk, IsOk, if◌then◌else◌};
 ghost use Rattle.std.specs.HashMap.{spare};
 ghost use Rattle.std.specs.Option.{option_copied, option_map};
 ghost use Rattle.mc_segment.specs.Slots.{slot, has_slot, place_newer, place_older, renewed, reolded, IsShaped};
@@ -28,37 +28,40 @@ pub(crate) fn reserve(slots: &mut Slots, n: usize) -> Result<(), AllocError>
     slots.reserve(n)
 }
 
-// Makes an empty slot for a number without a place.
-pub(crate) fn make(slots: &mut Slots, number: u64)
-    requires room { 0 < spare slots.old }
-    requires none { slot slots.old number ≡ None }
-    ensures slots { (q : ℕ) → slot slots.new q ≡ slot slots.old q }
-    ensures made { has_slot slots.new number ≡ true }
-    ensures room { spare slots.old ≤ spare slots.new + 1 }
-{
-    let _ = slots.insert(number, None);
-}
-
-// Gives the slot of a number without a place back.
-pub(crate) fn give_back(slots: &mut Slots, number: u64)
-    requires none { slot slots.old number ≡ None }
-    ensures slots { (q : ℕ) → slot slots.new q ≡ slot slots.old q }
-    ensures room { spare slots.old ≤ spare slots.new }
-{
-    let _ = slots.remove(&number);
-}
-
-// Takes the place out of a slot.
-pub(crate) fn empty(slots: &mut Slots, number: u64) -> Option<Place>
+// Takes the place out of a number's slot, which is given back unless it is kept for a place to come.
+#[inline(always)]
+pub(crate) fn empty(slots: &mut Slots, number: u64, keeps: bool) -> Option<Place>
     ensures place { result ≡ slot slots.old number }
     ensures slots { (q : ℕ) → slot slots.new q ≡ (if number == q then None else slot slots.old q) }
-    ensures shape { IsShaped slots.old slots.new }
+    ensures shape { keeps ≡ true → IsShaped slots.old slots.new }
+    ensures room { spare slots.old ≤ spare slots.new }
 {
-    slots.get_mut(&number)?.take()
+    if keeps {
+        slots.get_mut(&number)?.take()
+    } else {
+        slots.remove(&number)?
+    }
 }
 
-// Fills a slot.
-pub(crate) fn fill(slots: &mut Slots, number: u64, place: Place)
+// Puts a place into a number's slot, which is made for a new number.
+#[inline(always)]
+pub(crate) fn fill(slots: &mut Slots, number: u64, place: Place, is_new: bool)
+    requires room { is_new ≡ true → 0 < spare slots.old }
+    requires slot { is_new ≡ false → has_slot slots.old number ≡ true }
+    ensures slots { (q : ℕ) → slot slots.new q ≡ (if number == q then Some place else slot slots.old q) }
+    ensures shape { is_new ≡ false → IsShaped slots.old slots.new }
+    ensures spare { spare slots.old ≤ spare slots.new + 1 }
+{
+    if is_new {
+        let _ = slots.insert(number, Some(place));
+    } else {
+        refill(slots, number, place);
+    }
+}
+
+// Puts a place into a slot that was kept.
+#[inline(always)]
+fn refill(slots: &mut Slots, number: u64, place: Place)
     requires { has_slot slots.old number ≡ true }
     ensures slots { (q : ℕ) → slot slots.new q ≡ (if number == q then Some place else slot slots.old q) }
     ensures shape { IsShaped slots.old slots.new }

@@ -80,9 +80,9 @@ impl ClassState {
         }
     }
 
-    // Whether the history has places for n more events.
+    /// Whether the history has places for n more events.
     #[inline(always)]
-    pub(crate) fn has_places(&self, n: usize) -> bool
+    pub fn has_places(&self, n: usize) -> bool
         ensures { IsTrue result ↔ HasPlaces self.now n }
     {
         n as u64 <= self.max_events - (self.history.len() as u64)

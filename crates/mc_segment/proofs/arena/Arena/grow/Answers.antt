@@ -1,12 +1,12 @@
-use Rattle.std.proofs.Common.{ap, ◌∙◌, arith}
+use Rattle.std.proofs.Common.{ap, ◌∙◌, arith, refl}
 use Rattle.mc_rule.specs.Lists.{count_of, found}
 use Rattle.mc_segment.specs.Arena.{Held, IsArena, all_bytes}
 use Rattle.mc_segment.specs.Slots.{slot}
 use Rattle.mc_segment.proofs.ArenaLemmas.{seen, closed, whole, below, same_slots, grown}
 use Rattle.mc_segment.proofs.arena.Arena.grow.Goals as goal
 
-kept : (c : goal.After-self-1) → IsArena (slot c.make.new.slots) c.self.inside.next c.self.inside.heads c.args.self.now.lists
-kept c = same_slots _ _ _ _ (seen c.self.inside.slots _ _ _ c.self.view_is c.self.invariant) (slot c.make.new.slots) c.make.ensures.slots
+kept : (c : goal.After-self-1) → IsArena (slot c.self.inside.slots) c.self.inside.next c.self.inside.heads c.args.self.now.lists
+kept c = same_slots _ _ _ _ (seen c.self.inside.slots _ _ _ c.self.view_is c.self.invariant) (slot c.self.inside.slots) (λ q. refl)
 
 pub invariant_of-self : goal.invariant_of-self
 invariant_of-self c =

@@ -78,7 +78,7 @@ returns-clause-sums c =
 pub returns-clause-slot : goal.returns-clause-slot
 returns-clause-slot c =
     let n = c.args.number in
-    c.set_newer.ensures.shape.slots n ∙ (c.set_older.ensures.shape.slots n ∙ (c.empty.ensures.shape.slots n ∙ has_place c.self.inside.slots n _ (sym c.in_ok-place.ensures.place)))
+    λ kept. c.set_newer.ensures.shape.slots n ∙ (c.set_older.ensures.shape.slots n ∙ ((c.empty.ensures.shape kept).slots n ∙ has_place c.self.inside.slots n _ (sym c.in_ok-place.ensures.place)))
 
 pub returns-clause-fits : goal.returns-clause-fits
 returns-clause-fits c =
