@@ -63,7 +63,7 @@ number_valueless site n key item (Some number) room =
     [ true ↦ tt | false ↦ grown_valueless site n item number (class_of site.sizes (cost_of key (decimal number))) room ]
 
 -- nor is incr or decr
-count_valueless : (site : Site) (n : ℕ) (key : List ℕ) (step : ℕ → ℕ) (found : Option Item) (room : Room) → IsValueless ((count_row site n key step found).answer room).reply
+pub count_valueless : (site : Site) (n : ℕ) (key : List ℕ) (step : ℕ → ℕ) (found : Option Item) (room : Room) → IsValueless ((count_row site n key step found).answer room).reply
 count_valueless site n key step None room = tt
 count_valueless site n key step (Some item) room = number_valueless site n key item (option_map step (numeral_of item.value)) room
 

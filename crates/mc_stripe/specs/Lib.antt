@@ -8,3 +8,8 @@ pub mod Alone
 pub mod Rooms
 pub mod Stored
 pub mod Sets
+pub mod Trying
+pub mod Wanting
+pub mod Putting
+pub mod Counting
+pub mod Huge

@@ -3,7 +3,7 @@ use Rattle.std.specs.Prelude.{ℕ, ◌≡◌, ◌≤◌, ◌^◌, ◌&&◌, List
 use Rattle.mc_item.specs.Answer.{Row, row_of}
 use Rattle.mc_item.specs.Cache.{visible_items}
 use Rattle.mc_item.specs.Command.{key_of}
-use Rattle.mc_item.specs.Item.{is_dead, link_of_item}
+use Rattle.mc_item.specs.Item.{hit_marks, is_dead, link_of_item}
 use Rattle.mc_item.specs.Measure.{cost_of, class_of}
 use Rattle.mc_item.specs.declared.answer.Change.{Change}
 use Rattle.mc_item.specs.declared.answer.Change.TheVariants as changes
@@ -31,6 +31,11 @@ gone_fate (Some item) = fates.Goes item.link
 abbrev pub hit_fate : Bool → Option Item → Fate
 hit_fate active None = fates.Untouched
 hit_fate active (Some item) = if active && not item.marks.active then fates.Woken item.link else fates.Untouched
+
+-- the link of an item that a hit would wake at a moment
+abbrev pub woken_link : Option Item → ℕ → Option Link
+woken_link None moment = None
+woken_link (Some item) moment = if is_dead item moment then None else if (hit_marks item.marks).active && not item.marks.active then Some item.link else None
 
 -- what becomes of a key's chunks by a change of its item
 abbrev pub fate_of : List ℕ → Option Item → Change → Fate

@@ -52,9 +52,10 @@ pub(crate) fn told(noted: Reply, copies: bool) -> Result<Answered, NoMemory>
     })
 }
 
-// How many versions a change adds.
-fn versions_of(change: &Change) -> u64
-    ensures { result ≡ Rattle.mc_item.specs.Cache.versions_of change.now }
+/// How many versions a change adds.
+pub(crate) fn versions_of(change: &Change) -> u64
+    ensures value { result ≡ Rattle.mc_item.specs.Cache.versions_of change.now }
+    ensures few { result ≤ 1 }
 {
     match change {
         Change::Stays => 0,
@@ -119,9 +120,9 @@ fn effect_of(
     })
 }
 
-// Changes an item, and says whether it stays.
+/// Changes an item, and says whether it stays.
 #[inline(always)]
-fn change_found(item: &mut Item, change: Change) -> bool
+pub(crate) fn change_found(item: &mut Item, change: Change) -> bool
     ensures { changed (Some item.old) change ≡ (if result then Some item.new else None) }
 {
     match change {

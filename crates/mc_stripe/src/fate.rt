@@ -1,5 +1,5 @@
 //! What becomes of the chunks of a command's key.
-ghost use Rattle.std.specs.Prelude.{◌≡◌, ◌&&◌, not, ℕ, List, []};
+ghost use Rattle.std.specs.Prelude.{◌≡◌, ◌&&◌, not, ℕ, List, [], Some};
 ghost use Rattle.std.specs.Option.{option_copied};
 ghost use Rattle.mc_item.specs.Answer as answers;
 ghost use Rattle.mc_item.specs.Item as items;
@@ -9,7 +9,7 @@ ghost use Rattle.mc_stripe.specs.Plan as plans;
 ghost use Rattle.mc_stripe.specs.Alone as words;
 ghost use Rattle.mc_stripe.specs.Plan.{IsHeld, fate_of};
 
-use mc_item::{Command, Expiry, Item, Link, Verb};
+use mc_item::{Change, Command, Expiry, Item, Key, Link, Marks, Verb, cost};
 
 /// What becomes of the chunks of a command's key.
 #[derive(Clone, Copy, Debug, PartialEq, Eq)]
@@ -119,5 +119,34 @@ pub(crate) fn let_go_fate(verb: Verb, found: Option<&Item>) -> Fate
         Verb::Add => Fate::Untouched,
         Verb::Replace => Fate::Untouched,
         Verb::Cas(_) => Fate::Untouched,
+    }
+}
+
+/// What becomes of a key's chunks by a change of its item.
+pub(crate) fn fate_by_change(key: &Key, item: &Item, change: &Change) -> Fate
+    ensures { result ≡ fate_of key.now (Some item.now) change.now }
+{
+    match change {
+        Change::Stays => Fate::Untouched,
+        Change::Counted(_, _) => Fate::Untouched,
+        Change::Goes => Fate::Goes(item.link),
+        Change::Hit(marks) => woken_by(item, *marks),
+        Change::Touched(_, marks) => woken_by(item, *marks),
+        Change::Renewed(new) => Fate::Renewed {
+            cost: cost(key.bytes().len() as u64, new.value.bytes().len() as u64),
+            expiry: new.expiry,
+            old: Some(item.link),
+        },
+    }
+}
+
+// What becomes of an item's chunk by new marks.
+fn woken_by(item: &Item, marks: Marks) -> Fate
+    ensures { result ≡ plans.hit_fate marks.active (Some item.now) }
+{
+    if marks.active && !item.marks.active {
+        Fate::Woken(item.link)
+    } else {
+        Fate::Untouched
     }
 }

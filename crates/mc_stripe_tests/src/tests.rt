@@ -4,6 +4,7 @@ ghost use Rattle.mc_item.specs.Config.{IsBounded};
 
 mod alone;
 mod calls;
+mod drawn_tries;
 mod histories;
 mod items;
 mod noted;
@@ -12,6 +13,8 @@ mod plans;
 mod rows;
 mod sets;
 mod table;
+mod tries;
+mod trying;
 
 use mc_item::{Command, Config, Key, Numbers, StripeNo, Value, Verb, Who};
 use mc_stripe::StripeState;

@@ -6,6 +6,7 @@ ghost use Rattle.mc_item.specs.Measure.{stripe_of};
 ghost use Rattle.mc_item.specs.Stripe.{Fits, IsAlive, IsDead};
 ghost use Rattle.mc_item.specs.declared.answer.Need.TheVariants as needs;
 ghost use Rattle.mc_item.specs.declared.reply.Room.TheVariants as rooms;
+ghost use Rattle.mc_stripe.specs.StripeCalls.{KeepsSite};
 ghost use Rattle.mc_stripe.specs.StripeState.{cache_now};
 
 use super::noted::told_noted;
@@ -39,8 +40,8 @@ fn room_in(alloc: Global, need: Need, events: &History<Noted>, full: bool) -> Op
     }
 }
 
-// The test goes on where the command may be asked at this moment.
-fn asserts_owned<R: Abort>(rt: &R, stripe: &StripeState, command: &Command, moment: u64)
+/// The test goes on where the command may be asked at this moment.
+pub(super) fn asserts_owned<R: Abort>(rt: &R, stripe: &StripeState, command: &Command, moment: u64)
     ensures moment { moment ≤ 2 ^ 62 }
     ensures stripe { stripe_of (key_of command.now) stripe.now.site.stripes ≡ record { 0 = stripe.now.site.stripe } }
 {
@@ -102,7 +103,8 @@ pub(super) fn told_reply<R: Abort>(
     }
 }
 
-fn fault_text<R: Abort>(rt: &R, alloc: Global, fault: Fault) -> String {
+/// A fault's text.
+pub(super) fn fault_text<R: Abort>(rt: &R, alloc: Global, fault: Fault) -> String {
     format!(in alloc; "{fault:?}").expect(rt, "a text")
 }
 
@@ -327,7 +329,9 @@ pub(super) fn expire<R: Abort>(
     stripe: &mut StripeState,
     who: Who,
     moment: u64,
-) {
+)
+    ensures { KeepsSite stripe.old stripe.new }
+{
     let key = b(rt, alloc);
     asserts_dead(rt, stripe, &key, moment);
     stripe

@@ -5,9 +5,10 @@ ghost use Rattle.std.specs.Prelude.{◌≤◌, ◌^◌};
 use super::Asked::{Decr, Delete, Get, Huge, Incr, Store, Touch};
 use super::rows::Ask::{Answer, Events, GetAndCool, Number};
 use super::rows::{check_rows, play};
+use super::tries::{GROWN, NEW_1, NEW_2, OLD, OVER_1, OVER_2};
 use super::{Asked, command_of, rows, stripe_one};
-use mc_item::{ClassNo, Expiry, Link, Verb};
-use mc_stripe::Fate::{Goes, Renewed, Untouched, Woken};
+use mc_item::{ClassNo, Link, Verb};
+use mc_stripe::Fate::{Goes, Untouched, Woken};
 use mc_stripe::Need::{Fresh, Nothing, Same, TooLarge};
 use mc_stripe::{Fate, Need, Plan, Room, StripeState};
 use std::alloc::Global;
@@ -19,45 +20,6 @@ type Row = (Asked, Need, Fate, Fate);
 const FIRST: Need = Fresh(ClassNo(1));
 
 const SECOND: Need = Fresh(ClassNo(2));
-
-// The link of the item that the first event of a test stores.
-const OLD: Link = Link {
-    class: ClassNo(1),
-    number: 0,
-};
-
-// A first version with a value of one byte, and of two.
-const NEW_1: Fate = Renewed {
-    cost: 66,
-    expiry: Expiry::Never,
-    old: None,
-};
-
-const NEW_2: Fate = Renewed {
-    cost: 67,
-    expiry: Expiry::Never,
-    old: None,
-};
-
-// The same in place of an item.
-const OVER_1: Fate = Renewed {
-    cost: 66,
-    expiry: Expiry::Never,
-    old: Some(OLD),
-};
-
-const OVER_2: Fate = Renewed {
-    cost: 67,
-    expiry: Expiry::Never,
-    old: Some(OLD),
-};
-
-// A value of two bytes in place of an item that dies at the moment 1100.
-const GROWN: Fate = Renewed {
-    cost: 67,
-    expiry: Expiry::At(1100),
-    old: Some(OLD),
-};
 
 static ABSENT: [Row; 12] = [
     (Get, Nothing, Untouched, Untouched),
@@ -130,7 +92,8 @@ fn asserts_moment<R: Abort>(rt: &R, moment: u64)
     assert!(rt; moment <= 1 << 62);
 }
 
-fn plan_of<R: Abort>(
+/// What is planned for a command of the key `b`.
+pub(super) fn plan_of<R: Abort>(
     rt: &R,
     alloc: Global,
     stripe: &StripeState,

@@ -1,0 +1,47 @@
+use Rattle.std.proofs.Common.{◌≡◌, ◌∙◌, ap, subst}
+use Rattle.std.specs.Prelude.{Some, IfSome}
+use Rattle.std.specs.Option.{option_map}
+use Rattle.mc_item.specs.Answer.{stepped}
+use Rattle.mc_item.specs.Measure.{numeral_of}
+use Rattle.mc_item.specs.declared.answer.Answer.{Answer}
+use Rattle.mc_item.specs.declared.answer.Need.{Need}
+use Rattle.mc_item.specs.declared.answer.Need.TheVariants as needs
+use Rattle.mc_item.specs.declared.item.ClassNo.{ClassNo}
+use Rattle.mc_stripe.specs.Counting.{step_row}
+use Rattle.mc_stripe.specs.Plan.{fate_of}
+use Rattle.mc_stripe.specs.Wanting.{IsTaken, LacksPlace}
+use Rattle.mc_stripe.specs.declared.fate.Fate.{Fate}
+use Rattle.mc_stripe.proofs.CountLemmas.{number_covers}
+use Rattle.mc_stripe.proofs.counting.count_anew.Goals as goal
+
+pub count_answer-requires-clause-known : goal.count_answer-requires-clause-known
+count_answer-requires-clause-known c =
+    subst (λ (need : Need). IfSome c.in-Ok.it.1 (λ (class : ClassNo). need ≡ needs.Fresh class)) (c.count_need-need.ensures.need c.args.versions) c.in-Ok.ensures.class
+
+pub returns-in-Some-clause-wants : goal.returns-in-Some-clause-wants
+returns-in-Some-clause-wants c = λ moment alive.
+    let row = step_row c.args.site.now c.args.versions c.args.key.now c.args.step (Some c.args.item.now) in
+    let need_is = c.count_need-need.ensures.need c.args.versions in
+    record {
+      alive = alive;
+      covers = number_covers c.args.given c.args.site.now c.args.versions c.args.key.now c.args.item.now (option_map (stepped c.args.step) (numeral_of c.args.item.now.value))
+          (λ class fresh. c.in-Ok.ensures.covers class (need_is ∙ fresh));
+      room = c.in-Ok.it.0;
+      taken = subst (λ (need : Need). IsTaken c.args.given need c.in-Ok.it.0) need_is c.in-Ok.ensures.room;
+      lacks = subst (λ (f : Fate). LacksPlace c.args.given c.in-Ok.it.0 f c.in-Some.class)
+          (c.fate_by_change-fate.ensures ∙ ap (fate_of c.args.key.now (Some c.args.item.now)) (ap (λ (a : Answer). a.change) c.in_ok-reply.ensures))
+          c.in-Some.ensures.lacks;
+    }
+
+pub returns-clause-made : goal.returns-clause-made
+returns-clause-made c = λ moment alive.
+    let row = step_row c.args.site.now c.args.versions c.args.key.now c.args.step (Some c.args.item.now) in
+    let need_is = c.count_need-need.ensures.need c.args.versions in
+    record {
+      alive = alive;
+      covers = number_covers c.args.given c.args.site.now c.args.versions c.args.key.now c.args.item.now (option_map (stepped c.args.step) (numeral_of c.args.item.now.value))
+          (λ class fresh. c.in-Ok.ensures.covers class (need_is ∙ fresh));
+      taken = subst (λ (need : Need). IsTaken c.args.given need c.in-Ok.it.0) need_is c.in-Ok.ensures.room;
+      fate_is = c.fate_by_change-fate.ensures ∙ ap (fate_of c.args.key.now (Some c.args.item.now)) (ap (λ (a : Answer). a.change) c.in_ok-reply.ensures);
+      places = c.in_default.ensures.places;
+    }

@@ -1,0 +1,55 @@
+-- What a try of a command is: it was made, or it says what is wanting, and nothing happened (own).
+use Rattle.std.specs.Prelude.{ℕ, ◌≡◌, List, nat_eq, if◌then◌else◌, Option}
+use Rattle.std.specs.Cmp.Lexicographic.{pointwise}
+use Rattle.mc_item.specs.Answer.{Row, row_of}
+use Rattle.mc_item.specs.Cache.{changed}
+use Rattle.mc_item.specs.Command.{key_of}
+use Rattle.mc_item.specs.declared.command.Command.{Command}
+use Rattle.mc_item.specs.declared.item.Item.{Item}
+use Rattle.mc_item.specs.declared.item.Who.{Who}
+use Rattle.mc_item.specs.declared.reply.Reply.{Reply}
+use Rattle.mc_item.specs.declared.reply.Room.{Room}
+use Rattle.mc_stripe.specs.StripeCalls.{Notes}
+use Rattle.mc_stripe.specs.StripeState.{Stripe, cache_now}
+use Rattle.mc_stripe.specs.Wanting.{IsWanting, Uses}
+use Rattle.mc_stripe.specs.declared.fate.Fate.{Fate}
+use Rattle.mc_stripe.specs.declared.trying.Done.{Done}
+use Rattle.mc_stripe.specs.declared.wanting.Given.{Given}
+use Rattle.mc_stripe.specs.declared.wanting.Want.{Want}
+
+-- the new items have this under a key, and what the old had under each other
+abbrev pub Puts : (old new : List ℕ → Option Item) → List ℕ → Option Item → Type 0
+Puts old new key item = (q : List ℕ) → new q ≡ (if pointwise nat_eq key q then item else old q)
+
+-- nothing changed
+abbrev pub Stays : (old new : List ℕ → Option Item) → Type 0
+Stays old new = (q : List ℕ) → new q ≡ old q
+
+-- a command of this row was made of the items, with what it is given, and this was replied
+pub record IsMade (given : Given) (old new : List ℕ → Option Item) (key : List ℕ) (row : Row) (moment : ℕ) (room : Room) (reply : Reply) (fate : Fate) : Type 0 where
+  pub uses : Uses given key (old key) moment row room fate
+  pub reply_is : reply ≡ (row.answer room).reply
+  pub items : Puts old new key (changed (old key) (row.answer room).change)
+
+-- the items stay, and this is wanted
+abbrev pub IsLeft : Given → (old new : List ℕ → Option Item) → List ℕ → ℕ → Row → Want → Type 0
+IsLeft given old new key moment row want = Stays old new × IsWanting given key (old key) moment row want
+
+-- the item of a command's key
+abbrev pub item_of : Stripe → Command → Option Item
+item_of s command = (cache_now s).items (key_of command)
+
+-- its row at a moment
+abbrev pub row_at : Stripe → Command → ℕ → Row
+row_at s command moment = row_of s.site (cache_now s).versions (item_of s command) command moment
+
+-- a command was made, with what it is given: its event stands at the end of the history
+pub record IsDone (given : Given) (s s_new : Stripe) (who : Who) (command : Command) (moment : ℕ) (done : Done) : Type 0 where
+  pub noted : Notes s s_new who command moment done.room
+  pub reply_is : done.reply ≡ ((row_at s command moment).answer done.room).reply
+  pub uses : Uses given (key_of command) (item_of s command) moment (row_at s command moment) done.room done.fate
+
+-- nothing happened, and this is wanted of a command
+pub record IsOpen (given : Given) (s s_new : Stripe) (command : Command) (moment : ℕ) (want : Want) : Type 0 where
+  pub history_is : s_new.history ≡ s.history
+  pub wanted : IsWanting given (key_of command) (item_of s command) moment (row_at s command moment) want
