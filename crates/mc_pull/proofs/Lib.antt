@@ -20,3 +20,4 @@ mod FarPartLemmas
 mod PerformedLemmas
 mod AloneLemmas
 mod SetLemmas
+mod AttemptLemmas

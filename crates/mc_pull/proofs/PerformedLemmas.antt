@@ -1,5 +1,5 @@
 -- A call keeps agreement, that of each class that it is lent with its stripe and that of each other class, and what is seen elsewhere.
-use Rattle.std.proofs.Common.{◌≡◌, ◌≢◌, ◌<◌, ◌&&◌, ◌++◌, ℕ, List, [], ◌∷◌, Bool, true, false, not, Result, Ok, Err, refl, sym, ap, ◌∙◌, subst, inl, inr, ◌⊎◌, arith}
+use Rattle.std.proofs.Common.{◌≡◌, ◌≢◌, ◌&&◌, ◌++◌, ℕ, List, [], ◌∷◌, Bool, true, false, not, Result, Ok, Err, refl, sym, ap, ◌∙◌, subst, inl, inr, ◌⊎◌}
 use Rattle.std.specs.Prelude.{Option, Some, None, OnOk, OnErr, if◌then◌else◌, ◌||◌}
 use Rattle.std.proofs.lemmas.Bool.{false≢true}
 use Rattle.mc_item.specs.Cache.{changed, counted, marked, touched}
@@ -34,7 +34,7 @@ use Rattle.mc_stripe.specs.StripeCalls.{KeepsSite}
 use Rattle.mc_stripe.specs.StripeState.{Stripe}
 use Rattle.mc_stripe.specs.declared.fate.Fate.TheVariants as fates
 use Rattle.mc_pull.specs.Agreeing.{AgreeNow, HasRefusal, IsApart, KeepsAgreements}
-use Rattle.mc_pull.specs.Lent.{AreRising, Each, EachPair, IsLent, IsLentIf}
+use Rattle.mc_pull.specs.Lent.{AreDistinct, Each, EachPair, IsLent, IsLentIf}
 use Rattle.mc_pull.specs.Parts.{hit_part, is_for, is_here, is_warming, number_in, part_for}
 use Rattle.mc_pull.specs.Perform.{AreLent, Call, GivesRoom, MayPerform, answer_to, item_before}
 use Rattle.mc_pull.specs.Performed.{GainsPart, IsPerformed, IsUntouched, Stays, events_in, events_on_stripe, is_cooling, part_in}
@@ -47,11 +47,11 @@ use Rattle.mc_pull.proofs.PlacedLemmas.{IsPlaced}
 use Rattle.mc_pull.proofs.SightLemmas.{backed_on, suited_on}
 
 -- ---- the classes of a list
-abbrev IsOf : ClassView → List ClassView → Type 0
+abbrev pub IsOf : ClassView → List ClassView → Type 0
 IsOf v [] = ⊥
 IsOf v (w ∷ ws) = (v ≡ w) ⊎ IsOf v ws
 
-each_at : (P : ClassView → Type 0) (vs : List ClassView) → Each P vs → (v : ClassView) → IsOf v vs → P v
+pub each_at : (P : ClassView → Type 0) (vs : List ClassView) → Each P vs → (v : ClassView) → IsOf v vs → P v
 each_at P [] all v there = absurd there
 each_at P (w ∷ ws) all v (inl is) = subst P (sym is) all.0
 each_at P (w ∷ ws) all v (inr later) = each_at P ws all.1 v later
@@ -62,25 +62,13 @@ pairs_at R Q (v ∷ vs) (w ∷ ws) pairs by = (by v w (inl refl) pairs.0, pairs_
 pairs_at R Q [] (w ∷ ws) pairs by = absurd pairs
 pairs_at R Q (v ∷ vs) [] pairs by = absurd pairs
 
-rest_rises : (v : ClassView) (vs : List ClassView) → AreRising (v ∷ vs) → AreRising vs
-rest_rises v [] rising = tt
-rest_rises v (w ∷ ws) rising = rising.1
-
-above : (v : ClassView) (vs : List ClassView) → AreRising (v ∷ vs) → (w : ClassView) → IsOf w vs → v.number.0 < w.number.0
-above v [] rising w there = absurd there
-above v (x ∷ vs) rising w (inl is) = subst (λ (y : ClassView). v.number.0 < y.number.0) (sym is) rising.0
-above v (x ∷ vs) rising w (inr later) = let low = above x vs rising.1 w later in let first = rising.0 in omega arith
-
-not_above : (v w : ClassView) → v.number ≡ w.number → v.number.0 < w.number.0 → ⊥
-not_above v w same low = let numbers : v.number.0 ≡ w.number.0 = ap (λ (n : ClassNo). n.0) same in omega arith
-
 -- two lent classes of one number are one
-one_class : (vs : List ClassView) → AreRising vs → (v w : ClassView) → IsOf v vs → IsOf w vs → v.number ≡ w.number → v ≡ w
-one_class [] rising v w there here same = absurd there
-one_class (x ∷ vs) rising v w (inl is) (inl is2) same = is ∙ sym is2
-one_class (x ∷ vs) rising v w (inl is) (inr later) same = absurd (not_above x w (ap (λ (y : ClassView). y.number) (sym is) ∙ same) (above x vs rising w later))
-one_class (x ∷ vs) rising v w (inr later) (inl is) same = absurd (not_above x v (ap (λ (y : ClassView). y.number) (sym is) ∙ sym same) (above x vs rising v later))
-one_class (x ∷ vs) rising v w (inr there) (inr here) same = one_class vs (rest_rises x vs rising) v w there here same
+pub one_class : (vs : List ClassView) → AreDistinct vs → (v w : ClassView) → IsOf v vs → IsOf w vs → v.number ≡ w.number → v ≡ w
+one_class [] distinct v w there here same = absurd there
+one_class (x ∷ vs) distinct v w (inl is) (inl is2) same = is ∙ sym is2
+one_class (x ∷ vs) distinct v w (inl is) (inr later) same = absurd (each_at (λ y. x.number ≢ y.number) vs distinct.0 w later (ap (λ (y : ClassView). y.number) (sym is) ∙ same))
+one_class (x ∷ vs) distinct v w (inr later) (inl is) same = absurd (each_at (λ y. x.number ≢ y.number) vs distinct.0 v later (ap (λ (y : ClassView). y.number) (sym is) ∙ sym same))
+one_class (x ∷ vs) distinct v w (inr there) (inr here) same = one_class vs distinct.1 v w there here same
 
 not_lent : (vs : List ClassView) (n : ClassNo) (link : Link) → IsApart n vs → IsLent vs link → link.class ≡ n → ⊥
 not_lent [] n link apart lent of = lent
@@ -162,7 +150,7 @@ module _ (config : Config) (s : Stripe) (c : Call) (vs : List ClassView) (may : 
       part_agrees s c legal may.answer v lawful agree (each_at (GivesRoom c.who c.room) vs may.rooms v there).named (is_cooling s c vs) (λ on. cools_with s c vs v there on)
       (λ on m has.
       let move = moves s c vs on in
-      subst (λ (x : ClassView). is_warming (part_in s c x) ≡ true) (sym (one_class vs may.rising v move.class there move.there (of_mover move v.number m has))) move.warms)
+      subst (λ (x : ClassView). is_warming (part_in s c x) ≡ true) (sym (one_class vs may.distinct v move.class there move.there (of_mover move v.number m has))) move.warms)
 
   -- a class that isn't lent
   module _ (other : ClassNo) (apart : IsApart other vs) (history : List ClassEvent) where

@@ -20,7 +20,7 @@ at_most a b is = grind (arith, nat_tests)
 
 -- what has a class of small sizes is small
 module _ (cost : ℕ) (sizes : List ℕ) (small : All (λ size. size ≤ 2 ^ 20) sizes) where
-  small_at : (o : Option ℕ) (class : ClassNo) → position (λ size. nat_le cost size) sizes ≡ o → option_map class_at o ≡ Some class → cost ≤ 2 ^ 20
+  pub small_at : (o : Option ℕ) (class : ClassNo) → position (λ size. nat_le cost size) sizes ≡ o → option_map class_at o ≡ Some class → cost ≤ 2 ^ 20
   small_at None class at is = absurd (cc is)
   small_at (Some place) class at is =
       let there = position-Some (λ size. nat_le cost size) sizes place 0 at in

@@ -1,5 +1,5 @@
 -- The classes that a command is lent: as they were handed in, and as they are when it returns.
-use Rattle.std.specs.Prelude.{◌≡◌, ◌<◌, ◌⊎◌, List, [], ◌∷◌, Option, Some, None}
+use Rattle.std.specs.Prelude.{◌≡◌, ◌≢◌, ◌⊎◌, List, [], ◌∷◌, Option, Some, None}
 use Rattle.std.proofs.Common.{inl, inr}
 use Rattle.std.specs.Borrow.{MutBor}
 use Rattle.mc_item.specs.declared.item.Link.{Link}
@@ -36,11 +36,10 @@ EachPair R (v ∷ vs) (w ∷ ws) = R v w × EachPair R vs ws
 EachPair R [] (w ∷ ws) = ⊥
 EachPair R (v ∷ vs) [] = ⊥
 
--- the lower number comes first
-abbrev pub AreRising : List ClassView → Type 0
-AreRising [] = Unit {0}
-AreRising (v ∷ []) = Unit {0}
-AreRising (v ∷ w ∷ vs) = (v.number.0 < w.number.0) × AreRising (w ∷ vs)
+-- no two have one number
+abbrev pub AreDistinct : List ClassView → Type 0
+AreDistinct [] = Unit {0}
+AreDistinct (v ∷ vs) = Each (λ w. v.number ≢ w.number) vs × AreDistinct vs
 
 -- the class of a link is lent
 abbrev pub IsLent : List ClassView → Link → Type 0

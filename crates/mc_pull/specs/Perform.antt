@@ -19,7 +19,7 @@ use Rattle.mc_stripe.specs.declared.fate.Fate.{Fate}
 use Rattle.mc_stripe.specs.declared.fate.Fate.TheVariants as fates
 use Rattle.mc_stripe.specs.Plan.{fate_of}
 use Rattle.mc_stripe.specs.StripeState.{Stripe, cache_now}
-use Rattle.mc_pull.specs.Lent.{Each, AreRising, IsLent, IsLentIf}
+use Rattle.mc_pull.specs.Lent.{AreDistinct, Each, IsLent, IsLentIf}
 use Rattle.mc_pull.specs.Parts.{is_here}
 use Rattle.mc_pull.specs.Question.{IsClassOf, IsStripeOf}
 
@@ -77,6 +77,6 @@ pub record MayPerform (config : Config) (s : Stripe) (c : Call) (vs : List Class
   pub answer : MayAnswer s c
   pub made_with : IsStripeOf config s
   pub classes : Each (IsClassOf config) vs
-  pub rising : AreRising vs
+  pub distinct : AreDistinct vs
   pub rooms : Each (GivesRoom c.who c.room) vs
   pub lent : AreLent vs c.room (fate_for s c)

@@ -1,5 +1,5 @@
 //! Events that room was made for: none of these calls takes memory or can be refused.
-ghost use Rattle.std.specs.Prelude.{◌≡◌, ◌<◌, ◌≤◌, ◌+◌, ◌^◌, length, true, IsSomeAnd};
+ghost use Rattle.std.specs.Prelude.{◌≡◌, ◌<◌, ◌≤◌, ◌+◌, ◌^◌, length, true, IfSome, IsSome, IsSomeAnd, MatchOption};
 ghost use Rattle.mc_rule.specs.Lists.{lists_of, count_of, segment_of};
 ghost use Rattle.mc_item.specs.Stripe.{IsDead};
 ghost use Rattle.mc_item.specs.declared.stripe_event.Cause.TheVariants as causes;
@@ -137,5 +137,18 @@ pub(crate) fn cool(stripe: &mut StripeState, who: Who, key: Key)
     match stripe.cool(who, key) {
         Ok(()) => {}
         Err(_) => unreachable!(),
+    }
+}
+
+// An item's mark is cleared, where a key is given.
+pub(crate) fn cool_if(stripe: &mut StripeState, who: Who, key: Option<Key>)
+    requires room { IsSome key → 0 < stripe.old.room }
+    requires place { IsSome key → length stripe.old.history < stripe.old.limit }
+    requires active { IfSome key (λ key. IsSomeAnd ((cache_now stripe.old).items key) (λ item. item.marks.active ≡ true)) }
+    ensures event { MatchOption key (stripe.new.history ≡ stripe.old.history) (λ key. Gains stripe.old stripe.new (cooled_event who key)) }
+    ensures site { KeepsSite stripe.old stripe.new }
+{
+    if let Some(key) = key {
+        cool(stripe, who, key);
     }
 }

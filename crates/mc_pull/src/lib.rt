@@ -3,10 +3,13 @@
 #![tactic(auto)]
 
 mod alone;
+mod attempting;
 mod certain;
 mod fate;
 mod judge;
 mod juggling;
+mod kinds;
+mod lends;
 mod lent;
 mod lone;
 mod looking;
@@ -23,9 +26,12 @@ mod trying;
 mod verdict;
 
 pub use alone::answer_alone;
+pub use attempting::{Tried, attempt, ready};
 pub use fate::{fate_for, perform, perform_with};
 pub use judge::{Ask, Done, Judge, Mode};
 pub use juggling::juggle;
+pub use kinds::{Count, Delete, Get, Huge, Kind, Put, Touch, Turn};
+pub use lends::Lends;
 pub use lent::Lent;
 pub use lone::Lone;
 pub use looking::{Answer, Gate, Judged, Look};

@@ -68,7 +68,7 @@ pub(crate) fn number_in(class: &ClassState, key: &Key, link: Option<Link>) -> Op
 }
 
 // Whether a room is a link of the class.
-fn is_here(class: &ClassState, room: Room) -> bool
+pub(crate) fn is_here(class: &ClassState, room: Room) -> bool
     ensures { result ≡ words.is_here class.now room }
 {
     match room {
@@ -149,8 +149,22 @@ fn new_part(
     }
 }
 
+// The part of an item that goes.
+#[inline(always)]
+pub(crate) fn gone_part(class: &ClassState, number: Option<u64>) -> Part
+    requires { IfSome number (λ number. IsListed number (lists_of class.now.history)) }
+    ensures part { result ≡ words.gone_part number }
+    ensures may { MayMake class.now result }
+{
+    let _class = class;
+    match number {
+        None => Part::Nothing,
+        Some(number) => Part::Unlinks(number),
+    }
+}
+
 // The part of a hit that makes an item ACTIVE.
-fn hit_part(class: &ClassState, number: Option<u64>) -> Part
+pub(crate) fn hit_part(class: &ClassState, number: Option<u64>) -> Part
     ensures part { result ≡ words.hit_part class.now number }
     ensures may { MayMake class.now result }
 {

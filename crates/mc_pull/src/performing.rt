@@ -23,7 +23,7 @@ use std::alloc::Global;
 
 // A copy of a key, where one is wanted.
 #[inline(always)]
-fn key_if(alloc: Global, key: &Key, wanted: bool) -> Result<Option<Key>, NoMemory>
+pub(crate) fn key_if(alloc: Global, key: &Key, wanted: bool) -> Result<Option<Key>, NoMemory>
     ensures { IfOk result (λ copy. copy ≡ (if wanted then Some key.now else None)) }
 {
     if wanted {

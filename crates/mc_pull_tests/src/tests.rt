@@ -1,4 +1,4 @@
-//! Tests as rows (`rows`), with what they do (`making`, `judging`, `by_list`) and see (`seeing`), and a drawn test.
+//! Tests as rows (`rows`), with what they do (`making`, `judging`, `by_list`) and see (`seeing`), tries (`trying`), and a drawn test.
 mod alone;
 mod bounds;
 mod by_list;
@@ -12,6 +12,8 @@ mod random_classes;
 mod rows;
 mod seeing;
 mod table_compared;
+mod tries;
+mod trying;
 mod walks;
 
 /// What tests draw by.

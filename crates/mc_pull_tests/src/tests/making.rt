@@ -1,7 +1,8 @@
 //! Commands on a stripe and one class, by each of the calls that make them.
-ghost use Rattle.std.specs.Prelude.{◌≡◌, ◌∷◌, [], true, Option};
+ghost use Rattle.std.specs.Prelude.{◌≡◌, ◌∷◌, [], true, Option, Some, slice_get};
 ghost use Rattle.mc_item.specs.Stripe.{Fits, link_of};
 ghost use Rattle.mc_pull.specs.Lent.{IsLent, IsLentIf};
+ghost use Rattle.mc_item.specs.declared.class_event.ClassEvent.TheVariants as class_events;
 ghost use Rattle.mc_item.specs.declared.item.Who.{Who};
 ghost use Rattle.mc_pull.specs.Perform as words;
 ghost use Rattle.mc_pull.specs.Perform.{call, AreLent, GivesRoom, MayAnswer, MayPerform};
@@ -53,6 +54,16 @@ fn fits(alloc: Global, need: Need, room: Room, stripe: &StripeState) -> bool
     }
 }
 
+/// Whether the event at a place of a class's history is a refusal for a call.
+pub(super) fn is_refusal(alloc: Global, class: &ClassState, who: Who, place: u64) -> bool
+    ensures { result ≡ true → slice_get class.now.history place ≡ Some (class_events.Refused (record { who = who })) }
+{
+    match event_at(alloc, class, place) {
+        Some(ClassEvent::Refused(refused)) => refused.who == who,
+        _ => false,
+    }
+}
+
 // Whether a class gives a room.
 fn gives(alloc: Global, class: &ClassState, who: Who, room: Room) -> bool
     ensures { result ≡ true → GivesRoom who room class.now }
@@ -63,10 +74,7 @@ fn gives(alloc: Global, class: &ClassState, who: Who, room: Room) -> bool
                 && link.number == class.next_number()
                 && class.count() < class.chunks()
         }
-        Room::Refused { place, .. } => match event_at(alloc, class, place) {
-            Some(ClassEvent::Refused(refused)) => refused.who == who,
-            _ => false,
-        },
+        Room::Refused { place, .. } => is_refusal(alloc, class, who, place),
         Room::Keep => true,
     }
 }
@@ -180,8 +188,8 @@ fn may(
     true
 }
 
-// The text of a reply or a fault.
-fn told_reply(alloc: Global, made: Result<Reply, Fault>) -> Result<String, Fail> {
+/// The text of a reply or a fault.
+pub(super) fn told_reply(alloc: Global, made: Result<Reply, Fault>) -> Result<String, Fail> {
     match made {
         Ok(Reply::Value { .. }) => Ok(format!(in alloc; "a value")?),
         Ok(reply) => Ok(format!(in alloc; "{reply:?}")?),

@@ -4,6 +4,7 @@ ghost use Rattle.std.specs.Prelude.{◌≡◌, IfSome, Some, slice_get};
 use mc_history::History;
 use mc_item::{Cause, ClassEvent, Lost, Seg, StripeEvent};
 use mc_segment::ClassState;
+use mc_stripe::StripeState;
 use mc_testing::{World, key};
 use std::alloc::Global;
 use std::test::Fail;
@@ -76,7 +77,8 @@ fn told_event(alloc: Global, event: &ClassEvent) -> Result<String, Fail> {
             let moved = format!(in alloc; "moves {} from {from:?} to {to:?}", e.number)?;
             Ok(format!(in alloc; "{moved} for {:?} past {passed:?} at {}", e.why, e.at)?)
         }
-        _ => Ok(format!(in alloc; "else")?),
+        ClassEvent::Surveyed(_) => Ok(format!(in alloc; "surveys")?),
+        ClassEvent::Refused(_) => Ok(format!(in alloc; "refuses")?),
     }
 }
 
@@ -99,17 +101,48 @@ fn told_loss(alloc: Global, lost: &Lost) -> Result<String, Fail> {
     }
 }
 
+// What an event of a stripe says.
+fn told_item_event(alloc: Global, event: &StripeEvent) -> Result<String, Fail> {
+    match event {
+        StripeEvent::Lost(lost) => told_loss(alloc, lost),
+        StripeEvent::Cooled(e) => Ok(format!(in alloc; "cools {:?}", e.key.bytes())?),
+        StripeEvent::Did(_) => Ok(format!(in alloc; "does")?),
+    }
+}
+
 // What a stripe's last event says.
 fn last_of_stripe(world: &World) -> Result<String, Fail> {
     let alloc = world.alloc;
-    let Some(last) = last_in(world.stripe.history()) else {
-        return Ok(format!(in alloc; "no event")?);
-    };
-    match last.event(alloc)? {
-        StripeEvent::Lost(lost) => told_loss(alloc, &lost),
-        StripeEvent::Cooled(e) => Ok(format!(in alloc; "cools {:?}", e.key.bytes())?),
-        StripeEvent::Did(_) => Ok(format!(in alloc; "else")?),
+    match last_in(world.stripe.history()) {
+        Some(last) => told_item_event(alloc, &last.event(alloc)?),
+        None => Ok(format!(in alloc; "no event")?),
     }
+}
+
+/// The events of a class from a place on.
+pub(super) fn told_class(alloc: Global, class: &ClassState, from: usize) -> Result<String, Fail> {
+    let mut told = format!(in alloc; "")?;
+    for place in from..class.history().len() {
+        let event = told_if(alloc, event_at(alloc, class, place as u64))?;
+        told = format!(in alloc; "{told}[{event}]")?;
+    }
+    Ok(told)
+}
+
+/// Those of a stripe.
+pub(super) fn told_stripe(
+    alloc: Global,
+    stripe: &StripeState,
+    from: usize,
+) -> Result<String, Fail> {
+    let mut told = format!(in alloc; "")?;
+    for place in from..stripe.history().len() {
+        if let Some(noted) = stripe.history().get(place) {
+            let event = told_item_event(alloc, &noted.event(alloc)?)?;
+            told = format!(in alloc; "{told}[{event}]")?;
+        }
+    }
+    Ok(told)
 }
 
 fn told_lengths(world: &World) -> Result<String, Fail> {

@@ -1,0 +1,175 @@
+-- One try of a command on a stripe and the classes that it is lent (own).
+use Rattle.std.specs.Prelude.{ℕ, ◌≡◌, ◌<◌, ◌≤◌, ◌+◌, ◌^◌, ◌⊎◌, List, [], ◌∷◌, Option, Some, None, IfSome, IsSomeAnd, MatchOption, length, slice_get}
+use Rattle.std.proofs.Common.{inl, inr}
+use Rattle.std.specs.Borrow.{MutBor}
+use Rattle.mc_item.specs.Command.{key_of}
+use Rattle.mc_item.specs.Measure.{stripe_of}
+use Rattle.mc_item.specs.declared.class_event.ClassEvent.TheVariants as class_events
+use Rattle.mc_item.specs.declared.answer.Site.{Site}
+use Rattle.mc_item.specs.declared.command.Command.{Command}
+use Rattle.mc_item.specs.declared.config.Config.{Config}
+use Rattle.mc_item.specs.declared.reply.Reply.{Reply}
+use Rattle.mc_item.specs.declared.reply.Room.{Room}
+use Rattle.mc_item.specs.declared.reply.Room.TheVariants as rooms
+use Rattle.mc_item.specs.declared.item.Who.{Who}
+use Rattle.mc_rule.specs.Lists.{count_of, links_of, lists_of}
+use Rattle.mc_segment.specs.ClassState.{ClassView, HasPlaces as ClassHasPlaces}
+use Rattle.mc_stripe.specs.StripeState.{Stripe}
+use Rattle.mc_stripe.specs.Trying.{item_of, row_at}
+use Rattle.mc_stripe.specs.Wanting.{IsWanting, Uses}
+use Rattle.mc_stripe.specs.declared.fate.Fate.{Fate}
+use Rattle.mc_stripe.specs.declared.fate.Fate.TheVariants as fates
+use Rattle.mc_stripe.specs.declared.wanting.Given.{Given}
+use Rattle.mc_stripe.specs.declared.wanting.Home.{Home}
+use Rattle.mc_stripe.specs.declared.wanting.Other.{Other}
+use Rattle.mc_pull.specs.declared.attempting.Tried.{Tried}
+use Rattle.mc_pull.specs.declared.attempting.Tried.TheVariants as tried
+use Rattle.mc_pull.specs.declared.kinds.Turn.{Turn}
+use Rattle.mc_pull.specs.declared.lends.Lends.{Lends}
+use Rattle.mc_pull.specs.declared.lends.Lends.TheVariants.{Nothing, Home as HomeAlone, Other as OtherAlone, Both}
+use Rattle.mc_pull.specs.Agreeing.{AgreeNow, KeepsAgreements}
+use Rattle.mc_pull.specs.Lent.{AreDistinct, Each}
+use Rattle.mc_pull.specs.Perform.{MayPerform, answer_to, call}
+use Rattle.mc_pull.specs.Performed.{IsPerformed, IsUntouched}
+use Rattle.mc_pull.specs.Question.{IsClassOf, IsStripeOf}
+use Rattle.mc_pull.specs.Sight.{KeepsSights}
+
+-- the classes that are lent, as they were handed in: that of the new version comes first
+abbrev pub lends_before : Lends → List ClassView
+lends_before Nothing = []
+lends_before (HomeAlone home) = home.now ∷ []
+lends_before (OtherAlone other) = other.now ∷ []
+lends_before (Both home other) = home.now ∷ other.now ∷ []
+
+-- what is behind the references when a call returns: the variants of what is lent, in order
+abbrev pub Left : Type 0
+Left = Unit {0} ⊎ ((MutBor ClassView × Unit {0}) ⊎ ((MutBor ClassView × Unit {0}) ⊎ ((MutBor ClassView × (MutBor ClassView × Unit {0})) ⊎ ⊥)))
+
+-- the classes that were lent, as they are at the return
+abbrev pub lends_after : Left → List ClassView
+lends_after (inl none) = []
+lends_after (inr (inl home)) = home.0.now ∷ []
+lends_after (inr (inr (inl other))) = other.0.now ∷ []
+lends_after (inr (inr (inr (inl both)))) = both.0.now ∷ both.1.0.now ∷ []
+lends_after (inr (inr (inr (inr no_other)))) = []
+
+-- a chunk is free
+abbrev pub HasFree : ClassView → Type 0
+HasFree v = count_of (lists_of v.history) < v.chunks
+
+-- the room that a class gives: its next link where a chunk is free; else the refusal that it noted for this call, where it did
+abbrev pub GivesHome : ClassView → Option ℕ → Who → Room → Type 0
+GivesHome v refused who (rooms.At link) = (link ≡ record { class = v.number; number = links_of v.history }) × HasFree v
+GivesHome v refused who (rooms.Refused class place) =
+    (class ≡ v.number) × (refused ≡ Some place) × (slice_get v.history place ≡ Some (class_events.Refused (record { who = who })))
+GivesHome v refused who rooms.Keep = (refused ≡ None) × (HasFree v → ⊥)
+
+-- so many events more have places in a class's history: at most this many, and fewer only where there are no more
+pub record Leaves (most : ℕ) (v : ClassView) (places : ℕ) : Type 0 where
+  pub fits : ClassHasPlaces v places
+  pub few : places ≤ most
+  pub all : places < most → v.max_events ≤ length v.history + places
+
+-- what the class of a new version offers
+pub record OffersHome (v : ClassView) (refused : Option ℕ) (who : Who) (home : Home) : Type 0 where
+  pub class_is : home.class ≡ v.number
+  pub room : GivesHome v refused who home.room
+  pub places : Leaves 2 v home.places
+
+-- what the class of an item offers
+pub record OffersOther (v : ClassView) (other : Other) : Type 0 where
+  pub class_is : other.class ≡ v.number
+  pub places : Leaves 1 v other.places
+
+-- one of these classes is such
+abbrev pub IsAny : (ClassView → Type 0) → List ClassView → Type 0
+IsAny P [] = ⊥
+IsAny P (v ∷ vs) = P v ⊎ IsAny P vs
+
+-- what a command is given is offered by these classes
+pub record IsOffered (given : Given) (refused : Option ℕ) (who : Who) (vs : List ClassView) : Type 0 where
+  pub home : IfSome given.home (λ h. IsAny (λ v. OffersHome v refused who h) vs)
+  pub other : IfSome given.other (λ o. IsAny (λ v. OffersOther v o) vs)
+  pub each : Each (λ v. IsSomeAnd given.home (OffersHome v refused who) ⊎ IsSomeAnd given.other (OffersOther v)) vs
+
+-- the class of a new version that is lent
+abbrev pub home_of : Lends → Option ClassView
+home_of Nothing = None
+home_of (HomeAlone home) = Some home.now
+home_of (OtherAlone other) = None
+home_of (Both home other) = Some home.now
+
+-- that of an item
+abbrev pub other_of : Lends → Option ClassView
+other_of Nothing = None
+other_of (HomeAlone home) = None
+other_of (OtherAlone other) = Some other.now
+other_of (Both home other) = Some other.now
+
+-- a command is given just what the classes that it is lent offer
+pub record IsGivenBy (lends : Lends) (refused : Option ℕ) (who : Who) (given : Given) : Type 0 where
+  pub home : MatchOption given.home (home_of lends ≡ None) (λ h. IsSomeAnd (home_of lends) (λ v. OffersHome v refused who h))
+  pub other : MatchOption given.other (other_of lends ≡ None) (λ o. IsSomeAnd (other_of lends) (λ v. OffersOther v o))
+
+-- where the class of a new version noted for a call that no chunk was found, that event stands in its history
+abbrev pub IsNoted : Option ℕ → Who → ClassView → Type 0
+IsNoted refused who v = IfSome refused (λ place. slice_get v.history place ≡ Some (class_events.Refused (record { who = who })))
+
+-- as many as two events more take no memory, where they have places
+abbrev pub IsReady : ClassView → Type 0
+IsReady v = (n : ℕ) → n ≤ 2 → ClassHasPlaces v n → n ≤ v.room
+
+-- a command may be tried: its key is of this stripe, and the classes that are lent are ready, and agree with the stripe
+pub record MayTry (s : Stripe) (lends : Lends) (command : Command) (turn : Turn) (refused : Option ℕ) : Type 0 where
+  pub stripe : stripe_of (key_of command) s.site.stripes ≡ record { 0 = s.site.stripe }
+  pub moment : turn.moment ≤ 2 ^ 62
+  pub distinct : AreDistinct (lends_before lends)
+  pub met : Each (λ v. AgreeNow v s) (lends_before lends)
+  pub ready : Each IsReady (lends_before lends)
+  pub noted : IfSome (home_of lends) (IsNoted refused turn.who)
+
+-- the same on a list of classes, of which some offer what the command is given
+pub record MayTryOn (s : Stripe) (vs : List ClassView) (command : Command) (turn : Turn) (given : Given) : Type 0 where
+  pub stripe : stripe_of (key_of command) s.site.stripes ≡ record { 0 = s.site.stripe }
+  pub moment : turn.moment ≤ 2 ^ 62
+  pub distinct : AreDistinct vs
+  pub met : Each (λ v. AgreeNow v s) vs
+  pub refused : Option ℕ
+  pub offered : IsOffered given refused turn.who vs
+
+-- the cost of a new version is one that a class may hold
+abbrev pub IsSmallFate : Fate → Type 0
+IsSmallFate fates.Untouched = Unit {0}
+IsSmallFate (fates.Renewed cost expiry old) = cost ≤ 2 ^ 20
+IsSmallFate (fates.Goes link) = Unit {0}
+IsSmallFate (fates.Woken link) = Unit {0}
+
+-- so many events as are offered take no memory
+abbrev pub HasRoomFor : Given → ClassView → Type 0
+HasRoomFor given v =
+    IfSome given.home (λ h. h.class ≡ v.number → h.places ≤ v.room) × IfSome given.other (λ o. o.class ≡ v.number → o.places ≤ v.room)
+
+-- a command was made in a room, of what it was given, as it may be made on these classes, and this is its reply
+pub record IsMadeOn (config : Config) (s s_new : Stripe) (command : Command) (turn : Turn) (given : Given) (vs ws : List ClassView) (reply : Reply) : Type 0 where
+  pub room : Room
+  pub fate : Fate
+  pub uses : Uses given (key_of command) (item_of s command) turn.moment (row_at s command turn.moment) room fate
+  pub may : MayPerform config s (call turn.who command turn.moment room) vs
+  pub reply_is : reply ≡ (answer_to s (call turn.who command turn.moment room)).reply
+  pub performed : IsPerformed s s_new (call turn.who command turn.moment room) vs ws
+  pub agreement : KeepsAgreements (call turn.who command turn.moment room) s s_new vs ws
+  pub sight : KeepsSights (call turn.who command turn.moment room) s s_new vs ws
+
+-- tries of one command on a stripe and its classes, with what it is given
+module _ {K : Type 0} (command : K → Command) (suits : K → Site → Type 0) (config : Config) (s s_new : Stripe) (made : Command) (turn : Turn) (given : Given) (vs ws : List ClassView) where
+  -- what a try came to: the command was made, or it is given back with what it wants, and nothing happened
+  abbrev pub IsTriedBy : Tried K → Type 0
+  IsTriedBy (tried.Made reply) = IsMadeOn config s s_new made turn given vs ws reply
+  IsTriedBy (tried.Wants kind want) =
+      (command kind ≡ made) × suits kind s.site × IsUntouched s s_new vs ws × IsWanting given (key_of made) (item_of s made) turn.moment (row_at s made turn.moment) want
+
+-- a command was tried on the classes that it was lent, as they were made with a configuration
+pub record IsAttempt {K : Type 0} (command : K → Command) (suits : K → Site → Type 0) (s s_new : Stripe) (made : Command) (turn : Turn) (refused : Option ℕ) (lends : Lends) (left : Left) (result : Tried K) : Type 0 where
+  pub given : Given
+  pub offered : IsGivenBy lends refused turn.who given
+  pub tried : (config : Config) → IsStripeOf config s → Each (IsClassOf config) (lends_before lends) → IsTriedBy command suits config s s_new made turn given (lends_before lends) (lends_after left) result

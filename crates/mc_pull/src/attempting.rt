@@ -1,0 +1,335 @@
+//! One try of a command on its stripe and the classes that it is lent.
+ghost use Rattle.std.specs.Prelude.{◌≡◌, ◌≤◌, ◌<◌, ◌+◌, ◌^◌, ◌⊎◌, ◌∷◌, [], ◌||◌, ℕ, List, true, false, Some, None, IfOk, IfSome, OnErr, OnOk, IsErrOf, length};
+ghost use Rattle.mc_item.specs.Command.{key_of};
+ghost use Rattle.mc_item.specs.declared.config.Config.{Config};
+ghost use Rattle.mc_item.specs.declared.fault.Fault.TheVariants.{HistoryFull};
+ghost use Rattle.mc_item.specs.declared.item.Link.{Link};
+ghost use Rattle.mc_item.specs.declared.reply.Room.TheVariants as rooms;
+ghost use Rattle.mc_item.specs.declared.reply.Room.{Room as TheRoom};
+ghost use Rattle.mc_segment.specs.ClassState.{HasPlaces, with_room};
+ghost use Rattle.mc_stripe.specs.StripeCalls.{KeepsSite};
+ghost use Rattle.mc_stripe.specs.declared.wanting.Given.{Given as TheGiven};
+ghost use Rattle.mc_pull.specs.Agreeing.{AgreeNow};
+ghost use Rattle.mc_pull.specs.Attempt.{GivesHome, HasFree, HasRoomFor, IsAttempt, IsNoted, IsReady, IsSmallFate, IsTriedBy, Leaves, MayTry, MayTryOn, OffersHome, OffersOther, lends_after, lends_before};
+ghost use Rattle.mc_pull.specs.Lent.{Each};
+ghost use Rattle.mc_pull.specs.Parts as words;
+ghost use Rattle.mc_pull.specs.Parts.{MayMake, part_for};
+ghost use Rattle.mc_pull.specs.Perform.{call};
+ghost use Rattle.mc_pull.specs.Performed.{IsAnyFull, IsUntouched, MayRefuseCall, one_if};
+ghost use Rattle.mc_pull.specs.Question.{IsClassOf, IsStripeOf};
+
+use crate::certain::cool_if;
+use crate::kinds::{Kind, Turn};
+use crate::lends::Lends;
+use crate::making::make;
+use crate::parts::{Part, gone_part, hit_part, is_here, linked_part, number_in};
+use crate::performing::key_if;
+use mc_item::{Fault, Key, Link, NoMemory, Reply, Room};
+use mc_segment::ClassState;
+use mc_stripe::{Done, Fate, Given, Home, Other, StripeState, Want};
+use std::alloc::Global;
+
+/// What a try came to: the command was made, or it is given back with what it wants.
+#[derive(Drop)]
+pub enum Tried<K> {
+    Made(Reply),
+    Wants(K, Want),
+}
+
+// For how many events more, of at most one or two, a class's history has places.
+#[inline(always)]
+fn places(class: &ClassState, most: usize) -> usize
+    requires { (0 < most) × (most ≤ 2) }
+    ensures { Leaves most class.now result }
+{
+    class.law();
+    if class.has_places(most) {
+        most
+    } else if class.has_places(most - 1) {
+        most - 1
+    } else {
+        0
+    }
+}
+
+// The room that a class gives.
+#[inline(always)]
+fn room_of(class: &ClassState, refused: Option<u64>, turn: Turn) -> Room
+    requires noted { IsNoted refused turn.who class.now }
+    ensures { GivesHome class.now refused turn.who result }
+{
+    let _turn = turn;
+    if !class.is_full() {
+        return Room::At(Link {
+            class: class.number(),
+            number: class.next_number(),
+        });
+    }
+    match refused {
+        None => Room::Keep,
+        Some(place) => Room::Refused {
+            class: class.number(),
+            place,
+        },
+    }
+}
+
+// What the class of a new version offers.
+#[inline(always)]
+fn offer_home(class: &ClassState, refused: Option<u64>, turn: Turn) -> Home
+    requires noted { IsNoted refused turn.who class.now }
+    ensures { OffersHome class.now refused turn.who result }
+{
+    Home {
+        class: class.number(),
+        room: room_of(class, refused, turn),
+        places: places(class, 2) as u64,
+    }
+}
+
+// What the class of an item offers.
+#[inline(always)]
+fn offer_other(class: &ClassState) -> Other
+    ensures { OffersOther class.now result }
+{
+    Other {
+        class: class.number(),
+        places: places(class, 1) as u64,
+    }
+}
+
+/// Makes room for the events of a command in a class, as far as its history has places for them: at most two.
+#[inline(always)]
+pub fn ready(class: &mut ClassState) -> Result<(), Fault>
+    ensures ready { OnOk result (IsReady class.new) }
+    ensures same { class.new ≡ with_room class.old class.new.room }
+    ensures memory { IsErrOf result HistoryFull → ⊥ }
+{
+    let places = places(class, 2);
+    class.reserve(places)
+}
+
+// Makes room for the move of an entry whose item a hit would wake, where it lies in COLD. Whether it does.
+#[inline(always)]
+fn wake(class: &mut ClassState, key: &Key, woken: Option<Link>) -> Result<bool, Fault>
+    ensures warms { IfOk result (λ warms. warms ≡ words.is_warming (words.hit_part class.old (words.number_in class.old key.now woken))) }
+    ensures same { class.new ≡ with_room class.old class.new.room }
+    ensures room { IfOk result (λ warms. warms ≡ true → (0 < class.new.room) × HasPlaces class.new 1) }
+    ensures kept { class.old.room ≤ class.new.room }
+    ensures full { IsErrOf result HistoryFull → (words.is_warming (words.hit_part class.old (words.number_in class.old key.now woken)) ≡ true) × (class.old.max_events < length class.old.history + 1) }
+{
+    let warms = hit_part(class, number_in(class, key, woken)).is_warming();
+    if warms {
+        class.reserve(1)?;
+    }
+    Ok(warms)
+}
+
+// The part of a class in a command that was made.
+#[inline(always)]
+fn part_after(class: &ClassState, key: Key, room: Room, fate: Fate) -> Part
+    requires free { words.is_here class.now room ≡ true → HasFree class.now }
+    requires small { words.is_here class.now room ≡ true → IsSmallFate fate }
+    ensures part { result ≡ part_for class.now key room fate }
+    ensures may { MayMake class.now result }
+{
+    match fate {
+        Fate::Untouched => Part::Nothing,
+        Fate::Renewed { cost, expiry, old } => {
+            let number = number_in(class, &key, old);
+            if is_here(class, room) {
+                linked_part(class, key, cost, expiry, number)
+            } else {
+                gone_part(class, number)
+            }
+        }
+        Fate::Goes(link) => gone_part(class, number_in(class, &key, Some(link))),
+        Fate::Woken(link) => hit_part(class, number_in(class, &key, Some(link))),
+    }
+}
+
+// Makes room for a command's event and for the clearing of its item's mark, where that is cleared.
+#[inline(always)]
+fn room_if(stripe: &mut StripeState, warms: bool) -> Result<(), Fault>
+    ensures ok { OnOk result (warms ≡ true → (2 ≤ stripe.new.room) × (length stripe.old.history + 2 ≤ stripe.old.limit)) }
+    ensures same { stripe.new ≡ record stripe.old { room = stripe.new.room } }
+    ensures full { IsErrOf result HistoryFull → (warms ≡ true) × (stripe.old.limit < length stripe.old.history + 2) }
+{
+    stripe.history();
+    if warms {
+        stripe.reserve(2)?;
+    }
+    Ok(())
+}
+
+// A command that is lent no class.
+#[inline(always)]
+fn attempt_none<K: Kind + Drop>(
+    stripe: &mut StripeState,
+    kind: K,
+    turn: Turn,
+) -> Result<Tried<K>, Fault>
+    requires suits { K.suits kind stripe.old.site }
+    requires may { MayTryOn stripe.old [] (K.command kind) turn (record { home = None; other = None }) }
+    ensures tried { (config : Config) → IsStripeOf config stripe.old → IfOk result (IsTriedBy K.command K.suits config stripe.old stripe.new (K.command kind) turn (record { home = None; other = None }) [] []) }
+    ensures err { OnErr result (stripe.new.history ≡ stripe.old.history) }
+    ensures refusal { IsErrOf result HistoryFull → MayRefuseCall stripe.old (call turn.who (K.command kind) turn.moment rooms.Keep) [] HistoryFull }
+    ensures site { KeepsSite stripe.old stripe.new }
+{
+    stripe.history();
+    let given = Given {
+        home: None,
+        other: None,
+    };
+    match kind.attempt(stripe, turn, given)? {
+        Ok(done) => Ok(Tried::Made(done.reply)),
+        Err((kind, want)) => Ok(Tried::Wants(kind, want)),
+    }
+}
+
+// A command that is lent one class.
+#[inline(always)]
+fn attempt_one<K: Kind + Drop>(
+    alloc: Global,
+    stripe: &mut StripeState,
+    class: &mut ClassState,
+    kind: K,
+    turn: Turn,
+    given: Given,
+) -> Result<Tried<K>, Fault>
+    requires suits { K.suits kind stripe.old.site }
+    requires may { MayTryOn stripe.old (class.old ∷ []) (K.command kind) turn given }
+    requires room { HasRoomFor given class.old }
+    ensures tried { (config : Config) → IsStripeOf config stripe.old → IsClassOf config class.old → IfOk result (IsTriedBy K.command K.suits config stripe.old stripe.new (K.command kind) turn given (class.old ∷ []) (class.new ∷ [])) }
+    ensures err { OnErr result (IsUntouched stripe.old stripe.new (class.old ∷ []) (class.new ∷ [])) }
+    ensures refusal { IsErrOf result HistoryFull → MayRefuseCall stripe.old (call turn.who (K.command kind) turn.moment rooms.Keep) (class.old ∷ []) HistoryFull }
+    ensures site { KeepsSite stripe.old stripe.new }
+{
+    class.law();
+    let at = stripe.history().len() as u64 + 1;
+    let warms = wake(class, kind.key(), kind.woken(stripe, turn.moment))?;
+    room_if(stripe, warms)?;
+    let cooled = key_if(alloc, kind.key(), warms)?;
+    let key = kind.key().copy(alloc)?;
+    match kind.attempt(stripe, turn, given)? {
+        Err((kind, want)) => Ok(Tried::Wants(kind, want)),
+        Ok(done) => {
+            let Done { reply, room, fate } = done;
+            make(
+                class,
+                part_after(class, key, room, fate),
+                turn.who,
+                turn.moment,
+                at,
+            );
+            cool_if(stripe, turn.who, cooled);
+            Ok(Tried::Made(reply))
+        }
+    }
+}
+
+// Whether one of two classes moves an entry.
+fn is_either(first: bool, second: bool) -> bool
+    ensures { result ≡ (first || second) }
+{
+    first || second
+}
+
+// A command that is lent two classes.
+#[inline(never)]
+fn attempt_two<K: Kind + Drop>(
+    alloc: Global,
+    stripe: &mut StripeState,
+    home: &mut ClassState,
+    other: &mut ClassState,
+    kind: K,
+    turn: Turn,
+    given: Given,
+) -> Result<Tried<K>, Fault>
+    requires suits { K.suits kind stripe.old.site }
+    requires may { MayTryOn stripe.old (home.old ∷ other.old ∷ []) (K.command kind) turn given }
+    requires room { HasRoomFor given home.old × HasRoomFor given other.old }
+    ensures tried { (config : Config) → IsStripeOf config stripe.old → IsClassOf config home.old → IsClassOf config other.old → IfOk result (IsTriedBy K.command K.suits config stripe.old stripe.new (K.command kind) turn given (home.old ∷ other.old ∷ []) (home.new ∷ other.new ∷ [])) }
+    ensures err { OnErr result (IsUntouched stripe.old stripe.new (home.old ∷ other.old ∷ []) (home.new ∷ other.new ∷ [])) }
+    ensures refusal { IsErrOf result HistoryFull → MayRefuseCall stripe.old (call turn.who (K.command kind) turn.moment rooms.Keep) (home.old ∷ other.old ∷ []) HistoryFull }
+    ensures site { KeepsSite stripe.old stripe.new }
+{
+    home.law();
+    other.law();
+    let at = stripe.history().len() as u64 + 1;
+    let woken = kind.woken(stripe, turn.moment);
+    let warms_home = wake(home, kind.key(), woken)?;
+    let warms_other = wake(other, kind.key(), woken)?;
+    let warms = is_either(warms_home, warms_other);
+    room_if(stripe, warms)?;
+    let cooled = key_if(alloc, kind.key(), warms)?;
+    let name = kind.key().copy(alloc)?;
+    let key = kind.key().copy(alloc)?;
+    match kind.attempt(stripe, turn, given)? {
+        Err((kind, want)) => Ok(Tried::Wants(kind, want)),
+        Ok(done) => {
+            let Done { reply, room, fate } = done;
+            make(
+                home,
+                part_after(home, key, room, fate),
+                turn.who,
+                turn.moment,
+                at,
+            );
+            make(
+                other,
+                part_after(other, name, room, fate),
+                turn.who,
+                turn.moment,
+                at,
+            );
+            cool_if(stripe, turn.who, cooled);
+            Ok(Tried::Made(reply))
+        }
+    }
+}
+
+/// Tries a command on its stripe and the classes that it is lent, which agree with the stripe. It is made, with its part in
+/// each class, or it is given back with what it wants, and nothing happened. All growths come first: after a fault nothing of it
+/// stands. `HistoryFull` is answered only where a history lacks a place that the command needs in it.
+#[inline(always)]
+pub fn attempt<K: Kind + Drop>(
+    alloc: Global,
+    stripe: &mut StripeState,
+    lends: Lends<'_>,
+    kind: K,
+    turn: Turn,
+    refused: Option<u64>,
+) -> Result<Tried<K>, Fault>
+    requires suits { K.suits kind stripe.old.site }
+    requires may { MayTry stripe.old lends (K.command kind) turn refused }
+    ensures tried { IfOk result (IsAttempt K.command K.suits stripe.old stripe.new (K.command kind) turn refused lends.entry lends.exit) }
+    ensures err { OnErr result (IsUntouched stripe.old stripe.new (lends_before lends.entry) (lends_after lends.exit)) }
+    ensures refusal { IsErrOf result HistoryFull → MayRefuseCall stripe.old (call turn.who (K.command kind) turn.moment rooms.Keep) (lends_before lends.entry) HistoryFull }
+    ensures site { KeepsSite stripe.old stripe.new }
+{
+    match lends {
+        Lends::Nothing => attempt_none(stripe, kind, turn),
+        Lends::Home(home) => {
+            let given = Given {
+                home: Some(offer_home(home, refused, turn)),
+                other: None,
+            };
+            attempt_one(alloc, stripe, home, kind, turn, given)
+        }
+        Lends::Other(other) => {
+            let given = Given {
+                home: None,
+                other: Some(offer_other(other)),
+            };
+            attempt_one(alloc, stripe, other, kind, turn, given)
+        }
+        Lends::Both(home, other) => {
+            let given = Given {
+                home: Some(offer_home(home, refused, turn)),
+                other: Some(offer_other(other)),
+            };
+            attempt_two(alloc, stripe, home, other, kind, turn, given)
+        }
+    }
+}

@@ -1,0 +1,224 @@
+//! Tries of commands as rows: what each makes in its classes and its stripe, or what it wants, worked out by hand.
+use super::trying::Asked::{Delete, Get, Juggle, Refuse, Set, SetRefused};
+use super::trying::Lend::{Both, Home, Nothing, Other};
+use super::trying::{Row, play};
+use std::test::Fail;
+
+// So many places as no test takes.
+const MANY: u64 = 100;
+
+// What gains no event.
+const NONE: [&str; 3] = ["", "", ""];
+
+// What gains one of the stripe alone.
+const DOES: [&str; 3] = ["", "", "[does]"];
+
+const FIRST: &str = "Classes(Classes { home: Some(ClassNo(1)), other: None })";
+
+const SECOND_OVER: &str = "Classes(Classes { home: Some(ClassNo(2)), other: Some(ClassNo(1)) })";
+
+const ITEM: &str = "Classes(Classes { home: None, other: Some(ClassNo(1)) })";
+
+const CROWDED: &str = "Place(ClassNo(1))";
+
+const MISS: Row = (Get(b'z'), Nothing, "Miss", DOES);
+
+static SETS: [Row; 8] = [
+    (Set(b'a', 1), Nothing, FIRST, NONE),
+    (Set(b'a', 1), Other, FIRST, NONE),
+    (Set(b'a', 1), Home, "Stored", ["[links 0]", "", "[does]"]),
+    (
+        Set(b'a', 1),
+        Home,
+        "Stored",
+        ["[links 1][unlinks 0]", "", "[does]"],
+    ),
+    (Set(b'a', 60), Nothing, SECOND_OVER, NONE),
+    (Set(b'a', 60), Home, SECOND_OVER, NONE),
+    (
+        Set(b'a', 60),
+        Both,
+        "Stored",
+        ["[unlinks 1]", "[links 0]", "[does]"],
+    ),
+    (Set(b'b', 1), Home, "Stored", ["[links 2]", "", "[does]"]),
+];
+
+#[test]
+fn a_set_makes_its_part_in_each_class_that_it_wants(rt: HostRuntime) -> Result<(), Fail> {
+    play(&rt, rt.alloc(), 4, MANY, SETS.as_slice())
+}
+
+static DELETES: [Row; 5] = [
+    (Set(b'a', 1), Home, "Stored", ["[links 0]", "", "[does]"]),
+    (Delete(b'a'), Nothing, ITEM, NONE),
+    (Delete(b'a'), Home, ITEM, NONE),
+    (
+        Delete(b'a'),
+        Other,
+        "Deleted",
+        ["[unlinks 0]", "", "[does]"],
+    ),
+    (Delete(b'a'), Nothing, "NotFound", DOES),
+];
+
+#[test]
+fn a_delete_wants_the_class_of_its_item(rt: HostRuntime) -> Result<(), Fail> {
+    play(&rt, rt.alloc(), 4, MANY, DELETES.as_slice())
+}
+
+// A refusal counts only while the class is full.
+static FULL: [Row; 7] = [
+    (Set(b'a', 1), Home, "Stored", ["[links 0]", "", "[does]"]),
+    (Set(b'b', 1), Home, "Room", NONE),
+    (Set(b'a', 1), Home, "Room", NONE),
+    (Refuse, Nothing, "refused at 1", ["[refuses]", "", ""]),
+    (SetRefused(b'b', 1), Home, "NoRoom", DOES),
+    (
+        SetRefused(b'a', 1),
+        Home,
+        "NoRoom",
+        ["[unlinks 0]", "", "[does]"],
+    ),
+    (
+        SetRefused(b'b', 1),
+        Home,
+        "Stored",
+        ["[links 1]", "", "[does]"],
+    ),
+];
+
+#[test]
+fn a_full_class_wants_room_or_a_refusal(rt: HostRuntime) -> Result<(), Fail> {
+    play(&rt, rt.alloc(), 1, MANY, FULL.as_slice())
+}
+
+// One item alone is more than the share of HOT, so it goes to COLD; the one that comes then stays in HOT.
+static HITS: [Row; 10] = [
+    (Set(b'a', 1), Home, "Stored", ["[links 0]", "", "[does]"]),
+    (
+        Juggle,
+        Nothing,
+        "1 moved",
+        [
+            "[surveys][moves 0 from Hot to Cold for Over(1) past [] at 1]",
+            "",
+            "",
+        ],
+    ),
+    (Get(b'a'), Nothing, "a value", DOES),
+    (Get(b'a'), Nothing, ITEM, NONE),
+    (
+        Get(b'a'),
+        Other,
+        "a value",
+        [
+            "[moves 0 from Cold to Warm for Hit past [] at 3]",
+            "",
+            "[does][cools [97]]",
+        ],
+    ),
+    (Get(b'a'), Other, "a value", DOES),
+    (Set(b'b', 1), Home, "Stored", ["[links 1]", "", "[does]"]),
+    (Get(b'b'), Nothing, "a value", DOES),
+    (Get(b'b'), Other, "a value", DOES),
+    (Get(b'b'), Nothing, "a value", DOES),
+];
+
+#[test]
+fn a_hit_that_wakes_an_item_moves_its_entry_out_of_cold(rt: HostRuntime) -> Result<(), Fail> {
+    play(&rt, rt.alloc(), 4, MANY, HITS.as_slice())
+}
+
+// The class has one place left after eight sets, and then none.
+static CROWDED_CLASS: [Row; 12] = [
+    (Set(b'a', 1), Home, "Stored", ["[links 0]", "", "[does]"]),
+    (
+        Set(b'a', 1),
+        Home,
+        "Stored",
+        ["[links 1][unlinks 0]", "", "[does]"],
+    ),
+    (
+        Set(b'a', 1),
+        Home,
+        "Stored",
+        ["[links 2][unlinks 1]", "", "[does]"],
+    ),
+    (
+        Set(b'a', 1),
+        Home,
+        "Stored",
+        ["[links 3][unlinks 2]", "", "[does]"],
+    ),
+    (
+        Set(b'a', 1),
+        Home,
+        "Stored",
+        ["[links 4][unlinks 3]", "", "[does]"],
+    ),
+    (
+        Set(b'a', 1),
+        Home,
+        "Stored",
+        ["[links 5][unlinks 4]", "", "[does]"],
+    ),
+    (
+        Set(b'a', 1),
+        Home,
+        "Stored",
+        ["[links 6][unlinks 5]", "", "[does]"],
+    ),
+    (
+        Set(b'a', 1),
+        Home,
+        "Stored",
+        ["[links 7][unlinks 6]", "", "[does]"],
+    ),
+    (Set(b'a', 1), Home, CROWDED, NONE),
+    (Set(b'b', 1), Home, "Stored", ["[links 8]", "", "[does]"]),
+    (Set(b'c', 1), Home, CROWDED, NONE),
+    (Delete(b'a'), Other, CROWDED, NONE),
+];
+
+#[test]
+fn a_set_over_an_item_wants_two_places_of_its_class(rt: HostRuntime) -> Result<(), Fail> {
+    play(&rt, rt.alloc(), 4, 16, CROWDED_CLASS.as_slice())
+}
+
+// The stripe has one place left after 15 commands, and then none.
+static CROWDED_STRIPE: [Row; 19] = [
+    (Set(b'a', 1), Home, "Stored", ["[links 0]", "", "[does]"]),
+    (
+        Juggle,
+        Nothing,
+        "1 moved",
+        [
+            "[surveys][moves 0 from Hot to Cold for Over(1) past [] at 1]",
+            "",
+            "",
+        ],
+    ),
+    (Get(b'a'), Nothing, "a value", DOES),
+    MISS,
+    MISS,
+    MISS,
+    MISS,
+    MISS,
+    MISS,
+    MISS,
+    MISS,
+    MISS,
+    MISS,
+    MISS,
+    MISS,
+    MISS,
+    (Get(b'a'), Other, "HistoryFull", NONE),
+    MISS,
+    (Get(b'z'), Nothing, "HistoryFull", NONE),
+];
+
+#[test]
+fn a_hit_in_cold_needs_two_places_of_its_stripe(rt: HostRuntime) -> Result<(), Fail> {
+    play(&rt, rt.alloc(), 4, 16, CROWDED_STRIPE.as_slice())
+}
