@@ -42,11 +42,11 @@ key_of_stripe site stripe key link cost legal h =
     key_given site g.0 g.1 key link (legal_at site stripe g.0 g.1 legal g.2) g.3
 
 -- a class is one of these sizes
-abbrev IsSized : List ℕ → ClassNo → Type 0
+abbrev pub IsSized : List ℕ → ClassNo → Type 0
 IsSized sizes class = (0 < class.0) × (class.0 ≤ length sizes)
 
 -- a class that a need names is one of these sizes
-abbrev NamesSized : List ℕ → Need → Type 0
+abbrev pub NamesSized : List ℕ → Need → Type 0
 NamesSized sizes (needs.Fresh class) = IsSized sizes class
 NamesSized sizes needs.Nothing = Unit {0}
 NamesSized sizes needs.Same = Unit {0}
@@ -101,7 +101,7 @@ module _ (site : Site) where
   count_names n key step None = tt
   count_names n key step (Some item) = number_names n key item (option_map step (numeral_of item.value))
 
-  row_names : (n : ℕ) (found : Option Item) (command : Command) (moment : ℕ) → NamesSized site.sizes (row_of site n found command moment).need
+  pub row_names : (n : ℕ) (found : Option Item) (command : Command) (moment : ℕ) → NamesSized site.sizes (row_of site n found command moment).need
   row_names n found (Get key) moment = get_names site.sizes found
   row_names n found (Store verb key flags exptime value) moment =
       store_names site.sizes (class_of site.sizes (cost_of key value)) verb found (version_of site n flags value (expiry_of exptime moment)) (class_of_sized (cost_of key value))

@@ -1,6 +1,6 @@
 -- One try of a command on the classes that it is lent: that it may be made there, and what it makes.
-use Rattle.std.proofs.Common.{◌≡◌, ◌<◌, ◌≤◌, ◌+◌, ◌^◌, ◌==◌, ◌&&◌, ℕ, List, [], ◌∷◌, ◌++◌, Bool, true, false, not, refl, sym, ap, ◌∙◌, subst, inl, inr, ◌⊎◌, length, append_assoc, append-nil, arith, Result, Ok, Err}
-use Rattle.std.specs.Prelude.{Option, Some, None, IfOk, IfSome, IsSomeAnd, MatchOption, if◌then◌else◌, ◌||◌, nat_le, decimal, position, slice_get}
+use Rattle.std.proofs.Common.{◌≡◌, ◌<◌, ◌≤◌, ◌+◌, ◌^◌, ◌==◌, ◌&&◌, ℕ, List, [], ◌∷◌, ◌++◌, Bool, true, false, not, refl, sym, ap, ◌∙◌, subst, inl, inr, ◌⊎◌, length, append_assoc, append-nil, arith}
+use Rattle.std.specs.Prelude.{Option, Some, None, IfSome, IsSomeAnd, MatchOption, if◌then◌else◌, ◌||◌, nat_le, decimal, position, slice_get}
 use Rattle.std.specs.List.{All}
 use Rattle.std.specs.Option.{option_map}
 use Rattle.std.proofs.lemmas.Bool.{false≢true, true≢false}
@@ -47,7 +47,7 @@ use Rattle.mc_pull.specs.declared.parts.Part.TheVariants as parts
 use Rattle.mc_stripe.specs.Plan.{fate_of, woken_link}
 use Rattle.mc_stripe.specs.StripeState.{Stripe, cache_now}
 use Rattle.mc_stripe.specs.Trying.{item_of, row_at}
-use Rattle.mc_stripe.specs.Wanting.{Covers, Holds, IsGiven, IsTaken, Uses, changes_at, class_beside, classes_for, class_of_fate, home_class, links_at, other_class}
+use Rattle.mc_stripe.specs.Wanting.{Covers, Holds, IsGiven, IsTaken, Uses, changes_at, class_beside, class_of_fate, home_class, other_class}
 use Rattle.mc_stripe.specs.Wanting as wanting
 use Rattle.mc_stripe.specs.declared.fate.Fate.{Fate}
 use Rattle.mc_stripe.specs.declared.fate.Fate.TheVariants as fates
@@ -56,10 +56,7 @@ use Rattle.mc_stripe.specs.declared.wanting.Home.{Home}
 use Rattle.mc_stripe.specs.declared.wanting.Other.{Other}
 use Rattle.mc_pull.specs.declared.kinds.Turn.{Turn}
 use Rattle.mc_pull.specs.Agreeing.{AgreeNow}
-use Rattle.mc_item.specs.declared.fault.Fault.{Fault}
-use Rattle.mc_pull.specs.declared.attempting.Tried.{Tried}
-use Rattle.mc_pull.specs.declared.lends.Lends.{Lends}
-use Rattle.mc_pull.specs.Attempt.{GivesHome, HasFree, HasRoomFor, IsAny, IsAttempt, IsGivenBy, IsSmallFate, IsTriedBy, Left, MayTryOn, OffersHome, OffersOther, lends_after, lends_before}
+use Rattle.mc_pull.specs.Attempt.{GivesHome, HasFree, HasRoomFor, IsAny, IsSmallFate, MayTryOn, OffersHome, OffersOther}
 use Rattle.mc_pull.specs.Kinds.{woken_by}
 use Rattle.mc_pull.specs.Lent.{Each, IsLent, IsLentIf}
 use Rattle.mc_pull.specs.Parts.{gone_part, hit_part, is_cold, is_for, is_here, is_warming, new_part, number_in, part_for, places_of}
@@ -71,7 +68,7 @@ use Rattle.mc_pull.proofs.CallLemmas.{after_is, did, may_do}
 use Rattle.mc_pull.proofs.PerformLemmas.{not_gone, not_new}
 use Rattle.mc_pull.proofs.PerformedLemmas.{IsOf, each_at, one_class}
 use Rattle.mc_pull.proofs.PlacedLemmas.{IsPlaced, row_places}
-use Rattle.mc_pull.proofs.SetLemmas.{small_at}
+use Rattle.mc_pull.proofs.CostLemmas.{small_at}
 
 -- ---- one of some classes
 record Picked (P : ClassView → Type 0) (vs : List ClassView) : Type 0 where
@@ -552,7 +549,7 @@ module _ (v : ClassView) (moment : ℕ) where
   alive_woken key None warm = tt
   alive_woken key (Some item) warm = alive_if key item (if (hit_marks item.marks).active && not item.marks.active then Some item.link else None) (is_dead item moment) refl warm
 
-  warm_alive : (s : Stripe) (command : Command) → is_warming (hit_part v (number_in v (key_of command) (woken_by s command moment))) ≡ true → IsAlive (item_of s command) moment
+  pub warm_alive : (s : Stripe) (command : Command) → is_warming (hit_part v (number_in v (key_of command) (woken_by s command moment))) ≡ true → IsAlive (item_of s command) moment
   warm_alive s (Get key) warm = alive_woken key (item_of s (Get key)) warm
   warm_alive s (Touch key exptime) warm = alive_woken key (item_of s (Touch key exptime)) warm
   warm_alive s (Store verb key flags exptime value) warm = absurd (false≢true warm)
@@ -571,10 +568,7 @@ either_on true b c d first second on = rw (first refl) refl
 either_on false b true d first second on = refl
 either_on false b false d first second on = rw (second on) refl
 
--- what was tried on the classes that were lent
-module _ {K : Type 0} (command : K → Command) (suits : K → Site → Type 0) (s s_new : Stripe) (made : Command) (turn : Turn) (refused : Option ℕ) (lends : Lends) (left : Left) where
-  pub attempted : (given : Given) → IsGivenBy lends refused turn.who given → (result : Result (Tried K) Fault)
-      → ((config : Config) → IsStripeOf config s → Each (IsClassOf config) (lends_before lends) → IfOk result (IsTriedBy command suits config s s_new made turn given (lends_before lends) (lends_after left)))
-      → IfOk result (IsAttempt command suits s s_new made turn refused lends left)
-  attempted given offered (Ok t) all = record { given = given; offered = offered; tried = all }
-  attempted given offered (Err fault) all = tt
+-- what follows from each of two follows from either
+pub either_so : (P : Type 0) (a b : Bool) → (a ≡ true → P) → (b ≡ true → P) → (a || b) ≡ true → P
+either_so P true b first second on = first refl
+either_so P false b first second on = second on

@@ -142,12 +142,6 @@ module _ (s : Stripe) (c : Call) (legal : IsLegal s.site s.history) (may : MayAn
         let at = stands_at history place (entries.Refused (record { who = c.who })) (has place is) in
         (at.0, record { who = c.who }, at.1, record { who = refl; room = is ∙ ap (rooms.Refused n) (sym at.2) })
 
-    pub not_refused : (link : Link) → c.room ≡ rooms.At link → IsRefusedThere n (did s c) history
-    not_refused link room = λ place is. absurd (chunk_or_refused n place (sym room ∙ is))
-      where
-        chunk_or_refused : (other : ClassNo) (place : ℕ) → rooms.At link ≡ rooms.Refused other place → ⊥
-        chunk_or_refused other place h = cc
-
   -- ---- the number of the entry that a class has of the key
   module _ (v : ClassView) (lawful : IsLawfulHistoryByLists v.chunks v.rule v.history) (agree : Agree s.site v.rule v.number s.history v.history) where
     is_entry : (item : Item) (m : ℕ) → item.link ≡ link_to v.number m → (o : Option (Seg × Entry)) → found m (lists_of v.history) ≡ o → IsSomeAnd o (λ there. IsEntryFor (key s c) item there.1) → IsEntryOf v.history m (key s c)

@@ -17,7 +17,6 @@ mod PlacedLemmas
 mod CallLemmas
 mod ClassPartLemmas
 mod FarPartLemmas
-mod PerformedLemmas
-mod AloneLemmas
-mod SetLemmas
-mod AttemptLemmas
+pub mod PerformedLemmas
+mod CostLemmas
+pub mod AttemptLemmas

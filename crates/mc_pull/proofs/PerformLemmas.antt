@@ -1,18 +1,16 @@
 -- What a command on its stripe and classes is known to make.
-use Rattle.std.proofs.Common.{ℕ, ◌≡◌, ◌<◌, ◌+◌, ◌++◌, ◌&&◌, ◌∷◌, Bool, true, false, not, List, length, refl, sym, ap, ◌∙◌, subst, inl, inr}
-use Rattle.std.specs.Prelude.{Option, Some, None, Result, Ok, Err, if◌then◌else◌, IfErr, IsErrAnd, OnErr, IsSomeAnd, nat_eq, [], ◌||◌, ◌⊎◌}
+use Rattle.std.proofs.Common.{ℕ, ◌≡◌, ◌+◌, ◌++◌, ◌&&◌, ◌∷◌, Bool, true, false, not, List, refl, sym, ap, ◌∙◌, subst, inl, inr}
+use Rattle.std.specs.Prelude.{Option, Some, None, if◌then◌else◌, IsSomeAnd, nat_eq, [], ◌||◌, ◌⊎◌}
 use Rattle.std.specs.Cmp.Lexicographic.{pointwise}
 use Rattle.std.proofs.lemmas.Cmp.{nat_list_eq_equiv}
 use Rattle.std.proofs.lemmas.Bool.{false≢true}
-use Rattle.mc_item.specs.Cache.{Cache, changed, if_alive}
+use Rattle.mc_item.specs.Cache.{Cache, changed}
 use Rattle.mc_item.specs.Command.{key_of}
-use Rattle.mc_item.specs.Stripe.{cache_of, cache_after, IsAlive}
+use Rattle.mc_item.specs.Stripe.{cache_of, cache_after}
 use Rattle.mc_item.specs.declared.answer.Change.{Change}
 use Rattle.mc_item.specs.declared.answer.Change.TheVariants as changes
 use Rattle.mc_item.specs.declared.answer.Site.{Site}
 use Rattle.mc_item.specs.declared.class_event.ClassEvent.{ClassEvent}
-use Rattle.mc_item.specs.declared.fault.Fault.{Fault}
-use Rattle.mc_item.specs.declared.fault.Fault.TheVariants.{NoMemory, HistoryFull}
 use Rattle.mc_item.specs.declared.item.Expiry.{Expiry}
 use Rattle.mc_item.specs.declared.item.Item.{Item}
 use Rattle.mc_item.specs.declared.item.Link.{Link}
@@ -23,21 +21,15 @@ use Rattle.mc_item.specs.declared.stripe_event.StripeEvent.{StripeEvent}
 use Rattle.mc_item.specs.declared.stripe_event.StripeEvent.TheVariants as stripe_event
 use Rattle.mc_item.proofs.StripeLemmas.{cache_of-push}
 use Rattle.mc_segment.specs.ClassState.{ClassView, with_room}
-use Rattle.mc_stripe.specs.declared.fate.Fate.{Fate}
 use Rattle.mc_stripe.specs.declared.fate.Fate.TheVariants as fates
 use Rattle.mc_stripe.specs.Plan.{fate_of}
 use Rattle.mc_stripe.specs.StripeState.{Stripe, cache_now}
 use Rattle.mc_pull.specs.declared.parts.Part.{Part}
 use Rattle.mc_pull.specs.declared.parts.Part.TheVariants as parts
-use Rattle.mc_pull.specs.Parts.{part_for, part_events, new_part, gone_part, is_warming, number_in, is_here, places_of, MayRefusePart}
-use Rattle.mc_pull.specs.Perform.{Call, item_before, answer_to, fate_for}
-use Rattle.mc_pull.specs.Performed.{part_in, is_cooling, IsStripeFull, MayRefuseCall, MayRefuseStripe}
+use Rattle.mc_pull.specs.Parts.{part_for, part_events, new_part, gone_part, is_warming, number_in, is_here}
+use Rattle.mc_pull.specs.Perform.{Call, item_before, answer_to}
+use Rattle.mc_pull.specs.Performed.{part_in, is_cooling}
 use Rattle.mc_pull.specs.Settled.{class_with}
-
--- an item that is alive is visible
-pub visible_alive : (moment : ℕ) (found : Option Item) → IsAlive found moment → if_alive moment found ≡ found
-visible_alive moment None alive = refl
-visible_alive moment (Some item) alive = ap (λ (b : Bool). if b then None else Some item) alive
 
 -- ---- a part that warms an entry is that of a hit that leaves the item ACTIVE
 pub not_new : (key : List ℕ) (cost : ℕ) (expiry : Expiry) (b : Bool) (o : Option ℕ) → is_warming (new_part key cost expiry b o) ≡ false
@@ -89,10 +81,6 @@ changed_at : (b : Bool) (o p : Option Item) → b ≡ true → IsActive o → Is
 changed_at true o p is h = h
 changed_at false o p is h = absurd (false≢true is)
 
-pub given_key : (b : Bool) (k key : List ℕ) → Some k ≡ (if b then Some key else None) → (b ≡ true) × (k ≡ key)
-given_key true k key h = (refl, cc)
-given_key false k key h = cc
-
 pub cool_ready : (s new : Stripe) (c : Call) (k : List ℕ) (r : Reply) → new.site ≡ s.site
     → new.history ≡ s.history ++ stripe_event.Did (record { who = c.who; command = c.command; moment = c.moment; reply = r; room = c.room }) ∷ []
     → k ≡ key_of c.command → IsSomeAnd (changed (item_before s c) (answer_to s c).change) (λ item. item.marks.active ≡ true) → IsSomeAnd ((cache_now new).items k) (λ item. item.marks.active ≡ true)
@@ -104,42 +92,10 @@ cool_ready s new c k r site is key active =
     subst (λ (q : List ℕ). IsActive ((cache_now new).items q)) (sym key)
     (subst (λ (x : Cache). IsActive (x.items (key_of c.command))) (sym cache_is) here)
 
--- ---- what is known of one class's part, by what it was told
-pub part_is : (s : Stripe) (c : Call) (v : ClassView) (key : List ℕ) (fate : Fate) (part : Part) → part ≡ part_for v key c.room fate → key ≡ key_of c.command → fate ≡ fate_for s c → part ≡ part_in s c v
-part_is s c v key fate part is key_is fate_is =
-    is ∙ (ap (λ (k : List ℕ). part_for v k c.room fate) key_is ∙ ap (λ (f : Fate). part_for v (key_of c.command) c.room f) fate_is)
-
-pub warms_active : (s : Stripe) (c : Call) (v : ClassView) (key : List ℕ) (fate : Fate) (part : Part) → part ≡ part_for v key c.room fate → key ≡ key_of c.command → fate ≡ fate_for s c → is_warming part ≡ true
-    → IsSomeAnd (changed (item_before s c) (answer_to s c).change) (λ item. item.marks.active ≡ true)
-warms_active s c v key fate part is key_is fate_is on =
-    active_after v (key_of c.command) c.room (item_before s c) (answer_to s c).change (sym (ap is_warming (part_is s c v key fate part is key_is fate_is)) ∙ on)
-
+-- ---- what is known of the parts of a call
 or_false : (b : Bool) → b ≡ (b || false)
 or_false true = refl
 or_false false = refl
-
--- a fault that is handed on
-pub handed_on : (P : Fault → Type 0) (r : Result (Option Reply) Fault) (fault : Fault) → IsErrAnd r (λ e. e ≡ fault) → P fault → IfErr r P
-handed_on P (Ok copy) fault is may = tt
-handed_on P (Err e) fault is may = subst P (sym is) may
-
--- what holds holds where a fault is answered
-pub holds_on_err : {A : Type 0} (P : Type 0) (r : Result A Fault) → P → OnErr r P
-holds_on_err P (Ok a) holds = tt
-holds_on_err P (Err e) holds = holds
-
--- a class that is full of the only one
-pub refused_first : (s : Stripe) (c : Call) (v : ClassView) (vs : List ClassView) (part : Part) (fault : Fault) → part ≡ part_in s c v → MayRefusePart v part fault → MayRefuseCall s c (v ∷ vs) fault
-refused_first s c v vs part HistoryFull is h = inr (inl (subst (λ (p : Part). v.max_events < length v.history + places_of p) is h))
-refused_first s c v vs part NoMemory is h = tt
-
-pub refused_second : (s : Stripe) (c : Call) (v w : ClassView) (part : Part) (fault : Fault) → part ≡ part_in s c w → MayRefusePart w part fault → MayRefuseCall s c (v ∷ w ∷ []) fault
-refused_second s c v w part HistoryFull is h = inr (inr (inl (subst (λ (p : Part). w.max_events < length w.history + places_of p) is h)))
-refused_second s c v w part NoMemory is h = tt
-
-pub refused_stripe : (s : Stripe) (c : Call) (vs : List ClassView) (cooled : Bool) (fault : Fault) → cooled ≡ is_cooling s c vs → MayRefuseStripe s cooled fault → MayRefuseCall s c vs fault
-refused_stripe s c vs cooled HistoryFull is h = inl (subst (IsStripeFull s) is h)
-refused_stripe s c vs cooled NoMemory is h = tt
 
 pub any_one : (s : Stripe) (c : Call) (v : ClassView) (part : Part) → part ≡ part_in s c v → is_warming part ≡ is_cooling s c (v ∷ [])
 any_one s c v part is = ap is_warming is ∙ or_false (is_warming (part_in s c v))

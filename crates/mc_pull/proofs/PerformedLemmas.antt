@@ -1,6 +1,6 @@
 -- A call keeps agreement, that of each class that it is lent with its stripe and that of each other class, and what is seen elsewhere.
-use Rattle.std.proofs.Common.{◌≡◌, ◌≢◌, ◌&&◌, ◌++◌, ℕ, List, [], ◌∷◌, Bool, true, false, not, Result, Ok, Err, refl, sym, ap, ◌∙◌, subst, inl, inr, ◌⊎◌}
-use Rattle.std.specs.Prelude.{Option, Some, None, OnOk, OnErr, if◌then◌else◌, ◌||◌}
+use Rattle.std.proofs.Common.{◌≡◌, ◌≢◌, ◌&&◌, ◌++◌, ℕ, List, [], ◌∷◌, Bool, true, false, not, refl, sym, ap, ◌∙◌, subst, inl, inr, ◌⊎◌}
+use Rattle.std.specs.Prelude.{Option, Some, None, if◌then◌else◌, ◌||◌}
 use Rattle.std.proofs.lemmas.Bool.{false≢true}
 use Rattle.mc_item.specs.Cache.{changed, counted, marked, touched}
 use Rattle.mc_item.specs.Item.{link_of_item}
@@ -10,7 +10,6 @@ use Rattle.mc_item.specs.declared.answer.Change.TheVariants as changes
 use Rattle.mc_item.specs.declared.answer.Site.{Site}
 use Rattle.mc_item.specs.declared.class_event.ClassEvent.{ClassEvent}
 use Rattle.mc_item.specs.declared.config.Config.{Config}
-use Rattle.mc_item.specs.declared.fault.Fault.{Fault}
 use Rattle.mc_item.specs.declared.item.ClassNo.{ClassNo}
 use Rattle.mc_item.specs.declared.item.Item.{Item}
 use Rattle.mc_item.specs.declared.item.Link.{Link}
@@ -252,15 +251,3 @@ module _ (config : Config) (s s_new : Stripe) (c : Call) (vs ws : List ClassView
     suited = pairs_at Stays (SuitsStill s.site) vs ws same.classes (λ v w there stays other seen equal apart each.
         subst (λ (x : ClassView). EachEvent (IsSuited other v.number seen) x.history) (sym stays) each);
   }
-
--- a call that is lent no class
-pub alone_kept : (config : Config) (s s_new : Stripe) (c : Call) → KeepsSite s s_new → {A : Type 0} (result : Result A Fault) → MayPerform config s c [] → IsLegal s.site s.history
-    → OnOk result (s_new.history ≡ s.history ++ events_on_stripe s c false) → OnErr result (s_new.history ≡ s.history) → KeepsAgreements c s s_new [] []
-alone_kept config s s_new c site (Ok answer) may legal made err = performed_kept config s s_new c [] [] site may legal tt record { stripe = made; classes = tt }
-alone_kept config s s_new c site (Err fault) may legal made err = untouched_kept config s s_new c [] [] site record { stripe = err; classes = tt }
-
--- what is seen elsewhere of it
-pub alone_seen : (config : Config) (s s_new : Stripe) (c : Call) → KeepsSite s s_new → {A : Type 0} (result : Result A Fault) → MayPerform config s c [] → IsLegal s.site s.history
-    → OnOk result (s_new.history ≡ s.history ++ events_on_stripe s c false) → OnErr result (s_new.history ≡ s.history) → KeepsSights c s s_new [] []
-alone_seen config s s_new c site (Ok answer) may legal made err = performed_seen config s s_new c [] [] site may legal tt record { stripe = made; classes = tt }
-alone_seen config s s_new c site (Err fault) may legal made err = untouched_seen config s s_new c [] [] site record { stripe = err; classes = tt }

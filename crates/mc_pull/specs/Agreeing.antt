@@ -36,7 +36,3 @@ IsApart number vs = Each (λ v. number ≢ v.number) vs
 pub record KeepsAgreements (c : Call) (s s_new : Stripe) (vs ws : List ClassView) : Type 0 where
   pub own : EachPair (λ v w. AgreeNow v s → AgreeNow w s_new) vs ws
   pub others : (other : ClassNo) (rule : Rule) (history : List ClassEvent) → IsApart other vs → HasRefusal c.who c.room other history → Agree s.site rule other s.history history → Agree s.site rule other s_new.history history
-
--- a stripe alone has changed: each class whose history agreed with the stripe's agrees with it still
-abbrev pub KeepsEachAgreement : Stripe → Stripe → Type 0
-KeepsEachAgreement s s_new = (other : ClassNo) (rule : Rule) (history : List ClassEvent) → Agree s.site rule other s.history history → Agree s.site rule other s_new.history history

@@ -1,7 +1,5 @@
 -- One try of a command on a stripe and the classes that it is lent (own).
-use Rattle.std.specs.Prelude.{ℕ, ◌≡◌, ◌<◌, ◌≤◌, ◌+◌, ◌^◌, ◌⊎◌, List, [], ◌∷◌, Option, Some, None, IfSome, IsSomeAnd, MatchOption, length, slice_get}
-use Rattle.std.proofs.Common.{inl, inr}
-use Rattle.std.specs.Borrow.{MutBor}
+use Rattle.std.specs.Prelude.{ℕ, ◌≡◌, ◌<◌, ◌≤◌, ◌+◌, ◌^◌, ◌⊎◌, List, [], ◌∷◌, Option, Some, None, IfSome, IsSomeAnd, length, slice_get}
 use Rattle.mc_item.specs.Command.{key_of}
 use Rattle.mc_item.specs.Measure.{stripe_of}
 use Rattle.mc_item.specs.declared.class_event.ClassEvent.TheVariants as class_events
@@ -25,33 +23,11 @@ use Rattle.mc_stripe.specs.declared.wanting.Other.{Other}
 use Rattle.mc_pull.specs.declared.attempting.Tried.{Tried}
 use Rattle.mc_pull.specs.declared.attempting.Tried.TheVariants as tried
 use Rattle.mc_pull.specs.declared.kinds.Turn.{Turn}
-use Rattle.mc_pull.specs.declared.lends.Lends.{Lends}
-use Rattle.mc_pull.specs.declared.lends.Lends.TheVariants.{Nothing, Home as HomeAlone, Other as OtherAlone, Both}
 use Rattle.mc_pull.specs.Agreeing.{AgreeNow, KeepsAgreements}
 use Rattle.mc_pull.specs.Lent.{AreDistinct, Each}
 use Rattle.mc_pull.specs.Perform.{MayPerform, answer_to, call}
 use Rattle.mc_pull.specs.Performed.{IsPerformed, IsUntouched}
-use Rattle.mc_pull.specs.Question.{IsClassOf, IsStripeOf}
 use Rattle.mc_pull.specs.Sight.{KeepsSights}
-
--- the classes that are lent, as they were handed in: that of the new version comes first
-abbrev pub lends_before : Lends → List ClassView
-lends_before Nothing = []
-lends_before (HomeAlone home) = home.now ∷ []
-lends_before (OtherAlone other) = other.now ∷ []
-lends_before (Both home other) = home.now ∷ other.now ∷ []
-
--- what is behind the references when a call returns: the variants of what is lent, in order
-abbrev pub Left : Type 0
-Left = Unit {0} ⊎ ((MutBor ClassView × Unit {0}) ⊎ ((MutBor ClassView × Unit {0}) ⊎ ((MutBor ClassView × (MutBor ClassView × Unit {0})) ⊎ ⊥)))
-
--- the classes that were lent, as they are at the return
-abbrev pub lends_after : Left → List ClassView
-lends_after (inl none) = []
-lends_after (inr (inl home)) = home.0.now ∷ []
-lends_after (inr (inr (inl other))) = other.0.now ∷ []
-lends_after (inr (inr (inr (inl both)))) = both.0.now ∷ both.1.0.now ∷ []
-lends_after (inr (inr (inr (inr no_other)))) = []
 
 -- a chunk is free
 abbrev pub HasFree : ClassView → Type 0
@@ -92,25 +68,6 @@ pub record IsOffered (given : Given) (refused : Option ℕ) (who : Who) (vs : Li
   pub other : IfSome given.other (λ o. IsAny (λ v. OffersOther v o) vs)
   pub each : Each (λ v. IsSomeAnd given.home (OffersHome v refused who) ⊎ IsSomeAnd given.other (OffersOther v)) vs
 
--- the class of a new version that is lent
-abbrev pub home_of : Lends → Option ClassView
-home_of Nothing = None
-home_of (HomeAlone home) = Some home.now
-home_of (OtherAlone other) = None
-home_of (Both home other) = Some home.now
-
--- that of an item
-abbrev pub other_of : Lends → Option ClassView
-other_of Nothing = None
-other_of (HomeAlone home) = None
-other_of (OtherAlone other) = Some other.now
-other_of (Both home other) = Some other.now
-
--- a command is given just what the classes that it is lent offer
-pub record IsGivenBy (lends : Lends) (refused : Option ℕ) (who : Who) (given : Given) : Type 0 where
-  pub home : MatchOption given.home (home_of lends ≡ None) (λ h. IsSomeAnd (home_of lends) (λ v. OffersHome v refused who h))
-  pub other : MatchOption given.other (other_of lends ≡ None) (λ o. IsSomeAnd (other_of lends) (λ v. OffersOther v o))
-
 -- where the class of a new version noted for a call that no chunk was found, that event stands in its history
 abbrev pub IsNoted : Option ℕ → Who → ClassView → Type 0
 IsNoted refused who v = IfSome refused (λ place. slice_get v.history place ≡ Some (class_events.Refused (record { who = who })))
@@ -119,16 +76,8 @@ IsNoted refused who v = IfSome refused (λ place. slice_get v.history place ≡ 
 abbrev pub IsReady : ClassView → Type 0
 IsReady v = (n : ℕ) → n ≤ 2 → ClassHasPlaces v n → n ≤ v.room
 
--- a command may be tried: its key is of this stripe, and the classes that are lent are ready, and agree with the stripe
-pub record MayTry (s : Stripe) (lends : Lends) (command : Command) (turn : Turn) (refused : Option ℕ) : Type 0 where
-  pub stripe : stripe_of (key_of command) s.site.stripes ≡ record { 0 = s.site.stripe }
-  pub moment : turn.moment ≤ 2 ^ 62
-  pub distinct : AreDistinct (lends_before lends)
-  pub met : Each (λ v. AgreeNow v s) (lends_before lends)
-  pub ready : Each IsReady (lends_before lends)
-  pub noted : IfSome (home_of lends) (IsNoted refused turn.who)
-
--- the same on a list of classes, of which some offer what the command is given
+-- a command may be tried on these classes: its key is of this stripe, the classes agree with the stripe, and some of them offer
+-- what the command is given
 pub record MayTryOn (s : Stripe) (vs : List ClassView) (command : Command) (turn : Turn) (given : Given) : Type 0 where
   pub stripe : stripe_of (key_of command) s.site.stripes ≡ record { 0 = s.site.stripe }
   pub moment : turn.moment ≤ 2 ^ 62
@@ -167,9 +116,3 @@ module _ {K : Type 0} (command : K → Command) (suits : K → Site → Type 0) 
   IsTriedBy (tried.Made reply) = IsMadeOn config s s_new made turn given vs ws reply
   IsTriedBy (tried.Wants kind want) =
       (command kind ≡ made) × suits kind s.site × IsUntouched s s_new vs ws × IsWanting given (key_of made) (item_of s made) turn.moment (row_at s made turn.moment) want
-
--- a command was tried on the classes that it was lent, as they were made with a configuration
-pub record IsAttempt {K : Type 0} (command : K → Command) (suits : K → Site → Type 0) (s s_new : Stripe) (made : Command) (turn : Turn) (refused : Option ℕ) (lends : Lends) (left : Left) (result : Tried K) : Type 0 where
-  pub given : Given
-  pub offered : IsGivenBy lends refused turn.who given
-  pub tried : (config : Config) → IsStripeOf config s → Each (IsClassOf config) (lends_before lends) → IsTriedBy command suits config s s_new made turn given (lends_before lends) (lends_after left) result

@@ -1,28 +1,7 @@
--- The classes that a command is lent: as they were handed in, and as they are when it returns.
+-- The classes that a command is lent, as they were handed in and as they are when it returns.
 use Rattle.std.specs.Prelude.{◌≡◌, ◌≢◌, ◌⊎◌, List, [], ◌∷◌, Option, Some, None}
-use Rattle.std.proofs.Common.{inl, inr}
-use Rattle.std.specs.Borrow.{MutBor}
 use Rattle.mc_item.specs.declared.item.Link.{Link}
 use Rattle.mc_segment.specs.ClassState.{ClassView}
-use Rattle.mc_pull.specs.declared.lent.Lent.{Lent}
-use Rattle.mc_pull.specs.declared.lent.Lent.TheVariants.{Zero, One, Two}
-
--- those that are handed in, as they were
-abbrev pub lent_before : Lent → List ClassView
-lent_before Zero = []
-lent_before (One a) = a.now ∷ []
-lent_before (Two a b) = a.now ∷ b.now ∷ []
-
--- what is behind the references when a call returns: the variants of what is lent, in order
-abbrev pub Left : Type 0
-Left = Unit {0} ⊎ ((MutBor ClassView × Unit {0}) ⊎ ((MutBor ClassView × (MutBor ClassView × Unit {0})) ⊎ ⊥))
-
--- those that were handed in, as they are at the return
-abbrev pub lent_after : Left → List ClassView
-lent_after (inl none) = []
-lent_after (inr (inl one)) = one.0.now ∷ []
-lent_after (inr (inr (inl two))) = two.0.now ∷ two.1.0.now ∷ []
-lent_after (inr (inr (inr no_other))) = []
 
 -- a fact holds of each class
 abbrev pub Each : (ClassView → Type 0) → List ClassView → Type 0

@@ -1,10 +1,8 @@
 -- A class's part of a command: which of its entries come, go or move, and the events of that.
-use Rattle.std.specs.Prelude.{ℕ, ◌≡◌, ◌==◌, ◌&&◌, ◌<◌, ◌≤◌, ◌+◌, ◌^◌, nat_eq, length, List, [], ◌∷◌, Bool, true, false, if◌then◌else◌, Option, Some, None}
+use Rattle.std.specs.Prelude.{ℕ, ◌≡◌, ◌==◌, ◌&&◌, ◌<◌, ◌≤◌, ◌^◌, nat_eq, List, [], ◌∷◌, Bool, true, false, if◌then◌else◌, Option, Some, None}
 use Rattle.std.specs.Cmp.Lexicographic.{pointwise}
 use Rattle.mc_item.specs.declared.class_event.ClassEvent.{ClassEvent}
 use Rattle.mc_item.specs.declared.class_event.Why.TheVariants as whys
-use Rattle.mc_item.specs.declared.fault.Fault.{Fault}
-use Rattle.mc_item.specs.declared.fault.Fault.TheVariants.{NoMemory, HistoryFull}
 use Rattle.mc_item.specs.declared.item.Expiry.{Expiry}
 use Rattle.mc_item.specs.declared.item.Link.{Link}
 use Rattle.mc_item.specs.declared.item.Who.{Who}
@@ -107,8 +105,3 @@ MayMake c (parts.Links key cost expiry) = MayLink c cost
 MayMake c (parts.Renews key cost expiry number) = MayLink c cost × IsListed number (lists_of c.history)
 MayMake c (parts.Unlinks number) = IsListed number (lists_of c.history)
 MayMake c (parts.Warms number) = segment_of number (lists_of c.history) ≡ Some Cold
-
--- the fault that may be answered where this part is to be made: a full history only where it has no places for just that
-abbrev pub MayRefusePart : ClassView → Part → Fault → Type 0
-MayRefusePart c part HistoryFull = c.max_events < length c.history + places_of part
-MayRefusePart c part NoMemory = Unit {0}

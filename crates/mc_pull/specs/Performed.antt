@@ -7,12 +7,13 @@ use Rattle.mc_item.specs.declared.item.Who.{Who}
 use Rattle.mc_item.specs.declared.stripe_event.StripeEvent.{StripeEvent}
 use Rattle.mc_item.specs.declared.stripe_event.StripeEvent.TheVariants as stripe_events
 use Rattle.mc_item.specs.Command.{key_of}
+use Rattle.mc_item.specs.Stripe.{IsAlive}
 use Rattle.mc_segment.specs.ClassState.{ClassView, with_room}
 use Rattle.mc_stripe.specs.StripeState.{Stripe}
 use Rattle.mc_pull.specs.declared.parts.Part.{Part}
 use Rattle.mc_pull.specs.Lent.{EachPair}
 use Rattle.mc_pull.specs.Parts.{part_for, part_events, places_of, is_warming}
-use Rattle.mc_pull.specs.Perform.{Call, answer_to, fate_for}
+use Rattle.mc_pull.specs.Perform.{Call, answer_to, fate_for, item_before}
 use Rattle.mc_pull.specs.Settled.{class_with, cooled_event}
 
 -- a class's part of a call
@@ -73,12 +74,13 @@ abbrev pub IsAnyFull : Stripe → Call → List ClassView → Type 0
 IsAnyFull s c [] = ⊥
 IsAnyFull s c (v ∷ vs) = (v.max_events < length v.history + places_of (part_in s c v)) ⊎ IsAnyFull s c vs
 
--- the fault that may be answered: a full history only where one has no place for just what this command makes
-abbrev pub MayRefuseCall : Stripe → Call → List ClassView → Fault → Type 0
-MayRefuseCall s c vs HistoryFull = IsStripeFull s (is_cooling s c vs) ⊎ IsAnyFull s c vs
-MayRefuseCall s c vs NoMemory = Unit {0}
+-- a command whose item is alive makes more than one of the histories has places for
+pub record IsPartRefused (s : Stripe) (c : Call) (vs : List ClassView) : Type 0 where
+  pub alive : IsAlive (item_before s c) c.moment
+  pub full : IsStripeFull s (is_cooling s c vs) ⊎ IsAnyFull s c vs
 
--- the same of the stripe alone
-abbrev pub MayRefuseStripe : Stripe → Bool → Fault → Type 0
-MayRefuseStripe s cooling HistoryFull = IsStripeFull s cooling
-MayRefuseStripe s cooling NoMemory = Unit {0}
+-- the fault that may be answered: a full history only where the stripe's has no place at all, or where one has none for just
+-- what this command makes of an item that isn't dead
+abbrev pub MayRefuseCall : Stripe → Call → List ClassView → Fault → Type 0
+MayRefuseCall s c vs HistoryFull = IsStripeFull s false ⊎ IsPartRefused s c vs
+MayRefuseCall s c vs NoMemory = Unit {0}

@@ -42,7 +42,3 @@ pub record KeepsSights (c : Call) (s s_new : Stripe) (vs ws : List ClassView) : 
   pub told : (other : ClassNo) (rule : Rule) (seen : List ClassEvent) → IsApart other vs → HasRefusal c.who c.room other seen → TellsStill s s_new rule other seen
   pub backed : EachPair (BacksStill s.site) vs ws
   pub suited : EachPair (SuitsStill s.site) vs ws
-
--- a stripe alone has changed: what is seen of any class tells all its events still
-pub record KeepsEachSight (s s_new : Stripe) : Type 0 where
-  pub told : (other : ClassNo) (rule : Rule) (seen : List ClassEvent) → TellsStill s s_new rule other seen

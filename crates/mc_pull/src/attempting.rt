@@ -1,29 +1,24 @@
-//! One try of a command on its stripe and the classes that it is lent.
-ghost use Rattle.std.specs.Prelude.{◌≡◌, ◌≤◌, ◌<◌, ◌+◌, ◌^◌, ◌⊎◌, ◌∷◌, [], ◌||◌, ℕ, List, true, false, Some, None, IfOk, IfSome, OnErr, OnOk, IsErrOf, length};
-ghost use Rattle.mc_item.specs.Command.{key_of};
+//! One try of a command on its stripe and the classes that it is lent, which agree with the stripe. It is made, with its part in
+//! each class, or it is given back with what it wants, and nothing happened. All growths come first: after a fault nothing of it
+//! stands. `HistoryFull` is answered only where a history lacks a place that the command needs in it.
+ghost use Rattle.std.specs.Prelude.{if◌then◌else◌, ◌≡◌, ◌≤◌, ◌<◌, ◌+◌, ◌∷◌, [], ◌||◌, true, Some, None, IfOk, OnErr, OnOk, IsErrOf, length};
 ghost use Rattle.mc_item.specs.declared.config.Config.{Config};
 ghost use Rattle.mc_item.specs.declared.fault.Fault.TheVariants.{HistoryFull};
 ghost use Rattle.mc_item.specs.declared.item.Link.{Link};
 ghost use Rattle.mc_item.specs.declared.reply.Room.TheVariants as rooms;
-ghost use Rattle.mc_item.specs.declared.reply.Room.{Room as TheRoom};
 ghost use Rattle.mc_segment.specs.ClassState.{HasPlaces, with_room};
 ghost use Rattle.mc_stripe.specs.StripeCalls.{KeepsSite};
-ghost use Rattle.mc_stripe.specs.declared.wanting.Given.{Given as TheGiven};
-ghost use Rattle.mc_pull.specs.Agreeing.{AgreeNow};
-ghost use Rattle.mc_pull.specs.Attempt.{GivesHome, HasFree, HasRoomFor, IsAttempt, IsNoted, IsReady, IsSmallFate, IsTriedBy, Leaves, MayTry, MayTryOn, OffersHome, OffersOther, lends_after, lends_before};
-ghost use Rattle.mc_pull.specs.Lent.{Each};
+ghost use Rattle.mc_pull.specs.Attempt.{GivesHome, HasFree, HasRoomFor, IsNoted, IsReady, IsSmallFate, IsTriedBy, Leaves, MayTryOn, OffersHome, OffersOther};
 ghost use Rattle.mc_pull.specs.Parts as words;
 ghost use Rattle.mc_pull.specs.Parts.{MayMake, part_for};
 ghost use Rattle.mc_pull.specs.Perform.{call};
-ghost use Rattle.mc_pull.specs.Performed.{IsAnyFull, IsUntouched, MayRefuseCall, one_if};
+ghost use Rattle.mc_pull.specs.Performed.{IsUntouched, MayRefuseCall};
 ghost use Rattle.mc_pull.specs.Question.{IsClassOf, IsStripeOf};
 
 use crate::certain::cool_if;
 use crate::kinds::{Kind, Turn};
-use crate::lends::Lends;
 use crate::making::make;
 use crate::parts::{Part, gone_part, hit_part, is_here, linked_part, number_in};
-use crate::performing::key_if;
 use mc_item::{Fault, Key, Link, NoMemory, Reply, Room};
 use mc_segment::ClassState;
 use mc_stripe::{Done, Fate, Given, Home, Other, StripeState, Want};
@@ -74,9 +69,9 @@ fn room_of(class: &ClassState, refused: Option<u64>, turn: Turn) -> Room
     }
 }
 
-// What the class of a new version offers.
+/// What the class of a new version offers.
 #[inline(always)]
-fn offer_home(class: &ClassState, refused: Option<u64>, turn: Turn) -> Home
+pub fn offer_home(class: &ClassState, refused: Option<u64>, turn: Turn) -> Home
     requires noted { IsNoted refused turn.who class.now }
     ensures { OffersHome class.now refused turn.who result }
 {
@@ -87,9 +82,9 @@ fn offer_home(class: &ClassState, refused: Option<u64>, turn: Turn) -> Home
     }
 }
 
-// What the class of an item offers.
+/// What the class of an item offers.
 #[inline(always)]
-fn offer_other(class: &ClassState) -> Other
+pub fn offer_other(class: &ClassState) -> Other
     ensures { OffersOther class.now result }
 {
     Other {
@@ -123,6 +118,18 @@ fn wake(class: &mut ClassState, key: &Key, woken: Option<Link>) -> Result<bool, 
         class.reserve(1)?;
     }
     Ok(warms)
+}
+
+// A copy of a key, where one is wanted.
+#[inline(always)]
+fn key_if(alloc: Global, key: &Key, wanted: bool) -> Result<Option<Key>, NoMemory>
+    ensures { IfOk result (λ copy. copy ≡ (if wanted then Some key.now else None)) }
+{
+    if wanted {
+        Ok(Some(key.copy(alloc)?))
+    } else {
+        Ok(None)
+    }
 }
 
 // The part of a class in a command that was made.
@@ -162,9 +169,9 @@ fn room_if(stripe: &mut StripeState, warms: bool) -> Result<(), Fault>
     Ok(())
 }
 
-// A command that is lent no class.
+/// A command that is lent no class.
 #[inline(always)]
-fn attempt_none<K: Kind + Drop>(
+pub fn attempt_none<K: Kind + Drop>(
     stripe: &mut StripeState,
     kind: K,
     turn: Turn,
@@ -172,7 +179,7 @@ fn attempt_none<K: Kind + Drop>(
     requires suits { K.suits kind stripe.old.site }
     requires may { MayTryOn stripe.old [] (K.command kind) turn (record { home = None; other = None }) }
     ensures tried { (config : Config) → IsStripeOf config stripe.old → IfOk result (IsTriedBy K.command K.suits config stripe.old stripe.new (K.command kind) turn (record { home = None; other = None }) [] []) }
-    ensures err { OnErr result (stripe.new.history ≡ stripe.old.history) }
+    ensures err { OnErr result (IsUntouched stripe.old stripe.new [] []) }
     ensures refusal { IsErrOf result HistoryFull → MayRefuseCall stripe.old (call turn.who (K.command kind) turn.moment rooms.Keep) [] HistoryFull }
     ensures site { KeepsSite stripe.old stripe.new }
 {
@@ -187,9 +194,9 @@ fn attempt_none<K: Kind + Drop>(
     }
 }
 
-// A command that is lent one class.
+/// A command that is lent one class.
 #[inline(always)]
-fn attempt_one<K: Kind + Drop>(
+pub fn attempt_one<K: Kind + Drop>(
     alloc: Global,
     stripe: &mut StripeState,
     class: &mut ClassState,
@@ -235,9 +242,9 @@ fn is_either(first: bool, second: bool) -> bool
     first || second
 }
 
-// A command that is lent two classes.
+/// A command that is lent two classes.
 #[inline(never)]
-fn attempt_two<K: Kind + Drop>(
+pub fn attempt_two<K: Kind + Drop>(
     alloc: Global,
     stripe: &mut StripeState,
     home: &mut ClassState,
@@ -285,51 +292,6 @@ fn attempt_two<K: Kind + Drop>(
             );
             cool_if(stripe, turn.who, cooled);
             Ok(Tried::Made(reply))
-        }
-    }
-}
-
-/// Tries a command on its stripe and the classes that it is lent, which agree with the stripe. It is made, with its part in
-/// each class, or it is given back with what it wants, and nothing happened. All growths come first: after a fault nothing of it
-/// stands. `HistoryFull` is answered only where a history lacks a place that the command needs in it.
-#[inline(always)]
-pub fn attempt<K: Kind + Drop>(
-    alloc: Global,
-    stripe: &mut StripeState,
-    lends: Lends<'_>,
-    kind: K,
-    turn: Turn,
-    refused: Option<u64>,
-) -> Result<Tried<K>, Fault>
-    requires suits { K.suits kind stripe.old.site }
-    requires may { MayTry stripe.old lends (K.command kind) turn refused }
-    ensures tried { IfOk result (IsAttempt K.command K.suits stripe.old stripe.new (K.command kind) turn refused lends.entry lends.exit) }
-    ensures err { OnErr result (IsUntouched stripe.old stripe.new (lends_before lends.entry) (lends_after lends.exit)) }
-    ensures refusal { IsErrOf result HistoryFull → MayRefuseCall stripe.old (call turn.who (K.command kind) turn.moment rooms.Keep) (lends_before lends.entry) HistoryFull }
-    ensures site { KeepsSite stripe.old stripe.new }
-{
-    match lends {
-        Lends::Nothing => attempt_none(stripe, kind, turn),
-        Lends::Home(home) => {
-            let given = Given {
-                home: Some(offer_home(home, refused, turn)),
-                other: None,
-            };
-            attempt_one(alloc, stripe, home, kind, turn, given)
-        }
-        Lends::Other(other) => {
-            let given = Given {
-                home: None,
-                other: Some(offer_other(other)),
-            };
-            attempt_one(alloc, stripe, other, kind, turn, given)
-        }
-        Lends::Both(home, other) => {
-            let given = Given {
-                home: Some(offer_home(home, refused, turn)),
-                other: Some(offer_other(other)),
-            };
-            attempt_two(alloc, stripe, home, other, kind, turn, given)
         }
     }
 }

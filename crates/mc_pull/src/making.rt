@@ -1,41 +1,14 @@
-//! A class's part of a command is prepared, and made.
-ghost use Rattle.std.specs.Prelude.{◌≡◌, ◌≤◌, ◌<◌, true, IfOk, IfErr};
-ghost use Rattle.mc_rule.specs.Lists.{lists_of, count_of};
-ghost use Rattle.mc_segment.specs.ClassState.{with_room, HasPlaces};
-ghost use Rattle.mc_stripe.specs.Plan.{IsHeld};
+//! A class's part of a command is made.
+ghost use Rattle.std.specs.Prelude.{◌≡◌, ◌≤◌};
+ghost use Rattle.mc_segment.specs.ClassState.{HasPlaces};
 ghost use Rattle.mc_pull.specs.Settled.{class_with};
 ghost use Rattle.mc_pull.specs.Parts as words;
-ghost use Rattle.mc_pull.specs.Parts.{part_for, part_events, MayMake, MayRefusePart};
+ghost use Rattle.mc_pull.specs.Parts.{part_events, MayMake};
 
 use crate::certain;
-use crate::parts::{Part, part_of};
-use mc_item::{Config, Fault, Key, Passed, Room, Seg, Who, Why};
+use crate::parts::Part;
+use mc_item::{Passed, Seg, Who, Why};
 use mc_segment::ClassState;
-use mc_stripe::Fate;
-use std::alloc::Global;
-
-/// Finds a class's part of a command, and makes room for its events.
-#[inline(always)]
-pub(crate) fn prepare(
-    alloc: Global,
-    class: &mut ClassState,
-    key: &Key,
-    room: Room,
-    fate: Fate,
-    config: &Config,
-) -> Result<Part, Fault>
-    requires free { words.is_here class.old room ≡ true → count_of (lists_of class.old.history) < class.old.chunks }
-    requires held { IsHeld config.now.sizes fate }
-    ensures part { IfOk result (λ part. part ≡ part_for class.old key.now room fate) }
-    ensures may { IfOk result (λ part. MayMake class.new part) }
-    ensures room { IfOk result (λ part. (words.places_of part ≤ class.new.room) × HasPlaces class.new (words.places_of part)) }
-    ensures same { class.new ≡ with_room class.old class.new.room }
-    ensures refusal { IfErr result (MayRefusePart class.old (part_for class.old key.now room fate)) }
-{
-    let part = part_of(alloc, class, key, room, fate, config)?;
-    class.reserve(part.places())?;
-    Ok(part)
-}
 
 /// Makes the events of a class's part, which room was made for.
 #[inline(always)]

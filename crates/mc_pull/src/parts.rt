@@ -1,17 +1,14 @@
 //! A class's part of a command.
-ghost use Rattle.std.specs.Prelude.{◌≡◌, ◌≤◌, ◌<◌, ◌^◌, true, Some, IfOk, IfSome};
+ghost use Rattle.std.specs.Prelude.{◌≡◌, ◌≤◌, ◌<◌, ◌^◌, true, Some, IfSome};
 ghost use Rattle.mc_rule.specs.Lists.{lists_of, count_of, segment_of};
 ghost use Rattle.mc_rule.specs.Lawful.{IsListed};
 ghost use Rattle.mc_item.specs.declared.lists.Seg.TheVariants.{Cold};
 ghost use Rattle.mc_segment.specs.Entries.{entry_of};
-ghost use Rattle.mc_stripe.specs.Plan.{IsHeld};
 ghost use Rattle.mc_pull.specs.Parts as words;
-ghost use Rattle.mc_pull.specs.Parts.{part_for, MayMake};
+ghost use Rattle.mc_pull.specs.Parts.{MayMake};
 
-use mc_item::{Config, Expiry, Key, Link, NoMemory, Room, Seg};
+use mc_item::{Expiry, Key, Link, Room, Seg};
 use mc_segment::ClassState;
-use mc_stripe::Fate;
-use std::alloc::Global;
 
 /// A class's part of a command.
 #[derive(Drop)]
@@ -121,34 +118,6 @@ pub(crate) fn linked_part(
     }
 }
 
-// The part of a new version.
-#[inline(always)]
-fn new_part(
-    alloc: Global,
-    class: &ClassState,
-    key: &Key,
-    cost: u64,
-    expiry: Expiry,
-    here: bool,
-    old: Option<u64>,
-) -> Result<Part, NoMemory>
-    requires free { here ≡ true → count_of (lists_of class.now.history) < class.now.chunks }
-    requires cost { cost ≤ 2 ^ 20 }
-    requires old { IfSome old (λ number. IsListed number (lists_of class.now.history)) }
-    ensures part { IfOk result (λ part. part ≡ words.new_part key.now cost expiry here old) }
-    ensures may { IfOk result (λ part. MayMake class.now part) }
-{
-    if here {
-        let key = key.copy(alloc)?;
-        Ok(linked_part(class, key, cost, expiry, old))
-    } else {
-        match old {
-            None => Ok(Part::Nothing),
-            Some(number) => Ok(Part::Unlinks(number)),
-        }
-    }
-}
-
 // The part of an item that goes.
 #[inline(always)]
 pub(crate) fn gone_part(class: &ClassState, number: Option<u64>) -> Part
@@ -180,51 +149,7 @@ pub(crate) fn hit_part(class: &ClassState, number: Option<u64>) -> Part
     }
 }
 
-/// A class's part of a command.
-#[inline(always)]
-pub(crate) fn part_of(
-    alloc: Global,
-    class: &ClassState,
-    key: &Key,
-    room: Room,
-    fate: Fate,
-    config: &Config,
-) -> Result<Part, NoMemory>
-    requires free { words.is_here class.now room ≡ true → count_of (lists_of class.now.history) < class.now.chunks }
-    requires held { IsHeld config.now.sizes fate }
-    ensures part { IfOk result (λ part. part ≡ part_for class.now key.now room fate) }
-    ensures may { IfOk result (λ part. MayMake class.now part) }
-{
-    let _config = config;
-    match fate {
-        Fate::Untouched => Ok(Part::Nothing),
-        Fate::Renewed { cost, expiry, old } => {
-            let here = is_here(class, room);
-            let old = number_in(class, key, old);
-            new_part(alloc, class, key, cost, expiry, here, old)
-        }
-        Fate::Goes(link) => match number_in(class, key, Some(link)) {
-            None => Ok(Part::Nothing),
-            Some(number) => Ok(Part::Unlinks(number)),
-        },
-        Fate::Woken(link) => Ok(hit_part(class, number_in(class, key, Some(link)))),
-    }
-}
-
 impl Part {
-    /// How many events it has.
-    pub(crate) fn places(&self) -> usize
-        ensures value { result ≡ words.places_of self.now }
-    {
-        match self {
-            Part::Nothing => 0,
-            Part::Links { .. } => 1,
-            Part::Renews { .. } => 2,
-            Part::Unlinks(_) => 1,
-            Part::Warms(_) => 1,
-        }
-    }
-
     /// Whether it moves an entry to WARM.
     pub(crate) fn is_warming(&self) -> bool
         ensures { result ≡ words.is_warming self.now }

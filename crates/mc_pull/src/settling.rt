@@ -1,5 +1,5 @@
 //! One entry is judged with its stripe, and what is to be done is done in both.
-ghost use Rattle.std.specs.Prelude.{◌≡◌, ◌≤◌, ◌<◌, ◌⊎◌, length, IfOk, IfErr, OnOk, OnErr, IsSomeAnd, MatchResult};
+ghost use Rattle.std.specs.Prelude.{◌≡◌, ◌<◌, ◌⊎◌, length, IfOk, IfErr, OnOk, OnErr, IsSomeAnd, MatchResult};
 ghost use Rattle.mc_rule.specs.Segment.{rule_of};
 ghost use Rattle.mc_rule.specs.Lawful.{IsListed};
 ghost use Rattle.mc_rule.specs.Lists.{lists_of};

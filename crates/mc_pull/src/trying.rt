@@ -1,5 +1,5 @@
 //! Laws of a search for a chunk.
-ghost use Rattle.std.specs.Prelude.{ℕ, List, false};
+ghost use Rattle.std.specs.Prelude.{List, false};
 ghost use Rattle.mc_item.specs.declared.class_event.ClassEvent.{ClassEvent};
 ghost use Rattle.mc_item.specs.declared.item.StripeNo.{StripeNo};
 ghost use Rattle.mc_pull.specs.Rounds.{IsRoom, Rounds};

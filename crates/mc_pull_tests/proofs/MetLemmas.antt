@@ -1,6 +1,6 @@
 -- What is tried on a stripe and its classes leaves them in agreement.
-use Rattle.std.proofs.Common.{arith, ◌≡◌, ◌++◌, ℕ, List, [], ◌∷◌, refl, sym, ap, ◌∙◌, subst, Result, Ok, Err}
-use Rattle.std.specs.Prelude.{Option, Some, None, IfOk, IsSomeAnd, MatchOption, OnErr}
+use Rattle.std.proofs.Common.{arith, length, ◌≡◌, ◌++◌, ℕ, List, [], ◌∷◌, refl, sym, ap, ◌∙◌, subst, inl, inr, Result, Ok, Err}
+use Rattle.std.specs.Prelude.{Option, Some, None, IfOk, IfSome, IsSomeAnd, OnErr}
 use Rattle.mc_item.specs.Config.{IsBounded}
 use Rattle.mc_item.specs.declared.answer.Need.{Need}
 use Rattle.mc_item.specs.declared.answer.Need.TheVariants as needs
@@ -27,17 +27,17 @@ use Rattle.mc_stripe.specs.declared.wanting.Home.{Home}
 use Rattle.mc_pull.specs.declared.attempting.Tried.{Tried}
 use Rattle.mc_pull.specs.declared.attempting.Tried.TheVariants as tried
 use Rattle.mc_pull.specs.declared.kinds.Turn.{Turn}
-use Rattle.mc_pull.specs.declared.lends.Lends.{Lends}
-use Rattle.mc_pull.specs.declared.lends.Lends.TheVariants.{Nothing, Home as HomeAlone, Other as OtherAlone, Both}
-use Rattle.mc_pull.specs.Agreeing.{AgreeNow, IsApart}
-use Rattle.mc_pull.specs.Attempt.{GivesHome, IsAttempt, IsGivenBy, IsTriedBy, Left, OffersHome, home_of, lends_after, lends_before}
-use Rattle.mc_pull.specs.Lent.{Each, EachPair}
+use Rattle.mc_pull.specs.Agreeing.{AgreeNow, IsApart, KeepsAgreement}
+use Rattle.mc_pull.specs.Attempt.{GivesHome, IsAny, IsOffered, IsTriedBy, OffersHome}
+use Rattle.mc_pull.specs.Lent.{EachPair}
 use Rattle.mc_pull.specs.Growth.{Grows}
 use Rattle.mc_pull.specs.Lone.{Serves, Walked}
 use Rattle.mc_pull.specs.Walker.{walker_of}
 use Rattle.mc_pull.specs.Performed.{GainsPart, IsUntouched, Stays, events_in}
 use Rattle.mc_pull.specs.Perform.{Call, call}
-use Rattle.mc_pull.specs.Question.{IsClassOf, IsStripeOf}
+use Rattle.mc_pull.specs.Question.{IsClassOf, Question}
+use Rattle.mc_pull.specs.Settled.{IsSettled, class_events}
+use Rattle.mc_pull.specs.declared.judge.Done.{Done}
 use Rattle.mc_pull_tests.specs.Met.{AreMet}
 
 -- ---- a class that has gained events
@@ -104,53 +104,45 @@ untouched_kept s s_new vs ws site same = record {
 }
 
 -- ---- a refusal that is taken is one of a class that was lent
-module _ (lends : Lends) (refused : Option ℕ) (who : Who) (class : ClassNo) (place : ℕ) where
-  lent_home : (o : Option ClassView) (h : Home) → IsSomeAnd o (λ v. OffersHome v refused who h) → h.room ≡ rooms.Refused class place → IsSomeAnd o (λ v. class ≡ v.number)
-  lent_home None h offers room = absurd offers
-  lent_home (Some v) h offers room = (subst (GivesHome v refused who) room offers.room).0
+module _ (given : Given) (refused : Option ℕ) (who : Who) (vs : List ClassView) (offered : IsOffered given refused who vs) (class : ClassNo) (place : ℕ) where
+  any_apart : (h : Home) → h.room ≡ rooms.Refused class place → (us : List ClassView) → IsAny (λ v. OffersHome v refused who h) us → IsApart class us → ⊥
+  any_apart h room [] any apart = absurd any
+  any_apart h room (v ∷ us) (inl offers) apart = apart.0 (subst (GivesHome v refused who) room offers.room).0
+  any_apart h room (v ∷ us) (inr later) apart = any_apart h room us later apart.1
 
-  of_lent : (fresh : ClassNo) (o : Option Home) → MatchOption o (home_of lends ≡ None) (λ h. IsSomeAnd (home_of lends) (λ v. OffersHome v refused who h))
-      → IsSomeAnd o (λ h. (h.class ≡ fresh) × (h.room ≡ rooms.Refused class place)) → IsSomeAnd (home_of lends) (λ v. class ≡ v.number)
-  of_lent fresh None given taken = absurd taken
-  of_lent fresh (Some h) given taken = lent_home (home_of lends) h given taken.1
+  home_apart : (fresh : ClassNo) (o : Option Home) → IfSome o (λ h. IsAny (λ v. OffersHome v refused who h) vs) → IsSomeAnd o (λ h. (h.class ≡ fresh) × (h.room ≡ rooms.Refused class place)) → IsApart class vs → ⊥
+  home_apart fresh None any taken apart = absurd taken
+  home_apart fresh (Some h) any taken apart = any_apart h taken.1 vs any apart
 
-not_apart : (lends : Lends) (class : ClassNo) → IsSomeAnd (home_of lends) (λ v. class ≡ v.number) → IsApart class (lends_before lends) → ⊥
-not_apart Nothing class is apart = absurd is
-not_apart (HomeAlone home) class is apart = apart.0 is
-not_apart (OtherAlone other) class is apart = absurd is
-not_apart (Both home other) class is apart = apart.0 is
+  no_keep : rooms.Refused class place ≡ rooms.Keep → ⊥
+  no_keep is = cc is
 
-no_keep : (class : ClassNo) (place : ℕ) → rooms.Refused class place ≡ rooms.Keep → ⊥
-no_keep class place is = cc is
-
-none_elsewhere : (lends : Lends) (refused : Option ℕ) (who : Who) (given : Given) → IsGivenBy lends refused who given → (class : ClassNo) (place : ℕ) (need : Need)
-    → IsTaken given need (rooms.Refused class place) → IsApart class (lends_before lends) → ⊥
-none_elsewhere lends refused who given by class place (needs.Fresh fresh) taken apart = not_apart lends class (of_lent lends refused who class place fresh given.home by.home taken.0) apart
-none_elsewhere lends refused who given by class place needs.Nothing taken apart = no_keep class place taken
-none_elsewhere lends refused who given by class place needs.Same taken apart = no_keep class place taken
-none_elsewhere lends refused who given by class place needs.TooLarge taken apart = no_keep class place taken
+  none_elsewhere : (need : Need) → IsTaken given need (rooms.Refused class place) → IsApart class vs → ⊥
+  none_elsewhere (needs.Fresh fresh) taken apart = home_apart fresh given.home offered.home taken.0 apart
+  none_elsewhere needs.Nothing taken apart = no_keep taken
+  none_elsewhere needs.Same taken apart = no_keep taken
+  none_elsewhere needs.TooLarge taken apart = no_keep taken
 
 -- ---- what a try came to
-module _ {K : Type 0} (command : K → Command) (suits : K → Site → Type 0) (config : Config) (s s_new : Stripe) (made : Command) (turn : Turn) (refused : Option ℕ) (lends : Lends) (left : Left) (site : KeepsSite s s_new) where
-  tried_kept : (given : Given) → IsGivenBy lends refused turn.who given → (t : Tried K) → IsTriedBy command suits config s s_new made turn given (lends_before lends) (lends_after left) t
-      → Kept s s_new (lends_before lends) (lends_after left)
-  tried_kept given by (tried.Made reply) is = record {
+module _ {K : Type 0} (command : K → Command) (suits : K → Site → Type 0) (config : Config) (s s_new : Stripe) (made : Command) (turn : Turn) (given : Given) (vs ws : List ClassView) (site : KeepsSite s s_new) where
+  tried_kept : (refused : Option ℕ) → IsOffered given refused turn.who vs → (t : Tried K) → IsTriedBy command suits config s s_new made turn given vs ws t → Kept s s_new vs ws
+  tried_kept refused offered (tried.Made reply) is = record {
     site = site;
-    like = gains_like s (call turn.who made turn.moment is.room) (lends_before lends) (lends_after left) is.performed.classes;
+    like = gains_like s (call turn.who made turn.moment is.room) vs ws is.performed.classes;
     own = is.agreement.own;
     others = λ other rule history apart agree.
         is.agreement.others other rule history apart
-        (λ place refusal. absurd (none_elsewhere lends refused turn.who given by other place (row_at s made turn.moment).need
+        (λ place refusal. absurd (none_elsewhere given refused turn.who vs offered other place (row_at s made turn.moment).need
         (subst (IsTaken given (row_at s made turn.moment).need) refusal is.uses.taken) apart))
         agree;
   }
-  tried_kept given by (tried.Wants kind want) is = untouched_kept s s_new (lends_before lends) (lends_after left) site is.2
+  tried_kept refused offered (tried.Wants kind want) is = untouched_kept s s_new vs ws site is.2
 
   -- whether it was tried, or failed
-  pub attempt_kept : (result : Result (Tried K) Fault) → IfOk result (IsAttempt command suits s s_new made turn refused lends left) → OnErr result (IsUntouched s s_new (lends_before lends) (lends_after left))
-      → IsStripeOf config s → Each (IsClassOf config) (lends_before lends) → Kept s s_new (lends_before lends) (lends_after left)
-  attempt_kept (Ok t) is err stripe classes = tried_kept is.given is.offered t (is.tried config stripe classes)
-  attempt_kept (Err fault) is err stripe classes = untouched_kept s s_new (lends_before lends) (lends_after left) site err
+  pub attempt_kept : (refused : Option ℕ) → IsOffered given refused turn.who vs → (result : Result (Tried K) Fault) → IfOk result (IsTriedBy command suits config s s_new made turn given vs ws) → OnErr result (IsUntouched s s_new vs ws)
+      → Kept s s_new vs ws
+  attempt_kept refused offered (Ok t) is err = tried_kept refused offered t is
+  attempt_kept refused offered (Err fault) is err = untouched_kept s s_new vs ws site err
 
 -- ---- the stripe and both classes
 module _ (config : Config) (s s_new : Stripe) (v w : ClassView) (met : AreMet config s v w) where
@@ -217,6 +209,16 @@ met_refused config s v v_new w who makes met =
       apart = met.apart;
       first_agrees = agree_refused s.site v.rule v.number s.history v.history met.first_agrees (record { who = who });
       second_agrees = met.second_agrees;
+    })
+
+-- an entry of the first class was settled
+pub met_settled : (config : Config) (s s_new : Stripe) (v v_new w : ClassView) (q : Question) (d : Done) → KeepsSite s s_new → IsSettled v v_new s s_new q d → KeepsAgreement v v_new s s_new → AreMet config s v w → AreMet config s_new v_new w
+met_settled config s s_new v v_new w q d site settled agreement met =
+    met_one config s s_new v w met v_new (record {
+      site = site;
+      like = (like_with v v_new (v.history ++ class_events v q (length s.history) d) settled.class, tt);
+      own = (agreement.own, tt);
+      others = λ other rule history apart agree. agreement.others other rule history apart.0 agree;
     })
 
 -- the first class was walked along

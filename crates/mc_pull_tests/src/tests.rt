@@ -1,11 +1,11 @@
-//! Tests as rows (`rows`), with what they do (`making`, `judging`, `by_list`) and see (`seeing`), tries (`trying`), and a drawn test.
-mod alone;
+//! Tests as rows (`rows`), with what they do (`judging`, `by_list`) and see (`seeing`); tries of commands (`trying`) as rows
+//! (`asking`); and a drawn test.
+mod asking;
 mod bounds;
 mod by_list;
+mod hits;
 mod judgements;
 mod judging;
-mod making;
-mod performing;
 mod plain_lists;
 mod plain_table;
 mod random_classes;

@@ -23,7 +23,7 @@ use Rattle.mc_store.specs.Locked.{IsLockedStripe, setting_of}
 use Rattle.mc_store.specs.Serving.{HasSeenShort, IsShort}
 use Rattle.mc_store.specs.Sides.{StripeSide, stripe_told}
 use Rattle.mc_store.proofs.EarnedLemmas.{told_sees}
-use Rattle.mc_store.proofs.GivenLemmas.{short_grows, short_stripe}
+use Rattle.mc_store.proofs.ShortLemmas.{short_grows, short_stripe}
 use Rattle.mc_store.specs.Callers.{asked_for, answered_at, turns_of, calls_told, moment_of}
 use Rattle.mc_store.specs.Passes.{CallerView, PassView, HasAsked, HasCalled, caller_of, next_who}
 use Rattle.mc_item.specs.declared.call_event.CallEvent.TheVariants.{Answered, Asked, Crawled, Juggled}

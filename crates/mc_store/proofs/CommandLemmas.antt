@@ -13,7 +13,6 @@ use Rattle.mc_item.specs.declared.command.Command.{Command}
 use Rattle.mc_item.specs.declared.config.Config.{Config}
 use Rattle.mc_item.specs.declared.item.Item.{Item}
 use Rattle.mc_item.specs.declared.item.Who.{Who}
-use Rattle.mc_item.specs.declared.reply.Room.{Room}
 use Rattle.mc_item.specs.declared.stripe_event.Cause.TheVariants.{Expired}
 use Rattle.mc_item.specs.declared.stripe_event.StripeEvent.{StripeEvent}
 use Rattle.mc_item.specs.declared.stripe_event.StripeEvent.TheVariants as events
@@ -22,13 +21,10 @@ use Rattle.mc_rule.specs.Pairs.{item_after}
 use Rattle.mc_evidence.specs.Losses.{AreNoCommands, IsSameItem}
 use Rattle.mc_evidence.proofs.LegalLemmas.{after_loss}
 use Rattle.mc_evidence.proofs.LossLemmas.{was_there}
-use Rattle.mc_stripe.specs.Plan.{dead_link, visible_row, Foresees, IsPlan, fate_of}
+use Rattle.mc_stripe.specs.Plan.{dead_link, visible_row}
 use Rattle.mc_stripe.specs.StripeCalls.{KeepsSite}
 use Rattle.mc_stripe.specs.StripeState.{Stripe, cache_now}
-use Rattle.mc_stripe.specs.declared.fate.Fate.{Fate}
-use Rattle.mc_stripe.specs.declared.planning.Plan.{Plan}
 use Rattle.mc_pull.specs.Lone.{AreMadeBy}
-use Rattle.mc_pull.specs.Perform.{call, fate_for}
 use Rattle.mc_pull.specs.Settled.{lost_event}
 use Rattle.mc_pull.specs.Walker.{Walker}
 use Rattle.mc_store.specs.Commands.{IsSearch, LeadsUp, burial, walker_in}
@@ -143,15 +139,6 @@ searches_none config who moment (needs.Fresh class) = tt
 searches_none config who moment needs.Nothing = refl
 searches_none config who moment needs.Same = refl
 searches_none config who moment needs.TooLarge = refl
-
--- a plan's fate in a room is that of the command
-pub plan_fate : (s : Stripe) (who : Who) (command : Command) (moment : ℕ) (room : Room) (plan : Plan) (fate : Fate) → IsPlan s command moment plan → IsAlive ((cache_now s).items (key_of command)) moment
-    → ((key : List ℕ) (found : Option Item) (row : _) → Foresees key found row plan → fate ≡ fate_of key found (row.answer room).change) → fate ≡ fate_for s (call who command moment room)
-plan_fate s who command moment room plan fate is alive of =
-    let key = key_of command in
-    let cache = cache_now s in
-    of key (visible_items cache moment key) (visible_row s command moment) is.row
-    ∙ ap (λ (o : Option Item). fate_of key o ((row_of s.site cache.versions o command moment).answer room).change) (visible_alive moment (cache.items key) alive)
 
 -- a stripe of the same history leads up to a command as well
 module _ (config : Config) (who : Who) (command : Command) (moment : ℕ) (s mid : Stripe) (site : KeepsSite s mid) (same : mid.history ≡ s.history) where

@@ -1,5 +1,5 @@
 -- A refusal that was earned: when it is noted, and as more is seen.
-use Rattle.std.proofs.Common.{◌≡◌, ◌<◌, ◌⊎◌, ℕ, Bool, false, List, [], ◌∷◌, ◌++◌, inl, inr, length, refl, sym, ap, ◌∙◌, subst, append_assoc}
+use Rattle.std.proofs.Common.{◌≡◌, ◌<◌, ◌⊎◌, ℕ, Bool, false, List, [], ◌∷◌, ◌++◌, inl, inr, refl, sym, ap, ◌∙◌, subst, append_assoc}
 use Rattle.std.specs.Prelude.{Option, Some, None, IfSome}
 use mathlib.Core.List.{IsPrefix}
 use Rattle.mc_item.specs.Command.{key_of}
@@ -29,13 +29,13 @@ use Rattle.mc_evidence.specs.Seen.{class_events, classes_seen}
 use Rattle.mc_evidence.proofs.SeenLemmas.{class_events-map, classes_grow}
 use Rattle.mc_board.specs.Histories.{Grows, list_at}
 use Rattle.mc_board.specs.declared.rule.Sight.{Sight}
-use Rattle.mc_segment.specs.ClassCalls.{Makes, refused_event}
+use Rattle.mc_segment.specs.ClassCalls.{refused_event}
 use Rattle.mc_segment.specs.ClassState.{ClassView, chunks_for, class_view, opened}
 use Rattle.mc_rule.specs.Segment.{Rule}
 use Rattle.mc_rule.specs.Places.{Stands}
 use Rattle.mc_pull.specs.Question.{IsClassOf}
 use Rattle.mc_pull.specs.Rounds.{IsRoom, Rounds, rounds}
-use Rattle.mc_store.specs.Earned.{HasGivenUp, HasGoneThrough, HasSearched, IsInVain, IsEarned, IsEarnedAt, IsEarnedIn, IsLastResort}
+use Rattle.mc_store.specs.Earned.{HasGoneThrough, HasSearched, IsInVain, IsEarned, IsEarnedAt, IsEarnedIn, IsLastResort}
 use Rattle.mc_store.specs.Locked.{class_lock}
 use Rattle.mc_store.specs.Sides.{class_told}
 
@@ -70,19 +70,6 @@ gone_through config number v class who moment after made is vain = record {
     rounds_are = subst (λ (r : Rounds). IsRoom r v.history vain.answers after false) (rounds_same config v class who moment made is) vain.rounds_are;
     had = vain.had;
   };
-}
-
--- a refusal that was noted just now, behind a search in vain
-pub earned_noted : (config : Config) (number : ℕ) (who : Who) (moment : ℕ) (key : List ℕ) (v v_new : ClassView) (sight : Sight) (class : ClassNo) (place : ℕ) → v.number ≡ class → Makes v v_new (refused_event who) → place ≡ length v.history
-    → HasGivenUp config (record { 0 = number }) v.number who moment key v.history → classes_seen config.stripes (list_at sight.seen) v_new.number ≡ v_new.history → IsEarnedIn config number who moment key sight (rooms.Refused class place)
-earned_noted config number who moment key v v_new sight class place at makes is tried seen = record {
-  before = v.history;
-  refused = record {
-    later = [];
-    is = ap (λ (n : ClassNo). classes_seen config.stripes (list_at sight.seen) n) (sym (ap (λ (c : ClassView). c.number) makes ∙ at)) ∙ (seen ∙ ap (λ (c : ClassView). c.history) makes);
-  };
-  place_is = is;
-  searched = subst (λ (n : ClassNo). HasGivenUp config (record { 0 = number }) n who moment key v.history) at tried;
 }
 
 -- what stands in a list stands there as more is seen

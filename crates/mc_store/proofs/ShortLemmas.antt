@@ -1,5 +1,5 @@
 -- Short histories; and small laws of a step: which fault was answered, what a stripe was made with, where a refusal stands.
-use Rattle.std.proofs.Common.{Result, Ok, Err, ◌≤◌, inl, inr, true, false, refl, sym, ap, ◌∙◌, subst, arith}
+use Rattle.std.proofs.Common.{Result, Ok, Err, ◌≤◌, inl, inr, true, false, refl, sym, ap, ◌∙◌, subst, arith, suc}
 use Rattle.std.specs.Prelude.{ℕ, ◌≡◌, ◌<◌, ◌+◌, ◌++◌, ◌⊎◌, List, [], ◌∷◌, Bool, Option, Some, None, length, slice_index_or, OnErr, IfErr, IsErrAnd, slice_get}
 use Rattle.mc_item.specs.Command.{key_of}
 use Rattle.mc_item.specs.declared.answer.Site.{Site}
@@ -19,9 +19,19 @@ use Rattle.mc_stripe.specs.declared.fate.Fate.TheVariants as fates
 use Rattle.mc_pull.specs.Lent.{EachPair}
 use Rattle.mc_pull.specs.Parts.{gone_part, hit_part, is_cold, is_here, new_part, number_in, part_for, places_of}
 use Rattle.mc_pull.specs.Perform.{Call, fate_for}
-use Rattle.mc_pull.specs.Performed.{IsAnyFull, IsUntouched, MayRefuseCall, Stays, is_cooling, one_if, part_in}
+use Rattle.mc_pull.specs.Performed.{IsAnyFull, IsStripeFull, IsUntouched, MayRefuseCall, Stays, is_cooling, one_if, part_in}
 use Rattle.mc_pull.specs.Question.{IsStripeOf}
 use Rattle.mc_pull.proofs.GrowthLemmas.{slice_get-last}
+use Rattle.atomic_table.specs.Seated.{TableId}
+use Rattle.mc_item.specs.declared.class_event.ClassEvent.{ClassEvent}
+use Rattle.mc_item.specs.declared.event.Event.{Event}
+use Rattle.mc_item.specs.declared.stripe_event.StripeEvent.{StripeEvent}
+use Rattle.mc_board.specs.Histories.{Grows, list_at}
+use Rattle.mc_board.specs.declared.rule.Sight.{Sight}
+use Rattle.mc_board.proofs.PrefixLemmas.{prefix_length}
+use Rattle.mc_store.specs.Locked.{IsHeldClass, locks_for}
+use Rattle.mc_store.specs.Serving.{HasSeenShort}
+use Rattle.mc_store.specs.Sides.{ClassSide, class_told, stripe_told}
 
 -- one of the classes has less than two places left in its history
 pub record HasShort (cs : List ClassView) : Type 0 where
@@ -89,12 +99,23 @@ any_short s c cs_new (v ∷ vs) (w ∷ ws) (inr more) there stays = any_short s 
 
 -- a full history is short
 full_short : (s s_new : Stripe) (c : Call) (cs_new vs ws : List ClassView) → KeepsSite s s_new → EachPair (λ v w. IsAt cs_new w) vs ws → IsUntouched s s_new vs ws → MayRefuseCall s c vs HistoryFull → IsShortIn s_new cs_new
-full_short s s_new c cs_new vs ws site there untouched (inl full) =
-    let few = few_events (is_cooling s c vs) in
-    let same = site.limit in
-    let long : length s_new.history ≡ length s.history = ap (λ (h : List _). length h) untouched.stripe in
-    inl (omega (arith, full, few, same, long))
-full_short s s_new c cs_new vs ws site there untouched (inr full) = inr (any_short s c cs_new vs ws full there untouched.classes)
+full_short s s_new c cs_new vs ws site there untouched may = by may
+  where
+    same : s_new.limit ≡ s.limit
+    same = site.limit
+
+    long : length s_new.history ≡ length s.history
+    long = ap (λ (h : List StripeEvent). length h) untouched.stripe
+
+    by_part : IsStripeFull s (is_cooling s c vs) ⊎ IsAnyFull s c vs → IsShortIn s_new cs_new
+    by_part (inl full) =
+        let few = few_events (is_cooling s c vs) in
+        inl (omega (arith, full, few, same, long))
+    by_part (inr full) = inr (any_short s c cs_new vs ws full there untouched.classes)
+
+    by : MayRefuseCall s c vs HistoryFull → IsShortIn s_new cs_new
+    by (inl full) = inl (omega (arith, full, same, long))
+    by (inr part) = by_part part.full
 
 err_same : {T : Type 0} (x y : Fault) → ◌≡◌ {A = Result T Fault} (Err x) (Err y) → x ≡ y
 err_same x y h = cc
@@ -127,3 +148,49 @@ pub noted_at : (c c_new : ClassView) (who : Who) (place : ℕ) → Makes c c_new
 noted_at c c_new who place makes at =
     ap (λ (v : ClassView). slice_get v.history place) makes
     ∙ (ap (λ (k : ℕ). slice_get (c.history ++ refused_event who ∷ []) k) at ∙ slice_get-last c.history (refused_event who))
+
+-- as many events are told as there are
+class_length : (es : List ClassEvent) → length (class_told es) ≡ length es
+class_length [] = refl
+class_length (e ∷ es) = ap suc (class_length es)
+
+stripe_length : (es : List StripeEvent) → length (stripe_told es) ≡ length es
+stripe_length [] = refl
+stripe_length (e ∷ es) = ap suc (stripe_length es)
+
+-- a class whose whole history was seen has less than two places left
+pub short_class : (table : TableId) (config : Config) (side : ClassSide) (sight : Sight) (v : ClassView) → IsHeldClass table config side → list_at sight.seen side.lock ≡ class_told side.class.history
+    → v.max_events ≡ side.class.max_events → v.history ≡ side.class.history → v.max_events < length v.history + 2 → HasSeenShort config sight
+short_class table config side sight v kept told limit_is history_is short = record {
+  lock = side.lock;
+  of = subst (λ (n : ℕ). n < locks_for config) (sym kept.lock_is) (
+      let first = kept.is.0 in
+      let last = kept.is.1 in
+      omega (arith, first, last));
+  short =
+      let limit : v.max_events ≡ config.max_events = limit_is ∙ kept.made_with.max_events in
+      let long : length (list_at sight.seen side.lock) ≡ length v.history = ap (λ (l : List Event). length l) told ∙ (class_length side.class.history ∙ sym (ap (λ (l : List ClassEvent). length l) history_is)) in
+      omega (arith, limit, long, short);
+}
+
+-- a stripe whose whole history was seen has less than two places left
+pub short_stripe : (config : Config) (lock : ℕ) (sight : Sight) (history : List StripeEvent) (limit : ℕ) → lock < locks_for config → limit ≡ config.max_events → list_at sight.seen lock ≡ stripe_told history → limit < length history + 2
+    → HasSeenShort config sight
+short_stripe config lock sight history limit of limit_is told short = record {
+  lock = lock;
+  of = of;
+  short =
+      let long : length (list_at sight.seen lock) ≡ length history = ap (λ (l : List Event). length l) told ∙ stripe_length history in
+      omega (arith, limit_is, long, short);
+}
+
+-- what was seen short stays so as more is seen
+pub short_grows : (config : Config) (a b : Sight) → Grows a b → HasSeenShort config a → HasSeenShort config b
+short_grows config a b grows seen = record {
+  lock = seen.lock;
+  of = seen.of;
+  short =
+      let longer = prefix_length (list_at a.seen seen.lock) (list_at b.seen seen.lock) (grows.at seen.lock) in
+      let was = seen.short in
+      omega (arith, longer, was);
+}

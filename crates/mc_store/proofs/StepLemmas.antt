@@ -118,12 +118,12 @@ module _ (table : TableId) (config : Config) (own : StripeSide) (kept : IsLocked
         (λ (has : HasShort (v ∷ [])). inr (seen_short table config low v hears_low kept_low grows_low (list_at_same own.sight.seen low.lock (class_told v.history)) (first_short v has)))
         (all_short own.stripe s_new c (v ∷ []) (low.class ∷ []) (v ∷ []) r site (record { place = 0; below = omega arith; is = λ other. refl }, tt) err refusal is)
 
-    module _ (high : ClassSide) (w : ClassView) (kept_high : IsHeldClass table config high) (grows_high : classes.Grows high.class w) (rising : low.class.number.0 < high.class.number.0) where
+    module _ (high : ClassSide) (w : ClassView) (kept_high : IsHeldClass table config high) (grows_high : classes.Grows high.class w) (away : low.class.number.0 ≢ high.class.number.0) where
       abbrev hears_both : Sight
       hears_both = with_seen hears_low high.lock (class_told w.history)
 
       locks_apart : low.lock ≢ high.lock
-      locks_apart e = absurd (omega (arith, e, kept_low.lock_is, kept_high.lock_is, kept_low.is.0, kept_high.is.0, rising))
+      locks_apart e = away (omega (arith, e, kept_low.lock_is, kept_high.lock_is, kept_low.is.0, kept_high.is.0))
 
       -- the stripe, told by the lower class and then by the higher
       pub two_end : AgreeNow v s_new → AgreeNow w s_new → IsRefusedIn c.room (low.class ∷ high.class ∷ []) → KeepsSights c own.stripe s_new (low.class ∷ high.class ∷ []) (v ∷ w ∷ []) → Grows own.sight hears_both

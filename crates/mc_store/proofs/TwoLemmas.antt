@@ -1,6 +1,6 @@
 -- A stripe and two classes under their locks, once a command was made on them: the stripe is told by the lower class and by
 -- the higher, then each of them is told by it.
-use Rattle.std.proofs.Common.{◌≡◌, ◌<◌, ◌∷◌, [], Result, Err, sym, ap, ◌∙◌, subst}
+use Rattle.std.proofs.Common.{◌≢◌, ◌≡◌, ◌<◌, ◌∷◌, [], Result, Err, sym, ap, ◌∙◌, subst}
 use Rattle.std.specs.Prelude.{OnErr, IfErr}
 use Rattle.atomic_table.specs.Seated.{TableId}
 use Rattle.mc_item.specs.Stripe.{IsLegal}
@@ -44,7 +44,7 @@ module _ (table : TableId) (config : Config) (c : Call) (s s_new : Stripe) (low_
     (site : KeepsSite s s_new) (legal : IsLegal s_new.site s_new.history) (grows : EachPair (λ a b. classes.Grows a b) (low_class ∷ high_class ∷ []) (v ∷ w ∷ []))
     -- the classes as they were lent, which met the stripe before the command
     (low_arg low_met high_arg high_met : ClassSide) (low_view : was_low ≡ low_met) (low_same : low_met ≡ record low_arg { sight = low_met.sight }) (high_view : was_high ≡ high_met) (high_same : high_met ≡ record high_arg { sight = high_met.sight })
-    (rising : low_arg.class.number.0 < high_arg.class.number.0) where
+    (away : low_arg.class.number.0 ≢ high_arg.class.number.0) where
   abbrev was : StripeSide
   was = stripe_side owner seen s
 
@@ -109,8 +109,8 @@ module _ (table : TableId) (config : Config) (c : Call) (s s_new : Stripe) (low_
   high_was : high_class ≡ high_arg.class
   high_was = ap (λ (x : ClassSide). x.class) (high_is ∙ (high_view ∙ high_same))
 
-  rising_now : low_class.number.0 < high_class.number.0
-  rising_now = subst (λ (x : ClassView). x.number.0 < high_class.number.0) (sym low_was) (subst (λ (x : ClassView). low_arg.class.number.0 < x.number.0) (sym high_was) rising)
+  away_now : low_class.number.0 ≢ high_class.number.0
+  away_now = subst (λ (x : ClassView). x.number.0 ≢ high_class.number.0) (sym low_was) (subst (λ (x : ClassView). low_arg.class.number.0 ≢ x.number.0) (sym high_was) away)
 
   module _ (first_met own_met : StripeSide) (own_view : own ≡ own_met) (met_same : own_met ≡ record first_met { sight = own_met.sight }) (met_first : AgreeNow low_met.class first_met.stripe) (met_second : AgreeNow high_met.class own_met.stripe)
       (agreements : KeepsAgreements c s s_new (low_class ∷ high_class ∷ []) (v ∷ w ∷ [])) (sights : KeepsSights c s s_new (low_class ∷ high_class ∷ []) (v ∷ w ∷ [])) where
@@ -126,7 +126,7 @@ module _ (table : TableId) (config : Config) (c : Call) (s s_new : Stripe) (low_
     pub two_stripe : IsRefusedIn c.room (low_arg.class ∷ high_arg.class ∷ []) → IsLockedStripe table config own_new
     two_stripe refused =
         subst (IsLockedStripe table config) (sym (same ∙ (same_third ∙ said)))
-        (two_end table config was kept s_new c site legal called_now low v kept_low grows.0 high w kept_high grows.1.0 rising_now (agreements.own.0 met_low) (agreements.own.1.0 met_high)
+        (two_end table config was kept s_new c site legal called_now low v kept_low grows.0 high w kept_high grows.1.0 away_now (agreements.own.0 met_low) (agreements.own.1.0 met_high)
         (subst (λ (x : ClassView). IsRefusedIn c.room (x ∷ high_class ∷ [])) (sym low_was) (subst (λ (x : ClassView). IsRefusedIn c.room (low_arg.class ∷ x ∷ [])) (sym high_was) refused)) sights more_now)
 
     pub two_low : (low_new : ClassSide) → low_new ≡ record low_first { sight = with_seen low_first.sight own_both.lock (stripe_told own_both.stripe.history) } → Grows low_first.sight low_new.sight
@@ -147,4 +147,4 @@ module _ (table : TableId) (config : Config) (c : Call) (s s_new : Stripe) (low_
   pub two_full : {T : Type 0} (r : Result T Fault) → OnErr r (IsUntouched was.stripe s_new (low.class ∷ high.class ∷ []) (v ∷ w ∷ []))
       → IfErr r (MayRefuseCall was.stripe c (low.class ∷ high.class ∷ [])) → r ≡ Err HistoryFull → IsShort config own_new
   two_full r err refusal is =
-      subst (IsShort config) (sym (same ∙ (same_third ∙ said))) (two_short table config was kept s_new c site legal called_now low v kept_low grows.0 high w kept_high grows.1.0 rising_now r err refusal is)
+      subst (IsShort config) (sym (same ∙ (same_third ∙ said))) (two_short table config was kept s_new c site legal called_now low v kept_low grows.0 high w kept_high grows.1.0 away_now r err refusal is)

@@ -1,18 +1,15 @@
 -- A command under the lock of its stripe: what is seen behind it, and what stands before its answer.
-use Rattle.std.proofs.Common.{◌≡◌, ◌⊎◌, ◌≤◌, ◌^◌, ◌++◌, ◌∷◌, [], ℕ, List, inl, inr, length, refl, ap, sym, ◌∙◌, subst, append_assoc, append-nil}
-use Rattle.std.specs.Prelude.{Option, Some, None}
+use Rattle.std.proofs.Common.{◌≡◌, ◌⊎◌, ◌++◌, ◌∷◌, [], ℕ, List, inl, inr, length, refl, ap, sym, ◌∙◌, subst, append_assoc, append-nil}
+use Rattle.std.specs.Prelude.{Option, None}
 use Rattle.mc_item.specs.Answer.{Row}
 use Rattle.mc_item.specs.Command.{key_of}
-use Rattle.mc_item.specs.Measure.{stripe_of}
 use Rattle.mc_item.specs.Stripe.{IsAlive}
-use Rattle.mc_item.specs.declared.answer.Need.{Need}
 use Rattle.mc_item.specs.declared.answer.Need.TheVariants as needs
 use Rattle.mc_item.specs.declared.answer.Site.{Site}
 use Rattle.mc_item.specs.declared.call_event.CallEvent.{CallEvent}
 use Rattle.mc_item.specs.declared.command.Command.{Command}
 use Rattle.mc_item.specs.declared.config.Config.{Config}
 use Rattle.mc_item.specs.declared.event.Event.{Event}
-use Rattle.mc_item.specs.declared.item.ClassNo.{ClassNo}
 use Rattle.mc_item.specs.declared.item.Link.{Link}
 use Rattle.mc_item.specs.declared.item.Who.{Who}
 use Rattle.mc_item.specs.declared.reply.Reply.{Reply}
@@ -22,26 +19,18 @@ use Rattle.mc_item.specs.declared.stripe_event.StripeEvent.TheVariants as events
 use Rattle.mc_board.specs.Histories.{Grows, list_at, with_seen}
 use Rattle.mc_board.specs.declared.rule.Sight.{Sight}
 use Rattle.mc_board.proofs.SeenLemmas.{list_at_same}
-use Rattle.mc_rule.specs.Segment.{Rule}
-use Rattle.mc_segment.specs.ClassState.{ClassView}
 use Rattle.mc_stripe.specs.Plan.{dead_link, visible_row}
 use Rattle.mc_stripe.specs.StripeCalls.{KeepsSite}
 use Rattle.mc_stripe.specs.StripeState.{Stripe, cache_now}
-use Rattle.mc_stripe.specs.declared.planning.Plan.{Plan}
-use Rattle.mc_pull.specs.Lone.{AreMadeBy, StripeGrows}
 use Rattle.mc_pull.specs.Perform.{answer_to, call}
 use Rattle.mc_pull.specs.Performed.{cooled_if, events_on_stripe}
-use Rattle.mc_pull.specs.Question.{IsClassOf}
-use Rattle.mc_pull.specs.Walker.{Walker, walker_of}
-use Rattle.mc_store.specs.Commands.{IsCut, IsSearch, LeadsUp, burial, walker_in}
-use Rattle.mc_store.proofs.CommandLemmas.{buried_alive, buried_row, not_dead, searched_alive, searches_none}
+use Rattle.mc_store.specs.Commands.{IsCut, IsSearch, LeadsUp, burial}
+use Rattle.mc_store.proofs.CommandLemmas.{buried_alive, buried_row, not_dead, searches_none}
 use Rattle.mc_store.specs.Callers.{answered_at}
 use Rattle.mc_store.specs.Calls.{IsReplied}
 use Rattle.mc_store.specs.Earned.{IsEarned}
 use Rattle.mc_store.specs.Performing.{IsMade}
-use Rattle.mc_store.specs.Planned.{GoesBy, IsPlanIn, IsSearched}
 use Rattle.mc_store.specs.Serving.{GrowsBut}
-use Rattle.mc_store.proofs.PlanLemmas.{goes_by}
 
 -- of a lock whose history was told, that is what was seen
 pub told_at : (sight : Sight) (lock : ℕ) (list : List Event) (new : Sight) (other : ℕ) (is : List Event) → new ≡ with_seen sight lock list → other ≡ lock → list ≡ is → list_at new.seen other ≡ is
@@ -59,31 +48,9 @@ site_itself s = record { site = refl; limit = refl; keeps_events = refl }
 pub site_both : (a b c : Stripe) → KeepsSite a b → KeepsSite b c → KeepsSite a c
 site_both a b c first more = record { site = more.site ∙ first.site; limit = more.limit ∙ first.limit; keeps_events = more.keeps_events ∙ first.keeps_events }
 
--- a walk in the class that is needed is a search
-pub searched_walk : (config : Config) (who : Who) (command : Command) (moment : ℕ) (s s_new : Stripe) (v : ClassView) (class : ClassNo) (plan : Plan) → GoesBy config s command moment plan → plan.need ≡ needs.Fresh class → v.number ≡ class
-    → IsClassOf config v → StripeGrows (walker_of v who moment) s s_new → IsSearched config who command moment s s_new
-searched_walk config who command moment s s_new v class plan goes fresh at made grows =
-    let walker : walker_of v who moment ≡ walker_in config who moment class =
-    ap (λ (n : ClassNo). record { who = who; moment = moment; class = n; rule = v.rule }) at ∙ ap (λ (r : Rule). record { who = who; moment = moment; class = class; rule = r }) made.rule in
-    (grows.events, subst (λ (n : Need). IsSearch config who moment n grows.events) (sym fresh ∙ goes.planned.is.row.need) (subst (λ (w : Walker). AreMadeBy w grows.events) walker grows.each), grows.history_is)
-
--- a command that is planned again behind a search goes by its new plan
-pub goes_again : (config : Config) (who : Who) (command : Command) (moment : ℕ) (s s_new : Stripe) (plan plan_new : Plan) → GoesBy config s command moment plan → IsSearched config who command moment s s_new → KeepsSite s s_new
-    → IsPlanIn config s_new command moment plan_new → GoesBy config s_new command moment plan_new
-goes_again config who command moment s s_new plan plan_new goes searched site planned = record {
-  owned = subst (λ (t : Site). stripe_of (key_of command) t.stripes ≡ record { 0 = t.stripe }) (sym site.site) goes.owned;
-  early = goes.early;
-  alive = searched_alive config who moment (visible_row s command moment).need s s_new (key_of command) searched.0 site searched.1 searched.2 goes.alive;
-  planned = planned;
-}
-
--- a command that is planned again where its key's dead item went goes by its new plan
-pub goes_buried : (config : Config) (who : Who) (command : Command) (moment : ℕ) (s s_new : Stripe) (link : Link) (plan plan_new : Plan) → IsPlanIn config s command moment plan → plan.dead ≡ Some link → KeepsSite s s_new
-    → s_new.history ≡ s.history ++ burial who (key_of command) moment (Some link) → stripe_of (key_of command) config.stripes ≡ record { 0 = s.site.stripe } → moment ≤ 2 ^ 62 → IsPlanIn config s_new command moment plan_new
-    → GoesBy config s_new command moment plan_new
-goes_buried config who command moment s s_new link plan plan_new was dead site lost own early planned =
-    let history = lost ∙ ap (λ (o : Option Link). s.history ++ burial who (key_of command) moment o) (sym dead ∙ was.is.dead) in
-    goes_by config s_new command moment plan_new planned (own ∙ ap (λ (t : Site). record { 0 = t.stripe }) (sym site.site)) early (buried_alive s s_new who command moment site history)
+-- a stripe's new events are those by which a chunk was looked for, where the command needs one
+abbrev pub IsSearched : Config → Who → Command → ℕ → Stripe → Stripe → Type 0
+IsSearched config who command moment s s_new = (walked : List StripeEvent) × IsSearch config who moment (visible_row s command moment).need walked × (s_new.history ≡ s.history ++ walked)
 
 -- nothing is looked for
 pub searched_itself : (config : Config) (who : Who) (command : Command) (moment : ℕ) (s s_new : Stripe) → s_new.history ≡ s.history → IsSearched config who command moment s s_new
@@ -164,6 +131,3 @@ module _ (config : Config) (who : Who) (command : Command) (moment : ℕ) where
         by : (cut.before ≡ []) ⊎ LeadsUp config who command moment mid cut.before → LeadsUp config who command moment s (gone ++ cut.before)
         by (inl nothing) = record { walked = []; split = ap (λ (h : List StripeEvent). gone ++ h) nothing; search = searches_none config who moment (visible_row s command moment).need }
         by (inr led) = led_from cut.before led
-
-    pub cut_after : (end : Stripe) → end.history ≡ mid.history → IsCut config who command moment s end
-    cut_after end same = cut_from end (record { before = []; led_up = inl refl; history_is = same ∙ sym (append-nil mid.history) })

@@ -1,5 +1,4 @@
 pub mod Commands
-pub mod Needed
 pub mod Callers
 pub mod Naming
 pub mod Made
@@ -8,10 +7,11 @@ pub mod Locked
 pub mod Passes
 pub mod Serving
 pub mod Performing
-pub mod Planned
 pub mod Looked
 pub mod Earned
 pub mod Calls
 pub mod Crawls
 pub mod Finals
 pub mod Headline
+pub mod Trying
+pub mod Held

@@ -1,221 +1,225 @@
-//! One command by its plan, on its stripe and the classes that it needs, each under its lock.
-ghost use Rattle.std.specs.Prelude.{◌≡◌, ◌<◌, ◌+◌, ◌^◌, IfOk, OnErr, IsErrOf, length};
-ghost use Rattle.mc_item.specs.Stripe.{Fits};
-ghost use Rattle.mc_item.specs.declared.answer.Need.TheVariants as needs;
+//! One command under the lock of its key's stripe: it is tried, what it wants is answered, and it is tried again.
+ghost use Rattle.std.specs.Prelude.{◌≡◌, ◌<◌, ◌++◌, Some, None, IfSome, OnOk, OnErr, IsErrOf};
+ghost use Rattle.std.specs.Sync.Mutex.{mutex_guard_value};
 ghost use Rattle.mc_item.specs.declared.fault.Fault.TheVariants.{HistoryFull};
-ghost use Rattle.mc_item.specs.declared.reply.Room.TheVariants as rooms;
+ghost use Rattle.mc_board.specs.Histories.{Grows};
+ghost use Rattle.mc_evidence.specs.Setting.{IsClass};
+ghost use Rattle.mc_stripe.specs.Plan.{dead_link};
 ghost use Rattle.mc_stripe.specs.StripeCalls.{KeepsSite};
-ghost use Rattle.mc_store.specs.Commands.{IsCut};
-ghost use Rattle.mc_store.specs.Calls.{IsReplied};
-ghost use Rattle.mc_store.specs.Planned.{GoesBy};
+ghost use Rattle.mc_stripe.specs.StripeState.{cache_now};
+ghost use Rattle.mc_stripe.specs.declared.wanting.Want.TheVariants as wants;
+ghost use Rattle.mc_store.specs.Commands.{burial};
+ghost use Rattle.mc_store.specs.Held.{Ends, IsCallOn, WantsAlone, number_in};
+ghost use Rattle.mc_store.specs.Locked.{HasBegunCommand, setting_of};
 ghost use Rattle.mc_store.specs.Serving.{IsShort};
-ghost use Rattle.mc_store.specs.Locked.{HasBegunCommand};
-ghost use Rattle.mc_store.specs.Passes.{HasAsked};
 
 use crate::caller::Caller;
+use crate::held::{answer_at_home, answer_at_item, try_home};
 use crate::locked::{LockedClass, LockedStripe};
 use crate::named::Named;
-use crate::needed::{Needed, needed_for};
-use crate::performing::{finish_one, finish_two, perform_kept};
-use crate::readying::ready_on;
 use crate::store::Store;
-use crate::waiting::wait_for_ever;
-use mc_item::{ClassNo, Command, Fault, Link, Need, Reply, Room, Who};
-use mc_stripe::Plan;
+use crate::trying::try_alone;
+use crate::walking::bury_under;
+use mc_item::{ClassNo, Fault, Key, Link, Reply};
+use mc_pull::{Kind, Tried, Turn};
+use mc_stripe::{Classes, Want};
 use std::alloc::Global;
-use std::sync::Wait;
+use std::sync::{MutexGuard, Wait};
 
-// Makes a command that needs no chunk, by its plan.
-fn answer_kept<N: Named>(
-    alloc: Global,
-    store: &Store<N>,
-    rt: &impl Wait,
-    own: &mut LockedStripe<N>,
-    caller: &mut Caller<N>,
-    who: Who,
-    command: Command,
-    moment: u64,
-    plan: &mut Plan,
-) -> Result<Reply, Fault>
-    requires asked { HasAsked caller.old who command moment }
-    requires goes { GoesBy N.config own.old.stripe command moment plan.old }
-    requires kept { Fits plan.old.need rooms.Keep own.old.stripe.history }
-    ensures replied { IfOk result (IsReplied N.config who command moment own.old.stripe own.new.stripe own.new.sight caller.old.calls caller.new.calls) }
-    ensures cut { OnErr result (IsCut N.config who command moment own.old.stripe own.new.stripe) }
-    ensures unnoted { OnErr result (caller.new ≡ caller.old) }
-    ensures number { caller.new.number ≡ caller.old.number }
-    ensures site { KeepsSite own.old.stripe own.new.stripe }
-    ensures full { IsErrOf result HistoryFull → IsShort N.config own.new }
-{
-    perform_kept(
-        alloc,
-        store,
-        rt,
-        own,
-        caller,
-        who,
-        command,
-        moment,
-        plan.without_link,
-    )
-}
-
-// Makes a command that needs a chunk of the class that is locked, by its plan.
+// Locks the class of a new version and that of an item, where it is another, the lower first.
 #[inline(always)]
-pub(crate) fn answer_on_one<N: Named>(
+fn lock_both<'a, N: Named>(
+    store: &'a Store<N>,
+    rt: &impl Wait,
+    home: ClassNo,
+    other: Option<ClassNo>,
+) -> (
+    MutexGuard<'a, LockedClass<N>>,
+    Option<MutexGuard<'a, LockedClass<N>>>,
+)
+    requires home { IsClass (setting_of N.config) home }
+    requires other { IfSome other (λ n. IsClass (setting_of N.config) n) }
+    ensures home { (mutex_guard_value result.0).class.number ≡ home }
+    ensures other { number_in result.1 ≡ other }
+{
+    match other {
+        None => (store.lock_class(rt, home), None),
+        Some(class) => {
+            if class.0 < home.0 {
+                let lower = store.lock_class(rt, class);
+                (store.lock_class(rt, home), Some(lower))
+            } else {
+                let lower = store.lock_class(rt, home);
+                (lower, Some(store.lock_class(rt, class)))
+            }
+        }
+    }
+}
+
+// Makes a command on the classes that it wants, each of which is locked.
+#[inline(always)]
+fn answer_with<N: Named, K: Kind + Drop>(
     alloc: Global,
     store: &Store<N>,
     rt: &impl Wait,
     own: &mut LockedStripe<N>,
-    lent: &mut LockedClass<N>,
     caller: &mut Caller<N>,
-    who: Who,
-    command: Command,
-    moment: u64,
-    plan: &mut Plan,
-    class: ClassNo,
+    kind: K,
+    turn: Turn,
+    wanted: Classes,
 ) -> Result<Reply, Fault>
-    requires asked { HasAsked caller.old who command moment }
-    requires begun { HasBegunCommand N.config own.old.sight who moment }
-    requires goes { GoesBy N.config own.old.stripe command moment plan.old }
-    requires fresh { plan.old.need ≡ needs.Fresh class }
-    ensures replied { IfOk result (IsReplied N.config who command moment own.old.stripe own.new.stripe own.new.sight caller.old.calls caller.new.calls) }
-    ensures cut { OnErr result (IsCut N.config who command moment own.old.stripe own.new.stripe) }
-    ensures unnoted { OnErr result (caller.new ≡ caller.old) }
-    ensures number { caller.new.number ≡ caller.old.number }
+    requires called { IsCallOn N.config own.old.stripe caller.old (K.command kind) turn }
+    requires suits { K.suits kind own.old.stripe.site }
+    requires begun { HasBegunCommand N.config own.old.sight turn.who turn.moment }
+    requires wanted { WantsAlone own.old.stripe (K.command kind) turn.moment (wants.Classes wanted) }
+    ensures { Ends N.config own.old.stripe own.new caller.old caller.new (K.command kind) turn result }
+{
+    own.law();
+    match wanted.home {
+        Some(class) => {
+            let (mut guard, mut other) = lock_both(store, rt, class, wanted.other);
+            let home = &mut *guard;
+            answer_at_home(alloc, store, own, home, &mut other, caller, kind, turn)
+        }
+        None => match wanted.other {
+            Some(class) => {
+                let mut guard = store.lock_class(rt, class);
+                let other = &mut *guard;
+                answer_at_item(alloc, store, own, other, caller, kind, turn)
+            }
+            None => unreachable!(),
+        },
+    }
+}
+
+// The dead item of a key goes, under the lock of its class; `link` is the item's.
+#[inline(always)]
+fn bury<N: Named>(
+    alloc: Global,
+    store: &Store<N>,
+    rt: &impl Wait,
+    own: &mut LockedStripe<N>,
+    turn: Turn,
+    key: &Key,
+    link: Link,
+) -> Result<(), Fault>
+    requires begun { HasBegunCommand N.config own.old.sight turn.who turn.moment }
+    requires dead { dead_link ((cache_now own.old.stripe).items key.now) turn.moment ≡ Some link }
+    ensures lost { OnOk result (own.new.stripe.history ≡ own.old.stripe.history ++ burial turn.who key.now turn.moment (Some link)) }
+    ensures err { OnErr result (own.new.stripe.history ≡ own.old.stripe.history) }
+    ensures sees { Grows own.old.sight own.new.sight }
     ensures site { KeepsSite own.old.stripe own.new.stripe }
     ensures full { IsErrOf result HistoryFull → IsShort N.config own.new }
 {
-    let ready = ready_on(
-        alloc, store, rt, own, lent, who, &command, moment, plan, class,
-    )?;
-    finish_one(
-        alloc, store, rt, own, lent, caller, who, command, moment, ready.0, ready.1,
-    )
+    own.law();
+    let mut guard = store.lock_class(rt, link.class);
+    let class = &mut *guard;
+    bury_under(alloc, store, own, class, turn.who, key, link, turn.moment)
 }
 
-// Makes a command that needs a chunk of one of the two classes that are locked, the lower first, by its plan.
+// Makes a command that wants this of its stripe: its key's dead item goes, and the classes that it needs are locked.
 #[inline(never)]
-fn answer_on_two<N: Named>(
+fn answer_want<N: Named, K: Kind + Drop>(
     alloc: Global,
     store: &Store<N>,
     rt: &impl Wait,
     own: &mut LockedStripe<N>,
-    low: &mut LockedClass<N>,
-    high: &mut LockedClass<N>,
     caller: &mut Caller<N>,
-    who: Who,
-    command: Command,
-    moment: u64,
-    plan: &mut Plan,
-    class: ClassNo,
+    kind: K,
+    turn: Turn,
+    want: Want,
 ) -> Result<Reply, Fault>
-    requires asked { HasAsked caller.old who command moment }
-    requires begun { HasBegunCommand N.config own.old.sight who moment }
-    requires goes { GoesBy N.config own.old.stripe command moment plan.old }
-    requires fresh { plan.old.need ≡ needs.Fresh class }
-    requires rising { low.old.class.number.0 < high.old.class.number.0 }
-    ensures replied { IfOk result (IsReplied N.config who command moment own.old.stripe own.new.stripe own.new.sight caller.old.calls caller.new.calls) }
-    ensures cut { OnErr result (IsCut N.config who command moment own.old.stripe own.new.stripe) }
-    ensures unnoted { OnErr result (caller.new ≡ caller.old) }
-    ensures number { caller.new.number ≡ caller.old.number }
-    ensures site { KeepsSite own.old.stripe own.new.stripe }
-    ensures full { IsErrOf result HistoryFull → IsShort N.config own.new }
+    requires called { IsCallOn N.config own.old.stripe caller.old (K.command kind) turn }
+    requires suits { K.suits kind own.old.stripe.site }
+    requires wants { WantsAlone own.old.stripe (K.command kind) turn.moment want }
+    ensures { Ends N.config own.old.stripe own.new caller.old caller.new (K.command kind) turn result }
 {
-    if low.side().number() == class {
-        let ready = ready_on(
-            alloc, store, rt, own, low, who, &command, moment, plan, class,
-        )?;
-        finish_two(
-            alloc, store, rt, own, low, high, caller, who, command, moment, ready.0, ready.1,
-        )
-    } else {
-        let ready = ready_on(
-            alloc, store, rt, own, high, who, &command, moment, plan, class,
-        )?;
-        finish_two(
-            alloc, store, rt, own, low, high, caller, who, command, moment, ready.0, ready.1,
-        )
+    own.law();
+    caller.tell_stripe(&store.board, own);
+    match want {
+        Want::Classes(wanted) => answer_with(alloc, store, rt, own, caller, kind, turn, wanted),
+        Want::Burial(link) => {
+            bury(alloc, store, rt, own, turn, kind.key(), link)?;
+            match try_alone(&store.board, own, caller, kind, turn)? {
+                Tried::Made(reply) => Ok(reply),
+                Tried::Wants(kind, left) => match left {
+                    Want::Classes(wanted) => {
+                        answer_with(alloc, store, rt, own, caller, kind, turn, wanted)
+                    }
+                    Want::Burial(_) => unreachable!(),
+                    Want::Room => unreachable!(),
+                    Want::Place(_) => unreachable!(),
+                },
+            }
+        }
+        Want::Room => unreachable!(),
+        Want::Place(_) => unreachable!(),
     }
 }
 
-// Makes a command that needs a chunk, by its plan: the classes of the new version and of the item that it replaces are
-// locked, the lower first. A plan that needs no class, of which there is none here, would be waited for.
+// Makes a command of a kind on the stripe of its key, which is under its lock: it is tried alone first.
 #[inline(always)]
-fn answer_fresh<N: Named>(
+pub(crate) fn answer<N: Named, K: Kind + Drop>(
     alloc: Global,
     store: &Store<N>,
     rt: &impl Wait,
     own: &mut LockedStripe<N>,
     caller: &mut Caller<N>,
-    who: Who,
-    command: Command,
-    moment: u64,
-    plan: &mut Plan,
-    class: ClassNo,
+    kind: K,
+    turn: Turn,
 ) -> Result<Reply, Fault>
-    requires asked { HasAsked caller.old who command moment }
-    requires begun { HasBegunCommand N.config own.old.sight who moment }
-    requires goes { GoesBy N.config own.old.stripe command moment plan.old }
-    requires fresh { plan.old.need ≡ needs.Fresh class }
-    ensures replied { IfOk result (IsReplied N.config who command moment own.old.stripe own.new.stripe own.new.sight caller.old.calls caller.new.calls) }
-    ensures cut { OnErr result (IsCut N.config who command moment own.old.stripe own.new.stripe) }
-    ensures unnoted { OnErr result (caller.new ≡ caller.old) }
-    ensures number { caller.new.number ≡ caller.old.number }
-    ensures site { KeepsSite own.old.stripe own.new.stripe }
-    ensures full { IsErrOf result HistoryFull → IsShort N.config own.new }
+    requires called { IsCallOn N.config own.old.stripe caller.old (K.command kind) turn }
+    requires suits { K.suits kind own.old.stripe.site }
+    ensures { Ends N.config own.old.stripe own.new caller.old caller.new (K.command kind) turn result }
 {
-    let room = Room::At(Link { class, number: 0 });
-    match needed_for(plan.with_link, room) {
-        Needed::Zero => wait_for_ever(rt),
-        Needed::One(number) => {
-            let mut guard = store.lock_class(rt, number);
-            let lent = &mut *guard;
-            answer_on_one(
-                alloc, store, rt, own, lent, caller, who, command, moment, plan, class,
-            )
-        }
-        Needed::Two(first, second) => {
-            let mut lower = store.lock_class(rt, first);
-            let mut higher = store.lock_class(rt, second);
-            let low = &mut *lower;
-            let high = &mut *higher;
-            answer_on_two(
-                alloc, store, rt, own, low, high, caller, who, command, moment, plan, class,
-            )
-        }
+    own.law();
+    match try_alone(&store.board, own, caller, kind, turn)? {
+        Tried::Made(reply) => Ok(reply),
+        Tried::Wants(kind, want) => answer_want(alloc, store, rt, own, caller, kind, turn, want),
     }
 }
 
-// Makes a command whose key has no dead item, by its plan.
+// Makes a command whose new version would be of this class, on the stripe of its key, which is under its lock: the class is
+// locked at once, and the command is tried on it first.
 #[inline(always)]
-pub(crate) fn answer_by_plan<N: Named>(
+pub(crate) fn answer_for<'a, N: Named, K: Kind + Drop>(
     alloc: Global,
-    store: &Store<N>,
+    store: &'a Store<N>,
     rt: &impl Wait,
     own: &mut LockedStripe<N>,
     caller: &mut Caller<N>,
-    who: Who,
-    command: Command,
-    moment: u64,
-    plan: &mut Plan,
+    kind: K,
+    turn: Turn,
+    class: ClassNo,
 ) -> Result<Reply, Fault>
-    requires asked { HasAsked caller.old who command moment }
-    requires begun { HasBegunCommand N.config own.old.sight who moment }
-    requires goes { GoesBy N.config own.old.stripe command moment plan.old }
-    ensures replied { IfOk result (IsReplied N.config who command moment own.old.stripe own.new.stripe own.new.sight caller.old.calls caller.new.calls) }
-    ensures cut { OnErr result (IsCut N.config who command moment own.old.stripe own.new.stripe) }
-    ensures unnoted { OnErr result (caller.new ≡ caller.old) }
-    ensures number { caller.new.number ≡ caller.old.number }
-    ensures site { KeepsSite own.old.stripe own.new.stripe }
-    ensures full { IsErrOf result HistoryFull → IsShort N.config own.new }
+    requires called { IsCallOn N.config own.old.stripe caller.old (K.command kind) turn }
+    requires suits { K.suits kind own.old.stripe.site }
+    requires class { IsClass (setting_of N.config) class }
+    ensures { Ends N.config own.old.stripe own.new caller.old caller.new (K.command kind) turn result }
 {
-    match plan.need {
-        Need::Fresh(class) => answer_fresh(
-            alloc, store, rt, own, caller, who, command, moment, plan, class,
-        ),
-        Need::Nothing => answer_kept(alloc, store, rt, own, caller, who, command, moment, plan),
-        Need::Same => answer_kept(alloc, store, rt, own, caller, who, command, moment, plan),
-        Need::TooLarge => answer_kept(alloc, store, rt, own, caller, who, command, moment, plan),
+    own.law();
+    let mut none: Option<MutexGuard<'a, LockedClass<N>>> = None;
+    let mut guard = store.lock_class(rt, class);
+    let home = &mut *guard;
+    let board = &store.board;
+    match try_home(alloc, board, own, home, &mut none, caller, kind, turn, None)? {
+        Tried::Made(reply) => Ok(reply),
+        Tried::Wants(kind, want) => match want {
+            Want::Place(_) => Err(Fault::HistoryFull),
+            Want::Room => {
+                caller.tell_stripe(board, own);
+                answer_at_home(alloc, store, own, home, &mut none, caller, kind, turn)
+            }
+            Want::Burial(link) => {
+                drop(guard);
+                let want = Want::Burial(link);
+                answer_want(alloc, store, rt, own, caller, kind, turn, want)
+            }
+            Want::Classes(wanted) => {
+                drop(guard);
+                let want = Want::Classes(wanted);
+                answer_want(alloc, store, rt, own, caller, kind, turn, want)
+            }
+        },
     }
 }

@@ -1,190 +1,124 @@
 //! One command on a store, under the lock of its key's stripe.
-ghost use Rattle.std.specs.Prelude.{◌≡◌, ◌≤◌, ◌<◌, ◌⊎◌, ◌+◌, ◌++◌, ◌-◌, ◌^◌, Some, IfOk, OnOk, OnErr, IsErrOf, length, List, ◌∷◌, []};
+ghost use Rattle.std.specs.Prelude.{◌≡◌, ◌≤◌, ◌<◌, ◌⊎◌, ◌+◌, ◌++◌, ◌-◌, ◌^◌, IfOk, OnOk, OnErr, IsErrOf, length, List, ◌∷◌, []};
 ghost use Rattle.mc_item.specs.Command.{key_of};
 ghost use Rattle.mc_item.specs.Measure.{stripe_of};
-ghost use Rattle.mc_item.specs.declared.fault.Fault.TheVariants.{HistoryFull};
-ghost use Rattle.mc_stripe.specs.Plan.{dead_link};
-ghost use Rattle.mc_stripe.specs.StripeCalls.{KeepsSite};
-ghost use Rattle.mc_stripe.specs.StripeState.{cache_now};
-ghost use Rattle.mc_board.specs.Histories.{Grows};
-ghost use Rattle.mc_store.specs.Commands.{IsCut, burial};
-ghost use Rattle.mc_store.specs.Needed.{IsNumberOf};
-ghost use Rattle.mc_store.specs.Calls.{IsCutBy, IsReplied, IsRepliedBy};
-ghost use Rattle.mc_store.specs.Passes.{next_who, HasAsked, caller_of};
-ghost use Rattle.mc_store.specs.Planned.{GoesBy, IsPlanIn};
-ghost use Rattle.mc_store.specs.Serving.{HasSeenShort, IsShort};
-ghost use Rattle.mc_store.specs.Locked.{HasBegunCommand};
-ghost use Rattle.mc_store.specs.Callers.{asked_for};
 ghost use Rattle.mc_item.specs.declared.call_event.CallEvent.{CallEvent};
+ghost use Rattle.mc_item.specs.declared.fault.Fault.TheVariants.{HistoryFull};
+ghost use Rattle.mc_board.specs.Histories.{Grows};
+ghost use Rattle.mc_stripe.specs.Putting.{command_of};
+ghost use Rattle.mc_store.specs.Callers.{asked_for};
+ghost use Rattle.mc_store.specs.Calls.{IsCutBy, IsRepliedBy};
+ghost use Rattle.mc_store.specs.Held.{Ends, IsCallOn};
+ghost use Rattle.mc_store.specs.Passes.{next_who, caller_of};
+ghost use Rattle.mc_store.specs.Serving.{HasSeenShort};
 
-use crate::answering::answer_by_plan;
+use crate::answering::{answer, answer_for};
 use crate::caller::Caller;
 use crate::locked::LockedStripe;
 use crate::named::Named;
-use crate::needed::is_storage;
 use crate::pass::Pass;
-use crate::planning::plan_under;
-use crate::quick::answer_quick;
-use crate::setting::set_told;
 use crate::store::Store;
-use crate::touching::answer_touching;
-use crate::walking::bury_under;
-use mc_item::{Asking, Command, Fault, Link, Reply, Who, stripe_of};
-use mc_stripe::{GivenBack, Plan};
+use mc_item::{Asking, Command, Fault, Reply, Step, class_of, cost, stripe_of};
+use mc_pull::{Count, Delete, Get, Huge, Put, Touch, Turn};
+use mc_stripe::Storage;
 use std::alloc::Global;
 use std::sync::Wait;
 
-// The dead item of a command's key goes, under the lock of its link's class too; `link` is the item's.
-#[inline(never)]
-fn bury_locked<N: Named>(
-    alloc: Global,
-    store: &Store<N>,
-    rt: &impl Wait,
-    own: &mut LockedStripe<N>,
-    who: Who,
-    command: &Command,
-    link: Link,
-    moment: u64,
-) -> Result<(), Fault>
-    requires begun { HasBegunCommand N.config own.old.sight who moment }
-    requires dead { dead_link ((cache_now own.old.stripe).items (key_of command.now)) moment ≡ Some link }
-    requires class { IsNumberOf (length N.config.sizes) link.class }
-    ensures lost { OnOk result (own.new.stripe.history ≡ own.old.stripe.history ++ burial who (key_of command.now) moment (Some link)) }
-    ensures err { OnErr result (own.new.stripe.history ≡ own.old.stripe.history) }
-    ensures sees { Grows own.old.sight own.new.sight }
-    ensures site { KeepsSite own.old.stripe own.new.stripe }
-    ensures full { IsErrOf result HistoryFull → IsShort N.config own.new }
-{
-    let mut guard = store.lock_class(rt, link.class);
-    let class = &mut *guard;
-    bury_under(alloc, store, own, class, who, command.key(), link, moment)
-}
-
-// The dead item of a command's key goes, where the plan has one, and the command is planned again behind that.
+// Makes a storage command: of the class of its new version, or of none.
 #[inline(always)]
-fn bury_dead<N: Named>(
+fn store_under<N: Named>(
     alloc: Global,
     store: &Store<N>,
     rt: &impl Wait,
     own: &mut LockedStripe<N>,
-    who: Who,
-    command: &Command,
-    moment: u64,
-    plan: &mut Plan,
-) -> Result<(), Fault>
-    requires own { stripe_of (key_of command.now) N.config.stripes ≡ record { 0 = own.old.stripe.site.stripe } }
-    requires early { moment ≤ 2 ^ 62 }
-    requires begun { HasBegunCommand N.config own.old.sight who moment }
-    requires plan { IsPlanIn N.config own.old.stripe command.now moment plan.old }
-    ensures goes { OnOk result (GoesBy N.config own.new.stripe command.now moment plan.new) }
-    ensures sees { Grows own.old.sight own.new.sight }
-    ensures buried { OnOk result (own.new.stripe.history ≡ own.old.stripe.history ++ burial who (key_of command.now) moment (dead_link ((cache_now own.old.stripe).items (key_of command.now)) moment)) }
-    ensures err { OnErr result (own.new.stripe.history ≡ own.old.stripe.history) }
-    ensures site { KeepsSite own.old.stripe own.new.stripe }
-    ensures full { IsErrOf result HistoryFull → IsShort N.config own.new }
+    caller: &mut Caller<N>,
+    storage: Storage,
+    turn: Turn,
+) -> Result<Reply, Fault>
+    requires called { IsCallOn N.config own.old.stripe caller.old (command_of storage) turn }
+    ensures { Ends N.config own.old.stripe own.new caller.old caller.new (command_of storage) turn result }
 {
-    match plan.dead {
-        None => Ok(()),
-        Some(link) => {
-            bury_locked(alloc, store, rt, own, who, command, link, moment)?;
-            *plan = plan_under(own, command, moment);
-            Ok(())
+    own.law();
+    let cost = cost(
+        storage.key.bytes().len() as u64,
+        storage.value.bytes().len() as u64,
+    );
+    match class_of(&store.config, cost) {
+        Some(class) => {
+            let put = Put {
+                storage,
+                cost,
+                class,
+            };
+            answer_for(alloc, store, rt, own, caller, put, turn, class)
+        }
+        None => {
+            let Storage {
+                verb,
+                key,
+                flags,
+                exptime,
+                value,
+            } = storage;
+            let command = Command::Store {
+                verb,
+                key,
+                flags,
+                exptime,
+                value,
+            };
+            answer(alloc, store, rt, own, caller, Huge { command, verb }, turn)
         }
     }
 }
 
-// One command by its plan, on the stripe of its key, which is under its lock.
-#[inline(always)]
-fn command_planned<N: Named>(
-    alloc: Global,
-    store: &Store<N>,
-    rt: &impl Wait,
-    own: &mut LockedStripe<N>,
-    caller: &mut Caller<N>,
-    who: Who,
-    command: Command,
-    moment: u64,
-) -> Result<Reply, Fault>
-    requires own { stripe_of (key_of command) N.config.stripes ≡ record { 0 = own.old.stripe.site.stripe } }
-    requires begun { HasBegunCommand N.config own.old.sight who moment }
-    requires asked { HasAsked caller.old who command moment }
-    requires early { moment ≤ 2 ^ 62 }
-    ensures replied { IfOk result (IsReplied N.config who command moment own.old.stripe own.new.stripe own.new.sight caller.old.calls caller.new.calls) }
-    ensures cut { OnErr result (IsCut N.config who command moment own.old.stripe own.new.stripe) }
-    ensures unnoted { OnErr result (caller.new ≡ caller.old) }
-    ensures number { caller.new.number ≡ caller.old.number }
-    ensures site { KeepsSite own.old.stripe own.new.stripe }
-    ensures full { IsErrOf result HistoryFull → IsShort N.config own.new }
-{
-    let mut plan = plan_under(own, &command, moment);
-    bury_dead(alloc, store, rt, own, who, &command, moment, &mut plan)?;
-    answer_by_plan(
-        alloc, store, rt, own, caller, who, command, moment, &mut plan,
-    )
-}
-
-// The same, once the stripe is told that the command was asked for: a `set` goes the quick way where it can.
-#[inline(always)]
-fn command_told<N: Named>(
-    alloc: Global,
-    store: &Store<N>,
-    rt: &impl Wait,
-    own: &mut LockedStripe<N>,
-    caller: &mut Caller<N>,
-    who: Who,
-    command: Command,
-    moment: u64,
-) -> Result<Reply, Fault>
-    requires own { stripe_of (key_of command) N.config.stripes ≡ record { 0 = own.old.stripe.site.stripe } }
-    requires asked { HasAsked caller.old who command moment }
-    requires early { moment ≤ 2 ^ 62 }
-    ensures replied { IfOk result (IsReplied N.config who command moment own.old.stripe own.new.stripe own.new.sight caller.old.calls caller.new.calls) }
-    ensures cut { OnErr result (IsCut N.config who command moment own.old.stripe own.new.stripe) }
-    ensures unnoted { OnErr result (caller.new ≡ caller.old) }
-    ensures number { caller.new.number ≡ caller.old.number }
-    ensures site { KeepsSite own.old.stripe own.new.stripe }
-    ensures full { IsErrOf result HistoryFull → IsShort N.config own.new }
-{
-    caller.tell_stripe(&store.board, own);
-    match set_told(alloc, store, rt, own, caller, who, command, moment)? {
-        Ok(reply) => Ok(reply),
-        Err(given) => command_planned(alloc, store, rt, own, caller, who, given, moment),
-    }
-}
-
-// One command on the stripe of its key, which is under its lock: the quick way where it touches no chunk, one that touches
-// its item's alone by the item's link, else the quick way of a `set` or its plan.
+// Makes a command on the stripe of its key, which is under its lock, each kind by its own row of the table.
 fn command_under<N: Named>(
     alloc: Global,
     store: &Store<N>,
     rt: &impl Wait,
     own: &mut LockedStripe<N>,
     caller: &mut Caller<N>,
-    who: Who,
     command: Command,
-    moment: u64,
+    turn: Turn,
 ) -> Result<Reply, Fault>
-    requires own { stripe_of (key_of command) N.config.stripes ≡ record { 0 = own.old.stripe.site.stripe } }
-    requires asked { HasAsked caller.old who command moment }
-    requires early { moment ≤ 2 ^ 62 }
-    ensures replied { IfOk result (IsReplied N.config who command moment own.old.stripe own.new.stripe own.new.sight caller.old.calls caller.new.calls) }
-    ensures cut { OnErr result (IsCut N.config who command moment own.old.stripe own.new.stripe) }
-    ensures unnoted { OnErr result (caller.new ≡ caller.old) }
-    ensures number { caller.new.number ≡ caller.old.number }
-    ensures site { KeepsSite own.old.stripe own.new.stripe }
-    ensures full { IsErrOf result HistoryFull → IsShort N.config own.new }
+    requires called { IsCallOn N.config own.old.stripe caller.old command turn }
+    ensures { Ends N.config own.old.stripe own.new caller.old caller.new command turn result }
 {
-    if is_storage(&command) {
-        return command_told(alloc, store, rt, own, caller, who, command, moment);
-    }
-    match answer_quick(&store.board, own, caller, who, command, moment)? {
-        Ok(reply) => Ok(reply),
-        Err(GivenBack { command, link }) => match link {
-            None => command_told(alloc, store, rt, own, caller, who, command, moment),
-            Some(link) => answer_touching(
-                alloc, store, rt, own, caller, who, command, moment, link,
-            ),
-        },
+    match command {
+        Command::Get(key) => answer(alloc, store, rt, own, caller, Get { key }, turn),
+        Command::Touch(key, exptime) => {
+            answer(alloc, store, rt, own, caller, Touch { key, exptime }, turn)
+        }
+        Command::Delete(key) => answer(alloc, store, rt, own, caller, Delete { key }, turn),
+        Command::Incr(key, delta) => {
+            let step = Step::Up(delta);
+            answer(alloc, store, rt, own, caller, Count { key, step }, turn)
+        }
+        Command::Decr(key, delta) => {
+            let step = Step::Down(delta);
+            answer(alloc, store, rt, own, caller, Count { key, step }, turn)
+        }
+        Command::Huge { verb, key } => {
+            let command = Command::Huge { verb, key };
+            answer(alloc, store, rt, own, caller, Huge { command, verb }, turn)
+        }
+        Command::Store {
+            verb,
+            key,
+            flags,
+            exptime,
+            value,
+        } => {
+            let storage = Storage {
+                verb,
+                key,
+                flags,
+                exptime,
+                value,
+            };
+            store_under(alloc, store, rt, own, caller, storage, turn)
+        }
     }
 }
 
@@ -195,16 +129,13 @@ fn command_seen<N: Named>(
     rt: &impl Wait,
     own: &mut LockedStripe<N>,
     pass: &mut Pass<N>,
-    who: Who,
+    turn: Turn,
     command: Command,
-    moment: u64,
 ) -> Result<Reply, Fault>
-    requires own { stripe_of (key_of command) N.config.stripes ≡ record { 0 = own.old.stripe.site.stripe } }
-    requires asked { HasAsked (caller_of pass.old) who command moment }
+    requires called { IsCallOn N.config own.old.stripe (caller_of pass.old) command turn }
     requires room { length pass.old.calls < pass.old.turn + pass.old.turn }
-    requires early { moment ≤ 2 ^ 62 }
-    ensures replied { (calls : List CallEvent) → pass.old.calls ≡ calls ++ asked_for command moment ∷ [] → IfOk result (IsRepliedBy N.config own.old.stripe.site.stripe pass.old.sight pass.new.sight calls pass.new.calls who command moment) }
-    ensures cut { (calls : List CallEvent) → pass.old.calls ≡ calls ++ asked_for command moment ∷ [] → OnErr result (IsCutBy N.config own.old.stripe.site.stripe pass.old.sight pass.new.sight calls pass.new.calls who command moment) }
+    ensures replied { (calls : List CallEvent) → pass.old.calls ≡ calls ++ asked_for command turn.moment ∷ [] → IfOk result (IsRepliedBy N.config own.old.stripe.site.stripe pass.old.sight pass.new.sight calls pass.new.calls turn.who command turn.moment) }
+    ensures cut { (calls : List CallEvent) → pass.old.calls ≡ calls ++ asked_for command turn.moment ∷ [] → OnErr result (IsCutBy N.config own.old.stripe.site.stripe pass.old.sight pass.new.sight calls pass.new.calls turn.who command turn.moment) }
     ensures grows { Grows pass.old.sight pass.new.sight }
     ensures same { pass.new ≡ record pass.old { calls = pass.new.calls; sight = pass.new.sight } }
     ensures full { IsErrOf result HistoryFull → HasSeenShort N.config pass.new.sight }
@@ -212,7 +143,7 @@ fn command_seen<N: Named>(
     own.law();
     own.side.compare(&store.board, &mut pass.seen);
     let caller = &mut pass.caller;
-    let reply = command_under(alloc, store, rt, own, caller, who, command, moment);
+    let reply = command_under(alloc, store, rt, own, caller, command, turn);
     own.law();
     own.side.share(&store.board, &mut pass.seen);
     reply
@@ -248,6 +179,7 @@ impl<N: Named> Store<N> {
         let number = stripe_of(command.key(), self.config.stripes);
         let mut guard = self.lock_stripe(rt, number);
         let own = &mut *guard;
-        command_seen(alloc, self, rt, own, pass, who, command, moment)
+        let turn = Turn { who, moment };
+        command_seen(alloc, self, rt, own, pass, turn, command)
     }
 }

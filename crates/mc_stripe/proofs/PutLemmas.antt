@@ -2,7 +2,7 @@
 use Rattle.std.proofs.Common.{ℕ, ◌≡◌, List, refl, sym, ap, subst}
 use Rattle.std.specs.Prelude.{Option, Some, None, if◌then◌else◌}
 use Rattle.mc_item.specs.Answer.{Row}
-use Rattle.mc_item.specs.Cache.{changed, versions_of}
+use Rattle.mc_item.specs.Cache.{changed}
 use Rattle.mc_item.specs.Item.{link_of_item}
 use Rattle.mc_item.specs.Stripe.{Fits, IsAlive}
 use Rattle.mc_item.specs.declared.answer.Need.{Need}
@@ -16,16 +16,12 @@ use Rattle.mc_item.specs.declared.reply.Room as rooms
 use Rattle.mc_item.specs.declared.reply.Room.TheVariants.{At, Keep, Refused}
 use Rattle.mc_item.specs.declared.stripe_event.StripeEvent.{StripeEvent}
 use Rattle.mc_stripe.specs.Plan.{fate_of}
-use Rattle.mc_stripe.specs.Putting.{added, declined_row, goes, storing_row}
+use Rattle.mc_stripe.specs.Putting.{goes, storing_row}
 use Rattle.mc_stripe.specs.Wanting.{Covers, HasPlaces, IsCrowded, IsGiven, IsLacking, IsTaken, IsWanting, LacksPlace, Uses, class_beside}
 use Rattle.mc_stripe.specs.declared.fate.Fate.{Fate}
-use Rattle.mc_stripe.specs.declared.fate.Fate.TheVariants as fates
-use Rattle.mc_stripe.specs.declared.putting.Put.{Put}
-use Rattle.mc_stripe.specs.declared.putting.PutAnswer.{PutAnswer}
 use Rattle.mc_stripe.specs.declared.wanting.Given.{Given}
 use Rattle.mc_stripe.specs.declared.wanting.Want.{Want}
 use Rattle.mc_stripe.specs.declared.wanting.Want.TheVariants as wants
-use Rattle.mc_stripe.proofs.StateLemmas.{chunkless_fits}
 
 -- a row that needs a chunk of a class, of which all classes are held
 module _ (given : Given) (key : List ℕ) (found : Option Item) (moment : ℕ) (row : Row) (class : ClassNo) (alive : IsAlive found moment) (fresh : row.need ≡ needs.Fresh class) where
@@ -57,16 +53,11 @@ stored_item class Replace version key item (Refused of place) given now there st
 stored_item class (Cas unique) version key item (Refused of place) given now there stays = ap (λ (i : Item). Some i) (sym (stays (λ link is. cc is)))
 stored_item class verb version key item Keep given now there stays = absurd given
 
--- a command that is declined adds no version
-pub declined_added : (row : Row) (answer : PutAnswer) (put : Put)
-    → put ≡ record { answer = answer; room = Keep; fate = fates.Untouched } → row ≡ declined_row answer → added answer ≡ 0 → added put.answer ≡ versions_of (row.answer put.room).change
-declined_added row answer put d e idle = rw (d, e) idle
-
 -- a room that was taken fits the need
 pub taken_fits : (given : Given) (need : Need) (room : rooms.Room) (history : List StripeEvent)
     → ((class : ClassNo) (r : rooms.Room) → IsTaken given (needs.Fresh class) r → Fits (needs.Fresh class) r history)
     → IsTaken given need room → Fits need room history
 taken_fits given (needs.Fresh class) room history offers taken = offers class room taken
-taken_fits given needs.Nothing room history offers taken = rw taken (chunkless_fits needs.Nothing history tt)
-taken_fits given needs.Same room history offers taken = rw taken (chunkless_fits needs.Same history tt)
-taken_fits given needs.TooLarge room history offers taken = rw taken (chunkless_fits needs.TooLarge history tt)
+taken_fits given needs.Nothing room history offers taken = rw taken tt
+taken_fits given needs.Same room history offers taken = rw taken tt
+taken_fits given needs.TooLarge room history offers taken = rw taken tt

@@ -1,6 +1,6 @@
 -- What a stripe keeps, with one event more.
 use Rattle.std.proofs.Common.{◌≡◌, ◌+◌, ◌≤◌, ◌<◌, ◌++◌, ◌∷◌, [], ℕ, List, length, length-append, sym, ap, ◌∙◌, subst, arith}
-use Rattle.std.specs.Prelude.{Option, Some, None, Result, Ok, Err, IfOk, OnErr, nat_eq, if◌then◌else◌, IsSomeAnd, true}
+use Rattle.std.specs.Prelude.{Option, Some, None, nat_eq, if◌then◌else◌, IsSomeAnd, true}
 use Rattle.std.specs.Cmp.Lexicographic.{pointwise}
 use Rattle.mc_item.specs.Answer.{row_of}
 use Rattle.mc_item.specs.Cache.{Cache, changed, versions_of, answer_of, after_change}
@@ -10,8 +10,6 @@ use Rattle.mc_item.specs.Stripe.{cache_of, cache_after, MayHappen, IsAlive, Fits
 use Rattle.mc_item.specs.declared.answer.Answer.{Answer}
 use Rattle.mc_item.specs.declared.answer.Change.{Change}
 use Rattle.mc_item.specs.declared.answer.Change.TheVariants.{Goes}
-use Rattle.mc_item.specs.declared.answer.Need.{Need}
-use Rattle.mc_item.specs.declared.answer.Need.TheVariants as needs
 use Rattle.mc_item.specs.declared.answer.Site.{Site}
 use Rattle.mc_item.specs.declared.stripe_event.Lost.{Lost}
 use Rattle.mc_item.specs.declared.stripe_event.Cooled.{Cooled}
@@ -19,12 +17,9 @@ use Rattle.mc_item.specs.declared.command.Command.{Command}
 use Rattle.mc_item.specs.declared.item.Item.{Item}
 use Rattle.mc_item.specs.declared.item.Who.{Who}
 use Rattle.mc_item.specs.declared.reply.Room.{Room}
-use Rattle.mc_item.specs.declared.reply.Room.TheVariants as rooms
 use Rattle.mc_item.specs.declared.stripe_event.StripeEvent.{StripeEvent}
 use Rattle.mc_item.specs.declared.stripe_event.StripeEvent.TheVariants as events
 use Rattle.mc_item.proofs.StripeLemmas.{cache_of-push, IsLegal-push, versions_of-few}
-use Rattle.mc_stripe.specs.Alone.{IsChunkless}
-use Rattle.mc_stripe.specs.Rooms.{IsOfNeed}
 use Rattle.mc_stripe.specs.StripeState.{IsKept}
 
 -- an event that may happen, with the items and the count that it leaves
@@ -112,41 +107,3 @@ cooled_kept site limit history later versions items now cooled kept below may no
     kept_on site limit history later versions versions items now (events.Cooled cooled) kept may below
     (change_at items now (cache_of site history) cooled.key (cooled_change ((cache_of site history).items cooled.key)) kept.items_are same_change)
     (kept.versions_are ∙ cooled_adds ((cache_of site history).versions) ((cache_of site history).items cooled.key)) (omega arith) later_is
-
--- a room that fits is of a class only where a chunk of that class is needed
-pub fits_class : (need : Need) (room : Room) (before : List StripeEvent) → Fits need room before → IsOfNeed need room
-fits_class (needs.Fresh class) (rooms.At link) before fits = ap needs.Fresh (sym fits.0)
-fits_class (needs.Fresh class) (rooms.Refused other place) before fits = ap needs.Fresh (sym fits)
-fits_class (needs.Fresh class) rooms.Keep before fits = tt
-fits_class needs.Nothing (rooms.At link) before fits = absurd fits
-fits_class needs.Nothing (rooms.Refused other place) before fits = absurd fits
-fits_class needs.Nothing rooms.Keep before fits = tt
-fits_class needs.Same (rooms.At link) before fits = absurd fits
-fits_class needs.Same (rooms.Refused other place) before fits = absurd fits
-fits_class needs.Same rooms.Keep before fits = tt
-fits_class needs.TooLarge (rooms.At link) before fits = absurd fits
-fits_class needs.TooLarge (rooms.Refused other place) before fits = absurd fits
-fits_class needs.TooLarge rooms.Keep before fits = tt
-
--- where no fresh chunk is needed, no room fits
-pub chunkless_fits : (need : Need) (before : List StripeEvent) → IsChunkless need → Fits need rooms.Keep before
-chunkless_fits (needs.Fresh class) before chunkless = chunkless
-chunkless_fits needs.Nothing before chunkless = tt
-chunkless_fits needs.Same before chunkless = tt
-chunkless_fits needs.TooLarge before chunkless = tt
-
--- a room that fits what a command needs by the history is of a class only where a chunk of that class is needed by the items
-pub given_room : (site : Site) (limit : ℕ) (history : List StripeEvent) (versions : ℕ) (items reserved : List ℕ → Option Item) (key : List ℕ) (command : Command) (moment : ℕ) (room : Room)
-    → IsKept site limit history versions items → ((q : List ℕ) → reserved q ≡ items q)
-    → Fits (row_of site (cache_of site history).versions ((cache_of site history).items key) command moment).need room history
-    → IsOfNeed (row_of site versions (reserved key) command moment).need room
-given_room site limit history versions items reserved key command moment room kept same fits =
-    let given = fits_class (row_of site (cache_of site history).versions ((cache_of site history).items key) command moment).need room history fits in
-    subst (λ (o : Option Item). IsOfNeed (row_of site versions o command moment).need room) (sym (same key ∙ kept.items_are key))
-    (subst (λ (n : ℕ). IsOfNeed (row_of site n ((cache_of site history).items key) command moment).need room) (sym kept.versions_are) given)
-
--- what follows of a command that was given back
-pub given_more : {A B E P Q : Type 0} (r : Result (Result A B) E) → (P → Q) → IfOk r (λ answered. OnErr answered P) → IfOk r (λ answered. OnErr answered Q)
-given_more (Ok (Ok a)) more given = tt
-given_more (Ok (Err b)) more given = more given
-given_more (Err e) more given = tt

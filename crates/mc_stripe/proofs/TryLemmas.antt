@@ -21,7 +21,7 @@ use Rattle.mc_stripe.specs.Trying.{IsMade, Puts}
 use Rattle.mc_stripe.specs.Wanting.{Uses}
 use Rattle.mc_stripe.specs.declared.fate.Fate.{Fate}
 use Rattle.mc_stripe.specs.declared.wanting.Given.{Given}
-use Rattle.mc_stripe.proofs.StateLemmas.{chunkless_fits, command_kept}
+use Rattle.mc_stripe.proofs.StateLemmas.{command_kept}
 
 -- a row that needs nothing, and whose answer adds no version
 pub record IsIdle (row : Row) : Type 0 where
@@ -43,7 +43,7 @@ idle_kept given site limit versions history later items now who command moment r
     subst (λ (n : ℕ). IsKept site limit later n now) (add-zero versions)
     (command_kept site limit history later versions 0 items items now who command moment rooms.Keep ((row_of site versions (items key) command moment).answer rooms.Keep) key (items key)
     kept few stripe (subst (λ (o : Option Item). IsAlive o moment) (kept.items_are key) made.uses.alive)
-    (rw ((idle cache.versions (cache.items key)).need) (chunkless_fits needs.Nothing history tt))
+    (rw ((idle cache.versions (cache.items key)).need) tt)
     (λ q. refl) refl refl refl made.items (idle versions (items key)).added
     (later_is ∙ ap (λ (r : Reply). history ++ events.Did (record { who = who; command = command; moment = moment; reply = r; room = rooms.Keep }) ∷ []) made.reply_is))
 

@@ -4,10 +4,7 @@ pub use Rattle.mc_item.specs.Stripe
 pub mod StripeState
 pub mod StripeCalls
 pub mod Plan
-pub mod Alone
-pub mod Rooms
 pub mod Stored
-pub mod Sets
 pub mod Trying
 pub mod Wanting
 pub mod Putting

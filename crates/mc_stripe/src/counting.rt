@@ -2,8 +2,8 @@
 ghost use Rattle.std.specs.Prelude.{◌≡◌, ◌<◌, ◌≤◌, ◌+◌, ◌^◌, ◌↔◌, ℕ, IfOk, IfErr, OnOk, OnErr, IsErrOf, IfSome, Some, nat_eq, length};
 ghost use Rattle.std.specs.Cmp.Lexicographic.{pointwise};
 ghost use Rattle.std.specs.HashMap.{get, spare};
-ghost use Rattle.mc_item.specs.Answer.{Row, cas_of, row_of};
-ghost use Rattle.mc_item.specs.Cache.{answer_of, changed, versions_of};
+ghost use Rattle.mc_item.specs.Answer.{cas_of};
+ghost use Rattle.mc_item.specs.Cache.{changed, versions_of};
 ghost use Rattle.mc_item.specs.Measure.{stripe_of};
 ghost use Rattle.mc_item.specs.Stripe.{Fits, IsAlive};
 ghost use Rattle.mc_item.specs.declared.answer.Need.TheVariants as needs;
@@ -14,9 +14,7 @@ ghost use Rattle.mc_item.specs.declared.reply.Room.TheVariants as rooms;
 ghost use Rattle.mc_stripe.specs.declared.fate.Fate.TheVariants as fates;
 ghost use Rattle.mc_stripe.specs.Counting as words;
 ghost use Rattle.mc_stripe.specs.Counting.{step_row};
-ghost use Rattle.mc_stripe.specs.Stored.{IsValueless};
 ghost use Rattle.mc_stripe.specs.StripeCalls.{KeepsSite};
-ghost use Rattle.mc_stripe.specs.StripeState.{cache_now};
 ghost use Rattle.mc_stripe.specs.Trying.{IsDone, IsLeft, IsMade, IsOpen, Stays};
 ghost use Rattle.mc_stripe.specs.Wanting.{Covers, IsLacking, IsTaken, IsWanting, Uses, class_beside};
 

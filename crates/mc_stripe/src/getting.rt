@@ -3,7 +3,7 @@ ghost use Rattle.std.specs.Prelude.{◌≡◌, ◌≤◌, ◌+◌, ◌^◌, ◌�
 ghost use Rattle.std.specs.Cmp.Lexicographic.{pointwise};
 ghost use Rattle.std.specs.HashMap.{get, spare};
 ghost use Rattle.mc_item.specs.Answer.{get_row};
-ghost use Rattle.mc_item.specs.Cache.{answer_of, changed};
+ghost use Rattle.mc_item.specs.Cache.{changed};
 ghost use Rattle.mc_item.specs.Measure.{stripe_of};
 ghost use Rattle.mc_item.specs.declared.command.Command.TheVariants as commands;
 ghost use Rattle.mc_item.specs.declared.fault.Fault.TheVariants as faults;

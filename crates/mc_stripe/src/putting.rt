@@ -1,5 +1,5 @@
 //! Storage commands, from look-up to event.
-ghost use Rattle.std.specs.Prelude.{◌≡◌, ◌<◌, ◌≤◌, ◌+◌, ◌^◌, ◌↔◌, ◌≢◌, ℕ, List, true, false, IfOk, IfErr, IfSome, IfNone, OnOk, OnErr, IsErrOf, nat_eq, if◌then◌else◌, Option, Some, None, length};
+ghost use Rattle.std.specs.Prelude.{◌≡◌, ◌<◌, ◌≤◌, ◌+◌, ◌^◌, ℕ, List, true, false, IfOk, IfErr, IfSome, IfNone, OnOk, OnErr, nat_eq, if◌then◌else◌, Option, Some, None};
 ghost use Rattle.std.specs.Cmp.Lexicographic.{pointwise};
 ghost use Rattle.std.specs.HashMap.{get, spare};
 ghost use Rattle.mc_item.specs.Answer as answers;
@@ -15,14 +15,15 @@ ghost use Rattle.mc_item.specs.Stripe.{IsAlive};
 ghost use Rattle.mc_stripe.specs.Plan.{fate_of};
 ghost use Rattle.mc_stripe.specs.Putting.{added, declined_row, goes, answer_of_room, reply_of, storing_row};
 ghost use Rattle.mc_stripe.specs.declared.fate.Fate.TheVariants as fates;
-ghost use Rattle.mc_stripe.specs.Trying.{IsLeft, IsMade, Puts, Stays};
+ghost use Rattle.mc_stripe.specs.Trying.{IsLeft, IsMade, Stays};
 ghost use Rattle.mc_stripe.specs.Wanting.{IsGiven, IsWanting, Uses};
 
 use crate::changing::remove;
 use crate::fate::Fate;
-use crate::in_place::new_item;
 use crate::wanting::{Given, Want};
-use mc_item::{ClassNo, Content, Expiry, Item, Key, Link, NoMemory, Reply, Room, Site, Verb};
+use mc_item::{
+    ClassNo, Content, Expiry, Item, Key, Link, Marks, NoMemory, Reply, Room, Site, Verb,
+};
 use std::alloc::Global;
 use std::collections::HashMap;
 use std::hash::RandomState;
@@ -206,6 +207,25 @@ fn answer_in(room: Room) -> PutAnswer
         Room::At(_) => PutAnswer::Stored,
         Room::Refused { .. } | Room::Keep => PutAnswer::NoRoom,
     }
+}
+
+// A new version, where no item stands.
+#[inline(always)]
+fn new_item(site: &Site, versions: u64, content: &Content<'_>, link: Link) -> Result<Item, NoMemory>
+    requires { cas_of site.now versions < 2 ^ 64 }
+    ensures { IfOk result (λ item. item ≡ version_of site.now versions content.now.flags content.now.value.now content.now.expiry link) }
+{
+    Ok(Item {
+        flags: content.flags,
+        value: content.value.copy()?,
+        expiry: content.expiry,
+        cas: site.cas_of(versions),
+        link,
+        marks: Marks {
+            fetched: false,
+            active: false,
+        },
+    })
 }
 
 // A storage command that finds no item.

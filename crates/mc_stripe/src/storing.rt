@@ -1,6 +1,5 @@
 //! A storage command on a stripe.
 ghost use Rattle.std.specs.Prelude.{◌≡◌, ◌≤◌, ◌+◌, ◌^◌, ◌↔◌, Some, IfOk, IfErr, OnErr, IsErrOf, length};
-ghost use Rattle.mc_item.specs.Cache.{answer_of};
 ghost use Rattle.mc_item.specs.Item as items;
 ghost use Rattle.mc_item.specs.Measure.{class_of, cost_of, stripe_of};
 ghost use Rattle.mc_item.specs.Stripe.{Fits};
@@ -8,10 +7,8 @@ ghost use Rattle.mc_item.specs.declared.answer.Need.TheVariants as needs;
 ghost use Rattle.mc_item.specs.declared.fault.Fault.TheVariants as faults;
 ghost use Rattle.mc_item.specs.declared.item.ClassNo.{ClassNo as TheClass};
 ghost use Rattle.mc_item.specs.declared.reply.Room.{Room};
-ghost use Rattle.mc_stripe.specs.Putting.{reply_of};
 ghost use Rattle.mc_stripe.specs.Putting as words;
 ghost use Rattle.mc_stripe.specs.StripeCalls.{KeepsSite};
-ghost use Rattle.mc_stripe.specs.StripeState.{cache_now};
 ghost use Rattle.mc_stripe.specs.Trying.{IsDone, IsOpen};
 ghost use Rattle.mc_stripe.specs.Wanting.{IsTaken};
 

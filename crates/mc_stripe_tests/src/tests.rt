@@ -2,26 +2,23 @@
 ghost use Rattle.std.specs.Prelude.{◌<◌};
 ghost use Rattle.mc_item.specs.Config.{IsBounded};
 
-mod alone;
 mod calls;
 mod drawn_tries;
 mod histories;
 mod items;
 mod noted;
 mod plain;
-mod plans;
 mod rows;
 mod sets;
 mod table;
 mod tries;
 mod trying;
+mod unheld;
+mod wants;
 
-use mc_item::{Command, Config, Key, Numbers, StripeNo, Value, Verb, Who};
-use mc_stripe::StripeState;
+use mc_item::{Command, Config, Key, Numbers, Value, Verb, Who};
 use std::alloc::Global;
-use std::hash::RandomState;
 use std::process::Abort;
-use std::random::RandomSource;
 
 const WHO: Who = Who { caller: 0, turn: 0 };
 
@@ -46,13 +43,6 @@ fn four_stripes<R: Abort>(rt: &R, alloc: Global) -> Config {
     config.chunks = numbers(rt, alloc, &[4, 4]);
     config.max_events = 16;
     config
-}
-
-// Stripe 1 of four.
-fn stripe_one<R: Abort + RandomSource>(rt: &R, alloc: Global) -> StripeState {
-    let config = checked(rt, four_stripes(rt, alloc));
-    let seed = RandomState::new(rt).expect(rt, "a seed");
-    StripeState::new(alloc, StripeNo(1), &config, seed)
 }
 
 // The key `b`, which is of stripe 1 of 4.

@@ -1,12 +1,16 @@
-//! Which link and which room a command may be given, and whether its key's item is dead: what the calls of a stripe
-//! require, as tests that a caller can make.
-ghost use Rattle.std.specs.Prelude.{◌≡◌, ◌≢◌, IfSome, MatchBool, Some, true, false};
+//! Which room a try may be given, and whether its key's item is dead: what the calls of a stripe require, as tests that a
+//! caller can make.
+ghost use Rattle.std.specs.Prelude.{◌≡◌, ◌≢◌, MatchBool, Some, true, false};
 ghost use Rattle.mc_item.specs.Stripe.{Fits, IsAlive, IsDead, IsUnnamed, link_named};
+ghost use Rattle.mc_item.specs.declared.answer.Need.TheVariants as needs;
+ghost use Rattle.mc_item.specs.declared.item.ClassNo.{ClassNo as TheClass};
+ghost use Rattle.mc_item.specs.declared.reply.Room.{Room as TheRoom};
 ghost use Rattle.mc_stripe.specs.StripeState.{cache_now};
+ghost use Rattle.mc_stripe.specs.Wanting.{IsGiven, IsTaken};
 
 use mc_history::History;
-use mc_item::{Key, Link, Need, Room, StripeEvent};
-use mc_stripe::{Noted, StripeState};
+use mc_item::{Key, Link, Room, StripeEvent};
+use mc_stripe::{Given, Home, Noted, StripeState};
 use std::alloc::Global;
 
 // Whether an event gives the link to a new version, or can't be read without memory.
@@ -25,8 +29,8 @@ fn gives(alloc: Global, noted: &Noted, link: Link) -> bool
     }
 }
 
-/// Whether no event gives the link.
-pub fn is_unnamed(alloc: Global, events: &History<Noted>, link: Link) -> bool
+// Whether no event gives the link.
+fn is_unnamed(alloc: Global, events: &History<Noted>, link: Link) -> bool
     ensures { result ≡ true → IsUnnamed link events.now.items }
 {
     for place in 0..events.len() {
@@ -40,22 +44,24 @@ pub fn is_unnamed(alloc: Global, events: &History<Noted>, link: Link) -> bool
     true
 }
 
-/// The room for a need: where a chunk is needed, the link of this number, if no event gives it yet.
-pub fn room_for(alloc: Global, need: Need, events: &History<Noted>, number: u64) -> Option<Room>
-    ensures { IfSome result (λ room. Fits need room events.now.items) }
+// Whether a class may lend its room: the link is of the class, and no event gives it; or the class refused it.
+fn lends(alloc: Global, home: Home, events: &History<Noted>) -> bool
+    ensures { result ≡ true → IsGiven home.room → Fits (needs.Fresh home.class) home.room events.now.items }
 {
-    match need {
-        Need::Fresh(class) => {
-            let link = Link { class, number };
-            if is_unnamed(alloc, events, link) {
-                Some(Room::At(link))
-            } else {
-                None
-            }
-        }
-        Need::Nothing => Some(Room::Keep),
-        Need::Same => Some(Room::Keep),
-        Need::TooLarge => Some(Room::Keep),
+    match home.room {
+        Room::At(link) => link.class.0 == home.class.0 && is_unnamed(alloc, events, link),
+        Room::Refused { class, .. } => class.0 == home.class.0,
+        Room::Keep => true,
+    }
+}
+
+/// Whether the room that a try is given may be lent on a stripe of these events.
+pub fn may_give(alloc: Global, given: Given, events: &History<Noted>) -> bool
+    ensures { result ≡ true → (class : TheClass) (room : TheRoom) → IsTaken given (needs.Fresh class) room → Fits (needs.Fresh class) room events.now.items }
+{
+    match given.home {
+        None => true,
+        Some(home) => lends(alloc, home, events),
     }
 }
 

@@ -4,11 +4,12 @@ ghost use Rattle.mc_item.specs.Config.{IsSound, IsBounded};
 ghost use Rattle.mc_testing.specs.World.{IsWorld};
 
 use crate::commands::storage;
-use crate::links::{is_dead, room_for};
-use mc_item::{ClassNo, Command, Config, Moves, Numbers, StripeNo, Verb, Who};
+use crate::links::may_give;
+use crate::trying::try_command;
+use mc_item::{ClassNo, Command, Config, Link, Moves, Numbers, Room, StripeNo, Verb, Who};
 use mc_pull::Lone;
 use mc_segment::ClassState;
-use mc_stripe::StripeState;
+use mc_stripe::{Given, Home, Other, StripeState};
 use std::alloc::Global;
 use std::hash::RandomState;
 use std::random::RandomSource;
@@ -62,19 +63,25 @@ pub fn opened<R: RandomSource>(rt: &R, alloc: Global, config: Config) -> Result<
 
 /// Answers a command on the stripe; a new version gets the next number of the class.
 pub fn ask(world: &mut World, command: Command, moment: u64) -> Result<(), Fail> {
-    let alloc = world.alloc;
-    let stripe = &mut world.stripe;
+    let class = world.class.number();
     let number = world.class.next_number();
+    let given = Given {
+        home: Some(Home {
+            class,
+            room: Room::At(Link { class, number }),
+            places: 2,
+        }),
+        other: Some(Other { class, places: 2 }),
+    };
+    let stripe = &mut world.stripe;
     let may = moment <= 1 << 62 && stripe.owns(command.key());
-    if !may || is_dead(stripe, command.key(), moment) {
+    if !may || !may_give(world.alloc, given, stripe.history()) {
         return Err(Fail::from("no such command may be made"));
     }
-    let need = stripe.need(&command, moment);
-    let Some(room) = room_for(alloc, need, stripe.history(), number) else {
-        return Err(Fail::from("no room fits the command"));
-    };
-    stripe.apply_with(WHO, command, moment, room, false)?;
-    Ok(())
+    match try_command(stripe, &world.config, WHO, command, moment, given)? {
+        Ok(_) => Ok(()),
+        Err(_) => Err(Fail::from("the command wants more than it is given")),
+    }
 }
 
 /// Stores an item of 66 bytes under the key of one letter and links its entry.

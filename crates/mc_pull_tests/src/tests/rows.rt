@@ -1,10 +1,9 @@
 //! Tests as rows: what is done or looked at, and what it tells.
 use super::by_list::{Walked, tell_walked};
 use super::judging::{Judged, tell_judged};
-use super::making::{Made, tell_made};
 use super::seeing::{Seen, tell_seen};
 use mc_item::Config;
-use mc_testing::{WHO, World, opened, store};
+use mc_testing::{World, opened, store};
 use std::alloc::Global;
 use std::process::Abort;
 use std::random::RandomSource;
@@ -15,10 +14,6 @@ use std::test::Fail;
 pub enum Ask {
     /// An item of 66 bytes under the key of one letter and its entry, with an exptime and at a moment.
     Store(u8, i64, u64),
-    /// A refusal by the class, which is full: its place.
-    Refuse,
-    /// A command on the stripe and the class.
-    Make(Made),
     /// A walk or a round.
     Walk(Walked),
     /// A judgement.
@@ -69,24 +64,13 @@ fn told_store(world: &mut World, letter: u8, exptime: i64, moment: u64) -> Resul
     Ok(format!(in world.alloc; "stored")?)
 }
 
-fn told_refusal(world: &mut World) -> Result<String, Fail> {
-    let class = &mut world.class;
-    if class.count() < class.chunks() {
-        return Ok(format!(in world.alloc; "a chunk is free")?);
-    }
-    let place = class.refuse(WHO)?;
-    Ok(format!(in world.alloc; "{place}")?)
-}
-
 // What a row does, and what it tells.
 fn tell(world: &mut World, ask: Ask) -> Result<String, Fail> {
     match ask {
         Ask::Store(letter, exptime, moment) => told_store(world, letter, exptime, moment),
-        Ask::Refuse => told_refusal(world),
-        Ask::Make(made) => tell_made(world, made),
         Ask::Walk(walked) => tell_walked(world, walked),
         Ask::Judge(judged) => tell_judged(world, judged),
-        Ask::See(seen) => tell_seen(world, seen),
+        Ask::See(seen) => tell_seen(world.alloc, &world.class, &world.stripe, seen),
     }
 }
 

@@ -5,7 +5,7 @@ use mc_history::History;
 use mc_item::{Cause, ClassEvent, Lost, Seg, StripeEvent};
 use mc_segment::ClassState;
 use mc_stripe::StripeState;
-use mc_testing::{World, key};
+use mc_testing::key;
 use std::alloc::Global;
 use std::test::Fail;
 
@@ -14,8 +14,6 @@ use std::test::Fail;
 pub enum Seen {
     /// How many events the class and the stripe have.
     Lengths,
-    /// The class's event at a place.
-    Event(u64),
     /// The numbers of a list's entries, from its tail.
     List(Seg),
     /// When the entry of this number was last used.
@@ -29,15 +27,15 @@ pub enum Seen {
 }
 
 /// How many events the class and the stripe have.
-pub(super) fn events(world: &World) -> (usize, usize) {
-    (world.class.history().len(), world.stripe.history().len())
+pub(super) fn events(class: &ClassState, stripe: &StripeState) -> (usize, usize) {
+    (class.history().len(), stripe.history().len())
 }
 
 /// The numbers of a list's entries, from its tail.
-pub(super) fn numbers(world: &World, seg: Seg) -> Result<Vec<u64>, Fail> {
-    let mut numbers = Vec::new(world.alloc);
-    for place in 0..world.class.len(seg) {
-        if let Some(entry) = world.class.from_tail(seg, place) {
+pub(super) fn numbers(alloc: Global, class: &ClassState, seg: Seg) -> Result<Vec<u64>, Fail> {
+    let mut numbers = Vec::new(alloc);
+    for place in 0..class.len(seg) {
+        if let Some(entry) = class.from_tail(seg, place) {
             numbers.push(entry.number)?;
         }
     }
@@ -58,8 +56,8 @@ pub(super) fn event_at(alloc: Global, class: &ClassState, place: u64) -> Option<
 }
 
 /// The last event of a class, where there is one and it can be read.
-pub(super) fn last_event(world: &World) -> Option<ClassEvent> {
-    last_in(world.class.history())?.event(world.alloc).ok()
+pub(super) fn last_event(alloc: Global, class: &ClassState) -> Option<ClassEvent> {
+    last_in(class.history())?.event(alloc).ok()
 }
 
 // What an event of a class says.
@@ -111,9 +109,8 @@ fn told_item_event(alloc: Global, event: &StripeEvent) -> Result<String, Fail> {
 }
 
 // What a stripe's last event says.
-fn last_of_stripe(world: &World) -> Result<String, Fail> {
-    let alloc = world.alloc;
-    match last_in(world.stripe.history()) {
+fn last_of_stripe(alloc: Global, stripe: &StripeState) -> Result<String, Fail> {
+    match last_in(stripe.history()) {
         Some(last) => told_item_event(alloc, &last.event(alloc)?),
         None => Ok(format!(in alloc; "no event")?),
     }
@@ -145,44 +142,46 @@ pub(super) fn told_stripe(
     Ok(told)
 }
 
-fn told_lengths(world: &World) -> Result<String, Fail> {
-    let (class, stripe) = events(world);
-    Ok(format!(in world.alloc; "{class} {stripe}")?)
+fn told_lengths(alloc: Global, class: &ClassState, stripe: &StripeState) -> Result<String, Fail> {
+    let (class, stripe) = events(class, stripe);
+    Ok(format!(in alloc; "{class} {stripe}")?)
 }
 
-fn told_list(world: &World, seg: Seg) -> Result<String, Fail> {
-    let numbers = numbers(world, seg)?;
-    Ok(format!(in world.alloc; "{:?}", numbers.as_slice())?)
+fn told_list(alloc: Global, class: &ClassState, seg: Seg) -> Result<String, Fail> {
+    let numbers = numbers(alloc, class, seg)?;
+    Ok(format!(in alloc; "{:?}", numbers.as_slice())?)
 }
 
-fn told_time(world: &World, number: u64) -> Result<String, Fail> {
-    let alloc = world.alloc;
-    match world.class.entry(number) {
+fn told_time(alloc: Global, class: &ClassState, number: u64) -> Result<String, Fail> {
+    match class.entry(number) {
         Some(entry) => Ok(format!(in alloc; "{}", entry.time)?),
         None => Ok(format!(in alloc; "no entry")?),
     }
 }
 
-fn told_item(world: &World, letter: u8) -> Result<String, Fail> {
-    let key = key(world.alloc, letter)?;
-    let told = if world.stripe.find(&key).is_none() {
+fn told_item(alloc: Global, stripe: &StripeState, letter: u8) -> Result<String, Fail> {
+    let key = key(alloc, letter)?;
+    let told = if stripe.find(&key).is_none() {
         "absent"
     } else {
         "there"
     };
-    Ok(format!(in world.alloc; "{told}")?)
+    Ok(format!(in alloc; "{told}")?)
 }
 
-/// What is seen there.
-pub(super) fn tell_seen(world: &World, seen: Seen) -> Result<String, Fail> {
-    let alloc = world.alloc;
+/// What is seen of a class and its stripe.
+pub(super) fn tell_seen(
+    alloc: Global,
+    class: &ClassState,
+    stripe: &StripeState,
+    seen: Seen,
+) -> Result<String, Fail> {
     match seen {
-        Seen::Lengths => told_lengths(world),
-        Seen::Event(place) => told_if(alloc, event_at(alloc, &world.class, place)),
-        Seen::List(seg) => told_list(world, seg),
-        Seen::Time(number) => told_time(world, number),
-        Seen::Item(letter) => told_item(world, letter),
-        Seen::LastOfClass => told_if(alloc, last_event(world)),
-        Seen::LastOfStripe => last_of_stripe(world),
+        Seen::Lengths => told_lengths(alloc, class, stripe),
+        Seen::List(seg) => told_list(alloc, class, seg),
+        Seen::Time(number) => told_time(alloc, class, number),
+        Seen::Item(letter) => told_item(alloc, stripe, letter),
+        Seen::LastOfClass => told_if(alloc, last_event(alloc, class)),
+        Seen::LastOfStripe => last_of_stripe(alloc, stripe),
     }
 }

@@ -149,7 +149,7 @@ fn events_of(row: Row) -> (usize, usize) {
 
 // Whether the class's last event says why, where a row moves an entry: for bytes or age it cites the survey.
 fn is_said(world: &World, row: Row, survey: Survey) -> bool {
-    let event = last_event(world);
+    let event = last_event(world.alloc, &world.class);
     let why = match &event {
         Some(ClassEvent::Shifted(shifted)) => Some(shifted.why),
         _ => None,
@@ -205,9 +205,11 @@ fn judge_both<R: Abort>(
     survey: Survey,
 ) -> Result<(), Fail> {
     let (seg, way, row) = met;
-    let before = events(&game.world);
+    let world = &game.world;
+    let before = events(&world.class, &world.stripe);
     let judged = judge(&mut game.world, seg, mode_of(way, survey), game.moment)?;
-    let after = events(&game.world);
+    let world = &game.world;
+    let after = events(&world.class, &world.stripe);
     game.lists
         .perform(game.world.alloc, number, row, game.moment)?;
     assert_eq!(rt; judged, Some((number, done_of(row))), "at {met:?}");

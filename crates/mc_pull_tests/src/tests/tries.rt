@@ -1,29 +1,26 @@
 //! Tries of commands as rows: what each makes in its classes and its stripe, or what it wants, worked out by hand.
-use super::trying::Asked::{Delete, Get, Juggle, Refuse, Set, SetRefused};
+use super::asking::Asked::{
+    At, Bury, Decr, Delete, Get, Incr, Juggle, Refuse, See, Set, SetHuge, SetRefused, SetUntil,
+    Touch,
+};
+use super::asking::{DOES, ITEM, NONE, Row, play};
+use super::seeing::Seen::{Item, Lengths, List};
 use super::trying::Lend::{Both, Home, Nothing, Other};
-use super::trying::{Row, play};
+use mc_item::Seg::Hot;
 use std::test::Fail;
 
 // So many places as no test takes.
 const MANY: u64 = 100;
 
-// What gains no event.
-const NONE: [&str; 3] = ["", "", ""];
-
-// What gains one of the stripe alone.
-const DOES: [&str; 3] = ["", "", "[does]"];
-
 const FIRST: &str = "Classes(Classes { home: Some(ClassNo(1)), other: None })";
 
 const SECOND_OVER: &str = "Classes(Classes { home: Some(ClassNo(2)), other: Some(ClassNo(1)) })";
-
-const ITEM: &str = "Classes(Classes { home: None, other: Some(ClassNo(1)) })";
 
 const CROWDED: &str = "Place(ClassNo(1))";
 
 const MISS: Row = (Get(b'z'), Nothing, "Miss", DOES);
 
-static SETS: [Row; 8] = [
+static SETS: [Row; 10] = [
     (Set(b'a', 1), Nothing, FIRST, NONE),
     (Set(b'a', 1), Other, FIRST, NONE),
     (Set(b'a', 1), Home, "Stored", ["[links 0]", "", "[does]"]),
@@ -33,6 +30,8 @@ static SETS: [Row; 8] = [
         "Stored",
         ["[links 1][unlinks 0]", "", "[does]"],
     ),
+    (See(Lengths), Nothing, "3 2", NONE),
+    (See(List(Hot)), Nothing, "[1]", NONE),
     (Set(b'a', 60), Nothing, SECOND_OVER, NONE),
     (Set(b'a', 60), Home, SECOND_OVER, NONE),
     (
@@ -46,10 +45,10 @@ static SETS: [Row; 8] = [
 
 #[test]
 fn a_set_makes_its_part_in_each_class_that_it_wants(rt: HostRuntime) -> Result<(), Fail> {
-    play(&rt, rt.alloc(), 4, MANY, SETS.as_slice())
+    play(&rt, rt.alloc(), 4, MANY, &[SETS.as_slice()])
 }
 
-static DELETES: [Row; 5] = [
+static DELETES: [Row; 6] = [
     (Set(b'a', 1), Home, "Stored", ["[links 0]", "", "[does]"]),
     (Delete(b'a'), Nothing, ITEM, NONE),
     (Delete(b'a'), Home, ITEM, NONE),
@@ -59,27 +58,31 @@ static DELETES: [Row; 5] = [
         "Deleted",
         ["[unlinks 0]", "", "[does]"],
     ),
+    (See(Lengths), Nothing, "2 2", NONE),
     (Delete(b'a'), Nothing, "NotFound", DOES),
 ];
 
 #[test]
 fn a_delete_wants_the_class_of_its_item(rt: HostRuntime) -> Result<(), Fail> {
-    play(&rt, rt.alloc(), 4, MANY, DELETES.as_slice())
+    play(&rt, rt.alloc(), 4, MANY, &[DELETES.as_slice()])
 }
 
 // A refusal counts only while the class is full.
-static FULL: [Row; 7] = [
+static FULL: [Row; 10] = [
     (Set(b'a', 1), Home, "Stored", ["[links 0]", "", "[does]"]),
     (Set(b'b', 1), Home, "Room", NONE),
     (Set(b'a', 1), Home, "Room", NONE),
     (Refuse, Nothing, "refused at 1", ["[refuses]", "", ""]),
     (SetRefused(b'b', 1), Home, "NoRoom", DOES),
+    (See(Lengths), Nothing, "2 2", NONE),
     (
         SetRefused(b'a', 1),
         Home,
         "NoRoom",
         ["[unlinks 0]", "", "[does]"],
     ),
+    (See(Lengths), Nothing, "3 3", NONE),
+    (See(Item(b'a')), Nothing, "absent", NONE),
     (
         SetRefused(b'b', 1),
         Home,
@@ -90,7 +93,7 @@ static FULL: [Row; 7] = [
 
 #[test]
 fn a_full_class_wants_room_or_a_refusal(rt: HostRuntime) -> Result<(), Fail> {
-    play(&rt, rt.alloc(), 1, MANY, FULL.as_slice())
+    play(&rt, rt.alloc(), 1, MANY, &[FULL.as_slice()])
 }
 
 // One item alone is more than the share of HOT, so it goes to COLD; the one that comes then stays in HOT.
@@ -127,11 +130,11 @@ static HITS: [Row; 10] = [
 
 #[test]
 fn a_hit_that_wakes_an_item_moves_its_entry_out_of_cold(rt: HostRuntime) -> Result<(), Fail> {
-    play(&rt, rt.alloc(), 4, MANY, HITS.as_slice())
+    play(&rt, rt.alloc(), 4, MANY, &[HITS.as_slice()])
 }
 
 // The class has one place left after eight sets, and then none.
-static CROWDED_CLASS: [Row; 12] = [
+static CROWDED_CLASS: [Row; 14] = [
     (Set(b'a', 1), Home, "Stored", ["[links 0]", "", "[does]"]),
     (
         Set(b'a', 1),
@@ -175,7 +178,9 @@ static CROWDED_CLASS: [Row; 12] = [
         "Stored",
         ["[links 7][unlinks 6]", "", "[does]"],
     ),
+    (See(Lengths), Nothing, "15 8", NONE),
     (Set(b'a', 1), Home, CROWDED, NONE),
+    (See(Lengths), Nothing, "15 8", NONE),
     (Set(b'b', 1), Home, "Stored", ["[links 8]", "", "[does]"]),
     (Set(b'c', 1), Home, CROWDED, NONE),
     (Delete(b'a'), Other, CROWDED, NONE),
@@ -183,7 +188,7 @@ static CROWDED_CLASS: [Row; 12] = [
 
 #[test]
 fn a_set_over_an_item_wants_two_places_of_its_class(rt: HostRuntime) -> Result<(), Fail> {
-    play(&rt, rt.alloc(), 4, 16, CROWDED_CLASS.as_slice())
+    play(&rt, rt.alloc(), 4, 16, &[CROWDED_CLASS.as_slice()])
 }
 
 // The stripe has one place left after 15 commands, and then none.
@@ -220,5 +225,138 @@ static CROWDED_STRIPE: [Row; 19] = [
 
 #[test]
 fn a_hit_in_cold_needs_two_places_of_its_stripe(rt: HostRuntime) -> Result<(), Fail> {
-    play(&rt, rt.alloc(), 4, 16, CROWDED_STRIPE.as_slice())
+    play(&rt, rt.alloc(), 4, 16, &[CROWDED_STRIPE.as_slice()])
+}
+
+const BURIAL: &str = "Burial(Link { class: ClassNo(1), number: 0 })";
+
+static OVER_THE_DEAD: [Row; 9] = [
+    (
+        SetUntil(b'a', 5),
+        Home,
+        "Stored",
+        ["[links 0]", "", "[does]"],
+    ),
+    (At(1005), Nothing, "", NONE),
+    (Set(b'a', 1), Home, BURIAL, NONE),
+    (See(Lengths), Nothing, "1 1", NONE),
+    (At(1004), Nothing, "", NONE),
+    (Bury(0), Nothing, "Alive(At(1005))", NONE),
+    (
+        Set(b'a', 1),
+        Home,
+        "Stored",
+        ["[links 1][unlinks 0]", "", "[does]"],
+    ),
+    (See(Lengths), Nothing, "3 2", NONE),
+    (See(List(Hot)), Nothing, "[1]", NONE),
+];
+
+#[test]
+fn a_set_over_a_dead_item_wants_its_burial(rt: HostRuntime) -> Result<(), Fail> {
+    play(&rt, rt.alloc(), 4, MANY, &[OVER_THE_DEAD.as_slice()])
+}
+
+static BURIED: [Row; 7] = [
+    (
+        SetUntil(b'a', 5),
+        Home,
+        "Stored",
+        ["[links 0]", "", "[does]"],
+    ),
+    (At(1005), Nothing, "", NONE),
+    (Get(b'a'), Nothing, BURIAL, NONE),
+    (Delete(b'a'), Other, BURIAL, NONE),
+    (
+        Bury(0),
+        Nothing,
+        "Reclaimed",
+        ["[reclaims 0 at 1]", "", "[loses [97] dead at 1005]"],
+    ),
+    (Get(b'a'), Nothing, "Miss", DOES),
+    (Set(b'a', 1), Home, "Stored", ["[links 1]", "", "[does]"]),
+];
+
+#[test]
+fn after_its_burial_a_dead_item_is_absent(rt: HostRuntime) -> Result<(), Fail> {
+    play(&rt, rt.alloc(), 4, MANY, &[BURIED.as_slice()])
+}
+
+// A longer number is a new version, a shorter one is padded where it stands.
+static COUNTS: [Row; 6] = [
+    (Set(b'1', 1), Home, "Stored", ["[links 0]", "", "[does]"]),
+    (Incr(b'1', 9), Nothing, FIRST, NONE),
+    (
+        Incr(b'1', 9),
+        Home,
+        "Number(10)",
+        ["[links 1][unlinks 0]", "", "[does]"],
+    ),
+    (Decr(b'1', 5), Nothing, "Number(5)", DOES),
+    (Set(b'a', 1), Home, "Stored", ["[links 2]", "", "[does]"]),
+    (Incr(b'a', 1), Nothing, "NonNumeric", DOES),
+];
+
+#[test]
+fn a_longer_number_wants_the_class_of_its_version(rt: HostRuntime) -> Result<(), Fail> {
+    play(&rt, rt.alloc(), 4, MANY, &[COUNTS.as_slice()])
+}
+
+// A touch wakes an item as a get does.
+static TOUCHES: [Row; 6] = [
+    (Set(b'a', 1), Home, "Stored", ["[links 0]", "", "[does]"]),
+    (
+        Juggle,
+        Nothing,
+        "1 moved",
+        [
+            "[surveys][moves 0 from Hot to Cold for Over(1) past [] at 1]",
+            "",
+            "",
+        ],
+    ),
+    (Touch(b'a'), Nothing, "Touched", DOES),
+    (Touch(b'a'), Nothing, ITEM, NONE),
+    (
+        Touch(b'a'),
+        Other,
+        "Touched",
+        [
+            "[moves 0 from Cold to Warm for Hit past [] at 3]",
+            "",
+            "[does][cools [97]]",
+        ],
+    ),
+    (Touch(b'z'), Nothing, "NotFound", DOES),
+];
+
+#[test]
+fn a_touch_that_wakes_an_item_moves_its_entry_out_of_cold(rt: HostRuntime) -> Result<(), Fail> {
+    play(&rt, rt.alloc(), 4, MANY, &[TOUCHES.as_slice()])
+}
+
+// With 128 letters an item has 193 bytes, one more than the largest chunk.
+static TOO_LARGE: [Row; 7] = [
+    (SetHuge(b'a'), Nothing, "TooLarge", DOES),
+    (Set(b'a', 128), Nothing, "TooLarge", DOES),
+    (Set(b'a', 1), Home, "Stored", ["[links 0]", "", "[does]"]),
+    (SetHuge(b'a'), Nothing, ITEM, NONE),
+    (
+        SetHuge(b'a'),
+        Other,
+        "TooLarge",
+        ["[unlinks 0]", "", "[does]"],
+    ),
+    (See(Item(b'a')), Nothing, "absent", NONE),
+    (
+        Set(b'a', 127),
+        Nothing,
+        "Classes(Classes { home: Some(ClassNo(2)), other: None })",
+        NONE,
+    ),
+];
+
+#[test]
+fn a_set_that_is_too_large_ends_the_entry_of_its_item(rt: HostRuntime) -> Result<(), Fail> {
+    play(&rt, rt.alloc(), 4, MANY, &[TOO_LARGE.as_slice()])
 }

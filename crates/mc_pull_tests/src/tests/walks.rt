@@ -225,7 +225,7 @@ fn check_pull<R: Abort>(rt: &R, world: &mut World, digits: u32) -> Result<(), Fa
     let yes = pattern(digits);
     let pulled = pull(world, 1001, &yes)?.expect(rt, "a walk");
     let rest = with_answer(world.alloc, yes, false)?;
-    let cold = numbers(world, Cold)?;
+    let cold = numbers(world.alloc, &world.class, Cold)?;
     let passed = rest.len() as u64;
     let wanted = (5_u64.saturating_sub(passed), passed);
     assert_eq!(rt; (pulled.reclaimed, pulled.passed), wanted, "at {digits}");

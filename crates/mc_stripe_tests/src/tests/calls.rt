@@ -1,44 +1,20 @@
 //! Calls of a stripe and what they tell. Where what a call requires doesn't hold, the test ends.
-ghost use Rattle.std.specs.Prelude.{◌≡◌, ◌<◌, ◌≤◌, ◌^◌, IfSome, IsSomeAnd, true};
-ghost use Rattle.mc_item.specs.Answer.{row_of};
+ghost use Rattle.std.specs.Prelude.{◌≡◌, ◌<◌, ◌≤◌, ◌^◌, IsSomeAnd, true};
 ghost use Rattle.mc_item.specs.Command.{key_of};
 ghost use Rattle.mc_item.specs.Measure.{stripe_of};
-ghost use Rattle.mc_item.specs.Stripe.{Fits, IsAlive, IsDead};
-ghost use Rattle.mc_item.specs.declared.answer.Need.TheVariants as needs;
-ghost use Rattle.mc_item.specs.declared.reply.Room.TheVariants as rooms;
+ghost use Rattle.mc_item.specs.Stripe.{IsDead};
 ghost use Rattle.mc_stripe.specs.StripeCalls.{KeepsSite};
 ghost use Rattle.mc_stripe.specs.StripeState.{cache_now};
 
 use super::noted::told_noted;
-use super::plain::{agreed, plain, reply_text, text, texts_of};
-use super::{Asked, WHO, b, command_of, value};
-use mc_history::History;
-use mc_item::{ClassNo, Command, Fault, Key, Link, Reply, Verb, Who};
-use mc_stripe::{GivenBack, Need, Noted, Room, StripeState};
-use mc_testing::{is_dead, is_unnamed, room_for};
+use super::plain::{classes_of, reply_text, text};
+use super::trying::{Held, Lent, Tried, held_for, told_try, want_text, woken};
+use super::{Asked, WHO, b, command_of};
+use mc_item::{ClassNo, Command, Fault, Key, Link, Verb, Who};
+use mc_stripe::{Done, Fate, Given, Other, StripeState, Want};
+use mc_testing::is_dead;
 use std::alloc::Global;
 use std::process::Abort;
-
-// A refusal, which the event at place 77 says.
-fn refusal(need: Need, events: &History<Noted>) -> Option<Room>
-    ensures { IfSome result (λ room. Fits need room events.now.items) }
-{
-    match need {
-        Need::Fresh(class) => Some(Room::Refused { class, place: 77 }),
-        _ => None,
-    }
-}
-
-// The room for a need: a link that has the number of its event; where the class is full, a refusal.
-fn room_in(alloc: Global, need: Need, events: &History<Noted>, full: bool) -> Option<Room>
-    ensures { IfSome result (λ room. Fits need room events.now.items) }
-{
-    if full {
-        refusal(need, events)
-    } else {
-        room_for(alloc, need, events, events.len() as u64)
-    }
-}
 
 /// The test goes on where the command may be asked at this moment.
 pub(super) fn asserts_owned<R: Abort>(rt: &R, stripe: &StripeState, command: &Command, moment: u64)
@@ -49,56 +25,22 @@ pub(super) fn asserts_owned<R: Abort>(rt: &R, stripe: &StripeState, command: &Co
     assert!(rt; stripe.owns(command.key()));
 }
 
-// The room of a command, which may be asked at this moment.
-fn room_of<R: Abort>(
-    rt: &R,
-    alloc: Global,
-    stripe: &StripeState,
-    command: &Command,
-    moment: u64,
-    full: bool,
-) -> Room
-    ensures moment { moment ≤ 2 ^ 62 }
-    ensures stripe { stripe_of (key_of command.now) stripe.now.site.stripes ≡ record { 0 = stripe.now.site.stripe } }
-    ensures alive { IsAlive ((cache_now stripe.now).items (key_of command.now)) moment }
-    ensures fits { Fits (row_of stripe.now.site (cache_now stripe.now).versions ((cache_now stripe.now).items (key_of command.now)) command.now moment).need result stripe.now.history }
-{
-    asserts_owned(rt, stripe, command, moment);
-    assert!(rt; !is_dead(stripe, command.key(), moment));
-    let need = stripe.need(command, moment);
-    room_in(alloc, need, stripe.history(), full).expect(rt, "a room")
-}
-
-/// The reply at the moment 1000, on which the stripe and the plain program of the table agree, as on the item that is left.
-pub(super) fn told_answer<R: Abort>(
-    rt: &R,
-    alloc: Global,
-    stripe: &mut StripeState,
-    asked: Asked,
-    full: bool,
-) -> String {
-    let command = command_of(rt, alloc, asked);
-    let room = room_of(rt, alloc, stripe, &command, 1000, full);
-    let plain = plain(rt, alloc, stripe, &command, 1000, room);
-    let reply = stripe.apply(WHO, command, 1000, room).expect(rt, "a reply");
-    let told = texts_of(rt, alloc, stripe, &reply);
-    agreed(rt, alloc, &told, &plain)
-}
-
-/// The reply to a caller's command, or the fault.
+/// The reply to a caller's command, which is given all that it may want; or what is wanted, or the fault. A class gives the
+/// link that has the number of the event; where it is full, a refusal.
 pub(super) fn told_reply<R: Abort>(
     rt: &R,
     alloc: Global,
-    stripe: &mut StripeState,
+    tried: &mut Tried,
     who: Who,
     asked: Asked,
     moment: u64,
     full: bool,
 ) -> String {
-    let command = command_of(rt, alloc, asked);
-    let room = room_of(rt, alloc, stripe, &command, moment, full);
-    match stripe.apply(who, command, moment, room) {
-        Ok(reply) => reply_text(rt, alloc, &reply),
+    let lent = if full { Lent::Refusal } else { Lent::Link };
+    let held = held_for(rt, alloc, tried, asked, lent);
+    match told_try(rt, alloc, tried, who, asked, moment, held) {
+        Ok(Ok(done)) => reply_text(rt, alloc, &done.reply),
+        Ok(Err(want)) => want_text(rt, alloc, want),
         Err(fault) => fault_text(rt, alloc, fault),
     }
 }
@@ -117,15 +59,6 @@ pub(super) fn told_last<R: Abort>(rt: &R, alloc: Global, stripe: &StripeState) -
     }
 }
 
-// The copy of a reply, which is the one that the last event notes; else what both say.
-fn copied<R: Abort>(rt: &R, alloc: Global, copy: &str, last: &str) -> String {
-    if copy == last {
-        text(rt, alloc, copy)
-    } else {
-        format!(in alloc; "{copy}, noted {last}").expect(rt, "a text")
-    }
-}
-
 // A link's text, where there is one.
 fn link_text<R: Abort>(rt: &R, alloc: Global, link: Option<Link>) -> String {
     match link {
@@ -136,127 +69,72 @@ fn link_text<R: Abort>(rt: &R, alloc: Global, link: Option<Link>) -> String {
     }
 }
 
-// What an answer of the stripe alone says, after which the history has this last reply.
-fn alone_text<R: Abort>(
+// What the try of a command that is given nothing tells, after which the history has this last reply.
+fn unheld_text<R: Abort>(
     rt: &R,
     alloc: Global,
-    answered: &Result<Result<Option<Reply>, GivenBack>, Fault>,
+    told: &Result<Result<Done, Want>, Fault>,
     last: &str,
 ) -> String {
-    match answered {
-        Ok(Ok(Some(copy))) => copied(rt, alloc, reply_text(rt, alloc, copy).as_str(), last),
-        Ok(Ok(None)) => text(rt, alloc, "no copy"),
+    match told {
+        Ok(Ok(done)) => reply_text(rt, alloc, &done.reply),
         Ok(Err(_)) => format!(in alloc; "given back after {last}").expect(rt, "a text"),
         Err(fault) => fault_text(rt, alloc, *fault),
     }
 }
 
-// The link that the stripe tells where it gives a command back.
-fn touched_text<R: Abort>(
+/// The reply to a command that is given nothing; or that it was given back, and the last reply; or the fault.
+pub(super) fn told_unheld<R: Abort>(
     rt: &R,
     alloc: Global,
-    answered: &Result<Result<Option<Reply>, GivenBack>, Fault>,
-) -> String {
-    match answered {
-        Ok(Ok(_)) => text(rt, alloc, "answered"),
-        Ok(Err(given)) => link_text(rt, alloc, given.link),
-        Err(fault) => fault_text(rt, alloc, *fault),
-    }
-}
-
-// The link or the reply that an answer of the stripe alone tells.
-fn told_by<R: Abort>(
-    rt: &R,
-    alloc: Global,
-    stripe: &StripeState,
-    answered: &Result<Result<Option<Reply>, GivenBack>, Fault>,
-    link: bool,
-) -> String {
-    if link {
-        touched_text(rt, alloc, answered)
-    } else {
-        alone_text(rt, alloc, answered, told_last(rt, alloc, stripe).as_str())
-    }
-}
-
-/// The reply that the stripe alone gives, where it stands in the history; or that it gave the command back, and the last
-/// reply; or the fault. Where the link is asked for, no copy of the reply is, and the link that is told is.
-pub(super) fn told_alone<R: Abort>(
-    rt: &R,
-    alloc: Global,
-    stripe: &mut StripeState,
+    tried: &mut Tried,
     asked: Asked,
     moment: u64,
-    link: bool,
 ) -> String {
-    let command = command_of(rt, alloc, asked);
-    asserts_owned(rt, stripe, &command, moment);
-    let answered = stripe.answer(WHO, command, moment, !link);
-    told_by(rt, alloc, stripe, &answered, link)
+    let told = told_try(rt, alloc, tried, WHO, asked, moment, Held::Nothing);
+    let last = told_last(rt, alloc, &tried.stripe);
+    unheld_text(rt, alloc, &told, last.as_str())
 }
 
-fn class_of(need: Need) -> Option<ClassNo>
-    ensures { IfSome result (λ class. need ≡ needs.Fresh class) }
-{
-    match need {
-        Need::Fresh(class) => Some(class),
-        _ => None,
+/// The link of the item that a hit at a moment would wake.
+pub(super) fn told_woken<R: Abort>(rt: &R, alloc: Global, tried: &Tried, moment: u64) -> String {
+    link_text(rt, alloc, woken(rt, alloc, tried, moment))
+}
+
+// The link of the item that a new version replaced.
+fn replaced(fate: Fate) -> Option<Link> {
+    match fate {
+        Fate::Renewed { old, .. } => old,
+        Fate::Untouched | Fate::Goes(_) | Fate::Woken(_) => None,
     }
 }
 
-// The link for a command, which may be asked at this moment: of its class, with the number of its event.
-fn link_of<R: Abort>(
-    rt: &R,
-    alloc: Global,
-    stripe: &StripeState,
-    command: &Command,
-    moment: u64,
-) -> Link
-    ensures moment { moment ≤ 2 ^ 62 }
-    ensures stripe { stripe_of (key_of command.now) stripe.now.site.stripes ≡ record { 0 = stripe.now.site.stripe } }
-    ensures fits { Fits (row_of stripe.now.site (cache_now stripe.now).versions ((cache_now stripe.now).items (key_of command.now)) command.now moment).need (rooms.At result) stripe.now.history }
-{
-    asserts_owned(rt, stripe, command, moment);
-    let class = class_of(stripe.need(command, moment)).expect(rt, "a class");
-    let number = stripe.history().len() as u64;
-    let link = Link { class, number };
-    assert!(rt; is_unnamed(alloc, stripe.history(), link));
-    link
-}
-
-// What comes of a set by the quick way.
-fn set_text<R: Abort>(
-    rt: &R,
-    alloc: Global,
-    set: &Result<Result<Option<Link>, Command>, Fault>,
-) -> String {
-    match set {
-        Ok(Ok(old)) => link_text(rt, alloc, *old),
+// What comes of a set.
+fn set_text<R: Abort>(rt: &R, alloc: Global, told: &Result<Result<Done, Want>, Fault>) -> String {
+    match told {
+        Ok(Ok(done)) => link_text(rt, alloc, replaced(done.fate)),
         Ok(Err(_)) => text(rt, alloc, "given back"),
         Err(fault) => fault_text(rt, alloc, *fault),
     }
 }
 
-/// Sets the key `b` to a text by the quick way, at a link of its class that has the number of its event. Tells the link
-/// that was replaced, or that the command was given back; or the fault.
+/// Sets the key `b` to a text, where just the class of the new version is held, which gives the link that has the number of
+/// the event. Tells the link that was replaced, or that the command was given back; or the fault.
 pub(super) fn told_set<R: Abort>(
     rt: &R,
     alloc: Global,
-    stripe: &mut StripeState,
-    set: &str,
+    tried: &mut Tried,
+    set: &'static str,
     moment: u64,
 ) -> String {
-    let value = value(rt, alloc, set);
-    let command = Command::Store {
-        verb: Verb::Set,
-        key: b(rt, alloc),
-        flags: 7,
-        exptime: 0,
-        value,
-    };
-    let link = link_of(rt, alloc, stripe, &command, moment);
-    let set = stripe.set(WHO, command, moment, link);
-    set_text(rt, alloc, &set)
+    let asked = Asked::Store(Verb::Set, set);
+    let command = command_of(rt, alloc, asked);
+    let class = classes_of(&tried.stripe, &command)
+        .home
+        .expect(rt, "a class");
+    let held = Held::Home(class.0, Lent::Link, 2);
+    let told = told_try(rt, alloc, tried, WHO, asked, moment, held);
+    set_text(rt, alloc, &told)
 }
 
 // Whether the key's item has the mark ACTIVE.
@@ -277,7 +155,9 @@ fn asserts_active<R: Abort>(rt: &R, stripe: &StripeState, key: &Key)
 }
 
 /// The mark ACTIVE of the item under the key `b` is cleared.
-pub(super) fn cool<R: Abort>(rt: &R, alloc: Global, stripe: &mut StripeState, who: Who) {
+pub(super) fn cool<R: Abort>(rt: &R, alloc: Global, stripe: &mut StripeState, who: Who)
+    ensures { KeepsSite stripe.old stripe.new }
+{
     let key = b(rt, alloc);
     asserts_active(rt, stripe, &key);
     stripe.cool(who, key).expect(rt, "a cooled item");
@@ -301,13 +181,9 @@ fn asserts_first<R: Abort>(rt: &R, stripe: &StripeState, key: &Key)
 }
 
 /// The item under the key `b`, which has a chunk of class 1, goes since its chunk was taken, by the event at this place.
-pub(super) fn take<R: Abort>(
-    rt: &R,
-    alloc: Global,
-    stripe: &mut StripeState,
-    who: Who,
-    place: u64,
-) {
+pub(super) fn take<R: Abort>(rt: &R, alloc: Global, stripe: &mut StripeState, who: Who, place: u64)
+    ensures { KeepsSite stripe.old stripe.new }
+{
     let key = b(rt, alloc);
     asserts_first(rt, stripe, &key);
     stripe
@@ -343,6 +219,7 @@ pub(super) fn expire<R: Abort>(
 fn cool_in_room(stripe: &mut StripeState, key: Key) -> &'static str
     requires active { IsSomeAnd ((cache_now stripe.old).items key) (λ item. item.marks.active ≡ true) }
     requires room { 0 < stripe.old.room }
+    ensures { KeepsSite stripe.old stripe.new }
 {
     match stripe.cool(WHO, key) {
         Ok(()) => "cooled",
@@ -351,18 +228,26 @@ fn cool_in_room(stripe: &mut StripeState, key: Key) -> &'static str
     }
 }
 
-/// Answers a get of the key `b` and clears the mark that it leaves, with room that was made for both before: the
-/// second call can't be refused for want of memory.
+/// Makes a get of the key `b`, which wakes its item of class 1, and clears the mark that it leaves, with room that was made
+/// for both before: the second call can't be refused for want of memory.
 pub(super) fn cools_without_memory<R: Abort>(
     rt: &R,
     alloc: Global,
     stripe: &mut StripeState,
-) -> &'static str {
-    let command = command_of(rt, alloc, Asked::Get);
-    let key = b(rt, alloc);
+) -> &'static str
+    ensures { KeepsSite stripe.old stripe.new }
+{
+    let (key, asked) = (b(rt, alloc), b(rt, alloc));
+    let given = Given {
+        home: None,
+        other: Some(Other {
+            class: ClassNo(1),
+            places: 0,
+        }),
+    };
     stripe.reserve(2).expect(rt, "room");
-    let room = room_of(rt, alloc, stripe, &command, 1000, false);
-    let _reply = stripe.apply(WHO, command, 1000, room).expect(rt, "a reply");
+    assert!(rt; stripe.owns(&asked));
+    let _told = stripe.get(WHO, asked, 1000, given).expect(rt, "a reply");
     asserts_active(rt, stripe, &key);
     cool_in_room(stripe, key)
 }

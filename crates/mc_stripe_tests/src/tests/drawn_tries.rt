@@ -1,10 +1,11 @@
-//! Commands that are drawn one after another, on two stripes: a command is given what its tries want, and no more, until it
-//! is made, and each try is held against the other calls.
-use super::Asked;
+//! Commands that are drawn one after another: a command is given what its tries want, and no more, until it is made, and
+//! each try is held against the plain program of the table.
 use super::Asked::{Decr, Delete, Get, Huge, Incr, Store, StoreUntil, Touch};
-use super::trying::{Held, Lent, Pair, both, bury, told_try};
+use super::calls::expire;
+use super::trying::{Held, Lent, Tried, held_of, opened, told_try};
+use super::{Asked, WHO};
 use mc_item::Verb;
-use mc_stripe::{Classes, Want};
+use mc_stripe::Want;
 use mc_testing::Dice;
 use std::alloc::Global;
 use std::process::Abort;
@@ -32,16 +33,6 @@ static ASKS: [Asked; 20] = [
     Huge(Verb::Set),
     Huge(Verb::Add),
 ];
-
-// What is held where these classes were wanted.
-fn held_of(classes: Classes) -> Held {
-    match (classes.home, classes.other) {
-        (Some(home), Some(other)) => Held::Both(home.0, Lent::Nothing, 0, other.0, 0),
-        (Some(home), None) => Held::Home(home.0, Lent::Nothing, 0),
-        (None, Some(other)) => Held::Other(other.0, 0),
-        (None, None) => Held::Nothing,
-    }
-}
 
 // What is held where a room was wanted, too.
 fn with_room(held: Held, lent: Lent) -> Held {
@@ -74,7 +65,7 @@ fn with_place(held: Held, wanted: u32) -> Held {
 fn held_with(held: Held, want: Want, lent: Lent) -> Held {
     match want {
         Want::Burial(_) => held,
-        Want::Classes(classes) => held_of(classes),
+        Want::Classes(classes) => held_of(classes, Lent::Nothing, 0),
         Want::Room => with_room(held, lent),
         Want::Place(class) => with_place(held, class.0),
     }
@@ -84,18 +75,18 @@ fn held_with(held: Held, want: Want, lent: Lent) -> Held {
 fn makes<R: Abort>(
     rt: &R,
     alloc: Global,
-    both: &mut Pair,
+    tried: &mut Tried,
     asked: Asked,
     moment: u64,
     lent: Lent,
 ) -> bool {
     let mut held = Held::Nothing;
     for _ in 0..7 {
-        match told_try(rt, alloc, both, asked, moment, held) {
+        match told_try(rt, alloc, tried, WHO, asked, moment, held) {
             Ok(Ok(_)) => return true,
             Ok(Err(want)) => {
                 if let Want::Burial(_) = want {
-                    bury(rt, alloc, both, moment);
+                    expire(rt, alloc, &mut tried.stripe, WHO, moment);
                 }
                 held = held_with(held, want, lent);
             }
@@ -118,16 +109,16 @@ fn drawn(dice: &mut Dice) -> (Asked, Lent) {
 // Ends the test where a command that is drawn by this seed isn't made. Each takes two events at most.
 fn play<R: Abort + RandomSource>(rt: &R, alloc: Global, seed: u64) {
     let mut dice = Dice::new(seed);
-    let mut both = both(rt, alloc);
+    let mut tried = opened(rt, alloc);
     let mut moment = 1000u64;
     for _ in 0..15 {
-        if both.events() > 14 {
+        if tried.events() > 14 {
             return;
         }
         let (asked, lent) = drawn(&mut dice);
         moment = u64::min(moment.saturating_add(dice.below(2)), 2000);
         assert!(rt;
-            makes(rt, alloc, &mut both, asked, moment, lent),
+            makes(rt, alloc, &mut tried, asked, moment, lent),
             "by seed {seed}"
         );
     }

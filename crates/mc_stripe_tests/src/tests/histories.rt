@@ -1,6 +1,8 @@
 //! What stands in a history, how many events it holds, and which keys are of a stripe.
 use super::Asked::{Get, Store, Touch};
-use super::rows::Ask::{Alone, Answer, Cool, Events, Last, Misses, Owns, Reserve, Turn};
+use super::rows::Ask::{
+    Answer, Cool, Events, GetAndCool, Last, Misses, Number, Owns, Reserve, Turn, Unheld,
+};
 use super::rows::{Row, play};
 use mc_item::Verb;
 
@@ -13,12 +15,12 @@ static STANDING: [Row; 13] = [
     (Last, "none"),
     (Answer(Store(Verb::Set, "5")), "Stored"),
     (Last, "Stored"),
-    (Alone(Touch(100), 1000), "Touched"),
+    (Unheld(Touch(100), 1000), "Touched"),
     (Last, "Touched"),
     (Answer(Get), FIVE),
-    (Alone(Get, 1000), FIVE),
+    (Unheld(Get, 1000), FIVE),
     (Last, FIVE),
-    (Alone(Get, 1100), AFTER_FIVE),
+    (Unheld(Get, 1100), AFTER_FIVE),
     (Events, "4"),
     (Last, FIVE),
     (Cool(1), "cooled"),
@@ -55,4 +57,20 @@ static OWNED: [Row; 3] = [
 #[test]
 fn a_stripe_owns_the_keys_of_its_number(rt: HostRuntime) {
     play(&rt, rt.alloc(), OWNED.as_slice());
+}
+
+static ROOM_BEFORE: [Row; 5] = [
+    (Number, "1"),
+    (Answer(Store(Verb::Set, "9")), "Stored"),
+    (
+        Answer(Get),
+        "Value { flags: 7, value: Value { bytes: [57] }, cas: 2 }",
+    ),
+    (GetAndCool, "cooled"),
+    (Events, "4"),
+];
+
+#[test]
+fn a_hit_and_its_cooling_find_room_made_before(rt: HostRuntime) {
+    play(&rt, rt.alloc(), ROOM_BEFORE.as_slice());
 }

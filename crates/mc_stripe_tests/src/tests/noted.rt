@@ -8,7 +8,8 @@ use mc_stripe::{Noted, StripeState};
 use std::alloc::Global;
 use std::process::Abort;
 
-fn did_text<R: Abort>(rt: &R, alloc: Global, did: &Did) -> String {
+/// The event of a command, in short.
+pub(super) fn did_text<R: Abort>(rt: &R, alloc: Global, did: &Did) -> String {
     format!(in alloc;
         "caller {}, turn {}, moment {}: {:?}; {:?}; {:?}",
         did.who.caller, did.who.turn, did.moment, did.command, did.reply, did.room

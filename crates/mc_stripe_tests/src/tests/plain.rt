@@ -1,11 +1,14 @@
 //! The plain program of the table of commands, for stripe 1 of 4, beside which a stripe is held; and texts.
-ghost use Rattle.std.specs.Prelude.{◌≤◌, ◌^◌};
+ghost use Rattle.std.specs.Prelude.{◌≡◌, ◌≤◌, ◌^◌};
 
 use super::b;
 use super::noted::told_noted;
 use mc_history::History;
-use mc_item::{Answer, Change, ClassSizes, Command, Expiry, Item, Marks, Reply, Room, Site, Value};
-use mc_stripe::{Noted, StripeState};
+use mc_item::{
+    Answer, Change, ClassNo, ClassSizes, Command, Did, Expiry, Item, Marks, Need, Reply, Room,
+    Site, Value, Who, cost,
+};
+use mc_stripe::{Classes, Fate, Given, Noted, StripeState};
 use std::alloc::Global;
 use std::process::Abort;
 
@@ -31,40 +34,6 @@ pub(super) fn told_item<R: Abort>(rt: &R, alloc: Global, stripe: &StripeState) -
 /// A reply's text.
 pub(super) fn reply_text<R: Abort>(rt: &R, alloc: Global, reply: &Reply) -> String {
     format!(in alloc; "{reply:?}").expect(rt, "a text")
-}
-
-/// The texts of a reply and of the item that is left.
-#[derive(Drop)]
-pub(super) struct Texts {
-    reply: String,
-    left: String,
-}
-
-/// The texts of a reply and of the item that a stripe has then.
-pub(super) fn texts_of<R: Abort>(
-    rt: &R,
-    alloc: Global,
-    stripe: &StripeState,
-    reply: &Reply,
-) -> Texts {
-    Texts {
-        reply: reply_text(rt, alloc, reply),
-        left: told_item(rt, alloc, stripe),
-    }
-}
-
-/// The reply where a stripe and the plain program agree on it and on the item that is left; else what both say.
-pub(super) fn agreed<R: Abort>(rt: &R, alloc: Global, told: &Texts, plain: &Texts) -> String {
-    let (reply, left) = (told.reply.as_str(), told.left.as_str());
-    if reply == plain.reply.as_str() && left == plain.left.as_str() {
-        text(rt, alloc, reply)
-    } else {
-        format!(in alloc;
-            "{reply} and {left}, plainly {} and {}",
-            plain.reply, plain.left
-        )
-        .expect(rt, "a text")
-    }
 }
 
 // An item with another expiry, other marks, and another value and cas number.
@@ -108,6 +77,46 @@ fn left<R: Abort>(rt: &R, found: Option<&Item>, change: Change) -> Option<Item> 
     }
 }
 
+// What becomes of an item's chunk by new marks.
+fn woken_by(item: &Item, marks: Marks) -> Fate {
+    if marks.active && !item.marks.active {
+        Fate::Woken(item.link)
+    } else {
+        Fate::Untouched
+    }
+}
+
+// What becomes of the chunk of the key `b` by a change of the item that it has.
+fn fate_over(item: &Item, change: &Change) -> Fate {
+    match change {
+        Change::Stays => Fate::Untouched,
+        Change::Counted(_, _) => Fate::Untouched,
+        Change::Goes => Fate::Goes(item.link),
+        Change::Hit(marks) => woken_by(item, *marks),
+        Change::Touched(_, marks) => woken_by(item, *marks),
+        Change::Renewed(new) => Fate::Renewed {
+            cost: cost(1, new.value.bytes().len() as u64),
+            expiry: new.expiry,
+            old: Some(item.link),
+        },
+    }
+}
+
+// What becomes of chunks by a change of an item that may be absent.
+fn fate_of(found: Option<&Item>, change: &Change) -> Fate {
+    match found {
+        Some(item) => fate_over(item, change),
+        None => match change {
+            Change::Renewed(new) => Fate::Renewed {
+                cost: cost(1, new.value.bytes().len() as u64),
+                expiry: new.expiry,
+                old: None,
+            },
+            _ => Fate::Untouched,
+        },
+    }
+}
+
 // Whether a reply says that there is a new version: one that a command stored, or that is a new number.
 fn is_version(reply: &str) -> bool {
     reply == "Stored" || reply.starts_with("Number")
@@ -128,6 +137,18 @@ fn version_count<R: Abort>(rt: &R, alloc: Global, events: &History<Noted>) -> u6
     versions
 }
 
+// The site of stripe 1 of four, with the sizes 66 and 70.
+fn site() -> Site
+    ensures stripe { result.stripe ≡ 1 }
+    ensures stripes { result.stripes ≡ 4 }
+{
+    Site {
+        stripe: 1,
+        stripes: 4,
+        sizes: ClassSizes::of(&[66, 70]),
+    }
+}
+
 // The answer to a command after so many versions.
 fn answer<R: Abort>(
     rt: &R,
@@ -141,31 +162,76 @@ fn answer<R: Abort>(
     requires few { versions ≤ 16 }
     requires moment { moment ≤ 2 ^ 62 }
 {
-    let site = Site {
-        stripe: 1,
-        stripes: 4,
-        sizes: ClassSizes::of(&[66, 70]),
-    };
-    site.answer(alloc, versions, found, command, moment, None, room)
+    site()
+        .answer(alloc, versions, found, command, moment, None, room)
         .expect(rt, "an answer")
 }
 
-/// The texts of the reply to a command and of the item that it leaves in a stripe.
-pub(super) fn plain<R: Abort>(
+/// What a command needs on a stripe.
+pub(super) fn need_of(stripe: &StripeState, command: &Command) -> Need {
+    site().need(stripe.find(command.key()), command)
+}
+
+// The class of a key's item, where it is another than this.
+fn class_beside(found: Option<&Item>, home: Option<ClassNo>) -> Option<ClassNo> {
+    let class = found?.link.class;
+    match home {
+        Some(home) if home.0 == class.0 => None,
+        _ => Some(class),
+    }
+}
+
+/// All classes that a command may want on a stripe: that of its new version, and that of its key's item where it is another.
+pub(super) fn classes_of(stripe: &StripeState, command: &Command) -> Classes {
+    let home = match need_of(stripe, command) {
+        Need::Fresh(class) => Some(class),
+        _ => None,
+    };
+    let other = class_beside(stripe.find(command.key()), home);
+    Classes { home, other }
+}
+
+// The room that a need takes of what is given.
+fn taken(need: Need, given: Given) -> Room {
+    match (need, given.home) {
+        (Need::Fresh(_), Some(home)) => home.room,
+        _ => Room::Keep,
+    }
+}
+
+/// What a command does by the plain program: its event, the text of the item that it leaves, and what becomes of chunks.
+#[derive(Drop)]
+pub(super) struct Plain {
+    pub did: Did,
+    pub left: String,
+    pub fate: Fate,
+}
+
+/// What a command does on a stripe by the plain program, with what it is given.
+pub(super) fn by_table<R: Abort>(
     rt: &R,
     alloc: Global,
     stripe: &StripeState,
-    command: &Command,
+    who: Who,
+    command: Command,
     moment: u64,
-    room: Room,
-) -> Texts
+    given: Given,
+) -> Plain
     requires { moment ≤ 2 ^ 62 }
 {
     let versions = version_count(rt, alloc, stripe.history());
+    let room = taken(need_of(stripe, &command), given);
     let found = stripe.find(command.key());
-    let answer = answer(rt, alloc, versions, found, command, moment, room);
-    let reply = reply_text(rt, alloc, &answer.reply);
+    let answer = answer(rt, alloc, versions, found, &command, moment, room);
+    let fate = fate_of(found, &answer.change);
     let item = left(rt, found, answer.change);
     let left = item_text(rt, alloc, item.as_ref());
-    Texts { reply, left }
+    let did = Did {
+        who,
+        command,
+        moment,
+        reply: answer.reply,
+        room,
+    };
+    Plain { did, left, fate }
 }

@@ -1,6 +1,6 @@
-//! Which sets a stripe stores by one look-up, and which it gives back.
+//! Which sets are made that hold just the class of the new version, and which are given back.
 use super::Asked::Touch;
-use super::rows::Ask::{Alone, AloneMisses, Events, Item, Last, Set};
+use super::rows::Ask::{Events, Item, Last, Misses, Set, Unheld};
 use super::rows::{Row, play};
 
 const EIGHT: &str =
@@ -25,7 +25,7 @@ fn a_set_replaces_an_item_of_its_own_class(rt: HostRuntime) {
 
 static OVER_THE_DEAD: [Row; 6] = [
     (Set("9", 1000), "no link"),
-    (Alone(Touch(5), 1000), "Touched"),
+    (Unheld(Touch(5), 1000), "Touched"),
     (Set("8", 1005), "given back"),
     (Events, "2"),
     (Set("8", 1004), "0 of class 1"),
@@ -38,7 +38,7 @@ fn a_set_over_a_dead_item_is_given_back(rt: HostRuntime) {
 }
 
 static FULL: [Row; 4] = [
-    (AloneMisses(15), "15"),
+    (Misses(15), "15"),
     (Set("9", 1000), "no link"),
     (Set("8", 1000), "HistoryFull"),
     (Events, "16"),

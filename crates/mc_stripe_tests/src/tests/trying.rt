@@ -1,24 +1,13 @@
-//! Tries of commands on a stripe, beside a second stripe on which the same commands are made by the other calls.
-ghost use Rattle.std.specs.Prelude.{◌≡◌, ◌≤◌, ◌^◌, true};
-ghost use Rattle.mc_item.specs.Command.{key_of};
-ghost use Rattle.mc_item.specs.Measure.{stripe_of};
-ghost use Rattle.mc_item.specs.Stripe.{Fits};
-ghost use Rattle.mc_item.specs.declared.answer.Need.TheVariants as needs;
-ghost use Rattle.mc_item.specs.declared.item.ClassNo.{ClassNo as TheClass};
-ghost use Rattle.mc_item.specs.declared.reply.Room.{Room as TheRoom};
-ghost use Rattle.mc_stripe.specs.Putting as words;
-ghost use Rattle.mc_stripe.specs.Wanting.{IsGiven, IsTaken};
+//! Tries of commands on stripe 1 of 4, each of which is held against the plain program of the table.
 ghost use Rattle.mc_stripe_tests.specs.Tried.{IsMadeWith};
 
-use super::calls::{asserts_owned, expire, fault_text, told_reply};
-use super::noted::told_event;
-use super::plain::{reply_text, text, told_item};
-use super::plans::plan_of;
+use super::calls::{asserts_owned, fault_text};
+use super::noted::{did_text, told_event};
+use super::plain::{Plain, by_table, classes_of, reply_text, text, told_item};
 use super::{Asked, WHO, b, checked, command_of, four_stripes};
-use mc_history::History;
-use mc_item::{ClassNo, Command, Config, Fault, Link, Reply, Room, Step, StripeNo, class_of, cost};
-use mc_stripe::{Done, Fate, Given, Home, Noted, Other, Storage, StripeState, Want};
-use mc_testing::is_unnamed;
+use mc_item::{ClassNo, Config, Fault, Link, Room, StripeNo, Who};
+use mc_stripe::{Classes, Done, Fate, Given, Home, Other, StripeState, Want};
+use mc_testing::{may_give, try_command};
 use std::alloc::Global;
 use std::hash::RandomState;
 use std::process::Abort;
@@ -52,34 +41,27 @@ pub(super) enum Told {
 /// A command of the key `b`, what it holds, and what its try tells.
 pub(super) type Row = (Asked, Held, Told);
 
-/// A stripe on which commands are tried, and one beside it on which they are made by the other calls.
+/// Stripe 1 of four, and the configuration that it was made with.
 #[derive(Drop)]
-pub(super) struct Pair {
-    config: Config,
-    tried: StripeState,
-    beside: StripeState,
-    ghost made: { IsMadeWith config tried },
+pub(super) struct Tried {
+    pub(super) config: Config,
+    pub(super) stripe: StripeState,
+    ghost made: { IsMadeWith config stripe },
 }
 
-impl Pair {
-    /// How many events each has.
+impl Tried {
+    /// How many events it has.
     pub(super) fn events(&self) -> u64 {
-        self.tried.history().len() as u64
+        self.stripe.history().len() as u64
     }
 }
 
-/// Two empty stripes.
-pub(super) fn both<R: Abort + RandomSource>(rt: &R, alloc: Global) -> Pair {
+/// The stripe, without items or events.
+pub(super) fn opened<R: Abort + RandomSource>(rt: &R, alloc: Global) -> Tried {
     let config = checked(rt, four_stripes(rt, alloc));
     let seed = RandomState::new(rt).expect(rt, "a seed");
-    let tried = StripeState::new(alloc, StripeNo(1), &config, seed);
-    let seed = RandomState::new(rt).expect(rt, "a seed");
-    let beside = StripeState::new(alloc, StripeNo(1), &config, seed);
-    Pair {
-        config,
-        tried,
-        beside,
-    }
+    let stripe = StripeState::new(alloc, StripeNo(1), &config, seed);
+    Tried { config, stripe }
 }
 
 // The room that a class lends to the event of this number.
@@ -127,125 +109,26 @@ fn given_of(held: Held, number: u64) -> Given {
     }
 }
 
-// Whether a class may lend its room: the link is of the class, and no event gives it; or the class refused it.
-fn lends(alloc: Global, home: Home, events: &History<Noted>) -> bool
-    ensures { result ≡ true → IsGiven home.room → Fits (needs.Fresh home.class) home.room events.now.items }
-{
-    match home.room {
-        Room::At(link) => link.class.0 == home.class.0 && is_unnamed(alloc, events, link),
-        Room::Refused { class, .. } => class.0 == home.class.0,
-        Room::Keep => true,
+/// What is held of these classes, where that of a new version lends this and each history has so many places.
+pub(super) fn held_of(classes: Classes, lent: Lent, places: u64) -> Held {
+    match (classes.home, classes.other) {
+        (Some(home), Some(other)) => Held::Both(home.0, lent, places, other.0, places),
+        (Some(home), None) => Held::Home(home.0, lent, places),
+        (None, Some(other)) => Held::Other(other.0, places),
+        (None, None) => Held::Nothing,
     }
 }
 
-// Whether the room that is given may be lent.
-fn may_give(alloc: Global, given: Given, events: &History<Noted>) -> bool
-    ensures { result ≡ true → (class : TheClass) (room : TheRoom) → IsTaken given (needs.Fresh class) room → Fits (needs.Fresh class) room events.now.items }
-{
-    match given.home {
-        None => true,
-        Some(home) => lends(alloc, home, events),
-    }
-}
-
-// What a try tells, without what it gives back.
-fn told_of<T: Drop>(
-    tried: Result<Result<Done, (T, Want)>, Fault>,
-) -> Result<Result<Done, Want>, Fault> {
-    match tried {
-        Ok(Ok(done)) => Ok(Ok(done)),
-        Ok(Err((_, want))) => Ok(Err(want)),
-        Err(fault) => Err(fault),
-    }
-}
-
-// The storage command that it is.
-fn store_of(storage: Storage) -> Command
-    ensures { result ≡ words.command_of storage }
-{
-    let Storage {
-        verb,
-        key,
-        flags,
-        exptime,
-        value,
-    } = storage;
-    Command::Store {
-        verb,
-        key,
-        flags,
-        exptime,
-        value,
-    }
-}
-
-// A try of a storage command: where no class is large enough, one that is refused.
-fn put_on(
-    both: &mut Pair,
-    storage: Storage,
-    moment: u64,
-    given: Given,
-) -> Result<Result<Done, Want>, Fault>
-    requires stripe { stripe_of storage.key both.old.tried.site.stripes ≡ record { 0 = both.old.tried.site.stripe } }
-    requires moment { moment ≤ 2 ^ 62 }
-    requires given { (class : TheClass) (room : TheRoom) → IsTaken given (needs.Fresh class) room → Fits (needs.Fresh class) room both.old.tried.history }
-{
-    let (key, value) = (storage.key.bytes(), storage.value.bytes());
-    let cost = cost(key.len() as u64, value.len() as u64);
-    match class_of(&both.config, cost) {
-        Some(fresh) => told_of(both.tried.put(WHO, storage, moment, cost, fresh, given)),
-        None => {
-            let verb = storage.verb;
-            let command = store_of(storage);
-            told_of(both.tried.put_huge(WHO, command, verb, moment, given))
-        }
-    }
-}
-
-// A try of a command, each kind by its own call.
-fn try_on(
-    both: &mut Pair,
-    command: Command,
-    moment: u64,
-    given: Given,
-) -> Result<Result<Done, Want>, Fault>
-    requires stripe { stripe_of (key_of command) both.old.tried.site.stripes ≡ record { 0 = both.old.tried.site.stripe } }
-    requires moment { moment ≤ 2 ^ 62 }
-    requires given { (class : TheClass) (room : TheRoom) → IsTaken given (needs.Fresh class) room → Fits (needs.Fresh class) room both.old.tried.history }
-{
-    match command {
-        Command::Get(key) => told_of(both.tried.get(WHO, key, moment, given)),
-        Command::Touch(key, exptime) => {
-            told_of(both.tried.touch(WHO, key, exptime, moment, given))
-        }
-        Command::Delete(key) => told_of(both.tried.delete(WHO, key, moment, given)),
-        Command::Incr(key, delta) => {
-            told_of(both.tried.count(WHO, key, Step::Up(delta), moment, given))
-        }
-        Command::Decr(key, delta) => {
-            told_of(both.tried.count(WHO, key, Step::Down(delta), moment, given))
-        }
-        Command::Huge { verb, key } => {
-            let command = Command::Huge { verb, key };
-            told_of(both.tried.put_huge(WHO, command, verb, moment, given))
-        }
-        Command::Store {
-            verb,
-            key,
-            flags,
-            exptime,
-            value,
-        } => {
-            let storage = Storage {
-                verb,
-                key,
-                flags,
-                exptime,
-                value,
-            };
-            put_on(both, storage, moment, given)
-        }
-    }
+/// All that a command may want, where the class of its new version lends this.
+pub(super) fn held_for<R: Abort>(
+    rt: &R,
+    alloc: Global,
+    tried: &Tried,
+    asked: Asked,
+    lent: Lent,
+) -> Held {
+    let command = command_of(rt, alloc, asked);
+    held_of(classes_of(&tried.stripe, &command), lent, 2)
 }
 
 // The text of the last event, where there is one.
@@ -256,52 +139,94 @@ fn last_text<R: Abort>(rt: &R, alloc: Global, stripe: &StripeState) -> String {
     }
 }
 
-// Ends the test where the two stripes differ: nothing happens by a try that wants something.
-fn check_same<R: Abort>(rt: &R, alloc: Global, both: &Pair) {
-    let (tried, beside) = (&both.tried, &both.beside);
-    assert_eq!(rt; tried.history().len(), beside.history().len());
-    let (last, wanted) = (last_text(rt, alloc, tried), last_text(rt, alloc, beside));
-    assert_eq!(rt; last.as_str(), wanted.as_str());
-    let (item, wanted) = (told_item(rt, alloc, tried), told_item(rt, alloc, beside));
-    assert_eq!(rt; item.as_str(), wanted.as_str());
+// What a stripe has: how many events, and the texts of the last one and of the item of the key `b`.
+#[derive(Drop)]
+struct Texts {
+    events: u64,
+    last: String,
+    item: String,
 }
 
-// The second stripe makes a command in the room that its try took: what it plans and replies is the same.
-fn make_beside<R: Abort>(
+fn texts_of<R: Abort>(rt: &R, alloc: Global, tried: &Tried) -> Texts {
+    Texts {
+        events: tried.events(),
+        last: last_text(rt, alloc, &tried.stripe),
+        item: told_item(rt, alloc, &tried.stripe),
+    }
+}
+
+// Ends the test where a stripe has something else.
+fn check_texts<R: Abort>(rt: &R, texts: &Texts, events: u64, last: &str, item: &str) {
+    assert_eq!(rt; texts.events, events);
+    assert_eq!(rt; texts.last.as_str(), last);
+    assert_eq!(rt; texts.item.as_str(), item);
+}
+
+// Ends the test where a command did something else than by the plain program.
+fn check_made<R: Abort>(rt: &R, alloc: Global, plain: &Plain, done: &Done) {
+    let told = reply_text(rt, alloc, &done.reply);
+    let wanted = reply_text(rt, alloc, &plain.did.reply);
+    assert_eq!(rt; told.as_str(), wanted.as_str());
+    assert_eq!(rt; done.room, plain.did.room);
+    assert_eq!(rt; done.fate, plain.fate);
+}
+
+// Ends the test where a try did something else than by the plain program: where it made the command, there is its event
+// and the item that it leaves, and else nothing happened.
+fn check_try<R: Abort>(
     rt: &R,
     alloc: Global,
-    both: &mut Pair,
-    asked: Asked,
-    moment: u64,
-    done: &Done,
+    before: &Texts,
+    now: &Texts,
+    plain: &Plain,
+    told: &Result<Result<Done, Want>, Fault>,
 ) {
-    let plan = plan_of(rt, alloc, &both.beside, moment, asked);
-    assert_eq!(rt; plan.dead, None);
-    assert_eq!(rt; plan.fate(done.room), done.fate);
-    let full = matches!(done.room, Room::Refused { .. });
-    let told = told_reply(rt, alloc, &mut both.beside, WHO, asked, moment, full);
-    let reply = reply_text(rt, alloc, &done.reply);
-    assert_eq!(rt; reply.as_str(), told.as_str());
+    match told {
+        Ok(Ok(done)) => {
+            check_made(rt, alloc, plain, done);
+            let event = did_text(rt, alloc, &plain.did);
+            let events = before.events.saturating_add(1);
+            check_texts(rt, now, events, event.as_str(), plain.left.as_str());
+        }
+        Ok(Err(_)) | Err(_) => {
+            check_texts(
+                rt,
+                now,
+                before.events,
+                before.last.as_str(),
+                before.item.as_str(),
+            );
+        }
+    }
 }
 
-/// What the try of a command tells. Where it was made, it is made on the second stripe too, and both stripes are the same.
+/// What the try of a caller's command tells, which is held against the plain program.
 pub(super) fn told_try<R: Abort>(
     rt: &R,
     alloc: Global,
-    both: &mut Pair,
+    tried: &mut Tried,
+    who: Who,
     asked: Asked,
     moment: u64,
     held: Held,
 ) -> Result<Result<Done, Want>, Fault> {
     let command = command_of(rt, alloc, asked);
-    let given = given_of(held, both.events());
-    asserts_owned(rt, &both.tried, &command, moment);
-    assert!(rt; may_give(alloc, given, both.tried.history()));
-    let told = try_on(both, command, moment, given);
-    if let Ok(Ok(done)) = &told {
-        make_beside(rt, alloc, both, asked, moment, done);
-    }
-    check_same(rt, alloc, both);
+    let given = given_of(held, tried.events());
+    asserts_owned(rt, &tried.stripe, &command, moment);
+    assert!(rt; may_give(alloc, given, tried.stripe.history()));
+    let same = command_of(rt, alloc, asked);
+    let plain = by_table(rt, alloc, &tried.stripe, who, same, moment, given);
+    let before = texts_of(rt, alloc, tried);
+    let told = try_command(
+        &mut tried.stripe,
+        &tried.config,
+        who,
+        command,
+        moment,
+        given,
+    );
+    let now = texts_of(rt, alloc, tried);
+    check_try(rt, alloc, &before, &now, &plain, &told);
     told
 }
 
@@ -310,7 +235,8 @@ fn made_text<R: Abort>(rt: &R, alloc: Global, reply: &str, room: Room, fate: Fat
     format!(in alloc; "{reply}; {room:?}; {fate:?}").expect(rt, "a text")
 }
 
-fn want_text<R: Abort>(rt: &R, alloc: Global, want: Want) -> String {
+/// The text of what is wanted.
+pub(super) fn want_text<R: Abort>(rt: &R, alloc: Global, want: Want) -> String {
     format!(in alloc; "{want:?}").expect(rt, "a text")
 }
 
@@ -350,13 +276,13 @@ fn wanted_text<R: Abort>(rt: &R, alloc: Global, told: Told, held: Held, number: 
 fn row_texts<R: Abort>(
     rt: &R,
     alloc: Global,
-    both: &mut Pair,
+    tried: &mut Tried,
     moment: u64,
     row: Row,
 ) -> (String, String) {
     let (asked, held, told) = row;
-    let wanted = wanted_text(rt, alloc, told, held, both.events());
-    let told = told_try(rt, alloc, both, asked, moment, held);
+    let wanted = wanted_text(rt, alloc, told, held, tried.events());
+    let told = told_try(rt, alloc, tried, WHO, asked, moment, held);
     (told_text(rt, alloc, &told), wanted)
 }
 
@@ -364,23 +290,17 @@ fn row_texts<R: Abort>(
 pub(super) fn check_tries<R: Abort>(
     rt: &R,
     alloc: Global,
-    both: &mut Pair,
+    tried: &mut Tried,
     moment: u64,
     rows: &[Row],
 ) {
     for (place, row) in rows.iter().enumerate() {
-        let (told, wanted) = row_texts(rt, alloc, both, moment, *row);
+        let (told, wanted) = row_texts(rt, alloc, tried, moment, *row);
         assert_eq!(rt; told.as_str(), wanted.as_str(), "at row {place}");
     }
 }
 
-/// The dead item goes from both stripes.
-pub(super) fn bury<R: Abort>(rt: &R, alloc: Global, both: &mut Pair, moment: u64) {
-    expire(rt, alloc, &mut both.tried, WHO, moment);
-    expire(rt, alloc, &mut both.beside, WHO, moment);
-}
-
 /// The link that a hit of the key `b` would wake.
-pub(super) fn woken<R: Abort>(rt: &R, alloc: Global, both: &Pair, moment: u64) -> Option<Link> {
-    both.tried.woken(&b(rt, alloc), moment)
+pub(super) fn woken<R: Abort>(rt: &R, alloc: Global, tried: &Tried, moment: u64) -> Option<Link> {
+    tried.stripe.woken(&b(rt, alloc), moment)
 }

@@ -1,9 +1,11 @@
-use Rattle.std.proofs.Common.{◌≡◌, ◌≤◌, ◌++◌, ◌∷◌, [], ℕ, ◌+◌, Bool, true, List, length, refl, sym, ap, ◌∙◌, subst, inl}
-use Rattle.std.specs.Prelude.{Option, Some, None, false, IsSomeAnd, if◌then◌else◌}
+use Rattle.std.proofs.Common.{rules, arith, ◌≡◌, ◌≤◌, ◌++◌, ◌∷◌, [], ℕ, ◌+◌, Bool, true, List, length, refl, sym, ap, ◌∙◌, subst, inl, inr}
+use Rattle.std.specs.Prelude.{IsErrOf, Option, Some, None, false, IsSomeAnd, ◌||◌, if◌then◌else◌}
 use Rattle.mc_item.specs.Command.{key_of}
 use Rattle.mc_item.specs.Stripe.{Fits}
 use Rattle.mc_item.specs.declared.answer.Need.TheVariants as needs
+use Rattle.mc_item.specs.declared.fault.Fault.TheVariants.{HistoryFull}
 use Rattle.mc_item.specs.declared.item.Link.{Link}
+use Rattle.mc_item.specs.declared.reply.Room.TheVariants as rooms
 use Rattle.mc_item.specs.declared.stripe_event.StripeEvent.{StripeEvent}
 use Rattle.mc_rule.specs.Lawful.{is_named}
 use Rattle.mc_rule.specs.Lists.{links_of}
@@ -13,13 +15,42 @@ use Rattle.mc_stripe.specs.StripeCalls.{KeepsSite}
 use Rattle.mc_stripe.specs.declared.fate.Fate.{Fate}
 use Rattle.mc_stripe.specs.Trying.{IsDone, item_of, row_at}
 use Rattle.mc_pull.specs.Attempt.{HasFree}
-use Rattle.mc_pull.specs.Parts.{hit_part, is_here, is_warming, number_in, part_for}
+use Rattle.mc_pull.specs.Parts.{hit_part, is_here, is_warming, number_in, part_for, places_of}
 use Rattle.mc_pull.specs.Perform.{answer_to, call}
-use Rattle.mc_pull.specs.Performed.{IsPerformed, cooled_if, did_event, events_on_stripe, part_in}
-use Rattle.mc_pull.proofs.AttemptLemmas.{cooled_history, cooled_where, either_cooled, here_free, here_small, may_perform, offered_fits, part_ready, warms_part}
+use Rattle.mc_pull.specs.Performed.{one_if, IsPerformed, cooled_if, did_event, events_on_stripe, part_in}
+use Rattle.mc_pull.proofs.AttemptLemmas.{warm_alive, warm_on, warm_places, cooled_history, cooled_where, either_cooled, here_free, here_small, may_perform, offered_fits, part_ready, warms_part}
 use Rattle.mc_pull.proofs.PerformLemmas.{active_after, any_one, cool_ready, made_in}
 use Rattle.mc_pull.proofs.PerformedLemmas.{each_at, performed_kept, performed_seen}
 use Rattle.mc_pull.proofs.attempting.attempt_one.Goals as goal
+
+pub returns-in_err-warms-clause-refusal : goal.returns-in_err-warms-clause-refusal
+returns-in_err-warms-clause-refusal g c = λ of.
+    let s = c.args.stripe.now in
+    let v = c.args.class.now in
+    let turn = c.args.turn in
+    let command = g.K.Kind.command c.args.kind in
+    let key = key_of command in
+    let cl = call turn.who command turn.moment rooms.Keep in
+    let was : IsErrOf c.wake.result HistoryFull = search (rules, of) in
+    let full = c.wake.ensures.full was in
+    let warm = sym (ap (λ (l : Option Link). is_warming (hit_part v (number_in v key l))) c.woken.ensures) ∙ sym (ap (λ (k : List ℕ). is_warming (hit_part v (number_in v k c.woken.result))) c.key.ensures) ∙ full.0 in
+    let one : places_of (part_in s cl v) ≡ 1 = warm_places (part_in s cl v) (warm_on v turn.moment s command rooms.Keep warm) in
+    inr (record { alive = warm_alive v turn.moment s command warm; full = inr (inl (omega (arith, one, full.1))) })
+
+pub returns-in_err-room_if-clause-refusal : goal.returns-in_err-room_if-clause-refusal
+returns-in_err-room_if-clause-refusal g c = λ of.
+    let s = c.args.stripe.now in
+    let v = c.args.class.now in
+    let turn = c.args.turn in
+    let command = g.K.Kind.command c.args.kind in
+    let key = key_of command in
+    let cl = call turn.who command turn.moment rooms.Keep in
+    let was : IsErrOf c.room_if.result HistoryFull = search (rules, of) in
+    let full = c.room_if.ensures.full was in
+    let warm = sym (c.in_ok-warms.ensures.warms ∙ ap (λ (k : List ℕ). is_warming (hit_part v (number_in v k c.woken.result))) c.key.ensures
+    ∙ ap (λ (l : Option Link). is_warming (hit_part v (number_in v key l))) c.woken.ensures) ∙ full.0 in
+    let one : one_if (is_warming (part_in s cl v) || false) ≡ 1 = ap (λ (b : Bool). one_if (b || false)) (warm_on v turn.moment s command rooms.Keep warm) in
+    inr (record { alive = warm_alive v turn.moment s command warm; full = inl (omega (arith, one, full.1)) })
 
 pub attempt-requires-clause-given : goal.attempt-requires-clause-given
 attempt-requires-clause-given g c = λ class room taken.

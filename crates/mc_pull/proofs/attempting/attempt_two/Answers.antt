@@ -20,10 +20,24 @@ use Rattle.mc_pull.specs.Parts.{hit_part, is_here, is_warming, number_in, part_f
 use Rattle.mc_pull.specs.Perform.{answer_to, call}
 use Rattle.mc_pull.proofs.PerformLemmas.{warms_either}
 use Rattle.mc_pull.specs.Performed.{one_if, IsPerformed, cooled_if, did_event, events_on_stripe, part_in}
-use Rattle.mc_pull.proofs.AttemptLemmas.{either_on, warm_on, warm_places, cooled_history, cooled_where, either_cooled, here_free, here_small, may_perform, offered_fits, part_ready, warms_part}
+use Rattle.mc_pull.proofs.AttemptLemmas.{either_on, either_so, warm_alive, warm_on, warm_places, cooled_history, cooled_where, either_cooled, here_free, here_small, may_perform, offered_fits, part_ready, warms_part}
 use Rattle.mc_pull.proofs.PerformLemmas.{any_two, cool_ready, made_in}
 use Rattle.mc_pull.proofs.PerformedLemmas.{each_at, performed_kept, performed_seen}
 use Rattle.mc_pull.proofs.attempting.attempt_two.Goals as goal
+
+pub returns-in_err-warms_home-clause-refusal : goal.returns-in_err-warms_home-clause-refusal
+returns-in_err-warms_home-clause-refusal g c = λ of.
+    let s = c.args.stripe.now in
+    let v = c.args.home.now in
+    let turn = c.args.turn in
+    let command = g.K.Kind.command c.args.kind in
+    let key = key_of command in
+    let cl = call turn.who command turn.moment rooms.Keep in
+    let was : IsErrOf c.wake.result HistoryFull = search (rules, of) in
+    let full = c.wake.ensures.full was in
+    let warm = sym (ap (λ (l : Option Link). is_warming (hit_part v (number_in v key l))) c.woken-woken.ensures) ∙ sym (ap (λ (k : List ℕ). is_warming (hit_part v (number_in v k c.woken-woken.result))) c.key.ensures) ∙ full.0 in
+    let one : places_of (part_in s cl v) ≡ 1 = warm_places (part_in s cl v) (warm_on v turn.moment s command rooms.Keep warm) in
+    inr (record { alive = warm_alive v turn.moment s command warm; full = inr (inl (omega (arith, one, full.1))) })
 
 pub returns-in_err-warms_other-clause-refusal : goal.returns-in_err-warms_other-clause-refusal
 returns-in_err-warms_other-clause-refusal g c = λ of.
@@ -40,7 +54,7 @@ returns-in_err-warms_other-clause-refusal g c = λ of.
     let full = c.wake-2.ensures.full was in
     let warm = sym (link_is w) ∙ sym (ap (λ (k : List ℕ). is_warming (hit_part w (number_in w k c.woken-woken.result))) c.key-2.ensures) ∙ full.0 in
     let one : places_of (part_in s cl w) ≡ 1 = warm_places (part_in s cl w) (warm_on w turn.moment s command rooms.Keep warm) in
-    inr (inr (inl (omega (arith, one, full.1))))
+    inr (record { alive = warm_alive w turn.moment s command warm; full = inr (inr (inl (omega (arith, one, full.1)))) })
 
 pub returns-in_err-room_if-clause-refusal : goal.returns-in_err-room_if-clause-refusal
 returns-in_err-room_if-clause-refusal g c = λ of.
@@ -56,13 +70,16 @@ returns-in_err-room_if-clause-refusal g c = λ of.
     let was : IsErrOf c.room_if.result HistoryFull = search (rules, of) in
     let full = c.room_if.ensures.full was in
     let at = λ (x : ClassView) (k : List ℕ) (is : k ≡ key). ap (λ (q : List ℕ). is_warming (hit_part x (number_in x q c.woken-woken.result))) is ∙ link_is x in
+    let home = λ (on : c.in_ok-warms_home.warms_home ≡ true). sym (c.in_ok-warms_home.ensures.warms ∙ at v c.key.result.now c.key.ensures) ∙ on in
+    let other = λ (on : c.in_ok-warms_other.warms_other ≡ true). sym (c.in_ok-warms_other.ensures.warms ∙ at w c.key-2.result.now c.key-2.ensures) ∙ on in
+    let on = sym c.is_either-warms.ensures ∙ full.0 in
     let cooling : (is_warming (part_in s cl v) || (is_warming (part_in s cl w) || false)) ≡ true =
     either_on c.in_ok-warms_home.warms_home c.in_ok-warms_other.warms_other _ _
-    (λ on. warm_on v turn.moment s command rooms.Keep (sym (c.in_ok-warms_home.ensures.warms ∙ at v c.key.result.now c.key.ensures) ∙ on))
-    (λ on. warm_on w turn.moment s command rooms.Keep (sym (c.in_ok-warms_other.ensures.warms ∙ at w c.key-2.result.now c.key-2.ensures) ∙ on))
-    (sym c.is_either-warms.ensures ∙ full.0) in
+    (λ on. warm_on v turn.moment s command rooms.Keep (home on)) (λ on. warm_on w turn.moment s command rooms.Keep (other on)) on in
     let one : one_if (is_warming (part_in s cl v) || (is_warming (part_in s cl w) || false)) ≡ 1 = ap one_if cooling in
-    inl (omega (arith, one, full.1))
+    let alive = either_so _ c.in_ok-warms_home.warms_home c.in_ok-warms_other.warms_other
+    (λ on. warm_alive v turn.moment s command (home on)) (λ on. warm_alive w turn.moment s command (other on)) on in
+    inr (record { alive = alive; full = inl (omega (arith, one, full.1)) })
 
 pub attempt-requires-clause-given : goal.attempt-requires-clause-given
 attempt-requires-clause-given g c = λ class room taken.

@@ -5,7 +5,6 @@ use Rattle.std.specs.HashMap.{get}
 use Rattle.mc_item.specs.Answer.{huge_row}
 use Rattle.mc_item.specs.Command.{key_of}
 use Rattle.mc_item.specs.Measure.{stripe_of}
-use Rattle.mc_item.specs.declared.answer.Need.TheVariants as needs
 use Rattle.mc_item.specs.declared.reply.Reply.TheVariants as replies
 use Rattle.mc_item.specs.declared.reply.Room.TheVariants as rooms
 use Rattle.mc_item.specs.declared.stripe_event.StripeEvent.{StripeEvent}
@@ -13,7 +12,6 @@ use Rattle.mc_item.specs.declared.stripe_event.StripeEvent.TheVariants as events
 use Rattle.mc_stripe.specs.Huge.{IsHuge}
 use Rattle.mc_stripe.specs.StripeState.{IsKept, Stripe}
 use Rattle.mc_stripe.proofs.HugeLemmas.{huge_adds_none, huge_row_is}
-use Rattle.mc_stripe.proofs.StateLemmas.{chunkless_fits}
 use Rattle.mc_stripe.proofs.TryLemmas.{tried_kept}
 use Rattle.mc_stripe.proofs.state.StripeState.put_huge.Goals as goal
 
@@ -38,6 +36,6 @@ invariant_of-self-2 c =
     (subst (λ (k : List ℕ). stripe_of k site.stripes ≡ record { 0 = site.stripe }) (sym c.key.ensures) (subst (λ (x : Stripe). stripe_of (key_of command) x.site.stripes ≡ record { 0 = x.site.stripe }) back c.requires.stripe))
     (huge_row_is site versions (items key) command c.args.verb c.args.moment huge)
     c.in-Ok.ensures.made
-    (chunkless_fits needs.TooLarge before tt)
+    tt
     (huge_adds_none c.args.verb)
     (c.push_answer.ensures.items ∙ ap noted c.reserve.ensures.items))

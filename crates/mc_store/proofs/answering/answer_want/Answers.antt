@@ -1,0 +1,129 @@
+use Rattle.std.proofs.Common.{◌≡◌, ◌∙◌, ℕ, Err, Ok, ap, refl, sym, subst}
+use Rattle.std.specs.Prelude.{None}
+use Rattle.mc_item.specs.Command.{key_of}
+use Rattle.mc_item.specs.Measure.{stripe_of}
+use Rattle.mc_item.specs.declared.answer.Site.{Site}
+use Rattle.mc_item.specs.declared.command.Command.{Command}
+use Rattle.mc_stripe.specs.StripeCalls.{KeepsSite}
+use Rattle.mc_stripe.specs.StripeState.{Stripe}
+use Rattle.mc_stripe.specs.Trying.{item_of}
+use Rattle.mc_store.specs.Callers.{asked_for}
+use Rattle.mc_store.specs.Held.{Ends}
+use Rattle.mc_store.specs.Passes.{CallerView}
+use Rattle.mc_store.specs.Sides.{StripeSide}
+use Rattle.mc_store.proofs.CallerLemmas.{asked_called, command_sees}
+use Rattle.mc_store.proofs.CommandLemmas.{buried_alive, not_dead}
+use Rattle.mc_store.proofs.EndLemmas.{buried_now, ends_buried, ends_early, ends_err, ends_made, ends_same}
+use Rattle.mc_store.proofs.HeldLemmas.{made_alone, some_none}
+use Rattle.mc_store.proofs.ShortLemmas.{stripe_made}
+use Rattle.mc_store.proofs.UnderLemmas.{searched_itself, site_itself}
+use Rattle.mc_store.proofs.answering.answer_want.Goals as goal
+
+pub answer_with-requires-clause-begun : goal.answer_with-requires-clause-begun
+answer_with-requires-clause-begun g c =
+    let command = g.K.Kind.command c.args.kind in
+    let turn = c.args.turn in
+    record { command = command; begun = c.tell_stripe.ensures.begun turn.who turn.moment (asked_for command turn.moment) (asked_called c.args.caller.now turn.who command turn.moment c.requires.called.asked) }
+
+pub bury-requires-clause-begun : goal.bury-requires-clause-begun
+bury-requires-clause-begun g c =
+    let command = g.K.Kind.command c.args.kind in
+    let turn = c.args.turn in
+    record { command = command; begun = c.tell_stripe.ensures.begun turn.who turn.moment (asked_for command turn.moment) (asked_called c.args.caller.now turn.who command turn.moment c.requires.called.asked) }
+
+pub try_alone-requires-clause-may : goal.try_alone-requires-clause-may
+try_alone-requires-clause-may g c =
+    let key = key_of (g.K.Kind.command c.args.kind) in
+    let site : c.bury.new.own.stripe.site ≡ c.args.own.now.stripe.site = c.bury.ensures.site.site ∙ ap (λ (x : StripeSide). x.stripe.site) c.tell_stripe.ensures.stripe in
+    record {
+      stripe = subst (λ (t : Site). stripe_of key t.stripes ≡ record { 0 = t.stripe }) (sym site) (ap (λ (n : ℕ). stripe_of key n) c.law.ensures.made_with.stripes ∙ c.requires.called.own);
+      moment = c.requires.called.early;
+      distinct = tt;
+      met = tt;
+      refused = None;
+      offered = record { home = tt; other = tt; each = tt };
+    }
+
+pub returns-in_err-bury-in-Burial : goal.returns-in_err-bury-in-Burial
+returns-in_err-bury-in-Burial g c =
+    let s = c.args.own.now.stripe in
+    let told = ap (λ (x : StripeSide). x.stripe) c.tell_stripe.ensures.stripe in
+    ends_early g.N.Named.config (g.K.Kind.command c.args.kind) c.args.turn s c.bury.new.own c.args.caller.now c.tell_stripe.new.self c.from_residual.result c.in_err-bury-in-Burial.field-0.0 c.from_residual.ensures.1
+    (subst (λ (t : Stripe). KeepsSite t c.bury.new.own.stripe) told c.bury.ensures.site) (c.in_err-bury-in-Burial.ensures.err ∙ ap (λ (t : Stripe). t.history) told) c.tell_stripe.ensures.same
+    (λ is. c.bury.ensures.full (c.in_err-bury-in-Burial.was ∙ ap Err is))
+
+pub returns-in_err-reply-in-Burial : goal.returns-in_err-reply-in-Burial
+returns-in_err-reply-in-Burial g c =
+    let config = g.N.Named.config in
+    let command = g.K.Kind.command c.args.kind in
+    let turn = c.args.turn in
+    let s = c.args.own.now.stripe in
+    let mid = c.bury.new.own.stripe in
+    let told = ap (λ (x : StripeSide). x.stripe) c.tell_stripe.ensures.stripe in
+    let site = subst (λ (t : Stripe). KeepsSite t mid) told c.bury.ensures.site in
+    let buried = buried_now s c.tell_stripe.new.stripe.stripe mid turn.who command turn.moment c.in-Burial.link c.key.result.now told c.key.ensures (rw c.in-Burial.is at c.requires.wants) c.in_ok-bury-in-Burial.ensures.lost in
+    let end = c.try_alone.new.own in
+    let caller = c.try_alone.new.caller in
+    let r = c.from_residual-in_err-reply-in-Burial.result in
+    ends_buried config command turn s mid site buried end c.args.caller.now caller r
+    (ends_err config command turn mid mid (buried_alive s mid turn.who command turn.moment site buried) (searched_itself config turn.who command turn.moment mid mid refl) (site_itself mid) end c.args.caller.now caller r
+    c.in_err-reply-in-Burial.field-0.0 c.from_residual-in_err-reply-in-Burial.ensures.1 c.try_alone.ensures.site c.in_err-reply-in-Burial.ensures.err (c.in_err-reply-in-Burial.ensures.unnoted ∙ c.tell_stripe.ensures.same)
+    (λ is. c.try_alone.ensures.full (c.in_err-reply-in-Burial.was ∙ ap Err is)))
+
+pub answer_with-requires-in-Classes-left-clause-begun : goal.answer_with-requires-in-Classes-left-clause-begun
+answer_with-requires-in-Classes-left-clause-begun g c =
+    let config = g.N.Named.config in
+    let command = g.K.Kind.command c.args.kind in
+    let turn = c.args.turn in
+    command_sees config c.bury.new.own.sight c.try_alone.new.own.sight turn.who turn.moment c.try_alone.ensures.sees
+    (command_sees config c.tell_stripe.new.stripe.sight c.bury.new.own.sight turn.who turn.moment c.bury.ensures.sees
+    (record { command = command; begun = c.tell_stripe.ensures.begun turn.who turn.moment (asked_for command turn.moment) (asked_called c.args.caller.now turn.who command turn.moment c.requires.called.asked) }))
+
+pub unreachable-requires : goal.unreachable-requires
+unreachable-requires g c =
+    let command = g.K.Kind.command c.args.kind in
+    let turn = c.args.turn in
+    let s = c.args.own.now.stripe in
+    let mid = c.bury.new.own.stripe in
+    let told = ap (λ (x : StripeSide). x.stripe) c.tell_stripe.ensures.stripe in
+    let site = subst (λ (t : Stripe). KeepsSite t mid) told c.bury.ensures.site in
+    let buried = buried_now s c.tell_stripe.new.stripe.stripe mid turn.who command turn.moment c.in-Burial.link c.key.result.now told c.key.ensures (rw c.in-Burial.is at c.requires.wants) c.in_ok-bury-in-Burial.ensures.lost in
+    let tried = rw c.in-Wants.is at c.in_ok-reply-in-Burial.ensures.tried in
+    some_none c.in-Burial-left.field-0 _ (rw c.in-Burial-left.is at tried.5) (not_dead (item_of mid command) turn.moment (buried_alive s mid turn.who command turn.moment site buried))
+
+pub returns-in-Made : goal.returns-in-Made
+returns-in-Made g c =
+    let config = g.N.Named.config in
+    let command = g.K.Kind.command c.args.kind in
+    let turn = c.args.turn in
+    let s = c.args.own.now.stripe in
+    let mid = c.bury.new.own.stripe in
+    let told = ap (λ (x : StripeSide). x.stripe) c.tell_stripe.ensures.stripe in
+    let site = subst (λ (t : Stripe). KeepsSite t mid) told c.bury.ensures.site in
+    let buried = buried_now s c.tell_stripe.new.stripe.stripe mid turn.who command turn.moment c.in-Burial.link c.key.result.now told c.key.ensures (rw c.in-Burial.is at c.requires.wants) c.in_ok-bury-in-Burial.ensures.lost in
+    let end = c.try_alone.new.own in
+    let caller = c.try_alone.new.caller in
+    ends_buried config command turn s mid site buried end c.args.caller.now caller (Ok c.in-Made.reply)
+    (ends_made config command turn mid mid (buried_alive s mid turn.who command turn.moment site buried) (searched_itself config turn.who command turn.moment mid mid refl) (site_itself mid) end c.args.caller.now caller c.in-Made.reply
+    (stripe_made config s mid site c.law.ensures.made_with) c.try_alone.ensures.site
+    (made_alone config mid end c.args.caller.now c.tell_stripe.new.self caller command turn c.in-Made.reply c.tell_stripe.ensures.same (rw c.in-Made.is at c.in_ok-reply-in-Burial.ensures.tried)))
+
+pub returns-in-Classes-left : goal.returns-in-Classes-left
+returns-in-Classes-left g c =
+    let config = g.N.Named.config in
+    let command = g.K.Kind.command c.args.kind in
+    let turn = c.args.turn in
+    let s = c.args.own.now.stripe in
+    let mid = c.bury.new.own.stripe in
+    let last = c.try_alone.new.own.stripe in
+    let told = ap (λ (x : StripeSide). x.stripe) c.tell_stripe.ensures.stripe in
+    let site = subst (λ (t : Stripe). KeepsSite t mid) told c.bury.ensures.site in
+    let buried = buried_now s c.tell_stripe.new.stripe.stripe mid turn.who command turn.moment c.in-Burial.link c.key.result.now told c.key.ensures (rw c.in-Burial.is at c.requires.wants) c.in_ok-bury-in-Burial.ensures.lost in
+    let tried = rw c.in-Wants.is at c.in_ok-reply-in-Burial.ensures.tried in
+    let with = c.answer_with-in-Classes-left in
+    let end = with.new.own in
+    let caller = with.new.caller in
+    ends_buried config command turn s mid site buried end c.args.caller.now caller with.result
+    (ends_same config command turn mid last c.try_alone.ensures.site tried.2 end c.args.caller.now caller with.result
+    (subst (λ (x : CallerView). Ends config last end x caller command turn with.result) (tried.3 ∙ c.tell_stripe.ensures.same)
+    (subst (λ (x : Command). Ends config last end c.try_alone.new.caller caller x turn with.result) tried.0 with.ensures)))

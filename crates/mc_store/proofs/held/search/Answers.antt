@@ -1,0 +1,19 @@
+use Rattle.std.proofs.Common.{ap, sym}
+use Rattle.mc_segment.specs.ClassState.{ClassView}
+use Rattle.mc_store.proofs.EarnedLemmas.{gone_through}
+use Rattle.mc_store.proofs.LookedLemmas.{full_vain}
+use Rattle.mc_store.proofs.held.search.Goals as goal
+
+pub returns-clause-tried : goal.returns-clause-tried
+returns-clause-tried g c = λ full key own alive.
+    let config = g.N.Named.config in
+    let found = c.in_ok-make_room_under in
+    let was = c.args.home.now.class in
+    let new = c.make_room_under.new.class.class in
+    let who = c.args.turn.who in
+    let moment = c.args.turn.moment in
+    let vain = full_vain config was new who moment found.ensures.room.0 found.field-0 c.make_room_under.ensures.class found.ensures.room.1 full in
+    let in_vain = found.ensures.tried vain in (
+      in_vain.any key own alive,
+      gone_through config (record { 0 = c.args.own.now.stripe.site.stripe }) was new.number who moment new.history c.side.ensures.kept.held.made_with (sym (ap (λ (v : ClassView). v.number) c.make_room_under.ensures.class.same)) in_vain.rounds_are,
+    )

@@ -1,0 +1,47 @@
+use Rattle.std.proofs.Common.{◌≡◌, ◌∙◌, ◌∷◌, [], ap, inr, refl, subst}
+use Rattle.std.specs.Prelude.{IfOk, None, Some}
+use Rattle.mc_item.specs.Command.{key_of}
+use Rattle.mc_item.specs.declared.item.ClassNo.{ClassNo}
+use Rattle.mc_segment.specs.ClassState.{ClassView}
+use Rattle.mc_stripe.specs.StripeState.{Stripe}
+use Rattle.mc_stripe.specs.Trying.{item_of, row_at}
+use Rattle.mc_stripe.specs.declared.wanting.Given.{Given}
+use Rattle.mc_pull.specs.Attempt.{OffersOther}
+use Rattle.mc_store.specs.Sides.{ClassSide, StripeSide}
+use Rattle.mc_store.specs.Trying.{IsTriedUnder}
+use Rattle.mc_store.proofs.HeldLemmas.{crowded_other, none_earned, other_fits, readied, same_number, short_seen, tried_on}
+use Rattle.mc_store.proofs.PairLemmas.{grows_trans}
+use Rattle.mc_store.proofs.held.try_other.Goals as goal
+
+pub try_on_one-requires-clause-room : goal.try_on_one-requires-clause-room
+try_on_one-requires-clause-room g c =
+    let at : c.state.result.now ≡ c.ready_class.new.class.class = c.state.ensures ∙ ap (λ (x : ClassSide). x.class) c.side.ensures.value in
+    (tt, λ same. other_fits c.ready_class.new.class.class c.offer_other.result c.in_ok-ready_class.ensures.ready (subst (λ (v : ClassView). OffersOther v c.offer_other.result) at c.offer_other.ensures))
+
+pub returns-clause-tried : goal.returns-clause-tried
+returns-clause-tried g c =
+    let table = g.N.Named.board.table in
+    let config = g.N.Named.config in
+    let command = g.K.Kind.command c.args.kind in
+    let turn = c.args.turn in
+    let s = c.args.own.now.stripe in
+    let was = c.args.other.now in
+    let met = c.meet.new.lent in
+    let side = c.ready_class.new.class in
+    let end = c.try_on_one.new.own in
+    let offer = c.offer_other.result in
+    let given : Given = record { home = None; other = Some offer } in
+    let at : c.state.result.now ≡ side.class = c.state.ensures ∙ ap (λ (x : ClassSide). x.class) c.side.ensures.value in
+    let offers = subst (λ (v : ClassView). OffersOther v offer) at c.offer_other.ensures in
+    let is = readied was met side c.meet.ensures.lent c.ready_class.ensures.same in
+    let same = ap (λ (x : StripeSide). x.stripe) c.meet.ensures.own in
+    tried_on config g.K.Kind.command g.K.Kind.suits s end c.args.caller.now c.try_on_one.new.caller command turn given (side ∷ []) (c.try_on_one.new.class ∷ []) None (Some was.class.number) ⊥ refl (ap (λ (n : ClassNo). Some n) (offers.class_is ∙ same_number table config was side met.sight side.class.room is))
+    (λ room taken. none_earned config s turn (key_of command) end.sight given (row_at s command turn.moment).need room refl taken)
+    (λ stay lacks. absurd lacks.none)
+    (λ stay class crowded. inr (short_seen table config was side met.sight side.class.room is c.meet.new.own.sight end.sight c.side.ensures.kept c.meet.ensures.told c.try_on_one.ensures.sees
+    (crowded_other given (key_of command) (item_of s command) turn.moment (row_at s command turn.moment) class crowded side.class refl offers)))
+    c.try_on_one.result
+    (subst (λ (t : Stripe). IfOk c.try_on_one.result (IsTriedUnder g.K.Kind.command g.K.Kind.suits t end.stripe c.args.caller.now c.try_on_one.new.caller command turn given (side ∷ []) (c.try_on_one.new.class ∷ []))) same c.try_on_one.ensures.tried)
+
+pub returns-clause-sees : goal.returns-clause-sees
+returns-clause-sees g c = grows_trans c.args.own.now.sight c.meet.new.own.sight c.try_on_one.new.own.sight c.meet.ensures.grows c.try_on_one.ensures.sees

@@ -1,0 +1,133 @@
+-- The classes that a command holds, and one try on them (own).
+use Rattle.std.specs.Prelude.{ℕ, ◌≡◌, ◌<◌, ◌≤◌, ◌+◌, ◌^◌, ◌++◌, ◌∷◌, [], List, Option, Some, None, IfSome, Result, IfOk, OnErr, IsErrOf, length}
+use Rattle.std.specs.Sync.Mutex.{mutex_guard_value}
+use Rattle.std.specs.declared.sync.MutexGuard.{MutexGuard}
+use Rattle.mc_item.specs.Command.{key_of}
+use Rattle.mc_item.specs.Measure.{stripe_of}
+use Rattle.mc_item.specs.Stripe.{IsAlive}
+use Rattle.mc_item.specs.declared.answer.Site.{Site}
+use Rattle.mc_item.specs.declared.answer.Need.TheVariants as needs
+use Rattle.mc_item.specs.declared.command.Command.{Command}
+use Rattle.mc_item.specs.declared.config.Config.{Config}
+use Rattle.mc_item.specs.declared.fault.Fault.{Fault}
+use Rattle.mc_item.specs.declared.fault.Fault.TheVariants.{HistoryFull}
+use Rattle.mc_item.specs.declared.item.ClassNo.{ClassNo}
+use Rattle.mc_item.specs.declared.reply.Reply.{Reply}
+use Rattle.mc_item.specs.declared.reply.Room.{Room}
+use Rattle.mc_item.specs.declared.stripe_event.StripeEvent.{StripeEvent}
+use Rattle.mc_rule.specs.Lists.{IsFull, lists_of}
+use Rattle.mc_segment.specs.ClassState.{ClassView}
+use Rattle.mc_board.specs.declared.rule.Sight.{Sight}
+use Rattle.mc_stripe.specs.StripeCalls.{KeepsSite}
+use Rattle.mc_stripe.specs.StripeState.{Stripe, cache_now}
+use Rattle.mc_stripe.specs.Trying.{item_of, row_at}
+use Rattle.mc_stripe.specs.Wanting.{Holds, IsWanting, classes_for}
+use Rattle.mc_stripe.specs.declared.wanting.Given.{Given}
+use Rattle.mc_stripe.specs.declared.wanting.Want.{Want}
+use Rattle.mc_stripe.specs.declared.wanting.Want.TheVariants as wants
+use Rattle.mc_pull.specs.declared.attempting.Tried.{Tried}
+use Rattle.mc_pull.specs.declared.attempting.Tried.TheVariants as tried
+use Rattle.mc_pull.specs.declared.kinds.Turn.{Turn}
+use Rattle.mc_pull.specs.Lone.{AreMadeBy}
+use Rattle.mc_pull.specs.Perform.{call}
+use Rattle.mc_store.specs.Callers.{answered_at}
+use Rattle.mc_store.specs.Calls.{IsReplied}
+use Rattle.mc_store.specs.Commands.{IsCut, walker_in}
+use Rattle.mc_store.specs.Earned.{HasGivenUp, IsEarnedAt, IsEarnedIn}
+use Rattle.mc_store.specs.Passes.{CallerView, HasAsked}
+use Rattle.mc_store.specs.Performing.{IsMade}
+use Rattle.mc_store.specs.Serving.{HasSeenShort, IsShort}
+use Rattle.mc_store.specs.Sides.{ClassSide, StripeSide}
+
+-- a class's number
+abbrev pub number_of : ClassSide → ClassNo
+number_of c = c.class.number
+
+-- that of the class that a slot holds
+abbrev pub number_in : Option (MutexGuard ClassSide) → Option ClassNo
+number_in None = None
+number_in (Some guard) = Some (number_of (mutex_guard_value guard))
+
+-- a command's caller asked for it in this turn, and its key is of this stripe
+pub record IsCallOn (config : Config) (s : Stripe) (caller : CallerView) (command : Command) (turn : Turn) : Type 0 where
+  pub own : stripe_of (key_of command) config.stripes ≡ record { 0 = s.site.stripe }
+  pub asked : HasAsked caller turn.who command turn.moment
+  pub early : turn.moment ≤ 2 ^ 62
+
+-- the item of a command's key isn't dead, and the command needs no class but these: that of its new version, and its item's
+pub record Suffice (home other : Option ClassNo) (s : Stripe) (command : Command) (moment : ℕ) : Type 0 where
+  pub alive : IsAlive (item_of s command) moment
+  pub for_version : Holds home (classes_for (key_of command) (item_of s command) (row_at s command moment)).home
+  pub for_item : Holds other (classes_for (key_of command) (item_of s command) (row_at s command moment)).other
+
+-- a class is full, as it was, and no refusal is known; where its history has less than two places left, that was seen
+pub record IsStillFull (config : Config) (sight : Sight) (refused : Option ℕ) (v v_new : ClassView) : Type 0 where
+  pub none : refused ≡ None
+  pub was_full : IsFull v.chunks (lists_of v.history)
+  pub full : IsFull v_new.chunks (lists_of v_new.history)
+  pub history_is : v_new.history ≡ v.history
+  pub number_is : v_new.number ≡ v.number
+  pub short : v_new.max_events < length v_new.history + 2 → HasSeenShort config sight
+
+-- a command wants a chunk of the class of its new version, which holds it with that of its key's item
+pub record WantsChunk (class : ClassNo) (other : Option ClassNo) (s : Stripe) (command : Command) (moment : ℕ) : Type 0 where
+  pub suffice : Suffice (Some class) other s command moment
+  pub fresh : (row_at s command moment).need ≡ needs.Fresh class
+
+-- where the class of a new version noted a refusal, it had looked for a chunk in vain before it
+abbrev pub IsRefusedAt : Config → Stripe → Turn → List ℕ → ClassView → Option ℕ → Type 0
+IsRefusedAt config s turn key v refused = IfSome refused (λ place. IsEarnedAt config (record { 0 = s.site.stripe }) v.number turn.who turn.moment key place v.history)
+
+-- a command whose item isn't dead was made in a room, and where that is a refusal it was earned; its caller has noted where its
+-- answer stands
+pub record IsMadeIn (config : Config) (s : Stripe) (own_new : StripeSide) (caller caller_new : CallerView) (made : Command) (turn : Turn) (reply : Reply) : Type 0 where
+  pub alive : IsAlive (item_of s made) turn.moment
+  pub room : Room
+  pub made_is : IsMade s own_new.stripe (call turn.who made turn.moment room) reply
+  pub noted : caller_new ≡ record caller { calls = caller.calls ++ answered_at s.site.stripe (length s.history) ∷ [] }
+  pub earned : IsEarnedIn config s.site.stripe turn.who turn.moment (key_of made) own_new.sight room
+
+-- a command that holds nothing
+abbrev pub nothing : Given
+nothing = record { home = None; other = None }
+
+-- what a command that holds nothing wants
+abbrev pub WantsAlone : Stripe → Command → ℕ → Want → Type 0
+WantsAlone s command moment want = IsWanting nothing (key_of command) (item_of s command) moment (row_at s command moment) want
+
+module _ (config : Config) (s : Stripe) (own_new : StripeSide) (command : Command) (moment : ℕ) (home other : Option ClassNo) (AnyFull : Type 0) where
+  -- what is wanting of a command that holds these classes: what it wants alone, where they don't suffice; a chunk; or a place in a
+  -- history, of which less than two are left
+  abbrev pub MayWant : Want → Type 0
+  MayWant wants.Room = AnyFull
+  MayWant (wants.Place class) = IsShort config own_new
+  MayWant (wants.Burial link) = WantsAlone s command moment (wants.Burial link)
+  MayWant (wants.Classes classes) = WantsAlone s command moment (wants.Classes classes) × (Suffice home other s command moment → ⊥)
+
+module _ {K : Type 0} (config : Config) (command : K → Command) (suits : K → Site → Type 0) (s : Stripe) (own_new : StripeSide) (caller caller_new : CallerView) (made : Command) (turn : Turn) (home other : Option ClassNo) (AnyFull : Type 0) where
+  -- what a try on the classes that are held came to
+  abbrev pub IsTriedOn : Tried K → Type 0
+  IsTriedOn (tried.Made reply) = IsMadeIn config s own_new caller caller_new made turn reply
+  IsTriedOn (tried.Wants kind want) =
+      (command kind ≡ made) × suits kind s.site × (own_new.stripe.history ≡ s.history) × (caller_new ≡ caller) × MayWant config s own_new made turn.moment home other AnyFull want
+
+-- a stripe's new events are those of a call's walker in a class
+pub record IsWalked (config : Config) (turn : Turn) (class : ClassNo) (s s_new : Stripe) : Type 0 where
+  pub walked : List StripeEvent
+  pub each : AreMadeBy (walker_in config turn.who turn.moment class) walked
+  pub history_is : s_new.history ≡ s.history ++ walked
+
+-- a call has looked for a chunk of a class in vain, for each key of the stripe whose item isn't dead
+abbrev pub HasGivenUpAny : Config → Stripe → Turn → ClassView → Type 0
+HasGivenUpAny config s turn v =
+    (key : List ℕ) → stripe_of key config.stripes ≡ record { 0 = s.site.stripe } → IsAlive ((cache_now s).items key) turn.moment
+    → HasGivenUp config (record { 0 = s.site.stripe }) v.number turn.who turn.moment key v.history
+
+-- how a command ends under the lock of its stripe: it was answered, or it was broken off, with nothing of it but what leads up to it
+pub record Ends (config : Config) (s : Stripe) (own_new : StripeSide) (caller caller_new : CallerView) (command : Command) (turn : Turn) (result : Result Reply Fault) : Type 0 where
+  pub replied : IfOk result (IsReplied config turn.who command turn.moment s own_new.stripe own_new.sight caller.calls caller_new.calls)
+  pub cut : OnErr result (IsCut config turn.who command turn.moment s own_new.stripe)
+  pub unnoted : OnErr result (caller_new ≡ caller)
+  pub number : caller_new.number ≡ caller.number
+  pub site : KeepsSite s own_new.stripe
+  pub full : IsErrOf result HistoryFull → IsShort config own_new

@@ -1,0 +1,55 @@
+-- One try of a command under locks (own).
+use Rattle.std.specs.Prelude.{◌≡◌, ◌++◌, List, ◌∷◌, [], Bool, true, false, Result, Ok, Err, length}
+use Rattle.mc_item.specs.Command.{key_of}
+use Rattle.mc_item.specs.declared.answer.Site.{Site}
+use Rattle.mc_item.specs.declared.command.Command.{Command}
+use Rattle.mc_item.specs.declared.fault.Fault.{Fault}
+use Rattle.mc_item.specs.declared.reply.Reply.{Reply}
+use Rattle.mc_item.specs.declared.reply.Room.{Room}
+use Rattle.mc_segment.specs.ClassState.{with_room}
+use Rattle.mc_stripe.specs.StripeState.{Stripe}
+use Rattle.mc_stripe.specs.Trying.{item_of, row_at}
+use Rattle.mc_stripe.specs.Wanting.{IsWanting, Uses}
+use Rattle.mc_stripe.specs.declared.fate.Fate.{Fate}
+use Rattle.mc_stripe.specs.declared.wanting.Given.{Given}
+use Rattle.mc_pull.specs.declared.attempting.Tried.{Tried}
+use Rattle.mc_pull.specs.declared.attempting.Tried.TheVariants as tried
+use Rattle.mc_pull.specs.declared.kinds.Turn.{Turn}
+use Rattle.mc_pull.specs.Perform.{call}
+use Rattle.mc_store.specs.Callers.{answered_at}
+use Rattle.mc_store.specs.Passes.{CallerView}
+use Rattle.mc_store.specs.Performing.{IsMade}
+use Rattle.mc_store.specs.Sides.{ClassSide}
+
+module _ {K : Type 0} where
+  -- a try made its command
+  abbrev pub is_made_of : Tried K → Bool
+  is_made_of (tried.Made reply) = true
+  is_made_of (tried.Wants kind want) = false
+
+  -- the same where it may have failed
+  abbrev pub is_made : Result (Tried K) Fault → Bool
+  is_made (Ok t) = is_made_of t
+  is_made (Err fault) = false
+
+-- a command was made on its stripe, of what it was given, and its caller has noted where its answer stands
+pub record IsMadeBy (s s_new : Stripe) (caller caller_new : CallerView) (made : Command) (turn : Turn) (given : Given) (reply : Reply) : Type 0 where
+  pub room : Room
+  pub fate : Fate
+  pub uses : Uses given (key_of made) (item_of s made) turn.moment (row_at s made turn.moment) room fate
+  pub made_is : IsMade s s_new (call turn.who made turn.moment room) reply
+  pub noted : caller_new ≡ record caller { calls = caller.calls ++ answered_at s.site.stripe (length s.history) ∷ [] }
+
+-- the classes that are held are as they were, but for the room of their histories
+abbrev pub Stay : List ClassSide → List ClassSide → Type 0
+Stay [] [] = Unit {0}
+Stay [] (d ∷ ds) = ⊥
+Stay (c ∷ cs) [] = ⊥
+Stay (c ∷ cs) (d ∷ ds) = (d.class ≡ with_room c.class d.class.room) × Stay cs ds
+
+module _ {K : Type 0} (command : K → Command) (suits : K → Site → Type 0) (s s_new : Stripe) (caller caller_new : CallerView) (made : Command) (turn : Turn) (given : Given) (cs ds : List ClassSide) where
+  -- what a try under locks came to: the command was made; or it is given back with what it wants, and nothing happened
+  abbrev pub IsTriedUnder : Tried K → Type 0
+  IsTriedUnder (tried.Made reply) = IsMadeBy s s_new caller caller_new made turn given reply
+  IsTriedUnder (tried.Wants kind want) =
+      (command kind ≡ made) × suits kind s.site × (s_new.history ≡ s.history) × (caller_new ≡ caller) × Stay cs ds × IsWanting given (key_of made) (item_of s made) turn.moment (row_at s made turn.moment) want

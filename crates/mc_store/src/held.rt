@@ -1,0 +1,214 @@
+//! A command on the classes that it holds, each under its lock: the classes are told of the stripe, and the command is tried on
+//! what they offer.
+ghost use Rattle.std.specs.Prelude.{◌≡◌, ◌≢◌, ◌+◌, Some, None, IfOk, OnOk, OnErr, IsErrOf};
+ghost use Rattle.mc_item.specs.Command.{key_of};
+ghost use Rattle.mc_item.specs.declared.answer.Need.TheVariants as needs;
+ghost use Rattle.mc_item.specs.declared.fault.Fault.TheVariants.{HistoryFull};
+ghost use Rattle.mc_board.specs.Histories.{Grows};
+ghost use Rattle.mc_pull.specs.Attempt.{IsReady};
+ghost use Rattle.mc_rule.specs.Lists.{IsFull, lists_of};
+ghost use Rattle.mc_segment.specs.ClassState.{with_room};
+ghost use Rattle.mc_stripe.specs.StripeCalls.{KeepsSite};
+ghost use Rattle.mc_store.specs.Held.{Ends, HasGivenUpAny, IsCallOn, IsRefusedAt, IsStillFull, IsTriedOn, IsWalked, Suffice, WantsChunk, number_in};
+ghost use Rattle.mc_store.specs.Locked.{HasBegunCommand};
+ghost use Rattle.mc_store.specs.Serving.{IsShort};
+
+use crate::caller::Caller;
+use crate::locked::{LockedClass, LockedStripe};
+use crate::named::Named;
+use crate::pairing::{meet, refuse};
+use crate::store::Store;
+use crate::trying::{try_on_one, try_on_two};
+use crate::walking::make_room_under;
+use mc_board::Board;
+use mc_item::{Fault, Reply};
+use mc_pull::{Kind, Tried, Turn, offer_home, offer_other, ready};
+use mc_stripe::{Given, Want};
+use std::alloc::Global;
+use std::sync::MutexGuard;
+
+// Makes room for the events of a command in a class, as far as its history has places for them.
+#[inline(always)]
+fn ready_class<N: Named>(class: &mut LockedClass<N>) -> Result<(), Fault>
+    ensures ready { OnOk result (IsReady class.new.class) }
+    ensures same { class.new ≡ record class.old { class = with_room class.old.class class.new.class.room } }
+    ensures memory { IsErrOf result HistoryFull → ⊥ }
+{
+    ready(&mut class.side.state)
+}
+
+// One try on the class of an item, which goes or is woken.
+#[inline(always)]
+fn try_other<N: Named, K: Kind + Drop>(
+    alloc: Global,
+    board: &Board,
+    own: &mut LockedStripe<N>,
+    other: &mut LockedClass<N>,
+    caller: &mut Caller<N>,
+    kind: K,
+    turn: Turn,
+) -> Result<Tried<K>, Fault>
+    requires board { board.now ≡ N.board }
+    requires called { IsCallOn N.config own.old.stripe caller.old (K.command kind) turn }
+    requires suits { K.suits kind own.old.stripe.site }
+    ensures tried { IfOk result (IsTriedOn N.config K.command K.suits own.old.stripe own.new caller.old caller.new (K.command kind) turn None (Some other.old.class.number) ⊥) }
+    ensures err { OnErr result ((own.new.stripe.history ≡ own.old.stripe.history) × (caller.new ≡ caller.old)) }
+    ensures sees { Grows own.old.sight own.new.sight }
+    ensures site { KeepsSite own.old.stripe own.new.stripe }
+    ensures full { IsErrOf result HistoryFull → IsShort N.config own.new }
+{
+    meet(board, own, other);
+    ready_class(other)?;
+    own.law();
+    let given = Given {
+        home: None,
+        other: Some(offer_other(other.side().state())),
+    };
+    try_on_one(alloc, board, own, other, caller, kind, turn, given)
+}
+
+// One try on the class of a new version, which noted the refusal at this place for the call, where it did, and on that of its
+// key's item, where it is another.
+#[inline(always)]
+pub(crate) fn try_home<N: Named, K: Kind + Drop>(
+    alloc: Global,
+    board: &Board,
+    own: &mut LockedStripe<N>,
+    home: &mut LockedClass<N>,
+    other: &mut Option<MutexGuard<'_, LockedClass<N>>>,
+    caller: &mut Caller<N>,
+    kind: K,
+    turn: Turn,
+    refused: Option<u64>,
+) -> Result<Tried<K>, Fault>
+    requires board { board.now ≡ N.board }
+    requires called { IsCallOn N.config own.old.stripe caller.old (K.command kind) turn }
+    requires suits { K.suits kind own.old.stripe.site }
+    requires apart { number_in other.old ≢ Some home.old.class.number }
+    requires refused { IsRefusedAt N.config own.old.stripe turn (key_of (K.command kind)) home.old.class refused }
+    ensures tried { IfOk result (IsTriedOn N.config K.command K.suits own.old.stripe own.new caller.old caller.new (K.command kind) turn (Some home.old.class.number) (number_in other.old) (IsStillFull N.config own.new.sight refused home.old.class home.new.class × (number_in other.new ≡ number_in other.old) × WantsChunk home.old.class.number (number_in other.old) own.old.stripe (K.command kind) turn.moment)) }
+    ensures err { OnErr result ((own.new.stripe.history ≡ own.old.stripe.history) × (caller.new ≡ caller.old)) }
+    ensures sees { Grows own.old.sight own.new.sight }
+    ensures site { KeepsSite own.old.stripe own.new.stripe }
+    ensures full { IsErrOf result HistoryFull → IsShort N.config own.new }
+{
+    match other {
+        None => {
+            meet(board, own, home);
+            ready_class(home)?;
+            own.law();
+            let given = Given {
+                home: Some(offer_home(home.side().state(), refused, turn)),
+                other: None,
+            };
+            try_on_one(alloc, board, own, home, caller, kind, turn, given)
+        }
+        Some(guard) => {
+            let beside = &mut **guard;
+            meet(board, own, home);
+            meet(board, own, beside);
+            ready_class(home)?;
+            ready_class(beside)?;
+            own.law();
+            let given = Given {
+                home: Some(offer_home(home.side().state(), refused, turn)),
+                other: Some(offer_other(beside.side().state())),
+            };
+            try_on_two(alloc, board, own, home, beside, caller, kind, turn, given)
+        }
+    }
+}
+
+// Looks for a chunk in the class of a new version, where none is free.
+fn search<N: Named>(
+    alloc: Global,
+    store: &Store<N>,
+    own: &mut LockedStripe<N>,
+    home: &mut LockedClass<N>,
+    turn: Turn,
+) -> Result<(), Fault>
+    requires begun { HasBegunCommand N.config own.old.sight turn.who turn.moment }
+    ensures tried { OnOk result (IsFull home.new.class.chunks (lists_of home.new.class.history) → HasGivenUpAny N.config own.old.stripe turn home.new.class) }
+    ensures walked { IsWalked N.config turn home.old.class.number own.old.stripe own.new.stripe }
+    ensures number { home.new.class.number ≡ home.old.class.number }
+    ensures begun { HasBegunCommand N.config own.new.sight turn.who turn.moment }
+    ensures site { KeepsSite own.old.stripe own.new.stripe }
+    ensures full { IsErrOf result HistoryFull → IsShort N.config own.new }
+{
+    if !home.side().state().is_full() {
+        return Ok(());
+    }
+    make_room_under(alloc, store, own, home, turn.who, turn.moment)?;
+    Ok(())
+}
+
+// Makes a command whose new version is of this class, and whose key's item is of the other, where that is held. Where no chunk
+// is free one is looked for, and where none is found the class notes that.
+pub(crate) fn answer_at_home<N: Named, K: Kind + Drop>(
+    alloc: Global,
+    store: &Store<N>,
+    own: &mut LockedStripe<N>,
+    home: &mut LockedClass<N>,
+    other: &mut Option<MutexGuard<'_, LockedClass<N>>>,
+    caller: &mut Caller<N>,
+    kind: K,
+    turn: Turn,
+) -> Result<Reply, Fault>
+    requires called { IsCallOn N.config own.old.stripe caller.old (K.command kind) turn }
+    requires suits { K.suits kind own.old.stripe.site }
+    requires begun { HasBegunCommand N.config own.old.sight turn.who turn.moment }
+    requires apart { number_in other.old ≢ Some home.old.class.number }
+    requires wants { WantsChunk home.old.class.number (number_in other.old) own.old.stripe (K.command kind) turn.moment }
+    ensures { Ends N.config own.old.stripe own.new caller.old caller.new (K.command kind) turn result }
+{
+    let board = &store.board;
+    own.law();
+    search(alloc, store, own, home, turn)?;
+    match try_home(alloc, board, own, home, other, caller, kind, turn, None)? {
+        Tried::Made(reply) => Ok(reply),
+        Tried::Wants(kind, want) => match want {
+            Want::Room => {
+                let place = refuse(board, own, home, turn.who)?;
+                match try_home(
+                    alloc,
+                    board,
+                    own,
+                    home,
+                    other,
+                    caller,
+                    kind,
+                    turn,
+                    Some(place),
+                )? {
+                    Tried::Made(reply) => Ok(reply),
+                    Tried::Wants(_, _) => Err(Fault::HistoryFull),
+                }
+            }
+            Want::Place(_) => Err(Fault::HistoryFull),
+            Want::Burial(_) => unreachable!(),
+            Want::Classes(_) => unreachable!(),
+        },
+    }
+}
+
+// Makes a command that needs the class of its key's item alone.
+pub(crate) fn answer_at_item<N: Named, K: Kind + Drop>(
+    alloc: Global,
+    store: &Store<N>,
+    own: &mut LockedStripe<N>,
+    other: &mut LockedClass<N>,
+    caller: &mut Caller<N>,
+    kind: K,
+    turn: Turn,
+) -> Result<Reply, Fault>
+    requires called { IsCallOn N.config own.old.stripe caller.old (K.command kind) turn }
+    requires suits { K.suits kind own.old.stripe.site }
+    requires suffice { Suffice None (Some other.old.class.number) own.old.stripe (K.command kind) turn.moment }
+    ensures { Ends N.config own.old.stripe own.new caller.old caller.new (K.command kind) turn result }
+{
+    own.law();
+    match try_other(alloc, &store.board, own, other, caller, kind, turn)? {
+        Tried::Made(reply) => Ok(reply),
+        Tried::Wants(_, _) => Err(Fault::HistoryFull),
+    }
+}

@@ -1,0 +1,179 @@
+//! One try of a command on its stripe and the classes that are held, each under its lock.
+ghost use Rattle.std.specs.Prelude.{◌≡◌, ◌∷◌, [], None, IfOk, OnErr, IsErrOf};
+ghost use Rattle.mc_item.specs.declared.fault.Fault.TheVariants.{HistoryFull};
+ghost use Rattle.mc_board.specs.Histories.{Grows};
+ghost use Rattle.mc_pull.specs.Attempt.{HasRoomFor, MayTryOn};
+ghost use Rattle.mc_stripe.specs.StripeCalls.{KeepsSite};
+ghost use Rattle.mc_store.specs.Passes.{HasAsked};
+ghost use Rattle.mc_store.specs.Serving.{IsShort};
+ghost use Rattle.mc_store.specs.Trying as words;
+ghost use Rattle.mc_store.specs.Trying.{IsTriedUnder};
+
+use crate::caller::Caller;
+use crate::locked::{LockedClass, LockedStripe};
+use crate::named::Named;
+use crate::owned_class::catch_up_class;
+use crate::pairing::put_if;
+use mc_board::Board;
+use mc_item::Fault;
+use mc_pull::{Kind, Tried, Turn, attempt_none, attempt_one, attempt_two};
+use mc_stripe::Given;
+use std::alloc::Global;
+
+// Whether a try made its command.
+#[inline(always)]
+fn is_made<K: Drop>(tried: &Result<Tried<K>, Fault>) -> bool
+    ensures { result ≡ words.is_made tried.now }
+{
+    match tried {
+        Ok(Tried::Made(_)) => true,
+        Ok(Tried::Wants(_, _)) => false,
+        Err(_) => false,
+    }
+}
+
+// One try on a stripe alone.
+#[inline(always)]
+pub(crate) fn try_alone<N: Named, K: Kind + Drop>(
+    board: &Board,
+    own: &mut LockedStripe<N>,
+    caller: &mut Caller<N>,
+    kind: K,
+    turn: Turn,
+) -> Result<Tried<K>, Fault>
+    requires board { board.now ≡ N.board }
+    requires asked { HasAsked caller.old turn.who (K.command kind) turn.moment }
+    requires suits { K.suits kind own.old.stripe.site }
+    requires may { MayTryOn own.old.stripe [] (K.command kind) turn (record { home = None; other = None }) }
+    ensures tried { IfOk result (IsTriedUnder K.command K.suits own.old.stripe own.new.stripe caller.old caller.new (K.command kind) turn (record { home = None; other = None }) [] []) }
+    ensures err { OnErr result (own.new.stripe.history ≡ own.old.stripe.history) }
+    ensures unnoted { OnErr result (caller.new ≡ caller.old) }
+    ensures sees { Grows own.old.sight own.new.sight }
+    ensures site { KeepsSite own.old.stripe own.new.stripe }
+    ensures full { IsErrOf result HistoryFull → IsShort N.config own.new }
+{
+    let place = own.side.events();
+    let tried = attempt_none(&mut own.side.state, kind, turn);
+    own.side.state.history();
+    put_if(
+        board,
+        caller,
+        &own.side.state,
+        &mut own.side.owner,
+        &mut own.side.seen,
+        place,
+        is_made(&tried),
+    );
+    tried
+}
+
+// One try on a stripe and a class, which were told of each other, of what the class gives. The caller tells the class of
+// the call.
+#[inline(always)]
+pub(crate) fn try_on_one<N: Named, K: Kind + Drop>(
+    alloc: Global,
+    board: &Board,
+    own: &mut LockedStripe<N>,
+    class: &mut LockedClass<N>,
+    caller: &mut Caller<N>,
+    kind: K,
+    turn: Turn,
+    given: Given,
+) -> Result<Tried<K>, Fault>
+    requires board { board.now ≡ N.board }
+    requires asked { HasAsked caller.old turn.who (K.command kind) turn.moment }
+    requires suits { K.suits kind own.old.stripe.site }
+    requires may { MayTryOn own.old.stripe (class.old.class ∷ []) (K.command kind) turn given }
+    requires room { HasRoomFor given class.old.class }
+    ensures tried { IfOk result (IsTriedUnder K.command K.suits own.old.stripe own.new.stripe caller.old caller.new (K.command kind) turn given (class.old ∷ []) (class.new ∷ [])) }
+    ensures err { OnErr result (own.new.stripe.history ≡ own.old.stripe.history) }
+    ensures unnoted { OnErr result (caller.new ≡ caller.old) }
+    ensures sees { Grows own.old.sight own.new.sight }
+    ensures site { KeepsSite own.old.stripe own.new.stripe }
+    ensures full { IsErrOf result HistoryFull → IsShort N.config own.new }
+{
+    let place = own.side.events();
+    let tried = attempt_one(
+        alloc,
+        &mut own.side.state,
+        &mut class.side.state,
+        kind,
+        turn,
+        given,
+    );
+    own.side.state.history();
+    put_if(
+        board,
+        caller,
+        &own.side.state,
+        &mut own.side.owner,
+        &mut own.side.seen,
+        place,
+        is_made(&tried),
+    );
+    class.side.state.law();
+    catch_up_class(&class.side.state, &mut class.side.owner, board);
+    own.side.hear(board, &mut class.side);
+    class.side.hear(board, &mut own.side);
+    caller.tell_owned(board, &mut class.side);
+    tried
+}
+
+// One try on a stripe and two classes, which were told of each other, of what the classes give. The caller tells both of the
+// call.
+#[inline(never)]
+pub(crate) fn try_on_two<N: Named, K: Kind + Drop>(
+    alloc: Global,
+    board: &Board,
+    own: &mut LockedStripe<N>,
+    home: &mut LockedClass<N>,
+    other: &mut LockedClass<N>,
+    caller: &mut Caller<N>,
+    kind: K,
+    turn: Turn,
+    given: Given,
+) -> Result<Tried<K>, Fault>
+    requires board { board.now ≡ N.board }
+    requires asked { HasAsked caller.old turn.who (K.command kind) turn.moment }
+    requires suits { K.suits kind own.old.stripe.site }
+    requires may { MayTryOn own.old.stripe (home.old.class ∷ other.old.class ∷ []) (K.command kind) turn given }
+    requires room { HasRoomFor given home.old.class × HasRoomFor given other.old.class }
+    ensures tried { IfOk result (IsTriedUnder K.command K.suits own.old.stripe own.new.stripe caller.old caller.new (K.command kind) turn given (home.old ∷ other.old ∷ []) (home.new ∷ other.new ∷ [])) }
+    ensures err { OnErr result (own.new.stripe.history ≡ own.old.stripe.history) }
+    ensures unnoted { OnErr result (caller.new ≡ caller.old) }
+    ensures sees { Grows own.old.sight own.new.sight }
+    ensures site { KeepsSite own.old.stripe own.new.stripe }
+    ensures full { IsErrOf result HistoryFull → IsShort N.config own.new }
+{
+    let place = own.side.events();
+    let tried = attempt_two(
+        alloc,
+        &mut own.side.state,
+        &mut home.side.state,
+        &mut other.side.state,
+        kind,
+        turn,
+        given,
+    );
+    own.side.state.history();
+    put_if(
+        board,
+        caller,
+        &own.side.state,
+        &mut own.side.owner,
+        &mut own.side.seen,
+        place,
+        is_made(&tried),
+    );
+    home.side.state.law();
+    catch_up_class(&home.side.state, &mut home.side.owner, board);
+    other.side.state.law();
+    catch_up_class(&other.side.state, &mut other.side.owner, board);
+    own.side.hear(board, &mut home.side);
+    own.side.hear(board, &mut other.side);
+    home.side.hear(board, &mut own.side);
+    other.side.hear(board, &mut own.side);
+    caller.tell_owned(board, &mut home.side);
+    caller.tell_owned(board, &mut other.side);
+    tried
+}

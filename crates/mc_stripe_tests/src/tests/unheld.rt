@@ -1,0 +1,88 @@
+//! Which commands are made that are given nothing, and which are given back since they touch a chunk, or may.
+use super::Asked::{Decr, Delete, Get, Incr, Store, Touch};
+use super::rows::Ask::{Answer, Events, Item, Misses, Unheld, Woken};
+use super::rows::{Row, play};
+use mc_item::Verb;
+
+const FETCHED: &str =
+    "Item { flags: 7, value: Value { bytes: [57] }, expiry: Never, cas: 10, link: Link { class: ClassNo(1), number: 5 }, marks: Marks { fetched: true, active: false } }";
+
+// A number of 7 digits needs more than the largest class has, which is 70 bytes; one of two needs class 2.
+static NO_CHUNK: [Row; 17] = [
+    (Unheld(Store(Verb::Set, "9"), 1000), "given back after none"),
+    (Unheld(Get, 1000), "Miss"),
+    (Unheld(Incr(1), 1000), "NotFound"),
+    (Unheld(Decr(1), 1000), "NotFound"),
+    (Unheld(Touch(0), 1000), "NotFound"),
+    (Unheld(Delete, 1000), "NotFound"),
+    (Answer(Store(Verb::Set, "9")), "Stored"),
+    (Unheld(Incr(1), 1000), "given back after Stored"),
+    (Unheld(Incr(999_991), 1000), "NoSpace"),
+    (Unheld(Decr(1), 1000), "Number(8)"),
+    (Unheld(Incr(1), 1000), "Number(9)"),
+    (
+        Unheld(Get, 1000),
+        "Value { flags: 7, value: Value { bytes: [57] }, cas: 10 }",
+    ),
+    (
+        Unheld(Get, 1000),
+        "given back after Value { flags: 7, value: Value { bytes: [57] }, cas: 10 }",
+    ),
+    (
+        Unheld(Touch(0), 1000),
+        "given back after Value { flags: 7, value: Value { bytes: [57] }, cas: 10 }",
+    ),
+    (
+        Unheld(Delete, 1000),
+        "given back after Value { flags: 7, value: Value { bytes: [57] }, cas: 10 }",
+    ),
+    (Events, "10"),
+    (Item, FETCHED),
+];
+
+#[test]
+fn what_touches_no_chunk_is_made_without_a_class(rt: HostRuntime) {
+    play(&rt, rt.alloc(), NO_CHUNK.as_slice());
+}
+
+static WORD: [Row; 7] = [
+    (Answer(Store(Verb::Set, "x")), "Stored"),
+    (Unheld(Decr(1), 1000), "NonNumeric"),
+    (Unheld(Touch(5), 1000), "Touched"),
+    (Unheld(Touch(5), 1000), "given back after Touched"),
+    (Unheld(Incr(1), 1005), "given back after Touched"),
+    (Unheld(Delete, 1005), "given back after Touched"),
+    (Events, "3"),
+];
+
+#[test]
+fn no_word_is_counted_and_no_item_is_woken_without_a_class(rt: HostRuntime) {
+    play(&rt, rt.alloc(), WORD.as_slice());
+}
+
+// The item has the link of the first event, and the second hit makes it ACTIVE; at the moment 1005 it is dead.
+static TOLD: [Row; 11] = [
+    (Answer(Store(Verb::Set, "9")), "Stored"),
+    (Unheld(Touch(5), 1000), "Touched"),
+    (Woken(1004), "0 of class 1"),
+    (Unheld(Get, 1004), "given back after Touched"),
+    (Unheld(Touch(0), 1004), "given back after Touched"),
+    (Unheld(Delete, 1004), "given back after Touched"),
+    (Woken(1005), "no link"),
+    (Unheld(Get, 1005), "given back after Touched"),
+    (Unheld(Touch(0), 1005), "given back after Touched"),
+    (Unheld(Delete, 1005), "given back after Touched"),
+    (Events, "2"),
+];
+
+#[test]
+fn of_an_item_that_a_hit_would_wake_the_link_is_told(rt: HostRuntime) {
+    play(&rt, rt.alloc(), TOLD.as_slice());
+}
+
+static FULL: [Row; 2] = [(Misses(16), "16"), (Unheld(Get, 1000), "HistoryFull")];
+
+#[test]
+fn a_full_history_makes_nothing_without_a_class(rt: HostRuntime) {
+    play(&rt, rt.alloc(), FULL.as_slice());
+}

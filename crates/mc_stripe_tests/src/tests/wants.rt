@@ -1,0 +1,232 @@
+//! What a command wants and does to chunks, row by row of the table of commands: each row was worked out by hand.
+//! An item of the key `b` costs 65 bytes and those of its value; class 1 has 66 bytes, class 2 has 70.
+use super::Asked::{Decr, Delete, Get, Huge, Incr, Store, Touch};
+use super::calls::expire;
+use super::plain::need_of;
+use super::rows::Ask::{Answer, Events};
+use super::rows::check_rows;
+use super::tries::{GROWN, NEW_1, NEW_2, OLD, OVER_1, OVER_2};
+use super::trying::{Held, Lent, Tried, held_of, opened, told_try};
+use super::{Asked, WHO, command_of, rows};
+use mc_item::Need::{Fresh, Nothing, Same, TooLarge};
+use mc_item::{ClassNo, Fault, Link, Need, Verb};
+use mc_stripe::Fate::{Goes, Untouched, Woken};
+use mc_stripe::{Classes, Done, Fate, Want};
+use std::alloc::Global;
+use std::process::Abort;
+use std::random::RandomSource;
+
+// What is asked, what it needs, and what becomes of chunks with a link and without one.
+type Row = (Asked, Need, Fate, Fate);
+
+const FIRST: Need = Fresh(ClassNo(1));
+
+const SECOND: Need = Fresh(ClassNo(2));
+
+static ABSENT: [Row; 12] = [
+    (Get, Nothing, Untouched, Untouched),
+    (Store(Verb::Set, "1"), FIRST, NEW_1, Untouched),
+    (Store(Verb::Add, "12"), SECOND, NEW_2, Untouched),
+    (Store(Verb::Replace, "1"), Nothing, Untouched, Untouched),
+    (Store(Verb::Cas(2), "1"), Nothing, Untouched, Untouched),
+    (Store(Verb::Set, "123456"), TooLarge, Untouched, Untouched),
+    (Huge(Verb::Set), TooLarge, Untouched, Untouched),
+    (Huge(Verb::Add), TooLarge, Untouched, Untouched),
+    (Incr(1), Nothing, Untouched, Untouched),
+    (Decr(1), Nothing, Untouched, Untouched),
+    (Touch(100), Nothing, Untouched, Untouched),
+    (Delete, Nothing, Untouched, Untouched),
+];
+
+// The item's value is `9`, its cas number 2, and it was never hit.
+static THERE: [Row; 17] = [
+    (Get, Nothing, Untouched, Untouched),
+    (Store(Verb::Set, "12"), SECOND, OVER_2, Goes(OLD)),
+    (Store(Verb::Add, "1"), Nothing, Untouched, Untouched),
+    (Store(Verb::Replace, "1"), FIRST, OVER_1, Untouched),
+    (Store(Verb::Cas(2), "1"), FIRST, OVER_1, Untouched),
+    (Store(Verb::Cas(3), "1"), Nothing, Untouched, Untouched),
+    (Store(Verb::Set, "123456"), TooLarge, Goes(OLD), Goes(OLD)),
+    (Store(Verb::Add, "123456"), TooLarge, Untouched, Untouched),
+    (Huge(Verb::Set), TooLarge, Goes(OLD), Goes(OLD)),
+    (Huge(Verb::Replace), TooLarge, Untouched, Untouched),
+    (Huge(Verb::Cas(2)), TooLarge, Untouched, Untouched),
+    (Incr(1), SECOND, OVER_2, Untouched),
+    (Incr(1000000), TooLarge, Untouched, Untouched),
+    (Decr(1), Same, Untouched, Untouched),
+    (Decr(10), Same, Untouched, Untouched),
+    (Touch(100), Nothing, Untouched, Untouched),
+    (Delete, Nothing, Goes(OLD), Goes(OLD)),
+];
+
+// The item was hit by a touch, and dies at the moment 1100.
+static TOUCHED: [Row; 3] = [
+    (Get, Nothing, Woken(OLD), Woken(OLD)),
+    (Touch(200), Nothing, Woken(OLD), Woken(OLD)),
+    (Incr(1), SECOND, GROWN, Untouched),
+];
+
+// The item was hit twice.
+static ACTIVE: [Row; 2] = [
+    (Get, Nothing, Untouched, Untouched),
+    (Touch(100), Nothing, Untouched, Untouched),
+];
+
+// The item's value is no number.
+static TEXT: [Row; 2] = [
+    (Incr(1), Nothing, Untouched, Untouched),
+    (Decr(1), Nothing, Untouched, Untouched),
+];
+
+// The item is dead, so that the key has none once that is forgotten.
+static DEAD: [Row; 5] = [
+    (Get, Nothing, Untouched, Untouched),
+    (Store(Verb::Set, "1"), FIRST, NEW_1, Untouched),
+    (Store(Verb::Add, "1"), FIRST, NEW_1, Untouched),
+    (Store(Verb::Replace, "1"), Nothing, Untouched, Untouched),
+    (Delete, Nothing, Untouched, Untouched),
+];
+
+// What happened to a stripe, the moment at which a command is asked, and the link of the item that is dead then.
+type State = (&'static [rows::Row], u64, Option<Link>);
+
+// The class of an item that is touched: that it goes, is woken, or is replaced by a version of another class.
+fn class_touched(need: Need, fate: Fate) -> Option<ClassNo> {
+    match fate {
+        Fate::Untouched => None,
+        Fate::Goes(link) | Fate::Woken(link) => Some(link.class),
+        Fate::Renewed { old, .. } => match (need, old) {
+            (Fresh(class), Some(link)) if class.0 != link.class.0 => Some(link.class),
+            _ => None,
+        },
+    }
+}
+
+// The classes that a row wants.
+fn classes_in(row: Row) -> Classes {
+    let home = match row.1 {
+        Fresh(class) => Some(class),
+        Nothing | Same | TooLarge => None,
+    };
+    let other = class_touched(row.1, row.2);
+    Classes { home, other }
+}
+
+// The stripe to which that happened. The item that is dead has to be buried, and is.
+fn begun<R: Abort + RandomSource>(rt: &R, alloc: Global, state: State, asked: Asked) -> Tried {
+    let (rows, moment, dead) = state;
+    let mut tried = opened(rt, alloc);
+    check_rows(rt, alloc, &mut tried, rows);
+    if let Some(link) = dead {
+        let told = told_try(rt, alloc, &mut tried, WHO, asked, moment, Held::Nothing);
+        check_want(rt, &told, Want::Burial(link));
+        expire(rt, alloc, &mut tried.stripe, WHO, moment);
+    }
+    tried
+}
+
+type Told = Result<Result<Done, Want>, Fault>;
+
+// Ends the test where something else is wanted.
+fn check_want<R: Abort>(rt: &R, told: &Told, wanted: Want) {
+    match told {
+        Ok(Err(want)) => assert_eq!(rt; *want, wanted),
+        Ok(Ok(_)) | Err(_) => assert!(rt; false, "{wanted:?} should be wanted"),
+    }
+}
+
+// Ends the test where something else becomes of chunks.
+fn check_fate<R: Abort>(rt: &R, told: &Told, fate: Fate) {
+    match told {
+        Ok(Ok(done)) => assert_eq!(rt; done.fate, fate),
+        Ok(Err(_)) | Err(_) => assert!(rt; false, "{fate:?} should become of chunks"),
+    }
+}
+
+// Ends the test where a command wants something else than the row says, or else becomes of chunks with what a class lends.
+fn check_lent<R: Abort + RandomSource>(
+    rt: &R,
+    alloc: Global,
+    state: State,
+    row: Row,
+    lent: Lent,
+    fate: Fate,
+) {
+    let (asked, need, ..) = row;
+    let mut tried = begun(rt, alloc, state, asked);
+    assert_eq!(rt; need_of(&tried.stripe, &command_of(rt, alloc, asked)), need);
+    let classes = classes_in(row);
+    if classes.home.is_some() || classes.other.is_some() {
+        let told = told_try(rt, alloc, &mut tried, WHO, asked, state.1, Held::Nothing);
+        check_want(rt, &told, Want::Classes(classes));
+    }
+    let held = held_of(classes, lent, 2);
+    let told = told_try(rt, alloc, &mut tried, WHO, asked, state.1, held);
+    check_fate(rt, &told, fate);
+}
+
+// Ends the test where a command wants or does something else.
+fn check_wants<R: Abort + RandomSource>(rt: &R, alloc: Global, state: State, rows: &[Row]) {
+    for row in rows {
+        check_lent(rt, alloc, state, *row, Lent::Link, row.2);
+        check_lent(rt, alloc, state, *row, Lent::Refusal, row.3);
+    }
+}
+
+static NONE: [rows::Row; 1] = [(Events, "0")];
+
+#[test]
+fn what_is_wanted_of_an_absent_item(rt: HostRuntime) {
+    let state = (NONE.as_slice(), 1000, None);
+    check_wants(&rt, rt.alloc(), state, ABSENT.as_slice());
+}
+
+static NINE: [rows::Row; 1] = [(Answer(Store(Verb::Set, "9")), "Stored")];
+
+#[test]
+fn what_is_wanted_of_an_item_that_was_never_hit(rt: HostRuntime) {
+    let state = (NINE.as_slice(), 1000, None);
+    check_wants(&rt, rt.alloc(), state, THERE.as_slice());
+}
+
+static HIT: [rows::Row; 2] = [
+    (Answer(Store(Verb::Set, "9")), "Stored"),
+    (Answer(Touch(100)), "Touched"),
+];
+
+#[test]
+fn what_is_wanted_of_an_item_that_was_hit_once(rt: HostRuntime) {
+    let state = (HIT.as_slice(), 1000, None);
+    check_wants(&rt, rt.alloc(), state, TOUCHED.as_slice());
+    let state = (HIT.as_slice(), 1099, None);
+    check_wants(&rt, rt.alloc(), state, TOUCHED.as_slice());
+}
+
+#[test]
+fn what_is_wanted_of_a_dead_item(rt: HostRuntime) {
+    let state = (HIT.as_slice(), 1100, Some(OLD));
+    check_wants(&rt, rt.alloc(), state, DEAD.as_slice());
+}
+
+static HIT_TWICE: [rows::Row; 3] = [
+    (Answer(Store(Verb::Set, "9")), "Stored"),
+    (Answer(Touch(100)), "Touched"),
+    (
+        Answer(Get),
+        "Value { flags: 7, value: Value { bytes: [57] }, cas: 2 }",
+    ),
+];
+
+#[test]
+fn what_is_wanted_of_an_item_that_was_hit_twice(rt: HostRuntime) {
+    let state = (HIT_TWICE.as_slice(), 1000, None);
+    check_wants(&rt, rt.alloc(), state, ACTIVE.as_slice());
+}
+
+static LETTER: [rows::Row; 1] = [(Answer(Store(Verb::Set, "x")), "Stored")];
+
+#[test]
+fn what_is_wanted_of_an_item_that_is_no_number(rt: HostRuntime) {
+    let state = (LETTER.as_slice(), 1000, None);
+    check_wants(&rt, rt.alloc(), state, TEXT.as_slice());
+}
