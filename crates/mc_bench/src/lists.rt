@@ -40,7 +40,8 @@ fn link(alloc: Global, class: &mut ClassState, moment: u64) -> Result<(), Fault>
         return Err(Fault::NoMemory);
     };
     if class.count() < class.chunks() {
-        class.link(WHO, key, 66, moment, Expiry::Never)?;
+        let copy = key.copy(alloc)?;
+        class.link(WHO, key, Some(copy), 66, moment, Expiry::Never)?;
     }
     Ok(())
 }

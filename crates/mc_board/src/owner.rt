@@ -10,7 +10,7 @@ use crate::naming::NamesEvent;
 use crate::rule::Place;
 use crate::seen::Seen;
 use crate::steps::{Adds, Compares, Hears, Tells};
-use mc_history::History;
+use mc_history::{History, Shows};
 use mc_item::Logged;
 use std::marker::{Brand, Model};
 
@@ -86,7 +86,11 @@ impl Owner {
     /// Adds each event of the list, in order, that stands behind those that the history has: the history, which is a
     /// beginning of the list, then is the list. It has at most 2^32 events. It takes no memory and waits for nobody.
     #[inline(always)]
-    pub fn catch_up<E: Logged + Drop>(&mut self, board: &Board, events: &History<E>)
+    pub fn catch_up<E: Logged + Drop, S: Shows<E> + Drop>(
+        &mut self,
+        board: &Board,
+        events: &History<E, S>,
+    )
         requires board { self.old.board ≡ board.now.table }
         requires behind { IsPrefix self.old.history (map E.entry events.now.items) }
         requires room { length events.now.items ≤ 2 ^ 32 }
@@ -99,14 +103,19 @@ impl Owner {
 
     // Adds the list's event at that place.
     #[inline(always)]
-    fn append_at<E: Logged + Drop>(&mut self, board: &Board, events: &History<E>, place: usize)
+    fn append_at<E: Logged + Drop, S: Shows<E> + Drop>(
+        &mut self,
+        board: &Board,
+        events: &History<E, S>,
+        place: usize,
+    )
         requires board { self.old.board ≡ board.now.table }
         requires room { length self.old.history + 1 < 2 ^ 64 }
         ensures history { self.new ≡ record self.old {
           history = self.old.history ++ get_or (map E.entry events.now.items) place some_event ∷ [];
         } }
     {
-        add::<Brand, (&History<E>, usize)>(board, self.word, &mut self.place, &(events, place));
+        add::<Brand, (&History<E, S>, usize)>(board, self.word, &mut self.place, &(events, place));
         self.events += 1;
     }
 

@@ -1,16 +1,16 @@
 -- A history is one of two forms.
-use Rattle.std.specs.Prelude.{true, false, ⊤}
+use Rattle.std.specs.Prelude.{true, false, ⊤, map}
 use Rattle.mc_history.specs.Events.{Events}
 use Rattle.mc_history.specs.Pieces.{events_of, room_of, IsKept}
 use Rattle.mc_history.specs.declared.history.Form.{Form}
 use Rattle.mc_history.specs.declared.history.Form.TheVariants.{Kept, LetGo}
 
 -- what contracts see of either form
-abbrev pub history_of : {E : Type 0} → Form E → Events E
-history_of (Kept pieces) = record { items = events_of pieces; room = room_of pieces; kept = true }
-history_of (LetGo events) = record events { kept = false }
+abbrev pub history_of : {E S : Type 0} → (S → E) → Form E S → Events E
+history_of event_of (Kept pieces) = record { items = events_of pieces; room = room_of pieces; kept = true }
+history_of event_of (LetGo events) = record { items = map event_of events.items; room = events.room; kept = false }
 
 -- the pieces are sound, where there are any
-abbrev pub IsHeld : {E : Type 0} → Form E → Type 0
+abbrev pub IsHeld : {E S : Type 0} → Form E S → Type 0
 IsHeld (Kept pieces) = IsKept pieces
 IsHeld (LetGo _) = ⊤

@@ -8,22 +8,28 @@ use crate::pieces::Pieces;
 use std::alloc::{AllocError, Global};
 use std::marker::Model;
 
+/// What a history is shown of an event that it lets go, which owns nothing of the event.
+pub trait Shows<E> {
+    /// The event.
+    ghost event: { Self → E };
+}
+
 #[derive(Drop)]
-pub(crate) enum Form<E> {
+pub(crate) enum Form<E, S> {
     Kept(Pieces<E>),
-    LetGo(LetGo<E>),
+    LetGo(LetGo<S>),
 }
 
 /// Events, oldest first: kept in memory, or let go as they come. Those that are kept never move: growing takes memory
 /// for 4,096 more of them, and copies none. Contracts see the events, how many more need no memory, and whether they
 /// are kept.
 #[derive(Drop)]
-pub struct History<E> {
-    form: Form<E>,
+pub struct History<E, S: Shows<E>> {
+    form: Form<E, S>,
     alloc: Global,
 }
 
-impl<E> Model for History<E> {
+impl<E, S: Shows<E>> Model for History<E, S> {
     ghost use Rattle.mc_history.specs.Events.{Events, events_code};
 
     ghost Value = { Events E };
@@ -32,14 +38,14 @@ impl<E> Model for History<E> {
 
     ghost use Rattle.mc_history.specs.Forms.{history_of, IsHeld};
 
-    ghost view = { λ h. history_of h.form };
+    ghost view = { λ h. history_of S.event h.form };
 
     ghost invariant = { λ h. IsHeld h.form };
 }
 
-impl<E: Drop> History<E> {
+impl<E: Drop, S: Shows<E> + Drop> History<E, S> {
     /// A history without events. It takes no memory.
-    pub fn new(alloc: Global) -> History<E>
+    pub fn new(alloc: Global) -> History<E, S>
         ensures items { result.items ≡ [] }
         ensures room { result.room ≡ 0 }
         ensures kept { result.kept ≡ true }
@@ -51,7 +57,7 @@ impl<E: Drop> History<E> {
     }
 
     /// A history without events, which keeps them or lets each go as it comes. One that lets them go never takes memory.
-    pub fn keeping(alloc: Global, keeps: bool) -> History<E>
+    pub fn keeping(alloc: Global, keeps: bool) -> History<E, S>
         ensures items { result.items ≡ [] }
         ensures room { result.room ≡ 0 }
         ensures kept { result.kept ≡ keeps }
@@ -102,17 +108,33 @@ impl<E: Drop> History<E> {
         }
     }
 
-    /// Adds an event at the end, where there is room for it. It takes no memory.
+    /// Whether events are kept.
     #[inline(always)]
-    pub fn push_reserved(&mut self, event: E)
+    pub fn keeps(&self) -> bool
+        ensures { result ≡ self.now.kept }
+    {
+        match &self.form {
+            Form::Kept(_) => true,
+            Form::LetGo(_) => false,
+        }
+    }
+
+    /// Adds an event at the end, if there is room for it: one that keeps events is given it, one that lets them go is shown
+    /// it. It takes no memory.
+    #[inline(always)]
+    pub fn push_reserved(&mut self, shown: &S, event: Option<E>)
         requires room { 0 < self.old.room }
-        ensures items { self.new.items ≡ self.old.items ++ event ∷ [] }
+        requires event { self.old.kept ≡ true → event ≡ Some (S.event shown.now) }
+        ensures items { self.new.items ≡ self.old.items ++ S.event shown.now ∷ [] }
         ensures room { self.old.room ≡ self.new.room + 1 }
         ensures kept { self.new.kept ≡ self.old.kept }
     {
         match &mut self.form {
-            Form::Kept(pieces) => pieces.push_reserved(event),
-            Form::LetGo(events) => events.push_reserved(event),
+            Form::Kept(pieces) => match event {
+                Some(event) => pieces.push_reserved(event),
+                None => unreachable!(),
+            },
+            Form::LetGo(events) => events.push_shown(shown),
         }
     }
 }

@@ -68,14 +68,14 @@ impl<E: Drop> LetGo<E> {
         Ok(())
     }
 
-    // Lets an event go. It is the last of the list, where there is room for it.
+    // Lets an event go that it is shown. It is the last of the list, if there is room for it.
     #[inline(always)]
-    pub(crate) fn push_reserved(&mut self, event: E)
+    pub(crate) fn push_shown(&mut self, event: &E)
         requires room { 0 < self.old.room }
-        ensures items { self.new ≡ record self.old { items = self.old.items ++ event ∷ []; room = self.new.room } }
+        ensures items { self.new ≡ record self.old { items = self.old.items ++ event.now ∷ []; room = self.new.room } }
         ensures room { self.old.room ≡ self.new.room + 1 }
     {
-        self.told.push(&event);
+        self.told.push(event);
         self.len += 1;
     }
 }

@@ -6,4 +6,4 @@ mod let_go;
 mod pieces;
 mod told;
 
-pub use history::History;
+pub use history::{History, Shows};

@@ -54,10 +54,10 @@ use Rattle.mc_stripe.specs.declared.fate.Fate.TheVariants as fates
 use Rattle.mc_stripe.specs.declared.wanting.Given.{Given}
 use Rattle.mc_stripe.specs.declared.wanting.Home.{Home}
 use Rattle.mc_stripe.specs.declared.wanting.Other.{Other}
-use Rattle.mc_pull.specs.declared.kinds.Turn.{Turn}
+use Rattle.mc_stripe.specs.declared.trying.Turn.{Turn}
 use Rattle.mc_pull.specs.Agreeing.{AgreeNow}
 use Rattle.mc_pull.specs.Attempt.{GivesHome, HasFree, HasRoomFor, IsAny, IsSmallFate, MayTryOn, OffersHome, OffersOther}
-use Rattle.mc_pull.specs.Kinds.{woken_by}
+use Rattle.mc_stripe.specs.Plan.{woken_by}
 use Rattle.mc_pull.specs.Lent.{Each, IsLent, IsLentIf}
 use Rattle.mc_pull.specs.Parts.{gone_part, hit_part, is_cold, is_for, is_here, is_warming, new_part, number_in, part_for, places_of}
 use Rattle.mc_pull.specs.Perform.{AreLent, GivesRoom, MayAnswer, MayPerform, call, fate_for}

@@ -3,7 +3,6 @@ use Rattle.std.specs.Prelude.{ℕ, ◌≡◌, ◌<◌, ◌≤◌, ◌+◌, ◌^�
 use Rattle.mc_item.specs.Command.{key_of}
 use Rattle.mc_item.specs.Measure.{stripe_of}
 use Rattle.mc_item.specs.declared.class_event.ClassEvent.TheVariants as class_events
-use Rattle.mc_item.specs.declared.answer.Site.{Site}
 use Rattle.mc_item.specs.declared.command.Command.{Command}
 use Rattle.mc_item.specs.declared.config.Config.{Config}
 use Rattle.mc_item.specs.declared.reply.Reply.{Reply}
@@ -22,7 +21,7 @@ use Rattle.mc_stripe.specs.declared.wanting.Home.{Home}
 use Rattle.mc_stripe.specs.declared.wanting.Other.{Other}
 use Rattle.mc_pull.specs.declared.attempting.Tried.{Tried}
 use Rattle.mc_pull.specs.declared.attempting.Tried.TheVariants as tried
-use Rattle.mc_pull.specs.declared.kinds.Turn.{Turn}
+use Rattle.mc_stripe.specs.declared.trying.Turn.{Turn}
 use Rattle.mc_pull.specs.Agreeing.{AgreeNow, KeepsAgreements}
 use Rattle.mc_pull.specs.Lent.{AreDistinct, Each}
 use Rattle.mc_pull.specs.Perform.{MayPerform, answer_to, call}
@@ -109,10 +108,8 @@ pub record IsMadeOn (config : Config) (s s_new : Stripe) (command : Command) (tu
   pub agreement : KeepsAgreements (call turn.who command turn.moment room) s s_new vs ws
   pub sight : KeepsSights (call turn.who command turn.moment room) s s_new vs ws
 
--- tries of one command on a stripe and its classes, with what it is given
-module _ {K : Type 0} (command : K → Command) (suits : K → Site → Type 0) (config : Config) (s s_new : Stripe) (made : Command) (turn : Turn) (given : Given) (vs ws : List ClassView) where
-  -- what a try came to: the command was made, or it is given back with what it wants, and nothing happened
-  abbrev pub IsTriedBy : Tried K → Type 0
-  IsTriedBy (tried.Made reply) = IsMadeOn config s s_new made turn given vs ws reply
-  IsTriedBy (tried.Wants kind want) =
-      (command kind ≡ made) × suits kind s.site × IsUntouched s s_new vs ws × IsWanting given (key_of made) (item_of s made) turn.moment (row_at s made turn.moment) want
+-- what a try came to: the command was made, or it wants something, and nothing happened
+abbrev pub IsTriedBy : Config → (s s_new : Stripe) → Command → Turn → Given → (vs ws : List ClassView) → Tried → Type 0
+IsTriedBy config s s_new command turn given vs ws (tried.Made reply) = IsMadeOn config s s_new command turn given vs ws reply
+IsTriedBy config s s_new command turn given vs ws (tried.Wants want) =
+    IsUntouched s s_new vs ws × IsWanting given (key_of command) (item_of s command) turn.moment (row_at s command turn.moment) want

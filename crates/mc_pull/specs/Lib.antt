@@ -18,5 +18,4 @@ pub mod Perform
 pub mod Agreeing
 pub mod Sight
 pub mod Performed
-pub mod Kinds
 pub mod Attempt

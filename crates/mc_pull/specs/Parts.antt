@@ -105,3 +105,11 @@ MayMake c (parts.Links key cost expiry) = MayLink c cost
 MayMake c (parts.Renews key cost expiry number) = MayLink c cost × IsListed number (lists_of c.history)
 MayMake c (parts.Unlinks number) = IsListed number (lists_of c.history)
 MayMake c (parts.Warms number) = segment_of number (lists_of c.history) ≡ Some Cold
+
+-- the key of a new entry once more
+abbrev pub Copies : Part → Option (List ℕ) → Type 0
+Copies parts.Nothing copy = Unit {0}
+Copies (parts.Links key cost expiry) copy = copy ≡ Some key
+Copies (parts.Renews key cost expiry number) copy = copy ≡ Some key
+Copies (parts.Unlinks number) copy = Unit {0}
+Copies (parts.Warms number) copy = Unit {0}

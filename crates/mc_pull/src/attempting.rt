@@ -1,5 +1,5 @@
 //! One try of a command on its stripe and the classes that it is lent, which agree with the stripe. It is made, with its part in
-//! each class, or it is given back with what it wants, and nothing happened. All growths come first: after a fault nothing of it
+//! each class, or it wants something, and nothing happened. All growths come first: after a fault nothing of it
 //! stands. `HistoryFull` is answered only where a history lacks a place that the command needs in it.
 ghost use Rattle.std.specs.Prelude.{if◌then◌else◌, ◌≡◌, ◌≤◌, ◌<◌, ◌+◌, ◌∷◌, [], ◌||◌, true, Some, None, IfOk, OnErr, OnOk, IsErrOf, length};
 ghost use Rattle.mc_item.specs.declared.config.Config.{Config};
@@ -16,19 +16,18 @@ ghost use Rattle.mc_pull.specs.Performed.{IsUntouched, MayRefuseCall};
 ghost use Rattle.mc_pull.specs.Question.{IsClassOf, IsStripeOf};
 
 use crate::certain::cool_if;
-use crate::kinds::{Kind, Turn};
 use crate::making::make;
 use crate::parts::{Part, gone_part, hit_part, is_here, linked_part, number_in};
-use mc_item::{Fault, Key, Link, NoMemory, Reply, Room};
+use mc_item::{Command, Fault, Key, Link, NoMemory, Reply, Room};
 use mc_segment::ClassState;
-use mc_stripe::{Done, Fate, Given, Home, Other, StripeState, Want};
+use mc_stripe::{Done, Fate, Given, Home, Other, StripeState, Turn, Want};
 use std::alloc::Global;
 
-/// What a try came to: the command was made, or it is given back with what it wants.
+/// What a try came to: the command was made, or it wants something.
 #[derive(Drop)]
-pub enum Tried<K> {
+pub enum Tried {
     Made(Reply),
-    Wants(K, Want),
+    Wants(Want),
 }
 
 // For how many events more, of at most one or two, a class's history has places.
@@ -171,16 +170,11 @@ fn room_if(stripe: &mut StripeState, warms: bool) -> Result<(), Fault>
 
 /// A command that is lent no class.
 #[inline(always)]
-pub fn attempt_none<K: Kind + Drop>(
-    stripe: &mut StripeState,
-    kind: K,
-    turn: Turn,
-) -> Result<Tried<K>, Fault>
-    requires suits { K.suits kind stripe.old.site }
-    requires may { MayTryOn stripe.old [] (K.command kind) turn (record { home = None; other = None }) }
-    ensures tried { (config : Config) → IsStripeOf config stripe.old → IfOk result (IsTriedBy K.command K.suits config stripe.old stripe.new (K.command kind) turn (record { home = None; other = None }) [] []) }
+pub fn attempt_none(stripe: &mut StripeState, command: &Command, turn: Turn) -> Result<Tried, Fault>
+    requires may { MayTryOn stripe.old [] command.now turn (record { home = None; other = None }) }
+    ensures tried { (config : Config) → IsStripeOf config stripe.old → IfOk result (IsTriedBy config stripe.old stripe.new command.now turn (record { home = None; other = None }) [] []) }
     ensures err { OnErr result (IsUntouched stripe.old stripe.new [] []) }
-    ensures refusal { IsErrOf result HistoryFull → MayRefuseCall stripe.old (call turn.who (K.command kind) turn.moment rooms.Keep) [] HistoryFull }
+    ensures refusal { IsErrOf result HistoryFull → MayRefuseCall stripe.old (call turn.who command.now turn.moment rooms.Keep) [] HistoryFull }
     ensures site { KeepsSite stripe.old stripe.new }
 {
     stripe.history();
@@ -188,43 +182,44 @@ pub fn attempt_none<K: Kind + Drop>(
         home: None,
         other: None,
     };
-    match kind.attempt(stripe, turn, given)? {
+    match stripe.attempt(command, turn, given)? {
         Ok(done) => Ok(Tried::Made(done.reply)),
-        Err((kind, want)) => Ok(Tried::Wants(kind, want)),
+        Err(want) => Ok(Tried::Wants(want)),
     }
 }
 
 /// A command that is lent one class.
 #[inline(always)]
-pub fn attempt_one<K: Kind + Drop>(
+pub fn attempt_one(
     alloc: Global,
     stripe: &mut StripeState,
     class: &mut ClassState,
-    kind: K,
+    command: &Command,
     turn: Turn,
     given: Given,
-) -> Result<Tried<K>, Fault>
-    requires suits { K.suits kind stripe.old.site }
-    requires may { MayTryOn stripe.old (class.old ∷ []) (K.command kind) turn given }
+) -> Result<Tried, Fault>
+    requires may { MayTryOn stripe.old (class.old ∷ []) command.now turn given }
     requires room { HasRoomFor given class.old }
-    ensures tried { (config : Config) → IsStripeOf config stripe.old → IsClassOf config class.old → IfOk result (IsTriedBy K.command K.suits config stripe.old stripe.new (K.command kind) turn given (class.old ∷ []) (class.new ∷ [])) }
+    ensures tried { (config : Config) → IsStripeOf config stripe.old → IsClassOf config class.old → IfOk result (IsTriedBy config stripe.old stripe.new command.now turn given (class.old ∷ []) (class.new ∷ [])) }
     ensures err { OnErr result (IsUntouched stripe.old stripe.new (class.old ∷ []) (class.new ∷ [])) }
-    ensures refusal { IsErrOf result HistoryFull → MayRefuseCall stripe.old (call turn.who (K.command kind) turn.moment rooms.Keep) (class.old ∷ []) HistoryFull }
+    ensures refusal { IsErrOf result HistoryFull → MayRefuseCall stripe.old (call turn.who command.now turn.moment rooms.Keep) (class.old ∷ []) HistoryFull }
     ensures site { KeepsSite stripe.old stripe.new }
 {
     class.law();
     let at = stripe.history().len() as u64 + 1;
-    let warms = wake(class, kind.key(), kind.woken(stripe, turn.moment))?;
+    let warms = wake(class, command.key(), stripe.woken(command, turn.moment))?;
     room_if(stripe, warms)?;
-    let cooled = key_if(alloc, kind.key(), warms)?;
-    let key = kind.key().copy(alloc)?;
-    match kind.attempt(stripe, turn, given)? {
-        Err((kind, want)) => Ok(Tried::Wants(kind, want)),
+    let cooled = key_if(alloc, command.key(), warms)?;
+    let key = command.key().copy(alloc)?;
+    let copy = key_if(alloc, command.key(), class.keeps_events())?;
+    match stripe.attempt(command, turn, given)? {
+        Err(want) => Ok(Tried::Wants(want)),
         Ok(done) => {
             let Done { reply, room, fate } = done;
             make(
                 class,
                 part_after(class, key, room, fate),
+                copy,
                 turn.who,
                 turn.moment,
                 at,
@@ -244,41 +239,43 @@ fn is_either(first: bool, second: bool) -> bool
 
 /// A command that is lent two classes.
 #[inline(never)]
-pub fn attempt_two<K: Kind + Drop>(
+pub fn attempt_two(
     alloc: Global,
     stripe: &mut StripeState,
     home: &mut ClassState,
     other: &mut ClassState,
-    kind: K,
+    command: &Command,
     turn: Turn,
     given: Given,
-) -> Result<Tried<K>, Fault>
-    requires suits { K.suits kind stripe.old.site }
-    requires may { MayTryOn stripe.old (home.old ∷ other.old ∷ []) (K.command kind) turn given }
+) -> Result<Tried, Fault>
+    requires may { MayTryOn stripe.old (home.old ∷ other.old ∷ []) command.now turn given }
     requires room { HasRoomFor given home.old × HasRoomFor given other.old }
-    ensures tried { (config : Config) → IsStripeOf config stripe.old → IsClassOf config home.old → IsClassOf config other.old → IfOk result (IsTriedBy K.command K.suits config stripe.old stripe.new (K.command kind) turn given (home.old ∷ other.old ∷ []) (home.new ∷ other.new ∷ [])) }
+    ensures tried { (config : Config) → IsStripeOf config stripe.old → IsClassOf config home.old → IsClassOf config other.old → IfOk result (IsTriedBy config stripe.old stripe.new command.now turn given (home.old ∷ other.old ∷ []) (home.new ∷ other.new ∷ [])) }
     ensures err { OnErr result (IsUntouched stripe.old stripe.new (home.old ∷ other.old ∷ []) (home.new ∷ other.new ∷ [])) }
-    ensures refusal { IsErrOf result HistoryFull → MayRefuseCall stripe.old (call turn.who (K.command kind) turn.moment rooms.Keep) (home.old ∷ other.old ∷ []) HistoryFull }
+    ensures refusal { IsErrOf result HistoryFull → MayRefuseCall stripe.old (call turn.who command.now turn.moment rooms.Keep) (home.old ∷ other.old ∷ []) HistoryFull }
     ensures site { KeepsSite stripe.old stripe.new }
 {
     home.law();
     other.law();
     let at = stripe.history().len() as u64 + 1;
-    let woken = kind.woken(stripe, turn.moment);
-    let warms_home = wake(home, kind.key(), woken)?;
-    let warms_other = wake(other, kind.key(), woken)?;
+    let woken = stripe.woken(command, turn.moment);
+    let warms_home = wake(home, command.key(), woken)?;
+    let warms_other = wake(other, command.key(), woken)?;
     let warms = is_either(warms_home, warms_other);
     room_if(stripe, warms)?;
-    let cooled = key_if(alloc, kind.key(), warms)?;
-    let name = kind.key().copy(alloc)?;
-    let key = kind.key().copy(alloc)?;
-    match kind.attempt(stripe, turn, given)? {
-        Err((kind, want)) => Ok(Tried::Wants(kind, want)),
+    let cooled = key_if(alloc, command.key(), warms)?;
+    let name = command.key().copy(alloc)?;
+    let key = command.key().copy(alloc)?;
+    let first = key_if(alloc, command.key(), home.keeps_events())?;
+    let second = key_if(alloc, command.key(), other.keeps_events())?;
+    match stripe.attempt(command, turn, given)? {
+        Err(want) => Ok(Tried::Wants(want)),
         Ok(done) => {
             let Done { reply, room, fate } = done;
             make(
                 home,
                 part_after(home, key, room, fate),
+                first,
                 turn.who,
                 turn.moment,
                 at,
@@ -286,6 +283,7 @@ pub fn attempt_two<K: Kind + Drop>(
             make(
                 other,
                 part_after(other, name, room, fate),
+                second,
                 turn.who,
                 turn.moment,
                 at,

@@ -1,5 +1,5 @@
 //! Events that room was made for: none of these calls takes memory or can be refused.
-ghost use Rattle.std.specs.Prelude.{◌≡◌, ◌<◌, ◌≤◌, ◌+◌, ◌^◌, length, true, IfSome, IsSome, IsSomeAnd, MatchOption};
+ghost use Rattle.std.specs.Prelude.{◌≡◌, ◌<◌, ◌≤◌, ◌+◌, ◌^◌, length, true, Some, IfSome, IsSome, IsSomeAnd, MatchOption};
 ghost use Rattle.mc_rule.specs.Lists.{lists_of, count_of, segment_of};
 ghost use Rattle.mc_item.specs.Stripe.{IsDead};
 ghost use Rattle.mc_item.specs.declared.stripe_event.Cause.TheVariants as causes;
@@ -18,10 +18,12 @@ pub(crate) fn link(
     class: &mut ClassState,
     who: Who,
     key: Key,
+    copy: Option<Key>,
     cost: u64,
     moment: u64,
     expiry: Expiry,
 )
+    requires copy { class.old.keeps_events ≡ true → copy ≡ Some key }
     requires room { 0 < class.old.room }
     requires place { HasPlaces class.old 1 }
     requires free { count_of (lists_of class.old.history) < class.old.chunks }
@@ -29,7 +31,7 @@ pub(crate) fn link(
     ensures event { class.new ≡ appended class.old (linked_event class.old who key cost moment expiry) class.new.room }
     ensures room { class.old.room ≤ class.new.room + 1 }
 {
-    match class.link(who, key, cost, moment, expiry) {
+    match class.link(who, key, copy, cost, moment, expiry) {
         Ok(_) => {}
         Err(_) => unreachable!(),
     }

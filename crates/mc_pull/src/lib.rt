@@ -6,7 +6,6 @@ mod attempting;
 mod certain;
 mod judge;
 mod juggling;
-mod kinds;
 mod lone;
 mod looking;
 mod making;
@@ -24,7 +23,6 @@ pub use attempting::{
 };
 pub use judge::{Ask, Done, Judge, Mode};
 pub use juggling::juggle;
-pub use kinds::{Count, Delete, Get, Huge, Kind, Put, Touch, Turn};
 pub use lone::Lone;
 pub use looking::{Answer, Gate, Judged, Look};
 pub use pulled::Pulled;

@@ -1,33 +1,43 @@
 //! A class's part of a command is made.
-ghost use Rattle.std.specs.Prelude.{◌≡◌, ◌≤◌};
+ghost use Rattle.std.specs.Prelude.{◌≡◌, ◌≤◌, true};
 ghost use Rattle.mc_segment.specs.ClassState.{HasPlaces};
 ghost use Rattle.mc_pull.specs.Settled.{class_with};
 ghost use Rattle.mc_pull.specs.Parts as words;
-ghost use Rattle.mc_pull.specs.Parts.{part_events, MayMake};
+ghost use Rattle.mc_pull.specs.Parts.{part_events, Copies, MayMake};
 
 use crate::certain;
 use crate::parts::Part;
-use mc_item::{Passed, Seg, Who, Why};
+use mc_item::{Key, Passed, Seg, Who, Why};
 use mc_segment::ClassState;
 
-/// Makes the events of a class's part, which room was made for.
+/// Makes the events of a class's part, which room was made for. `copy` is the key of a new entry once more, if events are kept.
 #[inline(always)]
-pub(crate) fn make(class: &mut ClassState, part: Part, who: Who, moment: u64, at: u64)
+pub(crate) fn make(
+    class: &mut ClassState,
+    part: Part,
+    copy: Option<Key>,
+    who: Who,
+    moment: u64,
+    at: u64,
+)
     requires room { words.places_of part ≤ class.old.room }
     requires place { HasPlaces class.old (words.places_of part) }
     requires may { MayMake class.old part }
+    requires copy { class.old.keeps_events ≡ true → Copies part copy }
     ensures { class.new ≡ class_with class.old (part_events class.old who moment at part) class.new.room }
 {
     match part {
         Part::Nothing => {}
-        Part::Links { key, cost, expiry } => certain::link(class, who, key, cost, moment, expiry),
+        Part::Links { key, cost, expiry } => certain::link(
+            class, who, key, copy, cost, moment, expiry,
+        ),
         Part::Renews {
             key,
             cost,
             expiry,
             number,
         } => {
-            certain::link(class, who, key, cost, moment, expiry);
+            certain::link(class, who, key, copy, cost, moment, expiry);
             certain::unlink(class, who, number);
         }
         Part::Unlinks(number) => certain::unlink(class, who, number),

@@ -22,11 +22,11 @@ use Rattle.mc_stripe.specs.StripeCalls.{KeepsSite}
 use Rattle.mc_stripe.specs.StripeState.{Stripe}
 use Rattle.mc_stripe.specs.Trying.{row_at}
 use Rattle.mc_stripe.specs.Wanting.{IsTaken}
+use Rattle.mc_stripe.specs.declared.trying.Turn.{Turn}
 use Rattle.mc_stripe.specs.declared.wanting.Given.{Given}
 use Rattle.mc_stripe.specs.declared.wanting.Home.{Home}
 use Rattle.mc_pull.specs.declared.attempting.Tried.{Tried}
 use Rattle.mc_pull.specs.declared.attempting.Tried.TheVariants as tried
-use Rattle.mc_pull.specs.declared.kinds.Turn.{Turn}
 use Rattle.mc_pull.specs.Agreeing.{AgreeNow, IsApart, KeepsAgreement}
 use Rattle.mc_pull.specs.Attempt.{GivesHome, IsAny, IsOffered, IsTriedBy, OffersHome}
 use Rattle.mc_pull.specs.Lent.{EachPair}
@@ -124,8 +124,8 @@ module _ (given : Given) (refused : Option ℕ) (who : Who) (vs : List ClassView
   none_elsewhere needs.TooLarge taken apart = no_keep taken
 
 -- ---- what a try came to
-module _ {K : Type 0} (command : K → Command) (suits : K → Site → Type 0) (config : Config) (s s_new : Stripe) (made : Command) (turn : Turn) (given : Given) (vs ws : List ClassView) (site : KeepsSite s s_new) where
-  tried_kept : (refused : Option ℕ) → IsOffered given refused turn.who vs → (t : Tried K) → IsTriedBy command suits config s s_new made turn given vs ws t → Kept s s_new vs ws
+module _ (config : Config) (s s_new : Stripe) (made : Command) (turn : Turn) (given : Given) (vs ws : List ClassView) (site : KeepsSite s s_new) where
+  tried_kept : (refused : Option ℕ) → IsOffered given refused turn.who vs → (t : Tried) → IsTriedBy config s s_new made turn given vs ws t → Kept s s_new vs ws
   tried_kept refused offered (tried.Made reply) is = record {
     site = site;
     like = gains_like s (call turn.who made turn.moment is.room) vs ws is.performed.classes;
@@ -136,10 +136,10 @@ module _ {K : Type 0} (command : K → Command) (suits : K → Site → Type 0) 
         (subst (IsTaken given (row_at s made turn.moment).need) refusal is.uses.taken) apart))
         agree;
   }
-  tried_kept refused offered (tried.Wants kind want) is = untouched_kept s s_new vs ws site is.2
+  tried_kept refused offered (tried.Wants want) is = untouched_kept s s_new vs ws site is.0
 
   -- whether it was tried, or failed
-  pub attempt_kept : (refused : Option ℕ) → IsOffered given refused turn.who vs → (result : Result (Tried K) Fault) → IfOk result (IsTriedBy command suits config s s_new made turn given vs ws) → OnErr result (IsUntouched s s_new vs ws)
+  pub attempt_kept : (refused : Option ℕ) → IsOffered given refused turn.who vs → (result : Result Tried Fault) → IfOk result (IsTriedBy config s s_new made turn given vs ws) → OnErr result (IsUntouched s s_new vs ws)
       → Kept s s_new vs ws
   attempt_kept refused offered (Ok t) is err = tried_kept refused offered t is
   attempt_kept refused offered (Err fault) is err = untouched_kept s s_new vs ws site err

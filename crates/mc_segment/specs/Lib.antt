@@ -3,6 +3,6 @@ pub mod Links
 pub mod Nodes
 pub mod Slots
 pub mod Arena
-pub mod ClassStored
+pub mod Shown
 pub mod ClassState
 pub mod ClassCalls

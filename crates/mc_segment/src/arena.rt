@@ -214,7 +214,7 @@ impl Arena {
     }
 
     /// Takes the entry of a number that is in a list.
-    pub fn remove(&mut self, number: u64) -> Entry
+    pub fn remove(&mut self, number: u64)
         requires there { IsSome (found number self.old.lists) }
         ensures lists { self.new.lists ≡ unlinked number self.old.lists }
         ensures inside { number < self.old.next }
@@ -222,8 +222,7 @@ impl Arena {
         ensures same { self.new.next ≡ self.old.next }
         ensures room { self.old.room ≤ self.new.room }
     {
-        let (_, entry) = self.take(number, false).unwrap();
-        entry
+        let _ = self.take(number, false).unwrap();
     }
 
     /// The entry of a number goes from the list that it is in to the head of another, or of its own.

@@ -1,11 +1,10 @@
 //! Entries that leave their list for good.
-ghost use Rattle.std.specs.Prelude.{◌≡◌, ◌<◌, ◌≤◌, ◌+◌, OnOk, OnErr};
+ghost use Rattle.std.specs.Prelude.{◌<◌, ◌≤◌, ◌+◌, OnOk, OnErr};
 ghost use Rattle.mc_segment.specs.ClassState.{HasPlaces};
 ghost use Rattle.mc_segment.specs.ClassCalls.{unlinked_event, reclaimed_event, evicted_event, MayCome, Makes, Stays, MayEnd};
 
-use crate::noted::ClassNoted;
 use crate::state::ClassState;
-use mc_item::{Fault, Passed, Who};
+use mc_item::{ClassEvent, Evicted, Fault, Passed, Reclaimed, Unlinked, Who};
 
 impl ClassState {
     /// An entry goes with its item. It is in a list. `HistoryFull` exactly where the history has no place left,
@@ -17,7 +16,7 @@ impl ClassState {
         ensures refusal { MayEnd self.old result }
         ensures room { self.old.room ≤ self.new.room + 1 }
     {
-        self.leave(number, ClassNoted::unlinked(who, number))
+        self.leave(number, ClassEvent::Unlinked(Unlinked { who, number }))
     }
 
     /// An entry goes with its item, where room was made: it takes no memory and can't be refused.
@@ -42,7 +41,13 @@ impl ClassState {
         ensures refusal { MayEnd self.old result }
         ensures room { self.old.room ≤ self.new.room + 1 }
     {
-        self.leave(number, ClassNoted::reclaimed(who, number, moment, at))
+        let event = ClassEvent::Reclaimed(Reclaimed {
+            who,
+            number,
+            moment,
+            at,
+        });
+        self.leave(number, event)
     }
 
     /// An entry goes whose item is dead, where room was made: it takes no memory and can't be refused.
@@ -67,7 +72,13 @@ impl ClassState {
         ensures refusal { MayEnd self.old result }
         ensures room { self.old.room ≤ self.new.room + 1 }
     {
-        self.leave(number, ClassNoted::evicted(who, number, passed, at))
+        let event = ClassEvent::Evicted(Evicted {
+            who,
+            number,
+            passed,
+            at,
+        });
+        self.leave(number, event)
     }
 
     /// An entry is taken near COLD's tail, where room was made: it takes no memory and can't be refused.

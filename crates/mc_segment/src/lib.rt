@@ -6,16 +6,15 @@ mod ends;
 mod leaving;
 mod linking;
 mod looks;
-mod noted;
-mod noting;
 mod reading;
 mod shifting;
+mod shown;
 mod slots;
 mod state;
 mod steps;
 mod surveying;
 
 pub use mc_item::Passed;
-pub use noted::ClassNoted;
+pub use shown::ShownClass;
 pub use state::ClassState;
 pub use surveying::Survey;

@@ -1,5 +1,5 @@
 //! New entries.
-ghost use Rattle.std.specs.Prelude.{◌≡◌, ◌<◌, ◌≤◌, ◌+◌, ◌^◌, IfOk, OnOk, OnErr};
+ghost use Rattle.std.specs.Prelude.{◌≡◌, ◌<◌, ◌≤◌, ◌+◌, ◌^◌, Some, true, IfOk, OnOk, OnErr};
 ghost use Rattle.mc_rule.specs.Lists.{lists_of, links_of, count_of};
 ghost use Rattle.mc_rule.specs.Segment as rules;
 ghost use Rattle.mc_segment.specs.ClassState.{HasPlaces};
@@ -25,19 +25,22 @@ impl ClassState {
         }
     }
 
-    /// A new entry at the head of TEMP, where that is in use and the item dies soon, else of HOT. It answers the
-    /// entry's number. The class is not full, and the cost is at most 2^20 bytes. `HistoryFull` exactly where the
-    /// history has no place left, `NoMemory` only where the room is 0.
+    /// Puts a new entry at the head of TEMP, if that is in use and the item dies soon, else of HOT, and returns the
+    /// entry's number. The entry takes the key. A class that keeps its events is given a copy of the key for the event.
+    /// The class is not full, and the cost is at most 2^20 bytes. `HistoryFull` exactly if the history has no place
+    /// left, `NoMemory` only if the room is 0.
     pub fn link(
         &mut self,
         who: Who,
         key: Key,
+        copy: Option<Key>,
         cost: u64,
         moment: u64,
         expiry: Expiry,
     ) -> Result<u64, Fault>
         requires free { count_of (lists_of self.old.history) < self.old.chunks }
         requires cost { cost ≤ 2 ^ 20 }
+        requires copy { self.old.keeps_events ≡ true → copy ≡ Some key }
         ensures number { IfOk result (λ number. number ≡ links_of self.old.history) }
         ensures ok { OnOk result (Makes self.old self.new (linked_event self.old who key cost moment expiry)) }
         ensures err { OnErr result (Stays self.old self.new) }
@@ -45,7 +48,7 @@ impl ClassState {
         ensures room { self.old.room ≤ self.new.room + 1 }
     {
         let seg = self.segment_for(moment, expiry);
-        self.enter(who, key, cost, seg, moment)
+        self.enter(who, key, copy, cost, seg, moment)
     }
 
     /// The same, where room was made: it takes no memory and can't be refused.
@@ -53,6 +56,7 @@ impl ClassState {
         &mut self,
         who: Who,
         key: Key,
+        copy: Option<Key>,
         cost: u64,
         moment: u64,
         expiry: Expiry,
@@ -61,11 +65,12 @@ impl ClassState {
         requires place { HasPlaces self.old 1 }
         requires free { count_of (lists_of self.old.history) < self.old.chunks }
         requires cost { cost ≤ 2 ^ 20 }
+        requires copy { self.old.keeps_events ≡ true → copy ≡ Some key }
         ensures number { result ≡ links_of self.old.history }
         ensures event { Makes self.old self.new (linked_event self.old who key cost moment expiry) }
         ensures room { self.old.room ≤ self.new.room + 1 }
     {
-        let Ok(number) = self.link(who, key, cost, moment, expiry) else {
+        let Ok(number) = self.link(who, key, copy, cost, moment, expiry) else {
             unreachable!();
         };
         number

@@ -8,10 +8,10 @@ ghost use Rattle.mc_rule.specs.Segment.{numbers_of, numbers_behind};
 ghost use Rattle.mc_item.specs.declared.lists.Seg.{Seg};
 ghost use Rattle.mc_rule.specs.Lawful.{is_named, IsIn, IsListed, IsLawfulHistoryByLists};
 
-use crate::noted::ClassNoted;
+use crate::shown::ShownClass;
 use crate::state::ClassState;
 use mc_history::History;
-use mc_item::{ClassNo, Entry, Key, NoMemory, Passed, Seg};
+use mc_item::{ClassEvent, ClassNo, Entry, Key, NoMemory, Passed, Seg};
 
 impl ClassState {
     /// The class's number.
@@ -22,11 +22,19 @@ impl ClassState {
     }
 
     /// All that happened, oldest first.
-    pub fn history(&self) -> &History<ClassNoted>
+    pub fn history(&self) -> &History<ClassEvent, ShownClass>
         ensures value { result.now.items ≡ self.now.history }
         ensures kept { result.now.kept ≡ self.now.keeps_events }
     {
         &self.history
+    }
+
+    /// Whether the history's events are kept.
+    #[inline(always)]
+    pub fn keeps_events(&self) -> bool
+        ensures { result ≡ self.now.keeps_events }
+    {
+        self.history.keeps()
     }
 
     /// The number of the next new entry: entries are numbered from 0, and no number is used again.

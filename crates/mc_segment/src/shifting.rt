@@ -1,12 +1,12 @@
 //! Entries that move between lists.
-ghost use Rattle.std.specs.Prelude.{◌≡◌, ◌<◌, ◌≤◌, ◌+◌, OnOk, OnErr};
+ghost use Rattle.std.specs.Prelude.{◌<◌, ◌≤◌, ◌+◌, OnOk, OnErr};
 ghost use Rattle.std.specs.Option.{IsSomeAnd};
 ghost use Rattle.mc_rule.specs.Lists.{lists_of, segment_of};
 ghost use Rattle.mc_segment.specs.ClassState.{HasPlaces};
 ghost use Rattle.mc_segment.specs.ClassCalls.{shifted_event, MayCome, Makes, Stays, MayEnd};
 
 use crate::state::ClassState;
-use mc_item::{Fault, Passed, Seg, Who, Why};
+use mc_item::{Fault, Passed, Seg, Shifted, Who, Why};
 
 impl ClassState {
     /// An entry goes from the segment that it is in to the head of another, or of its own. A hit or an active entry's
@@ -52,7 +52,16 @@ impl ClassState {
         ensures refusal { MayEnd self.old result }
         ensures room { self.old.room ≤ self.new.room + 1 }
     {
-        self.turn(who, number, from_seg, to_seg, why, moment, passed, at)
+        self.turn(Shifted {
+            who,
+            number,
+            from_seg,
+            to_seg,
+            why,
+            moment,
+            passed,
+            at,
+        })
     }
 
     /// The same as `shift_from`, where room was made: it takes no memory and can't be refused.

@@ -1,12 +1,12 @@
 //! The state of a class: what it keeps, how it is made, and how room is made.
-ghost use Rattle.std.specs.Prelude.{◌≡◌, ◌≤◌, ◌↔◌, length, IsTrue, OnOk, IsOk, MatchResult, vec_len};
+ghost use Rattle.std.specs.Prelude.{◌≡◌, ◌≤◌, ◌↔◌, length, IsTrue, OnOk, MatchResult};
 ghost use Rattle.mc_item.specs.Config.{IsSound};
 ghost use Rattle.mc_segment.specs.ClassState.{opened, with_room, HasPlaces, MayRefuse};
 
 use crate::arena::Arena;
-use crate::noted::ClassNoted;
+use crate::shown::ShownClass;
 use mc_history::History;
-use mc_item::{ClassNo, Config, Fault, KeyBuffer, NoMemory};
+use mc_item::{ClassEvent, ClassNo, Config, Fault};
 use std::alloc::Global;
 use std::marker::Model;
 
@@ -24,36 +24,22 @@ pub struct ClassState {
     pub(crate) hot_factor: u64,
     pub(crate) warm_factor: u64,
     pub(crate) lists: Arena,
-    pub(crate) history: History<ClassNoted>,
-    pub(crate) spares: Vec<KeyBuffer>,
+    pub(crate) history: History<ClassEvent, ShownClass>,
     pub(crate) alloc: Global,
 }
 
 impl Model for ClassState {
-    ghost use Rattle.std.specs.Prelude.{min, vec_len};
+    ghost use Rattle.std.specs.Prelude.{min};
     ghost use Rattle.mc_segment.specs.ClassState.{ClassView, class_view, rule_with, IsReplay};
 
     ghost Value = { ClassView };
 
     ghost view = { λ s. class_view s.number s.chunks s.max_events s.history.kept
         (rule_with s.temp s.temp_ttl s.hot_percent s.warm_percent s.hot_factor s.warm_factor) s.history.items
-        (min s.lists.room (min s.history.room (vec_len s.spares))) };
+        (min s.lists.room s.history.room) };
 
     ghost invariant = { λ s. IsReplay s.lists s.chunks s.max_events
         (rule_with s.temp s.temp_ttl s.hot_percent s.warm_percent s.hot_factor s.warm_factor) s.history.items };
-}
-
-// Makes buffers until there are this many.
-#[inline(always)]
-fn fill(spares: &mut Vec<KeyBuffer>, alloc: Global, n: usize) -> Result<(), NoMemory>
-    ensures kept { vec_len spares.old ≤ vec_len spares.new }
-    ensures ok { OnOk result (n ≤ vec_len spares.new) }
-    ensures succeeds { n ≤ vec_len spares.old → IsOk result }
-{
-    'buffers: while spares.len() < n {
-        spares.push(KeyBuffer::new(alloc)?)?;
-    }
-    Ok(())
 }
 
 impl ClassState {
@@ -75,7 +61,6 @@ impl ClassState {
             warm_factor: config.warm_factor,
             lists: Arena::new(alloc),
             history: History::keeping(alloc, config.keeps_events),
-            spares: Vec::new(alloc),
             alloc,
         }
     }
@@ -102,7 +87,6 @@ impl ClassState {
         }
         self.history.reserve(n)?;
         self.lists.reserve(n)?;
-        fill(&mut self.spares, self.alloc, n)?;
         Ok(())
     }
 }

@@ -5,9 +5,8 @@ ghost use Rattle.mc_rule.specs.Segment.{total_of, cold_age_of};
 ghost use Rattle.mc_segment.specs.ClassState.{HasPlaces};
 ghost use Rattle.mc_segment.specs.ClassCalls.{survey_of, surveyed_event, refused_event, MayCome, Makes, Stays, MayEnd};
 
-use crate::noted::ClassNoted;
 use crate::state::ClassState;
-use mc_item::{Fault, Seg, Who};
+use mc_item::{ClassEvent, Fault, Refused, Seg, Surveyed, Who};
 
 /// A survey: the place of its event, the bytes of HOT, WARM and COLD together, and the age of COLD's tail in seconds,
 /// which is 0 where COLD is empty.
@@ -48,7 +47,13 @@ impl ClassState {
     {
         let total = self.total();
         let cold_age = self.cold_age(moment);
-        let place = self.note(ClassNoted::surveyed(who, moment, total, cold_age))?;
+        let event = ClassEvent::Surveyed(Surveyed {
+            who,
+            moment,
+            total,
+            cold_age,
+        });
+        let place = self.note(event)?;
         Ok(Survey {
             place,
             total,
@@ -82,7 +87,7 @@ impl ClassState {
         ensures refusal { MayEnd self.old result }
         ensures room { self.old.room ≤ self.new.room + 1 }
     {
-        let place = self.note(ClassNoted::refused(who))?;
+        let place = self.note(ClassEvent::Refused(Refused { who }))?;
         Ok(place)
     }
 

@@ -29,7 +29,7 @@ use Rattle.mc_stripe.specs.Wanting.{Holds, IsWanting, classes_for}
 use Rattle.mc_stripe.specs.declared.wanting.Want.{Want}
 use Rattle.mc_pull.specs.Perform.{answer_to, call}
 use Rattle.mc_pull.specs.Performed.{cooled_if}
-use Rattle.mc_pull.specs.declared.kinds.Turn.{Turn}
+use Rattle.mc_stripe.specs.declared.trying.Turn.{Turn}
 use Rattle.mc_pull.specs.Question.{IsStripeOf}
 use Rattle.mc_store.specs.Callers.{answered_at}
 use Rattle.mc_store.specs.Calls.{IsReplied}

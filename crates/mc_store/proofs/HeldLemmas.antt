@@ -44,7 +44,7 @@ use Rattle.mc_stripe.specs.declared.wanting.Want.TheVariants as wants
 use Rattle.mc_pull.specs.Attempt.{GivesHome, IsNoted, IsReady, Leaves, OffersHome, OffersOther}
 use Rattle.mc_pull.specs.declared.attempting.Tried.{Tried}
 use Rattle.mc_pull.specs.declared.attempting.Tried.TheVariants.{Made, Wants}
-use Rattle.mc_pull.specs.declared.kinds.Turn.{Turn}
+use Rattle.mc_stripe.specs.declared.trying.Turn.{Turn}
 use Rattle.mc_store.specs.Callers.{answered_at}
 use Rattle.mc_store.specs.Earned.{HasGivenUp, IsEarnedAt, IsEarnedIn}
 use Rattle.mc_store.specs.Held.{IsMadeIn, IsRefusedAt, IsStillFull, IsTriedOn, MayWant, Suffice, WantsAlone, WantsChunk, nothing}
@@ -70,7 +70,7 @@ pub covers_more : (given : Given) (wanted : Classes) → Covers nothing wanted �
 covers_more given wanted covers = (holds_none (home_class given) wanted.home covers.0, holds_none (other_class given) wanted.other covers.1)
 
 -- what a try under locks came to, on classes of these numbers
-module _ {K : Type 0} (config : Config) (command : K → Command) (suits : K → Site → Type 0) (s : Stripe) (own_new : StripeSide) (caller caller_new : CallerView) (made : Command) (turn : Turn) (given : Given) (cs ds : List ClassSide) (home other : Option ClassNo) (AnyFull : Type 0)
+module _ (config : Config) (s : Stripe) (own_new : StripeSide) (caller caller_new : CallerView) (made : Command) (turn : Turn) (given : Given) (cs ds : List ClassSide) (home other : Option ClassNo) (AnyFull : Type 0)
     (for_home : home_class given ≡ home) (for_other : other_class given ≡ other) where
   abbrev IsLacking : Want → Type 0
   IsLacking want = IsWanting given (key_of made) (item_of s made) turn.moment (row_at s made turn.moment) want
@@ -93,9 +93,9 @@ module _ {K : Type 0} (config : Config) (command : K → Command) (suits : K →
   pub tried_on : ((room : Room) → IsTaken given (row_at s made turn.moment).need room → IsEarnedIn config s.site.stripe turn.who turn.moment (key_of made) own_new.sight room)
       → (Stay cs ds → LacksRoom given (key_of made) (item_of s made) turn.moment (row_at s made turn.moment) → AnyFull)
       → (Stay cs ds → (class : ClassNo) → IsCrowded given (key_of made) (item_of s made) turn.moment (row_at s made turn.moment) class → IsShort config own_new)
-      → (r : Result (Tried K) Fault) → IfOk r (IsTriedUnder command suits s own_new.stripe caller caller_new made turn given cs ds) → IfOk r (IsTriedOn config command suits s own_new caller caller_new made turn home other AnyFull)
+      → (r : Result Tried Fault) → IfOk r (IsTriedUnder s own_new.stripe caller caller_new made turn given cs ds) → IfOk r (IsTriedOn config s own_new caller caller_new made turn home other AnyFull)
   tried_on earned full short (Ok (Made reply)) tried = record { alive = tried.uses.alive; room = tried.room; made_is = tried.made_is; noted = tried.noted; earned = earned tried.room tried.uses.taken }
-  tried_on earned full short (Ok (Wants kind want)) tried = (tried.0, tried.1, tried.2, tried.3, may_want full short want tried.4 tried.5)
+  tried_on earned full short (Ok (Wants want)) tried = (tried.0, tried.1, may_want full short want tried.2 tried.3)
   tried_on earned full short (Err fault) tried = tt
 
 -- a chunk is wanted of the class of a new version that is held
@@ -363,11 +363,9 @@ earned_now config number turn key v v_new place makes at given_up =
     })
 
 -- a command that was made, of a caller that had noted nothing
-pub made_caller : (config : Config) (s : Stripe) (own_new : StripeSide) (caller mid caller_new : CallerView) (command made : Command) (turn : Turn) (reply : Reply) → mid ≡ caller → command ≡ made → IsMadeIn config s own_new mid caller_new command turn reply
+pub made_caller : (config : Config) (s : Stripe) (own_new : StripeSide) (caller mid caller_new : CallerView) (made : Command) (turn : Turn) (reply : Reply) → mid ≡ caller → IsMadeIn config s own_new mid caller_new made turn reply
     → IsMadeIn config s own_new caller caller_new made turn reply
-made_caller config s own_new caller mid caller_new command made turn reply same_caller same_command was =
-    subst (λ (x : CallerView). IsMadeIn config s own_new x caller_new made turn reply) same_caller
-    (subst (λ (x : Command). IsMadeIn config s own_new mid caller_new x turn reply) same_command was)
+made_caller config s own_new caller mid caller_new made turn reply same was = subst (λ (x : CallerView). IsMadeIn config s own_new x caller_new made turn reply) same was
 
 -- a command that was made on its stripe alone
 pub made_alone : (config : Config) (s : Stripe) (own_new : StripeSide) (caller mid caller_new : CallerView) (made : Command) (turn : Turn) (reply : Reply) → mid ≡ caller → IsMadeBy s own_new.stripe mid caller_new made turn nothing reply

@@ -42,7 +42,7 @@ use Rattle.mc_stripe.specs.Wanting.{Holds, class_beside, class_of_fate, classes_
 use Rattle.mc_stripe.specs.declared.fate.Fate.{Fate}
 use Rattle.mc_stripe.specs.declared.fate.Fate.TheVariants as fates
 use Rattle.mc_stripe.specs.declared.wanting.Classes.{Classes}
-use Rattle.mc_pull.specs.declared.kinds.Turn.{Turn}
+use Rattle.mc_stripe.specs.declared.trying.Turn.{Turn}
 use Rattle.mc_pull.specs.Lone.{AreMadeBy}
 use Rattle.mc_pull.specs.Question.{IsStripeOf}
 use Rattle.mc_store.specs.Commands.{walker_in}

@@ -19,10 +19,11 @@ use Rattle.bytes.proofs.shared.Bytes.TheSendSync as bytes
 use Rattle.mc_item.specs.contracts.value.Value as Value
 use Rattle.mc_item.specs.contracts.value.Held as Held
 use Rattle.mc_history.specs.contracts.history.History as History
+use Rattle.mc_history.specs.declared.history.Shows
 use Rattle.mc_item.specs.contracts.item.Item as Item
 use Rattle.mc_item.specs.contracts.key.Key as Key
+use Rattle.mc_item.specs.contracts.stripe_event.StripeEvent as StripeEvent
 use Rattle.mc_segment.specs.contracts.state.ClassState as ClassState
-use Rattle.mc_stripe.specs.contracts.noted.Noted as Noted
 use Rattle.mc_stripe.specs.contracts.state.StripeState as StripeState
 use Rattle.mc_board.specs.contracts.board.Board as Board
 use Rattle.mc_board.specs.contracts.owner.Owner as Owner
@@ -32,8 +33,8 @@ use Rattle.mc_store.specs.contracts.pass.Pass as Pass
 use Rattle.mc_store.specs.declared.named.Named
 
 -- a history, where its events may be
-pub history_send : (E : RattleType) → IsSend E → IsSend (History.the_row E)
-history_send E s = search (sendable, crosses) depth 40 fits 50000
+pub history_send : (E S : RattleType) (g : Shows.Ghosts S.Denot E.Denot) → IsSend E → IsSend S → IsSend (History.the_row E S g)
+history_send E S g e s = search (sendable, crosses) depth 40 fits 50000
 
 -- what events and items are made of
 pub key_send : IsSend Key.the_row
@@ -52,15 +53,15 @@ held_sync = search (bytes.the_sync, send, sync, sendable, crosses) depth 40 fits
 pub value_send : IsSend Value.the_row
 value_send = search (held_send, held_sync, sendable, crosses) depth 40 fits 50000
 
-pub noted_send : IsSend Noted.the_row
-noted_send = search (value_send, key_send, sendable, crosses) depth 40 fits 50000
+pub event_send : IsSend StripeEvent.the_row
+event_send = search (value_send, key_send, sendable, crosses) depth 40 fits 50000
 
 pub item_send : IsSend Item.the_row
 item_send = search (value_send, sendable, crosses) depth 40 fits 50000
 
 -- a stripe, with its history and its items
 pub stripe_send : IsSend StripeState.the_row
-stripe_send = search (history_send, noted_send, key_send, item_send, maps.HashMap-send, sendable, crosses) depth 80 fits 50000
+stripe_send = search (history_send, event_send, key_send, item_send, maps.HashMap-send, sendable, crosses) depth 80 fits 50000
 
 -- the tokens of the board, and the board itself
 pub owner_send : IsSend Owner.the_row

@@ -3,7 +3,6 @@ use Rattle.std.proofs.Common.{◌≡◌, ◌++◌, length, ℕ, List, [], ◌∷
 use Rattle.std.specs.Prelude.{Option, Some, None, IfErr, IfOk, IfSome, IsErrOf, IsSomeAnd, OnErr, OnOk}
 use Rattle.mc_item.specs.declared.answer.Need.{Need}
 use Rattle.mc_item.specs.declared.answer.Need.TheVariants as needs
-use Rattle.mc_item.specs.declared.answer.Site.{Site}
 use Rattle.mc_item.specs.declared.command.Command.{Command}
 use Rattle.mc_item.specs.declared.config.Config.{Config}
 use Rattle.mc_item.specs.declared.fault.Fault.{Fault}
@@ -20,7 +19,7 @@ use Rattle.mc_stripe.specs.declared.wanting.Given.{Given}
 use Rattle.mc_stripe.specs.declared.wanting.Home.{Home}
 use Rattle.mc_pull.specs.declared.attempting.Tried.{Tried}
 use Rattle.mc_pull.specs.declared.attempting.Tried.TheVariants.{Made, Wants}
-use Rattle.mc_pull.specs.declared.kinds.Turn.{Turn}
+use Rattle.mc_stripe.specs.declared.trying.Turn.{Turn}
 use Rattle.mc_pull.specs.Agreeing.{KeepsAgreements}
 use Rattle.mc_pull.specs.Attempt.{GivesHome, IsAny, IsOffered, IsTriedBy, OffersHome}
 use Rattle.mc_pull.specs.Perform.{Call, call}
@@ -34,21 +33,20 @@ use Rattle.mc_store.specs.Sides.{ClassSide}
 use Rattle.mc_store.specs.Trying.{IsTriedUnder, Stay, is_made}
 
 -- what a try came to, where only that it made its command is asked
-module _ {K : Type 0} where
-  abbrev pub result_of : Result (Tried K) Fault → Result (Unit {0}) Fault
-  result_of (Ok (Made reply)) = Ok tt
-  result_of (Ok (Wants kind want)) = Err NoMemory
-  result_of (Err fault) = Err fault
+abbrev pub result_of : Result Tried Fault → Result (Unit {0}) Fault
+result_of (Ok (Made reply)) = Ok tt
+result_of (Ok (Wants want)) = Err NoMemory
+result_of (Err fault) = Err fault
 
-  pub when : (P : Type 0) (t : Result (Tried K) Fault) → (is_made t ≡ true → P) → OnOk (result_of t) P
-  when P (Ok (Made reply)) there = there refl
-  when P (Ok (Wants kind want)) there = tt
-  when P (Err fault) there = tt
+pub when : (P : Type 0) (t : Result Tried Fault) → (is_made t ≡ true → P) → OnOk (result_of t) P
+when P (Ok (Made reply)) there = there refl
+when P (Ok (Wants want)) there = tt
+when P (Err fault) there = tt
 
-  pub unless : (P : Type 0) (t : Result (Tried K) Fault) → (is_made t ≡ false → P) → OnErr (result_of t) P
-  unless P (Ok (Made reply)) there = tt
-  unless P (Ok (Wants kind want)) there = there refl
-  unless P (Err fault) there = there refl
+pub unless : (P : Type 0) (t : Result Tried Fault) → (is_made t ≡ false → P) → OnErr (result_of t) P
+unless P (Ok (Made reply)) there = tt
+unless P (Ok (Wants want)) there = there refl
+unless P (Err fault) there = there refl
 
 -- a class that stayed, as it was handed in and as it is at the return
 pub stay_of : (new w raw was : ClassView) → new ≡ w → w ≡ with_room raw w.room → raw ≡ was → new ≡ with_room was new.room
@@ -76,58 +74,58 @@ module _ (given : Given) (refused : Option ℕ) (who : Who) (vs : List ClassView
   taken_refused needs.Same room taken = kept_room room taken
   taken_refused needs.TooLarge room taken = kept_room room taken
 
-module _ {K : Type 0} (command : K → Command) (suits : K → Site → Type 0) (config : Config) (s s_new : Stripe) (made : Command) (turn : Turn) (given : Given) (vs ws : List ClassView) where
-  abbrev TriedBy : Result (Tried K) Fault → Type 0
-  TriedBy t = IfOk t (IsTriedBy command suits config s s_new made turn given vs ws)
+module _ (config : Config) (s s_new : Stripe) (made : Command) (turn : Turn) (given : Given) (vs ws : List ClassView) where
+  abbrev TriedBy : Result Tried Fault → Type 0
+  TriedBy t = IfOk t (IsTriedBy config s s_new made turn given vs ws)
 
   -- the room that a try took
-  abbrev pub room_at : (t : Result (Tried K) Fault) → TriedBy t → Room
+  abbrev pub room_at : (t : Result Tried Fault) → TriedBy t → Room
   room_at (Ok (Made reply)) tried = tried.room
-  room_at (Ok (Wants kind want)) tried = rooms.Keep
+  room_at (Ok (Wants want)) tried = rooms.Keep
   room_at (Err fault) tried = rooms.Keep
 
-  abbrev pub call_at : (t : Result (Tried K) Fault) → TriedBy t → Call
+  abbrev pub call_at : (t : Result Tried Fault) → TriedBy t → Call
   call_at t tried = call turn.who made turn.moment (room_at t tried)
 
-  pub performed_at : (t : Result (Tried K) Fault) (tried : TriedBy t) → OnOk (result_of t) (IsPerformed s s_new (call_at t tried) vs ws)
+  pub performed_at : (t : Result Tried Fault) (tried : TriedBy t) → OnOk (result_of t) (IsPerformed s s_new (call_at t tried) vs ws)
   performed_at (Ok (Made reply)) tried = tried.performed
-  performed_at (Ok (Wants kind want)) tried = tt
+  performed_at (Ok (Wants want)) tried = tt
   performed_at (Err fault) tried = tt
 
-  pub untouched_at : (t : Result (Tried K) Fault) → TriedBy t → OnErr t (IsUntouched s s_new vs ws) → OnErr (result_of t) (IsUntouched s s_new vs ws)
+  pub untouched_at : (t : Result Tried Fault) → TriedBy t → OnErr t (IsUntouched s s_new vs ws) → OnErr (result_of t) (IsUntouched s s_new vs ws)
   untouched_at (Ok (Made reply)) tried err = tt
-  untouched_at (Ok (Wants kind want)) tried err = tried.2
+  untouched_at (Ok (Wants want)) tried err = tried.0
   untouched_at (Err fault) tried err = err
 
-  pub kept_at : KeepsSite s s_new → (t : Result (Tried K) Fault) (tried : TriedBy t) → OnErr t (IsUntouched s s_new vs ws) → KeepsAgreements (call_at t tried) s s_new vs ws
+  pub kept_at : KeepsSite s s_new → (t : Result Tried Fault) (tried : TriedBy t) → OnErr t (IsUntouched s s_new vs ws) → KeepsAgreements (call_at t tried) s s_new vs ws
   kept_at site (Ok (Made reply)) tried err = tried.agreement
-  kept_at site (Ok (Wants kind want)) tried err = untouched_kept config s s_new (call turn.who made turn.moment rooms.Keep) vs ws site tried.2
+  kept_at site (Ok (Wants want)) tried err = untouched_kept config s s_new (call turn.who made turn.moment rooms.Keep) vs ws site tried.0
   kept_at site (Err fault) tried err = untouched_kept config s s_new (call turn.who made turn.moment rooms.Keep) vs ws site err
 
-  pub seen_at : KeepsSite s s_new → (t : Result (Tried K) Fault) (tried : TriedBy t) → OnErr t (IsUntouched s s_new vs ws) → KeepsSights (call_at t tried) s s_new vs ws
+  pub seen_at : KeepsSite s s_new → (t : Result Tried Fault) (tried : TriedBy t) → OnErr t (IsUntouched s s_new vs ws) → KeepsSights (call_at t tried) s s_new vs ws
   seen_at site (Ok (Made reply)) tried err = tried.sight
-  seen_at site (Ok (Wants kind want)) tried err = untouched_seen config s s_new (call turn.who made turn.moment rooms.Keep) vs ws site tried.2
+  seen_at site (Ok (Wants want)) tried err = untouched_seen config s s_new (call turn.who made turn.moment rooms.Keep) vs ws site tried.0
   seen_at site (Err fault) tried err = untouched_seen config s s_new (call turn.who made turn.moment rooms.Keep) vs ws site err
 
-  pub refused_at : (refused : Option ℕ) → IsOffered given refused turn.who vs → (t : Result (Tried K) Fault) (tried : TriedBy t) → IsRefusedIn (room_at t tried) vs
+  pub refused_at : (refused : Option ℕ) → IsOffered given refused turn.who vs → (t : Result Tried Fault) (tried : TriedBy t) → IsRefusedIn (room_at t tried) vs
   refused_at refused offered (Ok (Made reply)) tried = taken_refused given refused turn.who vs offered _ tried.room tried.uses.taken
-  refused_at refused offered (Ok (Wants kind want)) tried = tt
+  refused_at refused offered (Ok (Wants want)) tried = tt
   refused_at refused offered (Err fault) tried = tt
 
   refusal_by : (fault : Fault) → (fault ≡ HistoryFull → MayRefuseCall s (call turn.who made turn.moment rooms.Keep) vs HistoryFull) → MayRefuseCall s (call turn.who made turn.moment rooms.Keep) vs fault
   refusal_by HistoryFull may = may refl
   refusal_by NoMemory may = tt
 
-  pub refusal_at : (t : Result (Tried K) Fault) (tried : TriedBy t) → (IsErrOf t HistoryFull → MayRefuseCall s (call turn.who made turn.moment rooms.Keep) vs HistoryFull)
+  pub refusal_at : (t : Result Tried Fault) (tried : TriedBy t) → (IsErrOf t HistoryFull → MayRefuseCall s (call turn.who made turn.moment rooms.Keep) vs HistoryFull)
       → IfErr (result_of t) (MayRefuseCall s (call_at t tried) vs)
   refusal_at (Ok (Made reply)) tried may = tt
-  refusal_at (Ok (Wants kind want)) tried may = tt
+  refusal_at (Ok (Wants want)) tried may = tt
   refusal_at (Err fault) tried may = refusal_by fault (λ is. may (ap Err is))
 
   -- what it came to under the locks
   module _ (caller caller_new : CallerView) (cs ds : List ClassSide) where
-    pub under_tried : (t : Result (Tried K) Fault) → TriedBy t → (is_made t ≡ true → caller_new ≡ record caller { calls = caller.calls ++ answered_at s.site.stripe (length s.history) ∷ [] })
-        → (is_made t ≡ false → caller_new ≡ caller) → (IsUntouched s s_new vs ws → Stay cs ds) → IfOk t (IsTriedUnder command suits s s_new caller caller_new made turn given cs ds)
+    pub under_tried : (t : Result Tried Fault) → TriedBy t → (is_made t ≡ true → caller_new ≡ record caller { calls = caller.calls ++ answered_at s.site.stripe (length s.history) ∷ [] })
+        → (is_made t ≡ false → caller_new ≡ caller) → (IsUntouched s s_new vs ws → Stay cs ds) → IfOk t (IsTriedUnder s s_new caller caller_new made turn given cs ds)
     under_tried (Ok (Made reply)) tried noted unnoted stay = record {
       room = tried.room;
       fate = tried.fate;
@@ -135,5 +133,5 @@ module _ {K : Type 0} (command : K → Command) (suits : K → Site → Type 0) 
       made_is = record { reply_is = tried.reply_is; cooling = is_cooling s (call turn.who made turn.moment tried.room) vs; history_is = tried.performed.stripe };
       noted = noted refl;
     }
-    under_tried (Ok (Wants kind want)) tried noted unnoted stay = (tried.0, tried.1, tried.2.stripe, unnoted refl, stay tried.2, tried.3)
+    under_tried (Ok (Wants want)) tried noted unnoted stay = (tried.0.stripe, unnoted refl, stay tried.0, tried.1)
     under_tried (Err fault) tried noted unnoted stay = tt

@@ -5,7 +5,6 @@ use Rattle.std.specs.declared.sync.MutexGuard.{MutexGuard}
 use Rattle.mc_item.specs.Command.{key_of}
 use Rattle.mc_item.specs.Measure.{stripe_of}
 use Rattle.mc_item.specs.Stripe.{IsAlive}
-use Rattle.mc_item.specs.declared.answer.Site.{Site}
 use Rattle.mc_item.specs.declared.answer.Need.TheVariants as needs
 use Rattle.mc_item.specs.declared.command.Command.{Command}
 use Rattle.mc_item.specs.declared.config.Config.{Config}
@@ -27,7 +26,7 @@ use Rattle.mc_stripe.specs.declared.wanting.Want.{Want}
 use Rattle.mc_stripe.specs.declared.wanting.Want.TheVariants as wants
 use Rattle.mc_pull.specs.declared.attempting.Tried.{Tried}
 use Rattle.mc_pull.specs.declared.attempting.Tried.TheVariants as tried
-use Rattle.mc_pull.specs.declared.kinds.Turn.{Turn}
+use Rattle.mc_stripe.specs.declared.trying.Turn.{Turn}
 use Rattle.mc_pull.specs.Lone.{AreMadeBy}
 use Rattle.mc_pull.specs.Perform.{call}
 use Rattle.mc_store.specs.Callers.{answered_at}
@@ -104,12 +103,11 @@ module _ (config : Config) (s : Stripe) (own_new : StripeSide) (command : Comman
   MayWant (wants.Burial link) = WantsAlone s command moment (wants.Burial link)
   MayWant (wants.Classes classes) = WantsAlone s command moment (wants.Classes classes) × (Suffice home other s command moment → ⊥)
 
-module _ {K : Type 0} (config : Config) (command : K → Command) (suits : K → Site → Type 0) (s : Stripe) (own_new : StripeSide) (caller caller_new : CallerView) (made : Command) (turn : Turn) (home other : Option ClassNo) (AnyFull : Type 0) where
-  -- what a try on the classes that are held came to
-  abbrev pub IsTriedOn : Tried K → Type 0
-  IsTriedOn (tried.Made reply) = IsMadeIn config s own_new caller caller_new made turn reply
-  IsTriedOn (tried.Wants kind want) =
-      (command kind ≡ made) × suits kind s.site × (own_new.stripe.history ≡ s.history) × (caller_new ≡ caller) × MayWant config s own_new made turn.moment home other AnyFull want
+-- what a try on the classes that are held came to
+abbrev pub IsTriedOn : Config → (s : Stripe) (own_new : StripeSide) (caller caller_new : CallerView) → Command → Turn → (home other : Option ClassNo) → Type 0 → Tried → Type 0
+IsTriedOn config s own_new caller caller_new command turn home other AnyFull (tried.Made reply) = IsMadeIn config s own_new caller caller_new command turn reply
+IsTriedOn config s own_new caller caller_new command turn home other AnyFull (tried.Wants want) =
+    (own_new.stripe.history ≡ s.history) × (caller_new ≡ caller) × MayWant config s own_new command turn.moment home other AnyFull want
 
 -- a stripe's new events are those of a call's walker in a class
 pub record IsWalked (config : Config) (turn : Turn) (class : ClassNo) (s s_new : Stripe) : Type 0 where

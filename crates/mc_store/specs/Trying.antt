@@ -1,7 +1,6 @@
 -- One try of a command under locks (own).
 use Rattle.std.specs.Prelude.{◌≡◌, ◌++◌, List, ◌∷◌, [], Bool, true, false, Result, Ok, Err, length}
 use Rattle.mc_item.specs.Command.{key_of}
-use Rattle.mc_item.specs.declared.answer.Site.{Site}
 use Rattle.mc_item.specs.declared.command.Command.{Command}
 use Rattle.mc_item.specs.declared.fault.Fault.{Fault}
 use Rattle.mc_item.specs.declared.reply.Reply.{Reply}
@@ -14,23 +13,22 @@ use Rattle.mc_stripe.specs.declared.fate.Fate.{Fate}
 use Rattle.mc_stripe.specs.declared.wanting.Given.{Given}
 use Rattle.mc_pull.specs.declared.attempting.Tried.{Tried}
 use Rattle.mc_pull.specs.declared.attempting.Tried.TheVariants as tried
-use Rattle.mc_pull.specs.declared.kinds.Turn.{Turn}
+use Rattle.mc_stripe.specs.declared.trying.Turn.{Turn}
 use Rattle.mc_pull.specs.Perform.{call}
 use Rattle.mc_store.specs.Callers.{answered_at}
 use Rattle.mc_store.specs.Passes.{CallerView}
 use Rattle.mc_store.specs.Performing.{IsMade}
 use Rattle.mc_store.specs.Sides.{ClassSide}
 
-module _ {K : Type 0} where
-  -- a try made its command
-  abbrev pub is_made_of : Tried K → Bool
-  is_made_of (tried.Made reply) = true
-  is_made_of (tried.Wants kind want) = false
+-- a try made its command
+abbrev pub is_made_of : Tried → Bool
+is_made_of (tried.Made reply) = true
+is_made_of (tried.Wants want) = false
 
-  -- the same where it may have failed
-  abbrev pub is_made : Result (Tried K) Fault → Bool
-  is_made (Ok t) = is_made_of t
-  is_made (Err fault) = false
+-- the same where it may have failed
+abbrev pub is_made : Result Tried Fault → Bool
+is_made (Ok t) = is_made_of t
+is_made (Err fault) = false
 
 -- a command was made on its stripe, of what it was given, and its caller has noted where its answer stands
 pub record IsMadeBy (s s_new : Stripe) (caller caller_new : CallerView) (made : Command) (turn : Turn) (given : Given) (reply : Reply) : Type 0 where
@@ -47,9 +45,8 @@ Stay [] (d ∷ ds) = ⊥
 Stay (c ∷ cs) [] = ⊥
 Stay (c ∷ cs) (d ∷ ds) = (d.class ≡ with_room c.class d.class.room) × Stay cs ds
 
-module _ {K : Type 0} (command : K → Command) (suits : K → Site → Type 0) (s s_new : Stripe) (caller caller_new : CallerView) (made : Command) (turn : Turn) (given : Given) (cs ds : List ClassSide) where
-  -- what a try under locks came to: the command was made; or it is given back with what it wants, and nothing happened
-  abbrev pub IsTriedUnder : Tried K → Type 0
-  IsTriedUnder (tried.Made reply) = IsMadeBy s s_new caller caller_new made turn given reply
-  IsTriedUnder (tried.Wants kind want) =
-      (command kind ≡ made) × suits kind s.site × (s_new.history ≡ s.history) × (caller_new ≡ caller) × Stay cs ds × IsWanting given (key_of made) (item_of s made) turn.moment (row_at s made turn.moment) want
+-- what a try under locks came to: the command was made; or it wants something, and nothing happened
+abbrev pub IsTriedUnder : (s s_new : Stripe) (caller caller_new : CallerView) → Command → Turn → Given → (cs ds : List ClassSide) → Tried → Type 0
+IsTriedUnder s s_new caller caller_new command turn given cs ds (tried.Made reply) = IsMadeBy s s_new caller caller_new command turn given reply
+IsTriedUnder s s_new caller caller_new command turn given cs ds (tried.Wants want) =
+    (s_new.history ≡ s.history) × (caller_new ≡ caller) × Stay cs ds × IsWanting given (key_of command) (item_of s command) turn.moment (row_at s command turn.moment) want

@@ -20,9 +20,9 @@ use crate::named::Named;
 use crate::store::Store;
 use crate::trying::try_alone;
 use crate::walking::bury_under;
-use mc_item::{ClassNo, Fault, Key, Link, Reply};
-use mc_pull::{Kind, Tried, Turn};
-use mc_stripe::{Classes, Want};
+use mc_item::{ClassNo, Command, Fault, Key, Link, Reply};
+use mc_pull::Tried;
+use mc_stripe::{Classes, Turn, Want};
 use std::alloc::Global;
 use std::sync::{MutexGuard, Wait};
 
@@ -58,34 +58,33 @@ fn lock_both<'a, N: Named>(
 
 // Makes a command on the classes that it wants, each of which is locked.
 #[inline(always)]
-fn answer_with<N: Named, K: Kind + Drop>(
+fn answer_with<N: Named>(
     alloc: Global,
     store: &Store<N>,
     rt: &impl Wait,
     own: &mut LockedStripe<N>,
     caller: &mut Caller<N>,
-    kind: K,
+    command: &Command,
     turn: Turn,
     wanted: Classes,
 ) -> Result<Reply, Fault>
-    requires called { IsCallOn N.config own.old.stripe caller.old (K.command kind) turn }
-    requires suits { K.suits kind own.old.stripe.site }
+    requires called { IsCallOn N.config own.old.stripe caller.old command.now turn }
     requires begun { HasBegunCommand N.config own.old.sight turn.who turn.moment }
-    requires wanted { WantsAlone own.old.stripe (K.command kind) turn.moment (wants.Classes wanted) }
-    ensures { Ends N.config own.old.stripe own.new caller.old caller.new (K.command kind) turn result }
+    requires wanted { WantsAlone own.old.stripe command.now turn.moment (wants.Classes wanted) }
+    ensures { Ends N.config own.old.stripe own.new caller.old caller.new command.now turn result }
 {
     own.law();
     match wanted.home {
         Some(class) => {
             let (mut guard, mut other) = lock_both(store, rt, class, wanted.other);
             let home = &mut *guard;
-            answer_at_home(alloc, store, own, home, &mut other, caller, kind, turn)
+            answer_at_home(alloc, store, own, home, &mut other, caller, command, turn)
         }
         None => match wanted.other {
             Some(class) => {
                 let mut guard = store.lock_class(rt, class);
                 let other = &mut *guard;
-                answer_at_item(alloc, store, own, other, caller, kind, turn)
+                answer_at_item(alloc, store, own, other, caller, command, turn)
             }
             None => unreachable!(),
         },
@@ -119,32 +118,31 @@ fn bury<N: Named>(
 
 // Makes a command that wants this of its stripe: its key's dead item goes, and the classes that it needs are locked.
 #[inline(never)]
-fn answer_want<N: Named, K: Kind + Drop>(
+fn answer_want<N: Named>(
     alloc: Global,
     store: &Store<N>,
     rt: &impl Wait,
     own: &mut LockedStripe<N>,
     caller: &mut Caller<N>,
-    kind: K,
+    command: &Command,
     turn: Turn,
     want: Want,
 ) -> Result<Reply, Fault>
-    requires called { IsCallOn N.config own.old.stripe caller.old (K.command kind) turn }
-    requires suits { K.suits kind own.old.stripe.site }
-    requires wants { WantsAlone own.old.stripe (K.command kind) turn.moment want }
-    ensures { Ends N.config own.old.stripe own.new caller.old caller.new (K.command kind) turn result }
+    requires called { IsCallOn N.config own.old.stripe caller.old command.now turn }
+    requires wants { WantsAlone own.old.stripe command.now turn.moment want }
+    ensures { Ends N.config own.old.stripe own.new caller.old caller.new command.now turn result }
 {
     own.law();
     caller.tell_stripe(&store.board, own);
     match want {
-        Want::Classes(wanted) => answer_with(alloc, store, rt, own, caller, kind, turn, wanted),
+        Want::Classes(wanted) => answer_with(alloc, store, rt, own, caller, command, turn, wanted),
         Want::Burial(link) => {
-            bury(alloc, store, rt, own, turn, kind.key(), link)?;
-            match try_alone(&store.board, own, caller, kind, turn)? {
+            bury(alloc, store, rt, own, turn, command.key(), link)?;
+            match try_alone(&store.board, own, caller, command, turn)? {
                 Tried::Made(reply) => Ok(reply),
-                Tried::Wants(kind, left) => match left {
+                Tried::Wants(left) => match left {
                     Want::Classes(wanted) => {
-                        answer_with(alloc, store, rt, own, caller, kind, turn, wanted)
+                        answer_with(alloc, store, rt, own, caller, command, turn, wanted)
                     }
                     Want::Burial(_) => unreachable!(),
                     Want::Room => unreachable!(),
@@ -157,68 +155,68 @@ fn answer_want<N: Named, K: Kind + Drop>(
     }
 }
 
-// Makes a command of a kind on the stripe of its key, which is under its lock: it is tried alone first.
+// Makes a command on the stripe of its key, which is under its lock: it is tried alone first.
 #[inline(always)]
-pub(crate) fn answer<N: Named, K: Kind + Drop>(
+pub(crate) fn answer<N: Named>(
     alloc: Global,
     store: &Store<N>,
     rt: &impl Wait,
     own: &mut LockedStripe<N>,
     caller: &mut Caller<N>,
-    kind: K,
+    command: &Command,
     turn: Turn,
 ) -> Result<Reply, Fault>
-    requires called { IsCallOn N.config own.old.stripe caller.old (K.command kind) turn }
-    requires suits { K.suits kind own.old.stripe.site }
-    ensures { Ends N.config own.old.stripe own.new caller.old caller.new (K.command kind) turn result }
+    requires called { IsCallOn N.config own.old.stripe caller.old command.now turn }
+    ensures { Ends N.config own.old.stripe own.new caller.old caller.new command.now turn result }
 {
     own.law();
-    match try_alone(&store.board, own, caller, kind, turn)? {
+    match try_alone(&store.board, own, caller, command, turn)? {
         Tried::Made(reply) => Ok(reply),
-        Tried::Wants(kind, want) => answer_want(alloc, store, rt, own, caller, kind, turn, want),
+        Tried::Wants(want) => answer_want(alloc, store, rt, own, caller, command, turn, want),
     }
 }
 
 // Makes a command whose new version would be of this class, on the stripe of its key, which is under its lock: the class is
 // locked at once, and the command is tried on it first.
 #[inline(always)]
-pub(crate) fn answer_for<'a, N: Named, K: Kind + Drop>(
+pub(crate) fn answer_for<'a, N: Named>(
     alloc: Global,
     store: &'a Store<N>,
     rt: &impl Wait,
     own: &mut LockedStripe<N>,
     caller: &mut Caller<N>,
-    kind: K,
+    command: &Command,
     turn: Turn,
     class: ClassNo,
 ) -> Result<Reply, Fault>
-    requires called { IsCallOn N.config own.old.stripe caller.old (K.command kind) turn }
-    requires suits { K.suits kind own.old.stripe.site }
+    requires called { IsCallOn N.config own.old.stripe caller.old command.now turn }
     requires class { IsClass (setting_of N.config) class }
-    ensures { Ends N.config own.old.stripe own.new caller.old caller.new (K.command kind) turn result }
+    ensures { Ends N.config own.old.stripe own.new caller.old caller.new command.now turn result }
 {
     own.law();
     let mut none: Option<MutexGuard<'a, LockedClass<N>>> = None;
     let mut guard = store.lock_class(rt, class);
     let home = &mut *guard;
     let board = &store.board;
-    match try_home(alloc, board, own, home, &mut none, caller, kind, turn, None)? {
+    match try_home(
+        alloc, board, own, home, &mut none, caller, command, turn, None,
+    )? {
         Tried::Made(reply) => Ok(reply),
-        Tried::Wants(kind, want) => match want {
+        Tried::Wants(want) => match want {
             Want::Place(_) => Err(Fault::HistoryFull),
             Want::Room => {
                 caller.tell_stripe(board, own);
-                answer_at_home(alloc, store, own, home, &mut none, caller, kind, turn)
+                answer_at_home(alloc, store, own, home, &mut none, caller, command, turn)
             }
             Want::Burial(link) => {
                 drop(guard);
                 let want = Want::Burial(link);
-                answer_want(alloc, store, rt, own, caller, kind, turn, want)
+                answer_want(alloc, store, rt, own, caller, command, turn, want)
             }
             Want::Classes(wanted) => {
                 drop(guard);
                 let want = Want::Classes(wanted);
-                answer_want(alloc, store, rt, own, caller, kind, turn, want)
+                answer_want(alloc, store, rt, own, caller, command, turn, want)
             }
         },
     }

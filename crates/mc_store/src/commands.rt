@@ -1,14 +1,15 @@
 //! One command on a store, under the lock of its key's stripe.
-ghost use Rattle.std.specs.Prelude.{◌≡◌, ◌≤◌, ◌<◌, ◌⊎◌, ◌+◌, ◌++◌, ◌-◌, ◌^◌, IfOk, OnOk, OnErr, IsErrOf, length, List, ◌∷◌, []};
+ghost use Rattle.std.specs.Prelude.{◌≡◌, ◌≤◌, ◌<◌, ◌⊎◌, ◌+◌, ◌++◌, ◌-◌, ◌^◌, IfOk, IfSome, OnOk, OnErr, IsErrOf, length, List, ◌∷◌, []};
 ghost use Rattle.mc_item.specs.Command.{key_of};
 ghost use Rattle.mc_item.specs.Measure.{stripe_of};
 ghost use Rattle.mc_item.specs.declared.call_event.CallEvent.{CallEvent};
 ghost use Rattle.mc_item.specs.declared.fault.Fault.TheVariants.{HistoryFull};
 ghost use Rattle.mc_board.specs.Histories.{Grows};
-ghost use Rattle.mc_stripe.specs.Putting.{command_of};
+ghost use Rattle.mc_evidence.specs.Setting.{IsClass};
 ghost use Rattle.mc_store.specs.Callers.{asked_for};
 ghost use Rattle.mc_store.specs.Calls.{IsCutBy, IsRepliedBy};
 ghost use Rattle.mc_store.specs.Held.{Ends, IsCallOn};
+ghost use Rattle.mc_store.specs.Locked.{setting_of};
 ghost use Rattle.mc_store.specs.Passes.{next_who, caller_of};
 ghost use Rattle.mc_store.specs.Serving.{HasSeenShort};
 
@@ -18,107 +19,44 @@ use crate::locked::LockedStripe;
 use crate::named::Named;
 use crate::pass::Pass;
 use crate::store::Store;
-use mc_item::{Asking, Command, Fault, Reply, Step, class_of, cost, stripe_of};
-use mc_pull::{Count, Delete, Get, Huge, Put, Touch, Turn};
-use mc_stripe::Storage;
+use mc_item::{Asking, ClassNo, Command, Config, Fault, Reply, class_of, cost, stripe_of};
+use mc_stripe::Turn;
 use std::alloc::Global;
 use std::sync::Wait;
 
-// Makes a storage command: of the class of its new version, or of none.
+// The class that a storage command's new version would be of.
 #[inline(always)]
-fn store_under<N: Named>(
-    alloc: Global,
-    store: &Store<N>,
-    rt: &impl Wait,
-    own: &mut LockedStripe<N>,
-    caller: &mut Caller<N>,
-    storage: Storage,
-    turn: Turn,
-) -> Result<Reply, Fault>
-    requires called { IsCallOn N.config own.old.stripe caller.old (command_of storage) turn }
-    ensures { Ends N.config own.old.stripe own.new caller.old caller.new (command_of storage) turn result }
+fn class_for(config: &Config, command: &Command) -> Option<ClassNo>
+    requires { length config.now.sizes ≤ 63 }
+    ensures { IfSome result (λ class. IsClass (setting_of config.now) class) }
 {
-    own.law();
-    let cost = cost(
-        storage.key.bytes().len() as u64,
-        storage.value.bytes().len() as u64,
-    );
-    match class_of(&store.config, cost) {
-        Some(class) => {
-            let put = Put {
-                storage,
-                cost,
-                class,
-            };
-            answer_for(alloc, store, rt, own, caller, put, turn, class)
+    match command {
+        Command::Store { key, value, .. } => {
+            let cost = cost(key.bytes().len() as u64, value.bytes().len() as u64);
+            class_of(config, cost)
         }
-        None => {
-            let Storage {
-                verb,
-                key,
-                flags,
-                exptime,
-                value,
-            } = storage;
-            let command = Command::Store {
-                verb,
-                key,
-                flags,
-                exptime,
-                value,
-            };
-            answer(alloc, store, rt, own, caller, Huge { command, verb }, turn)
-        }
+        _ => None,
     }
 }
 
-// Makes a command on the stripe of its key, which is under its lock, each kind by its own row of the table.
+// Makes a command on the stripe of its key, which is under its lock: a storage command whose new version has a class is tried on
+// that class at once, any other command on its stripe alone.
 fn command_under<N: Named>(
     alloc: Global,
     store: &Store<N>,
     rt: &impl Wait,
     own: &mut LockedStripe<N>,
     caller: &mut Caller<N>,
-    command: Command,
+    command: &Command,
     turn: Turn,
 ) -> Result<Reply, Fault>
-    requires called { IsCallOn N.config own.old.stripe caller.old command turn }
-    ensures { Ends N.config own.old.stripe own.new caller.old caller.new command turn result }
+    requires called { IsCallOn N.config own.old.stripe caller.old command.now turn }
+    ensures { Ends N.config own.old.stripe own.new caller.old caller.new command.now turn result }
 {
-    match command {
-        Command::Get(key) => answer(alloc, store, rt, own, caller, Get { key }, turn),
-        Command::Touch(key, exptime) => {
-            answer(alloc, store, rt, own, caller, Touch { key, exptime }, turn)
-        }
-        Command::Delete(key) => answer(alloc, store, rt, own, caller, Delete { key }, turn),
-        Command::Incr(key, delta) => {
-            let step = Step::Up(delta);
-            answer(alloc, store, rt, own, caller, Count { key, step }, turn)
-        }
-        Command::Decr(key, delta) => {
-            let step = Step::Down(delta);
-            answer(alloc, store, rt, own, caller, Count { key, step }, turn)
-        }
-        Command::Huge { verb, key } => {
-            let command = Command::Huge { verb, key };
-            answer(alloc, store, rt, own, caller, Huge { command, verb }, turn)
-        }
-        Command::Store {
-            verb,
-            key,
-            flags,
-            exptime,
-            value,
-        } => {
-            let storage = Storage {
-                verb,
-                key,
-                flags,
-                exptime,
-                value,
-            };
-            store_under(alloc, store, rt, own, caller, storage, turn)
-        }
+    own.law();
+    match class_for(&store.config, command) {
+        Some(class) => answer_for(alloc, store, rt, own, caller, command, turn, class),
+        None => answer(alloc, store, rt, own, caller, command, turn),
     }
 }
 
@@ -130,12 +68,12 @@ fn command_seen<N: Named>(
     own: &mut LockedStripe<N>,
     pass: &mut Pass<N>,
     turn: Turn,
-    command: Command,
+    command: &Command,
 ) -> Result<Reply, Fault>
-    requires called { IsCallOn N.config own.old.stripe (caller_of pass.old) command turn }
+    requires called { IsCallOn N.config own.old.stripe (caller_of pass.old) command.now turn }
     requires room { length pass.old.calls < pass.old.turn + pass.old.turn }
-    ensures replied { (calls : List CallEvent) → pass.old.calls ≡ calls ++ asked_for command turn.moment ∷ [] → IfOk result (IsRepliedBy N.config own.old.stripe.site.stripe pass.old.sight pass.new.sight calls pass.new.calls turn.who command turn.moment) }
-    ensures cut { (calls : List CallEvent) → pass.old.calls ≡ calls ++ asked_for command turn.moment ∷ [] → OnErr result (IsCutBy N.config own.old.stripe.site.stripe pass.old.sight pass.new.sight calls pass.new.calls turn.who command turn.moment) }
+    ensures replied { (calls : List CallEvent) → pass.old.calls ≡ calls ++ asked_for command.now turn.moment ∷ [] → IfOk result (IsRepliedBy N.config own.old.stripe.site.stripe pass.old.sight pass.new.sight calls pass.new.calls turn.who command.now turn.moment) }
+    ensures cut { (calls : List CallEvent) → pass.old.calls ≡ calls ++ asked_for command.now turn.moment ∷ [] → OnErr result (IsCutBy N.config own.old.stripe.site.stripe pass.old.sight pass.new.sight calls pass.new.calls turn.who command.now turn.moment) }
     ensures grows { Grows pass.old.sight pass.new.sight }
     ensures same { pass.new ≡ record pass.old { calls = pass.new.calls; sight = pass.new.sight } }
     ensures full { IsErrOf result HistoryFull → HasSeenShort N.config pass.new.sight }
@@ -180,6 +118,9 @@ impl<N: Named> Store<N> {
         let mut guard = self.lock_stripe(rt, number);
         let own = &mut *guard;
         let turn = Turn { who, moment };
-        command_seen(alloc, self, rt, own, pass, turn, command)
+        let reply = command_seen(alloc, self, rt, own, pass, turn, &command);
+        drop(guard);
+        drop(command);
+        reply
     }
 }

@@ -21,9 +21,9 @@ use crate::store::Store;
 use crate::trying::{try_on_one, try_on_two};
 use crate::walking::make_room_under;
 use mc_board::Board;
-use mc_item::{Fault, Reply};
-use mc_pull::{Kind, Tried, Turn, offer_home, offer_other, ready};
-use mc_stripe::{Given, Want};
+use mc_item::{Command, Fault, Reply};
+use mc_pull::{Tried, offer_home, offer_other, ready};
+use mc_stripe::{Given, Turn, Want};
 use std::alloc::Global;
 use std::sync::MutexGuard;
 
@@ -39,19 +39,18 @@ fn ready_class<N: Named>(class: &mut LockedClass<N>) -> Result<(), Fault>
 
 // One try on the class of an item, which goes or is woken.
 #[inline(always)]
-fn try_other<N: Named, K: Kind + Drop>(
+fn try_other<N: Named>(
     alloc: Global,
     board: &Board,
     own: &mut LockedStripe<N>,
     other: &mut LockedClass<N>,
     caller: &mut Caller<N>,
-    kind: K,
+    command: &Command,
     turn: Turn,
-) -> Result<Tried<K>, Fault>
+) -> Result<Tried, Fault>
     requires board { board.now ≡ N.board }
-    requires called { IsCallOn N.config own.old.stripe caller.old (K.command kind) turn }
-    requires suits { K.suits kind own.old.stripe.site }
-    ensures tried { IfOk result (IsTriedOn N.config K.command K.suits own.old.stripe own.new caller.old caller.new (K.command kind) turn None (Some other.old.class.number) ⊥) }
+    requires called { IsCallOn N.config own.old.stripe caller.old command.now turn }
+    ensures tried { IfOk result (IsTriedOn N.config own.old.stripe own.new caller.old caller.new command.now turn None (Some other.old.class.number) ⊥) }
     ensures err { OnErr result ((own.new.stripe.history ≡ own.old.stripe.history) × (caller.new ≡ caller.old)) }
     ensures sees { Grows own.old.sight own.new.sight }
     ensures site { KeepsSite own.old.stripe own.new.stripe }
@@ -64,29 +63,28 @@ fn try_other<N: Named, K: Kind + Drop>(
         home: None,
         other: Some(offer_other(other.side().state())),
     };
-    try_on_one(alloc, board, own, other, caller, kind, turn, given)
+    try_on_one(alloc, board, own, other, caller, command, turn, given)
 }
 
 // One try on the class of a new version, which noted the refusal at this place for the call, where it did, and on that of its
 // key's item, where it is another.
 #[inline(always)]
-pub(crate) fn try_home<N: Named, K: Kind + Drop>(
+pub(crate) fn try_home<N: Named>(
     alloc: Global,
     board: &Board,
     own: &mut LockedStripe<N>,
     home: &mut LockedClass<N>,
     other: &mut Option<MutexGuard<'_, LockedClass<N>>>,
     caller: &mut Caller<N>,
-    kind: K,
+    command: &Command,
     turn: Turn,
     refused: Option<u64>,
-) -> Result<Tried<K>, Fault>
+) -> Result<Tried, Fault>
     requires board { board.now ≡ N.board }
-    requires called { IsCallOn N.config own.old.stripe caller.old (K.command kind) turn }
-    requires suits { K.suits kind own.old.stripe.site }
+    requires called { IsCallOn N.config own.old.stripe caller.old command.now turn }
     requires apart { number_in other.old ≢ Some home.old.class.number }
-    requires refused { IsRefusedAt N.config own.old.stripe turn (key_of (K.command kind)) home.old.class refused }
-    ensures tried { IfOk result (IsTriedOn N.config K.command K.suits own.old.stripe own.new caller.old caller.new (K.command kind) turn (Some home.old.class.number) (number_in other.old) (IsStillFull N.config own.new.sight refused home.old.class home.new.class × (number_in other.new ≡ number_in other.old) × WantsChunk home.old.class.number (number_in other.old) own.old.stripe (K.command kind) turn.moment)) }
+    requires refused { IsRefusedAt N.config own.old.stripe turn (key_of command.now) home.old.class refused }
+    ensures tried { IfOk result (IsTriedOn N.config own.old.stripe own.new caller.old caller.new command.now turn (Some home.old.class.number) (number_in other.old) (IsStillFull N.config own.new.sight refused home.old.class home.new.class × (number_in other.new ≡ number_in other.old) × WantsChunk home.old.class.number (number_in other.old) own.old.stripe command.now turn.moment)) }
     ensures err { OnErr result ((own.new.stripe.history ≡ own.old.stripe.history) × (caller.new ≡ caller.old)) }
     ensures sees { Grows own.old.sight own.new.sight }
     ensures site { KeepsSite own.old.stripe own.new.stripe }
@@ -101,7 +99,7 @@ pub(crate) fn try_home<N: Named, K: Kind + Drop>(
                 home: Some(offer_home(home.side().state(), refused, turn)),
                 other: None,
             };
-            try_on_one(alloc, board, own, home, caller, kind, turn, given)
+            try_on_one(alloc, board, own, home, caller, command, turn, given)
         }
         Some(guard) => {
             let beside = &mut **guard;
@@ -114,7 +112,9 @@ pub(crate) fn try_home<N: Named, K: Kind + Drop>(
                 home: Some(offer_home(home.side().state(), refused, turn)),
                 other: Some(offer_other(beside.side().state())),
             };
-            try_on_two(alloc, board, own, home, beside, caller, kind, turn, given)
+            try_on_two(
+                alloc, board, own, home, beside, caller, command, turn, given,
+            )
         }
     }
 }
@@ -144,29 +144,28 @@ fn search<N: Named>(
 
 // Makes a command whose new version is of this class, and whose key's item is of the other, where that is held. Where no chunk
 // is free one is looked for, and where none is found the class notes that.
-pub(crate) fn answer_at_home<N: Named, K: Kind + Drop>(
+pub(crate) fn answer_at_home<N: Named>(
     alloc: Global,
     store: &Store<N>,
     own: &mut LockedStripe<N>,
     home: &mut LockedClass<N>,
     other: &mut Option<MutexGuard<'_, LockedClass<N>>>,
     caller: &mut Caller<N>,
-    kind: K,
+    command: &Command,
     turn: Turn,
 ) -> Result<Reply, Fault>
-    requires called { IsCallOn N.config own.old.stripe caller.old (K.command kind) turn }
-    requires suits { K.suits kind own.old.stripe.site }
+    requires called { IsCallOn N.config own.old.stripe caller.old command.now turn }
     requires begun { HasBegunCommand N.config own.old.sight turn.who turn.moment }
     requires apart { number_in other.old ≢ Some home.old.class.number }
-    requires wants { WantsChunk home.old.class.number (number_in other.old) own.old.stripe (K.command kind) turn.moment }
-    ensures { Ends N.config own.old.stripe own.new caller.old caller.new (K.command kind) turn result }
+    requires wants { WantsChunk home.old.class.number (number_in other.old) own.old.stripe command.now turn.moment }
+    ensures { Ends N.config own.old.stripe own.new caller.old caller.new command.now turn result }
 {
     let board = &store.board;
     own.law();
     search(alloc, store, own, home, turn)?;
-    match try_home(alloc, board, own, home, other, caller, kind, turn, None)? {
+    match try_home(alloc, board, own, home, other, caller, command, turn, None)? {
         Tried::Made(reply) => Ok(reply),
-        Tried::Wants(kind, want) => match want {
+        Tried::Wants(want) => match want {
             Want::Room => {
                 let place = refuse(board, own, home, turn.who)?;
                 match try_home(
@@ -176,12 +175,12 @@ pub(crate) fn answer_at_home<N: Named, K: Kind + Drop>(
                     home,
                     other,
                     caller,
-                    kind,
+                    command,
                     turn,
                     Some(place),
                 )? {
                     Tried::Made(reply) => Ok(reply),
-                    Tried::Wants(_, _) => Err(Fault::HistoryFull),
+                    Tried::Wants(_) => Err(Fault::HistoryFull),
                 }
             }
             Want::Place(_) => Err(Fault::HistoryFull),
@@ -192,23 +191,22 @@ pub(crate) fn answer_at_home<N: Named, K: Kind + Drop>(
 }
 
 // Makes a command that needs the class of its key's item alone.
-pub(crate) fn answer_at_item<N: Named, K: Kind + Drop>(
+pub(crate) fn answer_at_item<N: Named>(
     alloc: Global,
     store: &Store<N>,
     own: &mut LockedStripe<N>,
     other: &mut LockedClass<N>,
     caller: &mut Caller<N>,
-    kind: K,
+    command: &Command,
     turn: Turn,
 ) -> Result<Reply, Fault>
-    requires called { IsCallOn N.config own.old.stripe caller.old (K.command kind) turn }
-    requires suits { K.suits kind own.old.stripe.site }
-    requires suffice { Suffice None (Some other.old.class.number) own.old.stripe (K.command kind) turn.moment }
-    ensures { Ends N.config own.old.stripe own.new caller.old caller.new (K.command kind) turn result }
+    requires called { IsCallOn N.config own.old.stripe caller.old command.now turn }
+    requires suffice { Suffice None (Some other.old.class.number) own.old.stripe command.now turn.moment }
+    ensures { Ends N.config own.old.stripe own.new caller.old caller.new command.now turn result }
 {
     own.law();
-    match try_other(alloc, &store.board, own, other, caller, kind, turn)? {
+    match try_other(alloc, &store.board, own, other, caller, command, turn)? {
         Tried::Made(reply) => Ok(reply),
-        Tried::Wants(_, _) => Err(Fault::HistoryFull),
+        Tried::Wants(_) => Err(Fault::HistoryFull),
     }
 }

@@ -15,37 +15,36 @@ use crate::named::Named;
 use crate::owned_class::catch_up_class;
 use crate::pairing::put_if;
 use mc_board::Board;
-use mc_item::Fault;
-use mc_pull::{Kind, Tried, Turn, attempt_none, attempt_one, attempt_two};
-use mc_stripe::Given;
+use mc_item::{Command, Fault};
+use mc_pull::{Tried, attempt_none, attempt_one, attempt_two};
+use mc_stripe::{Given, Turn};
 use std::alloc::Global;
 
 // Whether a try made its command.
 #[inline(always)]
-fn is_made<K: Drop>(tried: &Result<Tried<K>, Fault>) -> bool
+fn is_made(tried: &Result<Tried, Fault>) -> bool
     ensures { result ≡ words.is_made tried.now }
 {
     match tried {
         Ok(Tried::Made(_)) => true,
-        Ok(Tried::Wants(_, _)) => false,
+        Ok(Tried::Wants(_)) => false,
         Err(_) => false,
     }
 }
 
 // One try on a stripe alone.
 #[inline(always)]
-pub(crate) fn try_alone<N: Named, K: Kind + Drop>(
+pub(crate) fn try_alone<N: Named>(
     board: &Board,
     own: &mut LockedStripe<N>,
     caller: &mut Caller<N>,
-    kind: K,
+    command: &Command,
     turn: Turn,
-) -> Result<Tried<K>, Fault>
+) -> Result<Tried, Fault>
     requires board { board.now ≡ N.board }
-    requires asked { HasAsked caller.old turn.who (K.command kind) turn.moment }
-    requires suits { K.suits kind own.old.stripe.site }
-    requires may { MayTryOn own.old.stripe [] (K.command kind) turn (record { home = None; other = None }) }
-    ensures tried { IfOk result (IsTriedUnder K.command K.suits own.old.stripe own.new.stripe caller.old caller.new (K.command kind) turn (record { home = None; other = None }) [] []) }
+    requires asked { HasAsked caller.old turn.who command.now turn.moment }
+    requires may { MayTryOn own.old.stripe [] command.now turn (record { home = None; other = None }) }
+    ensures tried { IfOk result (IsTriedUnder own.old.stripe own.new.stripe caller.old caller.new command.now turn (record { home = None; other = None }) [] []) }
     ensures err { OnErr result (own.new.stripe.history ≡ own.old.stripe.history) }
     ensures unnoted { OnErr result (caller.new ≡ caller.old) }
     ensures sees { Grows own.old.sight own.new.sight }
@@ -53,7 +52,7 @@ pub(crate) fn try_alone<N: Named, K: Kind + Drop>(
     ensures full { IsErrOf result HistoryFull → IsShort N.config own.new }
 {
     let place = own.side.events();
-    let tried = attempt_none(&mut own.side.state, kind, turn);
+    let tried = attempt_none(&mut own.side.state, command, turn);
     own.side.state.history();
     put_if(
         board,
@@ -70,22 +69,21 @@ pub(crate) fn try_alone<N: Named, K: Kind + Drop>(
 // One try on a stripe and a class, which were told of each other, of what the class gives. The caller tells the class of
 // the call.
 #[inline(always)]
-pub(crate) fn try_on_one<N: Named, K: Kind + Drop>(
+pub(crate) fn try_on_one<N: Named>(
     alloc: Global,
     board: &Board,
     own: &mut LockedStripe<N>,
     class: &mut LockedClass<N>,
     caller: &mut Caller<N>,
-    kind: K,
+    command: &Command,
     turn: Turn,
     given: Given,
-) -> Result<Tried<K>, Fault>
+) -> Result<Tried, Fault>
     requires board { board.now ≡ N.board }
-    requires asked { HasAsked caller.old turn.who (K.command kind) turn.moment }
-    requires suits { K.suits kind own.old.stripe.site }
-    requires may { MayTryOn own.old.stripe (class.old.class ∷ []) (K.command kind) turn given }
+    requires asked { HasAsked caller.old turn.who command.now turn.moment }
+    requires may { MayTryOn own.old.stripe (class.old.class ∷ []) command.now turn given }
     requires room { HasRoomFor given class.old.class }
-    ensures tried { IfOk result (IsTriedUnder K.command K.suits own.old.stripe own.new.stripe caller.old caller.new (K.command kind) turn given (class.old ∷ []) (class.new ∷ [])) }
+    ensures tried { IfOk result (IsTriedUnder own.old.stripe own.new.stripe caller.old caller.new command.now turn given (class.old ∷ []) (class.new ∷ [])) }
     ensures err { OnErr result (own.new.stripe.history ≡ own.old.stripe.history) }
     ensures unnoted { OnErr result (caller.new ≡ caller.old) }
     ensures sees { Grows own.old.sight own.new.sight }
@@ -97,7 +95,7 @@ pub(crate) fn try_on_one<N: Named, K: Kind + Drop>(
         alloc,
         &mut own.side.state,
         &mut class.side.state,
-        kind,
+        command,
         turn,
         given,
     );
@@ -122,23 +120,22 @@ pub(crate) fn try_on_one<N: Named, K: Kind + Drop>(
 // One try on a stripe and two classes, which were told of each other, of what the classes give. The caller tells both of the
 // call.
 #[inline(never)]
-pub(crate) fn try_on_two<N: Named, K: Kind + Drop>(
+pub(crate) fn try_on_two<N: Named>(
     alloc: Global,
     board: &Board,
     own: &mut LockedStripe<N>,
     home: &mut LockedClass<N>,
     other: &mut LockedClass<N>,
     caller: &mut Caller<N>,
-    kind: K,
+    command: &Command,
     turn: Turn,
     given: Given,
-) -> Result<Tried<K>, Fault>
+) -> Result<Tried, Fault>
     requires board { board.now ≡ N.board }
-    requires asked { HasAsked caller.old turn.who (K.command kind) turn.moment }
-    requires suits { K.suits kind own.old.stripe.site }
-    requires may { MayTryOn own.old.stripe (home.old.class ∷ other.old.class ∷ []) (K.command kind) turn given }
+    requires asked { HasAsked caller.old turn.who command.now turn.moment }
+    requires may { MayTryOn own.old.stripe (home.old.class ∷ other.old.class ∷ []) command.now turn given }
     requires room { HasRoomFor given home.old.class × HasRoomFor given other.old.class }
-    ensures tried { IfOk result (IsTriedUnder K.command K.suits own.old.stripe own.new.stripe caller.old caller.new (K.command kind) turn given (home.old ∷ other.old ∷ []) (home.new ∷ other.new ∷ [])) }
+    ensures tried { IfOk result (IsTriedUnder own.old.stripe own.new.stripe caller.old caller.new command.now turn given (home.old ∷ other.old ∷ []) (home.new ∷ other.new ∷ [])) }
     ensures err { OnErr result (own.new.stripe.history ≡ own.old.stripe.history) }
     ensures unnoted { OnErr result (caller.new ≡ caller.old) }
     ensures sees { Grows own.old.sight own.new.sight }
@@ -151,7 +148,7 @@ pub(crate) fn try_on_two<N: Named, K: Kind + Drop>(
         &mut own.side.state,
         &mut home.side.state,
         &mut other.side.state,
-        kind,
+        command,
         turn,
         given,
     );

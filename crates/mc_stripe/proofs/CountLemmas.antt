@@ -1,39 +1,16 @@
 -- Lemmas for a count's try.
-use Rattle.std.proofs.Common.{ℕ, ◌≡◌, Bool, true, false, List, length, refl, sym, subst}
+use Rattle.std.proofs.Common.{ℕ, ◌≡◌, Bool, true, false, List, length, refl}
 use Rattle.std.specs.Prelude.{Option, Some, None, decimal, nat_le, if◌then◌else◌}
-use Rattle.mc_item.specs.Answer.{Row, cas_of, grown_row, number_row, padded, plain, row_of, stepped}
-use Rattle.mc_item.specs.Command.{key_of}
+use Rattle.mc_item.specs.Answer.{Row, cas_of, grown_row, number_row, padded, plain}
 use Rattle.mc_item.specs.Measure.{class_of, cost_of}
 use Rattle.mc_item.specs.declared.answer.Change.TheVariants as changes
 use Rattle.mc_item.specs.declared.answer.Need.TheVariants as needs
 use Rattle.mc_item.specs.declared.answer.Site.{Site}
-use Rattle.mc_item.specs.declared.counting.Step.{Step}
-use Rattle.mc_item.specs.declared.counting.Step.TheVariants.{Up, Down}
 use Rattle.mc_item.specs.declared.item.ClassNo.{ClassNo}
 use Rattle.mc_item.specs.declared.item.Item.{Item}
-use Rattle.mc_item.specs.declared.reply.Reply.{Reply}
 use Rattle.mc_item.specs.declared.reply.Reply.TheVariants as replies
-use Rattle.mc_item.specs.declared.reply.Room.{Room}
-use Rattle.mc_stripe.specs.Counting.{command_of, step_row}
 use Rattle.mc_stripe.specs.Wanting.{Covers, class_beside, classes_for}
 use Rattle.mc_stripe.specs.declared.wanting.Given.{Given}
-use Rattle.mc_stripe.specs.Stored.{IsNotable, IsValueless}
-use Rattle.mc_stripe.proofs.StoredLemmas.{count_valueless}
-
--- a count's row is that of its command
-pub step_row_is : (site : Site) (n : ℕ) (key : List ℕ) (step : Step) (found : Option Item) (moment : ℕ) → step_row site n key step found ≡ row_of site n found (command_of key step) moment
-step_row_is site n key (Up delta) found moment = refl
-step_row_is site n key (Down delta) found moment = refl
-
-pub key_of_count : (key : List ℕ) (step : Step) → key ≡ key_of (command_of key step)
-key_of_count key (Up delta) = refl
-key_of_count key (Down delta) = refl
-
--- its reply can be noted
-pub count_notable : (site : Site) (n : ℕ) (key : List ℕ) (step : Step) (found : Option Item) (room : Room) (reply : Reply)
-    → reply ≡ ((step_row site n key step found).answer room).reply → IsNotable (command_of key step) reply room
-count_notable site n key (Up delta) found room reply e = subst IsValueless (sym e) (count_valueless site n key (stepped (Up delta)) found room)
-count_notable site n key (Down delta) found room reply e = subst IsValueless (sym e) (count_valueless site n key (stepped (Down delta)) found room)
 
 -- a count that needs no chunk touches none, so what covers a chunk's classes covers all that it wants
 module _ (given : Given) (site : Site) (n : ℕ) (key : List ℕ) (item : Item) where

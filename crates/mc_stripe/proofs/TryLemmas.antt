@@ -1,19 +1,17 @@
--- Lemmas for tries that need no chunk and add no version.
-use Rattle.std.proofs.Common.{ℕ, ◌≡◌, ◌<◌, ◌+◌, ◌++◌, ◌∷◌, [], List, length, refl, ap, ◌∙◌, subst, add-zero}
+-- Lemmas for a try that made its command.
+use Rattle.std.proofs.Common.{ℕ, ◌≡◌, ◌<◌, ◌+◌, ◌++◌, ◌∷◌, [], List, length, refl, ap, ◌∙◌, subst}
 use Rattle.std.specs.Prelude.{Option}
 use Rattle.mc_item.specs.Answer.{Row, row_of}
 use Rattle.mc_item.specs.Cache.{changed, versions_of}
 use Rattle.mc_item.specs.Command.{key_of}
 use Rattle.mc_item.specs.Measure.{stripe_of}
 use Rattle.mc_item.specs.Stripe.{Fits, IsAlive, cache_of}
-use Rattle.mc_item.specs.declared.answer.Need.TheVariants as needs
 use Rattle.mc_item.specs.declared.answer.Site.{Site}
 use Rattle.mc_item.specs.declared.command.Command.{Command}
 use Rattle.mc_item.specs.declared.item.Item.{Item}
 use Rattle.mc_item.specs.declared.item.Who.{Who}
 use Rattle.mc_item.specs.declared.reply.Reply.{Reply}
 use Rattle.mc_item.specs.declared.reply.Room.{Room}
-use Rattle.mc_item.specs.declared.reply.Room.TheVariants as rooms
 use Rattle.mc_item.specs.declared.stripe_event.StripeEvent.{StripeEvent}
 use Rattle.mc_item.specs.declared.stripe_event.StripeEvent.TheVariants as events
 use Rattle.mc_stripe.specs.StripeState.{IsKept}
@@ -22,30 +20,6 @@ use Rattle.mc_stripe.specs.Wanting.{Uses}
 use Rattle.mc_stripe.specs.declared.fate.Fate.{Fate}
 use Rattle.mc_stripe.specs.declared.wanting.Given.{Given}
 use Rattle.mc_stripe.proofs.StateLemmas.{command_kept}
-
--- a row that needs nothing, and whose answer adds no version
-pub record IsIdle (row : Row) : Type 0 where
-  pub need : row.need ≡ needs.Nothing
-  pub added : 0 ≡ versions_of (row.answer rooms.Keep).change
-
--- a command of such a row that was made
-pub idle_kept : (given : Given) (site : Site) (limit versions : ℕ) (history later : List StripeEvent) (items now : List ℕ → Option Item) (who : Who) (command : Command) (moment : ℕ) (reply : Reply) (fate : Fate)
-    → IsKept site limit history versions items → length history < limit
-    → stripe_of (key_of command) site.stripes ≡ record { 0 = site.stripe }
-    → ((n : ℕ) (found : Option Item) → IsIdle (row_of site n found command moment))
-    → IsMade given items now (key_of command) (row_of site versions (items (key_of command)) command moment) moment rooms.Keep reply fate
-    → later ≡ history ++ events.Did (record { who = who; command = command; moment = moment; reply = reply; room = rooms.Keep }) ∷ []
-    → IsKept site limit later versions now
-idle_kept given site limit versions history later items now who command moment reply fate kept few stripe idle made later_is =
-    let key = key_of command in
-    let cache = cache_of site history in
-    let row = row_of site cache.versions (cache.items key) command moment in
-    subst (λ (n : ℕ). IsKept site limit later n now) (add-zero versions)
-    (command_kept site limit history later versions 0 items items now who command moment rooms.Keep ((row_of site versions (items key) command moment).answer rooms.Keep) key (items key)
-    kept few stripe (subst (λ (o : Option Item). IsAlive o moment) (kept.items_are key) made.uses.alive)
-    (rw ((idle cache.versions (cache.items key)).need) tt)
-    (λ q. refl) refl refl refl made.items (idle versions (items key)).added
-    (later_is ∙ ap (λ (r : Reply). history ++ events.Did (record { who = who; command = command; moment = moment; reply = r; room = rooms.Keep }) ∷ []) made.reply_is))
 
 -- a command that was made by its row, in a room that fits
 pub tried_kept : (given : Given) (site : Site) (limit versions added : ℕ) (history later : List StripeEvent) (items reserved now : List ℕ → Option Item) (who : Who) (command : Command) (key : List ℕ) (moment : ℕ) (row : Row) (room : Room) (reply : Reply) (fate : Fate)

@@ -4,9 +4,8 @@ pub use Rattle.mc_item.specs.Stripe
 pub mod StripeState
 pub mod StripeCalls
 pub mod Plan
-pub mod Stored
+pub mod Shown
 pub mod Trying
 pub mod Wanting
 pub mod Putting
 pub mod Counting
-pub mod Huge

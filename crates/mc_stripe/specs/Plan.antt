@@ -8,6 +8,7 @@ use Rattle.mc_item.specs.Measure.{cost_of}
 use Rattle.mc_item.specs.declared.answer.Change.{Change}
 use Rattle.mc_item.specs.declared.answer.Change.TheVariants as changes
 use Rattle.mc_item.specs.declared.command.Command.{Command}
+use Rattle.mc_item.specs.declared.command.Command.TheVariants.{Get, Store, Huge, Incr, Decr, Touch, Delete}
 use Rattle.mc_item.specs.declared.item.Item.{Item}
 use Rattle.mc_item.specs.declared.item.Link.{Link}
 use Rattle.mc_stripe.specs.StripeState.{Stripe, cache_now}
@@ -33,6 +34,16 @@ hit_fate active (Some item) = if active && not item.marks.active then fates.Woke
 abbrev pub woken_link : Option Item → ℕ → Option Link
 woken_link None moment = None
 woken_link (Some item) moment = if is_dead item moment then None else if (hit_marks item.marks).active && not item.marks.active then Some item.link else None
+
+-- the link of the item that a command would wake at a moment: a get and a touch are hits
+abbrev pub woken_by : Stripe → Command → ℕ → Option Link
+woken_by s (Get key) moment = woken_link ((cache_now s).items key) moment
+woken_by s (Touch key exptime) moment = woken_link ((cache_now s).items key) moment
+woken_by s (Store verb key flags exptime value) moment = None
+woken_by s (Huge verb key) moment = None
+woken_by s (Incr key delta) moment = None
+woken_by s (Decr key delta) moment = None
+woken_by s (Delete key) moment = None
 
 -- what becomes of a key's chunks by a change of its item
 abbrev pub fate_of : List ℕ → Option Item → Change → Fate

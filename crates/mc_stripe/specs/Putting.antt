@@ -4,8 +4,6 @@ use Rattle.mc_item.specs.Answer.{Row, let_go, plain}
 use Rattle.mc_item.specs.Answer as answers
 use Rattle.mc_item.specs.declared.answer.Change.TheVariants as changes
 use Rattle.mc_item.specs.declared.answer.Need.TheVariants as needs
-use Rattle.mc_item.specs.declared.command.Command.{Command}
-use Rattle.mc_item.specs.declared.command.Command.TheVariants.{Store}
 use Rattle.mc_item.specs.declared.command.Verb.{Verb}
 use Rattle.mc_item.specs.declared.item.ClassNo.{ClassNo}
 use Rattle.mc_item.specs.declared.item.Item.{Item}
@@ -18,7 +16,6 @@ use Rattle.mc_stripe.specs.declared.fate.Fate.{Fate}
 use Rattle.mc_stripe.specs.declared.fate.Fate.TheVariants as fates
 use Rattle.mc_stripe.specs.declared.putting.PutAnswer.{PutAnswer}
 use Rattle.mc_stripe.specs.declared.putting.PutAnswer.TheVariants as answered
-use Rattle.mc_stripe.specs.declared.storing.Storage.{Storage}
 
 -- the reply
 abbrev pub reply_of : PutAnswer → Reply
@@ -48,10 +45,6 @@ goes (fates.Goes link) = true
 goes fates.Untouched = false
 goes (fates.Woken link) = false
 goes (fates.Renewed cost expiry old) = false
-
--- the command that a storage command is
-abbrev pub command_of : Storage → Command
-command_of s = Store s.verb s.key s.flags s.exptime s.value
 
 -- how many versions it adds
 abbrev pub added : PutAnswer → ℕ

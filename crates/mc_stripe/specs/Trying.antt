@@ -1,8 +1,8 @@
 -- What a try of a command is: it was made, or it says what is wanting, and nothing happened (own).
-use Rattle.std.specs.Prelude.{ℕ, ◌≡◌, List, nat_eq, if◌then◌else◌, Option}
+use Rattle.std.specs.Prelude.{ℕ, ◌≡◌, Bool, true, List, nat_eq, if◌then◌else◌, Option, Some}
 use Rattle.std.specs.Cmp.Lexicographic.{pointwise}
 use Rattle.mc_item.specs.Answer.{Row, row_of}
-use Rattle.mc_item.specs.Cache.{changed}
+use Rattle.mc_item.specs.Cache.{changed, versions_of}
 use Rattle.mc_item.specs.Command.{key_of}
 use Rattle.mc_item.specs.declared.command.Command.{Command}
 use Rattle.mc_item.specs.declared.item.Item.{Item}
@@ -14,6 +14,7 @@ use Rattle.mc_stripe.specs.StripeState.{Stripe, cache_now}
 use Rattle.mc_stripe.specs.Wanting.{IsWanting, Uses}
 use Rattle.mc_stripe.specs.declared.fate.Fate.{Fate}
 use Rattle.mc_stripe.specs.declared.trying.Done.{Done}
+use Rattle.mc_stripe.specs.declared.trying.Made.{Made}
 use Rattle.mc_stripe.specs.declared.wanting.Given.{Given}
 use Rattle.mc_stripe.specs.declared.wanting.Want.{Want}
 
@@ -30,6 +31,12 @@ pub record IsMade (given : Given) (old new : List ℕ → Option Item) (key : Li
   pub uses : Uses given key (old key) moment row room fate
   pub reply_is : reply ≡ (row.answer room).reply
   pub items : Puts old new key (changed (old key) (row.answer room).change)
+
+-- a command of this row was made of the items: its reply once more for an event that is kept, and how many versions it added
+pub record Makes (keeps : Bool) (given : Given) (old new : List ℕ → Option Item) (key : List ℕ) (row : Row) (moment : ℕ) (made : Made) : Type 0 where
+  pub made_is : IsMade given old new key row moment made.done.room made.done.reply made.done.fate
+  pub noted : keeps ≡ true → made.noted ≡ Some made.done.reply
+  pub added : made.added ≡ versions_of (row.answer made.done.room).change
 
 -- the items stay, and this is wanted
 abbrev pub IsLeft : Given → (old new : List ℕ → Option Item) → List ℕ → ℕ → Row → Want → Type 0

@@ -11,9 +11,9 @@ ghost use Rattle.mc_stripe.specs.StripeState.{cache_now};
 ghost use Rattle.mc_stripe.specs.StripeCalls.{KeepsSite, Gains};
 
 use crate::changing::remove;
-use crate::noted::Noted;
+use crate::shown::push_event;
 use crate::state::{StripeState, is_full};
-use mc_item::{Cause, ClassNo, Cooled, Fault, Item, Key, Lost, Who};
+use mc_item::{Cause, ClassNo, Cooled, Fault, Item, Key, Lost, StripeEvent, Who};
 use std::collections::HashMap;
 use std::hash::RandomState;
 
@@ -43,8 +43,10 @@ impl StripeState {
         }
         self.history.reserve(1)?;
         remove(&mut self.items, &key);
-        self.history
-            .push_reserved(Noted::lost(Lost { who, key, cause }));
+        push_event(
+            &mut self.history,
+            StripeEvent::Lost(Lost { who, key, cause }),
+        );
         Ok(())
     }
 
@@ -98,8 +100,7 @@ impl StripeState {
         }
         self.history.reserve(1)?;
         cool_item(&mut self.items, &key);
-        self.history
-            .push_reserved(Noted::cooled(Cooled { who, key }));
+        push_event(&mut self.history, StripeEvent::Cooled(Cooled { who, key }));
         Ok(())
     }
 }

@@ -1,6 +1,7 @@
 //! One stripe: its items, and the history that says how they came to be. Nothing here locks.
 #![tactic(auto)]
 
+mod attempting;
 mod changing;
 mod counting;
 mod deleting;
@@ -8,10 +9,8 @@ mod fate;
 mod forgetting;
 mod getting;
 mod huge;
-mod noted;
-mod noting;
-mod parts;
 mod putting;
+mod shown;
 mod state;
 mod storing;
 mod touching;
@@ -19,8 +18,7 @@ mod trying;
 mod wanting;
 
 pub use fate::Fate;
-pub use noted::Noted;
+pub use shown::ShownStripe;
 pub use state::StripeState;
-pub use storing::Storage;
-pub use trying::Done;
+pub use trying::{Done, Turn};
 pub use wanting::{Classes, Given, Home, Other, Want};

@@ -1,4 +1,4 @@
-//! Storage commands, from look-up to event.
+//! Storage commands, from look-up to what becomes of the item.
 ghost use Rattle.std.specs.Prelude.{◌≡◌, ◌<◌, ◌≤◌, ◌+◌, ◌^◌, ℕ, List, true, false, IfOk, IfErr, IfSome, IfNone, OnOk, OnErr, nat_eq, if◌then◌else◌, Option, Some, None};
 ghost use Rattle.std.specs.Cmp.Lexicographic.{pointwise};
 ghost use Rattle.std.specs.HashMap.{get, spare};
@@ -244,7 +244,6 @@ fn put_new(
 ) -> Result<Result<Put, Want>, NoMemory>
     requires cas { cas_of site.now versions < 2 ^ 64 }
     requires cost { cost ≡ cost_of key.now content.now.value.now }
-    requires room { 0 < spare items.old }
     requires absent { get (pointwise nat_eq) items.old key.now ≡ None }
     ensures made { (moment : ℕ) → IfOk result (λ t. IfOk t (λ put. IsMade given (get (pointwise nat_eq) items.old) (get (pointwise nat_eq) items.new) key.now (store_row (Some fresh) verb (get (pointwise nat_eq) items.old key.now) (version_of site.now versions content.now.flags content.now.value.now content.now.expiry)) moment put.room (reply_of put.answer) put.fate)) }
     ensures added { IfOk result (λ t. IfOk t (λ put. added put.answer ≡ versions_of ((store_row (Some fresh) verb (get (pointwise nat_eq) items.old key.now) (version_of site.now versions content.now.flags content.now.value.now content.now.expiry)).answer put.room).change)) }
@@ -267,6 +266,7 @@ fn put_new(
     let put = Put { answer, room, fate };
     match room {
         Room::At(link) => {
+            items.reserve(1)?;
             let name = key.copy(alloc)?;
             let item = new_item(site, versions, content, link)?;
             let _ = items.insert(name, item);
@@ -294,7 +294,6 @@ pub(crate) fn put_item(
 ) -> Result<Result<Put, Want>, NoMemory>
     requires cas { cas_of site.now versions < 2 ^ 64 }
     requires cost { cost ≡ cost_of key.now content.now.value.now }
-    requires room { 0 < spare items.old }
     ensures made { IfOk result (λ t. IfOk t (λ put. IsMade given (get (pointwise nat_eq) items.old) (get (pointwise nat_eq) items.new) key.now (store_row (Some fresh) verb (get (pointwise nat_eq) items.old key.now) (version_of site.now versions content.now.flags content.now.value.now content.now.expiry)) moment put.room (reply_of put.answer) put.fate)) }
     ensures added { IfOk result (λ t. IfOk t (λ put. added put.answer ≡ versions_of ((store_row (Some fresh) verb (get (pointwise nat_eq) items.old key.now) (version_of site.now versions content.now.flags content.now.value.now content.now.expiry)).answer put.room).change)) }
     ensures wants { IfOk result (λ t. IfErr t (IsLeft given (get (pointwise nat_eq) items.old) (get (pointwise nat_eq) items.new) key.now moment (store_row (Some fresh) verb (get (pointwise nat_eq) items.old key.now) (version_of site.now versions content.now.flags content.now.value.now content.now.expiry)))) }

@@ -8,9 +8,9 @@ ghost use Rattle.mc_item.specs.declared.fault.Fault.TheVariants as faults;
 ghost use Rattle.mc_stripe.specs.StripeState.{HasBounds, cache_now};
 ghost use Rattle.mc_stripe.specs.StripeCalls.{KeepsSite};
 
-use crate::noted::Noted;
+use crate::shown::ShownStripe;
 use mc_history::History;
-use mc_item::{ClassSizes, Config, Fault, Item, Key, Site, StripeNo, stripe_of};
+use mc_item::{ClassSizes, Config, Fault, Item, Key, Site, StripeEvent, StripeNo, stripe_of};
 use std::alloc::Global;
 use std::collections::HashMap;
 use std::hash::RandomState;
@@ -23,7 +23,7 @@ use std::marker::Model;
 pub struct StripeState {
     pub(crate) limit: u64,
     pub(crate) versions: u64,
-    pub(crate) history: History<Noted>,
+    pub(crate) history: History<StripeEvent, ShownStripe>,
     pub(crate) items: HashMap<Key, Item, RandomState>,
     pub(crate) alloc: Global,
     pub(crate) site: Site,
@@ -44,7 +44,7 @@ impl Model for StripeState {
 
 // Whether a history of this limit has no place left.
 #[inline(always)]
-pub(crate) fn is_full(history: &History<Noted>, limit: u64) -> bool
+pub(crate) fn is_full(history: &History<StripeEvent, ShownStripe>, limit: u64) -> bool
     ensures { MatchBool result (limit ≤ length history.now.items) (length history.now.items < limit) }
 {
     history.len() as u64 >= limit
@@ -97,7 +97,7 @@ impl StripeState {
     }
 
     /// All that happened, oldest first, as it lies in memory.
-    pub fn history(&self) -> &History<Noted>
+    pub fn history(&self) -> &History<StripeEvent, ShownStripe>
         ensures value { result.now.items ≡ self.now.history }
         ensures kept { result.now.kept ≡ self.now.keeps_events }
         ensures legal { IsLegal self.now.site self.now.history }

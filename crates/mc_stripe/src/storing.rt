@@ -1,100 +1,20 @@
-//! A storage command on a stripe.
-ghost use Rattle.std.specs.Prelude.{◌≡◌, ◌≤◌, ◌+◌, ◌^◌, ◌↔◌, Some, IfOk, IfErr, OnErr, IsErrOf, length};
-ghost use Rattle.mc_item.specs.Item as items;
-ghost use Rattle.mc_item.specs.Measure.{class_of, cost_of, stripe_of};
-ghost use Rattle.mc_item.specs.Stripe.{Fits};
-ghost use Rattle.mc_item.specs.declared.answer.Need.TheVariants as needs;
-ghost use Rattle.mc_item.specs.declared.fault.Fault.TheVariants as faults;
-ghost use Rattle.mc_item.specs.declared.item.ClassNo.{ClassNo as TheClass};
-ghost use Rattle.mc_item.specs.declared.reply.Room.{Room};
+//! A storage command on a stripe, whether a class can hold its new version or none.
+ghost use Rattle.std.specs.Prelude.{◌≡◌, ◌<◌, ◌≤◌, ◌+◌, ◌^◌, Some, IfOk, IfErr, OnErr, nat_eq, true};
+ghost use Rattle.std.specs.Cmp.Lexicographic.{pointwise};
+ghost use Rattle.std.specs.HashMap.{get, spare};
+ghost use Rattle.mc_item.specs.Answer.{cas_of, store_row, version_of};
+ghost use Rattle.mc_item.specs.Measure.{class_of, cost_of};
 ghost use Rattle.mc_stripe.specs.Putting as words;
-ghost use Rattle.mc_stripe.specs.StripeCalls.{KeepsSite};
-ghost use Rattle.mc_stripe.specs.Trying.{IsDone, IsOpen};
-ghost use Rattle.mc_stripe.specs.Wanting.{IsTaken};
+ghost use Rattle.mc_stripe.specs.Trying.{IsLeft, Makes, Stays};
 
-use crate::noting::push_answer;
+use crate::huge::refuse_huge;
 use crate::putting::{PutAnswer, put_item};
-use crate::state::{StripeState, is_full};
-use crate::trying::Done;
+use crate::trying::{Made, made_with};
 use crate::wanting::{Given, Want};
-use mc_item::{ClassNo, Command, Content, Expiry, Fault, Key, Value, Verb, Who, expiry_of};
-
-/// A storage command.
-#[derive(Drop)]
-pub struct Storage {
-    pub verb: Verb,
-    pub key: Key,
-    pub flags: u32,
-    pub exptime: i64,
-    pub value: Value,
-}
-
-impl StripeState {
-    /// Tries a storage command of this cost and class: it is made, by one look-up and with one event more, or given back with
-    /// what it wants, and nothing happened.
-    pub fn put(
-        &mut self,
-        who: Who,
-        storage: Storage,
-        moment: u64,
-        cost: u64,
-        fresh: ClassNo,
-        given: Given,
-    ) -> Result<Result<Done, (Storage, Want)>, Fault>
-        requires stripe { stripe_of storage.key self.old.site.stripes ≡ record { 0 = self.old.site.stripe } }
-        requires moment { moment ≤ 2 ^ 62 }
-        requires cost { cost ≡ cost_of storage.key storage.value }
-        requires fresh { class_of self.old.site.sizes (cost_of storage.key storage.value) ≡ Some fresh }
-        requires given { (class : TheClass) (room : Room) → IsTaken given (needs.Fresh class) room → Fits (needs.Fresh class) room self.old.history }
-        ensures made { IfOk result (λ t. IfOk t (IsDone given self.old self.new who (words.command_of storage) moment)) }
-        ensures wants { IfOk result (λ t. IfErr t (λ back. (back.0 ≡ storage) × IsOpen given self.old self.new (words.command_of storage) moment back.1)) }
-        ensures full { IsErrOf result faults.HistoryFull ↔ (self.old.limit ≤ length self.old.history) }
-        ensures err { OnErr result (self.new.history ≡ self.old.history) }
-        ensures site { KeepsSite self.old self.new }
-        ensures room { self.old.room ≤ self.new.room + 1 }
-    {
-        if is_full(&self.history, self.limit) {
-            return Err(Fault::HistoryFull);
-        }
-        self.items.reserve(1)?;
-        self.history.reserve(1)?;
-        let content = Content {
-            flags: storage.flags,
-            value: &storage.value,
-            expiry: expiry_at(&storage, moment),
-        };
-        let put = match put_item(
-            self.alloc,
-            &self.site,
-            self.versions,
-            &mut self.items,
-            &storage.key,
-            storage.verb,
-            &content,
-            cost,
-            moment,
-            fresh,
-            given,
-        )? {
-            Ok(put) => put,
-            Err(want) => return Ok(Err((storage, want))),
-        };
-        self.versions += added(put.answer);
-        push_answer(
-            &mut self.history,
-            who,
-            command_of(storage),
-            moment,
-            put.answer.reply(),
-            put.room,
-        );
-        Ok(Ok(Done {
-            reply: put.answer.reply(),
-            room: put.room,
-            fate: put.fate,
-        }))
-    }
-}
+use mc_item::{Content, Item, Key, NoMemory, Site, Verb, cost};
+use std::alloc::Global;
+use std::collections::HashMap;
+use std::hash::RandomState;
 
 // How many versions it adds.
 #[inline(always)]
@@ -107,32 +27,40 @@ fn added(answer: PutAnswer) -> u64
     }
 }
 
-// The command that it is.
+/// A storage command, by one look-up, and one more if a set lets its item go.
 #[inline(always)]
-fn command_of(storage: Storage) -> Command
-    ensures { result ≡ words.command_of storage }
+pub(crate) fn store_item(
+    alloc: Global,
+    site: &Site,
+    versions: u64,
+    items: &mut HashMap<Key, Item, RandomState>,
+    key: &Key,
+    verb: Verb,
+    content: &Content<'_>,
+    moment: u64,
+    given: Given,
+) -> Result<Result<Made, Want>, NoMemory>
+    requires cas { cas_of site.now versions < 2 ^ 64 }
+    ensures made { IfOk result (λ t. IfOk t (Makes true given (get (pointwise nat_eq) items.old) (get (pointwise nat_eq) items.new) key.now (store_row (class_of site.now.sizes (cost_of key.now content.now.value.now)) verb (get (pointwise nat_eq) items.old key.now) (version_of site.now versions content.now.flags content.now.value.now content.now.expiry)) moment)) }
+    ensures wants { IfOk result (λ t. IfErr t (IsLeft given (get (pointwise nat_eq) items.old) (get (pointwise nat_eq) items.new) key.now moment (store_row (class_of site.now.sizes (cost_of key.now content.now.value.now)) verb (get (pointwise nat_eq) items.old key.now) (version_of site.now versions content.now.flags content.now.value.now content.now.expiry)))) }
+    ensures err { OnErr result (Stays (get (pointwise nat_eq) items.old) (get (pointwise nat_eq) items.new)) }
+    ensures spare { spare items.old ≤ spare items.new + 1 }
 {
-    let Storage {
-        verb,
-        key,
-        flags,
-        exptime,
-        value,
-    } = storage;
-    Command::Store {
-        verb,
-        key,
-        flags,
-        exptime,
-        value,
-    }
-}
-
-// When a version dies.
-#[inline(always)]
-fn expiry_at(storage: &Storage, moment: u64) -> Expiry
-    requires { moment ≤ 2 ^ 62 }
-    ensures { result ≡ items.expiry_of storage.now.exptime moment }
-{
-    expiry_of(storage.exptime, moment)
+    let cost = cost(key.bytes().len() as u64, content.value.bytes().len() as u64);
+    let Some(fresh) = site.class_of(cost) else {
+        return Ok(refuse_huge(items, key, verb, moment, given));
+    };
+    let put = match put_item(
+        alloc, site, versions, items, key, verb, content, cost, moment, fresh, given,
+    )? {
+        Ok(put) => put,
+        Err(want) => return Ok(Err(want)),
+    };
+    Ok(Ok(made_with(
+        put.answer.reply(),
+        put.answer.reply(),
+        put.room,
+        put.fate,
+        added(put.answer),
+    )))
 }

@@ -1,6 +1,17 @@
 //! What a try of a command did.
+ghost use Rattle.std.specs.Prelude.{◌≡◌, Some};
+ghost use Rattle.mc_item.specs.declared.reply.Room.TheVariants as rooms;
+ghost use Rattle.mc_stripe.specs.declared.fate.Fate.TheVariants as fates;
+
 use crate::fate::Fate;
-use mc_item::{Reply, Room};
+use mc_item::{Reply, Room, Who};
+
+/// A caller's turn: who has it, and the moment that it was handed.
+#[derive(Clone, Copy, Debug, PartialEq, Eq)]
+pub struct Turn {
+    pub who: Who,
+    pub moment: u64,
+}
 
 /// What a command did: its reply, the room that it took, and what became of the chunks of its key.
 #[derive(Drop)]
@@ -8,4 +19,33 @@ pub struct Done {
     pub reply: Reply,
     pub room: Room,
     pub fate: Fate,
+}
+
+/// What a command made of its key's item: what it did, its reply once more for an event that is kept, and how many versions it
+/// added.
+#[derive(Drop)]
+pub(crate) struct Made {
+    pub(crate) done: Done,
+    pub(crate) noted: Option<Reply>,
+    pub(crate) added: u64,
+}
+
+/// What a command of this reply made, whose copy is `noted`.
+#[inline(always)]
+pub(crate) fn made_with(reply: Reply, noted: Reply, room: Room, fate: Fate, added: u64) -> Made
+    ensures { result ≡ record { done = record { reply = reply; room = room; fate = fate }; noted = Some noted; added = added } }
+{
+    Made {
+        done: Done { reply, room, fate },
+        noted: Some(noted),
+        added,
+    }
+}
+
+/// What a command of this reply made that touches no chunk.
+#[inline(always)]
+pub(crate) fn untouched(reply: Reply, noted: Reply, added: u64) -> Made
+    ensures { result ≡ record { done = record { reply = reply; room = rooms.Keep; fate = fates.Untouched }; noted = Some noted; added = added } }
+{
+    made_with(reply, noted, Room::Keep, Fate::Untouched, added)
 }

@@ -9,7 +9,6 @@ mod drawing;
 mod links;
 mod plain;
 mod plain_class;
-mod trying;
 mod world;
 
 pub use commands::{key, storage, try_key, try_storage};
@@ -18,5 +17,4 @@ pub use drawing::Drawing;
 pub use links::{is_dead, may_give};
 pub use plain::Plain;
 pub use plain_class::{Checked, PlainClass};
-pub use trying::try_command;
 pub use world::{WHO, World, ask, juggle, one_class, opened, store};

@@ -10,34 +10,34 @@ ghost use Rattle.mc_stripe.specs.Wanting.{IsGiven, IsTaken};
 
 use mc_history::History;
 use mc_item::{Key, Link, Room, StripeEvent};
-use mc_stripe::{Given, Home, Noted, StripeState};
-use std::alloc::Global;
+use mc_stripe::{Given, Home, ShownStripe, StripeState};
 
-// Whether an event gives the link to a new version, or can't be read without memory.
-fn gives(alloc: Global, noted: &Noted, link: Link) -> bool
-    ensures { result ≡ false → link_named noted.now ≢ Some link }
+type Events = History<StripeEvent, ShownStripe>;
+
+// Whether an event gives the link to a new version.
+fn gives(event: &StripeEvent, link: Link) -> bool
+    ensures { result ≡ false → link_named event.now ≢ Some link }
 {
-    match noted.event(alloc) {
-        Ok(StripeEvent::Did(did)) => match did.room {
+    match event {
+        StripeEvent::Did(did) => match did.room {
             Room::At(given) => given == link,
             Room::Keep => false,
             Room::Refused { .. } => false,
         },
-        Ok(StripeEvent::Lost(_)) => false,
-        Ok(StripeEvent::Cooled(_)) => false,
-        Err(_) => true,
+        StripeEvent::Lost(_) => false,
+        StripeEvent::Cooled(_) => false,
     }
 }
 
 // Whether no event gives the link.
-fn is_unnamed(alloc: Global, events: &History<Noted>, link: Link) -> bool
+fn is_unnamed(events: &Events, link: Link) -> bool
     ensures { result ≡ true → IsUnnamed link events.now.items }
 {
     for place in 0..events.len() {
-        let Some(noted) = events.get(place) else {
+        let Some(event) = events.get(place) else {
             return false;
         };
-        if gives(alloc, noted, link) {
+        if gives(event, link) {
             return false;
         }
     }
@@ -45,23 +45,23 @@ fn is_unnamed(alloc: Global, events: &History<Noted>, link: Link) -> bool
 }
 
 // Whether a class may lend its room: the link is of the class, and no event gives it; or the class refused it.
-fn lends(alloc: Global, home: Home, events: &History<Noted>) -> bool
+fn lends(home: Home, events: &Events) -> bool
     ensures { result ≡ true → IsGiven home.room → Fits (needs.Fresh home.class) home.room events.now.items }
 {
     match home.room {
-        Room::At(link) => link.class.0 == home.class.0 && is_unnamed(alloc, events, link),
+        Room::At(link) => link.class.0 == home.class.0 && is_unnamed(events, link),
         Room::Refused { class, .. } => class.0 == home.class.0,
         Room::Keep => true,
     }
 }
 
 /// Whether the room that a try is given may be lent on a stripe of these events.
-pub fn may_give(alloc: Global, given: Given, events: &History<Noted>) -> bool
+pub fn may_give(given: Given, events: &Events) -> bool
     ensures { result ≡ true → (class : TheClass) (room : TheRoom) → IsTaken given (needs.Fresh class) room → Fits (needs.Fresh class) room events.now.items }
 {
     match given.home {
         None => true,
-        Some(home) => lends(alloc, home, events),
+        Some(home) => lends(home, events),
     }
 }
 

@@ -2,13 +2,15 @@
 //! another and say what is wrong with it, where something is.
 use mc_history::History;
 use mc_item::{ClassEvent, Entry, Evicted, Linked, Seg, Shifted, Surveyed, Who, Why};
-use mc_segment::{ClassNoted, ClassState};
+use mc_segment::{ClassState, ShownClass};
 use std::alloc::Global;
 
 // How many entries may stand nearer the tail than one that is judged.
 const MOST_PASSED: usize = 4;
 
 static SEGS: [Seg; 4] = [Seg::Hot, Seg::Warm, Seg::Cold, Seg::Temp];
+
+type Events = History<ClassEvent, ShownClass>;
 
 /// Nothing, or what is wrong.
 pub type Checked = Result<(), &'static str>;
@@ -38,18 +40,9 @@ fn holds(is_so: bool, wrong: &'static str) -> Checked {
 }
 
 // Whether the event at a place of the history is a survey by this call at this moment.
-fn is_survey(
-    alloc: Global,
-    history: &History<ClassNoted>,
-    place: u64,
-    who: Who,
-    moment: u64,
-) -> bool {
-    let Some(noted) = history.get(place as usize) else {
-        return false;
-    };
-    match noted.event(alloc) {
-        Ok(ClassEvent::Surveyed(survey)) => survey.who == who && survey.moment == moment,
+fn is_survey(history: &Events, place: u64, who: Who, moment: u64) -> bool {
+    match history.get(place as usize) {
+        Some(ClassEvent::Surveyed(survey)) => survey.who == who && survey.moment == moment,
         _ => false,
     }
 }
@@ -179,11 +172,11 @@ impl PlainClass {
     }
 
     // Whether a move has the ground that its reason asks for.
-    fn has_ground(&self, shifted: &Shifted, history: &History<ClassNoted>) -> bool {
+    fn has_ground(&self, shifted: &Shifted, history: &Events) -> bool {
         match shifted.why {
             Why::Hit | Why::Active => true,
             Why::Over(place) | Why::Old(place) => {
-                is_survey(self.alloc, history, place, shifted.who, shifted.moment)
+                is_survey(history, place, shifted.who, shifted.moment)
             }
             Why::Forced => self.is_full(),
         }
@@ -204,7 +197,7 @@ impl PlainClass {
     }
 
     // What is wrong with a move's segments, its neighbours and its ground.
-    fn check_move(&self, shifted: &Shifted, history: &History<ClassNoted>) -> Checked {
+    fn check_move(&self, shifted: &Shifted, history: &Events) -> Checked {
         holds(shifted.to_seg == goal_of(shifted.why), "a move elsewhere")?;
         holds(
             may_leave(shifted.why, shifted.from_seg),
@@ -218,7 +211,7 @@ impl PlainClass {
     }
 
     // An entry goes to another segment's head, or to its own's. A hit sets its time, and so does the move of an active one.
-    fn shift(&mut self, shifted: &Shifted, history: &History<ClassNoted>) -> Checked {
+    fn shift(&mut self, shifted: &Shifted, history: &Events) -> Checked {
         self.check_move(shifted, history)?;
         let Some(mut kept) = self.take(shifted.number) else {
             return Err("no entry to move");
@@ -269,7 +262,7 @@ impl PlainClass {
     }
 
     /// One event more of a history.
-    pub fn next(&mut self, event: &ClassEvent, history: &History<ClassNoted>) -> Checked {
+    pub fn next(&mut self, event: &ClassEvent, history: &Events) -> Checked {
         match event {
             ClassEvent::Linked(linked) => self.link(linked),
             ClassEvent::Unlinked(unlinked) => self.remove(unlinked.number),

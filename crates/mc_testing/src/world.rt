@@ -5,11 +5,10 @@ ghost use Rattle.mc_testing.specs.World.{IsWorld};
 
 use crate::commands::storage;
 use crate::links::may_give;
-use crate::trying::try_command;
 use mc_item::{ClassNo, Command, Config, Link, Moves, Numbers, Room, StripeNo, Verb, Who};
 use mc_pull::Lone;
 use mc_segment::ClassState;
-use mc_stripe::{Given, Home, Other, StripeState};
+use mc_stripe::{Given, Home, Other, StripeState, Turn};
 use std::alloc::Global;
 use std::hash::RandomState;
 use std::random::RandomSource;
@@ -75,10 +74,11 @@ pub fn ask(world: &mut World, command: Command, moment: u64) -> Result<(), Fail>
     };
     let stripe = &mut world.stripe;
     let may = moment <= 1 << 62 && stripe.owns(command.key());
-    if !may || !may_give(world.alloc, given, stripe.history()) {
+    if !may || !may_give(given, stripe.history()) {
         return Err(Fail::from("no such command may be made"));
     }
-    match try_command(stripe, &world.config, WHO, command, moment, given)? {
+    let who = WHO;
+    match stripe.attempt(&command, Turn { who, moment }, given)? {
         Ok(_) => Ok(()),
         Err(_) => Err(Fail::from("the command wants more than it is given")),
     }
@@ -98,7 +98,8 @@ pub fn store(world: &mut World, letter: u8, exptime: i64, moment: u64) -> Result
     if class.count() >= class.chunks() {
         return Err(Fail::from("the class is full"));
     }
-    class.link(WHO, key, 66, moment, expiry)?;
+    let copy = Some(key.copy(alloc)?);
+    class.link(WHO, key, copy, 66, moment, expiry)?;
     Ok(())
 }
 

@@ -1,7 +1,7 @@
 //! Tests as rows: what is done or looked at, and what it tells.
 use super::crawling::{told_crawl, told_refused};
 use mc_crawl::snapshot;
-use mc_history::History;
+use mc_history::{History, Shows};
 use mc_item::{ClassEvent, Command, Config, Link, StripeEvent};
 use mc_testing::{WHO, World, ask, juggle, key, opened, store};
 use std::alloc::Global;
@@ -42,7 +42,7 @@ pub enum Ask {
 pub type Row = (Ask, &'static str);
 
 // The last event of a history.
-fn last_in<E: Drop>(history: &History<E>) -> Option<&E> {
+fn last_in<E: Drop, S: Shows<E> + Drop>(history: &History<E, S>) -> Option<&E> {
     history.get(history.len().checked_sub(1)?)
 }
 
@@ -53,30 +53,26 @@ fn text(alloc: Global, told: &str) -> Result<String, Fail> {
 // What the class's last event says: who reclaimed which entry, at which moment, and how many events the stripe had.
 fn last_of_class(world: &World) -> Result<String, Fail> {
     let alloc = world.alloc;
-    let Some(noted) = last_in(world.class.history()) else {
-        return text(alloc, "no event");
-    };
-    match noted.event(alloc)? {
-        ClassEvent::Reclaimed(e) => {
+    match last_in(world.class.history()) {
+        Some(ClassEvent::Reclaimed(e)) => {
             let who = format!(in alloc; "{}.{} reclaims {}", e.who.caller, e.who.turn, e.number)?;
             Ok(format!(in alloc; "{who} at {} behind {}", e.moment, e.at)?)
         }
-        _ => text(alloc, "else"),
+        Some(_) => text(alloc, "else"),
+        None => text(alloc, "no event"),
     }
 }
 
 // What the stripe's last event says: who lost which key, and why.
 fn last_of_stripe(world: &World) -> Result<String, Fail> {
     let alloc = world.alloc;
-    let Some(noted) = last_in(world.stripe.history()) else {
-        return text(alloc, "no event");
-    };
-    match noted.event(alloc)? {
-        StripeEvent::Lost(e) => {
+    match last_in(world.stripe.history()) {
+        Some(StripeEvent::Lost(e)) => {
             let who = format!(in alloc; "{}.{} loses", e.who.caller, e.who.turn)?;
             Ok(format!(in alloc; "{who} {:?}: {:?}", e.key.bytes(), e.cause)?)
         }
-        _ => text(alloc, "else"),
+        Some(_) => text(alloc, "else"),
+        None => text(alloc, "no event"),
     }
 }
 

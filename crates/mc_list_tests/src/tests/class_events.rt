@@ -2,7 +2,7 @@
 ghost use Rattle.std.specs.Prelude.{◌≡◌, ◌≤◌, ◌^◌, IfOk};
 
 use super::class_lists::checked;
-use super::deeds::{Call, evict, force, hit, key, link, reclaim, refuse, unlink, wake};
+use super::deeds::{Call, New, evict, force, hit, link, reclaim, refuse, unlink, wake};
 use super::same;
 use mc_item::{
     ClassEvent, ClassNo, Config, Evicted, Expiry, Linked, Numbers, Reclaimed, Seg, Shifted,
@@ -51,16 +51,13 @@ fn links<R: Abort>(rt: &R, alloc: Global, class: &mut ClassState, turn: u64, tex
     requires { turn ≤ 2 ^ 20 }
     ensures { class.new.rule ≡ class.old.rule }
 {
-    let key = key(rt, alloc, text);
-    link(
-        rt,
-        class,
-        who_of(turn),
-        key,
+    let new = New {
+        key: text,
         cost,
-        1000 + turn,
-        Expiry::Never,
-    );
+        moment: 1000 + turn,
+        expiry: Expiry::Never,
+    };
+    link(rt, alloc, class, who_of(turn), new);
 }
 
 // A survey, and by it a move of the entry at a place from HOT's tail to COLD, for HOT's bytes.
@@ -194,9 +191,8 @@ fn event_text<R: Abort>(rt: &R, alloc: Global, event: &ClassEvent) -> String {
 
 // The event at a place of the history, in short.
 fn told_event<R: Abort>(rt: &R, alloc: Global, class: &ClassState, place: usize) -> String {
-    let noted = class.history().get(place).expect(rt, "an event");
-    let event = noted.event(alloc).expect(rt, "an event");
-    event_text(rt, alloc, &event)
+    let event = class.history().get(place).expect(rt, "an event");
+    event_text(rt, alloc, event)
 }
 
 fn check_event<R: Abort>(rt: &R, alloc: Global, class: &ClassState, place: usize, text: &str) {

@@ -3,7 +3,7 @@ ghost use Rattle.std.specs.Prelude.{◌≡◌, IfOk};
 ghost use Rattle.mc_item.specs.Config.{IsSound};
 
 use super::WHO;
-use super::deeds::{Call, try_force, try_link};
+use super::deeds::{Call, New, try_force, try_link};
 use super::rows::Ask::{Do, Hit, KeepActive, Reserve, See, Survey, Surveys};
 use super::rows::Deed::{Evict, Force, Link, Reclaim, Refuse, Unlink};
 use super::rows::Sight::{
@@ -24,32 +24,37 @@ pub(super) fn checked(config: Config) -> Result<Config, Fail>
     Ok(config.check()?)
 }
 
-/// A class with this many chunks, TEMP in use or not, and a history that holds so many events.
-pub(super) fn class_of(
-    alloc: Global,
-    chunks: u64,
-    temp: bool,
-    max_events: u64,
-) -> Result<ClassState, Fail> {
+/// A class that begins so.
+pub(super) fn class_of(alloc: Global, start: Start) -> Result<ClassState, Fail> {
     let sizes = Numbers::from_vec(Vec::from_slice(alloc, &[96])?);
-    let chunks = Numbers::from_vec(Vec::from_slice(alloc, &[chunks])?);
+    let chunks = Numbers::from_vec(Vec::from_slice(alloc, &[start.chunks])?);
     let usual = Config::usual(alloc, 3)?;
     let config = checked(Config {
         sizes,
         chunks,
-        temp,
-        max_events,
+        temp: start.temp,
+        max_events: start.max_events,
+        keeps_events: start.keeps_events,
         ..usual
     })?;
     Ok(ClassState::new(alloc, ClassNo(1), &config))
 }
 
-// A class of so many chunks without TEMP; its history holds 16 events.
+// A class of so many chunks without TEMP; its history holds 16 events, and keeps them.
 const fn of(chunks: u64) -> Start {
     Start {
         chunks,
         temp: false,
         max_events: 16,
+        keeps_events: true,
+    }
+}
+
+// The same, which lets its events go.
+const fn letting_go(chunks: u64) -> Start {
+    Start {
+        keeps_events: false,
+        ..of(chunks)
     }
 }
 
@@ -133,6 +138,15 @@ fn lists_are_read_from_their_tails(rt: HostRuntime) -> Result<(), Fail> {
     play(&rt, rt.alloc(), of(3), TAILS.as_slice())
 }
 
+#[test]
+fn a_class_that_lets_its_events_go_answers_as_one_that_keeps_them(
+    rt: HostRuntime,
+) -> Result<(), Fail> {
+    play(&rt, rt.alloc(), letting_go(2), OLDEST.as_slice())?;
+    play(&rt, rt.alloc(), letting_go(1), TIMES.as_slice())?;
+    play(&rt, rt.alloc(), letting_go(3), TAILS.as_slice())
+}
+
 // A class without an entry or an event.
 fn asserts_new<R: Abort>(rt: &R, class: &ClassState) {
     let events = class.history().len() as u64;
@@ -150,8 +164,14 @@ fn asserts_forced<R: Abort>(rt: &R, class: &ClassState) {
 }
 
 // An entry is linked and forced to COLD: a refused growth leaves the class as it was.
-fn link_and_force<R: Abort>(rt: &R, class: &mut ClassState, key: Key) {
-    if try_link(rt, class, WHO, key, 66, 1000, Never).is_err() {
+fn link_and_force<R: Abort>(rt: &R, alloc: Global, class: &mut ClassState) {
+    let new = New {
+        key: b"a",
+        cost: 66,
+        moment: 1000,
+        expiry: Never,
+    };
+    if try_link(rt, alloc, class, WHO, new).is_err() {
         asserts_new(rt, class);
     } else if try_force(rt, class, Call { who: WHO, at: 0 }, 0, 1000).is_err() {
         asserts_linked(rt, class);
@@ -163,9 +183,8 @@ fn link_and_force<R: Abort>(rt: &R, class: &mut ClassState, key: Key) {
 // Run with `rt try --test --fail-alloc N` it has each growth of the two calls refused in turn.
 #[test]
 fn a_refused_growth_changes_nothing(rt: HostRuntime) -> Result<(), Fail> {
-    let key = Key::of(rt.alloc(), b"a")?;
-    let mut class = class_of(rt.alloc(), 1, false, 16)?;
-    link_and_force(&rt, &mut class, key);
+    let mut class = class_of(rt.alloc(), of(1))?;
+    link_and_force(&rt, rt.alloc(), &mut class);
     Ok(())
 }
 

@@ -1,6 +1,6 @@
 //! Calls of a class, each of which tells the number of its entry, or the place of the event. Where what a call requires
 //! doesn't hold, the test ends.
-ghost use Rattle.std.specs.Prelude.{◌≡◌, ◌≤◌, ◌^◌, IfOk};
+ghost use Rattle.std.specs.Prelude.{◌≡◌, ◌≤◌, ◌^◌, Some, true, IfOk};
 
 use super::WHO;
 use mc_item::{Expiry, Fault, Key, Passed, Seg, Who, Why};
@@ -15,9 +15,28 @@ pub(super) struct Call {
     pub at: u64,
 }
 
-/// The key of these bytes.
-pub(super) fn key<R: Abort>(rt: &R, alloc: Global, bytes: &[u8]) -> Key {
+/// A new entry: the bytes of its key, its cost, and the moment and the expiry of its item.
+#[derive(Clone, Copy)]
+pub(super) struct New<'a> {
+    pub key: &'a [u8],
+    pub cost: u64,
+    pub moment: u64,
+    pub expiry: Expiry,
+}
+
+// The key of these bytes.
+fn key<R: Abort>(rt: &R, alloc: Global, bytes: &[u8]) -> Key {
     Key::of(alloc, bytes).expect(rt, "a key")
+}
+
+// A copy of the key, if the class keeps its events.
+fn copy_for<R: Abort>(rt: &R, alloc: Global, class: &ClassState, key: &Key) -> Option<Key>
+    ensures { class.now.keeps_events ≡ true → result ≡ Some key.now }
+{
+    if !class.keeps_events() {
+        return None;
+    }
+    Some(key.copy(alloc).expect(rt, "a copy"))
 }
 
 // The test goes on where an entry of this cost may be linked.
@@ -30,63 +49,66 @@ fn asserts_cost<R: Abort>(rt: &R, cost: u64)
 /// A new entry in a class with a free chunk.
 pub(super) fn try_link<R: Abort>(
     rt: &R,
+    alloc: Global,
     class: &mut ClassState,
     who: Who,
-    key: Key,
-    cost: u64,
-    moment: u64,
-    expiry: Expiry,
+    new: New,
 ) -> Result<u64, Fault>
     ensures { IfOk result (λ number. class.new.rule ≡ class.old.rule) }
 {
-    asserts_cost(rt, cost);
+    asserts_cost(rt, new.cost);
     assert!(rt; class.count() < class.chunks());
-    class.link(who, key, cost, moment, expiry)
+    let key = key(rt, alloc, new.key);
+    let copy = copy_for(rt, alloc, class, &key);
+    class.link(who, key, copy, new.cost, new.moment, new.expiry)
 }
 
 /// A new entry in a class with a free chunk.
 pub(super) fn link<R: Abort>(
     rt: &R,
+    alloc: Global,
     class: &mut ClassState,
     who: Who,
-    key: Key,
-    cost: u64,
-    moment: u64,
-    expiry: Expiry,
+    new: New,
 ) -> u64
     ensures { class.new.rule ≡ class.old.rule }
 {
-    try_link(rt, class, who, key, cost, moment, expiry).expect(rt, "a link")
+    try_link(rt, alloc, class, who, new).expect(rt, "a link")
 }
 
 /// A new entry in a class with a free chunk, in room that was made.
 pub(super) fn link_reserved<R: Abort>(
     rt: &R,
+    alloc: Global,
     class: &mut ClassState,
-    key: Key,
-    cost: u64,
-    moment: u64,
-    expiry: Expiry,
+    new: New,
 ) -> u64 {
-    asserts_cost(rt, cost);
+    asserts_cost(rt, new.cost);
     class.reserve(1).expect(rt, "room");
     assert!(rt; class.count() < class.chunks());
-    class.link_reserved(WHO, key, cost, moment, expiry)
+    let key = key(rt, alloc, new.key);
+    let copy = copy_for(rt, alloc, class, &key);
+    class.link_reserved(WHO, key, copy, new.cost, new.moment, new.expiry)
 }
 
 /// Two new entries of 66 bytes after one reservation; the number of the second.
 pub(super) fn link_two<R: Abort>(
     rt: &R,
+    alloc: Global,
     class: &mut ClassState,
-    first: Key,
-    second: Key,
+    first: &str,
+    second: &str,
     moment: u64,
 ) -> u64 {
+    let first = key(rt, alloc, first.as_bytes());
+    let second = key(rt, alloc, second.as_bytes());
+    let first_copy = copy_for(rt, alloc, class, &first);
+    let second_copy = copy_for(rt, alloc, class, &second);
     class.reserve(2).expect(rt, "room");
     assert!(rt; class.count() < class.chunks());
-    class.link_reserved(WHO, first, 66, moment, Expiry::Never);
+    class.link_reserved(WHO, first, first_copy, 66, moment, Expiry::Never);
     assert!(rt; class.count() < class.chunks());
-    class.link_reserved(WHO, second, 66, moment, Expiry::Never)
+    class.link_reserved(WHO, second, second_copy, 66, moment, Expiry::Never)
 }
 
 /// The entry at a place from HOT's tail is to go to COLD in a full class.
@@ -296,9 +318,14 @@ pub(super) fn link_until<R: Abort>(
     count: u64,
 ) -> u64 {
     let mut right = 0u64;
+    let new = New {
+        key: b"a",
+        cost: 66,
+        moment: 1000,
+        expiry: Expiry::Never,
+    };
     for number in class.next_number()..count {
-        let a = key(rt, alloc, b"a");
-        if link(rt, class, WHO, a, 66, 1000, Expiry::Never) == number {
+        if link(rt, alloc, class, WHO, new) == number {
             right = right.saturating_add(1);
         }
     }

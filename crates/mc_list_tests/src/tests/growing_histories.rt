@@ -4,10 +4,12 @@ ghost use Rattle.mc_board.specs.Views.{locks_of};
 
 use super::WHO;
 use mc_board::{Board, Owner, Seen};
-use mc_history::History;
+use mc_history::{History, Shows};
 use mc_item::{ClassEvent, Cooled, Key, Logged, StripeEvent, Unlinked};
+use mc_segment::ShownClass;
 use std::alloc::Global;
 use std::process::Abort;
+use std::snapshot::Snapshot;
 use std::thread;
 use std::thread::Threads;
 
@@ -103,7 +105,11 @@ fn three_appended_events_are_counted(rt: HostRuntime) {
 }
 
 // Lets an owner without events catch up with a list, and once more.
-fn catch_up_twice<E: Logged + Drop>(board: &Board, owner: &mut Owner, events: &History<E>)
+fn catch_up_twice<E: Logged + Drop, S: Shows<E> + Drop>(
+    board: &Board,
+    owner: &mut Owner,
+    events: &History<E, S>,
+)
     requires board { owner.old.board ≡ board.now.table }
     requires empty { owner.old.history ≡ [] }
     requires few { length events.now.items ≤ 2 ^ 32 }
@@ -126,8 +132,8 @@ fn an_owner_catches_up_with_a_list(rt: HostRuntime) {
     });
     let mut events = History::new(rt.alloc());
     events.reserve(2).expect(&rt, "room");
-    events.push_reserved(first);
-    events.push_reserved(second);
+    events.push_reserved(&ShownClass::Whole(Snapshot::of(&first)), Some(first));
+    events.push_reserved(&ShownClass::Whole(Snapshot::of(&second)), Some(second));
     let (board, mut owners, mut token) = Board::open(rt.alloc(), 3).expect(&rt, "a board");
     asserts_many(&rt, owners.len(), 3);
     catch_up_twice(&board, &mut owners[2], &events);

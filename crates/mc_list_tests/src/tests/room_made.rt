@@ -29,6 +29,7 @@ fn calls_after_a_reservation_make_their_events(rt: HostRuntime) -> Result<(), Fa
         chunks: 2,
         temp: false,
         max_events: 16,
+        keeps_events: true,
     };
     play(&rt, rt.alloc(), start, IN_ROOM.as_slice())
 }

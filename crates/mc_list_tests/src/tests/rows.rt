@@ -1,7 +1,7 @@
 //! A test of a class is a list of rows: what is done or looked at, and what it tells.
 use super::class_lists::class_of;
 use super::deeds::{
-    Call, evict, evict_reserved, force, force_reserved, hit, keep_active, key, link, link_reserved,
+    Call, New, evict, evict_reserved, force, force_reserved, hit, keep_active, link, link_reserved,
     link_two, link_until, reclaim, reclaim_reserved, refuse, refuse_reserved, unlink, unlink_but,
     unlink_reserved,
 };
@@ -215,8 +215,14 @@ fn look<R: Abort>(rt: &R, alloc: Global, class: &ClassState, sight: Sight) -> St
 fn act<R: Abort>(rt: &R, alloc: Global, class: &mut ClassState, deed: Deed) -> u64 {
     match deed {
         Deed::Link(text, cost, moment, expiry) => {
-            let key = key(rt, alloc, text.as_bytes());
-            link(rt, class, WHO, key, cost, moment, expiry)
+            let key = text.as_bytes();
+            let new = New {
+                key,
+                cost,
+                moment,
+                expiry,
+            };
+            link(rt, alloc, class, WHO, new)
         }
         Deed::Force(moment) => force(rt, class, CALL, 0, moment),
         Deed::Evict => evict(rt, class, CALL, 0),
@@ -230,8 +236,14 @@ fn act<R: Abort>(rt: &R, alloc: Global, class: &mut ClassState, deed: Deed) -> u
 fn act_reserved<R: Abort>(rt: &R, alloc: Global, class: &mut ClassState, deed: Deed) -> u64 {
     match deed {
         Deed::Link(text, cost, moment, expiry) => {
-            let key = key(rt, alloc, text.as_bytes());
-            link_reserved(rt, class, key, cost, moment, expiry)
+            let key = text.as_bytes();
+            let new = New {
+                key,
+                cost,
+                moment,
+                expiry,
+            };
+            link_reserved(rt, alloc, class, new)
         }
         Deed::Force(moment) => force_reserved(rt, class, moment),
         Deed::Evict => evict_reserved(rt, class),
@@ -241,25 +253,12 @@ fn act_reserved<R: Abort>(rt: &R, alloc: Global, class: &mut ClassState, deed: D
     }
 }
 
-fn told_two<R: Abort>(
-    rt: &R,
-    alloc: Global,
-    class: &mut ClassState,
-    first: &str,
-    second: &str,
-    moment: u64,
-) -> u64 {
-    let first = key(rt, alloc, first.as_bytes());
-    let second = key(rt, alloc, second.as_bytes());
-    link_two(rt, class, first, second, moment)
-}
-
 // What a row does that tells a number.
 fn told_number<R: Abort>(rt: &R, alloc: Global, class: &mut ClassState, ask: Ask) -> u64 {
     match ask {
         Ask::Do(deed) => act(rt, alloc, class, deed),
         Ask::Reserved(deed) => act_reserved(rt, alloc, class, deed),
-        Ask::LinkTwo(first, second, moment) => told_two(rt, alloc, class, first, second, moment),
+        Ask::LinkTwo(first, second, moment) => link_two(rt, alloc, class, first, second, moment),
         Ask::Hit(number, moment) => hit(rt, class, CALL, number, moment),
         Ask::KeepActive(moment) => keep_active(rt, class, moment),
         Ask::LinkUntil(count) => link_until(rt, alloc, class, count),
@@ -292,12 +291,13 @@ fn check_rows<R: Abort>(rt: &R, alloc: Global, class: &mut ClassState, rows: &[R
     }
 }
 
-/// A class with this many chunks, TEMP in use or not, and a history that holds so many events.
+/// A class with this many chunks, TEMP in use or not, and a history that holds so many events, and keeps them or not.
 #[derive(Clone, Copy)]
 pub(super) struct Start {
     pub chunks: u64,
     pub temp: bool,
     pub max_events: u64,
+    pub keeps_events: bool,
 }
 
 /// Ends the test where a row tells something else of a class that begins empty.
@@ -307,7 +307,7 @@ pub(super) fn play<R: Abort>(
     start: Start,
     rows: &[Row],
 ) -> Result<(), Fail> {
-    let mut class = class_of(alloc, start.chunks, start.temp, start.max_events)?;
+    let mut class = class_of(alloc, start)?;
     check_rows(rt, alloc, &mut class, rows);
     Ok(())
 }

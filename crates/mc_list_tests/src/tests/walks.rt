@@ -7,12 +7,13 @@ use mc_item::Expiry::Never;
 use mc_item::Seg::{Cold, Hot};
 use std::test::Fail;
 
-// A class of so many chunks without TEMP, and a history of so many events.
+// A class of so many chunks without TEMP, and a history of so many events, which are kept.
 const fn of(chunks: u64, max_events: u64) -> Start {
     Start {
         chunks,
         temp: false,
         max_events,
+        keeps_events: true,
     }
 }
 

@@ -1,4 +1,4 @@
-//! Requests that are drawn and written as the table of lines in docs/FORMAT.md says, and what is read of them.
+//! Requests that are drawn and written as the table of lines in docs/GUIDE.md says, and what is read of them.
 use super::dice::Dice;
 use super::drawn::{alike, push_any, read_cut};
 use super::show::{mark, number, read, text};

@@ -1,4 +1,4 @@
-//! How requests are written: the table of lines in docs/FORMAT.md as data.
+//! How requests are written: the table of lines in docs/GUIDE.md as data.
 
 /// What a line or a request in short has behind its word.
 #[derive(Clone, Copy)]
@@ -28,7 +28,7 @@ pub(super) struct Row {
     pub(super) huge: &'static [Token],
 }
 
-/// The table of lines in docs/FORMAT.md.
+/// The table of lines in docs/GUIDE.md.
 pub(super) static TABLE: [Row; 15] = [
     Row {
         word: b"set",

@@ -159,7 +159,7 @@ fn tell_asked(pair: &mut Pair, asked: Asked, lend: Lend) -> Result<String, Fail>
         Asked::See(seen) => tell_seen(pair.alloc, &pair.first, &pair.stripe, seen),
         asked => {
             let command = command_of(pair.alloc, asked)?;
-            tell_command(pair, command, lend, refused_of(asked))
+            tell_command(pair, &command, lend, refused_of(asked))
         }
     }
 }

@@ -74,7 +74,7 @@ fn walk(
 ) -> Result<Option<Pulled>, Fault> {
     let alloc = world.alloc;
     let class = &mut world.class;
-    if !may_walk(alloc, class, seg, mode, WHO, moment) {
+    if !may_walk(class, seg, mode, WHO, moment) {
         return Ok(None);
     }
     let mut gate = ByList {

@@ -2,7 +2,6 @@
 ghost use Rattle.std.specs.Prelude.{◌≡◌, true};
 ghost use Rattle.mc_pull.specs.Question.{IsFullFor, IsSurveyIn, MayWalk};
 
-use super::seeing::event_at;
 use mc_item::{ClassEvent, Command, Fault, Passed, Seg, Verb, Who};
 use mc_pull::{Done, Judge, Mode, settle};
 use mc_segment::{ClassState, Survey};
@@ -26,10 +25,10 @@ pub enum Judged {
 }
 
 // Whether a survey is noted in a class's history.
-fn is_noted(alloc: Global, class: &ClassState, who: Who, moment: u64, survey: Survey) -> bool
+fn is_noted(class: &ClassState, who: Who, moment: u64, survey: Survey) -> bool
     ensures { result ≡ true → IsSurveyIn class.now.history who moment survey }
 {
-    match event_at(alloc, class, survey.place) {
+    match class.history().get(survey.place as usize) {
         Some(ClassEvent::Surveyed(noted)) => {
             noted.who == who
                 && noted.moment == moment
@@ -41,18 +40,11 @@ fn is_noted(alloc: Global, class: &ClassState, who: Who, moment: u64, survey: Su
 }
 
 /// Whether a list may be judged so.
-pub(super) fn may_walk(
-    alloc: Global,
-    class: &ClassState,
-    seg: Seg,
-    mode: Mode,
-    who: Who,
-    moment: u64,
-) -> bool
+pub(super) fn may_walk(class: &ClassState, seg: Seg, mode: Mode, who: Who, moment: u64) -> bool
     ensures { result ≡ true → MayWalk class.now seg mode who moment × IsFullFor class.now mode }
 {
     match mode {
-        Mode::Plain(survey) => is_noted(alloc, class, who, moment, survey),
+        Mode::Plain(survey) => is_noted(class, who, moment, survey),
         Mode::Evict => class.is_full() && seg == Seg::Cold,
         Mode::Force => class.is_full() && seg == Seg::Hot,
     }
@@ -67,7 +59,7 @@ pub(super) fn judge(
 ) -> Result<Option<(u64, Done)>, Fault> {
     let alloc = world.alloc;
     let class = &mut world.class;
-    if !may_walk(alloc, class, seg, mode, WHO, moment) {
+    if !may_walk(class, seg, mode, WHO, moment) {
         return Ok(None);
     }
     let Some(entry) = class.from_tail(seg, 0) else {

@@ -136,7 +136,8 @@ fn store(
 fn link(world: &mut World, letter: u8, cost: u64, moment: u64) -> Result<(), Fail>
     requires { cost ≤ 96 }
 {
-    let key = key(world.alloc, letter)?;
+    let alloc = world.alloc;
+    let key = key(alloc, letter)?;
     let Some(item) = world.stripe.find(&key) else {
         return Err(Fail::from("no item was stored"));
     };
@@ -145,7 +146,8 @@ fn link(world: &mut World, letter: u8, cost: u64, moment: u64) -> Result<(), Fai
     if class.is_full() {
         return Err(Fail::from("the class is full"));
     }
-    class.link(WHO, key, cost, moment, expiry)?;
+    let copy = Some(key.copy(alloc)?);
+    class.link(WHO, key, copy, cost, moment, expiry)?;
     Ok(())
 }
 

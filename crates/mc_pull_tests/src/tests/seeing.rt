@@ -1,7 +1,5 @@
 //! What a class and a stripe tell of themselves.
-ghost use Rattle.std.specs.Prelude.{◌≡◌, IfSome, Some, slice_get};
-
-use mc_history::History;
+use mc_history::{History, Shows};
 use mc_item::{Cause, ClassEvent, Lost, Seg, StripeEvent};
 use mc_segment::ClassState;
 use mc_stripe::StripeState;
@@ -43,21 +41,13 @@ pub(super) fn numbers(alloc: Global, class: &ClassState, seg: Seg) -> Result<Vec
 }
 
 // The last event of a history.
-fn last_in<E: Drop>(history: &History<E>) -> Option<&E> {
+fn last_in<E: Drop, S: Shows<E> + Drop>(history: &History<E, S>) -> Option<&E> {
     history.get(history.len().checked_sub(1)?)
 }
 
-/// The event at a place of a class's history, where it is there and can be read.
-pub(super) fn event_at(alloc: Global, class: &ClassState, place: u64) -> Option<ClassEvent>
-    ensures { IfSome result (λ event. slice_get class.now.history place ≡ Some event) }
-{
-    let noted = class.history().get(place as usize)?;
-    noted.event(alloc).ok()
-}
-
-/// The last event of a class, where there is one and it can be read.
-pub(super) fn last_event(alloc: Global, class: &ClassState) -> Option<ClassEvent> {
-    last_in(class.history())?.event(alloc).ok()
+/// The last event of a class, where there is one.
+pub(super) fn last_event(class: &ClassState) -> Option<&ClassEvent> {
+    last_in(class.history())
 }
 
 // What an event of a class says.
@@ -81,8 +71,8 @@ fn told_event(alloc: Global, event: &ClassEvent) -> Result<String, Fail> {
 }
 
 // The same of an event that may be absent.
-fn told_if(alloc: Global, event: Option<ClassEvent>) -> Result<String, Fail> {
-    match &event {
+fn told_if(alloc: Global, event: Option<&ClassEvent>) -> Result<String, Fail> {
+    match event {
         Some(event) => told_event(alloc, event),
         None => Ok(format!(in alloc; "no event")?),
     }
@@ -111,7 +101,7 @@ fn told_item_event(alloc: Global, event: &StripeEvent) -> Result<String, Fail> {
 // What a stripe's last event says.
 fn last_of_stripe(alloc: Global, stripe: &StripeState) -> Result<String, Fail> {
     match last_in(stripe.history()) {
-        Some(last) => told_item_event(alloc, &last.event(alloc)?),
+        Some(last) => told_item_event(alloc, last),
         None => Ok(format!(in alloc; "no event")?),
     }
 }
@@ -120,7 +110,7 @@ fn last_of_stripe(alloc: Global, stripe: &StripeState) -> Result<String, Fail> {
 pub(super) fn told_class(alloc: Global, class: &ClassState, from: usize) -> Result<String, Fail> {
     let mut told = format!(in alloc; "")?;
     for place in from..class.history().len() {
-        let event = told_if(alloc, event_at(alloc, class, place as u64))?;
+        let event = told_if(alloc, class.history().get(place))?;
         told = format!(in alloc; "{told}[{event}]")?;
     }
     Ok(told)
@@ -134,8 +124,8 @@ pub(super) fn told_stripe(
 ) -> Result<String, Fail> {
     let mut told = format!(in alloc; "")?;
     for place in from..stripe.history().len() {
-        if let Some(noted) = stripe.history().get(place) {
-            let event = told_item_event(alloc, &noted.event(alloc)?)?;
+        if let Some(event) = stripe.history().get(place) {
+            let event = told_item_event(alloc, event)?;
             told = format!(in alloc; "{told}[{event}]")?;
         }
     }
@@ -181,7 +171,7 @@ pub(super) fn tell_seen(
         Seen::List(seg) => told_list(alloc, class, seg),
         Seen::Time(number) => told_time(alloc, class, number),
         Seen::Item(letter) => told_item(alloc, stripe, letter),
-        Seen::LastOfClass => told_if(alloc, last_event(alloc, class)),
+        Seen::LastOfClass => told_if(alloc, last_event(class)),
         Seen::LastOfStripe => last_of_stripe(alloc, stripe),
     }
 }

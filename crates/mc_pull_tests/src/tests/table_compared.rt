@@ -149,8 +149,7 @@ fn events_of(row: Row) -> (usize, usize) {
 
 // Whether the class's last event says why, where a row moves an entry: for bytes or age it cites the survey.
 fn is_said(world: &World, row: Row, survey: Survey) -> bool {
-    let event = last_event(world.alloc, &world.class);
-    let why = match &event {
+    let why = match last_event(&world.class) {
         Some(ClassEvent::Shifted(shifted)) => Some(shifted.why),
         _ => None,
     };

@@ -1,4 +1,4 @@
-//! Tries of commands of any kind on a stripe and two classes, whose histories agree.
+//! Tries of commands on a stripe and two classes, whose histories agree.
 ghost use Rattle.std.specs.Prelude.{◌≡◌, ◌≤◌, ◌^◌, true, IfOk, OnOk, Some, slice_get};
 ghost use Rattle.mc_item.specs.Command.{key_of};
 ghost use Rattle.mc_item.specs.Config.{IsBounded, IsSound};
@@ -8,17 +8,10 @@ ghost use Rattle.mc_item.specs.declared.item.Who.{Who};
 ghost use Rattle.mc_pull.specs.Attempt.{IsNoted, IsReady};
 ghost use Rattle.mc_pull_tests.specs.Met.{AreMet};
 
-use super::seeing::event_at;
-use mc_item::{
-    ClassEvent, ClassNo, Command, Config, Fault, Numbers, Reply, Step, StripeNo, Who, class_of,
-    cost,
-};
-use mc_pull::{
-    Count, Delete, Get, Huge, Kind, Put, Touch, Tried, Turn, attempt_none, attempt_one,
-    attempt_two, offer_home, offer_other, ready,
-};
+use mc_item::{ClassEvent, ClassNo, Command, Config, Fault, Numbers, Reply, StripeNo, Who};
+use mc_pull::{Tried, attempt_none, attempt_one, attempt_two, offer_home, offer_other, ready};
 use mc_segment::ClassState;
-use mc_stripe::{Given, Storage, StripeState};
+use mc_stripe::{Given, StripeState, Turn};
 use mc_testing::WHO;
 use std::alloc::Global;
 use std::hash::RandomState;
@@ -91,57 +84,70 @@ pub(super) fn opened<R: RandomSource>(
 }
 
 // Whether the event at a place of a class's history is a refusal for a call.
-fn is_refusal(alloc: Global, class: &ClassState, who: Who, place: u64) -> bool
+fn is_refusal(class: &ClassState, who: Who, place: u64) -> bool
     ensures { result ≡ true → slice_get class.now.history place ≡ Some (class_events.Refused (record { who = who })) }
 {
-    match event_at(alloc, class, place) {
+    match class.history().get(place as usize) {
         Some(ClassEvent::Refused(refused)) => refused.who == who,
         _ => false,
     }
 }
 
 // Whether the refusal that a command is lent, if any, is noted.
-fn is_noted(alloc: Global, class: &ClassState, who: Who, refused: Option<u64>) -> bool
+fn is_noted(class: &ClassState, who: Who, refused: Option<u64>) -> bool
     ensures { result ≡ true → IsNoted refused who class.now }
 {
     match refused {
         None => true,
-        Some(place) => is_refusal(alloc, class, who, place),
+        Some(place) => is_refusal(class, who, place),
     }
 }
 
 // Tries a command on what it is lent: it is given what that offers.
-fn try_lent<K: Kind + Drop>(
+fn try_lent(
     pair: &mut Pair,
-    kind: K,
+    command: &Command,
     lend: Lend,
     turn: Turn,
     refused: Option<u64>,
-) -> Result<Tried<K>, Fault>
+) -> Result<Tried, Fault>
     requires met { AreMet pair.old.config pair.old.stripe pair.old.first pair.old.second }
     requires ready { IsReady pair.old.first × IsReady pair.old.second }
-    requires suits { K.suits kind pair.old.stripe.site }
-    requires stripe { stripe_of (key_of (K.command kind)) pair.old.stripe.site.stripes ≡ record { 0 = pair.old.stripe.site.stripe } }
+    requires stripe { stripe_of (key_of command.now) pair.old.stripe.site.stripes ≡ record { 0 = pair.old.stripe.site.stripe } }
     requires moment { turn.moment ≤ 2 ^ 62 }
     requires noted { IsNoted refused turn.who pair.old.first }
     ensures met { AreMet pair.new.config pair.new.stripe pair.new.first pair.new.second }
 {
     let alloc = pair.alloc;
     match lend {
-        Lend::Nothing => attempt_none(&mut pair.stripe, kind, turn),
+        Lend::Nothing => attempt_none(&mut pair.stripe, command, turn),
         Lend::Home => {
             let given = Given {
                 home: Some(offer_home(&pair.first, refused, turn)),
                 other: None,
             };
-            attempt_one(alloc, &mut pair.stripe, &mut pair.first, kind, turn, given)
+            attempt_one(
+                alloc,
+                &mut pair.stripe,
+                &mut pair.first,
+                command,
+                turn,
+                given,
+            )
         }
         Lend::Other => {
             let given = Given {
                 home: None,
                 other: Some(offer_other(&pair.first)),
             };
-            attempt_one(alloc, &mut pair.stripe, &mut pair.first, kind, turn, given)
+            attempt_one(
+                alloc,
+                &mut pair.stripe,
+                &mut pair.first,
+                command,
+                turn,
+                given,
+            )
         }
         Lend::Both => {
             let given = Given {
@@ -153,7 +159,7 @@ fn try_lent<K: Kind + Drop>(
                 &mut pair.stripe,
                 &mut pair.second,
                 &mut pair.first,
-                kind,
+                command,
                 turn,
                 given,
             )
@@ -168,125 +174,35 @@ fn told_reply(alloc: Global, reply: Reply) -> Result<String, Fail> {
     }
 }
 
-fn told_tried<K: Drop>(alloc: Global, tried: Result<Tried<K>, Fault>) -> Result<String, Fail> {
+fn told_tried(alloc: Global, tried: Result<Tried, Fault>) -> Result<String, Fail> {
     match tried {
         Ok(Tried::Made(reply)) => told_reply(alloc, reply),
-        Ok(Tried::Wants(_, want)) => Ok(format!(in alloc; "{want:?}")?),
+        Ok(Tried::Wants(want)) => Ok(format!(in alloc; "{want:?}")?),
         Err(fault) => Ok(format!(in alloc; "{fault:?}")?),
     }
 }
 
-// Tries a command of a kind, after both classes are ready, and tells what came of it.
-fn tell_try<K: Kind + Drop>(
+/// Tries a command on what it is lent, after both classes are ready, and tells what came of it: a refusal that is cited is
+/// at this place of the first class's history.
+pub(super) fn tell_command(
     pair: &mut Pair,
-    kind: K,
+    command: &Command,
     lend: Lend,
     refused: Option<u64>,
 ) -> Result<String, Fail>
     requires met { AreMet pair.old.config pair.old.stripe pair.old.first pair.old.second }
-    requires suits { K.suits kind pair.old.stripe.site }
     ensures met { OnOk result (AreMet pair.new.config pair.new.stripe pair.new.first pair.new.second) }
 {
-    let alloc = pair.alloc;
     let turn = Turn {
         who: WHO,
         moment: pair.moment,
     };
-    let may = turn.moment <= 1 << 62 && pair.stripe.owns(kind.key());
-    if !may || !is_noted(alloc, &pair.first, WHO, refused) {
+    let may = turn.moment <= 1 << 62 && pair.stripe.owns(command.key());
+    if !may || !is_noted(&pair.first, WHO, refused) {
         return Err(Fail::from("no such command may be tried"));
     }
     ready(&mut pair.first)?;
     ready(&mut pair.second)?;
-    let tried = try_lent(pair, kind, lend, turn, refused);
-    told_tried(alloc, tried)
-}
-
-// A storage command is of the class of its cost, or of none.
-fn tell_put(
-    pair: &mut Pair,
-    storage: Storage,
-    lend: Lend,
-    refused: Option<u64>,
-) -> Result<String, Fail>
-    requires met { AreMet pair.old.config pair.old.stripe pair.old.first pair.old.second }
-    ensures met { OnOk result (AreMet pair.new.config pair.new.stripe pair.new.first pair.new.second) }
-{
-    let cost = cost(
-        storage.key.bytes().len() as u64,
-        storage.value.bytes().len() as u64,
-    );
-    match class_of(&pair.config, cost) {
-        Some(class) => {
-            let put = Put {
-                storage,
-                cost,
-                class,
-            };
-            tell_try(pair, put, lend, refused)
-        }
-        None => {
-            let Storage {
-                verb,
-                key,
-                flags,
-                exptime,
-                value,
-            } = storage;
-            let command = Command::Store {
-                verb,
-                key,
-                flags,
-                exptime,
-                value,
-            };
-            tell_try(pair, Huge { command, verb }, lend, refused)
-        }
-    }
-}
-
-/// Tries a command as the kind that it is, on what it is lent, and tells what came of it: a refusal that is cited is at this
-/// place of the first class's history.
-pub(super) fn tell_command(
-    pair: &mut Pair,
-    command: Command,
-    lend: Lend,
-    refused: Option<u64>,
-) -> Result<String, Fail>
-    requires met { AreMet pair.old.config pair.old.stripe pair.old.first pair.old.second }
-    ensures met { OnOk result (AreMet pair.new.config pair.new.stripe pair.new.first pair.new.second) }
-{
-    match command {
-        Command::Get(key) => tell_try(pair, Get { key }, lend, refused),
-        Command::Delete(key) => tell_try(pair, Delete { key }, lend, refused),
-        Command::Touch(key, exptime) => tell_try(pair, Touch { key, exptime }, lend, refused),
-        Command::Incr(key, delta) => {
-            let step = Step::Up(delta);
-            tell_try(pair, Count { key, step }, lend, refused)
-        }
-        Command::Decr(key, delta) => {
-            let step = Step::Down(delta);
-            tell_try(pair, Count { key, step }, lend, refused)
-        }
-        Command::Huge { verb, key } => {
-            let command = Command::Huge { verb, key };
-            tell_try(pair, Huge { command, verb }, lend, refused)
-        }
-        Command::Store {
-            verb,
-            key,
-            flags,
-            exptime,
-            value,
-        } => {
-            let storage = Storage {
-                verb,
-                key,
-                flags,
-                exptime,
-                value,
-            };
-            tell_put(pair, storage, lend, refused)
-        }
-    }
+    let tried = try_lent(pair, command, lend, turn, refused);
+    told_tried(pair.alloc, tried)
 }

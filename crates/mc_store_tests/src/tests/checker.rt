@@ -11,7 +11,7 @@ use super::sharing::{Call, Task, share};
 use mc_history::History;
 use mc_item::{Cause, ClassEvent, ClassNo, Did, Lost, Reply, Room, StripeEvent, StripeNo};
 use mc_store::Final;
-use mc_stripe::Noted;
+use mc_stripe::ShownStripe;
 use mc_testing::Plain;
 use std::alloc::Global;
 use std::fmt::Debug;
@@ -53,23 +53,22 @@ fn find_call<R: Abort>(rt: &R, alloc: Global, threads: &mut Vec<Vec<Call>>, did:
     check_call(rt, alloc, call, did);
 }
 
-// The event at a place of a class's history, where the class is one of the two and there is memory for a copy.
-fn event_of(alloc: Global, ledger: &Final, class: ClassNo, place: u64) -> Option<ClassEvent>
+// The event at a place of a class's history, if the class is one of the two.
+fn event_of(ledger: &Final, class: ClassNo, place: u64) -> Option<&ClassEvent>
     requires { length ledger.now.classes ≡ 2 }
 {
     if class.0 != 1 && class.0 != 2 {
         return None;
     }
-    let noted = ledger.class(class).history().get(place as usize)?;
-    noted.event(alloc).ok()
+    ledger.class(class).history().get(place as usize)
 }
 
 // Whether a command found no chunk, as the event that it cites says.
-fn is_refused(alloc: Global, ledger: &Final, room: Room) -> bool
+fn is_refused(ledger: &Final, room: Room) -> bool
     requires { length ledger.now.classes ≡ 2 }
 {
     match room {
-        Room::Refused { class, place } => match event_of(alloc, ledger, class, place) {
+        Room::Refused { class, place } => match event_of(ledger, class, place) {
             Some(ClassEvent::Refused(_)) => true,
             _ => false,
         },
@@ -83,7 +82,7 @@ fn is_told(alloc: Global, ledger: &Final, cause: Cause) -> bool
 {
     match cause {
         Cause::Expired(_) => true,
-        Cause::Taken { class, place } => match event_of(alloc, ledger, class, place) {
+        Cause::Taken { class, place } => match event_of(ledger, class, place) {
             Some(ClassEvent::Evicted(_)) => true,
             _ => false,
         },
@@ -110,7 +109,7 @@ fn check_told<R: Abort>(rt: &R, alloc: Global, did: &Did, wanted: &Reply) {
 fn check_reply<R: Abort>(rt: &R, alloc: Global, ledger: &Final, plain: &mut Plain, did: &Did)
     requires { length ledger.now.classes ≡ 2 }
 {
-    let refused = is_refused(alloc, ledger, did.room);
+    let refused = is_refused(ledger, did.room);
     let wanted = plain
         .answer(&did.command, did.moment, refused)
         .expect(rt, "memory");
@@ -146,13 +145,13 @@ fn replay_one<R: Abort>(
     ledger: &Final,
     plain: &mut Plain,
     threads: &mut Vec<Vec<Call>>,
-    history: &History<Noted>,
+    history: &History<StripeEvent, ShownStripe>,
 )
     requires { length ledger.now.classes ≡ 2 }
 {
     for place in 0..history.len() {
-        let event = stripe_event(rt, alloc, history, place);
-        check_event(rt, alloc, ledger, plain, threads, &event);
+        let event = stripe_event(rt, history, place);
+        check_event(rt, alloc, ledger, plain, threads, event);
     }
 }
 

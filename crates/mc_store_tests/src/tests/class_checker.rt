@@ -5,9 +5,9 @@ ghost use Rattle.std.specs.Prelude.{◌≡◌, length};
 use super::ends::stripe_event;
 use mc_history::History;
 use mc_item::{ClassEvent, ClassNo, Did, Link, Linked, Room, StripeEvent, StripeNo, Who};
-use mc_segment::{ClassNoted, ClassState};
+use mc_segment::{ClassState, ShownClass};
 use mc_store::Final;
-use mc_stripe::Noted;
+use mc_stripe::ShownStripe;
 use mc_testing::{Checked, PlainClass};
 use std::alloc::Global;
 use std::process::Abort;
@@ -43,10 +43,15 @@ fn note_given<R: Abort>(rt: &R, alloc: Global, given: &mut Vec<Given>, event: &S
 }
 
 // Notes the chunks that a stripe's commands were given.
-fn note_all<R: Abort>(rt: &R, alloc: Global, given: &mut Vec<Given>, history: &History<Noted>) {
+fn note_all<R: Abort>(
+    rt: &R,
+    alloc: Global,
+    given: &mut Vec<Given>,
+    history: &History<StripeEvent, ShownStripe>,
+) {
     for place in 0..history.len() {
-        let event = stripe_event(rt, alloc, history, place);
-        note_given(rt, alloc, given, &event);
+        let event = stripe_event(rt, history, place);
+        note_given(rt, alloc, given, event);
     }
 }
 
@@ -83,14 +88,12 @@ fn find_given<R: Abort>(rt: &R, given: &mut Vec<Given>, link: Link, linked: &Lin
 }
 
 // The event at a place of a class's history.
-fn class_event<R: Abort>(
+fn class_event<'a, R: Abort>(
     rt: &R,
-    alloc: Global,
-    history: &History<ClassNoted>,
+    history: &'a History<ClassEvent, ShownClass>,
     place: usize,
-) -> ClassEvent {
-    let noted = history.get(place).expect(rt, "an event");
-    noted.event(alloc).expect(rt, "a copy")
+) -> &'a ClassEvent {
+    history.get(place).expect(rt, "an event")
 }
 
 // Ends the test where something is wrong.
@@ -110,25 +113,19 @@ fn check_event<R: Abort>(rt: &R, given: &mut Vec<Given>, class: ClassNo, event: 
 }
 
 // Replays a class's history.
-fn replay<R: Abort>(
-    rt: &R,
-    alloc: Global,
-    class: &ClassState,
-    plain: &mut PlainClass,
-    given: &mut Vec<Given>,
-) {
+fn replay<R: Abort>(rt: &R, class: &ClassState, plain: &mut PlainClass, given: &mut Vec<Given>) {
     let history = class.history();
     for place in 0..history.len() {
-        let event = class_event(rt, alloc, history, place);
-        check(rt, plain.next(&event, history), place);
-        check_event(rt, given, class.number(), &event);
+        let event = class_event(rt, history, place);
+        check(rt, plain.next(event, history), place);
+        check_event(rt, given, class.number(), event);
     }
 }
 
 // Replays a class's history, and compares what it leaves with the class.
 fn check_class<R: Abort>(rt: &R, alloc: Global, class: &ClassState, given: &mut Vec<Given>) {
     let mut plain = PlainClass::new(alloc, class.chunks());
-    replay(rt, alloc, class, &mut plain, given);
+    replay(rt, class, &mut plain, given);
     check(rt, plain.compare(class), class.history().len());
 }
 

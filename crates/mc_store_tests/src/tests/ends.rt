@@ -6,7 +6,7 @@ use mc_history::History;
 use mc_item::{ClassNo, StripeEvent, StripeNo};
 use mc_segment::ClassState;
 use mc_store::Final;
-use mc_stripe::Noted;
+use mc_stripe::ShownStripe;
 use std::alloc::Global;
 use std::process::Abort;
 
@@ -27,14 +27,12 @@ pub(super) enum End {
 pub(super) type Ended = (End, u64);
 
 /// The event at a place of a stripe's history.
-pub(super) fn stripe_event<R: Abort>(
+pub(super) fn stripe_event<'a, R: Abort>(
     rt: &R,
-    alloc: Global,
-    history: &History<Noted>,
+    history: &'a History<StripeEvent, ShownStripe>,
     place: usize,
-) -> StripeEvent {
-    let noted = history.get(place).expect(rt, "an event");
-    noted.event(alloc).expect(rt, "a copy")
+) -> &'a StripeEvent {
+    history.get(place).expect(rt, "an event")
 }
 
 // One where an event is an answered command of a caller.
@@ -46,23 +44,23 @@ fn one_of(event: &StripeEvent, caller: u32) -> u64 {
 }
 
 // How many answered commands of a history name a caller.
-fn named_in<R: Abort>(rt: &R, alloc: Global, history: &History<Noted>, caller: u32) -> u64 {
+fn named_in<R: Abort>(rt: &R, history: &History<StripeEvent, ShownStripe>, caller: u32) -> u64 {
     let mut many = 0u64;
     for place in 0..history.len() {
-        let event = stripe_event(rt, alloc, history, place);
-        many = many.wrapping_add(one_of(&event, caller));
+        let event = stripe_event(rt, history, place);
+        many = many.wrapping_add(one_of(event, caller));
     }
     many
 }
 
 // How many answered commands name a caller.
-fn named<R: Abort>(rt: &R, alloc: Global, ledger: &Final, stripes: u32, caller: u32) -> u64
+fn named<R: Abort>(rt: &R, ledger: &Final, stripes: u32, caller: u32) -> u64
     requires { length ledger.now.stripes ≡ stripes }
 {
     let mut many = 0u64;
     for stripe in 0..stripes {
         let history = ledger.stripe(StripeNo(stripe)).history();
-        many = many.wrapping_add(named_in(rt, alloc, history, caller));
+        many = many.wrapping_add(named_in(rt, history, caller));
     }
     many
 }
@@ -90,7 +88,7 @@ fn counted<R: Abort>(rt: &R, alloc: Global, ledger: &Final, shape: Shape, end: E
         End::Entries(class) => class_of(rt, ledger, shape, class).count(),
         End::OfClass(class) => class_of(rt, ledger, shape, class).history().len() as u64,
         End::OfStripe(stripe) => of_stripe(rt, ledger, shape, stripe),
-        End::Named(caller) => named(rt, alloc, ledger, shape.stripes, caller),
+        End::Named(caller) => named(rt, ledger, shape.stripes, caller),
     }
 }
 

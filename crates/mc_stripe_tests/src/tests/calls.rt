@@ -3,15 +3,14 @@ ghost use Rattle.std.specs.Prelude.{◌≡◌, ◌<◌, ◌≤◌, ◌^◌, IsSo
 ghost use Rattle.mc_item.specs.Command.{key_of};
 ghost use Rattle.mc_item.specs.Measure.{stripe_of};
 ghost use Rattle.mc_item.specs.Stripe.{IsDead};
-ghost use Rattle.mc_stripe.specs.StripeCalls.{KeepsSite};
 ghost use Rattle.mc_stripe.specs.StripeState.{cache_now};
 
-use super::noted::told_noted;
+use super::noted::reply_in;
 use super::plain::{classes_of, reply_text, text};
-use super::trying::{Held, Lent, Tried, held_for, told_try, want_text, woken};
+use super::trying::{Held, Lent, held_for, told_try, want_text, woken};
 use super::{Asked, WHO, b, command_of};
 use mc_item::{ClassNo, Command, Fault, Key, Link, Verb, Who};
-use mc_stripe::{Done, Fate, Given, Other, StripeState, Want};
+use mc_stripe::{Done, Fate, Given, Other, StripeState, Turn, Want};
 use mc_testing::is_dead;
 use std::alloc::Global;
 use std::process::Abort;
@@ -30,15 +29,15 @@ pub(super) fn asserts_owned<R: Abort>(rt: &R, stripe: &StripeState, command: &Co
 pub(super) fn told_reply<R: Abort>(
     rt: &R,
     alloc: Global,
-    tried: &mut Tried,
+    stripe: &mut StripeState,
     who: Who,
     asked: Asked,
     moment: u64,
     full: bool,
 ) -> String {
     let lent = if full { Lent::Refusal } else { Lent::Link };
-    let held = held_for(rt, alloc, tried, asked, lent);
-    match told_try(rt, alloc, tried, who, asked, moment, held) {
+    let held = held_for(rt, alloc, stripe, asked, lent);
+    match told_try(rt, alloc, stripe, who, asked, moment, held) {
         Ok(Ok(done)) => reply_text(rt, alloc, &done.reply),
         Ok(Err(want)) => want_text(rt, alloc, want),
         Err(fault) => fault_text(rt, alloc, fault),
@@ -54,7 +53,7 @@ pub(super) fn fault_text<R: Abort>(rt: &R, alloc: Global, fault: Fault) -> Strin
 pub(super) fn told_last<R: Abort>(rt: &R, alloc: Global, stripe: &StripeState) -> String {
     let history = stripe.history();
     match history.get(history.len().saturating_sub(1)) {
-        Some(noted) => told_noted(rt, alloc, noted, false),
+        Some(event) => reply_in(rt, alloc, event),
         None => text(rt, alloc, "none"),
     }
 }
@@ -87,18 +86,23 @@ fn unheld_text<R: Abort>(
 pub(super) fn told_unheld<R: Abort>(
     rt: &R,
     alloc: Global,
-    tried: &mut Tried,
+    stripe: &mut StripeState,
     asked: Asked,
     moment: u64,
 ) -> String {
-    let told = told_try(rt, alloc, tried, WHO, asked, moment, Held::Nothing);
-    let last = told_last(rt, alloc, &tried.stripe);
+    let told = told_try(rt, alloc, stripe, WHO, asked, moment, Held::Nothing);
+    let last = told_last(rt, alloc, stripe);
     unheld_text(rt, alloc, &told, last.as_str())
 }
 
 /// The link of the item that a hit at a moment would wake.
-pub(super) fn told_woken<R: Abort>(rt: &R, alloc: Global, tried: &Tried, moment: u64) -> String {
-    link_text(rt, alloc, woken(rt, alloc, tried, moment))
+pub(super) fn told_woken<R: Abort>(
+    rt: &R,
+    alloc: Global,
+    stripe: &StripeState,
+    moment: u64,
+) -> String {
+    link_text(rt, alloc, woken(rt, alloc, stripe, moment))
 }
 
 // The link of the item that a new version replaced.
@@ -123,17 +127,15 @@ fn set_text<R: Abort>(rt: &R, alloc: Global, told: &Result<Result<Done, Want>, F
 pub(super) fn told_set<R: Abort>(
     rt: &R,
     alloc: Global,
-    tried: &mut Tried,
+    stripe: &mut StripeState,
     set: &'static str,
     moment: u64,
 ) -> String {
     let asked = Asked::Store(Verb::Set, set);
     let command = command_of(rt, alloc, asked);
-    let class = classes_of(&tried.stripe, &command)
-        .home
-        .expect(rt, "a class");
+    let class = classes_of(stripe, &command).home.expect(rt, "a class");
     let held = Held::Home(class.0, Lent::Link, 2);
-    let told = told_try(rt, alloc, tried, WHO, asked, moment, held);
+    let told = told_try(rt, alloc, stripe, WHO, asked, moment, held);
     set_text(rt, alloc, &told)
 }
 
@@ -155,9 +157,7 @@ fn asserts_active<R: Abort>(rt: &R, stripe: &StripeState, key: &Key)
 }
 
 /// The mark ACTIVE of the item under the key `b` is cleared.
-pub(super) fn cool<R: Abort>(rt: &R, alloc: Global, stripe: &mut StripeState, who: Who)
-    ensures { KeepsSite stripe.old stripe.new }
-{
+pub(super) fn cool<R: Abort>(rt: &R, alloc: Global, stripe: &mut StripeState, who: Who) {
     let key = b(rt, alloc);
     asserts_active(rt, stripe, &key);
     stripe.cool(who, key).expect(rt, "a cooled item");
@@ -181,9 +181,13 @@ fn asserts_first<R: Abort>(rt: &R, stripe: &StripeState, key: &Key)
 }
 
 /// The item under the key `b`, which has a chunk of class 1, goes since its chunk was taken, by the event at this place.
-pub(super) fn take<R: Abort>(rt: &R, alloc: Global, stripe: &mut StripeState, who: Who, place: u64)
-    ensures { KeepsSite stripe.old stripe.new }
-{
+pub(super) fn take<R: Abort>(
+    rt: &R,
+    alloc: Global,
+    stripe: &mut StripeState,
+    who: Who,
+    place: u64,
+) {
     let key = b(rt, alloc);
     asserts_first(rt, stripe, &key);
     stripe
@@ -205,9 +209,7 @@ pub(super) fn expire<R: Abort>(
     stripe: &mut StripeState,
     who: Who,
     moment: u64,
-)
-    ensures { KeepsSite stripe.old stripe.new }
-{
+) {
     let key = b(rt, alloc);
     asserts_dead(rt, stripe, &key, moment);
     stripe
@@ -219,7 +221,6 @@ pub(super) fn expire<R: Abort>(
 fn cool_in_room(stripe: &mut StripeState, key: Key) -> &'static str
     requires active { IsSomeAnd ((cache_now stripe.old).items key) (λ item. item.marks.active ≡ true) }
     requires room { 0 < stripe.old.room }
-    ensures { KeepsSite stripe.old stripe.new }
 {
     match stripe.cool(WHO, key) {
         Ok(()) => "cooled",
@@ -234,10 +235,12 @@ pub(super) fn cools_without_memory<R: Abort>(
     rt: &R,
     alloc: Global,
     stripe: &mut StripeState,
-) -> &'static str
-    ensures { KeepsSite stripe.old stripe.new }
-{
-    let (key, asked) = (b(rt, alloc), b(rt, alloc));
+) -> &'static str {
+    let (key, asked) = (b(rt, alloc), Command::Get(b(rt, alloc)));
+    let turn = Turn {
+        who: WHO,
+        moment: 1000,
+    };
     let given = Given {
         home: None,
         other: Some(Other {
@@ -246,8 +249,8 @@ pub(super) fn cools_without_memory<R: Abort>(
         }),
     };
     stripe.reserve(2).expect(rt, "room");
-    assert!(rt; stripe.owns(&asked));
-    let _told = stripe.get(WHO, asked, 1000, given).expect(rt, "a reply");
+    assert!(rt; stripe.owns(asked.key()));
+    let _told = stripe.attempt(&asked, turn, given).expect(rt, "a reply");
     asserts_active(rt, stripe, &key);
     cool_in_room(stripe, key)
 }

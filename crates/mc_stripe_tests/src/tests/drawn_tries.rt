@@ -2,10 +2,10 @@
 //! each try is held against the plain program of the table.
 use super::Asked::{Decr, Delete, Get, Huge, Incr, Store, StoreUntil, Touch};
 use super::calls::expire;
-use super::trying::{Held, Lent, Tried, held_of, opened, told_try};
+use super::trying::{Held, Lent, held_of, opened, told_try};
 use super::{Asked, WHO};
 use mc_item::Verb;
-use mc_stripe::Want;
+use mc_stripe::{StripeState, Want};
 use mc_testing::Dice;
 use std::alloc::Global;
 use std::process::Abort;
@@ -75,18 +75,18 @@ fn held_with(held: Held, want: Want, lent: Lent) -> Held {
 fn makes<R: Abort>(
     rt: &R,
     alloc: Global,
-    tried: &mut Tried,
+    stripe: &mut StripeState,
     asked: Asked,
     moment: u64,
     lent: Lent,
 ) -> bool {
     let mut held = Held::Nothing;
     for _ in 0..7 {
-        match told_try(rt, alloc, tried, WHO, asked, moment, held) {
+        match told_try(rt, alloc, stripe, WHO, asked, moment, held) {
             Ok(Ok(_)) => return true,
             Ok(Err(want)) => {
                 if let Want::Burial(_) = want {
-                    expire(rt, alloc, &mut tried.stripe, WHO, moment);
+                    expire(rt, alloc, stripe, WHO, moment);
                 }
                 held = held_with(held, want, lent);
             }
@@ -109,16 +109,16 @@ fn drawn(dice: &mut Dice) -> (Asked, Lent) {
 // Ends the test where a command that is drawn by this seed isn't made. Each takes two events at most.
 fn play<R: Abort + RandomSource>(rt: &R, alloc: Global, seed: u64) {
     let mut dice = Dice::new(seed);
-    let mut tried = opened(rt, alloc);
+    let mut stripe = opened(rt, alloc);
     let mut moment = 1000u64;
     for _ in 0..15 {
-        if tried.events() > 14 {
+        if stripe.history().len() > 14 {
             return;
         }
         let (asked, lent) = drawn(&mut dice);
         moment = u64::min(moment.saturating_add(dice.below(2)), 2000);
         assert!(rt;
-            makes(rt, alloc, &mut tried, asked, moment, lent),
+            makes(rt, alloc, &mut stripe, asked, moment, lent),
             "by seed {seed}"
         );
     }

@@ -4,7 +4,7 @@ use super::plain::{reply_text, text};
 use super::rows::Ask::{Cool, Event, Events, Expire, FullTurn, Take, Turn};
 use super::rows::{Row, play};
 use mc_item::{Cooled, Did, Lost, StripeEvent, Verb};
-use mc_stripe::{Noted, StripeState};
+use mc_stripe::StripeState;
 use std::alloc::Global;
 use std::process::Abort;
 
@@ -42,27 +42,13 @@ fn event_text<R: Abort>(rt: &R, alloc: Global, event: &StripeEvent) -> String {
     }
 }
 
-// The reply that an event notes, where it is a command's.
-fn reply_in<R: Abort>(rt: &R, alloc: Global, event: &StripeEvent) -> String {
+/// The reply that an event notes, where it is a command's.
+pub(super) fn reply_in<R: Abort>(rt: &R, alloc: Global, event: &StripeEvent) -> String {
     match event {
         StripeEvent::Did(did) => reply_text(rt, alloc, &did.reply),
         StripeEvent::Lost(_) => text(rt, alloc, "none"),
         StripeEvent::Cooled(_) => text(rt, alloc, "none"),
     }
-}
-
-fn whole_or_reply<R: Abort>(rt: &R, alloc: Global, event: &StripeEvent, whole: bool) -> String {
-    if whole {
-        event_text(rt, alloc, event)
-    } else {
-        reply_in(rt, alloc, event)
-    }
-}
-
-/// The whole event in short, or the reply that it notes.
-pub(super) fn told_noted<R: Abort>(rt: &R, alloc: Global, noted: &Noted, whole: bool) -> String {
-    let event = noted.event(alloc).expect(rt, "an event");
-    whole_or_reply(rt, alloc, &event, whole)
 }
 
 /// The event at a place of the history, in short.
@@ -72,8 +58,8 @@ pub(super) fn told_event<R: Abort>(
     stripe: &StripeState,
     place: usize,
 ) -> String {
-    let noted = stripe.history().get(place).expect(rt, "an event");
-    told_noted(rt, alloc, noted, true)
+    let event = stripe.history().get(place).expect(rt, "an event");
+    event_text(rt, alloc, event)
 }
 
 // The turns of caller 9 begin at the moment 1001: what happens to the key `b`, and the events that say so.

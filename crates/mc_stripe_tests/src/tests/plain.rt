@@ -2,13 +2,13 @@
 ghost use Rattle.std.specs.Prelude.{◌≡◌, ◌≤◌, ◌^◌};
 
 use super::b;
-use super::noted::told_noted;
+use super::noted::reply_in;
 use mc_history::History;
 use mc_item::{
     Answer, Change, ClassNo, ClassSizes, Command, Did, Expiry, Item, Marks, Need, Reply, Room,
-    Site, Value, Who, cost,
+    Site, StripeEvent, Value, Who, cost,
 };
-use mc_stripe::{Classes, Fate, Given, Noted, StripeState};
+use mc_stripe::{Classes, Fate, Given, ShownStripe, StripeState};
 use std::alloc::Global;
 use std::process::Abort;
 
@@ -123,13 +123,13 @@ fn is_version(reply: &str) -> bool {
 }
 
 // How many new versions the events made, which are few.
-fn version_count<R: Abort>(rt: &R, alloc: Global, events: &History<Noted>) -> u64
+fn version_count<R: Abort>(rt: &R, alloc: Global, events: &History<StripeEvent, ShownStripe>) -> u64
     ensures { result ≤ 16 }
 {
     let mut versions = 0u64;
     for place in 0..events.len() {
-        let noted = events.get(place).expect(rt, "an event");
-        if is_version(told_noted(rt, alloc, noted, false).as_str()) {
+        let event = events.get(place).expect(rt, "an event");
+        if is_version(reply_in(rt, alloc, event).as_str()) {
             versions = versions.saturating_add(1);
         }
     }

@@ -1,13 +1,11 @@
 //! A test of stripe 1 of 4 is a list of rows: what is done or looked at, and what it tells.
-ghost use Rattle.mc_stripe.specs.StripeCalls.{KeepsSite};
-
 use super::calls::{
     cool, cools_without_memory, expire, is_b_active, is_dead_at, take, told_last, told_reply,
     told_set, told_unheld, told_woken,
 };
 use super::noted::told_event;
 use super::plain::{text, told_item};
-use super::trying::{Tried, opened};
+use super::trying::opened;
 use super::{Asked, WHO};
 use mc_item::{Key, Who};
 use mc_stripe::StripeState;
@@ -76,13 +74,13 @@ fn nine(turn: u32) -> Who {
 fn told_turn<R: Abort>(
     rt: &R,
     alloc: Global,
-    tried: &mut Tried,
+    stripe: &mut StripeState,
     turn: u32,
     asked: Asked,
     full: bool,
 ) -> String {
     let moment = 1000 + u64::from(turn);
-    told_reply(rt, alloc, tried, nine(turn), asked, moment, full)
+    told_reply(rt, alloc, stripe, nine(turn), asked, moment, full)
 }
 
 fn number_text<R: Abort>(rt: &R, alloc: Global, number: u64) -> String {
@@ -94,10 +92,10 @@ fn truth<R: Abort>(rt: &R, alloc: Global, holds: bool) -> String {
 }
 
 // How many of so many gets missed.
-fn told_misses<R: Abort>(rt: &R, alloc: Global, tried: &mut Tried, gets: u32) -> String {
+fn told_misses<R: Abort>(rt: &R, alloc: Global, stripe: &mut StripeState, gets: u32) -> String {
     let mut misses = 0u64;
     for _i in 0..gets {
-        let told = told_reply(rt, alloc, tried, WHO, Asked::Get, 1000, false);
+        let told = told_reply(rt, alloc, stripe, WHO, Asked::Get, 1000, false);
         if told.as_str() == "Miss" {
             misses = misses.saturating_add(1);
         }
@@ -105,9 +103,7 @@ fn told_misses<R: Abort>(rt: &R, alloc: Global, tried: &mut Tried, gets: u32) ->
     number_text(rt, alloc, misses)
 }
 
-fn told_room<R: Abort>(rt: &R, alloc: Global, stripe: &mut StripeState, events: usize) -> String
-    ensures { KeepsSite stripe.old stripe.new }
-{
+fn told_room<R: Abort>(rt: &R, alloc: Global, stripe: &mut StripeState, events: usize) -> String {
     let made = stripe.reserve(events);
     format!(in alloc; "{made:?}").expect(rt, "a text")
 }
@@ -133,42 +129,38 @@ fn look<R: Abort>(rt: &R, alloc: Global, stripe: &StripeState, ask: Ask) -> Stri
 }
 
 // What an upkeep of the stripe tells.
-fn keep_up<R: Abort>(rt: &R, alloc: Global, tried: &mut Tried, ask: Ask) -> String {
+fn keep_up<R: Abort>(rt: &R, alloc: Global, stripe: &mut StripeState, ask: Ask) -> String {
     match ask {
-        Ask::Reserve(events) => told_room(rt, alloc, &mut tried.stripe, events),
-        Ask::GetAndCool => text(
-            rt,
-            alloc,
-            cools_without_memory(rt, alloc, &mut tried.stripe),
-        ),
+        Ask::Reserve(events) => told_room(rt, alloc, stripe, events),
+        Ask::GetAndCool => text(rt, alloc, cools_without_memory(rt, alloc, stripe)),
         Ask::Cool(turn) => {
-            cool(rt, alloc, &mut tried.stripe, nine(turn));
+            cool(rt, alloc, stripe, nine(turn));
             text(rt, alloc, "cooled")
         }
         Ask::Take(turn, place) => {
-            take(rt, alloc, &mut tried.stripe, nine(turn), place);
+            take(rt, alloc, stripe, nine(turn), place);
             text(rt, alloc, "taken")
         }
         Ask::Expire(turn, moment) => {
-            expire(rt, alloc, &mut tried.stripe, nine(turn), moment);
+            expire(rt, alloc, stripe, nine(turn), moment);
             text(rt, alloc, "expired")
         }
-        _ => look(rt, alloc, &tried.stripe, ask),
+        _ => look(rt, alloc, stripe, ask),
     }
 }
 
 // What a row does, and what it tells.
-fn tell<R: Abort>(rt: &R, alloc: Global, tried: &mut Tried, ask: Ask) -> String {
+fn tell<R: Abort>(rt: &R, alloc: Global, stripe: &mut StripeState, ask: Ask) -> String {
     match ask {
-        Ask::Answer(asked) => told_reply(rt, alloc, tried, WHO, asked, 1000, false),
-        Ask::Full(asked) => told_reply(rt, alloc, tried, WHO, asked, 1000, true),
-        Ask::Turn(turn, asked) => told_turn(rt, alloc, tried, turn, asked, false),
-        Ask::FullTurn(turn, asked) => told_turn(rt, alloc, tried, turn, asked, true),
-        Ask::Misses(gets) => told_misses(rt, alloc, tried, gets),
-        Ask::Unheld(asked, moment) => told_unheld(rt, alloc, tried, asked, moment),
-        Ask::Woken(moment) => told_woken(rt, alloc, tried, moment),
-        Ask::Set(set, moment) => told_set(rt, alloc, tried, set, moment),
-        _ => keep_up(rt, alloc, tried, ask),
+        Ask::Answer(asked) => told_reply(rt, alloc, stripe, WHO, asked, 1000, false),
+        Ask::Full(asked) => told_reply(rt, alloc, stripe, WHO, asked, 1000, true),
+        Ask::Turn(turn, asked) => told_turn(rt, alloc, stripe, turn, asked, false),
+        Ask::FullTurn(turn, asked) => told_turn(rt, alloc, stripe, turn, asked, true),
+        Ask::Misses(gets) => told_misses(rt, alloc, stripe, gets),
+        Ask::Unheld(asked, moment) => told_unheld(rt, alloc, stripe, asked, moment),
+        Ask::Woken(moment) => told_woken(rt, alloc, stripe, moment),
+        Ask::Set(set, moment) => told_set(rt, alloc, stripe, set, moment),
+        _ => keep_up(rt, alloc, stripe, ask),
     }
 }
 
@@ -177,20 +169,20 @@ fn same<R: Abort>(rt: &R, told: &str, wanted: &str, place: usize) {
 }
 
 // Ends the test where a row tells something else.
-fn check_row<R: Abort>(rt: &R, alloc: Global, tried: &mut Tried, row: &Row, place: usize) {
-    let told = tell(rt, alloc, tried, row.0);
+fn check_row<R: Abort>(rt: &R, alloc: Global, stripe: &mut StripeState, row: &Row, place: usize) {
+    let told = tell(rt, alloc, stripe, row.0);
     same(rt, told.as_str(), row.1, place);
 }
 
 /// Ends the test where a row tells something else.
-pub(super) fn check_rows<R: Abort>(rt: &R, alloc: Global, tried: &mut Tried, rows: &[Row]) {
+pub(super) fn check_rows<R: Abort>(rt: &R, alloc: Global, stripe: &mut StripeState, rows: &[Row]) {
     for (place, row) in rows.iter().enumerate() {
-        check_row(rt, alloc, tried, row, place);
+        check_row(rt, alloc, stripe, row, place);
     }
 }
 
 /// Ends the test where a row tells something else of stripe 1 of 4, which begins empty.
 pub(super) fn play<R: Abort + RandomSource>(rt: &R, alloc: Global, rows: &[Row]) {
-    let mut tried = opened(rt, alloc);
-    check_rows(rt, alloc, &mut tried, rows);
+    let mut stripe = opened(rt, alloc);
+    check_rows(rt, alloc, &mut stripe, rows);
 }

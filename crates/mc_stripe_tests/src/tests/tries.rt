@@ -6,12 +6,12 @@ use super::calls::expire;
 use super::trying::Held::{Both, Home, Nothing, Other};
 use super::trying::Lent::{Link as Chunk, Nothing as Keep, Refusal};
 use super::trying::Told::{Fails, Made, Wants};
-use super::trying::{Row, Told, Tried, check_tries, opened, woken};
+use super::trying::{Row, Told, check_tries, opened, woken};
 use super::{Asked, WHO};
 use mc_item::{ClassNo, Expiry, Fault, Link, Verb};
 use mc_stripe::Fate::{Goes, Renewed, Untouched, Woken};
 use mc_stripe::Want::{Burial, Place, Room};
-use mc_stripe::{Classes, Fate, Want};
+use mc_stripe::{Classes, Fate, StripeState, Want};
 use std::alloc::Global;
 use std::process::Abort;
 use std::random::RandomSource;
@@ -155,8 +155,8 @@ static ABSENT: [Row; 18] = [
 
 #[test]
 fn an_absent_key_wants_a_class_only_for_what_is_stored(rt: HostRuntime) {
-    let mut tried = opened(&rt, rt.alloc());
-    check_tries(&rt, rt.alloc(), &mut tried, 1000, ABSENT.as_slice());
+    let mut stripe = opened(&rt, rt.alloc());
+    check_tries(&rt, rt.alloc(), &mut stripe, 1000, ABSENT.as_slice());
 }
 
 const NINE_SHOWN: &str = "Value { flags: 7, value: Value { bytes: [57] }, cas: 10 }";
@@ -193,8 +193,8 @@ static LIVE: [Row; 14] = [
 
 #[test]
 fn the_hit_that_wakes_an_item_wants_its_class(rt: HostRuntime) {
-    let mut tried = opened(&rt, rt.alloc());
-    check_tries(&rt, rt.alloc(), &mut tried, 1000, LIVE.as_slice());
+    let mut stripe = opened(&rt, rt.alloc());
+    check_tries(&rt, rt.alloc(), &mut stripe, 1000, LIVE.as_slice());
 }
 
 // Nothing happens before the last row: the item of class 1 stays as it was.
@@ -255,8 +255,8 @@ static OVER: [Row; 20] = [
 
 #[test]
 fn what_is_wanted_over_an_item(rt: HostRuntime) {
-    let mut tried = opened(&rt, rt.alloc());
-    check_tries(&rt, rt.alloc(), &mut tried, 1000, OVER.as_slice());
+    let mut stripe = opened(&rt, rt.alloc());
+    check_tries(&rt, rt.alloc(), &mut stripe, 1000, OVER.as_slice());
 }
 
 // The least that each command on an item of class 1 needs, which the first event of a stripe of its own stores.
@@ -317,9 +317,9 @@ static LEAST: [Row; 12] = [
 
 // Ends the test where a row tells something else of an item.
 fn check_alone<R: Abort + RandomSource>(rt: &R, alloc: Global, row: Row) {
-    let mut tried = opened(rt, alloc);
+    let mut stripe = opened(rt, alloc);
     let rows = [NINE, row];
-    check_tries(rt, alloc, &mut tried, 1000, rows.as_slice());
+    check_tries(rt, alloc, &mut stripe, 1000, rows.as_slice());
 }
 
 #[test]
@@ -345,10 +345,10 @@ static ALL: [Asked; 12] = [
 ];
 
 // Ends the test where a command that is given all it may need tells something else at this moment.
-fn check_all<R: Abort>(rt: &R, alloc: Global, tried: &mut Tried, moment: u64, told: Told) {
+fn check_all<R: Abort>(rt: &R, alloc: Global, stripe: &mut StripeState, moment: u64, told: Told) {
     for asked in ALL.as_slice() {
         let rows = [(*asked, Both(1, Chunk, 9, 1, 9), told)];
-        check_tries(rt, alloc, tried, moment, rows.as_slice());
+        check_tries(rt, alloc, stripe, moment, rows.as_slice());
     }
 }
 
@@ -365,11 +365,11 @@ static BURIED: [Row; 2] = [
 
 #[test]
 fn a_dead_item_has_to_be_buried_first(rt: HostRuntime) {
-    let mut tried = opened(&rt, rt.alloc());
-    check_tries(&rt, rt.alloc(), &mut tried, 1000, DIES.as_slice());
-    check_all(&rt, rt.alloc(), &mut tried, 1100, Wants(Burial(OLD)));
-    expire(&rt, rt.alloc(), &mut tried.stripe, WHO, 1100);
-    check_tries(&rt, rt.alloc(), &mut tried, 1100, BURIED.as_slice());
+    let mut stripe = opened(&rt, rt.alloc());
+    check_tries(&rt, rt.alloc(), &mut stripe, 1000, DIES.as_slice());
+    check_all(&rt, rt.alloc(), &mut stripe, 1100, Wants(Burial(OLD)));
+    expire(&rt, rt.alloc(), &mut stripe, WHO, 1100);
+    check_tries(&rt, rt.alloc(), &mut stripe, 1100, BURIED.as_slice());
 }
 
 static GROWS: [Row; 2] = [
@@ -383,8 +383,8 @@ static GROWS: [Row; 2] = [
 
 #[test]
 fn a_grown_number_dies_with_the_old_one(rt: HostRuntime) {
-    let mut tried = opened(&rt, rt.alloc());
-    check_tries(&rt, rt.alloc(), &mut tried, 1000, GROWS.as_slice());
+    let mut stripe = opened(&rt, rt.alloc());
+    check_tries(&rt, rt.alloc(), &mut stripe, 1000, GROWS.as_slice());
 }
 
 static HIT: [Row; 1] = [(Touch(100), Nothing, Made("Touched", Keep, Untouched))];
@@ -394,16 +394,16 @@ static HIT_AGAIN: [Row; 1] = [(Touch(100), Other(1, 0), Made("Touched", Keep, Wo
 // The links that a hit would wake after none, one and two hits of an item, and at the moment of its death.
 #[test]
 fn the_second_hit_of_a_live_item_wakes_it(rt: HostRuntime) {
-    let mut tried = opened(&rt, rt.alloc());
+    let mut stripe = opened(&rt, rt.alloc());
     let mut told = [None; 5];
-    told[0] = woken(&rt, rt.alloc(), &tried, 1000);
-    check_tries(&rt, rt.alloc(), &mut tried, 1000, DIES.as_slice());
-    told[1] = woken(&rt, rt.alloc(), &tried, 1000);
-    check_tries(&rt, rt.alloc(), &mut tried, 1000, HIT.as_slice());
-    told[2] = woken(&rt, rt.alloc(), &tried, 1099);
-    told[3] = woken(&rt, rt.alloc(), &tried, 1100);
-    check_tries(&rt, rt.alloc(), &mut tried, 1000, HIT_AGAIN.as_slice());
-    told[4] = woken(&rt, rt.alloc(), &tried, 1000);
+    told[0] = woken(&rt, rt.alloc(), &stripe, 1000);
+    check_tries(&rt, rt.alloc(), &mut stripe, 1000, DIES.as_slice());
+    told[1] = woken(&rt, rt.alloc(), &stripe, 1000);
+    check_tries(&rt, rt.alloc(), &mut stripe, 1000, HIT.as_slice());
+    told[2] = woken(&rt, rt.alloc(), &stripe, 1099);
+    told[3] = woken(&rt, rt.alloc(), &stripe, 1100);
+    check_tries(&rt, rt.alloc(), &mut stripe, 1000, HIT_AGAIN.as_slice());
+    told[4] = woken(&rt, rt.alloc(), &stripe, 1000);
     assert_eq!(rt; told, [None, None, Some(OLD), None, None]);
 }
 
@@ -411,7 +411,13 @@ static MISSES: [Row; 16] = [MISS; 16];
 
 #[test]
 fn a_full_history_makes_nothing(rt: HostRuntime) {
-    let mut tried = opened(&rt, rt.alloc());
-    check_tries(&rt, rt.alloc(), &mut tried, 1000, MISSES.as_slice());
-    check_all(&rt, rt.alloc(), &mut tried, 1000, Fails(Fault::HistoryFull));
+    let mut stripe = opened(&rt, rt.alloc());
+    check_tries(&rt, rt.alloc(), &mut stripe, 1000, MISSES.as_slice());
+    check_all(
+        &rt,
+        rt.alloc(),
+        &mut stripe,
+        1000,
+        Fails(Fault::HistoryFull),
+    );
 }

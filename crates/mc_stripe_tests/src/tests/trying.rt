@@ -1,13 +1,11 @@
 //! Tries of commands on stripe 1 of 4, each of which is held against the plain program of the table.
-ghost use Rattle.mc_stripe_tests.specs.Tried.{IsMadeWith};
-
 use super::calls::{asserts_owned, fault_text};
 use super::noted::{did_text, told_event};
 use super::plain::{Plain, by_table, classes_of, reply_text, text, told_item};
 use super::{Asked, WHO, b, checked, command_of, four_stripes};
-use mc_item::{ClassNo, Config, Fault, Link, Room, StripeNo, Who};
-use mc_stripe::{Classes, Done, Fate, Given, Home, Other, StripeState, Want};
-use mc_testing::{may_give, try_command};
+use mc_item::{ClassNo, Command, Fault, Link, Room, StripeNo, Who};
+use mc_stripe::{Classes, Done, Fate, Given, Home, Other, StripeState, Turn, Want};
+use mc_testing::may_give;
 use std::alloc::Global;
 use std::hash::RandomState;
 use std::process::Abort;
@@ -41,27 +39,16 @@ pub(super) enum Told {
 /// A command of the key `b`, what it holds, and what its try tells.
 pub(super) type Row = (Asked, Held, Told);
 
-/// Stripe 1 of four, and the configuration that it was made with.
-#[derive(Drop)]
-pub(super) struct Tried {
-    pub(super) config: Config,
-    pub(super) stripe: StripeState,
-    ghost made: { IsMadeWith config stripe },
-}
-
-impl Tried {
-    /// How many events it has.
-    pub(super) fn events(&self) -> u64 {
-        self.stripe.history().len() as u64
-    }
-}
-
-/// The stripe, without items or events.
-pub(super) fn opened<R: Abort + RandomSource>(rt: &R, alloc: Global) -> Tried {
+/// Stripe 1 of four, without items or events.
+pub(super) fn opened<R: Abort + RandomSource>(rt: &R, alloc: Global) -> StripeState {
     let config = checked(rt, four_stripes(rt, alloc));
     let seed = RandomState::new(rt).expect(rt, "a seed");
-    let stripe = StripeState::new(alloc, StripeNo(1), &config, seed);
-    Tried { config, stripe }
+    StripeState::new(alloc, StripeNo(1), &config, seed)
+}
+
+// How many events a stripe has.
+fn events(stripe: &StripeState) -> u64 {
+    stripe.history().len() as u64
 }
 
 // The room that a class lends to the event of this number.
@@ -123,12 +110,12 @@ pub(super) fn held_of(classes: Classes, lent: Lent, places: u64) -> Held {
 pub(super) fn held_for<R: Abort>(
     rt: &R,
     alloc: Global,
-    tried: &Tried,
+    stripe: &StripeState,
     asked: Asked,
     lent: Lent,
 ) -> Held {
     let command = command_of(rt, alloc, asked);
-    held_of(classes_of(&tried.stripe, &command), lent, 2)
+    held_of(classes_of(stripe, &command), lent, 2)
 }
 
 // The text of the last event, where there is one.
@@ -147,11 +134,11 @@ struct Texts {
     item: String,
 }
 
-fn texts_of<R: Abort>(rt: &R, alloc: Global, tried: &Tried) -> Texts {
+fn texts_of<R: Abort>(rt: &R, alloc: Global, stripe: &StripeState) -> Texts {
     Texts {
-        events: tried.events(),
-        last: last_text(rt, alloc, &tried.stripe),
-        item: told_item(rt, alloc, &tried.stripe),
+        events: events(stripe),
+        last: last_text(rt, alloc, stripe),
+        item: told_item(rt, alloc, stripe),
     }
 }
 
@@ -204,28 +191,21 @@ fn check_try<R: Abort>(
 pub(super) fn told_try<R: Abort>(
     rt: &R,
     alloc: Global,
-    tried: &mut Tried,
+    stripe: &mut StripeState,
     who: Who,
     asked: Asked,
     moment: u64,
     held: Held,
 ) -> Result<Result<Done, Want>, Fault> {
     let command = command_of(rt, alloc, asked);
-    let given = given_of(held, tried.events());
-    asserts_owned(rt, &tried.stripe, &command, moment);
-    assert!(rt; may_give(alloc, given, tried.stripe.history()));
+    let given = given_of(held, events(stripe));
+    asserts_owned(rt, stripe, &command, moment);
+    assert!(rt; may_give(given, stripe.history()));
     let same = command_of(rt, alloc, asked);
-    let plain = by_table(rt, alloc, &tried.stripe, who, same, moment, given);
-    let before = texts_of(rt, alloc, tried);
-    let told = try_command(
-        &mut tried.stripe,
-        &tried.config,
-        who,
-        command,
-        moment,
-        given,
-    );
-    let now = texts_of(rt, alloc, tried);
+    let plain = by_table(rt, alloc, stripe, who, same, moment, given);
+    let before = texts_of(rt, alloc, stripe);
+    let told = stripe.attempt(&command, Turn { who, moment }, given);
+    let now = texts_of(rt, alloc, stripe);
     check_try(rt, alloc, &before, &now, &plain, &told);
     told
 }
@@ -276,13 +256,13 @@ fn wanted_text<R: Abort>(rt: &R, alloc: Global, told: Told, held: Held, number: 
 fn row_texts<R: Abort>(
     rt: &R,
     alloc: Global,
-    tried: &mut Tried,
+    stripe: &mut StripeState,
     moment: u64,
     row: Row,
 ) -> (String, String) {
     let (asked, held, told) = row;
-    let wanted = wanted_text(rt, alloc, told, held, tried.events());
-    let told = told_try(rt, alloc, tried, WHO, asked, moment, held);
+    let wanted = wanted_text(rt, alloc, told, held, events(stripe));
+    let told = told_try(rt, alloc, stripe, WHO, asked, moment, held);
     (told_text(rt, alloc, &told), wanted)
 }
 
@@ -290,17 +270,22 @@ fn row_texts<R: Abort>(
 pub(super) fn check_tries<R: Abort>(
     rt: &R,
     alloc: Global,
-    tried: &mut Tried,
+    stripe: &mut StripeState,
     moment: u64,
     rows: &[Row],
 ) {
     for (place, row) in rows.iter().enumerate() {
-        let (told, wanted) = row_texts(rt, alloc, tried, moment, *row);
+        let (told, wanted) = row_texts(rt, alloc, stripe, moment, *row);
         assert_eq!(rt; told.as_str(), wanted.as_str(), "at row {place}");
     }
 }
 
 /// The link that a hit of the key `b` would wake.
-pub(super) fn woken<R: Abort>(rt: &R, alloc: Global, tried: &Tried, moment: u64) -> Option<Link> {
-    tried.stripe.woken(&b(rt, alloc), moment)
+pub(super) fn woken<R: Abort>(
+    rt: &R,
+    alloc: Global,
+    stripe: &StripeState,
+    moment: u64,
+) -> Option<Link> {
+    stripe.woken(&Command::Get(b(rt, alloc)), moment)
 }

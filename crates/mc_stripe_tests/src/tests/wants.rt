@@ -6,12 +6,12 @@ use super::plain::need_of;
 use super::rows::Ask::{Answer, Events};
 use super::rows::check_rows;
 use super::tries::{GROWN, NEW_1, NEW_2, OLD, OVER_1, OVER_2};
-use super::trying::{Held, Lent, Tried, held_of, opened, told_try};
+use super::trying::{Held, Lent, held_of, opened, told_try};
 use super::{Asked, WHO, command_of, rows};
 use mc_item::Need::{Fresh, Nothing, Same, TooLarge};
 use mc_item::{ClassNo, Fault, Link, Need, Verb};
 use mc_stripe::Fate::{Goes, Untouched, Woken};
-use mc_stripe::{Classes, Done, Fate, Want};
+use mc_stripe::{Classes, Done, Fate, StripeState, Want};
 use std::alloc::Global;
 use std::process::Abort;
 use std::random::RandomSource;
@@ -113,16 +113,21 @@ fn classes_in(row: Row) -> Classes {
 }
 
 // The stripe to which that happened. The item that is dead has to be buried, and is.
-fn begun<R: Abort + RandomSource>(rt: &R, alloc: Global, state: State, asked: Asked) -> Tried {
+fn begun<R: Abort + RandomSource>(
+    rt: &R,
+    alloc: Global,
+    state: State,
+    asked: Asked,
+) -> StripeState {
     let (rows, moment, dead) = state;
-    let mut tried = opened(rt, alloc);
-    check_rows(rt, alloc, &mut tried, rows);
+    let mut stripe = opened(rt, alloc);
+    check_rows(rt, alloc, &mut stripe, rows);
     if let Some(link) = dead {
-        let told = told_try(rt, alloc, &mut tried, WHO, asked, moment, Held::Nothing);
+        let told = told_try(rt, alloc, &mut stripe, WHO, asked, moment, Held::Nothing);
         check_want(rt, &told, Want::Burial(link));
-        expire(rt, alloc, &mut tried.stripe, WHO, moment);
+        expire(rt, alloc, &mut stripe, WHO, moment);
     }
-    tried
+    stripe
 }
 
 type Told = Result<Result<Done, Want>, Fault>;
@@ -153,15 +158,15 @@ fn check_lent<R: Abort + RandomSource>(
     fate: Fate,
 ) {
     let (asked, need, ..) = row;
-    let mut tried = begun(rt, alloc, state, asked);
-    assert_eq!(rt; need_of(&tried.stripe, &command_of(rt, alloc, asked)), need);
+    let mut stripe = begun(rt, alloc, state, asked);
+    assert_eq!(rt; need_of(&stripe, &command_of(rt, alloc, asked)), need);
     let classes = classes_in(row);
     if classes.home.is_some() || classes.other.is_some() {
-        let told = told_try(rt, alloc, &mut tried, WHO, asked, state.1, Held::Nothing);
+        let told = told_try(rt, alloc, &mut stripe, WHO, asked, state.1, Held::Nothing);
         check_want(rt, &told, Want::Classes(classes));
     }
     let held = held_of(classes, lent, 2);
-    let told = told_try(rt, alloc, &mut tried, WHO, asked, state.1, held);
+    let told = told_try(rt, alloc, &mut stripe, WHO, asked, state.1, held);
     check_fate(rt, &told, fate);
 }
 

@@ -6,7 +6,7 @@ use mc_driver::{Outcome, RunFault, Source, SourceFault, run_scripts};
 use mc_history::History;
 use mc_item::{Key, Reply, StripeEvent, StripeNo};
 use mc_proto::{ReplyText, Sink, SinkFault};
-use mc_stripe::{Noted, StripeState};
+use mc_stripe::{ShownStripe, StripeState};
 use std::alloc::Global;
 use std::process::Abort;
 use std::random::RandomSource;
@@ -191,20 +191,21 @@ fn number_in(event: &StripeEvent) -> Option<u64> {
 
 fn number_at<R: Abort>(
     rt: &R,
-    alloc: Global,
-    history: &History<Noted>,
+    history: &History<StripeEvent, ShownStripe>,
     place: usize,
 ) -> Option<u64> {
-    let noted = history.get(place).expect(rt, "an event");
-    let event = noted.event(alloc).expect(rt, "memory");
-    number_in(&event)
+    number_in(history.get(place).expect(rt, "an event"))
 }
 
 // The numbers that a stripe's commands answered.
-fn numbers_of<R: Abort>(rt: &R, alloc: Global, history: &History<Noted>) -> Vec<u64> {
+fn numbers_of<R: Abort>(
+    rt: &R,
+    alloc: Global,
+    history: &History<StripeEvent, ShownStripe>,
+) -> Vec<u64> {
     let mut numbers = Vec::new(alloc);
     for place in 0..history.len() {
-        if let Some(number) = number_at(rt, alloc, history, place) {
+        if let Some(number) = number_at(rt, history, place) {
             numbers.push(number).expect(rt, "memory");
         }
     }

@@ -106,9 +106,8 @@ fn stripe_at<R: Abort>(rt: &R, alloc: Global, ledger: &Final, place: usize) -> S
     requires { 1 ≤ length ledger.now.stripes }
 {
     let history = ledger.stripe(StripeNo(0)).history();
-    let noted = history.get(place).expect(rt, "an event");
-    let event = noted.event(alloc).expect(rt, "memory");
-    stripe_text(alloc, &event).expect(rt, "memory")
+    let event = history.get(place).expect(rt, "an event");
+    stripe_text(alloc, event).expect(rt, "memory")
 }
 
 // The text of the class's event at a place.
@@ -116,9 +115,8 @@ fn class_at<R: Abort>(rt: &R, alloc: Global, ledger: &Final, place: usize) -> St
     requires { 1 ≤ length ledger.now.classes }
 {
     let history = ledger.class(ClassNo(1)).history();
-    let noted = history.get(place).expect(rt, "an event");
-    let event = noted.event(alloc).expect(rt, "memory");
-    class_text(alloc, &event).expect(rt, "memory")
+    let event = history.get(place).expect(rt, "an event");
+    class_text(alloc, event).expect(rt, "memory")
 }
 
 fn asserts_stripe<R: Abort>(rt: &R, alloc: Global, ledger: &Final, wanted: &[&str])

@@ -6,7 +6,7 @@ use super::runs::{Ends, WHOLE, add_script, asserts_outcomes, asserts_output, con
 use mc_driver::{Final, Outcome};
 use mc_history::History;
 use mc_item::{ClassEvent, ClassNo};
-use mc_segment::ClassNoted;
+use mc_segment::ShownClass;
 use std::alloc::Global;
 use std::process::Abort;
 use std::random::RandomSource;
@@ -74,20 +74,21 @@ fn survey_in(event: &ClassEvent) -> Option<(u32, u64)> {
 
 fn survey_at<R: Abort>(
     rt: &R,
-    alloc: Global,
-    history: &History<ClassNoted>,
+    history: &History<ClassEvent, ShownClass>,
     place: usize,
 ) -> Option<(u32, u64)> {
-    let noted = history.get(place).expect(rt, "an event");
-    let event = noted.event(alloc).expect(rt, "memory");
-    survey_in(&event)
+    survey_in(history.get(place).expect(rt, "an event"))
 }
 
 // The caller and the moment of each survey of a class.
-fn surveys_of<R: Abort>(rt: &R, alloc: Global, history: &History<ClassNoted>) -> Vec<(u32, u64)> {
+fn surveys_of<R: Abort>(
+    rt: &R,
+    alloc: Global,
+    history: &History<ClassEvent, ShownClass>,
+) -> Vec<(u32, u64)> {
     let mut surveys = Vec::new(alloc);
     for place in 0..history.len() {
-        if let Some(survey) = survey_at(rt, alloc, history, place) {
+        if let Some(survey) = survey_at(rt, history, place) {
             surveys.push(survey).expect(rt, "memory");
         }
     }

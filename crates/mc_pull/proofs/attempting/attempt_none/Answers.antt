@@ -7,15 +7,15 @@ use Rattle.mc_pull.proofs.PerformedLemmas.{performed_kept, performed_seen}
 use Rattle.mc_pull.proofs.attempting.attempt_none.Goals as goal
 
 pub returns-in-Ok-clause-tried : goal.returns-in-Ok-clause-tried
-returns-in-Ok-clause-tried g c = λ config made_with.
+returns-in-Ok-clause-tried c = λ config made_with.
     let s = c.args.stripe.now in
     let turn = c.args.turn in
-    let command = g.K.Kind.command c.args.kind in
+    let command = c.args.command.now in
     let done = c.in-Ok.done in
     let made = rw c.in-Ok.is at c.in_ok-done.ensures.made in
     let cl = call turn.who command turn.moment done.room in
     let may = may_perform s [] command turn (record { home = None; other = None }) c.requires.may (λ v there. absurd there) done.room done.fate made.uses config made_with tt in
-    let performed : IsPerformed s c.attempt.new.stripe cl [] [] = record { stripe = made.noted; classes = tt } in
+    let performed : IsPerformed s c.attempt.new.self cl [] [] = record { stripe = made.noted; classes = tt } in
     record {
       room = done.room;
       fate = done.fate;
@@ -23,6 +23,6 @@ returns-in-Ok-clause-tried g c = λ config made_with.
       may = may;
       reply_is = made.reply_is;
       performed = performed;
-      agreement = performed_kept config s c.attempt.new.stripe cl [] [] c.attempt.ensures.site may c.history.ensures.legal tt performed;
-      sight = performed_seen config s c.attempt.new.stripe cl [] [] c.attempt.ensures.site may c.history.ensures.legal tt performed;
+      agreement = performed_kept config s c.attempt.new.self cl [] [] c.attempt.ensures.site may c.history.ensures.legal tt performed;
+      sight = performed_seen config s c.attempt.new.self cl [] [] c.attempt.ensures.site may c.history.ensures.legal tt performed;
     }

@@ -18,6 +18,7 @@ use Rattle.mc_stripe.specs.Trying.{IsDone}
 use Rattle.mc_pull.specs.Attempt.{HasFree}
 use Rattle.mc_pull.specs.Parts.{hit_part, is_here, is_warming, number_in, part_for}
 use Rattle.mc_pull.specs.Perform.{answer_to, call}
+use Rattle.mc_pull.proofs.PartLemmas.{copied_part}
 use Rattle.mc_pull.proofs.PerformLemmas.{warms_either}
 use Rattle.mc_pull.specs.Performed.{one_if, IsPerformed, cooled_if, did_event, events_on_stripe, part_in}
 use Rattle.mc_pull.proofs.AttemptLemmas.{either_on, either_so, warm_alive, warm_on, warm_places, cooled_history, cooled_where, either_cooled, here_free, here_small, may_perform, offered_fits, part_ready, warms_part}
@@ -26,11 +27,11 @@ use Rattle.mc_pull.proofs.PerformedLemmas.{each_at, performed_kept, performed_se
 use Rattle.mc_pull.proofs.attempting.attempt_two.Goals as goal
 
 pub returns-in_err-warms_home-clause-refusal : goal.returns-in_err-warms_home-clause-refusal
-returns-in_err-warms_home-clause-refusal g c = λ of.
+returns-in_err-warms_home-clause-refusal c = λ of.
     let s = c.args.stripe.now in
     let v = c.args.home.now in
     let turn = c.args.turn in
-    let command = g.K.Kind.command c.args.kind in
+    let command = c.args.command.now in
     let key = key_of command in
     let cl = call turn.who command turn.moment rooms.Keep in
     let was : IsErrOf c.wake.result HistoryFull = search (rules, of) in
@@ -40,13 +41,13 @@ returns-in_err-warms_home-clause-refusal g c = λ of.
     inr (record { alive = warm_alive v turn.moment s command warm; full = inr (inl (omega (arith, one, full.1))) })
 
 pub returns-in_err-warms_other-clause-refusal : goal.returns-in_err-warms_other-clause-refusal
-returns-in_err-warms_other-clause-refusal g c = λ of.
+returns-in_err-warms_other-clause-refusal c = λ of.
     let s = c.args.stripe.now in
     let v = c.args.home.now in
     let w = c.args.other.now in
     let vs = v ∷ w ∷ [] in
     let turn = c.args.turn in
-    let command = g.K.Kind.command c.args.kind in
+    let command = c.args.command.now in
     let key = key_of command in
     let cl = call turn.who command turn.moment rooms.Keep in
     let link_is = λ (x : ClassView). ap (λ (l : Option Link). is_warming (hit_part x (number_in x key l))) c.woken-woken.ensures in
@@ -57,13 +58,13 @@ returns-in_err-warms_other-clause-refusal g c = λ of.
     inr (record { alive = warm_alive w turn.moment s command warm; full = inr (inr (inl (omega (arith, one, full.1)))) })
 
 pub returns-in_err-room_if-clause-refusal : goal.returns-in_err-room_if-clause-refusal
-returns-in_err-room_if-clause-refusal g c = λ of.
+returns-in_err-room_if-clause-refusal c = λ of.
     let s = c.args.stripe.now in
     let v = c.args.home.now in
     let w = c.args.other.now in
     let vs = v ∷ w ∷ [] in
     let turn = c.args.turn in
-    let command = g.K.Kind.command c.args.kind in
+    let command = c.args.command.now in
     let key = key_of command in
     let cl = call turn.who command turn.moment rooms.Keep in
     let link_is = λ (x : ClassView). ap (λ (l : Option Link). is_warming (hit_part x (number_in x key l))) c.woken-woken.ensures in
@@ -82,61 +83,61 @@ returns-in_err-room_if-clause-refusal g c = λ of.
     inr (record { alive = alive; full = inl (omega (arith, one, full.1)) })
 
 pub attempt-requires-clause-given : goal.attempt-requires-clause-given
-attempt-requires-clause-given g c = λ class room taken.
+attempt-requires-clause-given c = λ class room taken.
     let s = c.args.stripe.now in
     let v = c.args.home.now in
     let w = c.args.other.now in
     let vs = v ∷ w ∷ [] in
     let turn = c.args.turn in
-    let command = g.K.Kind.command c.args.kind in
+    let command = c.args.command.now in
     let key = key_of command in
     let fresh = each_at (λ (x : ClassView). (q : ℕ) → links_of x.history ≤ q → is_named q x.history ≡ false) vs (c.law.ensures.fresh, (c.law-2.ensures.fresh, tt)) in
     subst (λ (x : Stripe). Fits (needs.Fresh class) room x.history) (sym c.in_ok-room_if.ensures.same)
     (offered_fits s vs command turn c.args.given c.requires.may fresh class room taken)
 
 pub part_after-requires-clause-free : goal.part_after-requires-clause-free
-part_after-requires-clause-free g c =
+part_after-requires-clause-free c =
     let s = c.args.stripe.now in
     let v = c.args.home.now in
     let w = c.args.other.now in
     let vs = v ∷ w ∷ [] in
     let turn = c.args.turn in
-    let command = g.K.Kind.command c.args.kind in
+    let command = c.args.command.now in
     let key = key_of command in
     let done = c.in-Ok.done in
-    let made : IsDone c.args.given (record s { room = c.room_if.new.stripe.room }) c.attempt.new.stripe turn.who command turn.moment done =
-    subst (λ (x : Stripe). IsDone c.args.given x c.attempt.new.stripe turn.who command turn.moment done) c.in_ok-room_if.ensures.same (rw c.in-Ok.is at c.in_ok-kind.ensures.made) in
+    let made : IsDone c.args.given (record s { room = c.room_if.new.stripe.room }) c.attempt.new.self turn.who command turn.moment done =
+    subst (λ (x : Stripe). IsDone c.args.given x c.attempt.new.self turn.who command turn.moment done) c.in_ok-room_if.ensures.same (rw c.in-Ok.is at c.in_ok-want.ensures.made) in
     let fresh = each_at (λ (x : ClassView). (q : ℕ) → links_of x.history ≤ q → is_named q x.history ≡ false) vs (c.law.ensures.fresh, (c.law-2.ensures.fresh, tt)) in
     subst (λ (x : ClassView). is_here x done.room ≡ true → HasFree x) (sym c.in_ok-warms_home.ensures.same)
     (here_free s vs command turn c.args.given c.requires.may fresh done.room done.fate made.uses v (inl refl))
 
 pub part_after-requires-clause-small : goal.part_after-requires-clause-small
-part_after-requires-clause-small g c = λ here.
+part_after-requires-clause-small c = λ here.
     let s = c.args.stripe.now in
     let v = c.args.home.now in
     let w = c.args.other.now in
     let vs = v ∷ w ∷ [] in
     let turn = c.args.turn in
-    let command = g.K.Kind.command c.args.kind in
+    let command = c.args.command.now in
     let key = key_of command in
     let done = c.in-Ok.done in
-    let made : IsDone c.args.given (record s { room = c.room_if.new.stripe.room }) c.attempt.new.stripe turn.who command turn.moment done =
-    subst (λ (x : Stripe). IsDone c.args.given x c.attempt.new.stripe turn.who command turn.moment done) c.in_ok-room_if.ensures.same (rw c.in-Ok.is at c.in_ok-kind.ensures.made) in
+    let made : IsDone c.args.given (record s { room = c.room_if.new.stripe.room }) c.attempt.new.self turn.who command turn.moment done =
+    subst (λ (x : Stripe). IsDone c.args.given x c.attempt.new.self turn.who command turn.moment done) c.in_ok-room_if.ensures.same (rw c.in-Ok.is at c.in_ok-want.ensures.made) in
     let fresh = each_at (λ (x : ClassView). (q : ℕ) → links_of x.history ≤ q → is_named q x.history ≡ false) vs (c.law.ensures.fresh, (c.law-2.ensures.fresh, tt)) in
     here_small s vs command turn c.args.given c.requires.may fresh done.room done.fate made.uses c.history.ensures.legal c.history.ensures.bounds.small_sizes c.wake.new.class here
 
 pub make-requires-clause-room : goal.make-requires-clause-room
-make-requires-clause-room g c =
+make-requires-clause-room c =
     let s = c.args.stripe.now in
     let v = c.args.home.now in
     let w = c.args.other.now in
     let vs = v ∷ w ∷ [] in
     let turn = c.args.turn in
-    let command = g.K.Kind.command c.args.kind in
+    let command = c.args.command.now in
     let key = key_of command in
     let done = c.in-Ok.done in
-    let made : IsDone c.args.given (record s { room = c.room_if.new.stripe.room }) c.attempt.new.stripe turn.who command turn.moment done =
-    subst (λ (x : Stripe). IsDone c.args.given x c.attempt.new.stripe turn.who command turn.moment done) c.in_ok-room_if.ensures.same (rw c.in-Ok.is at c.in_ok-kind.ensures.made) in
+    let made : IsDone c.args.given (record s { room = c.room_if.new.stripe.room }) c.attempt.new.self turn.who command turn.moment done =
+    subst (λ (x : Stripe). IsDone c.args.given x c.attempt.new.self turn.who command turn.moment done) c.in_ok-room_if.ensures.same (rw c.in-Ok.is at c.in_ok-want.ensures.made) in
     let fresh = each_at (λ (x : ClassView). (q : ℕ) → links_of x.history ≤ q → is_named q x.history ≡ false) vs (c.law.ensures.fresh, (c.law-2.ensures.fresh, tt)) in
     let warms : c.in_ok-warms_home.warms_home ≡ is_warming (part_for v key done.room done.fate) =
     c.in_ok-warms_home.ensures.warms ∙ ap (λ (k : List ℕ). is_warming (hit_part v (number_in v k c.woken-woken.result))) c.key.ensures
@@ -149,17 +150,17 @@ make-requires-clause-room g c =
     c.in_ok-warms_home.ensures.same c.wake.ensures.kept c.in_ok-warms_home.warms_home warms c.in_ok-warms_home.ensures.room c.part_after.result part_is).0
 
 pub make-requires-clause-place : goal.make-requires-clause-place
-make-requires-clause-place g c =
+make-requires-clause-place c =
     let s = c.args.stripe.now in
     let v = c.args.home.now in
     let w = c.args.other.now in
     let vs = v ∷ w ∷ [] in
     let turn = c.args.turn in
-    let command = g.K.Kind.command c.args.kind in
+    let command = c.args.command.now in
     let key = key_of command in
     let done = c.in-Ok.done in
-    let made : IsDone c.args.given (record s { room = c.room_if.new.stripe.room }) c.attempt.new.stripe turn.who command turn.moment done =
-    subst (λ (x : Stripe). IsDone c.args.given x c.attempt.new.stripe turn.who command turn.moment done) c.in_ok-room_if.ensures.same (rw c.in-Ok.is at c.in_ok-kind.ensures.made) in
+    let made : IsDone c.args.given (record s { room = c.room_if.new.stripe.room }) c.attempt.new.self turn.who command turn.moment done =
+    subst (λ (x : Stripe). IsDone c.args.given x c.attempt.new.self turn.who command turn.moment done) c.in_ok-room_if.ensures.same (rw c.in-Ok.is at c.in_ok-want.ensures.made) in
     let fresh = each_at (λ (x : ClassView). (q : ℕ) → links_of x.history ≤ q → is_named q x.history ≡ false) vs (c.law.ensures.fresh, (c.law-2.ensures.fresh, tt)) in
     let warms : c.in_ok-warms_home.warms_home ≡ is_warming (part_for v key done.room done.fate) =
     c.in_ok-warms_home.ensures.warms ∙ ap (λ (k : List ℕ). is_warming (hit_part v (number_in v k c.woken-woken.result))) c.key.ensures
@@ -172,48 +173,48 @@ make-requires-clause-place g c =
     c.in_ok-warms_home.ensures.same c.wake.ensures.kept c.in_ok-warms_home.warms_home warms c.in_ok-warms_home.ensures.room c.part_after.result part_is).1
 
 pub part_after-requires-in-Ok-clause-free : goal.part_after-requires-in-Ok-clause-free
-part_after-requires-in-Ok-clause-free g c =
+part_after-requires-in-Ok-clause-free c =
     let s = c.args.stripe.now in
     let v = c.args.home.now in
     let w = c.args.other.now in
     let vs = v ∷ w ∷ [] in
     let turn = c.args.turn in
-    let command = g.K.Kind.command c.args.kind in
+    let command = c.args.command.now in
     let key = key_of command in
     let done = c.in-Ok.done in
-    let made : IsDone c.args.given (record s { room = c.room_if.new.stripe.room }) c.attempt.new.stripe turn.who command turn.moment done =
-    subst (λ (x : Stripe). IsDone c.args.given x c.attempt.new.stripe turn.who command turn.moment done) c.in_ok-room_if.ensures.same (rw c.in-Ok.is at c.in_ok-kind.ensures.made) in
+    let made : IsDone c.args.given (record s { room = c.room_if.new.stripe.room }) c.attempt.new.self turn.who command turn.moment done =
+    subst (λ (x : Stripe). IsDone c.args.given x c.attempt.new.self turn.who command turn.moment done) c.in_ok-room_if.ensures.same (rw c.in-Ok.is at c.in_ok-want.ensures.made) in
     let fresh = each_at (λ (x : ClassView). (q : ℕ) → links_of x.history ≤ q → is_named q x.history ≡ false) vs (c.law.ensures.fresh, (c.law-2.ensures.fresh, tt)) in
     subst (λ (x : ClassView). is_here x done.room ≡ true → HasFree x) (sym c.in_ok-warms_other.ensures.same)
     (here_free s vs command turn c.args.given c.requires.may fresh done.room done.fate made.uses w (inr (inl refl)))
 
 pub part_after-requires-in-Ok-clause-small : goal.part_after-requires-in-Ok-clause-small
-part_after-requires-in-Ok-clause-small g c = λ here.
+part_after-requires-in-Ok-clause-small c = λ here.
     let s = c.args.stripe.now in
     let v = c.args.home.now in
     let w = c.args.other.now in
     let vs = v ∷ w ∷ [] in
     let turn = c.args.turn in
-    let command = g.K.Kind.command c.args.kind in
+    let command = c.args.command.now in
     let key = key_of command in
     let done = c.in-Ok.done in
-    let made : IsDone c.args.given (record s { room = c.room_if.new.stripe.room }) c.attempt.new.stripe turn.who command turn.moment done =
-    subst (λ (x : Stripe). IsDone c.args.given x c.attempt.new.stripe turn.who command turn.moment done) c.in_ok-room_if.ensures.same (rw c.in-Ok.is at c.in_ok-kind.ensures.made) in
+    let made : IsDone c.args.given (record s { room = c.room_if.new.stripe.room }) c.attempt.new.self turn.who command turn.moment done =
+    subst (λ (x : Stripe). IsDone c.args.given x c.attempt.new.self turn.who command turn.moment done) c.in_ok-room_if.ensures.same (rw c.in-Ok.is at c.in_ok-want.ensures.made) in
     let fresh = each_at (λ (x : ClassView). (q : ℕ) → links_of x.history ≤ q → is_named q x.history ≡ false) vs (c.law.ensures.fresh, (c.law-2.ensures.fresh, tt)) in
     here_small s vs command turn c.args.given c.requires.may fresh done.room done.fate made.uses c.history.ensures.legal c.history.ensures.bounds.small_sizes c.wake-2.new.class here
 
 pub make-requires-in-Ok-clause-room : goal.make-requires-in-Ok-clause-room
-make-requires-in-Ok-clause-room g c =
+make-requires-in-Ok-clause-room c =
     let s = c.args.stripe.now in
     let v = c.args.home.now in
     let w = c.args.other.now in
     let vs = v ∷ w ∷ [] in
     let turn = c.args.turn in
-    let command = g.K.Kind.command c.args.kind in
+    let command = c.args.command.now in
     let key = key_of command in
     let done = c.in-Ok.done in
-    let made : IsDone c.args.given (record s { room = c.room_if.new.stripe.room }) c.attempt.new.stripe turn.who command turn.moment done =
-    subst (λ (x : Stripe). IsDone c.args.given x c.attempt.new.stripe turn.who command turn.moment done) c.in_ok-room_if.ensures.same (rw c.in-Ok.is at c.in_ok-kind.ensures.made) in
+    let made : IsDone c.args.given (record s { room = c.room_if.new.stripe.room }) c.attempt.new.self turn.who command turn.moment done =
+    subst (λ (x : Stripe). IsDone c.args.given x c.attempt.new.self turn.who command turn.moment done) c.in_ok-room_if.ensures.same (rw c.in-Ok.is at c.in_ok-want.ensures.made) in
     let fresh = each_at (λ (x : ClassView). (q : ℕ) → links_of x.history ≤ q → is_named q x.history ≡ false) vs (c.law.ensures.fresh, (c.law-2.ensures.fresh, tt)) in
     let warms2 : c.in_ok-warms_other.warms_other ≡ is_warming (part_for w key done.room done.fate) =
     c.in_ok-warms_other.ensures.warms ∙ ap (λ (k : List ℕ). is_warming (hit_part w (number_in w k c.woken-woken.result))) c.key-2.ensures
@@ -226,17 +227,17 @@ make-requires-in-Ok-clause-room g c =
     c.in_ok-warms_other.ensures.same c.wake-2.ensures.kept c.in_ok-warms_other.warms_other warms2 c.in_ok-warms_other.ensures.room c.part_after-in-Ok.result part_is2).0
 
 pub make-requires-in-Ok-clause-place : goal.make-requires-in-Ok-clause-place
-make-requires-in-Ok-clause-place g c =
+make-requires-in-Ok-clause-place c =
     let s = c.args.stripe.now in
     let v = c.args.home.now in
     let w = c.args.other.now in
     let vs = v ∷ w ∷ [] in
     let turn = c.args.turn in
-    let command = g.K.Kind.command c.args.kind in
+    let command = c.args.command.now in
     let key = key_of command in
     let done = c.in-Ok.done in
-    let made : IsDone c.args.given (record s { room = c.room_if.new.stripe.room }) c.attempt.new.stripe turn.who command turn.moment done =
-    subst (λ (x : Stripe). IsDone c.args.given x c.attempt.new.stripe turn.who command turn.moment done) c.in_ok-room_if.ensures.same (rw c.in-Ok.is at c.in_ok-kind.ensures.made) in
+    let made : IsDone c.args.given (record s { room = c.room_if.new.stripe.room }) c.attempt.new.self turn.who command turn.moment done =
+    subst (λ (x : Stripe). IsDone c.args.given x c.attempt.new.self turn.who command turn.moment done) c.in_ok-room_if.ensures.same (rw c.in-Ok.is at c.in_ok-want.ensures.made) in
     let fresh = each_at (λ (x : ClassView). (q : ℕ) → links_of x.history ≤ q → is_named q x.history ≡ false) vs (c.law.ensures.fresh, (c.law-2.ensures.fresh, tt)) in
     let warms2 : c.in_ok-warms_other.warms_other ≡ is_warming (part_for w key done.room done.fate) =
     c.in_ok-warms_other.ensures.warms ∙ ap (λ (k : List ℕ). is_warming (hit_part w (number_in w k c.woken-woken.result))) c.key-2.ensures
@@ -248,18 +249,28 @@ make-requires-in-Ok-clause-place g c =
     (part_ready s vs command turn c.args.given c.requires.may fresh done.room done.fate made.uses w c.wake-2.new.class c.requires.may.offered.each.1.0 c.requires.room.1
     c.in_ok-warms_other.ensures.same c.wake-2.ensures.kept c.in_ok-warms_other.warms_other warms2 c.in_ok-warms_other.ensures.room c.part_after-in-Ok.result part_is2).1
 
+pub make-requires-clause-copy : goal.make-requires-clause-copy
+make-requires-clause-copy c = λ on.
+    copied_part c.wake.new.class c.part_after.result (key_of c.args.command.now) c.in_ok-key.key c.key-6.result.now c.in-Ok.done.room c.in-Ok.done.fate c.keeps_events.result c.in_ok-first.first
+    c.part_after.ensures.part (c.in_ok-key.ensures ∙ c.key-5.ensures) c.key-6.ensures c.in_ok-first.ensures (c.keeps_events.ensures ∙ on)
+
+pub make-requires-in-Ok-clause-copy : goal.make-requires-in-Ok-clause-copy
+make-requires-in-Ok-clause-copy c = λ on.
+    copied_part c.wake-2.new.class c.part_after-in-Ok.result (key_of c.args.command.now) c.in_ok-name.name c.key-8.result.now c.in-Ok.done.room c.in-Ok.done.fate c.keeps_events-2.result c.in_ok-second.second
+    c.part_after-in-Ok.ensures.part (c.in_ok-name.ensures ∙ c.key-4.ensures) c.key-8.ensures c.in_ok-second.ensures (c.keeps_events-2.ensures ∙ on)
+
 pub cool_if-requires-clause-active : goal.cool_if-requires-clause-active
-cool_if-requires-clause-active g c =
+cool_if-requires-clause-active c =
     let s = c.args.stripe.now in
     let v = c.args.home.now in
     let w = c.args.other.now in
     let vs = v ∷ w ∷ [] in
     let turn = c.args.turn in
-    let command = g.K.Kind.command c.args.kind in
+    let command = c.args.command.now in
     let key = key_of command in
     let done = c.in-Ok.done in
-    let made : IsDone c.args.given (record s { room = c.room_if.new.stripe.room }) c.attempt.new.stripe turn.who command turn.moment done =
-    subst (λ (x : Stripe). IsDone c.args.given x c.attempt.new.stripe turn.who command turn.moment done) c.in_ok-room_if.ensures.same (rw c.in-Ok.is at c.in_ok-kind.ensures.made) in
+    let made : IsDone c.args.given (record s { room = c.room_if.new.stripe.room }) c.attempt.new.self turn.who command turn.moment done =
+    subst (λ (x : Stripe). IsDone c.args.given x c.attempt.new.self turn.who command turn.moment done) c.in_ok-room_if.ensures.same (rw c.in-Ok.is at c.in_ok-want.ensures.made) in
     let fresh = each_at (λ (x : ClassView). (q : ℕ) → links_of x.history ≤ q → is_named q x.history ≡ false) vs (c.law.ensures.fresh, (c.law-2.ensures.fresh, tt)) in
     let warms : c.in_ok-warms_home.warms_home ≡ is_warming (part_for v key done.room done.fate) =
     c.in_ok-warms_home.ensures.warms ∙ ap (λ (k : List ℕ). is_warming (hit_part v (number_in v k c.woken-woken.result))) c.key.ensures
@@ -275,22 +286,22 @@ cool_if-requires-clause-active g c =
     let either : c.is_either-warms.result ≡ (is_warming (part_in s cl v) || is_warming (part_in s cl w)) =
     c.is_either-warms.ensures ∙ ap (λ (b : Bool). b || c.in_ok-warms_other.warms_other) (warms ∙ ap is_warming here) ∙ ap (λ (b : Bool). is_warming (part_in s cl v) || b) (warms2 ∙ ap is_warming here2) in
     let cooled_is = c.in_ok-cooled.ensures ∙ ap (λ (k : List ℕ). if c.is_either-warms.result then Some k else None) c.key-3.ensures in
-    cooled_where turn.who key (λ (k : List ℕ). IsSomeAnd ((cache_now c.attempt.new.stripe).items k) (λ item. item.marks.active ≡ true)) c.is_either-warms.result c.in_ok-cooled.cooled cooled_is
-    (λ on. cool_ready s c.attempt.new.stripe cl key (answer_to s cl).reply (c.attempt.ensures.site.site ∙ ap (λ (x : Stripe). x.site) c.in_ok-room_if.ensures.same) made.noted refl
+    cooled_where turn.who key (λ (k : List ℕ). IsSomeAnd ((cache_now c.attempt.new.self).items k) (λ item. item.marks.active ≡ true)) c.is_either-warms.result c.in_ok-cooled.cooled cooled_is
+    (λ on. cool_ready s c.attempt.new.self cl key (answer_to s cl).reply (c.attempt.ensures.site.site ∙ ap (λ (x : Stripe). x.site) c.in_ok-room_if.ensures.same) made.noted refl
     (warms_either s cl v w (part_in s cl v) (part_in s cl w) refl refl (sym either ∙ on)))
 
 pub returns-in-Ok-clause-tried : goal.returns-in-Ok-clause-tried
-returns-in-Ok-clause-tried g c = λ config made_with of_home of_other.
+returns-in-Ok-clause-tried c = λ config made_with of_home of_other.
     let s = c.args.stripe.now in
     let v = c.args.home.now in
     let w = c.args.other.now in
     let vs = v ∷ w ∷ [] in
     let turn = c.args.turn in
-    let command = g.K.Kind.command c.args.kind in
+    let command = c.args.command.now in
     let key = key_of command in
     let done = c.in-Ok.done in
-    let made : IsDone c.args.given (record s { room = c.room_if.new.stripe.room }) c.attempt.new.stripe turn.who command turn.moment done =
-    subst (λ (x : Stripe). IsDone c.args.given x c.attempt.new.stripe turn.who command turn.moment done) c.in_ok-room_if.ensures.same (rw c.in-Ok.is at c.in_ok-kind.ensures.made) in
+    let made : IsDone c.args.given (record s { room = c.room_if.new.stripe.room }) c.attempt.new.self turn.who command turn.moment done =
+    subst (λ (x : Stripe). IsDone c.args.given x c.attempt.new.self turn.who command turn.moment done) c.in_ok-room_if.ensures.same (rw c.in-Ok.is at c.in_ok-want.ensures.made) in
     let fresh = each_at (λ (x : ClassView). (q : ℕ) → links_of x.history ≤ q → is_named q x.history ≡ false) vs (c.law.ensures.fresh, (c.law-2.ensures.fresh, tt)) in
     let warms : c.in_ok-warms_home.warms_home ≡ is_warming (part_for v key done.room done.fate) =
     c.in_ok-warms_home.ensures.warms ∙ ap (λ (k : List ℕ). is_warming (hit_part v (number_in v k c.woken-woken.result))) c.key.ensures
@@ -317,7 +328,7 @@ returns-in-Ok-clause-tried g c = λ config made_with of_home of_other.
     let site = c.cool_if.ensures.site in
     let at_is = ap (λ (n : ℕ). n + 1) (c.len.ensures ∙ ap length c.history.ensures.value) in
     let performed : IsPerformed s c.cool_if.new.stripe cl vs (c.make.new.class ∷ c.make-in-Ok.new.class ∷ []) = record {
-      stripe = cooled_history turn.who key c.attempt.new.stripe.history c.cool_if.new.stripe.history c.is_either-warms.result c.in_ok-cooled.cooled cooled_is c.cool_if.ensures.event
+      stripe = cooled_history turn.who key c.attempt.new.self.history c.cool_if.new.stripe.history c.is_either-warms.result c.in_ok-cooled.cooled cooled_is c.cool_if.ensures.event
           ∙ ap (λ (h : List StripeEvent). h ++ cooled_if turn.who key c.is_either-warms.result) made.noted
           ∙ either_cooled turn.who key s.history (did_event s cl) c.is_either-warms.result
           ∙ ap (λ (b : Bool). s.history ++ events_on_stripe s cl b) cooling;

@@ -12,7 +12,7 @@ use Rattle.mc_store.proofs.answering.answer.Goals as goal
 
 pub try_alone-requires-clause-may : goal.try_alone-requires-clause-may
 try_alone-requires-clause-may g c = record {
-  stripe = ap (λ (n : ℕ). stripe_of (key_of (g.K.Kind.command c.args.kind)) n) c.law.ensures.made_with.stripes ∙ c.requires.called.own;
+  stripe = ap (λ (n : ℕ). stripe_of (key_of c.args.command.now) n) c.law.ensures.made_with.stripes ∙ c.requires.called.own;
   moment = c.requires.called.early;
   distinct = tt;
   met = tt;
@@ -23,7 +23,7 @@ try_alone-requires-clause-may g c = record {
 pub returns-in-Made : goal.returns-in-Made
 returns-in-Made g c =
     let config = g.N.Named.config in
-    let command = g.K.Kind.command c.args.kind in
+    let command = c.args.command.now in
     let turn = c.args.turn in
     let s = c.args.own.now.stripe in
     let tried = rw c.in-Made.is at c.in_ok-reply.ensures.tried in
@@ -33,11 +33,10 @@ returns-in-Made g c =
 pub returns-in-Wants : goal.returns-in-Wants
 returns-in-Wants g c =
     let config = g.N.Named.config in
-    let command = g.K.Kind.command c.args.kind in
+    let command = c.args.command.now in
     let turn = c.args.turn in
     let mid = c.try_alone.new.own.stripe in
     let tried = rw c.in-Wants.is at c.in_ok-reply.ensures.tried in
     let want = c.answer_want in
-    ends_same config command turn c.args.own.now.stripe mid c.try_alone.ensures.site tried.2 want.new.own c.args.caller.now want.new.caller want.result
-    (subst (λ (x : CallerView). Ends config mid want.new.own x want.new.caller command turn want.result) tried.3
-    (subst (λ (x : Command). Ends config mid want.new.own c.try_alone.new.caller want.new.caller x turn want.result) tried.0 want.ensures))
+    ends_same config command turn c.args.own.now.stripe mid c.try_alone.ensures.site tried.0 want.new.own c.args.caller.now want.new.caller want.result
+    (subst (λ (x : CallerView). Ends config mid want.new.own x want.new.caller command turn want.result) tried.1 want.ensures)

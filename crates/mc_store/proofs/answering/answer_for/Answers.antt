@@ -13,7 +13,7 @@ use Rattle.mc_store.proofs.answering.answer_for.Goals as goal
 pub returns-in-Made : goal.returns-in-Made
 returns-in-Made g c =
     let config = g.N.Named.config in
-    let command = g.K.Kind.command c.args.kind in
+    let command = c.args.command.now in
     let turn = c.args.turn in
     let s = c.args.own.now.stripe in
     let made = rw c.in-Made.is at c.in_ok-reply.ensures.tried in
@@ -21,45 +21,42 @@ returns-in-Made g c =
 
 pub answer_at_home-requires-clause-begun : goal.answer_at_home-requires-clause-begun
 answer_at_home-requires-clause-begun g c =
-    let command = g.K.Kind.command c.args.kind in
+    let command = c.args.command.now in
     let turn = c.args.turn in
     let tried = rw c.in-Wants.is at c.in_ok-reply.ensures.tried in
-    let asked = subst (λ (x : CallerView). HasAsked x turn.who command turn.moment) (sym tried.3) c.requires.called.asked in
+    let asked = subst (λ (x : CallerView). HasAsked x turn.who command turn.moment) (sym tried.1) c.requires.called.asked in
     record { command = command; begun = c.tell_stripe.ensures.begun turn.who turn.moment (asked_for command turn.moment) (asked_called c.try_home.new.caller turn.who command turn.moment asked) }
 
 pub returns-in-Room : goal.returns-in-Room
 returns-in-Room g c =
     let config = g.N.Named.config in
-    let command = g.K.Kind.command c.args.kind in
+    let command = c.args.command.now in
     let turn = c.args.turn in
     let mid = c.try_home.new.own.stripe in
     let tried = rw c.in-Wants.is at c.in_ok-reply.ensures.tried in
     let at = c.answer_at_home in
-    ends_same config command turn c.args.own.now.stripe mid c.try_home.ensures.site tried.2 at.new.own c.args.caller.now at.new.caller at.result
+    ends_same config command turn c.args.own.now.stripe mid c.try_home.ensures.site tried.0 at.new.own c.args.caller.now at.new.caller at.result
     (subst (λ (t : Stripe). Ends config t at.new.own c.args.caller.now at.new.caller command turn at.result) (ap (λ (x : StripeSide). x.stripe) c.tell_stripe.ensures.stripe)
-    (subst (λ (x : CallerView). Ends config c.tell_stripe.new.stripe.stripe at.new.own x at.new.caller command turn at.result) (c.tell_stripe.ensures.same ∙ tried.3)
-    (subst (λ (x : Command). Ends config c.tell_stripe.new.stripe.stripe at.new.own c.tell_stripe.new.self at.new.caller x turn at.result) tried.0 at.ensures)))
+    (subst (λ (x : CallerView). Ends config c.tell_stripe.new.stripe.stripe at.new.own x at.new.caller command turn at.result) (c.tell_stripe.ensures.same ∙ tried.1) at.ensures))
 
 pub returns-in-Burial : goal.returns-in-Burial
 returns-in-Burial g c =
     let config = g.N.Named.config in
-    let command = g.K.Kind.command c.args.kind in
+    let command = c.args.command.now in
     let turn = c.args.turn in
     let mid = c.try_home.new.own.stripe in
     let tried = rw c.in-Wants.is at c.in_ok-reply.ensures.tried in
     let want = c.answer_want in
-    ends_same config command turn c.args.own.now.stripe mid c.try_home.ensures.site tried.2 want.new.own c.args.caller.now want.new.caller want.result
-    (subst (λ (x : CallerView). Ends config mid want.new.own x want.new.caller command turn want.result) tried.3
-    (subst (λ (x : Command). Ends config mid want.new.own c.try_home.new.caller want.new.caller x turn want.result) tried.0 want.ensures))
+    ends_same config command turn c.args.own.now.stripe mid c.try_home.ensures.site tried.0 want.new.own c.args.caller.now want.new.caller want.result
+    (subst (λ (x : CallerView). Ends config mid want.new.own x want.new.caller command turn want.result) tried.1 want.ensures)
 
 pub returns : goal.returns
 returns g c =
     let config = g.N.Named.config in
-    let command = g.K.Kind.command c.args.kind in
+    let command = c.args.command.now in
     let turn = c.args.turn in
     let mid = c.try_home.new.own.stripe in
     let tried = rw c.in-Wants.is at c.in_ok-reply.ensures.tried in
     let want = c.answer_want-in-Classes in
-    ends_same config command turn c.args.own.now.stripe mid c.try_home.ensures.site tried.2 want.new.own c.args.caller.now want.new.caller want.result
-    (subst (λ (x : CallerView). Ends config mid want.new.own x want.new.caller command turn want.result) tried.3
-    (subst (λ (x : Command). Ends config mid want.new.own c.try_home.new.caller want.new.caller x turn want.result) tried.0 want.ensures))
+    ends_same config command turn c.args.own.now.stripe mid c.try_home.ensures.site tried.0 want.new.own c.args.caller.now want.new.caller want.result
+    (subst (λ (x : CallerView). Ends config mid want.new.own x want.new.caller command turn want.result) tried.1 want.ensures)

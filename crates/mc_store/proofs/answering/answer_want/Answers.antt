@@ -21,19 +21,19 @@ use Rattle.mc_store.proofs.answering.answer_want.Goals as goal
 
 pub answer_with-requires-clause-begun : goal.answer_with-requires-clause-begun
 answer_with-requires-clause-begun g c =
-    let command = g.K.Kind.command c.args.kind in
+    let command = c.args.command.now in
     let turn = c.args.turn in
     record { command = command; begun = c.tell_stripe.ensures.begun turn.who turn.moment (asked_for command turn.moment) (asked_called c.args.caller.now turn.who command turn.moment c.requires.called.asked) }
 
 pub bury-requires-clause-begun : goal.bury-requires-clause-begun
 bury-requires-clause-begun g c =
-    let command = g.K.Kind.command c.args.kind in
+    let command = c.args.command.now in
     let turn = c.args.turn in
     record { command = command; begun = c.tell_stripe.ensures.begun turn.who turn.moment (asked_for command turn.moment) (asked_called c.args.caller.now turn.who command turn.moment c.requires.called.asked) }
 
 pub try_alone-requires-clause-may : goal.try_alone-requires-clause-may
 try_alone-requires-clause-may g c =
-    let key = key_of (g.K.Kind.command c.args.kind) in
+    let key = key_of c.args.command.now in
     let site : c.bury.new.own.stripe.site ≡ c.args.own.now.stripe.site = c.bury.ensures.site.site ∙ ap (λ (x : StripeSide). x.stripe.site) c.tell_stripe.ensures.stripe in
     record {
       stripe = subst (λ (t : Site). stripe_of key t.stripes ≡ record { 0 = t.stripe }) (sym site) (ap (λ (n : ℕ). stripe_of key n) c.law.ensures.made_with.stripes ∙ c.requires.called.own);
@@ -48,14 +48,14 @@ pub returns-in_err-bury-in-Burial : goal.returns-in_err-bury-in-Burial
 returns-in_err-bury-in-Burial g c =
     let s = c.args.own.now.stripe in
     let told = ap (λ (x : StripeSide). x.stripe) c.tell_stripe.ensures.stripe in
-    ends_early g.N.Named.config (g.K.Kind.command c.args.kind) c.args.turn s c.bury.new.own c.args.caller.now c.tell_stripe.new.self c.from_residual.result c.in_err-bury-in-Burial.field-0.0 c.from_residual.ensures.1
+    ends_early g.N.Named.config c.args.command.now c.args.turn s c.bury.new.own c.args.caller.now c.tell_stripe.new.self c.from_residual.result c.in_err-bury-in-Burial.field-0.0 c.from_residual.ensures.1
     (subst (λ (t : Stripe). KeepsSite t c.bury.new.own.stripe) told c.bury.ensures.site) (c.in_err-bury-in-Burial.ensures.err ∙ ap (λ (t : Stripe). t.history) told) c.tell_stripe.ensures.same
     (λ is. c.bury.ensures.full (c.in_err-bury-in-Burial.was ∙ ap Err is))
 
 pub returns-in_err-reply-in-Burial : goal.returns-in_err-reply-in-Burial
 returns-in_err-reply-in-Burial g c =
     let config = g.N.Named.config in
-    let command = g.K.Kind.command c.args.kind in
+    let command = c.args.command.now in
     let turn = c.args.turn in
     let s = c.args.own.now.stripe in
     let mid = c.bury.new.own.stripe in
@@ -73,7 +73,7 @@ returns-in_err-reply-in-Burial g c =
 pub answer_with-requires-in-Classes-left-clause-begun : goal.answer_with-requires-in-Classes-left-clause-begun
 answer_with-requires-in-Classes-left-clause-begun g c =
     let config = g.N.Named.config in
-    let command = g.K.Kind.command c.args.kind in
+    let command = c.args.command.now in
     let turn = c.args.turn in
     command_sees config c.bury.new.own.sight c.try_alone.new.own.sight turn.who turn.moment c.try_alone.ensures.sees
     (command_sees config c.tell_stripe.new.stripe.sight c.bury.new.own.sight turn.who turn.moment c.bury.ensures.sees
@@ -81,7 +81,7 @@ answer_with-requires-in-Classes-left-clause-begun g c =
 
 pub unreachable-requires : goal.unreachable-requires
 unreachable-requires g c =
-    let command = g.K.Kind.command c.args.kind in
+    let command = c.args.command.now in
     let turn = c.args.turn in
     let s = c.args.own.now.stripe in
     let mid = c.bury.new.own.stripe in
@@ -89,12 +89,12 @@ unreachable-requires g c =
     let site = subst (λ (t : Stripe). KeepsSite t mid) told c.bury.ensures.site in
     let buried = buried_now s c.tell_stripe.new.stripe.stripe mid turn.who command turn.moment c.in-Burial.link c.key.result.now told c.key.ensures (rw c.in-Burial.is at c.requires.wants) c.in_ok-bury-in-Burial.ensures.lost in
     let tried = rw c.in-Wants.is at c.in_ok-reply-in-Burial.ensures.tried in
-    some_none c.in-Burial-left.field-0 _ (rw c.in-Burial-left.is at tried.5) (not_dead (item_of mid command) turn.moment (buried_alive s mid turn.who command turn.moment site buried))
+    some_none c.in-Burial-left.field-0 _ (rw c.in-Burial-left.is at tried.3) (not_dead (item_of mid command) turn.moment (buried_alive s mid turn.who command turn.moment site buried))
 
 pub returns-in-Made : goal.returns-in-Made
 returns-in-Made g c =
     let config = g.N.Named.config in
-    let command = g.K.Kind.command c.args.kind in
+    let command = c.args.command.now in
     let turn = c.args.turn in
     let s = c.args.own.now.stripe in
     let mid = c.bury.new.own.stripe in
@@ -111,7 +111,7 @@ returns-in-Made g c =
 pub returns-in-Classes-left : goal.returns-in-Classes-left
 returns-in-Classes-left g c =
     let config = g.N.Named.config in
-    let command = g.K.Kind.command c.args.kind in
+    let command = c.args.command.now in
     let turn = c.args.turn in
     let s = c.args.own.now.stripe in
     let mid = c.bury.new.own.stripe in
@@ -124,6 +124,5 @@ returns-in-Classes-left g c =
     let end = with.new.own in
     let caller = with.new.caller in
     ends_buried config command turn s mid site buried end c.args.caller.now caller with.result
-    (ends_same config command turn mid last c.try_alone.ensures.site tried.2 end c.args.caller.now caller with.result
-    (subst (λ (x : CallerView). Ends config last end x caller command turn with.result) (tried.3 ∙ c.tell_stripe.ensures.same)
-    (subst (λ (x : Command). Ends config last end c.try_alone.new.caller caller x turn with.result) tried.0 with.ensures)))
+    (ends_same config command turn mid last c.try_alone.ensures.site tried.0 end c.args.caller.now caller with.result
+    (subst (λ (x : CallerView). Ends config last end x caller command turn with.result) (tried.1 ∙ c.tell_stripe.ensures.same) with.ensures))

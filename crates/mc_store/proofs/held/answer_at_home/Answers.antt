@@ -23,7 +23,7 @@ use Rattle.mc_store.proofs.held.answer_at_home.Goals as goal
 pub unreachable-requires : goal.unreachable-requires
 unreachable-requires g c =
     let config = g.N.Named.config in
-    let command = g.K.Kind.command c.args.kind in
+    let command = c.args.command.now in
     let turn = c.args.turn in
     let s = c.args.own.now.stripe in
     let mid = c.search.new.own.stripe in
@@ -32,12 +32,12 @@ unreachable-requires g c =
     let suffices = subst (λ (n : ClassNo). Suffice (Some n) other mid command turn.moment) (sym c.search.ensures.number)
     (suffice_behind config turn class s mid c.search.ensures.site c.search.ensures.walked (Some class) other command refl c.requires.wants.fresh c.requires.wants.suffice) in
     let tried = rw c.in-Wants.is at c.in_ok-reply.ensures.tried in
-    no_burial mid command turn.moment (Some c.search.new.home.class.number) other suffices c.in-Burial.field-0 (rw c.in-Burial.is at tried.4)
+    no_burial mid command turn.moment (Some c.search.new.home.class.number) other suffices c.in-Burial.field-0 (rw c.in-Burial.is at tried.2)
 
 pub unreachable-requires-in-Classes : goal.unreachable-requires-in-Classes
 unreachable-requires-in-Classes g c =
     let config = g.N.Named.config in
-    let command = g.K.Kind.command c.args.kind in
+    let command = c.args.command.now in
     let turn = c.args.turn in
     let s = c.args.own.now.stripe in
     let mid = c.search.new.own.stripe in
@@ -46,12 +46,12 @@ unreachable-requires-in-Classes g c =
     let suffices = subst (λ (n : ClassNo). Suffice (Some n) other mid command turn.moment) (sym c.search.ensures.number)
     (suffice_behind config turn class s mid c.search.ensures.site c.search.ensures.walked (Some class) other command refl c.requires.wants.fresh c.requires.wants.suffice) in
     let tried = rw c.in-Wants.is at c.in_ok-reply.ensures.tried in
-    absurd ((rw c.in-Classes.is at tried.4).1 suffices)
+    absurd ((rw c.in-Classes.is at tried.2).1 suffices)
 
 pub returns-in_err-reply : goal.returns-in_err-reply
 returns-in_err-reply g c =
     let config = g.N.Named.config in
-    let command = g.K.Kind.command c.args.kind in
+    let command = c.args.command.now in
     let s = c.args.own.now.stripe in
     let mid = c.search.new.own.stripe in
     let alive = c.requires.wants.suffice.alive in
@@ -62,7 +62,7 @@ returns-in_err-reply g c =
 pub returns-in-Made : goal.returns-in-Made
 returns-in-Made g c =
     let config = g.N.Named.config in
-    let command = g.K.Kind.command c.args.kind in
+    let command = c.args.command.now in
     let s = c.args.own.now.stripe in
     let mid = c.search.new.own.stripe in
     let alive = c.requires.wants.suffice.alive in
@@ -76,26 +76,26 @@ refuse-requires-clause-begun g c =
 pub returns-in_err-place-in-Room : goal.returns-in_err-place-in-Room
 returns-in_err-place-in-Room g c =
     let config = g.N.Named.config in
-    let command = g.K.Kind.command c.args.kind in
+    let command = c.args.command.now in
     let s = c.args.own.now.stripe in
     let mid = c.search.new.own.stripe in
     let alive = c.requires.wants.suffice.alive in
     let searched = searched_walk config command c.args.turn s mid c.args.home.now.class.number alive c.requires.wants.fresh c.search.ensures.walked in
     let tried = rw c.in-Wants.is at c.in_ok-reply.ensures.tried in
-    let full = rw c.in-Room.is at tried.4 in
+    let full = rw c.in-Room.is at tried.2 in
     subst (λ (x : StripeSide). Ends config s x c.args.caller.now c.try_home.new.caller command c.args.turn c.from_residual-in_err-place-in-Room.result) (sym c.refuse.ensures.own)
     (ends_err config command c.args.turn s mid alive searched c.search.ensures.site c.try_home.new.own c.args.caller.now c.try_home.new.caller c.from_residual-in_err-place-in-Room.result c.in_err-place-in-Room.field-0.0
-    c.from_residual-in_err-place-in-Room.ensures.1 c.try_home.ensures.site tried.2 tried.3
+    c.from_residual-in_err-place-in-Room.ensures.1 c.try_home.ensures.site tried.0 tried.1
     (λ is. refuse_short config c.try_home.new.own c.try_home.new.home.class c.refuse.new.lent.class full.0.short c.in_err-place-in-Room.ensures.err.0 (c.refuse.ensures.full (c.in_err-place-in-Room.was ∙ ap Err is))))
 
 pub try_home-requires-in-Room-clause-refused : goal.try_home-requires-in-Room-clause-refused
 try_home-requires-in-Room-clause-refused g c =
     let config = g.N.Named.config in
-    let command = g.K.Kind.command c.args.kind in
+    let command = c.args.command.now in
     let s = c.args.own.now.stripe in
     let turn = c.args.turn in
     let tried = rw c.in-Wants.is at c.in_ok-reply.ensures.tried in
-    let full = rw c.in-Room.is at tried.4 in
+    let full = rw c.in-Room.is at tried.2 in
     let lent = c.try_home.new.home.class in
     let home = c.search.new.home.class in
     let mine : StripeNo = record { 0 = s.site.stripe } in
@@ -105,13 +105,12 @@ try_home-requires-in-Room-clause-refused g c =
     let noted = earned_now config mine turn (key_of command) lent c.refuse.new.lent.class c.in_ok-place-in-Room.place c.in_ok-place-in-Room.ensures.refused c.in_ok-place-in-Room.ensures.place here in
     let number : c.refuse.new.own.stripe.site.stripe ≡ s.site.stripe =
     ap (λ (x : StripeSide). x.stripe.site.stripe) c.refuse.ensures.own ∙ (ap (λ (t : Site). t.stripe) c.try_home.ensures.site.site ∙ ap (λ (t : Site). t.stripe) c.search.ensures.site.site) in
-    subst (λ (n : ℕ). IsEarnedAt config (record { 0 = n }) c.refuse.new.lent.class.number turn.who turn.moment (key_of (g.K.Kind.command c.in-Wants.kind)) c.in_ok-place-in-Room.place c.refuse.new.lent.class.history) (sym number)
-    (subst (λ (x : Command). IsEarnedAt config mine c.refuse.new.lent.class.number turn.who turn.moment (key_of x) c.in_ok-place-in-Room.place c.refuse.new.lent.class.history) (sym tried.0) noted)
+    subst (λ (n : ℕ). IsEarnedAt config (record { 0 = n }) c.refuse.new.lent.class.number turn.who turn.moment (key_of command) c.in_ok-place-in-Room.place c.refuse.new.lent.class.history) (sym number) noted
 
 pub returns-in-Made-2 : goal.returns-in-Made-2
 returns-in-Made-2 g c =
     let config = g.N.Named.config in
-    let command = g.K.Kind.command c.args.kind in
+    let command = c.args.command.now in
     let turn = c.args.turn in
     let s = c.args.own.now.stripe in
     let mid = c.search.new.own.stripe in
@@ -120,17 +119,17 @@ returns-in-Made-2 g c =
     let tried = rw c.in-Wants.is at c.in_ok-reply.ensures.tried in
     let own = ap (λ (x : StripeSide). x.stripe) c.refuse.ensures.own in
     let site = subst (λ (t : Stripe). KeepsSite mid t) (sym own) c.try_home.ensures.site in
-    let same = ap (λ (t : Stripe). t.history) own ∙ tried.2 in
+    let same = ap (λ (t : Stripe). t.history) own ∙ tried.0 in
     let searched = searched_walk config command turn s mid c.args.home.now.class.number alive c.requires.wants.fresh c.search.ensures.walked in
     ends_made config command turn s last alive (searched_same mid last site same command turn.moment config turn.who s searched) (site_both s mid last c.search.ensures.site site)
     c.try_home-in-Room.new.own c.args.caller.now c.try_home-in-Room.new.caller c.in-Made-2.reply c.law.ensures.made_with c.try_home-in-Room.ensures.site
-    (made_caller config last c.try_home-in-Room.new.own c.args.caller.now c.try_home.new.caller c.try_home-in-Room.new.caller (g.K.Kind.command c.in-Wants.kind) command turn c.in-Made-2.reply tried.3 tried.0
+    (made_caller config last c.try_home-in-Room.new.own c.args.caller.now c.try_home.new.caller c.try_home-in-Room.new.caller command turn c.in-Made-2.reply tried.1
     (rw c.in-Made-2.is at c.in_ok-reply-in-Room.ensures.tried))
 
 pub returns-in_err-reply-in-Room : goal.returns-in_err-reply-in-Room
 returns-in_err-reply-in-Room g c =
     let config = g.N.Named.config in
-    let command = g.K.Kind.command c.args.kind in
+    let command = c.args.command.now in
     let turn = c.args.turn in
     let s = c.args.own.now.stripe in
     let mid = c.search.new.own.stripe in
@@ -139,16 +138,29 @@ returns-in_err-reply-in-Room g c =
     let tried = rw c.in-Wants.is at c.in_ok-reply.ensures.tried in
     let own = ap (λ (x : StripeSide). x.stripe) c.refuse.ensures.own in
     let site = subst (λ (t : Stripe). KeepsSite mid t) (sym own) c.try_home.ensures.site in
-    let same = ap (λ (t : Stripe). t.history) own ∙ tried.2 in
+    let same = ap (λ (t : Stripe). t.history) own ∙ tried.0 in
     let searched = searched_walk config command turn s mid c.args.home.now.class.number alive c.requires.wants.fresh c.search.ensures.walked in
     ends_err config command turn s last alive (searched_same mid last site same command turn.moment config turn.who s searched) (site_both s mid last c.search.ensures.site site)
     c.try_home-in-Room.new.own c.args.caller.now c.try_home-in-Room.new.caller c.from_residual-in_err-reply-in-Room.result c.in_err-reply-in-Room.field-0.0 c.from_residual-in_err-reply-in-Room.ensures.1
-    c.try_home-in-Room.ensures.site c.in_err-reply-in-Room.ensures.err.0 (c.in_err-reply-in-Room.ensures.err.1 ∙ tried.3) (λ is. c.try_home-in-Room.ensures.full (c.in_err-reply-in-Room.was ∙ ap Err is))
+    c.try_home-in-Room.ensures.site c.in_err-reply-in-Room.ensures.err.0 (c.in_err-reply-in-Room.ensures.err.1 ∙ tried.1) (λ is. c.try_home-in-Room.ensures.full (c.in_err-reply-in-Room.was ∙ ap Err is))
 
-pub returns-in-Room : goal.returns-in-Room
-returns-in-Room g c =
+pub returns-in-Place : goal.returns-in-Place
+returns-in-Place g c =
     let config = g.N.Named.config in
-    let command = g.K.Kind.command c.args.kind in
+    let command = c.args.command.now in
+    let turn = c.args.turn in
+    let s = c.args.own.now.stripe in
+    let mid = c.search.new.own.stripe in
+    let alive = c.requires.wants.suffice.alive in
+    let tried = rw c.in-Wants.is at c.in_ok-reply.ensures.tried in
+    let searched = searched_walk config command turn s mid c.args.home.now.class.number alive c.requires.wants.fresh c.search.ensures.walked in
+    ends_cut config command turn s mid alive searched c.search.ensures.site c.try_home.new.own c.args.caller.now c.try_home.new.caller HistoryFull c.try_home.ensures.site tried.0 tried.1
+    (λ is. rw c.in-Place.is at tried.2)
+
+pub returns-in-Wants-2 : goal.returns-in-Wants-2
+returns-in-Wants-2 g c =
+    let config = g.N.Named.config in
+    let command = c.args.command.now in
     let turn = c.args.turn in
     let s = c.args.own.now.stripe in
     let mid = c.search.new.own.stripe in
@@ -156,19 +168,18 @@ returns-in-Room g c =
     let alive = c.requires.wants.suffice.alive in
     let tried = rw c.in-Wants.is at c.in_ok-reply.ensures.tried in
     let again = rw c.in-Wants-2.is at c.in_ok-reply-in-Room.ensures.tried in
-    let full = rw c.in-Room.is at tried.4 in
+    let full = rw c.in-Room.is at tried.2 in
     let class = c.args.home.now.class.number in
     let other = number_in c.args.other.now in
     let number : c.refuse.new.lent.class.number ≡ class = ap (λ (v : ClassView). v.number) c.in_ok-place-in-Room.ensures.refused ∙ (full.0.number_is ∙ c.search.ensures.number) in
     let behind = suffice_behind config turn class s mid c.search.ensures.site c.search.ensures.walked (Some class) other command refl c.requires.wants.fresh c.requires.wants.suffice in
     let own = ap (λ (x : StripeSide). x.stripe) c.refuse.ensures.own in
     let site = subst (λ (t : Stripe). KeepsSite mid t) (sym own) c.try_home.ensures.site in
-    let same = ap (λ (t : Stripe). t.history) own ∙ tried.2 in
+    let same = ap (λ (t : Stripe). t.history) own ∙ tried.0 in
     let later = suffice_same mid last site same command turn.moment (Some class) other behind in
-    let again_suffice = subst (λ (n : ClassNo). Suffice (Some n) (number_in c.try_home.new.other) last (g.K.Kind.command c.in-Wants.kind) turn.moment) (sym number)
-    (subst (λ (o : Option ClassNo). Suffice (Some class) o last (g.K.Kind.command c.in-Wants.kind) turn.moment) (sym full.1)
-    (subst (λ (x : Command). Suffice (Some class) other last x turn.moment) (sym tried.0) later)) in
+    let again_suffice = subst (λ (n : ClassNo). Suffice (Some n) (number_in c.try_home.new.other) last c.args.command.now turn.moment) (sym number)
+    (subst (λ (o : Option ClassNo). Suffice (Some class) o last c.args.command.now turn.moment) (sym full.1) later) in
     let searched = searched_walk config command turn s mid class alive c.requires.wants.fresh c.search.ensures.walked in
     ends_cut config command turn s last alive (searched_same mid last site same command turn.moment config turn.who s searched) (site_both s mid last c.search.ensures.site site)
-    c.try_home-in-Room.new.own c.args.caller.now c.try_home-in-Room.new.caller HistoryFull c.try_home-in-Room.ensures.site again.2 (again.3 ∙ tried.3)
-    (λ is. wants_place config last c.try_home-in-Room.new.own (g.K.Kind.command c.in-Wants.kind) turn.moment (Some c.refuse.new.lent.class.number) (number_in c.try_home.new.other) _ again_suffice c.in-Wants-2.field-1 again.4 (λ room. some_none c.in_ok-place-in-Room.place _ refl (rw room at again.4).0.none))
+    c.try_home-in-Room.new.own c.args.caller.now c.try_home-in-Room.new.caller HistoryFull c.try_home-in-Room.ensures.site again.0 (again.1 ∙ tried.1)
+    (λ is. wants_place config last c.try_home-in-Room.new.own c.args.command.now turn.moment (Some c.refuse.new.lent.class.number) (number_in c.try_home.new.other) _ again_suffice c.in-Wants-2.field-0 again.2 (λ room. some_none c.in_ok-place-in-Room.place _ refl (rw room at again.2).0.none))

@@ -23,7 +23,7 @@ offer_home-requires g c =
     let was = c.args.home.now in
     let side = c.ready_class.new.class in
     let s = c.args.own.now.stripe in
-    let key = key_of (g.K.Kind.command c.args.kind) in
+    let key = key_of c.args.command.now in
     let is = readied was c.meet.new.lent side c.meet.ensures.lent c.ready_class.ensures.same in
     let at : c.state.result.now ≡ side.class = c.state.ensures ∙ ap (λ (x : ClassSide). x.class) c.side.ensures.value in
     record {
@@ -35,7 +35,7 @@ pub try_on_one-requires-clause-may : goal.try_on_one-requires-clause-may
 try_on_one-requires-clause-may g c =
     let was = c.args.home.now in
     let side = c.ready_class.new.class in
-    let key = key_of (g.K.Kind.command c.args.kind) in
+    let key = key_of c.args.command.now in
     let is = readied was c.meet.new.lent side c.meet.ensures.lent c.ready_class.ensures.same in
     let at : c.state.result.now ≡ side.class = c.state.ensures ∙ ap (λ (x : ClassSide). x.class) c.side.ensures.value in
     let same = ap (λ (x : StripeSide). x.stripe) c.meet.ensures.own in
@@ -60,7 +60,7 @@ pub returns-in_ok-ready_class-in-None-clause-tried : goal.returns-in_ok-ready_cl
 returns-in_ok-ready_class-in-None-clause-tried g c =
     let table = g.N.Named.board.table in
     let config = g.N.Named.config in
-    let command = g.K.Kind.command c.args.kind in
+    let command = c.args.command.now in
     let key = key_of command in
     let turn = c.args.turn in
     let refused = c.args.refused in
@@ -80,7 +80,7 @@ returns-in_ok-ready_class-in-None-clause-tried g c =
     let for_home = ap (λ (n : ClassNo). Some n) (offers.class_is ∙ same_number table config was side met.sight side.class.room is) in
     let for_other = sym (ap number_in c.in-None.is) in
     let short = short_seen table config was side met.sight side.class.room is mid end.sight c.side.ensures.kept c.meet.ensures.told c.try_on_one.ensures.sees in
-    tried_on config g.K.Kind.command g.K.Kind.suits s end c.args.caller.now c.try_on_one.new.caller command turn given (side ∷ []) (new ∷ []) (Some was.class.number) (number_in c.args.other.now) _ for_home for_other
+    tried_on config s end c.args.caller.now c.try_on_one.new.caller command turn given (side ∷ []) (new ∷ []) (Some was.class.number) (number_in c.args.other.now) _ for_home for_other
     (λ room taken. taken_earned config s turn key side.class refused mid end.sight (heard_of table config was side met.sight side.class.room is mid c.meet.ensures.heard) c.try_on_one.ensures.sees
     (refused_of table config was side met.sight side.class.room is s turn key refused c.requires.refused) given (row_at s command turn.moment).need room offers taken)
     (λ stay lacks. (
@@ -90,7 +90,7 @@ returns-in_ok-ready_class-in-None-clause-tried g c =
     ))
     (λ stay class crowded. inr (short (crowded_home given key (item_of s command) turn.moment (row_at s command turn.moment) class crowded side.class refused turn.who refl offers)))
     c.try_on_one.result
-    (subst (λ (t : Stripe). IfOk c.try_on_one.result (IsTriedUnder g.K.Kind.command g.K.Kind.suits t end.stripe c.args.caller.now c.try_on_one.new.caller command turn given (side ∷ []) (new ∷ []))) same c.try_on_one.ensures.tried)
+    (subst (λ (t : Stripe). IfOk c.try_on_one.result (IsTriedUnder t end.stripe c.args.caller.now c.try_on_one.new.caller command turn given (side ∷ []) (new ∷ []))) same c.try_on_one.ensures.tried)
 
 pub returns-in_ok-ready_class-in-None-clause-sees : goal.returns-in_ok-ready_class-in-None-clause-sees
 returns-in_ok-ready_class-in-None-clause-sees g c = grows_trans c.args.own.now.sight c.meet.new.own.sight c.try_on_one.new.own.sight c.meet.ensures.grows c.try_on_one.ensures.sees
@@ -108,7 +108,7 @@ offer_home-requires-in-Some g c =
     let was = c.args.home.now in
     let side = c.ready_class-in-Some.new.class in
     let s = c.args.own.now.stripe in
-    let key = key_of (g.K.Kind.command c.args.kind) in
+    let key = key_of c.args.command.now in
     let is = readied was c.meet-in-Some.new.lent side c.meet-in-Some.ensures.lent c.ready_class-in-Some.ensures.same in
     let at : c.state-in-Some.result.now ≡ side.class = c.state-in-Some.ensures ∙ ap (λ (x : ClassSide). x.class) c.side-in-Some.ensures.value in
     record {
@@ -127,7 +127,7 @@ try_on_two-requires-clause-may g c =
     let side = c.ready_class-in-Some.new.class in
     let side_b = c.ready_class-in-Some-2.new.class in
     let own = c.meet-in-Some-2.new.own.stripe in
-    let key = key_of (g.K.Kind.command c.args.kind) in
+    let key = key_of c.args.command.now in
     let is = readied was c.meet-in-Some.new.lent side c.meet-in-Some.ensures.lent c.ready_class-in-Some.ensures.same in
     let is_b = readied beside c.meet-in-Some-2.new.lent side_b c.meet-in-Some-2.ensures.lent c.ready_class-in-Some-2.ensures.same in
     let at : c.state-in-Some.result.now ≡ side.class = c.state-in-Some.ensures ∙ ap (λ (x : ClassSide). x.class) c.side-in-Some.ensures.value in
@@ -178,7 +178,7 @@ pub returns-in_ok-ready_class-in-Some-2-clause-tried : goal.returns-in_ok-ready_
 returns-in_ok-ready_class-in-Some-2-clause-tried g c =
     let table = g.N.Named.board.table in
     let config = g.N.Named.config in
-    let command = g.K.Kind.command c.args.kind in
+    let command = c.args.command.now in
     let key = key_of command in
     let turn = c.args.turn in
     let refused = c.args.refused in
@@ -212,7 +212,7 @@ returns-in_ok-ready_class-in-Some-2-clause-tried g c =
     let later = grows_trans mid mid_b end.sight c.meet-in-Some-2.ensures.grows c.try_on_two.ensures.sees in
     let short = short_seen table config was side met.sight side.class.room is mid end.sight c.side-in-Some.ensures.kept c.meet-in-Some.ensures.told later in
     let short_b = short_seen table config beside side_b met_b.sight side_b.class.room is_b mid_b end.sight c.side-in-Some-2.ensures.kept c.meet-in-Some-2.ensures.told c.try_on_two.ensures.sees in
-    tried_on config g.K.Kind.command g.K.Kind.suits s end c.args.caller.now c.try_on_two.new.caller command turn given (side ∷ side_b ∷ []) (new ∷ new_b ∷ []) (Some was.class.number) (number_in c.args.other.now) _ for_home for_other
+    tried_on config s end c.args.caller.now c.try_on_two.new.caller command turn given (side ∷ side_b ∷ []) (new ∷ new_b ∷ []) (Some was.class.number) (number_in c.args.other.now) _ for_home for_other
     (λ room taken. taken_earned config s turn key side.class refused mid end.sight (heard_of table config was side met.sight side.class.room is mid c.meet-in-Some.ensures.heard) later
     (refused_of table config was side met.sight side.class.room is s turn key refused c.requires.refused) given (row_at s command turn.moment).need room offers taken)
     (λ stay lacks. (
@@ -222,7 +222,7 @@ returns-in_ok-ready_class-in-Some-2-clause-tried g c =
     ))
     (λ stay class crowded. inr (⊎_elim short short_b (crowded_both given key (item_of s command) turn.moment (row_at s command turn.moment) class crowded side.class side_b.class refused turn.who far offers offers_b)))
     c.try_on_two.result
-    (subst (λ (t : Stripe). IfOk c.try_on_two.result (IsTriedUnder g.K.Kind.command g.K.Kind.suits t end.stripe c.args.caller.now c.try_on_two.new.caller command turn given (side ∷ side_b ∷ []) (new ∷ new_b ∷ []))) same c.try_on_two.ensures.tried)
+    (subst (λ (t : Stripe). IfOk c.try_on_two.result (IsTriedUnder t end.stripe c.args.caller.now c.try_on_two.new.caller command turn given (side ∷ side_b ∷ []) (new ∷ new_b ∷ []))) same c.try_on_two.ensures.tried)
 
 pub returns-in_ok-ready_class-in-Some-2-clause-sees : goal.returns-in_ok-ready_class-in-Some-2-clause-sees
 returns-in_ok-ready_class-in-Some-2-clause-sees g c =

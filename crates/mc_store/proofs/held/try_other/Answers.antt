@@ -22,7 +22,7 @@ pub returns-clause-tried : goal.returns-clause-tried
 returns-clause-tried g c =
     let table = g.N.Named.board.table in
     let config = g.N.Named.config in
-    let command = g.K.Kind.command c.args.kind in
+    let command = c.args.command.now in
     let turn = c.args.turn in
     let s = c.args.own.now.stripe in
     let was = c.args.other.now in
@@ -35,13 +35,13 @@ returns-clause-tried g c =
     let offers = subst (λ (v : ClassView). OffersOther v offer) at c.offer_other.ensures in
     let is = readied was met side c.meet.ensures.lent c.ready_class.ensures.same in
     let same = ap (λ (x : StripeSide). x.stripe) c.meet.ensures.own in
-    tried_on config g.K.Kind.command g.K.Kind.suits s end c.args.caller.now c.try_on_one.new.caller command turn given (side ∷ []) (c.try_on_one.new.class ∷ []) None (Some was.class.number) ⊥ refl (ap (λ (n : ClassNo). Some n) (offers.class_is ∙ same_number table config was side met.sight side.class.room is))
+    tried_on config s end c.args.caller.now c.try_on_one.new.caller command turn given (side ∷ []) (c.try_on_one.new.class ∷ []) None (Some was.class.number) ⊥ refl (ap (λ (n : ClassNo). Some n) (offers.class_is ∙ same_number table config was side met.sight side.class.room is))
     (λ room taken. none_earned config s turn (key_of command) end.sight given (row_at s command turn.moment).need room refl taken)
     (λ stay lacks. absurd lacks.none)
     (λ stay class crowded. inr (short_seen table config was side met.sight side.class.room is c.meet.new.own.sight end.sight c.side.ensures.kept c.meet.ensures.told c.try_on_one.ensures.sees
     (crowded_other given (key_of command) (item_of s command) turn.moment (row_at s command turn.moment) class crowded side.class refl offers)))
     c.try_on_one.result
-    (subst (λ (t : Stripe). IfOk c.try_on_one.result (IsTriedUnder g.K.Kind.command g.K.Kind.suits t end.stripe c.args.caller.now c.try_on_one.new.caller command turn given (side ∷ []) (c.try_on_one.new.class ∷ []))) same c.try_on_one.ensures.tried)
+    (subst (λ (t : Stripe). IfOk c.try_on_one.result (IsTriedUnder t end.stripe c.args.caller.now c.try_on_one.new.caller command turn given (side ∷ []) (c.try_on_one.new.class ∷ []))) same c.try_on_one.ensures.tried)
 
 pub returns-clause-sees : goal.returns-clause-sees
 returns-clause-sees g c = grows_trans c.args.own.now.sight c.meet.new.own.sight c.try_on_one.new.own.sight c.meet.ensures.grows c.try_on_one.ensures.sees

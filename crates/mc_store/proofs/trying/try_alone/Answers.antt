@@ -21,10 +21,8 @@ pub put_if-requires-clause-behind : goal.put_if-requires-clause-behind
 put_if-requires-clause-behind g c =
     let table = g.N.Named.board.table in
     let config = g.N.Named.config in
-    let command = g.K.Kind.command in
-    let suits = g.K.Kind.suits in
     let turn = c.args.turn in
-    let asked_is = command c.args.kind in
+    let asked_is = c.args.command.now in
     let given : Given = record { home = None; other = None } in
     let raw = c.own-inside.inside.0.0 in
     let tr = c.attempt_none-tried in
@@ -32,19 +30,17 @@ put_if-requires-clause-behind g c =
     let was : IsLockedStripe table config (stripe_side raw.owner raw.seen raw.state) = subst (IsLockedStripe table config) (sym own_is) c.own.invariant in
     let tried = tr.ensures.tried config was.made_with in
     let r = result_of tr.result in
-    let cl = call_at command suits config raw.state tr.new.stripe asked_is turn given [] [] tr.result tried in
-    let made = performed_at command suits config raw.state tr.new.stripe asked_is turn given [] [] tr.result tried in
-    let err = untouched_at command suits config raw.state tr.new.stripe asked_is turn given [] [] tr.result tried tr.ensures.err in
+    let cl = call_at config raw.state tr.new.stripe asked_is turn given [] [] tr.result tried in
+    let made = performed_at config raw.state tr.new.stripe asked_is turn given [] [] tr.result tried in
+    let err = untouched_at config raw.state tr.new.stripe asked_is turn given [] [] tr.result tried tr.ensures.err in
     own_behind raw.state tr.new.stripe cl [] [] raw.owner.history c.own-inside.invariant.0 r made err
 
 pub invariant_of-own : goal.invariant_of-own
 invariant_of-own g c =
     let table = g.N.Named.board.table in
     let config = g.N.Named.config in
-    let command = g.K.Kind.command in
-    let suits = g.K.Kind.suits in
     let turn = c.args.turn in
-    let asked_is = command c.args.kind in
+    let asked_is = c.args.command.now in
     let given : Given = record { home = None; other = None } in
     let raw = c.own-inside.inside.0.0 in
     let tr = c.attempt_none-tried in
@@ -52,9 +48,9 @@ invariant_of-own g c =
     let was : IsLockedStripe table config (stripe_side raw.owner raw.seen raw.state) = subst (IsLockedStripe table config) (sym own_is) c.own.invariant in
     let tried = tr.ensures.tried config was.made_with in
     let r = result_of tr.result in
-    let cl = call_at command suits config raw.state tr.new.stripe asked_is turn given [] [] tr.result tried in
-    let made = performed_at command suits config raw.state tr.new.stripe asked_is turn given [] [] tr.result tried in
-    let err = untouched_at command suits config raw.state tr.new.stripe asked_is turn given [] [] tr.result tried tr.ensures.err in
+    let cl = call_at config raw.state tr.new.stripe asked_is turn given [] [] tr.result tried in
+    let made = performed_at config raw.state tr.new.stripe asked_is turn given [] [] tr.result tried in
+    let err = untouched_at config raw.state tr.new.stripe asked_is turn given [] [] tr.result tried tr.ensures.err in
     let put = c.put_if in
     let caller = c.args.caller.now in
     let on = λ (P : Type 0) (f : c.is_made.result ≡ true → P). when P tr.result (λ yes. f (c.is_made.ensures ∙ yes)) in
@@ -66,17 +62,15 @@ invariant_of-own g c =
     (on (put.new.caller ≡ record caller { calls = caller.calls ++ answered_at tr.new.stripe.site.stripe c.events-place.result ∷ [] }) put.ensures.noted) was.called in
     subst (IsLockedStripe table config) (sym (ap (λ (o : OwnerView). stripe_side o put.new.seen tr.new.stripe) put.ensures.owner))
     (alone_end table config (stripe_side raw.owner put.new.seen raw.state) kept tr.new.stripe cl tr.ensures.site c.history.ensures.legal called
-    (refused_at command suits config raw.state tr.new.stripe asked_is turn given [] [] None record { home = tt; other = tt; each = tt } tr.result tried)
-    (seen_at command suits config raw.state tr.new.stripe asked_is turn given [] [] tr.ensures.site tr.result tried tr.ensures.err))
+    (refused_at config raw.state tr.new.stripe asked_is turn given [] [] None record { home = tt; other = tt; each = tt } tr.result tried)
+    (seen_at config raw.state tr.new.stripe asked_is turn given [] [] tr.ensures.site tr.result tried tr.ensures.err))
 
 pub returns-clause-tried : goal.returns-clause-tried
 returns-clause-tried g c =
     let table = g.N.Named.board.table in
     let config = g.N.Named.config in
-    let command = g.K.Kind.command in
-    let suits = g.K.Kind.suits in
     let turn = c.args.turn in
-    let asked_is = command c.args.kind in
+    let asked_is = c.args.command.now in
     let given : Given = record { home = None; other = None } in
     let raw = c.own-inside.inside.0.0 in
     let tr = c.attempt_none-tried in
@@ -84,14 +78,14 @@ returns-clause-tried g c =
     let was : IsLockedStripe table config (stripe_side raw.owner raw.seen raw.state) = subst (IsLockedStripe table config) (sym own_is) c.own.invariant in
     let tried = tr.ensures.tried config was.made_with in
     let r = result_of tr.result in
-    let cl = call_at command suits config raw.state tr.new.stripe asked_is turn given [] [] tr.result tried in
-    let made = performed_at command suits config raw.state tr.new.stripe asked_is turn given [] [] tr.result tried in
-    let err = untouched_at command suits config raw.state tr.new.stripe asked_is turn given [] [] tr.result tried tr.ensures.err in
+    let cl = call_at config raw.state tr.new.stripe asked_is turn given [] [] tr.result tried in
+    let made = performed_at config raw.state tr.new.stripe asked_is turn given [] [] tr.result tried in
+    let err = untouched_at config raw.state tr.new.stripe asked_is turn given [] [] tr.result tried tr.ensures.err in
     let put = c.put_if in
     let caller = c.args.caller.now in
     let place : c.events-place.result ≡ length raw.state.history = c.events-place.ensures ∙ sym (ap (λ (x : StripeSide). length x.stripe.history) own_is) in
-    subst (λ (x : StripeSide). IfOk tr.result (IsTriedUnder command suits x.stripe tr.new.stripe caller put.new.caller asked_is turn given [] [])) (own_is ∙ c.own.view_is)
-    (under_tried command suits config raw.state tr.new.stripe asked_is turn given [] [] caller put.new.caller [] [] tr.result tried
+    subst (λ (x : StripeSide). IfOk tr.result (IsTriedUnder x.stripe tr.new.stripe caller put.new.caller asked_is turn given [] [])) (own_is ∙ c.own.view_is)
+    (under_tried config raw.state tr.new.stripe asked_is turn given [] [] caller put.new.caller [] [] tr.result tried
     (λ yes. put.ensures.noted (c.is_made.ensures ∙ yes)
     ∙ ap (λ (t : Site). record caller { calls = caller.calls ++ answered_at t.stripe c.events-place.result ∷ [] }) tr.ensures.site.site
     ∙ ap (λ (n : ℕ). record caller { calls = caller.calls ++ answered_at raw.state.site.stripe n ∷ [] }) place)

@@ -26,10 +26,8 @@ pub put_if-requires-clause-behind : goal.put_if-requires-clause-behind
 put_if-requires-clause-behind g c =
     let table = g.N.Named.board.table in
     let config = g.N.Named.config in
-    let command = g.K.Kind.command in
-    let suits = g.K.Kind.suits in
     let turn = c.args.turn in
-    let asked_is = command c.args.kind in
+    let asked_is = c.args.command.now in
     let raw = c.own-inside.inside.0.0 in
     let raw_of = c.class-inside.inside.0.0 in
     let tr = c.attempt_one-tried in
@@ -40,19 +38,17 @@ put_if-requires-clause-behind g c =
     let was_of : IsLockedClass table config (class_side raw_of.owner raw_of.seen raw_of.state) = subst (IsLockedClass table config) (sym class_is) c.class.invariant in
     let tried = tr.ensures.tried config was.made_with was_of.held.made_with in
     let r = result_of tr.result in
-    let cl = call_at command suits config raw.state tr.new.stripe asked_is turn c.args.given (raw_of.state ∷ []) (w ∷ []) tr.result tried in
-    let made = performed_at command suits config raw.state tr.new.stripe asked_is turn c.args.given (raw_of.state ∷ []) (w ∷ []) tr.result tried in
-    let err = untouched_at command suits config raw.state tr.new.stripe asked_is turn c.args.given (raw_of.state ∷ []) (w ∷ []) tr.result tried tr.ensures.err in
+    let cl = call_at config raw.state tr.new.stripe asked_is turn c.args.given (raw_of.state ∷ []) (w ∷ []) tr.result tried in
+    let made = performed_at config raw.state tr.new.stripe asked_is turn c.args.given (raw_of.state ∷ []) (w ∷ []) tr.result tried in
+    let err = untouched_at config raw.state tr.new.stripe asked_is turn c.args.given (raw_of.state ∷ []) (w ∷ []) tr.result tried tr.ensures.err in
     own_behind raw.state tr.new.stripe cl (raw_of.state ∷ []) (w ∷ []) raw.owner.history c.own-inside.invariant.0 r made err
 
 pub catch_up_class-requires-clause-behind : goal.catch_up_class-requires-clause-behind
 catch_up_class-requires-clause-behind g c =
     let table = g.N.Named.board.table in
     let config = g.N.Named.config in
-    let command = g.K.Kind.command in
-    let suits = g.K.Kind.suits in
     let turn = c.args.turn in
-    let asked_is = command c.args.kind in
+    let asked_is = c.args.command.now in
     let raw = c.own-inside.inside.0.0 in
     let raw_of = c.class-inside.inside.0.0 in
     let tr = c.attempt_one-tried in
@@ -63,9 +59,9 @@ catch_up_class-requires-clause-behind g c =
     let was_of : IsLockedClass table config (class_side raw_of.owner raw_of.seen raw_of.state) = subst (IsLockedClass table config) (sym class_is) c.class.invariant in
     let tried = tr.ensures.tried config was.made_with was_of.held.made_with in
     let r = result_of tr.result in
-    let cl = call_at command suits config raw.state tr.new.stripe asked_is turn c.args.given (raw_of.state ∷ []) (w ∷ []) tr.result tried in
-    let made = performed_at command suits config raw.state tr.new.stripe asked_is turn c.args.given (raw_of.state ∷ []) (w ∷ []) tr.result tried in
-    let err = untouched_at command suits config raw.state tr.new.stripe asked_is turn c.args.given (raw_of.state ∷ []) (w ∷ []) tr.result tried tr.ensures.err in
+    let cl = call_at config raw.state tr.new.stripe asked_is turn c.args.given (raw_of.state ∷ []) (w ∷ []) tr.result tried in
+    let made = performed_at config raw.state tr.new.stripe asked_is turn c.args.given (raw_of.state ∷ []) (w ∷ []) tr.result tried in
+    let err = untouched_at config raw.state tr.new.stripe asked_is turn c.args.given (raw_of.state ∷ []) (w ∷ []) tr.result tried tr.ensures.err in
     let grows = lent_grow raw.state tr.new.stripe cl (raw_of.state ∷ []) (w ∷ []) r made err in
     class_behind raw_of.owner.history raw_of.state w c.class-inside.invariant.0 grows.0
 
@@ -73,10 +69,8 @@ pub invariant_of-own : goal.invariant_of-own
 invariant_of-own g c =
     let table = g.N.Named.board.table in
     let config = g.N.Named.config in
-    let command = g.K.Kind.command in
-    let suits = g.K.Kind.suits in
     let turn = c.args.turn in
-    let asked_is = command c.args.kind in
+    let asked_is = c.args.command.now in
     let raw = c.own-inside.inside.0.0 in
     let raw_of = c.class-inside.inside.0.0 in
     let tr = c.attempt_one-tried in
@@ -87,9 +81,9 @@ invariant_of-own g c =
     let was_of : IsLockedClass table config (class_side raw_of.owner raw_of.seen raw_of.state) = subst (IsLockedClass table config) (sym class_is) c.class.invariant in
     let tried = tr.ensures.tried config was.made_with was_of.held.made_with in
     let r = result_of tr.result in
-    let cl = call_at command suits config raw.state tr.new.stripe asked_is turn c.args.given (raw_of.state ∷ []) (w ∷ []) tr.result tried in
-    let made = performed_at command suits config raw.state tr.new.stripe asked_is turn c.args.given (raw_of.state ∷ []) (w ∷ []) tr.result tried in
-    let err = untouched_at command suits config raw.state tr.new.stripe asked_is turn c.args.given (raw_of.state ∷ []) (w ∷ []) tr.result tried tr.ensures.err in
+    let cl = call_at config raw.state tr.new.stripe asked_is turn c.args.given (raw_of.state ∷ []) (w ∷ []) tr.result tried in
+    let made = performed_at config raw.state tr.new.stripe asked_is turn c.args.given (raw_of.state ∷ []) (w ∷ []) tr.result tried in
+    let err = untouched_at config raw.state tr.new.stripe asked_is turn c.args.given (raw_of.state ∷ []) (w ∷ []) tr.result tried tr.ensures.err in
     let grows = lent_grow raw.state tr.new.stripe cl (raw_of.state ∷ []) (w ∷ []) r made err in
     let put = c.put_if in
     let caller = c.args.caller.now in
@@ -99,25 +93,23 @@ invariant_of-own g c =
     let called = called_performed config raw.state tr.new.stripe cl (raw_of.state ∷ []) (w ∷ []) raw.seen.sight put.new.seen.sight caller put.new.caller c.events-place.result
     c.requires.asked place tr.ensures.site put.ensures.grows r made err (on (caller.number < config.callers) put.ensures.of)
     (on (list_at put.new.seen.sight.seen (caller_place config caller.number) ≡ calls_told put.new.caller.calls) put.ensures.told) noted in
-    let kept = kept_at command suits config raw.state tr.new.stripe asked_is turn c.args.given (raw_of.state ∷ []) (w ∷ []) tr.ensures.site tr.result tried tr.ensures.err in
-    let seen = seen_at command suits config raw.state tr.new.stripe asked_is turn c.args.given (raw_of.state ∷ []) (w ∷ []) tr.ensures.site tr.result tried tr.ensures.err in
+    let kept = kept_at config raw.state tr.new.stripe asked_is turn c.args.given (raw_of.state ∷ []) (w ∷ []) tr.ensures.site tr.result tried tr.ensures.err in
+    let seen = seen_at config raw.state tr.new.stripe asked_is turn c.args.given (raw_of.state ∷ []) (w ∷ []) tr.ensures.site tr.result tried tr.ensures.err in
     one_stripe table config cl raw.state tr.new.stripe raw_of.state w
     raw.owner put.new.owner raw.seen put.new.seen c.own.inside.side c.hear.new.self c.hear-2.new.stripe own_is c.own.invariant put.ensures.owner put.ensures.grows called
     raw_of.owner c.catch_up_class.new.owner raw_of.seen c.class.inside.side c.hear.new.class class_is c.class.invariant.held c.catch_up_class.ensures c.hear.ensures.class
     c.hear.ensures.told c.hear.ensures.grows c.hear-2.ensures.stripe tr.ensures.site c.history.ensures.legal grows
     c.args.class.now c.class.view_is c.args.own.now c.own.view_is c.requires.may.met.0 kept seen
     (subst (λ (v : ClassView). IsRefusedIn cl.room (v ∷ [])) (ap (λ (x : ClassSide). x.class) (class_is ∙ c.class.view_is))
-    (refused_at command suits config raw.state tr.new.stripe asked_is turn c.args.given (raw_of.state ∷ []) (w ∷ []) c.requires.may.refused
+    (refused_at config raw.state tr.new.stripe asked_is turn c.args.given (raw_of.state ∷ []) (w ∷ []) c.requires.may.refused
     (subst (λ (x : ClassSide). IsOffered c.args.given c.requires.may.refused turn.who (x.class ∷ [])) (sym (class_is ∙ c.class.view_is)) c.requires.may.offered) tr.result tried))
 
 pub invariant_of-class : goal.invariant_of-class
 invariant_of-class g c =
     let table = g.N.Named.board.table in
     let config = g.N.Named.config in
-    let command = g.K.Kind.command in
-    let suits = g.K.Kind.suits in
     let turn = c.args.turn in
-    let asked_is = command c.args.kind in
+    let asked_is = c.args.command.now in
     let raw = c.own-inside.inside.0.0 in
     let raw_of = c.class-inside.inside.0.0 in
     let tr = c.attempt_one-tried in
@@ -128,9 +120,9 @@ invariant_of-class g c =
     let was_of : IsLockedClass table config (class_side raw_of.owner raw_of.seen raw_of.state) = subst (IsLockedClass table config) (sym class_is) c.class.invariant in
     let tried = tr.ensures.tried config was.made_with was_of.held.made_with in
     let r = result_of tr.result in
-    let cl = call_at command suits config raw.state tr.new.stripe asked_is turn c.args.given (raw_of.state ∷ []) (w ∷ []) tr.result tried in
-    let made = performed_at command suits config raw.state tr.new.stripe asked_is turn c.args.given (raw_of.state ∷ []) (w ∷ []) tr.result tried in
-    let err = untouched_at command suits config raw.state tr.new.stripe asked_is turn c.args.given (raw_of.state ∷ []) (w ∷ []) tr.result tried tr.ensures.err in
+    let cl = call_at config raw.state tr.new.stripe asked_is turn c.args.given (raw_of.state ∷ []) (w ∷ []) tr.result tried in
+    let made = performed_at config raw.state tr.new.stripe asked_is turn c.args.given (raw_of.state ∷ []) (w ∷ []) tr.result tried in
+    let err = untouched_at config raw.state tr.new.stripe asked_is turn c.args.given (raw_of.state ∷ []) (w ∷ []) tr.result tried tr.ensures.err in
     let grows = lent_grow raw.state tr.new.stripe cl (raw_of.state ∷ []) (w ∷ []) r made err in
     let put = c.put_if in
     let caller = c.args.caller.now in
@@ -140,8 +132,8 @@ invariant_of-class g c =
     let called = called_performed config raw.state tr.new.stripe cl (raw_of.state ∷ []) (w ∷ []) raw.seen.sight put.new.seen.sight caller put.new.caller c.events-place.result
     c.requires.asked place tr.ensures.site put.ensures.grows r made err (on (caller.number < config.callers) put.ensures.of)
     (on (list_at put.new.seen.sight.seen (caller_place config caller.number) ≡ calls_told put.new.caller.calls) put.ensures.told) noted in
-    let kept = kept_at command suits config raw.state tr.new.stripe asked_is turn c.args.given (raw_of.state ∷ []) (w ∷ []) tr.ensures.site tr.result tried tr.ensures.err in
-    let seen = seen_at command suits config raw.state tr.new.stripe asked_is turn c.args.given (raw_of.state ∷ []) (w ∷ []) tr.ensures.site tr.result tried tr.ensures.err in
+    let kept = kept_at config raw.state tr.new.stripe asked_is turn c.args.given (raw_of.state ∷ []) (w ∷ []) tr.ensures.site tr.result tried tr.ensures.err in
+    let seen = seen_at config raw.state tr.new.stripe asked_is turn c.args.given (raw_of.state ∷ []) (w ∷ []) tr.ensures.site tr.result tried tr.ensures.err in
     let held = one_class table config cl raw.state tr.new.stripe raw_of.state w
     raw.owner put.new.owner raw.seen put.new.seen c.own.inside.side c.hear.new.self c.hear-2.new.stripe own_is c.own.invariant put.ensures.owner put.ensures.grows called
     raw_of.owner c.catch_up_class.new.owner raw_of.seen c.class.inside.side c.hear.new.class class_is c.class.invariant.held c.catch_up_class.ensures c.hear.ensures.class
@@ -163,10 +155,8 @@ pub returns-clause-full : goal.returns-clause-full
 returns-clause-full g c = λ full.
     let table = g.N.Named.board.table in
     let config = g.N.Named.config in
-    let command = g.K.Kind.command in
-    let suits = g.K.Kind.suits in
     let turn = c.args.turn in
-    let asked_is = command c.args.kind in
+    let asked_is = c.args.command.now in
     let raw = c.own-inside.inside.0.0 in
     let raw_of = c.class-inside.inside.0.0 in
     let tr = c.attempt_one-tried in
@@ -177,9 +167,9 @@ returns-clause-full g c = λ full.
     let was_of : IsLockedClass table config (class_side raw_of.owner raw_of.seen raw_of.state) = subst (IsLockedClass table config) (sym class_is) c.class.invariant in
     let tried = tr.ensures.tried config was.made_with was_of.held.made_with in
     let r = result_of tr.result in
-    let cl = call_at command suits config raw.state tr.new.stripe asked_is turn c.args.given (raw_of.state ∷ []) (w ∷ []) tr.result tried in
-    let made = performed_at command suits config raw.state tr.new.stripe asked_is turn c.args.given (raw_of.state ∷ []) (w ∷ []) tr.result tried in
-    let err = untouched_at command suits config raw.state tr.new.stripe asked_is turn c.args.given (raw_of.state ∷ []) (w ∷ []) tr.result tried tr.ensures.err in
+    let cl = call_at config raw.state tr.new.stripe asked_is turn c.args.given (raw_of.state ∷ []) (w ∷ []) tr.result tried in
+    let made = performed_at config raw.state tr.new.stripe asked_is turn c.args.given (raw_of.state ∷ []) (w ∷ []) tr.result tried in
+    let err = untouched_at config raw.state tr.new.stripe asked_is turn c.args.given (raw_of.state ∷ []) (w ∷ []) tr.result tried tr.ensures.err in
     let grows = lent_grow raw.state tr.new.stripe cl (raw_of.state ∷ []) (w ∷ []) r made err in
     let put = c.put_if in
     let caller = c.args.caller.now in
@@ -193,7 +183,7 @@ returns-clause-full g c = λ full.
     raw.owner put.new.owner raw.seen put.new.seen c.own.inside.side c.hear.new.self c.hear-2.new.stripe own_is c.own.invariant put.ensures.owner put.ensures.grows called
     raw_of.owner c.catch_up_class.new.owner raw_of.seen c.class.inside.side c.hear.new.class class_is c.class.invariant.held c.catch_up_class.ensures c.hear.ensures.class
     c.hear.ensures.told c.hear.ensures.grows c.hear-2.ensures.stripe tr.ensures.site c.history.ensures.legal grows
-    r err (refusal_at command suits config raw.state tr.new.stripe asked_is turn c.args.given (raw_of.state ∷ []) (w ∷ []) tr.result tried
+    r err (refusal_at config raw.state tr.new.stripe asked_is turn c.args.given (raw_of.state ∷ []) (w ∷ []) tr.result tried
     tr.ensures.refusal)
     (ap result_of full)
 
@@ -201,10 +191,8 @@ pub returns-clause-tried : goal.returns-clause-tried
 returns-clause-tried g c =
     let table = g.N.Named.board.table in
     let config = g.N.Named.config in
-    let command = g.K.Kind.command in
-    let suits = g.K.Kind.suits in
     let turn = c.args.turn in
-    let asked_is = command c.args.kind in
+    let asked_is = c.args.command.now in
     let raw = c.own-inside.inside.0.0 in
     let raw_of = c.class-inside.inside.0.0 in
     let tr = c.attempt_one-tried in
@@ -215,19 +203,19 @@ returns-clause-tried g c =
     let was_of : IsLockedClass table config (class_side raw_of.owner raw_of.seen raw_of.state) = subst (IsLockedClass table config) (sym class_is) c.class.invariant in
     let tried = tr.ensures.tried config was.made_with was_of.held.made_with in
     let r = result_of tr.result in
-    let cl = call_at command suits config raw.state tr.new.stripe asked_is turn c.args.given (raw_of.state ∷ []) (w ∷ []) tr.result tried in
-    let made = performed_at command suits config raw.state tr.new.stripe asked_is turn c.args.given (raw_of.state ∷ []) (w ∷ []) tr.result tried in
-    let err = untouched_at command suits config raw.state tr.new.stripe asked_is turn c.args.given (raw_of.state ∷ []) (w ∷ []) tr.result tried tr.ensures.err in
+    let cl = call_at config raw.state tr.new.stripe asked_is turn c.args.given (raw_of.state ∷ []) (w ∷ []) tr.result tried in
+    let made = performed_at config raw.state tr.new.stripe asked_is turn c.args.given (raw_of.state ∷ []) (w ∷ []) tr.result tried in
+    let err = untouched_at config raw.state tr.new.stripe asked_is turn c.args.given (raw_of.state ∷ []) (w ∷ []) tr.result tried tr.ensures.err in
     let put = c.put_if in
     let caller = c.args.caller.now in
     let place : c.events-place.result ≡ length raw.state.history = c.events-place.ensures ∙ sym (ap (λ (x : StripeSide). length x.stripe.history) own_is) in
     let told : c.tell_owned.new.class.class ≡ w = ap (λ (x : ClassSide). x.class) c.tell_owned.ensures.class ∙ ap (λ (x : ClassSide). x.class) c.hear-2.ensures.told ∙ ap (λ (x : ClassSide). x.class) c.hear.ensures.class in
     let of : raw_of.state ≡ c.args.class.now.class = ap (λ (x : ClassSide). x.class) (class_is ∙ c.class.view_is) in
     let now_is : c.hear-2.new.stripe.stripe ≡ tr.new.stripe = ap (λ (x : StripeSide). x.stripe) (c.hear-2.ensures.stripe ∙ c.hear.ensures.told) in
-    subst (λ (k : CallerView). IfOk tr.result (IsTriedUnder command suits c.args.own.now.stripe c.hear-2.new.stripe.stripe caller k asked_is turn c.args.given (c.args.class.now ∷ []) (c.tell_owned.new.class ∷ []))) (sym c.tell_owned.ensures.same)
-    (subst (λ (y : Stripe). IfOk tr.result (IsTriedUnder command suits c.args.own.now.stripe y caller put.new.caller asked_is turn c.args.given (c.args.class.now ∷ []) (c.tell_owned.new.class ∷ []))) (sym now_is)
-    (subst (λ (x : StripeSide). IfOk tr.result (IsTriedUnder command suits x.stripe tr.new.stripe caller put.new.caller asked_is turn c.args.given (c.args.class.now ∷ []) (c.tell_owned.new.class ∷ []))) (own_is ∙ c.own.view_is)
-    (under_tried command suits config raw.state tr.new.stripe asked_is turn c.args.given (raw_of.state ∷ []) (w ∷ []) caller put.new.caller (c.args.class.now ∷ []) (c.tell_owned.new.class ∷ []) tr.result tried
+    subst (λ (k : CallerView). IfOk tr.result (IsTriedUnder c.args.own.now.stripe c.hear-2.new.stripe.stripe caller k asked_is turn c.args.given (c.args.class.now ∷ []) (c.tell_owned.new.class ∷ []))) (sym c.tell_owned.ensures.same)
+    (subst (λ (y : Stripe). IfOk tr.result (IsTriedUnder c.args.own.now.stripe y caller put.new.caller asked_is turn c.args.given (c.args.class.now ∷ []) (c.tell_owned.new.class ∷ []))) (sym now_is)
+    (subst (λ (x : StripeSide). IfOk tr.result (IsTriedUnder x.stripe tr.new.stripe caller put.new.caller asked_is turn c.args.given (c.args.class.now ∷ []) (c.tell_owned.new.class ∷ []))) (own_is ∙ c.own.view_is)
+    (under_tried config raw.state tr.new.stripe asked_is turn c.args.given (raw_of.state ∷ []) (w ∷ []) caller put.new.caller (c.args.class.now ∷ []) (c.tell_owned.new.class ∷ []) tr.result tried
     (λ yes. put.ensures.noted (c.is_made.ensures ∙ yes)
     ∙ ap (λ (t : Site). record caller { calls = caller.calls ++ answered_at t.stripe c.events-place.result ∷ [] }) tr.ensures.site.site
     ∙ ap (λ (n : ℕ). record caller { calls = caller.calls ++ answered_at raw.state.site.stripe n ∷ [] }) place)

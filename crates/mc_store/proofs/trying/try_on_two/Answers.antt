@@ -26,10 +26,8 @@ pub put_if-requires-clause-behind : goal.put_if-requires-clause-behind
 put_if-requires-clause-behind g c =
     let table = g.N.Named.board.table in
     let config = g.N.Named.config in
-    let command = g.K.Kind.command in
-    let suits = g.K.Kind.suits in
     let turn = c.args.turn in
-    let asked_is = command c.args.kind in
+    let asked_is = c.args.command.now in
     let raw = c.own-inside.inside.0.0 in
     let raw_home = c.home-inside.inside.0.0 in
     let raw_other = c.other-inside.inside.0.0 in
@@ -46,19 +44,17 @@ put_if-requires-clause-behind g c =
     let was_other : IsLockedClass table config (class_side raw_other.owner raw_other.seen raw_other.state) = subst (IsLockedClass table config) (sym other_is) c.other.invariant in
     let tried = tr.ensures.tried config was.made_with was_home.held.made_with was_other.held.made_with in
     let r = result_of tr.result in
-    let cl = call_at command suits config raw.state tr.new.stripe asked_is turn c.args.given vs ws tr.result tried in
-    let made = performed_at command suits config raw.state tr.new.stripe asked_is turn c.args.given vs ws tr.result tried in
-    let err = untouched_at command suits config raw.state tr.new.stripe asked_is turn c.args.given vs ws tr.result tried tr.ensures.err in
+    let cl = call_at config raw.state tr.new.stripe asked_is turn c.args.given vs ws tr.result tried in
+    let made = performed_at config raw.state tr.new.stripe asked_is turn c.args.given vs ws tr.result tried in
+    let err = untouched_at config raw.state tr.new.stripe asked_is turn c.args.given vs ws tr.result tried tr.ensures.err in
     own_behind raw.state tr.new.stripe cl vs ws raw.owner.history c.own-inside.invariant.0 r made err
 
 pub catch_up_class-requires-clause-behind : goal.catch_up_class-requires-clause-behind
 catch_up_class-requires-clause-behind g c =
     let table = g.N.Named.board.table in
     let config = g.N.Named.config in
-    let command = g.K.Kind.command in
-    let suits = g.K.Kind.suits in
     let turn = c.args.turn in
-    let asked_is = command c.args.kind in
+    let asked_is = c.args.command.now in
     let raw = c.own-inside.inside.0.0 in
     let raw_home = c.home-inside.inside.0.0 in
     let raw_other = c.other-inside.inside.0.0 in
@@ -75,9 +71,9 @@ catch_up_class-requires-clause-behind g c =
     let was_other : IsLockedClass table config (class_side raw_other.owner raw_other.seen raw_other.state) = subst (IsLockedClass table config) (sym other_is) c.other.invariant in
     let tried = tr.ensures.tried config was.made_with was_home.held.made_with was_other.held.made_with in
     let r = result_of tr.result in
-    let cl = call_at command suits config raw.state tr.new.stripe asked_is turn c.args.given vs ws tr.result tried in
-    let made = performed_at command suits config raw.state tr.new.stripe asked_is turn c.args.given vs ws tr.result tried in
-    let err = untouched_at command suits config raw.state tr.new.stripe asked_is turn c.args.given vs ws tr.result tried tr.ensures.err in
+    let cl = call_at config raw.state tr.new.stripe asked_is turn c.args.given vs ws tr.result tried in
+    let made = performed_at config raw.state tr.new.stripe asked_is turn c.args.given vs ws tr.result tried in
+    let err = untouched_at config raw.state tr.new.stripe asked_is turn c.args.given vs ws tr.result tried tr.ensures.err in
     let grows = lent_grow raw.state tr.new.stripe cl vs ws r made err in
     class_behind raw_home.owner.history raw_home.state v c.home-inside.invariant.0 grows.0
 
@@ -85,10 +81,8 @@ pub catch_up_class-requires-2-clause-behind : goal.catch_up_class-requires-2-cla
 catch_up_class-requires-2-clause-behind g c =
     let table = g.N.Named.board.table in
     let config = g.N.Named.config in
-    let command = g.K.Kind.command in
-    let suits = g.K.Kind.suits in
     let turn = c.args.turn in
-    let asked_is = command c.args.kind in
+    let asked_is = c.args.command.now in
     let raw = c.own-inside.inside.0.0 in
     let raw_home = c.home-inside.inside.0.0 in
     let raw_other = c.other-inside.inside.0.0 in
@@ -105,9 +99,9 @@ catch_up_class-requires-2-clause-behind g c =
     let was_other : IsLockedClass table config (class_side raw_other.owner raw_other.seen raw_other.state) = subst (IsLockedClass table config) (sym other_is) c.other.invariant in
     let tried = tr.ensures.tried config was.made_with was_home.held.made_with was_other.held.made_with in
     let r = result_of tr.result in
-    let cl = call_at command suits config raw.state tr.new.stripe asked_is turn c.args.given vs ws tr.result tried in
-    let made = performed_at command suits config raw.state tr.new.stripe asked_is turn c.args.given vs ws tr.result tried in
-    let err = untouched_at command suits config raw.state tr.new.stripe asked_is turn c.args.given vs ws tr.result tried tr.ensures.err in
+    let cl = call_at config raw.state tr.new.stripe asked_is turn c.args.given vs ws tr.result tried in
+    let made = performed_at config raw.state tr.new.stripe asked_is turn c.args.given vs ws tr.result tried in
+    let err = untouched_at config raw.state tr.new.stripe asked_is turn c.args.given vs ws tr.result tried tr.ensures.err in
     let grows = lent_grow raw.state tr.new.stripe cl vs ws r made err in
     class_behind raw_other.owner.history raw_other.state w c.other-inside.invariant.0 grows.1.0
 
@@ -115,10 +109,8 @@ pub invariant_of-own : goal.invariant_of-own
 invariant_of-own g c =
     let table = g.N.Named.board.table in
     let config = g.N.Named.config in
-    let command = g.K.Kind.command in
-    let suits = g.K.Kind.suits in
     let turn = c.args.turn in
-    let asked_is = command c.args.kind in
+    let asked_is = c.args.command.now in
     let raw = c.own-inside.inside.0.0 in
     let raw_home = c.home-inside.inside.0.0 in
     let raw_other = c.other-inside.inside.0.0 in
@@ -135,9 +127,9 @@ invariant_of-own g c =
     let was_other : IsLockedClass table config (class_side raw_other.owner raw_other.seen raw_other.state) = subst (IsLockedClass table config) (sym other_is) c.other.invariant in
     let tried = tr.ensures.tried config was.made_with was_home.held.made_with was_other.held.made_with in
     let r = result_of tr.result in
-    let cl = call_at command suits config raw.state tr.new.stripe asked_is turn c.args.given vs ws tr.result tried in
-    let made = performed_at command suits config raw.state tr.new.stripe asked_is turn c.args.given vs ws tr.result tried in
-    let err = untouched_at command suits config raw.state tr.new.stripe asked_is turn c.args.given vs ws tr.result tried tr.ensures.err in
+    let cl = call_at config raw.state tr.new.stripe asked_is turn c.args.given vs ws tr.result tried in
+    let made = performed_at config raw.state tr.new.stripe asked_is turn c.args.given vs ws tr.result tried in
+    let err = untouched_at config raw.state tr.new.stripe asked_is turn c.args.given vs ws tr.result tried tr.ensures.err in
     let grows = lent_grow raw.state tr.new.stripe cl vs ws r made err in
     let put = c.put_if in
     let caller = c.args.caller.now in
@@ -147,8 +139,8 @@ invariant_of-own g c =
     let called = called_performed config raw.state tr.new.stripe cl vs ws raw.seen.sight put.new.seen.sight caller put.new.caller c.events-place.result
     c.requires.asked place tr.ensures.site put.ensures.grows r made err (on (caller.number < config.callers) put.ensures.of)
     (on (list_at put.new.seen.sight.seen (caller_place config caller.number) ≡ calls_told put.new.caller.calls) put.ensures.told) noted in
-    let kept = kept_at command suits config raw.state tr.new.stripe asked_is turn c.args.given vs ws tr.ensures.site tr.result tried tr.ensures.err in
-    let seen = seen_at command suits config raw.state tr.new.stripe asked_is turn c.args.given vs ws tr.ensures.site tr.result tried tr.ensures.err in
+    let kept = kept_at config raw.state tr.new.stripe asked_is turn c.args.given vs ws tr.ensures.site tr.result tried tr.ensures.err in
+    let seen = seen_at config raw.state tr.new.stripe asked_is turn c.args.given vs ws tr.ensures.site tr.result tried tr.ensures.err in
     two_stripe table config cl raw.state tr.new.stripe raw_home.state v raw_other.state w
     raw.owner put.new.owner raw.seen put.new.seen c.own.inside.side c.hear.new.self c.hear-2.new.self c.hear-3.new.stripe c.hear-4.new.stripe own_is c.own.invariant put.ensures.owner put.ensures.grows called
     raw_home.owner c.catch_up_class.new.owner raw_home.seen c.home.inside.side c.hear.new.class home_is c.home.invariant.held c.catch_up_class.ensures c.hear.ensures.class
@@ -158,7 +150,7 @@ invariant_of-own g c =
     c.args.own.now c.args.own.now c.own.view_is refl c.requires.may.met.0 c.requires.may.met.1.0 kept seen
     (subst (λ (x : ClassView). IsRefusedIn cl.room (x ∷ c.args.other.now.class ∷ [])) (ap (λ (x : ClassSide). x.class) (home_is ∙ c.home.view_is))
     (subst (λ (x : ClassView). IsRefusedIn cl.room (raw_home.state ∷ x ∷ [])) (ap (λ (x : ClassSide). x.class) (other_is ∙ c.other.view_is))
-    (refused_at command suits config raw.state tr.new.stripe asked_is turn c.args.given vs ws c.requires.may.refused
+    (refused_at config raw.state tr.new.stripe asked_is turn c.args.given vs ws c.requires.may.refused
     (subst (λ (x : ClassSide). IsOffered c.args.given c.requires.may.refused turn.who (x.class ∷ raw_other.state ∷ [])) (sym (home_is ∙ c.home.view_is))
     (subst (λ (x : ClassSide). IsOffered c.args.given c.requires.may.refused turn.who (c.args.home.now.class ∷ x.class ∷ [])) (sym (other_is ∙ c.other.view_is)) c.requires.may.offered)) tr.result tried)))
 
@@ -166,10 +158,8 @@ pub invariant_of-home : goal.invariant_of-home
 invariant_of-home g c =
     let table = g.N.Named.board.table in
     let config = g.N.Named.config in
-    let command = g.K.Kind.command in
-    let suits = g.K.Kind.suits in
     let turn = c.args.turn in
-    let asked_is = command c.args.kind in
+    let asked_is = c.args.command.now in
     let raw = c.own-inside.inside.0.0 in
     let raw_home = c.home-inside.inside.0.0 in
     let raw_other = c.other-inside.inside.0.0 in
@@ -186,9 +176,9 @@ invariant_of-home g c =
     let was_other : IsLockedClass table config (class_side raw_other.owner raw_other.seen raw_other.state) = subst (IsLockedClass table config) (sym other_is) c.other.invariant in
     let tried = tr.ensures.tried config was.made_with was_home.held.made_with was_other.held.made_with in
     let r = result_of tr.result in
-    let cl = call_at command suits config raw.state tr.new.stripe asked_is turn c.args.given vs ws tr.result tried in
-    let made = performed_at command suits config raw.state tr.new.stripe asked_is turn c.args.given vs ws tr.result tried in
-    let err = untouched_at command suits config raw.state tr.new.stripe asked_is turn c.args.given vs ws tr.result tried tr.ensures.err in
+    let cl = call_at config raw.state tr.new.stripe asked_is turn c.args.given vs ws tr.result tried in
+    let made = performed_at config raw.state tr.new.stripe asked_is turn c.args.given vs ws tr.result tried in
+    let err = untouched_at config raw.state tr.new.stripe asked_is turn c.args.given vs ws tr.result tried tr.ensures.err in
     let grows = lent_grow raw.state tr.new.stripe cl vs ws r made err in
     let put = c.put_if in
     let caller = c.args.caller.now in
@@ -198,8 +188,8 @@ invariant_of-home g c =
     let called = called_performed config raw.state tr.new.stripe cl vs ws raw.seen.sight put.new.seen.sight caller put.new.caller c.events-place.result
     c.requires.asked place tr.ensures.site put.ensures.grows r made err (on (caller.number < config.callers) put.ensures.of)
     (on (list_at put.new.seen.sight.seen (caller_place config caller.number) ≡ calls_told put.new.caller.calls) put.ensures.told) noted in
-    let kept = kept_at command suits config raw.state tr.new.stripe asked_is turn c.args.given vs ws tr.ensures.site tr.result tried tr.ensures.err in
-    let seen = seen_at command suits config raw.state tr.new.stripe asked_is turn c.args.given vs ws tr.ensures.site tr.result tried tr.ensures.err in
+    let kept = kept_at config raw.state tr.new.stripe asked_is turn c.args.given vs ws tr.ensures.site tr.result tried tr.ensures.err in
+    let seen = seen_at config raw.state tr.new.stripe asked_is turn c.args.given vs ws tr.ensures.site tr.result tried tr.ensures.err in
     let held = two_low table config cl raw.state tr.new.stripe raw_home.state v raw_other.state w
     raw.owner put.new.owner raw.seen put.new.seen c.own.inside.side c.hear.new.self c.hear-2.new.self c.hear-3.new.stripe c.hear-4.new.stripe own_is c.own.invariant put.ensures.owner put.ensures.grows called
     raw_home.owner c.catch_up_class.new.owner raw_home.seen c.home.inside.side c.hear.new.class home_is c.home.invariant.held c.catch_up_class.ensures c.hear.ensures.class
@@ -223,10 +213,8 @@ pub invariant_of-other : goal.invariant_of-other
 invariant_of-other g c =
     let table = g.N.Named.board.table in
     let config = g.N.Named.config in
-    let command = g.K.Kind.command in
-    let suits = g.K.Kind.suits in
     let turn = c.args.turn in
-    let asked_is = command c.args.kind in
+    let asked_is = c.args.command.now in
     let raw = c.own-inside.inside.0.0 in
     let raw_home = c.home-inside.inside.0.0 in
     let raw_other = c.other-inside.inside.0.0 in
@@ -243,9 +231,9 @@ invariant_of-other g c =
     let was_other : IsLockedClass table config (class_side raw_other.owner raw_other.seen raw_other.state) = subst (IsLockedClass table config) (sym other_is) c.other.invariant in
     let tried = tr.ensures.tried config was.made_with was_home.held.made_with was_other.held.made_with in
     let r = result_of tr.result in
-    let cl = call_at command suits config raw.state tr.new.stripe asked_is turn c.args.given vs ws tr.result tried in
-    let made = performed_at command suits config raw.state tr.new.stripe asked_is turn c.args.given vs ws tr.result tried in
-    let err = untouched_at command suits config raw.state tr.new.stripe asked_is turn c.args.given vs ws tr.result tried tr.ensures.err in
+    let cl = call_at config raw.state tr.new.stripe asked_is turn c.args.given vs ws tr.result tried in
+    let made = performed_at config raw.state tr.new.stripe asked_is turn c.args.given vs ws tr.result tried in
+    let err = untouched_at config raw.state tr.new.stripe asked_is turn c.args.given vs ws tr.result tried tr.ensures.err in
     let grows = lent_grow raw.state tr.new.stripe cl vs ws r made err in
     let put = c.put_if in
     let caller = c.args.caller.now in
@@ -255,8 +243,8 @@ invariant_of-other g c =
     let called = called_performed config raw.state tr.new.stripe cl vs ws raw.seen.sight put.new.seen.sight caller put.new.caller c.events-place.result
     c.requires.asked place tr.ensures.site put.ensures.grows r made err (on (caller.number < config.callers) put.ensures.of)
     (on (list_at put.new.seen.sight.seen (caller_place config caller.number) ≡ calls_told put.new.caller.calls) put.ensures.told) noted in
-    let kept = kept_at command suits config raw.state tr.new.stripe asked_is turn c.args.given vs ws tr.ensures.site tr.result tried tr.ensures.err in
-    let seen = seen_at command suits config raw.state tr.new.stripe asked_is turn c.args.given vs ws tr.ensures.site tr.result tried tr.ensures.err in
+    let kept = kept_at config raw.state tr.new.stripe asked_is turn c.args.given vs ws tr.ensures.site tr.result tried tr.ensures.err in
+    let seen = seen_at config raw.state tr.new.stripe asked_is turn c.args.given vs ws tr.ensures.site tr.result tried tr.ensures.err in
     let held = two_high table config cl raw.state tr.new.stripe raw_home.state v raw_other.state w
     raw.owner put.new.owner raw.seen put.new.seen c.own.inside.side c.hear.new.self c.hear-2.new.self c.hear-3.new.stripe c.hear-4.new.stripe own_is c.own.invariant put.ensures.owner put.ensures.grows called
     raw_home.owner c.catch_up_class.new.owner raw_home.seen c.home.inside.side c.hear.new.class home_is c.home.invariant.held c.catch_up_class.ensures c.hear.ensures.class
@@ -281,10 +269,8 @@ pub returns-clause-full : goal.returns-clause-full
 returns-clause-full g c = λ full.
     let table = g.N.Named.board.table in
     let config = g.N.Named.config in
-    let command = g.K.Kind.command in
-    let suits = g.K.Kind.suits in
     let turn = c.args.turn in
-    let asked_is = command c.args.kind in
+    let asked_is = c.args.command.now in
     let raw = c.own-inside.inside.0.0 in
     let raw_home = c.home-inside.inside.0.0 in
     let raw_other = c.other-inside.inside.0.0 in
@@ -301,9 +287,9 @@ returns-clause-full g c = λ full.
     let was_other : IsLockedClass table config (class_side raw_other.owner raw_other.seen raw_other.state) = subst (IsLockedClass table config) (sym other_is) c.other.invariant in
     let tried = tr.ensures.tried config was.made_with was_home.held.made_with was_other.held.made_with in
     let r = result_of tr.result in
-    let cl = call_at command suits config raw.state tr.new.stripe asked_is turn c.args.given vs ws tr.result tried in
-    let made = performed_at command suits config raw.state tr.new.stripe asked_is turn c.args.given vs ws tr.result tried in
-    let err = untouched_at command suits config raw.state tr.new.stripe asked_is turn c.args.given vs ws tr.result tried tr.ensures.err in
+    let cl = call_at config raw.state tr.new.stripe asked_is turn c.args.given vs ws tr.result tried in
+    let made = performed_at config raw.state tr.new.stripe asked_is turn c.args.given vs ws tr.result tried in
+    let err = untouched_at config raw.state tr.new.stripe asked_is turn c.args.given vs ws tr.result tried tr.ensures.err in
     let grows = lent_grow raw.state tr.new.stripe cl vs ws r made err in
     let put = c.put_if in
     let caller = c.args.caller.now in
@@ -319,17 +305,15 @@ returns-clause-full g c = λ full.
     raw_other.owner c.catch_up_class-2.new.owner raw_other.seen c.other.inside.side c.hear-2.new.class other_is c.other.invariant.held c.catch_up_class-2.ensures c.hear-2.ensures.class
     c.hear.ensures.told c.hear.ensures.grows c.hear-2.ensures.told c.hear-2.ensures.grows c.hear-3.ensures.stripe c.hear-4.ensures.stripe tr.ensures.site c.history.ensures.legal grows
     c.args.home.now c.args.home.now c.args.other.now c.args.other.now c.home.view_is refl c.other.view_is refl (λ e. c.requires.may.distinct.0.0 (ap (λ (n : ℕ). record c.args.home.now.class.number { 0 = n }) e))
-    r err (refusal_at command suits config raw.state tr.new.stripe asked_is turn c.args.given vs ws tr.result tried tr.ensures.refusal)
+    r err (refusal_at config raw.state tr.new.stripe asked_is turn c.args.given vs ws tr.result tried tr.ensures.refusal)
     (ap result_of full)
 
 pub returns-clause-tried : goal.returns-clause-tried
 returns-clause-tried g c =
     let table = g.N.Named.board.table in
     let config = g.N.Named.config in
-    let command = g.K.Kind.command in
-    let suits = g.K.Kind.suits in
     let turn = c.args.turn in
-    let asked_is = command c.args.kind in
+    let asked_is = c.args.command.now in
     let raw = c.own-inside.inside.0.0 in
     let raw_home = c.home-inside.inside.0.0 in
     let raw_other = c.other-inside.inside.0.0 in
@@ -346,9 +330,9 @@ returns-clause-tried g c =
     let was_other : IsLockedClass table config (class_side raw_other.owner raw_other.seen raw_other.state) = subst (IsLockedClass table config) (sym other_is) c.other.invariant in
     let tried = tr.ensures.tried config was.made_with was_home.held.made_with was_other.held.made_with in
     let r = result_of tr.result in
-    let cl = call_at command suits config raw.state tr.new.stripe asked_is turn c.args.given vs ws tr.result tried in
-    let made = performed_at command suits config raw.state tr.new.stripe asked_is turn c.args.given vs ws tr.result tried in
-    let err = untouched_at command suits config raw.state tr.new.stripe asked_is turn c.args.given vs ws tr.result tried tr.ensures.err in
+    let cl = call_at config raw.state tr.new.stripe asked_is turn c.args.given vs ws tr.result tried in
+    let made = performed_at config raw.state tr.new.stripe asked_is turn c.args.given vs ws tr.result tried in
+    let err = untouched_at config raw.state tr.new.stripe asked_is turn c.args.given vs ws tr.result tried tr.ensures.err in
     let put = c.put_if in
     let caller = c.args.caller.now in
     let place : c.events-place.result ≡ length raw.state.history = c.events-place.ensures ∙ sym (ap (λ (x : StripeSide). length x.stripe.history) own_is) in
@@ -357,10 +341,10 @@ returns-clause-tried g c =
     let of_home : raw_home.state ≡ c.args.home.now.class = ap (λ (x : ClassSide). x.class) (home_is ∙ c.home.view_is) in
     let of_other : raw_other.state ≡ c.args.other.now.class = ap (λ (x : ClassSide). x.class) (other_is ∙ c.other.view_is) in
     let now_is : c.hear-4.new.stripe.stripe ≡ tr.new.stripe = ap (λ (x : StripeSide). x.stripe) (c.hear-4.ensures.stripe ∙ c.hear-3.ensures.stripe ∙ c.hear-2.ensures.told) ∙ ap (λ (x : StripeSide). x.stripe) c.hear.ensures.told in
-    subst (λ (k : CallerView). IfOk tr.result (IsTriedUnder command suits c.args.own.now.stripe c.hear-4.new.stripe.stripe caller k asked_is turn c.args.given (c.args.home.now ∷ c.args.other.now ∷ []) (c.tell_owned.new.class ∷ c.tell_owned-2.new.class ∷ []))) (sym (c.tell_owned-2.ensures.same ∙ c.tell_owned.ensures.same))
-    (subst (λ (y : Stripe). IfOk tr.result (IsTriedUnder command suits c.args.own.now.stripe y caller put.new.caller asked_is turn c.args.given (c.args.home.now ∷ c.args.other.now ∷ []) (c.tell_owned.new.class ∷ c.tell_owned-2.new.class ∷ []))) (sym now_is)
-    (subst (λ (x : StripeSide). IfOk tr.result (IsTriedUnder command suits x.stripe tr.new.stripe caller put.new.caller asked_is turn c.args.given (c.args.home.now ∷ c.args.other.now ∷ []) (c.tell_owned.new.class ∷ c.tell_owned-2.new.class ∷ []))) (own_is ∙ c.own.view_is)
-    (under_tried command suits config raw.state tr.new.stripe asked_is turn c.args.given vs ws caller put.new.caller (c.args.home.now ∷ c.args.other.now ∷ []) (c.tell_owned.new.class ∷ c.tell_owned-2.new.class ∷ []) tr.result tried
+    subst (λ (k : CallerView). IfOk tr.result (IsTriedUnder c.args.own.now.stripe c.hear-4.new.stripe.stripe caller k asked_is turn c.args.given (c.args.home.now ∷ c.args.other.now ∷ []) (c.tell_owned.new.class ∷ c.tell_owned-2.new.class ∷ []))) (sym (c.tell_owned-2.ensures.same ∙ c.tell_owned.ensures.same))
+    (subst (λ (y : Stripe). IfOk tr.result (IsTriedUnder c.args.own.now.stripe y caller put.new.caller asked_is turn c.args.given (c.args.home.now ∷ c.args.other.now ∷ []) (c.tell_owned.new.class ∷ c.tell_owned-2.new.class ∷ []))) (sym now_is)
+    (subst (λ (x : StripeSide). IfOk tr.result (IsTriedUnder x.stripe tr.new.stripe caller put.new.caller asked_is turn c.args.given (c.args.home.now ∷ c.args.other.now ∷ []) (c.tell_owned.new.class ∷ c.tell_owned-2.new.class ∷ []))) (own_is ∙ c.own.view_is)
+    (under_tried config raw.state tr.new.stripe asked_is turn c.args.given vs ws caller put.new.caller (c.args.home.now ∷ c.args.other.now ∷ []) (c.tell_owned.new.class ∷ c.tell_owned-2.new.class ∷ []) tr.result tried
     (λ yes. put.ensures.noted (c.is_made.ensures ∙ yes)
     ∙ ap (λ (t : Site). record caller { calls = caller.calls ++ answered_at t.stripe c.events-place.result ∷ [] }) tr.ensures.site.site
     ∙ ap (λ (n : ℕ). record caller { calls = caller.calls ++ answered_at raw.state.site.stripe n ∷ [] }) place)

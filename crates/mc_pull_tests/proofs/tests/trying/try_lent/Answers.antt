@@ -3,18 +3,20 @@ use Rattle.std.specs.Prelude.{None}
 use Rattle.mc_pull_tests.proofs.MetLemmas.{attempt_kept, met_none, met_one, met_two}
 use Rattle.mc_pull_tests.proofs.tests.trying.try_lent.Goals as goal
 
-pub attempt_none-requires-clause-may : goal.attempt_none-requires-clause-may
-attempt_none-requires-clause-may g c = record {
-  stripe = c.requires.stripe;
-  moment = c.requires.moment;
-  distinct = tt;
-  met = tt;
-  refused = None;
-  offered = record { home = tt; other = tt; each = tt };
+pub attempt_none-requires : goal.attempt_none-requires
+attempt_none-requires c = record {
+  may = record {
+    stripe = c.requires.stripe;
+    moment = c.requires.moment;
+    distinct = tt;
+    met = tt;
+    refused = None;
+    offered = record { home = tt; other = tt; each = tt };
+  };
 }
 
 pub attempt_one-requires-clause-may : goal.attempt_one-requires-clause-may
-attempt_one-requires-clause-may g c = record {
+attempt_one-requires-clause-may c = record {
   stripe = c.requires.stripe;
   moment = c.requires.moment;
   distinct = (tt, tt);
@@ -24,7 +26,7 @@ attempt_one-requires-clause-may g c = record {
 }
 
 pub attempt_two-requires-clause-may : goal.attempt_two-requires-clause-may
-attempt_two-requires-clause-may g c = record {
+attempt_two-requires-clause-may c = record {
   stripe = c.requires.stripe;
   moment = c.requires.moment;
   distinct = ((λ same. c.requires.met.apart (sym same), tt), (tt, tt));
@@ -38,44 +40,44 @@ attempt_two-requires-clause-may g c = record {
 }
 
 pub returns-in-Nothing : goal.returns-in-Nothing
-returns-in-Nothing g c =
+returns-in-Nothing c =
     let pair = c.args.pair.now in
     let met = c.requires.met in
     record {
       met = met_none pair.config pair.stripe c.attempt_none.new.stripe pair.first pair.second met
-          (attempt_kept g.K.Kind.command g.K.Kind.suits pair.config pair.stripe c.attempt_none.new.stripe (g.K.Kind.command c.args.kind) c.args.turn _ [] [] c.attempt_none.ensures.site
+          (attempt_kept pair.config pair.stripe c.attempt_none.new.stripe c.args.command.now c.args.turn _ [] [] c.attempt_none.ensures.site
           None (record { home = tt; other = tt; each = tt }) c.attempt_none.result (c.attempt_none.ensures.tried pair.config met.stripe.made_with) c.attempt_none.ensures.err);
     }
 
 pub returns-in-Home : goal.returns-in-Home
-returns-in-Home g c =
+returns-in-Home c =
     let pair = c.args.pair.now in
     let met = c.requires.met in
     record {
       met = met_one pair.config pair.stripe c.attempt_one.new.stripe pair.first pair.second met _
-          (attempt_kept g.K.Kind.command g.K.Kind.suits pair.config pair.stripe c.attempt_one.new.stripe (g.K.Kind.command c.args.kind) c.args.turn _ (pair.first ∷ []) _ c.attempt_one.ensures.site
+          (attempt_kept pair.config pair.stripe c.attempt_one.new.stripe c.args.command.now c.args.turn _ (pair.first ∷ []) _ c.attempt_one.ensures.site
           c.args.refused (record { home = inl c.offer_home.ensures; other = tt; each = (inl c.offer_home.ensures, tt) })
           c.attempt_one.result (c.attempt_one.ensures.tried pair.config met.stripe.made_with met.first_is) c.attempt_one.ensures.err);
     }
 
 pub returns-in-Other : goal.returns-in-Other
-returns-in-Other g c =
+returns-in-Other c =
     let pair = c.args.pair.now in
     let met = c.requires.met in
     record {
       met = met_one pair.config pair.stripe c.attempt_one-in-Other.new.stripe pair.first pair.second met _
-          (attempt_kept g.K.Kind.command g.K.Kind.suits pair.config pair.stripe c.attempt_one-in-Other.new.stripe (g.K.Kind.command c.args.kind) c.args.turn _ (pair.first ∷ []) _ c.attempt_one-in-Other.ensures.site
+          (attempt_kept pair.config pair.stripe c.attempt_one-in-Other.new.stripe c.args.command.now c.args.turn _ (pair.first ∷ []) _ c.attempt_one-in-Other.ensures.site
           None (record { home = tt; other = inl c.offer_other.ensures; each = (inr c.offer_other.ensures, tt) })
           c.attempt_one-in-Other.result (c.attempt_one-in-Other.ensures.tried pair.config met.stripe.made_with met.first_is) c.attempt_one-in-Other.ensures.err);
     }
 
 pub returns-in-Both : goal.returns-in-Both
-returns-in-Both g c =
+returns-in-Both c =
     let pair = c.args.pair.now in
     let met = c.requires.met in
     record {
       met = met_two pair.config pair.stripe c.attempt_two.new.stripe pair.first pair.second met _ _
-          (attempt_kept g.K.Kind.command g.K.Kind.suits pair.config pair.stripe c.attempt_two.new.stripe (g.K.Kind.command c.args.kind) c.args.turn _ (pair.second ∷ pair.first ∷ []) _ c.attempt_two.ensures.site
+          (attempt_kept pair.config pair.stripe c.attempt_two.new.stripe c.args.command.now c.args.turn _ (pair.second ∷ pair.first ∷ []) _ c.attempt_two.ensures.site
           None (record {
             home = inl c.offer_home-in-Both.ensures;
             other = inr (inl c.offer_other-in-Both.ensures);

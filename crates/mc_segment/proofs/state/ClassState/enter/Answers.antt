@@ -1,4 +1,4 @@
-use Rattle.std.proofs.Common.{◌+◌, ◌∙◌, ap, arith, rules, List, ℕ}
+use Rattle.std.proofs.Common.{◌+◌, ◌∙◌, ap, arith, rules}
 use Rattle.mc_item.specs.declared.class_event.ClassEvent.{ClassEvent}
 use Rattle.mc_item.specs.declared.class_event.ClassEvent.TheVariants as events
 use Rattle.mc_rule.specs.Lists.{Lists, linked, entry}
@@ -21,9 +21,7 @@ invariant_of-self-2 c =
     let seen = seen_lists _ _ _ _ _ _ _ _ _ c.self.invariant c.self.view_is in
     let e : ClassEvent = events.Linked (record { who = a.who; number = n; key = a.key; cost = a.cost; seg = a.seg; moment = a.moment }) in
     keeps _ _ _ _ _ _ _ _ _ c.self.invariant c.self.view_is c.push.new.self _ e (search rules)
-    (c.push.ensures.lists
-    ∙ (ap (λ (key : List ℕ). linked a.seg (entry n key a.cost a.moment) c.reserve-2.new.self.lists) c.in_ok-copy.ensures.value
-    ∙ ap (λ (l : Lists). linked a.seg (entry n a.key a.cost a.moment) l) (same.0 ∙ seen)))
+    (c.push.ensures.lists ∙ ap (λ (l : Lists). linked a.seg (entry n a.key a.cost a.moment) l) (same.0 ∙ seen))
     (omega (arith, same, c.push.ensures.room)) place
     (λ q below. not_to_come n (n + 1) q (omega arith) (omega (arith, same, c.push.ensures.room, c.next-number.ensures, below)))
     (c.requires.free, seen_fresh _ _ _ _ _ _ _ _ _ c.self.invariant c.self.view_is n (omega (arith, same, c.next-number.ensures)))

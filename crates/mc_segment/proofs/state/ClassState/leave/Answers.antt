@@ -6,7 +6,7 @@ use Rattle.mc_segment.proofs.state.ClassState.leave.Goals as goal
 
 pub invariant_of-self-2 : goal.invariant_of-self-2
 invariant_of-self-2 c =
-    let now = c.remove-entry in
+    let now = c.remove in
     let place : HasPlaces c.args.self.now 1 = search rules in
     keeps _ _ _ _ _ _ _ _ _ c.self.invariant c.self.view_is now.new.self _ c.args.event (search rules)
     (now.ensures.lists ∙ (ap (unlinked c.args.number) (seen_lists _ _ _ _ _ _ _ _ _ c.self.invariant c.self.view_is) ∙ sym c.requires.leaves))

@@ -5,7 +5,7 @@ use Rattle.mc_segment.specs.ClassState.{HasPlaces}
 use Rattle.mc_segment.proofs.StateLemmas.{keeps, seen_lists, last_is}
 use Rattle.mc_segment.proofs.state.ClassState.note.Goals as goal
 
-more : (c : goal.After-push_reserved) → c.push_reserved.new.self.items ≡ c.self.inside.history.items ++ c.args.event ∷ []
+more : (c : goal.After-push_whole) → c.push_whole.new.history.items ≡ c.self.inside.history.items ++ c.args.event ∷ []
 more c = search rules
 
 pub invariant_of-self-2 : goal.invariant_of-self-2

@@ -1,7 +1,10 @@
-use Rattle.std.proofs.Common.{◌≡◌, ◌∙◌, ℕ, ap, subst, sym}
+use Rattle.std.proofs.Common.{◌≡◌, ◌∙◌, ◌++◌, ◌∷◌, [], ℕ, List, None, ap, refl, subst, sym}
+use Rattle.std.proofs.lemmas.List.{append-nil}
+use Rattle.mc_item.specs.declared.class_event.ClassEvent.{ClassEvent}
 use Rattle.mc_item.specs.declared.config.Config.{Config}
 use Rattle.mc_item.specs.declared.item.StripeNo.{StripeNo}
-use Rattle.mc_pull.specs.Looks.{IsJudgedIf}
+use Rattle.mc_pull.specs.Looks.{IsJudgedIf, answer}
+use Rattle.mc_pull.specs.declared.looking.Answer.{Answer}
 use Rattle.mc_pull.specs.Question.{question_of}
 use Rattle.mc_board.specs.Histories.{Grows}
 use Rattle.mc_board.specs.Views.{SeenView}
@@ -56,3 +59,30 @@ returns-clause-kept g c = λ first begun kept.
     let look = c.args.look.now in
     let sees = subst (λ (v : SeenView). Grows v.sight c.judge.new.seen.sight) c.learn.ensures.same c.judge.ensures.sees in
     (kept.0, kept.1, walks_on look.ask.who look.ask.moment _ _ _ _ _ _ kept.2 sees (gains_judged look.class.now c.judge.new.look.class.now (question_of look.ask) c.judge.new.look.judged c.in_ok-judge.ensures.class))
+
+pub returns-in_default-clause-answer : goal.returns-in_default-clause-answer
+returns-in_default-clause-answer g c =
+    rw c.requires.once (refl, c.push_reserved-in_default.ensures.items ∙ ap (λ (xs : List Answer). xs ++ answer c.args.stripe None ∷ []) c.reserve.ensures.items)
+
+pub returns-in_default-clause-class : goal.returns-in_default-clause-class
+returns-in_default-clause-class g c =
+    let v = c.args.look.now.class.now in
+    rw c.requires.once (ap (λ (h : List ClassEvent). record v { history = h }) (sym (append-nil v.history)))
+
+pub returns-in_default-try_lock-clause-answer : goal.returns-in_default-try_lock-clause-answer
+returns-in_default-try_lock-clause-answer g c =
+    rw c.requires.once (refl, c.push_reserved-in_default-try_lock.ensures.items ∙ ap (λ (xs : List Answer). xs ++ answer c.args.stripe None ∷ []) c.reserve.ensures.items)
+
+pub returns-in_default-try_lock-clause-class : goal.returns-in_default-try_lock-clause-class
+returns-in_default-try_lock-clause-class g c =
+    let v = c.args.look.now.class.now in
+    rw c.requires.once (ap (λ (h : List ClassEvent). record v { history = h }) (sym (append-nil v.history)))
+
+pub returns-then-not-is_numbered-clause-answer : goal.returns-then-not-is_numbered-clause-answer
+returns-then-not-is_numbered-clause-answer g c =
+    rw c.requires.once (refl, c.push_reserved-then-not-is_numbered.ensures.items ∙ ap (λ (xs : List Answer). xs ++ answer c.args.stripe None ∷ []) c.reserve.ensures.items)
+
+pub returns-then-not-is_numbered-clause-class : goal.returns-then-not-is_numbered-clause-class
+returns-then-not-is_numbered-clause-class g c =
+    let v = c.args.look.now.class.now in
+    rw c.requires.once (ap (λ (h : List ClassEvent). record v { history = h }) (sym (append-nil v.history)))

@@ -4,6 +4,7 @@ use Rattle.std.specs.Cmp.Lexicographic.{pointwise}
 use Rattle.std.specs.HashMap.{get}
 use Rattle.std.specs.Prelude.{IsSomeAnd, true}
 use Rattle.mc_item.specs.declared.stripe_event.StripeEvent.{StripeEvent}
+use Rattle.mc_item.specs.declared.stripe_event.StripeEvent.TheVariants as events
 use Rattle.mc_stripe.specs.StripeState.{Stripe, cache_now}
 use Rattle.mc_stripe.proofs.StateLemmas.{cooled_kept}
 use Rattle.mc_stripe.proofs.state.StripeState.cool.Goals as goal
@@ -12,8 +13,8 @@ pub invariant_of-self-2 : goal.invariant_of-self-2
 invariant_of-self-2 c =
     let few : length c.self.inside.history.items < c.self.inside.limit = omega (arith, rw c.if-is_full.false at c.is_full.ensures) in
     let may = subst (λ (s : Stripe). IsSomeAnd ((cache_now s).items c.args.key) (λ item. item.marks.active ≡ true)) (sym c.self.view_is) c.requires in
-    cooled_kept c.self.inside.site c.self.inside.limit c.self.inside.history.items c.push_reserved.new.self.items c.self.inside.versions
+    cooled_kept c.self.inside.site c.self.inside.limit c.self.inside.history.items c.push_event.new.history.items c.self.inside.versions
     (get (pointwise nat_eq) c.self.inside.items) (get (pointwise nat_eq) c.cool_item.new.items)
     (record { who = c.args.who; key = c.args.key })
     c.self.invariant few may c.cool_item.ensures.items
-    (c.push_reserved.ensures.items ∙ ap (λ (h : List StripeEvent). h ++ c.cooled.result ∷ []) c.reserve.ensures.items ∙ ap (λ (e : StripeEvent). c.self.inside.history.items ++ e ∷ []) c.cooled.ensures)
+    (c.push_event.ensures.items ∙ ap (λ (h : List StripeEvent). h ++ events.Cooled (record { who = c.args.who; key = c.args.key }) ∷ []) c.reserve.ensures.items)

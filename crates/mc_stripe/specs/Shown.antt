@@ -1,0 +1,25 @@
+-- What a stripe's history is shown of an event that it lets go (own).
+use Rattle.std.specs.Prelude.{ℕ, Option, Some, None}
+use Rattle.mc_item.specs.declared.command.Command.{Command}
+use Rattle.mc_item.specs.declared.item.Who.{Who}
+use Rattle.mc_item.specs.declared.reply.Reply.{Reply}
+use Rattle.mc_item.specs.declared.reply.Room.{Room}
+use Rattle.mc_item.specs.declared.stripe_event.StripeEvent.{StripeEvent}
+use Rattle.mc_item.specs.declared.stripe_event.StripeEvent.TheVariants as events
+use Rattle.mc_stripe.specs.declared.shown.ShownStripe.{ShownStripe}
+use Rattle.mc_stripe.specs.declared.shown.ShownStripe.TheVariants as shown
+
+-- the event of a command that was answered
+abbrev pub did_of : Who → Command → ℕ → Reply → Room → StripeEvent
+did_of who command moment reply room = events.Did (record { who = who; command = command; moment = moment; reply = reply; room = room })
+
+-- the event that is shown
+abbrev pub event_of : ShownStripe → StripeEvent
+event_of (shown.Did who command moment reply room) = did_of who command.value moment reply.value room
+event_of (shown.Whole event) = event.value
+
+-- the event of a command of which both command and reply were copied
+abbrev pub did_if : Who → Option Command → ℕ → Option Reply → Room → Option StripeEvent
+did_if who None moment reply room = None
+did_if who (Some command) moment None room = None
+did_if who (Some command) moment (Some reply) room = Some (did_of who command moment reply room)

@@ -1,0 +1,165 @@
+//! One try of a command on a stripe: from look-up to event, with one look-up of its key.
+ghost use Rattle.std.specs.Prelude.{◌≡◌, ◌≤◌, ◌<◌, ◌+◌, ◌^◌, ◌↔◌, IfOk, IfErr, OnErr, IsErrOf, nat_eq, length};
+ghost use Rattle.std.specs.Cmp.Lexicographic.{pointwise};
+ghost use Rattle.std.specs.HashMap.{get, spare};
+ghost use Rattle.mc_item.specs.Answer.{cas_of, row_of};
+ghost use Rattle.mc_item.specs.Command.{key_of};
+ghost use Rattle.mc_item.specs.Item as items;
+ghost use Rattle.mc_item.specs.Measure as measure;
+ghost use Rattle.mc_item.specs.Stripe.{Fits};
+ghost use Rattle.mc_item.specs.declared.answer.Need.TheVariants as needs;
+ghost use Rattle.mc_item.specs.declared.fault.Fault.TheVariants as faults;
+ghost use Rattle.mc_item.specs.declared.item.ClassNo.{ClassNo as TheClass};
+ghost use Rattle.mc_item.specs.declared.reply.Room.{Room as TheRoom};
+ghost use Rattle.mc_stripe.specs.Plan.{woken_by, woken_link};
+ghost use Rattle.mc_stripe.specs.StripeCalls.{KeepsSite};
+ghost use Rattle.mc_stripe.specs.StripeState.{cache_now};
+ghost use Rattle.mc_stripe.specs.Trying.{IsDone, IsLeft, IsOpen, Makes, Stays};
+ghost use Rattle.mc_stripe.specs.Wanting.{IsTaken};
+
+use crate::counting::count_item;
+use crate::deleting::delete_item;
+use crate::fate::wakes;
+use crate::getting::get_item;
+use crate::huge::refuse_huge;
+use crate::shown::{copy_if, push_answer};
+use crate::state::{StripeState, is_full};
+use crate::storing::store_item;
+use crate::touching::touch_item;
+use crate::trying::{Done, Made, Turn};
+use crate::wanting::{Given, Want};
+use mc_item::{Command, Content, Expiry, Fault, Item, Key, Link, NoMemory, Site, Step, expiry_of};
+use std::alloc::Global;
+use std::collections::HashMap;
+use std::hash::RandomState;
+
+// When a version of this exptime dies.
+#[inline(always)]
+fn expiry_at(exptime: &i64, moment: u64) -> Expiry
+    requires { moment ≤ 2 ^ 62 }
+    ensures { result ≡ items.expiry_of exptime.now moment }
+{
+    expiry_of(*exptime, moment)
+}
+
+// What a command makes of the items, each kind by its own row of the table.
+#[inline(always)]
+fn make(
+    alloc: Global,
+    site: &Site,
+    versions: u64,
+    items: &mut HashMap<Key, Item, RandomState>,
+    command: &Command,
+    moment: u64,
+    given: Given,
+    keeps: bool,
+) -> Result<Result<Made, Want>, NoMemory>
+    requires cas { cas_of site.now versions < 2 ^ 64 }
+    requires moment { moment ≤ 2 ^ 62 }
+    ensures made { IfOk result (λ t. IfOk t (Makes keeps given (get (pointwise nat_eq) items.old) (get (pointwise nat_eq) items.new) (key_of command.now) (row_of site.now versions (get (pointwise nat_eq) items.old (key_of command.now)) command.now moment) moment)) }
+    ensures wants { IfOk result (λ t. IfErr t (IsLeft given (get (pointwise nat_eq) items.old) (get (pointwise nat_eq) items.new) (key_of command.now) moment (row_of site.now versions (get (pointwise nat_eq) items.old (key_of command.now)) command.now moment))) }
+    ensures err { OnErr result (Stays (get (pointwise nat_eq) items.old) (get (pointwise nat_eq) items.new)) }
+    ensures spare { spare items.old ≤ spare items.new + 1 }
+{
+    match command {
+        Command::Get(key) => get_item(items, key, moment, given, keeps),
+        Command::Store {
+            verb,
+            key,
+            flags,
+            exptime,
+            value,
+        } => {
+            let content = Content {
+                flags: *flags,
+                value,
+                expiry: expiry_at(exptime, moment),
+            };
+            store_item(
+                alloc, site, versions, items, key, *verb, &content, moment, given,
+            )
+        }
+        Command::Huge { verb, key } => Ok(refuse_huge(items, key, *verb, moment, given)),
+        Command::Incr(key, delta) => {
+            let step = Step::Up(*delta);
+            count_item(alloc, site, versions, items, key, step, moment, given)
+        }
+        Command::Decr(key, delta) => {
+            let step = Step::Down(*delta);
+            count_item(alloc, site, versions, items, key, step, moment, given)
+        }
+        Command::Touch(key, exptime) => {
+            let expiry = expiry_at(exptime, moment);
+            Ok(touch_item(items, key, expiry, moment, given))
+        }
+        Command::Delete(key) => Ok(delete_item(items, key, moment, given)),
+    }
+}
+
+impl StripeState {
+    // The link of a key's item if a hit at this moment would wake it.
+    #[inline(always)]
+    fn woken_at(&self, key: &Key, moment: u64) -> Option<Link>
+        ensures { result ≡ woken_link ((cache_now self.now).items key.now) moment }
+    {
+        let item = self.find(key)?;
+        (!item.dead(moment) && wakes(item)).then_some(item.link)
+    }
+
+    /// The link of the item that a command would wake at this moment, as a get and a touch do: the item is alive, and would
+    /// get the mark ACTIVE.
+    #[inline(always)]
+    pub fn woken(&self, command: &Command, moment: u64) -> Option<Link>
+        ensures { result ≡ woken_by self.now command.now moment }
+    {
+        match command {
+            Command::Get(key) => self.woken_at(key, moment),
+            Command::Touch(key, _) => self.woken_at(key, moment),
+            _ => None,
+        }
+    }
+
+    /// Tries a command, with one look-up of its key. It is made of what it is given, with one event more, or it wants
+    /// something, and nothing happened. A hit that wakes its item wants the item's class.
+    ///
+    /// Errors: `HistoryFull` just where the history has no place; `NoMemory`. Then nothing happened.
+    pub fn attempt(
+        &mut self,
+        command: &Command,
+        turn: Turn,
+        given: Given,
+    ) -> Result<Result<Done, Want>, Fault>
+        requires stripe { measure.stripe_of (key_of command.now) self.old.site.stripes ≡ record { 0 = self.old.site.stripe } }
+        requires moment { turn.moment ≤ 2 ^ 62 }
+        requires given { (class : TheClass) (room : TheRoom) → IsTaken given (needs.Fresh class) room → Fits (needs.Fresh class) room self.old.history }
+        ensures made { IfOk result (λ t. IfOk t (IsDone given self.old self.new turn.who command.now turn.moment)) }
+        ensures wants { IfOk result (λ t. IfErr t (IsOpen given self.old self.new command.now turn.moment)) }
+        ensures full { IsErrOf result faults.HistoryFull ↔ (self.old.limit ≤ length self.old.history) }
+        ensures err { OnErr result (self.new.history ≡ self.old.history) }
+        ensures site { KeepsSite self.old self.new }
+        ensures room { self.old.room ≤ self.new.room + 1 }
+    {
+        if is_full(&self.history, self.limit) {
+            return Err(Fault::HistoryFull);
+        }
+        self.history.reserve(1)?;
+        let keeps = self.history.keeps();
+        let copy = copy_if(self.alloc, command, keeps)?;
+        let Made { done, noted, added } = match make(
+            self.alloc,
+            &self.site,
+            self.versions,
+            &mut self.items,
+            command,
+            turn.moment,
+            given,
+            keeps,
+        )? {
+            Ok(made) => made,
+            Err(want) => return Ok(Err(want)),
+        };
+        self.versions += added;
+        push_answer(&mut self.history, turn, command, &done, copy, noted);
+        Ok(Ok(done))
+    }
+}
