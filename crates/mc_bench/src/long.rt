@@ -1,8 +1,7 @@
 //! Many commands on one store that lets its events go, and the memory that it takes.
 ghost use Rattle.std.specs.Prelude.{◌≡◌, IfOk, IfSome};
 ghost use Rattle.mc_item.specs.Config.{IsBounded, IsSound};
-ghost use Rattle.mc_board.specs.Histories.{blind};
-ghost use Rattle.mc_board.specs.Views.{locks_of, AreOwners};
+ghost use Rattle.mc_board.specs.{Histories.blind, Views.locks_of, Views.AreOwners};
 ghost use Rattle.mc_store.specs.Locked.{histories_for};
 
 use crate::lists::{checked, peak};

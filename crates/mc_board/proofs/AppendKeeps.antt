@@ -4,13 +4,9 @@ use Rattle.std.specs.Prelude.{slice_index}
 use mathlib.Core.Option.{none}
 use Rattle.atomic_table.specs.Table.{Me, step, keeps, Allows}
 use Rattle.mc_item.specs.declared.event.Event.{Event}
-use Rattle.mc_board.specs.declared.rule.Counts.{Counts}
-use Rattle.mc_board.specs.declared.rule.Owned.{Owned}
-use Rattle.mc_board.specs.declared.rule.View.{View}
+use Rattle.mc_board.specs.declared.{rule.Counts.Counts, rule.Owned.Owned, rule.View.View}
 use Rattle.mc_board.specs.declared.rule.View.TheVariants as views
-use Rattle.mc_board.specs.Views.{first_word}
-use Rattle.mc_board.specs.Board.{IsOwner}
-use Rattle.mc_board.specs.Steps.{owned_with, Added}
+use Rattle.mc_board.specs.{Views.first_word, Board.IsOwner, Steps.owned_with, Steps.Added}
 use Rattle.mc_board.proofs.PrefixLemmas.{same_or_not}
 use Rattle.mc_board.proofs.RuleLemmas.{Law, ledger, word_within, words_apart, added, added_here, added_else, IsBehind-added, known_set, others_added}
 

@@ -4,18 +4,12 @@ use Rattle.std.specs.Prelude.{slice_index}
 use mathlib.Core.Option.{none}
 use Rattle.atomic_table.specs.Table.{State, Me, step, keeps, Allows}
 use Rattle.mc_item.specs.declared.event.Event.{Event}
-use Rattle.mc_board.specs.declared.rule.Counts.{Counts}
-use Rattle.mc_board.specs.declared.rule.Owned.{Owned}
-use Rattle.mc_board.specs.declared.rule.Known.{Known}
-use Rattle.mc_board.specs.declared.rule.View.{View}
+use Rattle.mc_board.specs.declared.{rule.Counts.Counts, rule.Owned.Owned, rule.Known.Known, rule.View.View}
 use Rattle.mc_board.specs.declared.rule.View.TheVariants as views
 use Rattle.mc_board.specs.Histories.{list_at, with_noted, HasSeen, HasNoted}
-use Rattle.mc_board.specs.Views.{locks_of, first_word}
-use Rattle.mc_board.specs.Board.{IsOwner, Knows, IsGrowing}
-use Rattle.mc_board.specs.Steps.{Counted, Compared, Met}
-use Rattle.mc_board.proofs.PrefixLemmas.{prefix_length, prefix_either, set_back}
-use Rattle.mc_board.proofs.SeenLemmas.{IsBehind-with_noted}
-use Rattle.mc_board.proofs.RuleLemmas.{Law, ledger, known_set}
+use Rattle.mc_board.specs.{Views.locks_of, Views.first_word, Board.IsOwner, Board.Knows, Board.IsGrowing, Steps.Counted, Steps.Compared, Steps.Met}
+use Rattle.mc_board.proofs.{PrefixLemmas.prefix_length, PrefixLemmas.prefix_either, PrefixLemmas.set_back, SeenLemmas.IsBehind-with_noted, RuleLemmas.Law}
+use Rattle.mc_board.proofs.{RuleLemmas.ledger, RuleLemmas.known_set}
 
 -- the words stand as they were, and one view is changed
 pub viewed : (counts : Counts) (s : State Unit View) (k : Law counts s) (id word : ℕ) (w : View)

@@ -4,16 +4,11 @@ use mathlib.Core.List.{IsPrefix}
 use mathlib.Core.Option.{none}
 use Rattle.atomic_table.specs.Table.{Me, step, keeps, Allows}
 use Rattle.mc_item.specs.declared.event.Event.{Event}
-use Rattle.mc_board.specs.declared.rule.Counts.{Counts}
-use Rattle.mc_board.specs.declared.rule.Known.{Known}
-use Rattle.mc_board.specs.declared.rule.Sight.{Sight}
-use Rattle.mc_board.specs.declared.rule.View.{View}
+use Rattle.mc_board.specs.declared.{rule.Counts.Counts, rule.Known.Known, rule.Sight.Sight, rule.View.View}
 use Rattle.mc_board.specs.declared.rule.View.TheVariants as views
 use Rattle.mc_board.specs.Histories.{list_at, Grows, IsBehind}
 use Rattle.mc_board.specs.Learning.{joined, all_joined, with_learned, known_learned, Learned}
-use Rattle.mc_board.proofs.PrefixLemmas.{prefix_nil, prefix_self}
-use Rattle.mc_board.proofs.CountKeeps.{viewed}
-use Rattle.mc_board.proofs.RuleLemmas.{Law}
+use Rattle.mc_board.proofs.{PrefixLemmas.prefix_nil, PrefixLemmas.prefix_self, CountKeeps.viewed, RuleLemmas.Law}
 
 joined_nil : (xs : List Event) → xs ≡ joined xs []
 joined_nil [] = refl

@@ -6,13 +6,10 @@ use lib.ListN.{get_elem?}
 use Rattle.atomic_table.specs.Table.{State}
 use Rattle.atomic_table.proofs.Lists.{at_set}
 use Rattle.mc_item.specs.declared.event.Event.{Event}
-use Rattle.mc_board.specs.declared.rule.Counts.{Counts}
-use Rattle.mc_board.specs.declared.rule.Sight.{Sight}
-use Rattle.mc_board.specs.declared.rule.View.{View}
+use Rattle.mc_board.specs.declared.{rule.Counts.Counts, rule.Sight.Sight, rule.View.View}
 use Rattle.mc_board.specs.declared.rule.View.TheVariants as views
-use Rattle.mc_board.specs.Histories.{list_at, number_at, IsBehind}
-use Rattle.mc_board.specs.Views.{locks_of, first_word, words_of}
-use Rattle.mc_board.specs.Board.{Ledger, Knows, IsGrowing}
+use Rattle.mc_board.specs.{Histories.list_at, Histories.number_at, Histories.IsBehind, Views.locks_of, Views.first_word, Views.words_of, Board.Ledger}
+use Rattle.mc_board.specs.{Board.Knows, Board.IsGrowing}
 use Rattle.mc_board.proofs.PrefixLemmas.{same_or_not, prefix_more}
 
 -- the rule of a table's state

@@ -76,10 +76,6 @@ list_at_grows lists lock xs p j =
 pub Grows-with_seen : (s : Sight) (lock : ℕ) (xs : List Event) → IsPrefix (list_at s.seen lock) xs → Grows s (with_seen s lock xs)
 Grows-with_seen s lock xs p = record { at = list_at_grows s.seen lock xs p }
 
--- who has seen the same has seen no less
-pub Grows-same : (old new : Sight) → new ≡ old → Grows old new
-Grows-same old new same = subst (Grows old) (sym same) (record { at = λ lock. prefix_self (list_at old.seen lock) })
-
 -- what was seen grows and grows
 pub Grows-trans : (a b c : Sight) → Grows a b → Grows b c → Grows a c
 Grows-trans a b c p q = record { at = λ lock. prefix_trans (list_at a.seen lock) (list_at b.seen lock) (list_at c.seen lock) (p.at lock) (q.at lock) }

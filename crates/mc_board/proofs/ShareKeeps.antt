@@ -7,18 +7,12 @@ use lib.ListN.{get_elem?}
 use Rattle.atomic_table.specs.Table.{Splits, Joins}
 use Rattle.atomic_table.proofs.Lists.{at_set}
 use Rattle.mc_item.specs.declared.event.Event.{Event}
-use Rattle.mc_board.specs.declared.rule.Counts.{Counts}
-use Rattle.mc_board.specs.declared.rule.Root.{Root}
-use Rattle.mc_board.specs.declared.rule.Owned.{Owned}
-use Rattle.mc_board.specs.declared.rule.Known.{Known}
-use Rattle.mc_board.specs.declared.rule.View.{View}
+use Rattle.mc_board.specs.declared.{rule.Counts.Counts, rule.Root.Root, rule.Owned.Owned, rule.Known.Known, rule.View.View}
 use Rattle.mc_board.specs.declared.rule.View.TheVariants as views
-use Rattle.mc_board.specs.Views.{line_words, locks_of, first_word, words_of}
-use Rattle.mc_board.specs.Board.{Ledger, IsOwner, Knows}
+use Rattle.mc_board.specs.{Views.line_words, Views.locks_of, Views.first_word, Views.words_of, Board.Ledger, Board.IsOwner, Board.Knows}
 use Rattle.mc_board.specs.Steps.{opening_of, newcomer, owning, owned_told, root_after, next_owner, copy_of, told_of, hearing}
-use Rattle.mc_board.proofs.PrefixLemmas.{at_end}
-use Rattle.mc_board.proofs.SeenLemmas.{IsBehind-blind, IsBehind-with_seen}
-use Rattle.mc_board.proofs.RuleLemmas.{Law, ledger, word_within, known_set}
+use Rattle.mc_board.proofs.{PrefixLemmas.at_end, SeenLemmas.IsBehind-blind, SeenLemmas.IsBehind-with_seen, RuleLemmas.Law, RuleLemmas.ledger}
+use Rattle.mc_board.proofs.{RuleLemmas.word_within, RuleLemmas.known_set}
 
 -- a view is cut in two, and no history changes
 cuts : (counts : Counts) (id : ℕ) (v left right : View)

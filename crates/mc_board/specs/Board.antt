@@ -3,12 +3,9 @@ use Rattle.std.specs.Prelude.{◌≡◌, ℕ, ◌≤◌, ◌<◌, List, [], leng
 use mathlib.Core.Option.{Option, none, some}
 use lib.ListN.{get_elem?}
 use Rattle.mc_item.specs.declared.event.Event.{Event}
-use Rattle.mc_board.specs.declared.rule.Counts.{Counts}
-use Rattle.mc_board.specs.declared.rule.Owned.{Owned}
-use Rattle.mc_board.specs.declared.rule.View.{View}
+use Rattle.mc_board.specs.declared.{rule.Counts.Counts, rule.Owned.Owned, rule.View.View}
 use Rattle.mc_board.specs.declared.rule.View.TheVariants as views
-use Rattle.mc_board.specs.Histories.{IsBehind}
-use Rattle.mc_board.specs.Views.{locks_of, first_word, words_of}
+use Rattle.mc_board.specs.{Histories.IsBehind, Views.locks_of, Views.first_word, Views.words_of}
 
 -- what stands at one moment: the counts, the words, and of each lock its history and the seat of its one owner,
 -- if it has been given out

@@ -2,9 +2,7 @@
 use Rattle.std.specs.Prelude.{◌≡◌, ℕ, List, [], ◌∷◌}
 use Rattle.atomic_table.specs.Table.{Me, Step}
 use Rattle.mc_item.specs.declared.event.Event.{Event}
-use Rattle.mc_board.specs.declared.rule.Sight.{Sight}
-use Rattle.mc_board.specs.declared.rule.Known.{Known}
-use Rattle.mc_board.specs.declared.rule.View.{View}
+use Rattle.mc_board.specs.declared.{rule.Sight.Sight, rule.Known.Known, rule.View.View}
 use Rattle.mc_board.specs.declared.rule.View.TheVariants as views
 use Rattle.mc_board.specs.Histories.{Grows}
 

@@ -4,11 +4,7 @@ use Rattle.atomic_table.specs.Table.{Me, Step}
 use Rattle.mc_item.specs.declared.event.Event.{Event}
 use Rattle.mc_item.specs.declared.event.Event.TheVariants as events
 use Rattle.mc_item.specs.declared.class_event.ClassEvent.TheVariants as class_events
-use Rattle.mc_board.specs.declared.rule.Counts.{Counts}
-use Rattle.mc_board.specs.declared.rule.Sight.{Sight}
-use Rattle.mc_board.specs.declared.rule.Owned.{Owned}
-use Rattle.mc_board.specs.declared.rule.Known.{Known}
-use Rattle.mc_board.specs.declared.rule.View.{View}
+use Rattle.mc_board.specs.declared.{rule.Counts.Counts, rule.Sight.Sight, rule.Owned.Owned, rule.Known.Known, rule.View.View}
 use Rattle.mc_board.specs.declared.rule.View.TheVariants as views
 use Rattle.mc_board.specs.Histories.{blind, list_at, number_at, with_seen, with_noted, HasSeen, HasNoted, AreInLine}
 use Rattle.mc_board.specs.Views.{first_word}

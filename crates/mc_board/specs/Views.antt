@@ -2,8 +2,7 @@
 use Rattle.std.specs.Prelude.{◌≡◌, ℕ, ◌+◌, ◌*◌, ◌<◌, List, [], length, Some, slice_get}
 use Rattle.atomic_table.specs.Seated.{TableId}
 use Rattle.mc_item.specs.declared.event.Event.{Event}
-use Rattle.mc_board.specs.declared.rule.Counts.{Counts}
-use Rattle.mc_board.specs.declared.rule.Sight.{Sight}
+use Rattle.mc_board.specs.declared.{rule.Counts.Counts, rule.Sight.Sight}
 
 -- a board: which table it is, and how many locks of each kind it has
 pub record BoardView : Type 0 where

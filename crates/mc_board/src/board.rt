@@ -1,7 +1,6 @@
 //! The words that all threads share.
 ghost use Rattle.std.specs.Prelude.{◌≡◌, ◌<◌, ◌≤◌, ◌+◌, ◌*◌, ◌^◌, IfOk, IfErr, []};
-ghost use Rattle.mc_board.specs.Histories.{blind};
-ghost use Rattle.mc_board.specs.Views.{AreOwners, line_words, locks_of, first_word};
+ghost use Rattle.mc_board.specs.{Histories.blind, Views.AreOwners, Views.line_words, Views.locks_of, Views.first_word};
 ghost use Rattle.mc_board.specs.declared.rule.View.TheVariants as views;
 
 use crate::owner::Owner;

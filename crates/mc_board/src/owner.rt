@@ -24,8 +24,7 @@ pub struct Owner {
 
 impl Model for Owner {
     ghost use Rattle.std.specs.Prelude.{◌≡◌, ◌<◌, [], length};
-    ghost use Rattle.mc_board.specs.Views.{OwnerView};
-    ghost use Rattle.mc_board.specs.Steps.{owned_of};
+    ghost use Rattle.mc_board.specs.{Views.OwnerView, Steps.owned_of};
     ghost use Rattle.mc_board.specs.declared.rule.View.TheVariants as views;
 
     ghost Value = { OwnerView };

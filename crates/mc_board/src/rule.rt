@@ -50,8 +50,7 @@ pub enum View {
 pub struct Law;
 
 impl TableRule<(), View, Counts> for Law {
-    ghost use Rattle.mc_board.specs.Board.{IsGrowing};
-    ghost use Rattle.mc_board.specs.Steps.{opening_of};
+    ghost use Rattle.mc_board.specs.{Board.IsGrowing, Steps.opening_of};
 
     ghost holds = { λ counts state. IsGrowing counts state.words state.views };
 

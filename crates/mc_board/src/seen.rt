@@ -1,9 +1,7 @@
 //! The tokens that have seen.
 ghost use Rattle.std.specs.Prelude.{◌≡◌, ◌<◌, ◌≤◌, [], length};
-ghost use Rattle.mc_board.specs.Histories.{list_at, number_at, with_noted, Grows, AreInLine};
-ghost use Rattle.mc_board.specs.Learning.{known_learned, with_learned};
-ghost use Rattle.mc_board.specs.Views.{locks_of, first_word};
-ghost use Rattle.mc_board.specs.Steps.{known_of, known_with, known_told, seeing};
+ghost use Rattle.mc_board.specs.{Histories.list_at, Histories.number_at, Histories.with_noted, Histories.Grows, Histories.AreInLine, Learning.known_learned};
+ghost use Rattle.mc_board.specs.{Learning.with_learned, Views.locks_of, Views.first_word, Steps.known_of, Steps.known_with, Steps.known_told, Steps.seeing};
 ghost use Rattle.mc_board.specs.declared.rule.View.TheVariants as views;
 
 use crate::board::Board;
@@ -20,8 +18,7 @@ pub struct Seen {
 
 impl Model for Seen {
     ghost use Rattle.std.specs.Prelude.{◌≡◌, []};
-    ghost use Rattle.mc_board.specs.Views.{SeenView};
-    ghost use Rattle.mc_board.specs.Steps.{known_of};
+    ghost use Rattle.mc_board.specs.{Views.SeenView, Steps.known_of};
     ghost use Rattle.mc_board.specs.declared.rule.View.TheVariants as views;
 
     ghost Value = { SeenView };

@@ -6,8 +6,7 @@ use Rattle.mc_item.specs.Counts.{FitInPairs, FitsTogether, added, sums}
 use Rattle.mc_item.specs.declared.counts.Histogram.{Histogram}
 use Rattle.mc_crawl.specs.declared.kind.Kind.{Kind}
 use Rattle.mc_crawl.specs.declared.kind.Kind.TheVariants as kinds
-use Rattle.mc_crawl.specs.CrawlCount.{counted, count_of, IsBalanced, MayCount}
-use Rattle.mc_crawl.specs.CrawlKind.{IsCounted}
+use Rattle.mc_crawl.specs.{CrawlCount.counted, CrawlCount.count_of, CrawlCount.IsBalanced, CrawlCount.MayCount, CrawlKind.IsCounted}
 
 sum_first : (x : ℕ) (xs : List ℕ) → sum (x ∷ xs) ≡ x + sum xs
 sum_first x xs = sum_by-cons (λ n. n) x xs

@@ -1,37 +1,21 @@
 -- One link is crawled: its kind by what a gate has told, and the class's events.
 use Rattle.std.proofs.Common.{◌≡◌, ◌+◌, ℕ, Bool, true, false, if◌then◌else◌, List, [], ◌∷◌, ◌++◌, Option, Some, None, refl, sym, ap, ◌∙◌, subst, length, arith, nat_lt, ◌-◌, ◌/◌}
 use Rattle.std.proofs.lemmas.List.{append-nil}
-use Rattle.mc_item.specs.declared.class_event.ClassEvent.{ClassEvent}
-use Rattle.mc_item.specs.declared.item.ClassNo.{ClassNo}
-use Rattle.mc_item.specs.declared.item.Expiry.{Expiry}
-use Rattle.mc_item.specs.declared.item.Expiry.TheVariants.{Never, At}
-use Rattle.mc_item.specs.declared.item.StripeNo.{StripeNo}
-use Rattle.mc_item.specs.declared.item.Item.{Item}
-use Rattle.mc_item.specs.declared.lists.Entry.{Entry}
-use Rattle.mc_item.specs.declared.counts.Histogram.{Histogram}
-use Rattle.mc_item.specs.Cache.{Cache}
-use Rattle.mc_item.specs.Item.{is_dead}
-use Rattle.mc_item.specs.Measure.{stripe_of}
-use Rattle.mc_rule.specs.Lists.{Lists, lists_of}
-use Rattle.mc_rule.specs.Segment.{Rule}
-use Rattle.mc_segment.specs.ClassState.{ClassView}
-use Rattle.mc_segment.specs.Entries.{entry_of}
+use Rattle.mc_item.specs.declared.{class_event.ClassEvent.ClassEvent, item.ClassNo.ClassNo, item.Expiry.Expiry, item.Expiry.TheVariants.Never}
+use Rattle.mc_item.specs.declared.{item.Expiry.TheVariants.At, item.StripeNo.StripeNo, item.Item.Item, lists.Entry.Entry, counts.Histogram.Histogram}
+use Rattle.mc_item.specs.{Cache.Cache, Item.is_dead, Measure.stripe_of}
+use Rattle.mc_rule.specs.{Lists.Lists, Lists.lists_of, Segment.Rule}
+use Rattle.mc_segment.specs.{ClassState.ClassView, Entries.entry_of}
 use Rattle.mc_stripe.specs.StripeState.{cache_now}
-use Rattle.mc_pull.specs.declared.judge.Done.{Done}
+use Rattle.mc_pull.specs.declared.{judge.Done.Done, judge.Judge.TheVariants.Dead, looking.Answer.Answer, looking.Judged.Judged}
 use Rattle.mc_pull.specs.declared.judge.Done.TheVariants as done
-use Rattle.mc_pull.specs.declared.judge.Judge.TheVariants.{Dead}
-use Rattle.mc_pull.specs.declared.looking.Answer.{Answer}
-use Rattle.mc_pull.specs.declared.looking.Judged.{Judged}
-use Rattle.mc_pull.specs.Growth.{Grows}
+use Rattle.mc_pull.specs.{Growth.Grows, Judgement.done_by, Judgement.done_if, Judgement.done_with, Judgement.has_link, Looks.IsJudgedIf, Looks.answer}
+use Rattle.mc_pull.specs.{Looks.events_if, Settled.class_events, Settled.class_with}
 use Rattle.mc_pull.proofs.GrowthLemmas.{grows_itself}
-use Rattle.mc_pull.specs.Judgement.{done_by, done_if, done_with, has_link}
-use Rattle.mc_pull.specs.Looks.{IsJudgedIf, answer, events_if}
-use Rattle.mc_pull.specs.Settled.{class_events, class_with}
 use Rattle.mc_crawl.specs.declared.kind.Kind.{Kind}
 use Rattle.mc_crawl.specs.declared.kind.Kind.TheVariants as kinds
 use Rattle.mc_crawl.specs.Crawl.{AreReclaims, Crawl, IsCrawled, IsKindIf, IsLookIf, Reclaims, asked_by}
-use Rattle.mc_crawl.specs.CrawlCount.{counted}
-use Rattle.mc_crawl.specs.CrawlKind.{kind_alive, kind_done, kind_if, kind_told, kind_with}
+use Rattle.mc_crawl.specs.{CrawlCount.counted, CrawlKind.kind_alive, CrawlKind.kind_done, CrawlKind.kind_if, CrawlKind.kind_told, CrawlKind.kind_with}
 
 none_some : {A : Type 0} {x : A} → None ≡ Some x → ⊥
 none_some h = cc

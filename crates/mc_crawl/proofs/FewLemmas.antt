@@ -2,11 +2,8 @@
 use Rattle.std.proofs.Common.{◌≡◌, ◌≤◌, ◌+◌, ◌++◌, ◌∙◌, ℕ, List, [], ◌∷◌, length, length-append, reverse, arith, Bool, true, false}
 use Rattle.std.proofs.lemmas.List.{length-map, length-reverse}
 use Rattle.std.specs.Prelude.{◌==◌, if◌then◌else◌, Option, Some, None}
-use Rattle.mc_item.specs.declared.class_event.ClassEvent.{ClassEvent}
+use Rattle.mc_item.specs.declared.{class_event.ClassEvent.ClassEvent, class_event.Why.Why, lists.Entry.Entry, lists.Seg.Seg}
 use Rattle.mc_item.specs.declared.class_event.ClassEvent.TheVariants as events
-use Rattle.mc_item.specs.declared.class_event.Why.{Why}
-use Rattle.mc_item.specs.declared.lists.Entry.{Entry}
-use Rattle.mc_item.specs.declared.lists.Seg.{Seg}
 use Rattle.mc_item.specs.declared.lists.Seg.TheVariants.{Hot, Warm, Cold, Temp}
 use Rattle.mc_rule.specs.Lists.{Lists, count_of, entry, find, linked, list_of, lists_after, lists_from, lists_of, moved_entry, no_lists, time_after, unlinked, with_list, without}
 use Rattle.mc_segment.specs.ClassState.{ClassView}

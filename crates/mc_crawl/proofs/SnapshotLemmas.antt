@@ -1,9 +1,7 @@
 -- The links of a list from its tail, one after the other.
 use Rattle.std.proofs.Common.{◌≡◌, ◌+◌, ℕ, zero, suc, List, [], ◌∷◌, ◌++◌, Some, None, sym, ap, ◌∙◌, take, reverse, map, arith, append_assoc}
 use Rattle.std.specs.Prelude.{slice_get}
-use Rattle.mc_item.specs.declared.item.ClassNo.{ClassNo}
-use Rattle.mc_item.specs.declared.item.Link.{Link}
-use Rattle.mc_item.specs.declared.lists.Entry.{Entry}
+use Rattle.mc_item.specs.declared.{item.ClassNo.ClassNo, item.Link.Link, lists.Entry.Entry}
 use Rattle.mc_rule.specs.Lists.{from_tail}
 use Rattle.mc_crawl.specs.Snapshot.{link_of, links_from_tail}
 

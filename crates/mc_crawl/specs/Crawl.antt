@@ -1,22 +1,13 @@
 -- What a crawl leaves of a class, of a gate's answers, and as which kind it counts a link.
 use Rattle.std.specs.Prelude.{ℕ, ◌≡◌, ◌+◌, ◌++◌, List, [], ◌∷◌, Option, Some, None, length}
-use Rattle.mc_item.specs.declared.class_event.ClassEvent.{ClassEvent}
+use Rattle.mc_item.specs.declared.{class_event.ClassEvent.ClassEvent, config.Config.Config, item.StripeNo.StripeNo, item.Who.Who, lists.Entry.Entry}
 use Rattle.mc_item.specs.declared.class_event.ClassEvent.TheVariants as events
-use Rattle.mc_item.specs.declared.config.Config.{Config}
-use Rattle.mc_item.specs.declared.item.StripeNo.{StripeNo}
-use Rattle.mc_item.specs.declared.item.Who.{Who}
-use Rattle.mc_item.specs.declared.lists.Entry.{Entry}
 use Rattle.mc_item.specs.Measure.{stripe_of}
 use Rattle.mc_rule.specs.Lists.{lists_of}
-use Rattle.mc_segment.specs.ClassState.{ClassView}
-use Rattle.mc_segment.specs.Entries.{entry_of}
+use Rattle.mc_segment.specs.{ClassState.ClassView, Entries.entry_of}
 use Rattle.mc_stripe.specs.StripeState.{cache_now}
-use Rattle.mc_pull.specs.declared.judge.Judge.TheVariants.{Dead}
-use Rattle.mc_pull.specs.declared.looking.Answer.{Answer}
-use Rattle.mc_pull.specs.declared.looking.Judged.{Judged}
-use Rattle.mc_pull.specs.Looks.{IsJudged, answer, events_if}
-use Rattle.mc_pull.specs.Question.{Question, question}
-use Rattle.mc_pull.specs.Settled.{class_with}
+use Rattle.mc_pull.specs.declared.{judge.Judge.TheVariants.Dead, looking.Answer.Answer, looking.Judged.Judged}
+use Rattle.mc_pull.specs.{Looks.IsJudged, Looks.answer, Looks.events_if, Question.Question, Question.question, Settled.class_with}
 use Rattle.mc_crawl.specs.declared.kind.Kind.{Kind}
 use Rattle.mc_crawl.specs.declared.kind.Kind.TheVariants as kinds
 use Rattle.mc_crawl.specs.CrawlKind.{kind_of}

@@ -1,19 +1,13 @@
 -- What a crawl counts a link as: rows over the item of its entry and the moment (own, modelled on crawler.c).
 use Rattle.std.specs.Prelude.{ℕ, ◌-◌, ◌/◌, ◌<◌, nat_lt, if◌then◌else◌, Option, Some, None}
-use Rattle.mc_item.specs.declared.item.ClassNo.{ClassNo}
-use Rattle.mc_item.specs.declared.item.Expiry.{Expiry}
-use Rattle.mc_item.specs.declared.item.Expiry.TheVariants.{Never, At}
-use Rattle.mc_item.specs.declared.item.Item.{Item}
-use Rattle.mc_item.specs.declared.lists.Entry.{Entry}
-use Rattle.mc_item.specs.Cache.{Cache}
-use Rattle.mc_item.specs.Item.{is_dead}
+use Rattle.mc_item.specs.declared.{item.ClassNo.ClassNo, item.Expiry.Expiry, item.Expiry.TheVariants.Never, item.Expiry.TheVariants.At, item.Item.Item}
+use Rattle.mc_item.specs.declared.{lists.Entry.Entry}
+use Rattle.mc_item.specs.{Cache.Cache, Item.is_dead}
 use Rattle.mc_rule.specs.Lists.{lists_of}
-use Rattle.mc_segment.specs.ClassState.{ClassView}
-use Rattle.mc_segment.specs.Entries.{entry_of}
+use Rattle.mc_segment.specs.{ClassState.ClassView, Entries.entry_of}
 use Rattle.mc_pull.specs.Judgement.{has_link}
-use Rattle.mc_pull.specs.declared.judge.Done.{Done}
+use Rattle.mc_pull.specs.declared.{judge.Done.Done, looking.Judged.Judged}
 use Rattle.mc_pull.specs.declared.judge.Done.TheVariants as done
-use Rattle.mc_pull.specs.declared.looking.Judged.{Judged}
 use Rattle.mc_crawl.specs.declared.kind.Kind.{Kind}
 use Rattle.mc_crawl.specs.declared.kind.Kind.TheVariants as kinds
 

@@ -1,9 +1,6 @@
 -- The links of a class's lists, as a crawl takes them down (own).
 use Rattle.std.specs.Prelude.{◌++◌, List, map, reverse}
-use Rattle.mc_item.specs.declared.item.ClassNo.{ClassNo}
-use Rattle.mc_item.specs.declared.item.Link.{Link}
-use Rattle.mc_item.specs.declared.lists.Entry.{Entry}
-use Rattle.mc_item.specs.declared.lists.Seg.{Seg}
+use Rattle.mc_item.specs.declared.{item.ClassNo.ClassNo, item.Link.Link, lists.Entry.Entry, lists.Seg.Seg}
 use Rattle.mc_item.specs.declared.lists.Seg.TheVariants.{Hot, Warm, Cold, Temp}
 use Rattle.mc_rule.specs.Lists.{list_of, lists_of}
 use Rattle.mc_segment.specs.ClassState.{ClassView}

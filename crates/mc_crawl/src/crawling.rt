@@ -1,16 +1,11 @@
 //! The crawl of one link.
 ghost use Rattle.std.specs.Prelude.{◌≡◌, ◌+◌, ◌++◌, ◌∷◌, [], IfOk, IfErr, OnOk, OnErr};
-ghost use Rattle.mc_rule.specs.Lists.{lists_of};
-ghost use Rattle.mc_rule.specs.Lawful.{IsListed};
+ghost use Rattle.mc_rule.specs.{Lists.lists_of, Lawful.IsListed};
 ghost use Rattle.mc_segment.specs.ClassState.{with_room};
-ghost use Rattle.mc_pull.specs.Growth.{Grows, Kept};
-ghost use Rattle.mc_pull.specs.Looks.{answer, events_if, IsJudgedIf};
-ghost use Rattle.mc_pull.specs.Question.{HasKeyOf, IsClassOf};
-ghost use Rattle.mc_pull.specs.Settled.{class_with};
-ghost use Rattle.mc_pull.specs.Walker.{walker_of};
+ghost use Rattle.mc_pull.specs.{Growth.Grows, Growth.Kept, Looks.answer, Looks.events_if, Looks.IsJudgedIf, Question.HasKeyOf, Question.IsClassOf};
+ghost use Rattle.mc_pull.specs.{Settled.class_with, Walker.walker_of};
 ghost use Rattle.mc_crawl.specs.Crawl.{crawl, asked_by, IsCrawled, Reclaims};
-ghost use Rattle.mc_crawl.specs.CrawlCount.{counted, IsBalanced, MayCount};
-ghost use Rattle.mc_crawl.specs.CrawlKind.{IsCounted};
+ghost use Rattle.mc_crawl.specs.{CrawlCount.counted, CrawlCount.IsBalanced, CrawlCount.MayCount, CrawlKind.IsCounted};
 ghost use Rattle.mc_crawl.specs.declared.kind.Kind.{Kind};
 
 use crate::kind::{Kind, count, kind_of};

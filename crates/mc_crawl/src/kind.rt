@@ -1,8 +1,7 @@
 //! What a crawl counts a link as.
 ghost use Rattle.std.specs.Prelude.{◌≡◌};
-ghost use Rattle.mc_crawl.specs.CrawlCount.{counted, IsBalanced, MayCount};
+ghost use Rattle.mc_crawl.specs.{CrawlCount.counted, CrawlCount.IsBalanced, CrawlCount.MayCount, CrawlKind.kind_told, CrawlKind.IsCounted};
 ghost use Rattle.mc_crawl.specs.CrawlKind as words;
-ghost use Rattle.mc_crawl.specs.CrawlKind.{kind_told, IsCounted};
 
 use mc_item::{Expiry, Histogram};
 use mc_pull::{Done, Judged};

@@ -1,9 +1,7 @@
 //! Laws of what a crawl counts: contracts alone.
 ghost use Rattle.std.specs.Prelude.{◌≡◌, ◌+◌, ◌*◌, ◌<◌, ◌≤◌, ◌^◌, ◌↔◌, ℕ, true, length};
-ghost use Rattle.mc_item.specs.Counts.{FitsTogether, added, no_counts};
-ghost use Rattle.mc_item.specs.Item.{is_dead};
-ghost use Rattle.mc_item.specs.declared.counts.Histogram.{Histogram};
-ghost use Rattle.mc_item.specs.declared.item.Item.{Item};
+ghost use Rattle.mc_item.specs.{Counts.FitsTogether, Counts.added, Counts.no_counts, Item.is_dead};
+ghost use Rattle.mc_item.specs.declared.{counts.Histogram.Histogram, item.Item.Item};
 ghost use Rattle.mc_crawl.specs.CrawlCount.{counted, count_of, IsBalanced, MayCount};
 ghost use Rattle.mc_crawl.specs.CrawlKind.{kind_left, kind_of_item, IsCounted};
 ghost use Rattle.mc_crawl.specs.declared.kind.Kind.{Kind};

@@ -1,13 +1,8 @@
 //! The crawl of one link with a gate that is lent one stripe.
 ghost use Rattle.std.specs.Prelude.{◌≡◌, ◌+◌, IfErr, OnOk, OnErr};
 ghost use Rattle.mc_segment.specs.ClassState.{with_room};
-ghost use Rattle.mc_pull.specs.Growth.{Grows};
-ghost use Rattle.mc_pull.specs.Lone.{Serves, Walked};
-ghost use Rattle.mc_pull.specs.Question.{IsClassOf};
-ghost use Rattle.mc_pull.specs.Refusal.{MayFail};
-ghost use Rattle.mc_pull.specs.Walker.{walker_of};
-ghost use Rattle.mc_crawl.specs.Crawl.{crawl, IsCrawled, Reclaims};
-ghost use Rattle.mc_crawl.specs.CrawlCount.{counted, IsBalanced, MayCount};
+ghost use Rattle.mc_pull.specs.{Growth.Grows, Lone.Serves, Lone.Walked, Question.IsClassOf, Refusal.MayFail, Walker.walker_of};
+ghost use Rattle.mc_crawl.specs.{Crawl.crawl, Crawl.IsCrawled, Crawl.Reclaims, CrawlCount.counted, CrawlCount.IsBalanced, CrawlCount.MayCount};
 ghost use Rattle.mc_crawl.specs.declared.kind.Kind.{Kind};
 
 use crate::crawling::crawl_one;

@@ -2,48 +2,25 @@
 use Rattle.std.proofs.Common.{◌≡◌, ◌<◌, ℕ, List, [], ◌∷◌, ◌++◌, sym, ap, ◌∙◌, append-nil, subst, arith, inl, inr}
 use mathlib.Core.List.{IsPrefix}
 use Rattle.std.proofs.Math.Nat.{mod-lt}
-use Rattle.mc_item.specs.Command.{key_of}
-use Rattle.mc_item.specs.Measure.{fnv1a}
-use Rattle.mc_item.specs.declared.call_event.CallEvent.{CallEvent}
-use Rattle.mc_item.specs.declared.answer.Site.{Site}
-use Rattle.mc_item.specs.declared.class_event.ClassEvent.{ClassEvent}
-use Rattle.mc_item.specs.declared.command.Command.{Command}
-use Rattle.mc_item.specs.declared.config.Config.{Config}
-use Rattle.mc_item.specs.declared.counts.Moves.{Moves}
-use Rattle.mc_item.specs.declared.event.Event.{Event}
+use Rattle.mc_item.specs.{Command.key_of, Measure.fnv1a, Counts.no_counts}
+use Rattle.mc_item.specs.declared.{call_event.CallEvent.CallEvent, answer.Site.Site, class_event.ClassEvent.ClassEvent, command.Command.Command}
+use Rattle.mc_item.specs.declared.{config.Config.Config, counts.Moves.Moves, event.Event.Event, item.ClassNo.ClassNo, item.Who.Who, reply.Reply.Reply}
+use Rattle.mc_item.specs.declared.{stripe_event.StripeEvent.StripeEvent, counts.Histogram.Histogram, item.Link.Link}
 use Rattle.mc_item.specs.declared.event.Event.TheVariants as board_events
-use Rattle.mc_item.specs.declared.item.ClassNo.{ClassNo}
-use Rattle.mc_item.specs.declared.item.Who.{Who}
-use Rattle.mc_item.specs.declared.reply.Reply.{Reply}
-use Rattle.mc_item.specs.declared.stripe_event.StripeEvent.{StripeEvent}
 use Rattle.mc_board.specs.Histories.{Grows, list_at}
 use Rattle.mc_board.specs.declared.rule.Sight.{Sight}
 use Rattle.mc_board.proofs.PrefixLemmas.{prefix_more}
-use Rattle.mc_evidence.specs.Seen.{class_events, stripe_events}
-use Rattle.mc_evidence.specs.Refusals.{WasTried}
-use Rattle.mc_evidence.specs.Setting.{IsClass, site_in}
-use Rattle.mc_evidence.specs.Locks.{ClassKeeps, StripeKeeps}
+use Rattle.mc_evidence.specs.{Seen.class_events, Seen.stripe_events, Refusals.WasTried, Setting.IsClass, Setting.site_in, Locks.ClassKeeps, Locks.StripeKeeps}
 use Rattle.mc_evidence.proofs.SeenLemmas.{class_events-append, class_events-map, classes_grow, stripe_events-map, stripes_grow}
 use Rattle.mc_proto.specs.Answers.{Moved, Replied, Counted}
-use Rattle.mc_pull.specs.Juggle.{IsJuggle}
-use Rattle.mc_pull.specs.Performed.{cooled_if}
-use Rattle.mc_pull.specs.Rounds.{Rounds, rounds}
+use Rattle.mc_pull.specs.{Juggle.IsJuggle, Performed.cooled_if, Rounds.Rounds, Rounds.rounds}
 use Rattle.mc_script.specs.Exchanges.{Asks, Juggles, exchange, Crawls}
 use Rattle.mc_segment.specs.ClassState.{ClassView}
-use Rattle.mc_store.specs.Calls.{IsJuggledBy, IsRepliedBy}
-use Rattle.mc_store.specs.Locked.{setting_of, class_lock}
-use Rattle.mc_store.specs.Sides.{class_told}
-use Rattle.mc_store.proofs.EarnedLemmas.{opened_again}
-use Rattle.mc_store.proofs.PairLemmas.{site_of_number}
-use Rattle.mc_driver.specs.Caller.{histories_seen}
-use Rattle.mc_driver.specs.Noted.{answered_command, answered_event}
-use Rattle.mc_driver.specs.Stand.{Grow, StandsBetween, stripe_number}
+use Rattle.mc_store.specs.{Calls.IsJuggledBy, Calls.IsRepliedBy, Locked.setting_of, Locked.class_lock, Sides.class_told, Crawls.AreLinksCounted}
+use Rattle.mc_store.specs.{Crawls.HasReclaims, Crawls.IsCrawledBy, Earned.IsLastResort}
+use Rattle.mc_store.proofs.{EarnedLemmas.opened_again, PairLemmas.site_of_number}
+use Rattle.mc_driver.specs.{Caller.histories_seen, Noted.answered_command, Noted.answered_event, Stand.Grow, Stand.StandsBetween, Stand.stripe_number}
 use Rattle.mc_driver.proofs.NotedLemmas.{class_begins, stripe_begins}
-use Rattle.mc_item.specs.declared.counts.Histogram.{Histogram}
-use Rattle.mc_item.specs.Counts.{no_counts}
-use Rattle.mc_item.specs.declared.item.Link.{Link}
-use Rattle.mc_store.specs.Crawls.{AreLinksCounted, HasReclaims, IsCrawledBy}
-use Rattle.mc_store.specs.Earned.{IsLastResort}
 
 -- what a pass has seen grows
 pub seen_grow : (config : Config) (old new : Sight) → Grows old new → Grow config (histories_seen config old) (histories_seen config new)

@@ -4,40 +4,26 @@ use Rattle.std.specs.Prelude.{IfOk, OnErr, Some, cond, nat_eq, true, OnOk}
 use Rattle.std.specs.List.{slice_get}
 use Rattle.std.proofs.lemmas.List.Elements.{filter-append}
 use Rattle.mc_item.specs.Command.{key_of}
-use Rattle.mc_item.specs.declared.call_event.CallEvent.{CallEvent}
-use Rattle.mc_item.specs.declared.command.Command.{Command}
-use Rattle.mc_item.specs.declared.config.Config.{Config}
-use Rattle.mc_item.specs.declared.counts.Moves.{Moves}
-use Rattle.mc_item.specs.declared.fault.Fault.{Fault}
-use Rattle.mc_item.specs.declared.item.ClassNo.{ClassNo}
-use Rattle.mc_item.specs.declared.item.Who.{Who}
-use Rattle.mc_item.specs.declared.reply.Reply.{Reply}
-use Rattle.mc_item.specs.declared.stripe_event.Did.{Did}
-use Rattle.mc_item.specs.declared.stripe_event.StripeEvent.{StripeEvent}
+use Rattle.mc_item.specs.declared.{call_event.CallEvent.CallEvent, command.Command.Command, config.Config.Config, counts.Moves.Moves, fault.Fault.Fault}
+use Rattle.mc_item.specs.declared.{item.ClassNo.ClassNo, item.Who.Who, reply.Reply.Reply, stripe_event.Did.Did, stripe_event.StripeEvent.StripeEvent}
+use Rattle.mc_item.specs.declared.{counts.Histogram.Histogram}
 use Rattle.mc_item.specs.declared.stripe_event.StripeEvent.TheVariants as events
 use Rattle.mc_board.specs.Histories.{Grows, list_at}
 use Rattle.mc_board.specs.declared.rule.Sight.{Sight}
 use Rattle.mc_board.proofs.PrefixLemmas.{prefix_length}
-use Rattle.mc_evidence.specs.Seen.{stripe_events}
-use Rattle.mc_evidence.specs.Setting.{IsClass}
+use Rattle.mc_evidence.specs.{Seen.stripe_events, Setting.IsClass}
 use Rattle.mc_evidence.proofs.SeenLemmas.{stripe_events-map}
 use Rattle.mc_proto.specs.Answers.{Moved, Replied, Counted}
 use Rattle.mc_pull.specs.Performed.{cooled_if}
-use Rattle.mc_script.specs.Calls.{Adds, AddsUp}
-use Rattle.mc_script.specs.Exchanges.{Asks, Exchange, Juggles, exchange, Crawls}
+use Rattle.mc_script.specs.{Calls.Adds, Calls.AddsUp, Exchanges.Asks, Exchanges.Exchange, Exchanges.Juggles, Exchanges.exchange, Exchanges.Crawls}
 use Rattle.mc_store.specs.Callers.{answered_at, asked_for, juggling_of, moment_of, crawling_of, turns_of}
-use Rattle.mc_store.specs.Calls.{IsJuggledBy, IsRepliedBy, IsCutBy}
-use Rattle.mc_store.specs.Locked.{setting_of}
-use Rattle.mc_store.specs.Passes.{PassView, next_who}
+use Rattle.mc_store.specs.{Calls.IsJuggledBy, Calls.IsRepliedBy, Calls.IsCutBy, Locked.setting_of, Passes.PassView, Passes.next_who, Crawls.IsCrawledBy}
 use Rattle.mc_driver.specs.Caller.{AreAt, AreMadeButLast, AreNoted, AreRising, IsAt, MayCall, histories_seen, places_in}
 use Rattle.mc_driver.specs.Stand.{calls_at, is_command_at, nothing_seen, stripe_number}
 use Rattle.mc_driver.proofs.NotedLemmas.{at_later, at_push_if, get_next, places_in-push, rising_push_if, stripe_begins, places_in-call}
-use Rattle.mc_driver.proofs.BetweenLemmas.{crawled_between, juggled_between, replied_between, seen_grow}
-use Rattle.mc_driver.proofs.MadeLemmas.{made_but_last, replied_turns, turns_of-call}
-use Rattle.mc_driver.proofs.OnlyLemmas.{is_same}
-use Rattle.mc_driver.proofs.StandLemmas.{stand_more, stand_same}
-use Rattle.mc_item.specs.declared.counts.Histogram.{Histogram}
-use Rattle.mc_store.specs.Crawls.{IsCrawledBy}
+use Rattle.mc_driver.proofs.{BetweenLemmas.crawled_between, BetweenLemmas.juggled_between, BetweenLemmas.replied_between, BetweenLemmas.seen_grow}
+use Rattle.mc_driver.proofs.{MadeLemmas.made_but_last, MadeLemmas.replied_turns, MadeLemmas.turns_of-call, OnlyLemmas.is_same, StandLemmas.stand_more}
+use Rattle.mc_driver.proofs.{StandLemmas.stand_same}
 
 -- where a reply was noted, and what stands there
 module _ (config : Config) (old new : PassView) (command : Command) (moment : ℕ) (reply : Reply)

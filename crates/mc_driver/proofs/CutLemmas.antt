@@ -2,18 +2,14 @@
 use Rattle.std.proofs.Common.{◌≡◌, ◌∙◌, ◌+◌, ◌<◌, ℕ, List, [], ◌∷◌, ap, arith, length, map, subst, subst₂, sym, refl}
 use Rattle.std.specs.Prelude.{slice_index_or}
 use Rattle.std.specs.List.{All, flat_map}
-use Rattle.std.proofs.lemmas.List.{get_or-map, length-map}
-use Rattle.std.proofs.lemmas.List.Elements.{All-map}
-use Rattle.std.proofs.lemmas.List.Folds.{flat_map-map}
+use Rattle.std.proofs.lemmas.{List.get_or-map, List.length-map, List.Elements.All-map, List.Folds.flat_map-map}
 use Rattle.mc_item.specs.declared.config.Config.{Config}
 use Rattle.mc_proto.specs.Scripts as cut
-use Rattle.mc_script.specs.declared.outcome.Outcome.{Outcome}
+use Rattle.mc_script.specs.declared.{outcome.Outcome.Outcome, upkeep.Keeper.TheVariants.Crawler, upkeep.Keeper.TheVariants.Maintainer}
 use Rattle.mc_script.specs.declared.outcome.Outcome.TheVariants as outcomes
-use Rattle.mc_script.specs.declared.upkeep.Keeper.TheVariants.{Crawler, Maintainer}
 use Rattle.mc_store.specs.Finals.{FinalView}
-use Rattle.mc_driver.specs.Called.{AreByCallers, AreWholeTurns, HasCalls}
-use Rattle.mc_driver.specs.Input.{AreRun, IsRunOf, Printed, ToAndFrom}
-use Rattle.mc_driver.specs.Left.{AreKeepersDone, IsKeptUp, IsLeft, IsScriptLeft}
+use Rattle.mc_driver.specs.{Called.AreByCallers, Called.AreWholeTurns, Called.HasCalls, Input.AreRun, Input.IsRunOf, Input.Printed, Input.ToAndFrom}
+use Rattle.mc_driver.specs.{Left.AreKeepersDone, Left.IsKeptUp, Left.IsLeft, Left.IsScriptLeft}
 use Rattle.mc_driver.specs.Run.{HasFull, IsAccepted, callers_at_work, histories_left, limits_of, with_callers}
 
 -- there is an item where there are some

@@ -2,23 +2,15 @@
 use Rattle.std.proofs.Common.{◌≡◌, ℕ, List, [], refl, ap, subst}
 use Rattle.mc_item.specs.declared.config.Config.{Config}
 use Rattle.mc_proto.specs.declared.request.Limits.{Limits}
-use Rattle.mc_script.specs.Exchanges.{Exchange}
-use Rattle.mc_script.specs.Upkeep.{work_of}
-use Rattle.mc_script.specs.declared.outcome.Outcome.{Outcome}
+use Rattle.mc_script.specs.{Exchanges.Exchange, Upkeep.work_of}
+use Rattle.mc_script.specs.declared.{outcome.Outcome.Outcome, upkeep.Keeper.Keeper}
 use Rattle.mc_script.specs.declared.outcome.Outcome.TheVariants as outcomes
-use Rattle.mc_script.specs.declared.upkeep.Keeper.{Keeper}
-use Rattle.mc_store.specs.Finals.{AreClasses, AreStripes, FinalView}
-use Rattle.mc_store.specs.Passes.{PassView, new_pass}
-use Rattle.mc_driver.specs.Called.{AreWholeTurns, HasCalls, IsCompared, MadeNone}
-use Rattle.mc_driver.specs.Caller.{AreNoted}
-use Rattle.mc_driver.specs.Jobs.{HasWorked, IsIdle, Works}
-use Rattle.mc_driver.specs.Run.{HasFull, histories_left}
-use Rattle.mc_driver.specs.Stand.{AreItsCalls}
-use Rattle.mc_driver.specs.declared.jobs.Work.{Work}
-use Rattle.mc_driver.specs.declared.jobs.Work.TheVariants.{Script, Upkeep}
-use Rattle.mc_driver.proofs.LeavesLemmas.{keeps_some, keeps_up_as, leaves_known, leaves_some}
-use Rattle.mc_driver.proofs.LeftLemmas.{left_calls, left_full, left_grows}
-use Rattle.mc_driver.proofs.MadeLemmas.{has_calls, none_made, whole_turns}
+use Rattle.mc_store.specs.{Finals.AreClasses, Finals.AreStripes, Finals.FinalView, Passes.PassView, Passes.new_pass}
+use Rattle.mc_driver.specs.{Called.AreWholeTurns, Called.HasCalls, Called.IsCompared, Called.MadeNone, Caller.AreNoted, Jobs.HasWorked, Jobs.IsIdle, Jobs.Works}
+use Rattle.mc_driver.specs.{Run.HasFull, Run.histories_left, Stand.AreItsCalls}
+use Rattle.mc_driver.specs.declared.{jobs.Work.Work, jobs.Work.TheVariants.Script, jobs.Work.TheVariants.Upkeep}
+use Rattle.mc_driver.proofs.{LeavesLemmas.keeps_some, LeavesLemmas.keeps_up_as, LeavesLemmas.leaves_known, LeavesLemmas.leaves_some, LeftLemmas.left_calls}
+use Rattle.mc_driver.proofs.{LeftLemmas.left_full, LeftLemmas.left_grows, MadeLemmas.has_calls, MadeLemmas.none_made, MadeLemmas.whole_turns}
 
 module _ {S K : Type 0} (coming : S → List ℕ) (reads : S → ℕ) (taken : K → List ℕ) (writes : K → ℕ) where
   -- what is known of a caller's calls may be said by another fact that follows

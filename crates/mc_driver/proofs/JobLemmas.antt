@@ -2,19 +2,15 @@
 use Rattle.std.proofs.Common.{◌≡◌, ◌+◌, ◌<◌, ◌≤◌, ℕ, zero, suc, List, [], ◌∷◌, ◌++◌, length, map, refl, sym, ap, ◌∙◌, subst, arith, append_assoc, length-append, take, drop}
 use Rattle.std.specs.Prelude.{Some, slice_get, slice_index_or}
 use Rattle.std.specs.Option.{option_map}
-use Rattle.std.proofs.lemmas.List.{length-map, map-append}
-use Rattle.std.proofs.lemmas.Option.{get_or_from_slice_get, slice_get-get_or, slice_get-map}
+use Rattle.std.proofs.lemmas.{List.length-map, List.map-append, Option.get_or_from_slice_get, Option.slice_get-get_or, Option.slice_get-map}
 use Rattle.mc_item.specs.declared.config.Config.{Config}
 use Rattle.mc_proto.specs.declared.request.Limits.{Limits}
-use Rattle.mc_script.specs.declared.ends.Both.{Both}
-use Rattle.mc_script.specs.declared.outcome.Outcome.{Outcome}
-use Rattle.mc_script.specs.declared.upkeep.Keeper.{Keeper}
-use Rattle.mc_script.specs.declared.upkeep.Keeper.TheVariants.{Maintainer, Crawler}
+use Rattle.mc_script.specs.declared.{ends.Both.Both, outcome.Outcome.Outcome, upkeep.Keeper.Keeper, upkeep.Keeper.TheVariants.Maintainer}
+use Rattle.mc_script.specs.declared.{upkeep.Keeper.TheVariants.Crawler}
 use Rattle.mc_store.specs.Passes.{ArePasses, PassView, new_pass}
 use Rattle.mc_store.proofs.PlaceLemmas.{get_some}
 use Rattle.mc_driver.specs.Jobs.{HasWorked, IsAtStart, ends_in, script_of, works_of}
-use Rattle.mc_driver.specs.declared.jobs.Work.{Work}
-use Rattle.mc_driver.specs.declared.jobs.Work.TheVariants.{Script, Upkeep}
+use Rattle.mc_driver.specs.declared.{jobs.Work.Work, jobs.Work.TheVariants.Script, jobs.Work.TheVariants.Upkeep}
 use Rattle.mc_driver.proofs.StandLemmas.{grow_nothing}
 
 module _ {S K : Type 0} (coming : S → List ℕ) (reads : S → ℕ) (taken : K → List ℕ) (writes : K → ℕ) (config : Config) (limits : Limits) (moments : List ℕ) where

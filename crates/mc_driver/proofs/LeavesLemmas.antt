@@ -1,11 +1,9 @@
 -- What is known of a script's calls may be said by another fact that follows.
 use Rattle.std.proofs.Common.{◌≡◌, ℕ, List, inl, inr, subst}
 use Rattle.mc_item.specs.declared.fault.Fault.{Fault}
-use Rattle.mc_proto.specs.declared.request.Limits.{Limits}
-use Rattle.mc_script.specs.Exchanges.{Exchange}
+use Rattle.mc_proto.specs.declared.{request.Limits.Limits, request.Request.Request}
+use Rattle.mc_script.specs.{Exchanges.Exchange, Upkeep.HasBrokenOff, Upkeep.KeepsUp}
 use Rattle.mc_script.specs.Run.{HasBroken, HasRun, HasRunTo, HasStarved, HasStopped, Leaves}
-use Rattle.mc_proto.specs.declared.request.Request.{Request}
-use Rattle.mc_script.specs.Upkeep.{HasBrokenOff, KeepsUp}
 use Rattle.mc_script.specs.declared.outcome.Outcome.{Outcome}
 use Rattle.mc_script.specs.declared.outcome.Outcome.TheVariants.{Done, Memory, HistoryFull, Input, Output}
 

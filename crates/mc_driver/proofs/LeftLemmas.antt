@@ -3,32 +3,22 @@ use Rattle.std.proofs.Common.{◌≡◌, ◌<◌, ◌≤◌, ◌+◌, ◌-◌, �
 use Rattle.std.proofs.lemmas.Bool.{cases_lt}
 use Rattle.std.specs.List.{slice_get}
 use mathlib.Core.List.{IsPrefix}
-use Rattle.mc_item.specs.declared.answer.Site.{Site}
-use Rattle.mc_item.specs.declared.config.Config.{Config}
-use Rattle.mc_item.specs.declared.item.ClassNo.{ClassNo}
-use Rattle.mc_item.specs.declared.stripe_event.StripeEvent.{StripeEvent}
+use Rattle.mc_item.specs.declared.{answer.Site.Site, config.Config.Config, item.ClassNo.ClassNo, stripe_event.StripeEvent.StripeEvent}
 use Rattle.mc_item.specs.declared.stripe_event.StripeEvent.TheVariants as events
 use Rattle.mc_board.specs.Histories.{list_at}
 use Rattle.mc_board.specs.declared.rule.Sight.{Sight}
 use Rattle.mc_board.proofs.PrefixLemmas.{prefix_length}
-use Rattle.mc_evidence.specs.Seen.{stripe_events}
-use Rattle.mc_evidence.specs.Setting.{IsClass}
-use Rattle.mc_evidence.specs.Sound.{IsSoundStore}
+use Rattle.mc_evidence.specs.{Seen.stripe_events, Setting.IsClass, Sound.IsSoundStore}
 use Rattle.mc_item.specs.Stripe.{IsLegal}
 use Rattle.mc_script.specs.Exchanges.{Exchange}
 use Rattle.mc_store.specs.Finals.{AreClasses, AreExactlyEntries, AreItsOwn, AreStripes, FinalView, IsBehindClasses, IsBehindStripes, class_histories, class_history, stripe_histories, stripe_history}
-use Rattle.mc_store.specs.Locked.{class_lock, setting_of}
-use Rattle.mc_store.specs.Passes.{PassView}
-use Rattle.mc_store.specs.Serving.{HasSeenShort}
-use Rattle.mc_store.specs.Sides.{ClassSide, StripeSide, class_told, stripe_told}
-use Rattle.mc_store.proofs.PlaceLemmas.{get_some}
-use Rattle.mc_store.proofs.ServedLemmas.{map_length}
-use Rattle.mc_driver.specs.Caller.{AreAt, AreNoted, histories_seen, places_in}
-use Rattle.mc_driver.specs.Run.{HasFull, IsStore, histories_left}
+use Rattle.mc_store.specs.{Locked.class_lock, Locked.setting_of, Passes.PassView, Serving.HasSeenShort, Sides.ClassSide, Sides.StripeSide, Sides.class_told}
+use Rattle.mc_store.specs.{Sides.stripe_told}
+use Rattle.mc_store.proofs.{PlaceLemmas.get_some, ServedLemmas.map_length}
+use Rattle.mc_driver.specs.{Caller.AreAt, Caller.AreNoted, Caller.histories_seen, Caller.places_in, Run.HasFull, Run.IsStore, Run.histories_left}
 use Rattle.mc_driver.specs.Stand.{AreItsCalls, Grow, Stand, calls_at, nothing_seen}
-use Rattle.mc_driver.proofs.NotedLemmas.{at_later, called_place, class_begins, stripe_begins}
-use Rattle.mc_driver.proofs.OnlyLemmas.{only_these}
-use Rattle.mc_driver.proofs.StandLemmas.{stand_later}
+use Rattle.mc_driver.proofs.{NotedLemmas.at_later, NotedLemmas.called_place, NotedLemmas.class_begins, NotedLemmas.stripe_begins, OnlyLemmas.only_these}
+use Rattle.mc_driver.proofs.{StandLemmas.stand_later}
 
 -- a site by its parts
 site_is : (s : Site) (stripe stripes : ℕ) (sizes : List ℕ) → s.stripe ≡ stripe → s.stripes ≡ stripes → s.sizes ≡ sizes → s ≡ record { stripe = stripe; stripes = stripes; sizes = sizes }

@@ -2,36 +2,22 @@
 use Rattle.std.proofs.Common.{◌≡◌, ◌⊎◌, ◌<◌, ◌≤◌, ◌+◌, ℕ, zero, suc, List, [], ◌∷◌, ◌++◌, Some, Result, Ok, Err, refl, sym, ap, ◌∙◌, subst, inl, inr, ⊎_elim, arith, length, length-append, append-nil}
 use Rattle.std.specs.Prelude.{IfOk, OnOk, slice_get}
 use Rattle.std.proofs.lemmas.Bool.{cases_lt}
-use Rattle.mc_item.specs.declared.call_event.CallEvent.{CallEvent}
+use Rattle.mc_item.specs.declared.{call_event.CallEvent.CallEvent, command.Command.Command, config.Config.Config, counts.Moves.Moves, fault.Fault.Fault}
+use Rattle.mc_item.specs.declared.{item.ClassNo.ClassNo, item.Who.Who, reply.Reply.Reply, stripe_event.StripeEvent.StripeEvent, counts.Histogram.Histogram}
 use Rattle.mc_item.specs.declared.call_event.CallEvent.TheVariants as calls
-use Rattle.mc_item.specs.declared.command.Command.{Command}
-use Rattle.mc_item.specs.declared.config.Config.{Config}
-use Rattle.mc_item.specs.declared.counts.Moves.{Moves}
-use Rattle.mc_item.specs.declared.fault.Fault.{Fault}
-use Rattle.mc_item.specs.declared.item.ClassNo.{ClassNo}
-use Rattle.mc_item.specs.declared.item.Who.{Who}
-use Rattle.mc_item.specs.declared.reply.Reply.{Reply}
-use Rattle.mc_item.specs.declared.stripe_event.StripeEvent.{StripeEvent}
 use Rattle.mc_item.specs.declared.stripe_event.StripeEvent.TheVariants as events
 use Rattle.mc_board.specs.Histories.{Grows}
 use Rattle.mc_evidence.specs.Setting.{IsClass}
 use Rattle.mc_script.specs.Exchanges.{Asks, Call, Crawls, Exchange, Juggles}
 use Rattle.mc_store.specs.Callers.{IsOf, answered_at, asked_for, juggling_of, moment_of, turns_of, who_of, crawling_of}
-use Rattle.mc_store.specs.Calls.{IsJuggledBy, IsRepliedBy}
-use Rattle.mc_store.specs.Finals.{AreItsOwn, AreStripes, FinalView, stripe_histories, stripe_history}
-use Rattle.mc_store.specs.Locked.{setting_of}
-use Rattle.mc_store.specs.Passes.{PassView, next_who}
-use Rattle.mc_store.specs.Sides.{StripeSide}
+use Rattle.mc_store.specs.{Calls.IsJuggledBy, Calls.IsRepliedBy, Finals.AreItsOwn, Finals.AreStripes, Finals.FinalView, Finals.stripe_histories}
+use Rattle.mc_store.specs.{Finals.stripe_history, Locked.setting_of, Passes.PassView, Passes.next_who, Sides.StripeSide, Crawls.IsCrawledBy}
 use Rattle.mc_store.proofs.PlaceLemmas.{get_some}
-use Rattle.mc_driver.specs.Called.{AreByCallers, AreWholeTurns, HasCalls, IsAtMoment, MadeNone}
-use Rattle.mc_driver.specs.Caller.{AreMadeButLast, IsMade, MayCall, call_event_of, histories_seen}
-use Rattle.mc_driver.specs.Run.{callers_at_work, histories_left}
-use Rattle.mc_driver.specs.Stand.{Grow, Histories, StandsBetween, nothing_seen, stripe_number}
-use Rattle.mc_driver.proofs.BetweenLemmas.{crawled_between, juggled_between, replied_between, seen_grow}
-use Rattle.mc_driver.proofs.NotedLemmas.{get_next}
-use Rattle.mc_driver.proofs.StandLemmas.{grow_nothing, stands_as_later, stands_as_less}
-use Rattle.mc_item.specs.declared.counts.Histogram.{Histogram}
-use Rattle.mc_store.specs.Crawls.{IsCrawledBy}
+use Rattle.mc_driver.specs.{Called.AreByCallers, Called.AreWholeTurns, Called.HasCalls, Called.IsAtMoment, Called.MadeNone, Caller.AreMadeButLast}
+use Rattle.mc_driver.specs.{Caller.IsMade, Caller.MayCall, Caller.call_event_of, Caller.histories_seen, Run.callers_at_work, Run.histories_left, Stand.Grow}
+use Rattle.mc_driver.specs.{Stand.Histories, Stand.StandsBetween, Stand.nothing_seen, Stand.stripe_number}
+use Rattle.mc_driver.proofs.{BetweenLemmas.crawled_between, BetweenLemmas.juggled_between, BetweenLemmas.replied_between, BetweenLemmas.seen_grow}
+use Rattle.mc_driver.proofs.{NotedLemmas.get_next, StandLemmas.grow_nothing, StandLemmas.stands_as_later, StandLemmas.stands_as_less}
 
 -- ---- turns
 

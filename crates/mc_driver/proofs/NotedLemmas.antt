@@ -4,19 +4,15 @@ use Rattle.std.specs.Prelude.{Bool, true, false, Some, cond, nat_eq}
 use Rattle.std.specs.List.{slice_get}
 use Rattle.std.proofs.lemmas.Option.{slice_get_within}
 use mathlib.Core.List.{IsPrefix}
-use Rattle.mc_item.specs.declared.call_event.CallEvent.{CallEvent}
+use Rattle.mc_item.specs.declared.{call_event.CallEvent.CallEvent, class_event.ClassEvent.ClassEvent, event.Event.Event, stripe_event.StripeEvent.StripeEvent}
+use Rattle.mc_item.specs.declared.{stripe_event.Did.Did}
 use Rattle.mc_item.specs.declared.call_event.CallEvent.TheVariants as calls
-use Rattle.mc_item.specs.declared.class_event.ClassEvent.{ClassEvent}
-use Rattle.mc_item.specs.declared.event.Event.{Event}
-use Rattle.mc_item.specs.declared.stripe_event.StripeEvent.{StripeEvent}
 use Rattle.mc_evidence.specs.Seen.{class_events, stripe_events}
 use Rattle.mc_evidence.proofs.SeenLemmas.{class_events-map, classes_grow, stripe_events-map, stripes_grow}
 use Rattle.mc_script.specs.Exchanges.{Exchange}
-use Rattle.mc_store.specs.Callers.{IsCall, answered_at, IsCalled, IsNext, moment_of}
-use Rattle.mc_store.specs.Sides.{class_told, stripe_told}
+use Rattle.mc_store.specs.{Callers.IsCall, Callers.answered_at, Callers.IsCalled, Callers.IsNext, Callers.moment_of, Sides.class_told, Sides.stripe_told}
 use Rattle.mc_driver.specs.Caller.{AreAt, AreRising, IsAt, places_in}
 use Rattle.mc_driver.proofs.OnlyLemmas.{IsOneOf, is_yes}
-use Rattle.mc_item.specs.declared.stripe_event.Did.{Did}
 use Rattle.mc_item.specs.declared.stripe_event.StripeEvent.TheVariants as events
 
 -- what begins a stripe's history on the board shows a beginning of it

@@ -3,13 +3,10 @@ use Rattle.std.proofs.Common.{◌≡◌, ◌<◌, ◌+◌, ℕ, zero, suc, List,
 use Rattle.std.specs.Prelude.{Bool, true, false, Some, cond, nat_eq}
 use Rattle.std.specs.List.{slice_get}
 use Rattle.std.proofs.lemmas.Bool.Decides.{eqb_tells}
-use Rattle.mc_item.specs.declared.stripe_event.Did.{Did}
-use Rattle.mc_item.specs.declared.stripe_event.StripeEvent.{StripeEvent}
+use Rattle.mc_item.specs.declared.{stripe_event.Did.Did, stripe_event.StripeEvent.StripeEvent}
 use Rattle.mc_item.specs.declared.stripe_event.StripeEvent.TheVariants as events
 use Rattle.mc_script.specs.Exchanges.{Exchange}
-use Rattle.mc_driver.specs.Caller.{AreAt, AreRising, IsAt}
-use Rattle.mc_driver.specs.Noted.{exchange_of}
-use Rattle.mc_driver.specs.Stand.{calls_by}
+use Rattle.mc_driver.specs.{Caller.AreAt, Caller.AreRising, Caller.IsAt, Noted.exchange_of, Stand.calls_by}
 
 -- a number is one of these
 abbrev pub IsOneOf : ℕ → List ℕ → Type 0

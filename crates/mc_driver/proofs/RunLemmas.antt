@@ -1,29 +1,20 @@
 -- What a run leaves, put together of what each of its callers left.
 use Rattle.std.proofs.Common.{◌≡◌, ◌+◌, ◌<◌, ℕ, suc, List, [], ◌∷◌, ◌++◌, length, map, take, drop, refl, sym, ap, ◌∙◌, subst, arith}
 use Rattle.std.specs.Prelude.{Some, slice_get, slice_index_or}
-use Rattle.std.proofs.lemmas.List.{length-map, take-append-le, take_all}
-use Rattle.std.proofs.lemmas.Option.{get_or_from_slice_get}
+use Rattle.std.proofs.lemmas.{List.length-map, List.take-append-le, List.take_all, Option.get_or_from_slice_get}
 use Rattle.mc_item.specs.declared.config.Config.{Config}
-use Rattle.mc_script.specs.Exchanges.{Exchange}
-use Rattle.mc_script.specs.Upkeep.{KeepsUp, work_of}
-use Rattle.mc_script.specs.declared.ends.Both.{Both}
+use Rattle.mc_script.specs.{Exchanges.Exchange, Upkeep.KeepsUp, Upkeep.work_of}
+use Rattle.mc_script.specs.declared.{ends.Both.Both, outcome.Outcome.Outcome, upkeep.Keeper.Keeper, upkeep.Keeper.TheVariants.Maintainer}
+use Rattle.mc_script.specs.declared.{upkeep.Keeper.TheVariants.Crawler}
 use Rattle.mc_proto.specs.declared.request.Limits.{Limits}
-use Rattle.mc_script.specs.declared.outcome.Outcome.{Outcome}
 use Rattle.mc_script.specs.declared.outcome.Outcome.TheVariants as outcomes
-use Rattle.mc_script.specs.declared.upkeep.Keeper.{Keeper}
-use Rattle.mc_script.specs.declared.upkeep.Keeper.TheVariants.{Maintainer, Crawler}
-use Rattle.mc_store.specs.Finals.{AreClasses, AreStripes, FinalView}
-use Rattle.mc_store.specs.Passes.{ArePasses, PassView}
-use Rattle.mc_driver.specs.Called.{IsCompared, MadeNone}
-use Rattle.mc_driver.specs.Jobs.{HasWorked, Works, ends_in, script_of, works_of}
-use Rattle.mc_driver.specs.Left.{IsKeptUp, IsLeft, IsScriptLeft}
-use Rattle.mc_driver.specs.Run.{IsStore, histories_left, limits_of}
-use Rattle.mc_driver.specs.Stand.{AreItsCalls}
-use Rattle.mc_driver.specs.declared.jobs.Work.{Work}
-use Rattle.mc_driver.specs.declared.jobs.Work.TheVariants.{Script, Upkeep}
-use Rattle.mc_driver.proofs.EndedLemmas.{called_left, full_left, none_left, whole_left, works_left}
+use Rattle.mc_store.specs.{Finals.AreClasses, Finals.AreStripes, Finals.FinalView, Passes.ArePasses, Passes.PassView}
+use Rattle.mc_driver.specs.{Called.IsCompared, Called.MadeNone, Jobs.HasWorked, Jobs.Works, Jobs.ends_in, Jobs.script_of, Jobs.works_of, Left.IsKeptUp}
+use Rattle.mc_driver.specs.{Left.IsLeft, Left.IsScriptLeft, Run.IsStore, Run.histories_left, Run.limits_of, Stand.AreItsCalls}
+use Rattle.mc_driver.specs.declared.{jobs.Work.Work, jobs.Work.TheVariants.Script, jobs.Work.TheVariants.Upkeep}
+use Rattle.mc_driver.proofs.{EndedLemmas.called_left, EndedLemmas.full_left, EndedLemmas.none_left, EndedLemmas.whole_left, EndedLemmas.works_left}
+use Rattle.mc_driver.proofs.{MadeLemmas.by_working}
 use Rattle.mc_driver.proofs.JobLemmas.{AreScripts, HasWorkedAt, crawler_at, ends_at, ends_many, maintainer_at, script_at, worked_at, works_many}
-use Rattle.mc_driver.proofs.MadeLemmas.{by_working}
 
 -- nothing has no item
 nothing_split : {A : Type 0} (xs : List A) (x : A) (ys : List A) → [] ≡ xs ++ x ∷ ys → ⊥

@@ -1,28 +1,16 @@
 -- Calls that stand in histories go on standing where these grow, and behind less that was seen.
 use Rattle.std.proofs.Common.{ℕ, List, [], ◌∷◌, ◌++◌, sym, ap, ◌∙◌, append-nil, append_assoc, subst, refl, inl, inr}
 use mathlib.Core.List.{IsPrefix}
-use Rattle.mc_item.specs.declared.class_event.ClassEvent.{ClassEvent}
-use Rattle.mc_item.specs.declared.command.Command.{Command}
-use Rattle.mc_item.specs.declared.config.Config.{Config}
-use Rattle.mc_item.specs.declared.counts.Histogram.{Histogram}
-use Rattle.mc_item.specs.declared.counts.Moves.{Moves}
-use Rattle.mc_item.specs.declared.item.ClassNo.{ClassNo}
-use Rattle.mc_item.specs.declared.item.Who.{Who}
-use Rattle.mc_item.specs.declared.reply.Reply.{Reply}
-use Rattle.mc_item.specs.declared.stripe_event.StripeEvent.{StripeEvent}
+use Rattle.mc_item.specs.declared.{class_event.ClassEvent.ClassEvent, command.Command.Command, config.Config.Config, counts.Histogram.Histogram}
+use Rattle.mc_item.specs.declared.{counts.Moves.Moves, item.ClassNo.ClassNo, item.Who.Who, reply.Reply.Reply, stripe_event.StripeEvent.StripeEvent}
+use Rattle.mc_item.specs.declared.{item.StripeNo.StripeNo, stripe_event.Did.Did}
 use Rattle.mc_board.proofs.PrefixLemmas.{prefix_nil, prefix_self, prefix_trans}
-use Rattle.mc_evidence.specs.Refusals.{WasTried}
-use Rattle.mc_evidence.specs.Setting.{IsClass, site_in}
+use Rattle.mc_evidence.specs.{Refusals.WasTried, Setting.IsClass, Setting.site_in}
 use Rattle.mc_evidence.proofs.GrowLemmas.{tried_later}
 use Rattle.mc_proto.specs.Answers.{Answer, Moved, Replied, Counted}
 use Rattle.mc_script.specs.Exchanges.{Asks, Call, Exchange, Juggles, Crawls}
-use Rattle.mc_item.specs.declared.item.StripeNo.{StripeNo}
-use Rattle.mc_item.specs.declared.stripe_event.Did.{Did}
 use Rattle.mc_segment.specs.ClassCalls.{refused_event}
-use Rattle.mc_store.specs.Crawls.{HasReclaims}
-use Rattle.mc_store.specs.Earned.{IsLastResort}
-use Rattle.mc_store.specs.Locked.{setting_of}
-use Rattle.mc_store.specs.Sides.{class_told}
+use Rattle.mc_store.specs.{Crawls.HasReclaims, Earned.IsLastResort, Locked.setting_of, Sides.class_told}
 use Rattle.mc_driver.specs.Noted.{NotesCommand, NotesCrawling, NotesJuggling, answered_command, answered_event}
 use Rattle.mc_driver.specs.Stand.{Grow, Histories, IsPlaced, Stand, StandsAs, StandsBetween, nothing_seen, stripe_number}
 

@@ -7,15 +7,12 @@ use Rattle.clap.specs.Words.{HasKind, Text, kind_of}
 use Rattle.clap.specs.declared.error.Error.{Error as Refusal}
 use Rattle.clap.specs.declared.error.kind.ErrorKind.TheVariants.{DisplayHelp, DisplayVersion, OutOfMemory}
 use Rattle.mc_item.specs.Config.{are_callers, are_chunks, are_events, are_factors, are_percents, are_sizes, are_stripes, fault_of}
-use Rattle.mc_item.specs.declared.config.Config.{Config}
-use Rattle.mc_item.specs.declared.config.ConfigFault.{ConfigFault}
+use Rattle.mc_item.specs.declared.{config.Config.Config, config.ConfigFault.ConfigFault}
 use Rattle.mc_item.specs.declared.config.ConfigFault.TheVariants.{Stripes, Sizes, Chunks, Percent, Factor, Callers, Events}
 use Rattle.mc_script.specs.declared.outcome.Outcome.{Outcome}
 use Rattle.mc_script.specs.declared.outcome.Outcome.TheVariants.{Done, Memory, HistoryFull, Input, Output}
 use Rattle.mc_options.specs.Words.{refusals}
-use Rattle.mc_driver.specs.Input.{IsUnrun}
-use Rattle.mc_driver.specs.Run.{with_callers}
-use Rattle.mc_driver.specs.Status.{AreMistaken, IsFirstFault, status_of}
+use Rattle.mc_driver.specs.{Input.IsUnrun, Run.with_callers, Status.AreMistaken, Status.IsFirstFault, Status.status_of}
 use Rattle.mc_driver.specs.declared.fault.RunFault.{RunFault}
 use Rattle.mc_driver.specs.declared.fault.RunFault.TheVariants as unrun
 

@@ -1,16 +1,11 @@
 -- That each event of a stripe is of a call that stands in the histories, by who made it and its moment (own).
 use Rattle.std.specs.Prelude.{ℕ, ◌≡◌, ◌<◌, List, Some, slice_get}
-use Rattle.mc_item.specs.declared.call_event.CallEvent.{CallEvent}
-use Rattle.mc_item.specs.declared.config.Config.{Config}
-use Rattle.mc_item.specs.declared.stripe_event.StripeEvent.{StripeEvent}
+use Rattle.mc_item.specs.declared.{call_event.CallEvent.CallEvent, config.Config.Config, stripe_event.StripeEvent.StripeEvent}
 use Rattle.mc_item.specs.declared.stripe_event.StripeEvent.TheVariants as events
 use Rattle.mc_script.specs.Exchanges.{Exchange}
-use Rattle.mc_store.specs.Callers.{IsCalled, IsMomentOf, who_of}
+use Rattle.mc_store.specs.{Callers.IsCalled, Callers.IsMomentOf, Callers.who_of, Passes.PassView, Sides.StripeSide}
 use Rattle.mc_store.specs.Finals.{AreItsOwn, FinalView, IsBehindClasses, IsBehindStripes}
-use Rattle.mc_store.specs.Passes.{PassView}
-use Rattle.mc_driver.specs.Caller.{AreMadeButLast}
-use Rattle.mc_driver.specs.Stand.{Histories, Stands}
-use Rattle.mc_store.specs.Sides.{StripeSide}
+use Rattle.mc_driver.specs.{Caller.AreMadeButLast, Stand.Histories, Stand.Stands}
 
 -- an event that has a moment has this one; an item that was taken and a cleared mark have none
 abbrev pub IsAtMoment : StripeEvent → ℕ → Type 0

@@ -1,20 +1,15 @@
 -- A caller of a store that threads share: what its pass knows of its calls so far.
 use Rattle.std.specs.Prelude.{ℕ, ◌≡◌, ◌<◌, ◌≤◌, ◌+◌, List, [], ◌∷◌, Some, if◌then◌else◌, nat_eq, slice_get, length}
-use Rattle.mc_item.specs.declared.config.Config.{Config}
-use Rattle.mc_item.specs.declared.call_event.CallEvent.{CallEvent}
+use Rattle.mc_item.specs.declared.{config.Config.Config, call_event.CallEvent.CallEvent, stripe_event.Did.Did, stripe_event.StripeEvent.StripeEvent}
+use Rattle.mc_item.specs.declared.{item.Who.Who}
 use Rattle.mc_item.specs.declared.call_event.CallEvent.TheVariants as calls
-use Rattle.mc_item.specs.declared.stripe_event.Did.{Did}
-use Rattle.mc_item.specs.declared.stripe_event.StripeEvent.{StripeEvent}
 use Rattle.mc_item.specs.declared.stripe_event.StripeEvent.TheVariants as events
 use Rattle.mc_board.specs.declared.rule.Sight.{Sight}
 use Rattle.mc_board.specs.Histories.{list_at}
 use Rattle.mc_evidence.specs.Seen.{classes_seen, stripes_seen}
 use Rattle.mc_script.specs.Exchanges.{Asks, Call, Crawls, Exchange, Juggles}
-use Rattle.mc_store.specs.Passes.{PassView}
-use Rattle.mc_driver.specs.Noted.{exchange_of}
-use Rattle.mc_driver.specs.Stand.{Histories, IsPlaced, Stand, Stands, calls_at, nothing_seen}
-use Rattle.mc_item.specs.declared.item.Who.{Who}
-use Rattle.mc_store.specs.Callers.{asked_for, crawling_of, juggling_of, turns_of}
+use Rattle.mc_store.specs.{Passes.PassView, Callers.asked_for, Callers.crawling_of, Callers.juggling_of, Callers.turns_of}
+use Rattle.mc_driver.specs.{Noted.exchange_of, Stand.Histories, Stand.IsPlaced, Stand.Stand, Stand.Stands, Stand.calls_at, Stand.nothing_seen}
 
 -- the histories of a store as far as a token has seen them
 abbrev pub histories_seen : Config → Sight → Histories

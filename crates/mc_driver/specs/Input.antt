@@ -1,17 +1,14 @@
 -- An input: the scripts that it is cut into, what a run of it leaves, and what the program does with it (own).
 use Rattle.std.specs.Prelude.{ℕ, ◌≡◌, ◌<◌, List, [], Option, IfSome, length, map}
-use Rattle.std.specs.List.{All, flat_map}
-use Rattle.std.specs.Io.KnownBytes.{Appends}
+use Rattle.std.specs.{List.All, List.flat_map, Io.KnownBytes.Appends}
 use Rattle.clap.specs.Words.{Text}
 use Rattle.mc_item.specs.declared.config.Config.{Config}
 use Rattle.mc_proto.specs.Scripts as cut
-use Rattle.mc_script.specs.declared.outcome.Outcome.{Outcome}
-use Rattle.mc_script.specs.declared.outcome.Outcome.TheVariants.{Done}
+use Rattle.mc_script.specs.declared.{outcome.Outcome.Outcome, outcome.Outcome.TheVariants.Done}
 use Rattle.mc_store.specs.Finals.{FinalView}
 use Rattle.mc_options.specs.Asked.{AreAsked, asked}
 use Rattle.mc_options.specs.Words as command_line
-use Rattle.mc_driver.specs.Left.{IsLeft}
-use Rattle.mc_driver.specs.Run.{IsAccepted, IsRunnable, limits_of, with_callers}
+use Rattle.mc_driver.specs.{Left.IsLeft, Run.IsAccepted, Run.IsRunnable, Run.limits_of, Run.with_callers}
 use Rattle.mc_driver.specs.declared.fault.RunFault.{RunFault}
 use Rattle.mc_driver.specs.declared.fault.RunFault.TheVariants as refusals
 use Rattle.mc_options.specs.declared.plans.Options.{Options}

@@ -2,17 +2,12 @@
 use Rattle.std.specs.Prelude.{ℕ, ◌≡◌, List, [], ◌∷◌, ◌++◌, map}
 use Rattle.mc_item.specs.declared.config.Config.{Config}
 use Rattle.mc_proto.specs.declared.request.Limits.{Limits}
-use Rattle.mc_script.specs.Exchanges.{Exchange}
-use Rattle.mc_script.specs.Run.{AreCounted, Leaves}
-use Rattle.mc_script.specs.Upkeep.{KeepsUp, many_calls, work_of}
-use Rattle.mc_script.specs.declared.outcome.Outcome.{Outcome}
+use Rattle.mc_script.specs.{Exchanges.Exchange, Run.AreCounted, Run.Leaves, Upkeep.KeepsUp, Upkeep.many_calls, Upkeep.work_of}
+use Rattle.mc_script.specs.declared.{outcome.Outcome.Outcome, upkeep.Keeper.TheVariants.Maintainer, upkeep.Keeper.TheVariants.Crawler}
 use Rattle.mc_script.specs.declared.outcome.Outcome.TheVariants as outcomes
-use Rattle.mc_script.specs.declared.upkeep.Keeper.TheVariants.{Maintainer, Crawler}
-use Rattle.mc_store.specs.Passes.{PassView}
-use Rattle.mc_store.specs.Serving.{HasSeenShort}
+use Rattle.mc_store.specs.{Passes.PassView, Serving.HasSeenShort}
 use Rattle.mc_driver.specs.Caller.{AreNoted, MayCall}
-use Rattle.mc_driver.specs.declared.jobs.Work.{Work}
-use Rattle.mc_driver.specs.declared.jobs.Work.TheVariants.{Script, Upkeep}
+use Rattle.mc_driver.specs.declared.{jobs.Work.Work, jobs.Work.TheVariants.Script, jobs.Work.TheVariants.Upkeep}
 
 module _ {S K : Type 0} where
   -- the work of a script: its source and its sink

@@ -1,16 +1,12 @@
 -- What a run leaves, of each of its callers and of the store (own).
 use Rattle.std.specs.Prelude.{ℕ, ◌≡◌, ◌<◌, ◌+◌, List, [], length, slice_index_or}
 use Rattle.mc_item.specs.declared.config.Config.{Config}
-use Rattle.mc_script.specs.Run.{AreCounted, Leaves}
-use Rattle.mc_script.specs.Upkeep.{KeepsUp, work_of}
-use Rattle.mc_script.specs.declared.outcome.Outcome.{Outcome}
+use Rattle.mc_script.specs.{Run.AreCounted, Run.Leaves, Upkeep.KeepsUp, Upkeep.work_of}
+use Rattle.mc_script.specs.declared.{outcome.Outcome.Outcome, upkeep.Keeper.Keeper, upkeep.Keeper.TheVariants.Maintainer, upkeep.Keeper.TheVariants.Crawler}
 use Rattle.mc_script.specs.declared.outcome.Outcome.TheVariants as outcomes
-use Rattle.mc_script.specs.declared.upkeep.Keeper.{Keeper}
-use Rattle.mc_script.specs.declared.upkeep.Keeper.TheVariants.{Maintainer, Crawler}
 use Rattle.mc_store.specs.Finals.{FinalView}
-use Rattle.mc_driver.specs.Called.{AreByCallers, AreWholeTurns, HasCalls}
+use Rattle.mc_driver.specs.{Called.AreByCallers, Called.AreWholeTurns, Called.HasCalls, Stand.AreItsCalls, Stand.Histories}
 use Rattle.mc_driver.specs.Run.{HasFull, IsStore, callers_at_work, histories_left, limits_of}
-use Rattle.mc_driver.specs.Stand.{AreItsCalls, Histories}
 
 -- what upkeep at these moments leaves, by how it ended: its calls stand in the histories in turn, and on stripes its caller
 -- made no command

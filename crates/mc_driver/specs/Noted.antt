@@ -2,35 +2,21 @@
 use Rattle.std.specs.Prelude.{ℕ, ◌≡◌, List, [], ◌∷◌, ◌++◌}
 use Rattle.std.specs.List.{flat_map}
 use mathlib.Core.List.{IsPrefix}
-use Rattle.mc_item.specs.declared.class_event.ClassEvent.{ClassEvent}
-use Rattle.mc_item.specs.declared.command.Command.{Command}
-use Rattle.mc_item.specs.declared.config.Config.{Config}
-use Rattle.mc_item.specs.declared.counts.Moves.{Moves}
-use Rattle.mc_item.specs.declared.item.ClassNo.{ClassNo}
-use Rattle.mc_item.specs.declared.item.Who.{Who}
-use Rattle.mc_item.specs.declared.reply.Reply.{Reply}
-use Rattle.mc_item.specs.declared.reply.Room.{Room}
-use Rattle.mc_item.specs.declared.stripe_event.Did.{Did}
-use Rattle.mc_item.specs.declared.stripe_event.StripeEvent.{StripeEvent}
+use Rattle.mc_item.specs.declared.{class_event.ClassEvent.ClassEvent, command.Command.Command, config.Config.Config, counts.Moves.Moves, item.ClassNo.ClassNo}
+use Rattle.mc_item.specs.declared.{item.Who.Who, reply.Reply.Reply, reply.Room.Room, stripe_event.Did.Did, stripe_event.StripeEvent.StripeEvent}
+use Rattle.mc_item.specs.declared.{counts.Histogram.Histogram}
 use Rattle.mc_item.specs.declared.stripe_event.StripeEvent.TheVariants as events
 use Rattle.mc_proto.specs.Answers.{Replied}
-use Rattle.mc_pull.specs.Juggle.{IsJuggle}
-use Rattle.mc_pull.specs.Rounds.{rounds}
+use Rattle.mc_pull.specs.{Juggle.IsJuggle, Rounds.rounds}
 use Rattle.mc_pull.specs.declared.looking.Answer.{Answer as GateAnswer}
 use Rattle.mc_script.specs.Exchanges.{Asks, Exchange}
 use Rattle.mc_segment.specs.ClassState.{opened}
-use Rattle.mc_item.specs.declared.counts.Histogram.{Histogram}
 use Rattle.mc_rule.specs.Lists.{count_of, lists_of}
-use Rattle.mc_evidence.specs.Refusals.{WasTried}
-use Rattle.mc_evidence.specs.Setting.{IsClass, site_in}
-use Rattle.mc_crawl.specs.CrawlCount.{IsBalanced}
-use Rattle.mc_crawl.specs.Snapshot.{links_of}
+use Rattle.mc_evidence.specs.{Refusals.WasTried, Setting.IsClass, Setting.site_in}
+use Rattle.mc_crawl.specs.{CrawlCount.IsBalanced, Snapshot.links_of}
 use Rattle.mc_item.specs.Counts.{no_counts}
 use Rattle.mc_item.specs.declared.reply.Room.TheVariants as rooms
-use Rattle.mc_store.specs.Crawls.{AreLinksCounted, HasReclaims}
-use Rattle.mc_store.specs.Earned.{IsLastResort}
-use Rattle.mc_store.specs.Locked.{setting_of}
-use Rattle.mc_store.specs.Sides.{class_told}
+use Rattle.mc_store.specs.{Crawls.AreLinksCounted, Crawls.HasReclaims, Earned.IsLastResort, Locked.setting_of, Sides.class_told}
 
 -- the exchange that an answered command is, whatever its room
 abbrev pub exchange_of : Did → Exchange

@@ -1,18 +1,14 @@
 -- Which runs are accepted, and the store that one leaves.
 use Rattle.std.specs.Prelude.{ℕ, ◌≡◌, ◌<◌, ◌≤◌, ◌+◌, ◌-◌, ◌⊎◌, List, [], ◌∷◌, Some, None, length, slice_get, slice_index}
-use Rattle.mc_item.specs.Config.{fault_of}
-use Rattle.mc_item.specs.Stripe.{IsLegal}
-use Rattle.mc_item.specs.declared.answer.Site.{Site}
-use Rattle.mc_item.specs.declared.config.Config.{Config}
-use Rattle.mc_item.specs.declared.item.ClassNo.{ClassNo}
+use Rattle.mc_item.specs.{Config.fault_of, Stripe.IsLegal}
+use Rattle.mc_item.specs.declared.{answer.Site.Site, config.Config.Config, item.ClassNo.ClassNo}
 use Rattle.mc_evidence.specs.Sound.{IsSoundStore}
 use Rattle.mc_segment.specs.ClassState.{ClassView}
 use Rattle.mc_stripe.specs.StripeState.{Stripe}
 use Rattle.mc_pull.specs.Question.{IsClassOf}
 use Rattle.mc_proto.specs.declared.request.Limits.{Limits}
 use Rattle.mc_store.specs.Finals.{AreExactlyEntries, FinalView, class_histories, stripe_histories}
-use Rattle.mc_store.specs.Locked.{setting_of}
-use Rattle.mc_store.specs.Sides.{ClassSide, StripeSide}
+use Rattle.mc_store.specs.{Locked.setting_of, Sides.ClassSide, Sides.StripeSide}
 use Rattle.mc_driver.specs.declared.fault.RunFault.{RunFault}
 use Rattle.mc_driver.specs.declared.fault.RunFault.TheVariants as refusals
 use Rattle.mc_driver.specs.Stand.{Histories}

@@ -3,16 +3,10 @@
 use Rattle.std.specs.Prelude.{ℕ, ◌≡◌, ◌<◌, Bool, false, List, [], ◌∷◌, nat_eq}
 use Rattle.std.specs.List.{filter}
 use mathlib.Core.List.{IsPrefix}
-use Rattle.mc_item.specs.Command.{key_of}
-use Rattle.mc_item.specs.Measure.{stripe_of}
-use Rattle.mc_item.specs.declared.class_event.ClassEvent.{ClassEvent}
-use Rattle.mc_item.specs.declared.command.Command.{Command}
-use Rattle.mc_item.specs.declared.config.Config.{Config}
-use Rattle.mc_item.specs.declared.item.ClassNo.{ClassNo}
-use Rattle.mc_item.specs.declared.item.Who.{Who}
-use Rattle.mc_item.specs.declared.stripe_event.StripeEvent.{StripeEvent}
-use Rattle.mc_evidence.specs.Locks.{ClassKeeps, StripeKeeps}
-use Rattle.mc_evidence.specs.Setting.{IsClass}
+use Rattle.mc_item.specs.{Command.key_of, Measure.stripe_of}
+use Rattle.mc_item.specs.declared.{class_event.ClassEvent.ClassEvent, command.Command.Command, config.Config.Config, item.ClassNo.ClassNo, item.Who.Who}
+use Rattle.mc_item.specs.declared.{stripe_event.StripeEvent.StripeEvent}
+use Rattle.mc_evidence.specs.{Locks.ClassKeeps, Locks.StripeKeeps, Setting.IsClass}
 use Rattle.mc_proto.specs.Answers.{Answer, Moved, Replied, Counted}
 use Rattle.mc_script.specs.Exchanges.{Asks, Call, Exchange, Juggles, Crawls}
 use Rattle.mc_store.specs.Locked.{setting_of}

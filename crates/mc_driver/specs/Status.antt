@@ -1,19 +1,16 @@
 -- What the program's exit status tells where it isn't 0 (own).
 use Rattle.std.specs.Prelude.{ℕ, ◌≡◌, ◌≢◌, ◌<◌, ◌⊎◌, List, [], Option, Some, length, slice_index_or, take}
-use Rattle.std.specs.List.{All}
-use Rattle.std.specs.Io.KnownBytes.{Appends}
+use Rattle.std.specs.{List.All, Io.KnownBytes.Appends}
 use Rattle.clap.specs.Kinds.{IsAmong}
 use Rattle.clap.specs.Words.{Text}
 use Rattle.clap.specs.declared.error.kind.ErrorKind.{ErrorKind}
 use Rattle.clap.specs.declared.error.kind.ErrorKind.TheVariants.{DisplayHelp, DisplayVersion}
 use Rattle.mc_item.specs.Config.{fault_of}
-use Rattle.mc_item.specs.declared.config.Config.{Config}
-use Rattle.mc_item.specs.declared.config.ConfigFault.{ConfigFault}
+use Rattle.mc_item.specs.declared.{config.Config.Config, config.ConfigFault.ConfigFault}
 use Rattle.mc_script.specs.declared.outcome.Outcome.{Outcome}
 use Rattle.mc_script.specs.declared.outcome.Outcome.TheVariants.{Done, Memory, HistoryFull, Input, Output}
 use Rattle.mc_store.specs.Finals.{FinalView}
-use Rattle.mc_options.specs.Asked.{AreAsked, IsBadList, asked}
-use Rattle.mc_options.specs.Words.{refusals, sizes_in, upkeep_in}
+use Rattle.mc_options.specs.{Asked.AreAsked, Asked.IsBadList, Asked.asked, Words.refusals, Words.sizes_in, Words.upkeep_in}
 use Rattle.mc_options.specs.declared.plans.Options.{Options}
 use Rattle.mc_driver.specs.Input.{AreHeeded, IsRunOf, IsUnrun}
 use Rattle.mc_driver.specs.declared.fault.RunFault.TheVariants as unrun

@@ -46,8 +46,7 @@ impl<'a, N: Named> Caller<'a, N> {
 impl<'a, N: Named> Calls for Caller<'a, N> {
     ghost use Rattle.mc_item.specs.declared.config.Config.{Config};
     ghost use Rattle.mc_evidence.specs.Setting.{IsClass};
-    ghost use Rattle.mc_store.specs.Locked.{setting_of};
-    ghost use Rattle.mc_store.specs.Serving.{HasSeenShort};
+    ghost use Rattle.mc_store.specs.{Locked.setting_of, Serving.HasSeenShort};
     ghost use Rattle.mc_driver.specs.Caller.{AreNoted, MayCall};
 
     ghost Place = { Config };

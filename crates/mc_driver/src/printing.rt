@@ -1,7 +1,6 @@
 //! Prints what scripts replied.
 ghost use Rattle.std.specs.Prelude.{OnOk};
-ghost use Rattle.std.specs.List.{flat_map};
-ghost use Rattle.std.specs.Io.KnownBytes.{Appends};
+ghost use Rattle.std.specs.{List.flat_map, Io.KnownBytes.Appends};
 ghost use Rattle.mc_proto.specs.Gathered.{bytes_of};
 
 use crate::memory::{Kept, Pieces};

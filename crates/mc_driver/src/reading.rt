@@ -1,7 +1,6 @@
 //! Reads an input to its end, in pieces.
 ghost use Rattle.std.specs.Prelude.{◌≡◌, ◌≤◌, ◌<◌, ◌+◌, ◌++◌, IfOk, IfSome, OnOk, drop, length, take};
-ghost use Rattle.std.specs.List.{flat_map};
-ghost use Rattle.std.specs.Io.KnownBytes.{Consumes, IsAtEnd};
+ghost use Rattle.std.specs.{List.flat_map, Io.KnownBytes.Consumes, Io.KnownBytes.IsAtEnd};
 
 use crate::input::PIECE;
 use std::alloc::Global;

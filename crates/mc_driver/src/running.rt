@@ -2,19 +2,14 @@
 ghost use Rattle.std.specs.Prelude.{◌≡◌, ◌≢◌, ◌+◌, ◌<◌, ◌≤◌, ◌^◌, ℕ, [], IfOk, IfErr, Some, None, length, slice_index_or, slice_get};
 ghost use Rattle.std.specs.List.{All};
 ghost use Rattle.mc_item.specs.Config.{fault_of, IsBounded, IsSound};
-ghost use Rattle.mc_board.specs.Histories.{blind};
-ghost use Rattle.mc_board.specs.Views.{AreOwners, locks_of};
+ghost use Rattle.mc_board.specs.{Histories.blind, Views.AreOwners, Views.locks_of};
 ghost use Rattle.mc_script.specs.Run.{AreCounted, Leaves};
-ghost use Rattle.mc_script.specs.declared.outcome.Outcome.{Outcome};
+ghost use Rattle.mc_script.specs.declared.{outcome.Outcome.Outcome, upkeep.Keeper.TheVariants.Crawler, upkeep.Keeper.TheVariants.Maintainer};
 ghost use Rattle.mc_script.specs.declared.outcome.Outcome.TheVariants as outcomes;
-ghost use Rattle.mc_script.specs.declared.upkeep.Keeper.TheVariants.{Crawler, Maintainer};
-ghost use Rattle.mc_store.specs.Finals.{AreStripes};
-ghost use Rattle.mc_store.specs.Locked.{histories_for};
-ghost use Rattle.mc_store.specs.Passes.{PassView};
+ghost use Rattle.mc_store.specs.{Finals.AreStripes, Locked.histories_for, Passes.PassView};
 ghost use Rattle.mc_driver.specs.Called.{AreByCallers, AreWholeTurns, HasCalls, IsCompared};
-ghost use Rattle.mc_driver.specs.Left.{AreKeepersDone, IsKeptUp, IsLeft};
+ghost use Rattle.mc_driver.specs.{Left.AreKeepersDone, Left.IsKeptUp, Left.IsLeft, Stand.AreItsCalls};
 ghost use Rattle.mc_driver.specs.Run.{HasFull, IsAccepted, IsRefused, IsStore, callers_at_work, histories_left, limits_of, with_callers};
-ghost use Rattle.mc_driver.specs.Stand.{AreItsCalls};
 ghost use Rattle.mc_driver.specs.declared.fault.RunFault.TheVariants as faults;
 
 use crate::fault::RunFault;

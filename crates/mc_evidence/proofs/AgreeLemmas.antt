@@ -1,38 +1,19 @@
 -- Each outcome of a judgement and each command keeps a stripe's and a class's whole histories in agreement.
 use Rattle.std.proofs.Common.{◌≡◌, ℕ, List, [], ◌∷◌, ◌++◌, true, refl, sym, subst, length}
 use Rattle.std.specs.Prelude.{IsSomeAnd}
-use Rattle.mc_item.specs.Command.{key_of}
-use Rattle.mc_item.specs.Item.{is_dead}
-use Rattle.mc_item.specs.Stripe.{IsDead}
-use Rattle.mc_item.specs.declared.answer.Site.{Site}
-use Rattle.mc_item.specs.declared.class_event.ClassEvent.{ClassEvent}
+use Rattle.mc_item.specs.{Command.key_of, Item.is_dead, Stripe.IsDead}
+use Rattle.mc_item.specs.declared.{answer.Site.Site, class_event.ClassEvent.ClassEvent, class_event.Linked.Linked, class_event.Refused.Refused}
+use Rattle.mc_item.specs.declared.{class_event.Shifted.Shifted, class_event.Surveyed.Surveyed, class_event.Unlinked.Unlinked, item.ClassNo.ClassNo}
+use Rattle.mc_item.specs.declared.{item.Who.Who, stripe_event.Did.Did, stripe_event.StripeEvent.StripeEvent}
 use Rattle.mc_item.specs.declared.class_event.ClassEvent.TheVariants as entries
-use Rattle.mc_item.specs.declared.class_event.Linked.{Linked}
-use Rattle.mc_item.specs.declared.class_event.Refused.{Refused}
-use Rattle.mc_item.specs.declared.class_event.Shifted.{Shifted}
-use Rattle.mc_item.specs.declared.class_event.Surveyed.{Surveyed}
-use Rattle.mc_item.specs.declared.class_event.Unlinked.{Unlinked}
-use Rattle.mc_item.specs.declared.item.ClassNo.{ClassNo}
-use Rattle.mc_item.specs.declared.item.Who.{Who}
-use Rattle.mc_item.specs.declared.stripe_event.Did.{Did}
-use Rattle.mc_item.specs.declared.stripe_event.StripeEvent.{StripeEvent}
 use Rattle.mc_item.specs.declared.stripe_event.StripeEvent.TheVariants as items
 use Rattle.mc_rule.proofs.PlaceLemmas.{each_push, none_stands}
-use Rattle.mc_rule.specs.Agreement.{Agree}
-use Rattle.mc_rule.specs.Belonging.{Belong, IsEntryOf}
-use Rattle.mc_rule.specs.Cited.{IsCitedIn, IsSuited}
-use Rattle.mc_rule.specs.Evidence.{AreEvidence}
-use Rattle.mc_rule.specs.Lawful.{IsLawfulHistoryByLists, SuitsMove}
+use Rattle.mc_rule.specs.{Agreement.Agree, Belonging.Belong, Belonging.IsEntryOf, Cited.IsCitedIn, Cited.IsSuited, Evidence.AreEvidence}
+use Rattle.mc_rule.specs.{Lawful.IsLawfulHistoryByLists, Lawful.SuitsMove, Partners.ClearsOnce, Segment.Rule}
 use Rattle.mc_rule.specs.Pairs.{ClearsMark, IsKeyOf, IsLinking, IsUnlinking, item_after, link_to}
-use Rattle.mc_rule.specs.Partners.{ClearsOnce}
-use Rattle.mc_rule.specs.Segment.{Rule}
-use Rattle.mc_evidence.proofs.CitedLemmas.{all_suited_later, move_suits}
-use Rattle.mc_evidence.proofs.EntryLemmas.{cites_now}
-use Rattle.mc_evidence.proofs.GrowLemmas.{class_push}
-use Rattle.mc_evidence.proofs.PartnerLemmas.{move_is_only}
+use Rattle.mc_evidence.proofs.{CitedLemmas.all_suited_later, CitedLemmas.move_suits, EntryLemmas.cites_now, GrowLemmas.class_push, PartnerLemmas.move_is_only}
+use Rattle.mc_evidence.proofs.{SuitLemmas.with_link, TurnLemmas.stays}
 use Rattle.mc_evidence.proofs.StepLemmas.{command_keeps, cooling_keeps, eviction_keeps, key_found, linking_keeps, reclaiming_keeps, replacing_keeps, unlinking_keeps}
-use Rattle.mc_evidence.proofs.SuitLemmas.{with_link}
-use Rattle.mc_evidence.proofs.TurnLemmas.{stays}
 use Rattle.mc_evidence.specs.Made.{IsGivenNone, IsRefusedThere, LetsNoneGo, cooled_as, evicted_as, lost_at, lost_to, reclaimed_as}
 
 -- histories without events agree

@@ -2,20 +2,12 @@
 use Rattle.std.proofs.Common.{◌≡◌, ℕ, List, sym, ap, ◌∙◌, subst, length}
 use Rattle.std.specs.Prelude.{Some}
 use Rattle.mc_item.specs.Item.{link_of_item}
-use Rattle.mc_item.specs.declared.answer.Site.{Site}
-use Rattle.mc_item.specs.declared.class_event.ClassEvent.{ClassEvent}
+use Rattle.mc_item.specs.declared.{answer.Site.Site, class_event.ClassEvent.ClassEvent, class_event.Evicted.Evicted, item.ClassNo.ClassNo}
+use Rattle.mc_item.specs.declared.{stripe_event.Cause.TheVariants.Taken, stripe_event.Lost.Lost, stripe_event.StripeEvent.StripeEvent}
 use Rattle.mc_item.specs.declared.class_event.ClassEvent.TheVariants as entries
-use Rattle.mc_item.specs.declared.class_event.Evicted.{Evicted}
-use Rattle.mc_item.specs.declared.item.ClassNo.{ClassNo}
-use Rattle.mc_item.specs.declared.stripe_event.Cause.TheVariants.{Taken}
-use Rattle.mc_item.specs.declared.stripe_event.Lost.{Lost}
-use Rattle.mc_item.specs.declared.stripe_event.StripeEvent.{StripeEvent}
 use Rattle.mc_item.specs.declared.stripe_event.StripeEvent.TheVariants as items
 use Rattle.mc_rule.proofs.PlaceLemmas.{one_stands}
-use Rattle.mc_rule.specs.Evidence.{AreEvidence, IsLossTold}
-use Rattle.mc_rule.specs.Pairs.{IsEviction, item_after, link_to}
-use Rattle.mc_rule.specs.Places.{Has, Stands}
-use Rattle.mc_rule.specs.Segment.{Rule}
+use Rattle.mc_rule.specs.{Evidence.AreEvidence, Evidence.IsLossTold, Pairs.IsEviction, Pairs.item_after, Pairs.link_to, Places.Has, Places.Stands, Segment.Rule}
 
 same_place : (c d : ClassNo) (p q : ℕ) → Taken c p ≡ Taken d q → p ≡ q
 same_place c d p q h = cc

@@ -1,24 +1,12 @@
 -- The cited item stays while the stripe's history grows.
 use Rattle.std.proofs.Common.{◌≡◌, ◌≤◌, ◌+◌, ℕ, List, ◌++◌, Bool, true, false, refl, sym, ap, ◌∙◌, subst, length, take, arith, length-append}
 use Rattle.std.specs.Prelude.{Option, None, IsSomeAnd, nat_le, if◌then◌else◌}
-use Rattle.std.proofs.lemmas.Bool.Decides.{nat_tests}
-use Rattle.std.proofs.lemmas.List.{take_all, take-append-le}
-use Rattle.mc_item.specs.declared.answer.Site.{Site}
-use Rattle.mc_item.specs.declared.class_event.ClassEvent.{ClassEvent}
+use Rattle.std.proofs.lemmas.{Bool.Decides.nat_tests, List.take_all, List.take-append-le}
+use Rattle.mc_item.specs.declared.{answer.Site.Site, class_event.ClassEvent.ClassEvent, class_event.Shifted.Shifted, item.ClassNo.ClassNo, item.Item.Item}
+use Rattle.mc_item.specs.declared.{lists.Entry.Entry, lists.Seg.Seg, stripe_event.StripeEvent.StripeEvent}
 use Rattle.mc_item.specs.declared.class_event.ClassEvent.TheVariants as entries
-use Rattle.mc_item.specs.declared.class_event.Shifted.{Shifted}
-use Rattle.mc_item.specs.declared.item.ClassNo.{ClassNo}
-use Rattle.mc_item.specs.declared.item.Item.{Item}
-use Rattle.mc_item.specs.declared.lists.Entry.{Entry}
-use Rattle.mc_item.specs.declared.lists.Seg.{Seg}
-use Rattle.mc_item.specs.declared.stripe_event.StripeEvent.{StripeEvent}
-use Rattle.mc_rule.proofs.PlaceLemmas.{each_weaker}
-use Rattle.mc_rule.proofs.TestLemmas.{some_same}
-use Rattle.mc_rule.specs.Belonging.{IsEntryOf}
-use Rattle.mc_rule.specs.Cited.{IsSuited, cited_in}
-use Rattle.mc_rule.specs.Lawful.{SuitsMove}
-use Rattle.mc_rule.specs.Pairs.{item_after, link_to}
-use Rattle.mc_rule.specs.Places.{Each}
+use Rattle.mc_rule.proofs.{PlaceLemmas.each_weaker, TestLemmas.some_same}
+use Rattle.mc_rule.specs.{Belonging.IsEntryOf, Cited.IsSuited, Cited.cited_in, Lawful.SuitsMove, Pairs.item_after, Pairs.link_to, Places.Each}
 
 test_le : (a b : ℕ) → a ≤ b → nat_le a b ≡ true
 test_le a b le = grind (arith, nat_tests)

@@ -1,17 +1,11 @@
 -- A checked configuration's classes hold no more than 2^20 bytes.
 use Rattle.std.proofs.Common.{◌≡◌, ◌≤◌, ◌<◌, ◌^◌, ◌&&◌, get_or, Bool, true, false, not, ℕ, zero, suc, List, [], ◌∷◌, length, refl, Option, Some, None, arith}
 use Rattle.std.specs.Prelude.{if◌then◌else◌, nat_le, nat_lt, position}
-use Rattle.std.specs.List.{list_all}
-use Rattle.std.specs.Option.{option_map}
-use Rattle.std.proofs.lemmas.Bool.{false≢true}
-use Rattle.std.proofs.lemmas.Bool.Decides.{nat_tests}
-use Rattle.std.proofs.lemmas.List.Quantifiers.{position-Some}
-use Rattle.mc_item.specs.Config.{IsSound, are_stripes, are_sizes, is_size, is_rising}
-use Rattle.mc_item.specs.Measure.{class_at}
-use Rattle.mc_item.specs.declared.config.Config.{Config}
-use Rattle.mc_item.specs.declared.config.ConfigFault.{ConfigFault}
-use Rattle.mc_item.specs.declared.config.ConfigFault.TheVariants.{Stripes, Sizes}
-use Rattle.mc_item.specs.declared.item.ClassNo.{ClassNo}
+use Rattle.std.specs.{List.list_all, Option.option_map}
+use Rattle.std.proofs.lemmas.{Bool.false≢true, Bool.Decides.nat_tests, List.Quantifiers.position-Some}
+use Rattle.mc_item.specs.{Config.IsSound, Config.are_stripes, Config.are_sizes, Config.is_size, Config.is_rising, Measure.class_at}
+use Rattle.mc_item.specs.declared.{config.Config.Config, config.ConfigFault.ConfigFault, config.ConfigFault.TheVariants.Stripes}
+use Rattle.mc_item.specs.declared.{config.ConfigFault.TheVariants.Sizes, item.ClassNo.ClassNo}
 use Rattle.mc_evidence.specs.Small.{AreSmall}
 
 passed : (b : Bool) (fault : ConfigFault) (rest : Option ConfigFault) → (if not b then Some fault else rest) ≡ None → (b ≡ true) × (rest ≡ None)

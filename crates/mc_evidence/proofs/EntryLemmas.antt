@@ -4,52 +4,24 @@ use Rattle.std.proofs.Common.{◌≡◌, ◌<◌, ℕ, List, [], ◌∷◌, ◌+
 use Rattle.std.specs.Prelude.{Option, Some, None, IsSomeAnd}
 use mathlib.Core.List.{IsPrefix}
 use Rattle.mc_item.proofs.StripeLemmas.{IsLegal-push}
-use Rattle.mc_item.specs.Command.{key_of}
-use Rattle.mc_item.specs.Item.{is_dead, link_of_item}
-use Rattle.mc_item.specs.Stripe.{MayDo, MayHappen, IsDead, cache_of}
-use Rattle.mc_item.specs.declared.answer.Site.{Site}
-use Rattle.mc_item.specs.declared.class_event.ClassEvent.{ClassEvent}
+use Rattle.mc_item.specs.{Command.key_of, Item.is_dead, Item.link_of_item, Stripe.MayDo, Stripe.MayHappen, Stripe.IsDead, Stripe.cache_of}
+use Rattle.mc_item.specs.declared.{answer.Site.Site, class_event.ClassEvent.ClassEvent, class_event.Evicted.Evicted, class_event.Linked.Linked}
+use Rattle.mc_item.specs.declared.{class_event.Reclaimed.Reclaimed, class_event.Refused.Refused, class_event.Shifted.Shifted, class_event.Surveyed.Surveyed}
+use Rattle.mc_item.specs.declared.{class_event.Unlinked.Unlinked, item.ClassNo.ClassNo, item.Item.Item, item.Link.Link, item.StripeNo.StripeNo, item.Who.Who}
+use Rattle.mc_item.specs.declared.{stripe_event.Cause.TheVariants.Expired, stripe_event.Cause.TheVariants.Taken, stripe_event.Cooled.Cooled}
+use Rattle.mc_item.specs.declared.{stripe_event.Did.Did, stripe_event.Lost.Lost, stripe_event.StripeEvent.StripeEvent}
 use Rattle.mc_item.specs.declared.class_event.ClassEvent.TheVariants as entries
-use Rattle.mc_item.specs.declared.class_event.Evicted.{Evicted}
-use Rattle.mc_item.specs.declared.class_event.Linked.{Linked}
-use Rattle.mc_item.specs.declared.class_event.Reclaimed.{Reclaimed}
-use Rattle.mc_item.specs.declared.class_event.Refused.{Refused}
-use Rattle.mc_item.specs.declared.class_event.Shifted.{Shifted}
-use Rattle.mc_item.specs.declared.class_event.Surveyed.{Surveyed}
-use Rattle.mc_item.specs.declared.class_event.Unlinked.{Unlinked}
-use Rattle.mc_item.specs.declared.item.ClassNo.{ClassNo}
-use Rattle.mc_item.specs.declared.item.Item.{Item}
-use Rattle.mc_item.specs.declared.item.Link.{Link}
-use Rattle.mc_item.specs.declared.item.StripeNo.{StripeNo}
-use Rattle.mc_item.specs.declared.item.Who.{Who}
 use Rattle.mc_item.specs.declared.reply.Room.TheVariants as rooms
-use Rattle.mc_item.specs.declared.stripe_event.Cause.TheVariants.{Expired, Taken}
-use Rattle.mc_item.specs.declared.stripe_event.Cooled.{Cooled}
-use Rattle.mc_item.specs.declared.stripe_event.Did.{Did}
-use Rattle.mc_item.specs.declared.stripe_event.Lost.{Lost}
-use Rattle.mc_item.specs.declared.stripe_event.StripeEvent.{StripeEvent}
 use Rattle.mc_item.specs.declared.stripe_event.StripeEvent.TheVariants as items
-use Rattle.mc_rule.proofs.HistoryLemmas.{lawful_push}
-use Rattle.mc_rule.proofs.PlaceLemmas.{each_push, last_stands}
-use Rattle.mc_rule.proofs.TestLemmas.{none_some, some_same}
-use Rattle.mc_rule.specs.Belonging.{Belong, IsEntryOf}
-use Rattle.mc_rule.specs.Cited.{IsCitedIn, IsSuited, cited_in}
-use Rattle.mc_rule.specs.Evidence.{IsBacked, IsLossTold, IsTold, OfStripe}
-use Rattle.mc_rule.specs.Lawful.{IsLawfulByLists, SuitsMove}
-use Rattle.mc_rule.specs.Lists.{found}
+use Rattle.mc_rule.proofs.{HistoryLemmas.lawful_push, PlaceLemmas.each_push, PlaceLemmas.last_stands, TestLemmas.none_some, TestLemmas.some_same}
+use Rattle.mc_rule.specs.{Belonging.Belong, Belonging.IsEntryOf, Cited.IsCitedIn, Cited.IsSuited, Cited.cited_in, Evidence.IsBacked, Evidence.IsLossTold}
+use Rattle.mc_rule.specs.{Evidence.IsTold, Evidence.OfStripe, Lawful.IsLawfulByLists, Lawful.SuitsMove, Lists.found, Partners.ClearsOnce, Places.Each}
+use Rattle.mc_rule.specs.{Places.Has, Segment.Rule}
 use Rattle.mc_rule.specs.Pairs.{ClearsMark, IsCooling, IsEviction, IsKeyOf, IsLinking, IsReclaiming, IsRefusal, IsUnlinking, LetsGo, item_after, link_to}
-use Rattle.mc_rule.specs.Partners.{ClearsOnce}
-use Rattle.mc_rule.specs.Places.{Each, Has}
-use Rattle.mc_rule.specs.Segment.{Rule}
-use Rattle.mc_evidence.proofs.CitedLemmas.{cited_later, cited_now}
-use Rattle.mc_evidence.proofs.GrowLemmas.{all_backed_later}
-use Rattle.mc_evidence.proofs.LockLemmas.{class_sees_more, stripe_sees_more}
-use Rattle.mc_evidence.proofs.PartnerLemmas.{move_is_only}
-use Rattle.mc_evidence.proofs.StepLemmas.{key_found}
-use Rattle.mc_evidence.proofs.SuitLemmas.{with_link}
-use Rattle.mc_evidence.specs.Locks.{AreHeld, ClassKeeps, SeesMore, StripeKeeps}
+use Rattle.mc_evidence.proofs.{CitedLemmas.cited_later, CitedLemmas.cited_now, GrowLemmas.all_backed_later, LockLemmas.class_sees_more}
+use Rattle.mc_evidence.proofs.{LockLemmas.stripe_sees_more, PartnerLemmas.move_is_only, StepLemmas.key_found, SuitLemmas.with_link}
+use Rattle.mc_evidence.specs.{Locks.AreHeld, Locks.ClassKeeps, Locks.SeesMore, Locks.StripeKeeps, Setting.IsClass, Setting.Setting, Setting.site_in}
 use Rattle.mc_evidence.specs.Made.{cooled_as, evicted_as, lost_at, lost_to, reclaimed_as}
-use Rattle.mc_evidence.specs.Setting.{IsClass, Setting, site_in}
 
 -- a stripe's lock, one event later
 pub stripe_step : (setting : Setting) (s : ℕ) (own : List StripeEvent) (seen more : ClassNo → List ClassEvent) (e : StripeEvent) → ((class : ClassNo) → IsPrefix (seen class) (more class)) → StripeKeeps setting s own seen

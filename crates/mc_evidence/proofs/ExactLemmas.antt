@@ -1,30 +1,15 @@
 -- A stripe's items with a link of a class, and the class's entries with keys of the stripe.
 use Rattle.std.proofs.Common.{◌≡◌, ℕ, List, refl, sym, ap, ◌∙◌, subst}
 use Rattle.std.specs.Prelude.{Option, Some, None, IsSomeAnd}
-use Rattle.mc_item.specs.Measure.{cost_of}
-use Rattle.mc_item.specs.Stripe.{IsLegal}
-use Rattle.mc_item.specs.declared.answer.Site.{Site}
-use Rattle.mc_item.specs.declared.class_event.ClassEvent.{ClassEvent}
-use Rattle.mc_item.specs.declared.item.ClassNo.{ClassNo}
-use Rattle.mc_item.specs.declared.item.Item.{Item}
-use Rattle.mc_item.specs.declared.item.Link.{Link}
-use Rattle.mc_item.specs.declared.lists.Entry.{Entry}
-use Rattle.mc_item.specs.declared.lists.Seg.{Seg}
-use Rattle.mc_item.specs.declared.lists.Seg.TheVariants.{Hot, Warm, Cold, Temp}
-use Rattle.mc_item.specs.declared.stripe_event.StripeEvent.{StripeEvent}
-use Rattle.mc_rule.proofs.ListLemmas.{find_number}
-use Rattle.mc_rule.proofs.TestLemmas.{none_some, some_same}
-use Rattle.mc_rule.specs.Belonging.{HasEntry, HasItem, IsEntryFor, IsItemFor}
-use Rattle.mc_rule.specs.Evidence.{AreEvidence}
-use Rattle.mc_rule.specs.Lawful.{IsLawfulHistoryByLists}
-use Rattle.mc_rule.specs.Lists.{Lists, find, found, found_in, lists_of}
-use Rattle.mc_rule.specs.Pairs.{IsKeyOf, item_after, link_to}
-use Rattle.mc_rule.specs.Segment.{Rule}
-use Rattle.mc_evidence.proofs.KeptLemmas.{found_by_kept, kept_by}
-use Rattle.mc_evidence.proofs.LegalLemmas.{holds}
-use Rattle.mc_evidence.proofs.MutualLemmas.{held_is_kept, kept_is_held}
-use Rattle.mc_evidence.proofs.RowLemmas.{held}
-use Rattle.mc_evidence.proofs.SizedLemmas.{key_of_stripe}
+use Rattle.mc_item.specs.{Measure.cost_of, Stripe.IsLegal}
+use Rattle.mc_item.specs.declared.{answer.Site.Site, class_event.ClassEvent.ClassEvent, item.ClassNo.ClassNo, item.Item.Item, item.Link.Link, lists.Entry.Entry}
+use Rattle.mc_item.specs.declared.{lists.Seg.Seg, lists.Seg.TheVariants.Hot, lists.Seg.TheVariants.Warm, lists.Seg.TheVariants.Cold, lists.Seg.TheVariants.Temp}
+use Rattle.mc_item.specs.declared.{stripe_event.StripeEvent.StripeEvent}
+use Rattle.mc_rule.proofs.{ListLemmas.find_number, TestLemmas.none_some, TestLemmas.some_same}
+use Rattle.mc_rule.specs.{Belonging.HasEntry, Belonging.HasItem, Belonging.IsEntryFor, Belonging.IsItemFor, Evidence.AreEvidence, Lawful.IsLawfulHistoryByLists}
+use Rattle.mc_rule.specs.{Lists.Lists, Lists.find, Lists.found, Lists.found_in, Lists.lists_of, Pairs.IsKeyOf, Pairs.item_after, Pairs.link_to, Segment.Rule}
+use Rattle.mc_evidence.proofs.{KeptLemmas.found_by_kept, KeptLemmas.kept_by, LegalLemmas.holds, MutualLemmas.held_is_kept, MutualLemmas.kept_is_held}
+use Rattle.mc_evidence.proofs.{RowLemmas.held, SizedLemmas.key_of_stripe}
 
 -- an entry that is found has its number
 found_number : (n : ℕ) (l : Lists) (s : Seg) (x : Entry) → found n l ≡ Some (s, x) → x.number ≡ n

@@ -1,35 +1,17 @@
 -- What an event finds in the other history, part by part.
 use Rattle.std.proofs.Common.{◌≡◌, ℕ, List, [], ◌∷◌, ◌++◌, refl, sym, ap, ◌∙◌, subst, length}
 use Rattle.std.specs.Prelude.{Option, Some, None, IsSomeAnd}
-use Rattle.mc_item.specs.Command.{key_of}
-use Rattle.mc_item.specs.Item.{link_of_item}
-use Rattle.mc_item.specs.Measure.{cost_of}
-use Rattle.mc_item.specs.declared.answer.Site.{Site}
-use Rattle.mc_item.specs.declared.class_event.ClassEvent.{ClassEvent}
+use Rattle.mc_item.specs.{Command.key_of, Item.link_of_item, Measure.cost_of}
+use Rattle.mc_item.specs.declared.{answer.Site.Site, class_event.ClassEvent.ClassEvent, class_event.Evicted.Evicted, class_event.Linked.Linked}
+use Rattle.mc_item.specs.declared.{class_event.Reclaimed.Reclaimed, class_event.Shifted.Shifted, class_event.Unlinked.Unlinked, item.ClassNo.ClassNo}
+use Rattle.mc_item.specs.declared.{item.Item.Item, item.Who.Who, lists.Entry.Entry, lists.Seg.Seg, stripe_event.Cause.Cause}
+use Rattle.mc_item.specs.declared.{stripe_event.Cause.TheVariants.Expired, stripe_event.Cause.TheVariants.Taken, stripe_event.Cooled.Cooled}
+use Rattle.mc_item.specs.declared.{stripe_event.Did.Did, stripe_event.Lost.Lost, stripe_event.StripeEvent.StripeEvent}
 use Rattle.mc_item.specs.declared.class_event.ClassEvent.TheVariants as entries
-use Rattle.mc_item.specs.declared.class_event.Evicted.{Evicted}
-use Rattle.mc_item.specs.declared.class_event.Linked.{Linked}
-use Rattle.mc_item.specs.declared.class_event.Reclaimed.{Reclaimed}
-use Rattle.mc_item.specs.declared.class_event.Shifted.{Shifted}
-use Rattle.mc_item.specs.declared.class_event.Unlinked.{Unlinked}
-use Rattle.mc_item.specs.declared.item.ClassNo.{ClassNo}
-use Rattle.mc_item.specs.declared.item.Item.{Item}
-use Rattle.mc_item.specs.declared.item.Who.{Who}
-use Rattle.mc_item.specs.declared.lists.Entry.{Entry}
-use Rattle.mc_item.specs.declared.lists.Seg.{Seg}
 use Rattle.mc_item.specs.declared.reply.Room.TheVariants as rooms
-use Rattle.mc_item.specs.declared.stripe_event.Cause.{Cause}
-use Rattle.mc_item.specs.declared.stripe_event.Cause.TheVariants.{Expired, Taken}
-use Rattle.mc_item.specs.declared.stripe_event.Cooled.{Cooled}
-use Rattle.mc_item.specs.declared.stripe_event.Did.{Did}
-use Rattle.mc_item.specs.declared.stripe_event.Lost.{Lost}
-use Rattle.mc_item.specs.declared.stripe_event.StripeEvent.{StripeEvent}
 use Rattle.mc_item.specs.declared.stripe_event.StripeEvent.TheVariants as items
-use Rattle.mc_rule.specs.Evidence.{AreEvidence, IsLossTold}
-use Rattle.mc_rule.specs.Lists.{found, lists_of}
+use Rattle.mc_rule.specs.{Evidence.AreEvidence, Evidence.IsLossTold, Lists.found, Lists.lists_of, Places.Has, Places.Stands, Segment.Rule, Segment.segment_for}
 use Rattle.mc_rule.specs.Pairs.{ClearsMark, IsEviction, IsKeyOf, IsLinking, IsReclaiming, LetsGo, item_after, link_to}
-use Rattle.mc_rule.specs.Places.{Has, Stands}
-use Rattle.mc_rule.specs.Segment.{Rule, segment_for}
 use Rattle.mc_evidence.proofs.HeldLemmas.{same_link, same_some}
 use Rattle.mc_evidence.specs.Finding.{ClearsAt, Occurs, StandsAt, StandsFor, TakesAway}
 use Rattle.mc_evidence.specs.Made.{cooled_as, evicted_as, linked_for, lost_at, lost_to, reclaimed_as}

@@ -1,19 +1,12 @@
 -- Evidence stays while the other history grows.
 use Rattle.std.proofs.Common.{List, [], ◌∷◌, ◌++◌}
-use Rattle.mc_item.specs.declared.answer.Site.{Site}
-use Rattle.mc_item.specs.declared.class_event.ClassEvent.{ClassEvent}
+use Rattle.mc_item.specs.declared.{answer.Site.Site, class_event.ClassEvent.ClassEvent, item.ClassNo.ClassNo, stripe_event.Cause.Cause}
+use Rattle.mc_item.specs.declared.{stripe_event.Cause.TheVariants.Expired, stripe_event.Cause.TheVariants.Taken, stripe_event.Did.Did, stripe_event.Lost.Lost}
+use Rattle.mc_item.specs.declared.{stripe_event.StripeEvent.StripeEvent}
 use Rattle.mc_item.specs.declared.class_event.ClassEvent.TheVariants as entries
-use Rattle.mc_item.specs.declared.item.ClassNo.{ClassNo}
-use Rattle.mc_item.specs.declared.stripe_event.Cause.{Cause}
-use Rattle.mc_item.specs.declared.stripe_event.Cause.TheVariants.{Expired, Taken}
-use Rattle.mc_item.specs.declared.stripe_event.Did.{Did}
-use Rattle.mc_item.specs.declared.stripe_event.Lost.{Lost}
-use Rattle.mc_item.specs.declared.stripe_event.StripeEvent.{StripeEvent}
 use Rattle.mc_item.specs.declared.stripe_event.StripeEvent.TheVariants as items
 use Rattle.mc_rule.proofs.PlaceLemmas.{each_push, each_weaker, still_stands}
-use Rattle.mc_rule.specs.Evidence.{AreEvidence, IsBacked, IsLossTold, IsTold}
-use Rattle.mc_rule.specs.Places.{Each, Has}
-use Rattle.mc_rule.specs.Segment.{Rule}
+use Rattle.mc_rule.specs.{Evidence.AreEvidence, Evidence.IsBacked, Evidence.IsLossTold, Evidence.IsTold, Places.Each, Places.Has, Segment.Rule}
 use Rattle.mc_evidence.specs.Refusals.{WasTried}
 
 -- what a history has a longer one has

@@ -1,16 +1,11 @@
 -- What a stripe holds under a key: the link and the cost of its item.
 use Rattle.std.proofs.Common.{List, ap, sym, ℕ, ◌∙◌, ◌≡◌}
 use Rattle.std.specs.Prelude.{IsSomeAnd, None, Option, Some}
-use Rattle.mc_item.specs.Item.{link_of_item}
-use Rattle.mc_item.specs.Measure.{cost_of}
-use Rattle.mc_item.specs.declared.item.ClassNo.{ClassNo}
-use Rattle.mc_item.specs.declared.item.Item.{Item}
-use Rattle.mc_item.specs.declared.item.Link.{Link}
-use Rattle.mc_item.specs.declared.reply.Room.{Room}
+use Rattle.mc_item.specs.{Item.link_of_item, Measure.cost_of}
+use Rattle.mc_item.specs.declared.{item.ClassNo.ClassNo, item.Item.Item, item.Link.Link, reply.Room.Room}
 use Rattle.mc_item.specs.declared.reply.Room.TheVariants as rooms
 use Rattle.mc_rule.proofs.TestLemmas.{none_some, some_same}
-use Rattle.mc_rule.specs.Lists.{found}
-use Rattle.mc_rule.specs.Pairs.{link_to}
+use Rattle.mc_rule.specs.{Lists.found, Pairs.link_to}
 use Rattle.mc_evidence.proofs.RowLemmas.{held}
 
 -- an item that is gone is held nowhere

@@ -4,25 +4,15 @@ use Rattle.std.proofs.Common.{◌≡◌, ◌≢◌, ℕ, ◌==◌, List, [], ◌
 use Rattle.std.specs.Option.{option_map}
 use Rattle.std.proofs.lemmas.Bool.{false≢true, eqb-true}
 use Rattle.std.specs.Prelude.{IsSome}
-use Rattle.mc_item.specs.declared.class_event.ClassEvent.{ClassEvent}
+use Rattle.mc_item.specs.declared.{class_event.ClassEvent.ClassEvent, class_event.Linked.Linked, class_event.Shifted.Shifted, lists.Entry.Entry, lists.Seg.Seg}
+use Rattle.mc_item.specs.declared.{lists.Seg.TheVariants.Cold}
 use Rattle.mc_item.specs.declared.class_event.ClassEvent.TheVariants as events
-use Rattle.mc_item.specs.declared.class_event.Linked.{Linked}
-use Rattle.mc_item.specs.declared.class_event.Shifted.{Shifted}
-use Rattle.mc_item.specs.declared.lists.Entry.{Entry}
-use Rattle.mc_item.specs.declared.lists.Seg.{Seg}
-use Rattle.mc_item.specs.declared.lists.Seg.TheVariants.{Cold}
-use Rattle.mc_rule.proofs.HistoryLemmas.{lawful_at, lawful_before, lists_of-push, stands_named}
+use Rattle.mc_rule.proofs.{HistoryLemmas.lawful_at, HistoryLemmas.lawful_before, HistoryLemmas.lists_of-push, HistoryLemmas.stands_named, OnceLemmas.IsNumbered}
+use Rattle.mc_rule.proofs.{OnceLemmas.numbered, PlaceLemmas.in_order, TestLemmas.is_some_of, TestLemmas.itself, TestLemmas.none_some, TestLemmas.some_same}
 use Rattle.mc_rule.proofs.ListLemmas.{found_there, linked_found, moved_found, nowhere, other_stays, unlinked_times}
-use Rattle.mc_rule.proofs.OnceLemmas.{IsNumbered, numbered}
-use Rattle.mc_rule.proofs.PlaceLemmas.{in_order}
-use Rattle.mc_rule.proofs.TestLemmas.{is_some_of, itself, none_some, some_same}
-use Rattle.mc_rule.specs.Lawful.{IsLawfulByLists, IsLawfulHistoryByLists, is_named, names}
+use Rattle.mc_rule.specs.{Lawful.IsLawfulByLists, Lawful.IsLawfulHistoryByLists, Lawful.is_named, Lawful.names, Partners.TakesOut, Places.Stands, Segment.Rule}
 use Rattle.mc_rule.specs.Lists.{Lists, entry, find, found, list_of, lists_after, lists_of, moved, time_after, times_in, unlinked}
-use Rattle.mc_rule.specs.Partners.{TakesOut}
-use Rattle.mc_rule.specs.Places.{Stands}
-use Rattle.mc_rule.specs.Segment.{Rule}
-use Rattle.mc_evidence.proofs.DecideLemmas.{is_kept}
-use Rattle.mc_evidence.proofs.TurnLemmas.{Once, Turns, turned}
+use Rattle.mc_evidence.proofs.{DecideLemmas.is_kept, TurnLemmas.Once, TurnLemmas.Turns, TurnLemmas.turned}
 
 -- the key and the cost of a number's entry, where there is one
 abbrev pub kept : ℕ → List ClassEvent → Option (List ℕ × ℕ)

@@ -5,31 +5,17 @@ use Rattle.std.specs.Prelude.{Option, Some, None, IsSomeAnd, nat_eq, if◌then�
 use Rattle.std.specs.Cmp.Lexicographic.{pointwise, bytes_decides}
 use Rattle.std.proofs.lemmas.Bool.{false≢true}
 use Rattle.mc_item.proofs.StripeLemmas.{cache_of-push}
-use Rattle.mc_item.specs.Answer.{row_of}
-use Rattle.mc_item.specs.Cache.{Cache, changed, after_change, answer_of}
-use Rattle.mc_item.specs.Command.{key_of}
-use Rattle.mc_item.specs.Item.{link_of_item}
+use Rattle.mc_item.specs.{Answer.row_of, Cache.Cache, Cache.changed, Cache.after_change, Cache.answer_of, Command.key_of, Item.link_of_item}
 use Rattle.mc_item.specs.Stripe.{cache_after, cache_of, cooled_change, link_of, Fits, IsUnnamed, IsLegal, MayDo, MayHappen}
-use Rattle.mc_item.specs.declared.answer.Change.{Change}
-use Rattle.mc_item.specs.declared.answer.Change.TheVariants.{Goes}
-use Rattle.mc_item.specs.declared.answer.Site.{Site}
-use Rattle.mc_item.specs.declared.item.Item.{Item}
-use Rattle.mc_item.specs.declared.item.Link.{Link}
-use Rattle.mc_item.specs.declared.reply.Room.{Room}
+use Rattle.mc_item.specs.declared.{answer.Change.Change, answer.Change.TheVariants.Goes, answer.Site.Site, item.Item.Item, item.Link.Link, reply.Room.Room}
+use Rattle.mc_item.specs.declared.{stripe_event.Cooled.Cooled, stripe_event.Did.Did, stripe_event.Lost.Lost, stripe_event.StripeEvent.StripeEvent}
 use Rattle.mc_item.specs.declared.reply.Room.TheVariants as rooms
-use Rattle.mc_item.specs.declared.stripe_event.Cooled.{Cooled}
-use Rattle.mc_item.specs.declared.stripe_event.Did.{Did}
-use Rattle.mc_item.specs.declared.stripe_event.Lost.{Lost}
-use Rattle.mc_item.specs.declared.stripe_event.StripeEvent.{StripeEvent}
 use Rattle.mc_item.specs.declared.stripe_event.StripeEvent.TheVariants as events
-use Rattle.mc_rule.proofs.HistoryLemmas.{legal_at, legal_before}
-use Rattle.mc_rule.proofs.TestLemmas.{none_some, same_key}
-use Rattle.mc_rule.specs.Pairs.{LetsGo, item_after}
-use Rattle.mc_rule.specs.Places.{Stands}
-use Rattle.mc_evidence.proofs.DecideLemmas.{is_held}
-use Rattle.mc_evidence.proofs.HeldLemmas.{at_link, at_other, held_link, held_none}
+use Rattle.mc_rule.proofs.{HistoryLemmas.legal_at, HistoryLemmas.legal_before, TestLemmas.none_some, TestLemmas.same_key}
+use Rattle.mc_rule.specs.{Pairs.LetsGo, Pairs.item_after, Places.Stands}
+use Rattle.mc_evidence.proofs.{DecideLemmas.is_held, HeldLemmas.at_link, HeldLemmas.at_other, HeldLemmas.held_link, HeldLemmas.held_none, TurnLemmas.Once}
+use Rattle.mc_evidence.proofs.{TurnLemmas.Turns, TurnLemmas.turned}
 use Rattle.mc_evidence.proofs.RowLemmas.{IsGoneOrSame, IsNoChunk, LeavesLink, cooled_leaves, fits_fresh, fits_unnamed, held, row_leaves}
-use Rattle.mc_evidence.proofs.TurnLemmas.{Once, Turns, turned}
 
 -- what holds of the changed item, where the key is the one, and of the old item, where it isn't, holds after a change
 pub by_key : (P : Option Item → Type 0) (cache : Cache) (key q : List ℕ) (change : Change) → (key ≡ q → P (changed (cache.items key) change))

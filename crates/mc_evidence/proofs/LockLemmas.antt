@@ -2,23 +2,13 @@
 use Rattle.std.proofs.Common.{List, [], subst, ℕ, ◌≡◌}
 use Rattle.std.specs.Prelude.{Some}
 use mathlib.Core.List.{IsPrefix}
-use Rattle.mc_item.specs.declared.class_event.ClassEvent.{ClassEvent}
-use Rattle.mc_item.specs.declared.item.ClassNo.{ClassNo}
-use Rattle.mc_item.specs.declared.lists.Entry.{Entry}
-use Rattle.mc_item.specs.declared.lists.Seg.{Seg}
-use Rattle.mc_item.specs.declared.stripe_event.StripeEvent.{StripeEvent}
+use Rattle.mc_item.specs.declared.{class_event.ClassEvent.ClassEvent, item.ClassNo.ClassNo, lists.Entry.Entry, lists.Seg.Seg}
+use Rattle.mc_item.specs.declared.{stripe_event.StripeEvent.StripeEvent}
 use Rattle.mc_rule.proofs.PlaceLemmas.{none_stands}
-use Rattle.mc_rule.specs.Belonging.{HasItem}
-use Rattle.mc_rule.specs.Cited.{IsSuited}
-use Rattle.mc_rule.specs.Evidence.{AreEvidence, IsBacked, IsTold}
-use Rattle.mc_rule.specs.Lists.{found, lists_of}
-use Rattle.mc_rule.specs.Pairs.{IsKeyOf}
-use Rattle.mc_rule.specs.Places.{Each}
-use Rattle.mc_evidence.proofs.CitedLemmas.{all_suited_later}
-use Rattle.mc_evidence.proofs.ExactLemmas.{item_of_entry}
-use Rattle.mc_evidence.proofs.GrowLemmas.{all_backed_later, all_told_later}
-use Rattle.mc_evidence.specs.Locks.{AreLent, ClassKeeps, StripeKeeps}
-use Rattle.mc_evidence.specs.Setting.{Setting, site_in}
+use Rattle.mc_rule.specs.{Belonging.HasItem, Cited.IsSuited, Evidence.AreEvidence, Evidence.IsBacked, Evidence.IsTold, Lists.found, Lists.lists_of}
+use Rattle.mc_rule.specs.{Pairs.IsKeyOf, Places.Each}
+use Rattle.mc_evidence.proofs.{CitedLemmas.all_suited_later, ExactLemmas.item_of_entry, GrowLemmas.all_backed_later, GrowLemmas.all_told_later}
+use Rattle.mc_evidence.specs.{Locks.AreLent, Locks.ClassKeeps, Locks.StripeKeeps, Setting.Setting, Setting.site_in}
 
 -- a stripe's lock keeps what it keeps when more of the classes is seen
 pub stripe_sees_more : (setting : Setting) (s : ℕ) (own : List StripeEvent) (seen more : ClassNo → List ClassEvent) → ((class : ClassNo) → IsPrefix (seen class) (more class)) → StripeKeeps setting s own seen → StripeKeeps setting s own more

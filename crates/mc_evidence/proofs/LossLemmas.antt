@@ -2,31 +2,17 @@
 use Rattle.std.proofs.Common.{◌≡◌, ℕ, List, [], ◌∷◌, ◌++◌, Bool, true, false, refl, sym, ap, ◌∙◌, subst, append_assoc, append-nil, inl, inr, ◌⊎◌, length}
 use Rattle.std.specs.Prelude.{Option, Some, None, IsSomeAnd, if◌then◌else◌}
 use Rattle.std.proofs.lemmas.Bool.{false≢true}
-use Rattle.mc_item.specs.Cache.{changed, marked, if_alive, visible_items}
-use Rattle.mc_item.specs.Item.{is_dead, link_of_item}
+use Rattle.mc_item.specs.{Cache.changed, Cache.marked, Cache.if_alive, Cache.visible_items, Item.is_dead, Item.link_of_item}
 use Rattle.mc_item.specs.Stripe.{cache_of, cooled_change, IsDead, IsLegal, MayLose}
-use Rattle.mc_item.specs.declared.answer.Site.{Site}
-use Rattle.mc_item.specs.declared.class_event.ClassEvent.{ClassEvent}
+use Rattle.mc_item.specs.declared.{answer.Site.Site, class_event.ClassEvent.ClassEvent, item.ClassNo.ClassNo, item.Item.Item, item.Link.Link}
+use Rattle.mc_item.specs.declared.{stripe_event.Cause.Cause, stripe_event.Cause.TheVariants.Expired, stripe_event.Cause.TheVariants.Taken}
+use Rattle.mc_item.specs.declared.{stripe_event.Cooled.Cooled, stripe_event.Lost.Lost, stripe_event.StripeEvent.StripeEvent}
 use Rattle.mc_item.specs.declared.class_event.ClassEvent.TheVariants as entries
-use Rattle.mc_item.specs.declared.item.ClassNo.{ClassNo}
-use Rattle.mc_item.specs.declared.item.Item.{Item}
-use Rattle.mc_item.specs.declared.item.Link.{Link}
-use Rattle.mc_item.specs.declared.stripe_event.Cause.{Cause}
-use Rattle.mc_item.specs.declared.stripe_event.Cause.TheVariants.{Expired, Taken}
-use Rattle.mc_item.specs.declared.stripe_event.Cooled.{Cooled}
-use Rattle.mc_item.specs.declared.stripe_event.Lost.{Lost}
-use Rattle.mc_item.specs.declared.stripe_event.StripeEvent.{StripeEvent}
 use Rattle.mc_item.specs.declared.stripe_event.StripeEvent.TheVariants as events
-use Rattle.mc_rule.proofs.HistoryLemmas.{lawful_at, legal_at}
-use Rattle.mc_rule.proofs.TestLemmas.{none_some, some_same}
-use Rattle.mc_rule.specs.Evidence.{AreEvidence, IsLossTold}
-use Rattle.mc_rule.specs.Lawful.{IsLawfulHistoryByLists}
-use Rattle.mc_rule.specs.Lists.{IsFull, lists_of}
-use Rattle.mc_rule.specs.Pairs.{item_after, link_to}
-use Rattle.mc_rule.specs.Places.{Has, Stands}
-use Rattle.mc_rule.specs.Segment.{Rule}
-use Rattle.mc_evidence.proofs.LegalLemmas.{after_loss, by_key, holds_push}
-use Rattle.mc_evidence.proofs.LockLemmas.{between}
+use Rattle.mc_rule.proofs.{HistoryLemmas.lawful_at, HistoryLemmas.legal_at, TestLemmas.none_some, TestLemmas.some_same}
+use Rattle.mc_rule.specs.{Evidence.AreEvidence, Evidence.IsLossTold, Lawful.IsLawfulHistoryByLists, Lists.IsFull, Lists.lists_of, Pairs.item_after}
+use Rattle.mc_rule.specs.{Pairs.link_to, Places.Has, Places.Stands, Segment.Rule}
+use Rattle.mc_evidence.proofs.{LegalLemmas.after_loss, LegalLemmas.by_key, LegalLemmas.holds_push, LockLemmas.between}
 use Rattle.mc_evidence.specs.Losses.{AreNoCommands, HadCause, IsSameItem, IsTaking, WasLost}
 
 -- the item of a key is this one but for its marks

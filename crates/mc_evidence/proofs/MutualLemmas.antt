@@ -1,32 +1,17 @@
 -- A stripe's history and a class's that are evidence of each other: what the one holds the other has.
 use Rattle.std.proofs.Common.{◌≡◌, ◌≢◌, ℕ, List, [], ◌∷◌, ◌++◌, refl, sym, ap, ◌∙◌, subst}
 use Rattle.std.specs.Prelude.{Some, IsSome}
-use Rattle.mc_item.specs.Command.{key_of}
-use Rattle.mc_item.specs.Item.{link_of_item}
-use Rattle.mc_item.specs.Stripe.{IsLegal}
-use Rattle.mc_item.specs.declared.answer.Site.{Site}
-use Rattle.mc_item.specs.declared.class_event.ClassEvent.{ClassEvent}
+use Rattle.mc_item.specs.{Command.key_of, Item.link_of_item, Stripe.IsLegal}
+use Rattle.mc_item.specs.declared.{answer.Site.Site, class_event.ClassEvent.ClassEvent, item.ClassNo.ClassNo, lists.Entry.Entry, lists.Seg.Seg}
+use Rattle.mc_item.specs.declared.{stripe_event.Cause.Cause, stripe_event.Cause.TheVariants.Expired, stripe_event.Cause.TheVariants.Taken}
+use Rattle.mc_item.specs.declared.{stripe_event.Lost.Lost, stripe_event.StripeEvent.StripeEvent}
 use Rattle.mc_item.specs.declared.class_event.ClassEvent.TheVariants as entries
-use Rattle.mc_item.specs.declared.item.ClassNo.{ClassNo}
-use Rattle.mc_item.specs.declared.lists.Entry.{Entry}
-use Rattle.mc_item.specs.declared.lists.Seg.{Seg}
 use Rattle.mc_item.specs.declared.reply.Room.TheVariants as rooms
-use Rattle.mc_item.specs.declared.stripe_event.Cause.{Cause}
-use Rattle.mc_item.specs.declared.stripe_event.Cause.TheVariants.{Expired, Taken}
-use Rattle.mc_item.specs.declared.stripe_event.Lost.{Lost}
-use Rattle.mc_item.specs.declared.stripe_event.StripeEvent.{StripeEvent}
 use Rattle.mc_item.specs.declared.stripe_event.StripeEvent.TheVariants as items
-use Rattle.mc_rule.proofs.HistoryLemmas.{lawful_at, lawful_before, legal_at, legal_before}
-use Rattle.mc_rule.proofs.OnceLemmas.{numbered}
-use Rattle.mc_rule.proofs.PlaceLemmas.{stood_before}
-use Rattle.mc_rule.proofs.TestLemmas.{none_some}
-use Rattle.mc_rule.specs.Evidence.{AreEvidence, IsLossTold}
-use Rattle.mc_rule.specs.Lawful.{IsLawfulHistoryByLists}
-use Rattle.mc_rule.specs.Lists.{find, found, lists_of}
-use Rattle.mc_rule.specs.Pairs.{IsKeyOf, LetsGo, item_after, link_to}
-use Rattle.mc_rule.specs.Partners.{TakesOut}
-use Rattle.mc_rule.specs.Places.{Has, Stands}
-use Rattle.mc_rule.specs.Segment.{Rule}
+use Rattle.mc_rule.proofs.{HistoryLemmas.lawful_at, HistoryLemmas.lawful_before, HistoryLemmas.legal_at, HistoryLemmas.legal_before, OnceLemmas.numbered}
+use Rattle.mc_rule.proofs.{PlaceLemmas.stood_before, TestLemmas.none_some}
+use Rattle.mc_rule.specs.{Evidence.AreEvidence, Evidence.IsLossTold, Lawful.IsLawfulHistoryByLists, Lists.find, Lists.found, Lists.lists_of, Pairs.IsKeyOf}
+use Rattle.mc_rule.specs.{Pairs.LetsGo, Pairs.item_after, Pairs.link_to, Partners.TakesOut, Places.Has, Places.Stands, Segment.Rule}
 use Rattle.mc_evidence.proofs.HeldLemmas.{cost_at, held_at, held_link, link_held, same_link, same_some}
 use Rattle.mc_evidence.proofs.KeptLemmas.{IsLinkOf, found_by_kept, in_cold, kept, kept_by, kept_left, kept_linked, kept_once, linked_once, listed_by, was_linked}
 use Rattle.mc_evidence.proofs.LegalLemmas.{IsGiftOf, IsLossOf, held_once, holds, was_given, with_link}

@@ -1,37 +1,21 @@
 -- A partner is the only one: two events of a history that are partners of one event of the other are one.
 use Rattle.std.proofs.Common.{◌≡◌, ℕ, List, [], ◌∷◌, ◌++◌, refl, sym, ap, ◌∙◌, subst, length, inl, inr}
 use Rattle.std.specs.Prelude.{Some}
-use Rattle.mc_item.specs.Command.{key_of}
-use Rattle.mc_item.specs.Stripe.{IsLegal}
-use Rattle.mc_item.specs.declared.answer.Site.{Site}
-use Rattle.mc_item.specs.declared.class_event.ClassEvent.{ClassEvent}
+use Rattle.mc_item.specs.{Command.key_of, Stripe.IsLegal}
+use Rattle.mc_item.specs.declared.{answer.Site.Site, class_event.ClassEvent.ClassEvent, class_event.Evicted.Evicted, class_event.Linked.Linked}
+use Rattle.mc_item.specs.declared.{class_event.Reclaimed.Reclaimed, class_event.Refused.Refused, class_event.Shifted.Shifted, class_event.Unlinked.Unlinked}
+use Rattle.mc_item.specs.declared.{item.ClassNo.ClassNo, item.Link.Link, stripe_event.Cooled.Cooled, stripe_event.Did.Did, stripe_event.Lost.Lost}
+use Rattle.mc_item.specs.declared.{stripe_event.StripeEvent.StripeEvent}
 use Rattle.mc_item.specs.declared.class_event.ClassEvent.TheVariants as entries
-use Rattle.mc_item.specs.declared.class_event.Evicted.{Evicted}
-use Rattle.mc_item.specs.declared.class_event.Linked.{Linked}
-use Rattle.mc_item.specs.declared.class_event.Reclaimed.{Reclaimed}
-use Rattle.mc_item.specs.declared.class_event.Refused.{Refused}
-use Rattle.mc_item.specs.declared.class_event.Shifted.{Shifted}
-use Rattle.mc_item.specs.declared.class_event.Unlinked.{Unlinked}
-use Rattle.mc_item.specs.declared.item.ClassNo.{ClassNo}
-use Rattle.mc_item.specs.declared.item.Link.{Link}
 use Rattle.mc_item.specs.declared.reply.Room.TheVariants as rooms
-use Rattle.mc_item.specs.declared.stripe_event.Cooled.{Cooled}
-use Rattle.mc_item.specs.declared.stripe_event.Did.{Did}
-use Rattle.mc_item.specs.declared.stripe_event.Lost.{Lost}
-use Rattle.mc_item.specs.declared.stripe_event.StripeEvent.{StripeEvent}
 use Rattle.mc_item.specs.declared.stripe_event.StripeEvent.TheVariants as items
-use Rattle.mc_rule.proofs.HistoryLemmas.{legal_at, legal_before}
+use Rattle.mc_rule.proofs.{HistoryLemmas.legal_at, HistoryLemmas.legal_before, TestLemmas.none_some, TestLemmas.some_same}
 use Rattle.mc_rule.proofs.PlaceLemmas.{in_order, one_stands, stood_before}
-use Rattle.mc_rule.proofs.TestLemmas.{none_some, some_same}
-use Rattle.mc_rule.specs.Lawful.{IsLawfulHistoryByLists}
+use Rattle.mc_rule.specs.{Lawful.IsLawfulHistoryByLists, Partners.ClearsOnce, Places.Each, Places.Stands, Segment.Rule}
 use Rattle.mc_rule.specs.Pairs.{IsCooling, IsEviction, IsLinking, IsReclaiming, IsRefusal, IsUnlinking, LetsGo, item_after, link_to}
-use Rattle.mc_rule.specs.Partners.{ClearsOnce}
-use Rattle.mc_rule.specs.Places.{Each, Stands}
-use Rattle.mc_rule.specs.Segment.{Rule}
 use Rattle.mc_evidence.proofs.HeldLemmas.{held_link, link_held, same_link, same_some}
 use Rattle.mc_evidence.proofs.LegalLemmas.{Held, IsGiftOf, NotHeld, gift_named, held_apart, held_once, holds, link_new, was_given, which_held}
-use Rattle.mc_evidence.proofs.PartnerLemmas.{links_once, out_once}
-use Rattle.mc_evidence.proofs.TurnLemmas.{lasts}
+use Rattle.mc_evidence.proofs.{PartnerLemmas.links_once, PartnerLemmas.out_once, TurnLemmas.lasts}
 
 refused_place : (class : ClassNo) (p q : ℕ) → rooms.Refused class p ≡ rooms.Refused class q → p ≡ q
 refused_place class p q h = cc

@@ -2,28 +2,15 @@
 use Rattle.std.proofs.Common.{◌≡◌, ◌≢◌, ℕ, List, Option, Some, None, refl, sym, ap, ◌∙◌, subst, inl, inr, length, arith, true, false}
 use Rattle.std.specs.Prelude.{IsSome}
 use Rattle.std.proofs.lemmas.Bool.{false≢true}
-use Rattle.mc_item.specs.declared.answer.Site.{Site}
-use Rattle.mc_item.specs.declared.class_event.ClassEvent.{ClassEvent}
+use Rattle.mc_item.specs.declared.{answer.Site.Site, class_event.ClassEvent.ClassEvent, class_event.Shifted.Shifted, item.ClassNo.ClassNo, lists.Entry.Entry}
+use Rattle.mc_item.specs.declared.{lists.Seg.Seg, stripe_event.StripeEvent.StripeEvent}
 use Rattle.mc_item.specs.declared.class_event.ClassEvent.TheVariants as entries
-use Rattle.mc_item.specs.declared.class_event.Shifted.{Shifted}
-use Rattle.mc_item.specs.declared.item.ClassNo.{ClassNo}
-use Rattle.mc_item.specs.declared.lists.Entry.{Entry}
-use Rattle.mc_item.specs.declared.lists.Seg.{Seg}
-use Rattle.mc_item.specs.declared.stripe_event.StripeEvent.{StripeEvent}
 use Rattle.mc_item.specs.declared.stripe_event.StripeEvent.TheVariants as items
-use Rattle.mc_rule.proofs.HistoryLemmas.{lawful_at, lawful_before, stands_named}
-use Rattle.mc_rule.proofs.ListLemmas.{found_there}
-use Rattle.mc_rule.proofs.OnceLemmas.{numbered}
-use Rattle.mc_rule.proofs.PlaceLemmas.{in_order, place_below, stood_before}
-use Rattle.mc_rule.proofs.TestLemmas.{itself, none_some}
-use Rattle.mc_rule.specs.Belonging.{IsEntryOf}
-use Rattle.mc_rule.specs.Evidence.{IsBacked}
-use Rattle.mc_rule.specs.Lawful.{IsLawfulByLists, IsLawfulHistoryByLists, is_named, names}
-use Rattle.mc_rule.specs.Lists.{find, found, list_of, lists_of}
-use Rattle.mc_rule.specs.Pairs.{IsKeyOf}
-use Rattle.mc_rule.specs.Partners.{ClearsOnce, Links, TakesOut}
-use Rattle.mc_rule.specs.Places.{Each, Stands}
-use Rattle.mc_rule.specs.Segment.{Rule}
+use Rattle.mc_rule.proofs.{HistoryLemmas.lawful_at, HistoryLemmas.lawful_before, HistoryLemmas.stands_named, ListLemmas.found_there, OnceLemmas.numbered}
+use Rattle.mc_rule.proofs.{PlaceLemmas.in_order, PlaceLemmas.place_below, PlaceLemmas.stood_before, TestLemmas.itself, TestLemmas.none_some}
+use Rattle.mc_rule.specs.{Belonging.IsEntryOf, Evidence.IsBacked, Lawful.IsLawfulByLists, Lawful.IsLawfulHistoryByLists, Lawful.is_named, Lawful.names}
+use Rattle.mc_rule.specs.{Lists.find, Lists.found, Lists.list_of, Lists.lists_of, Pairs.IsKeyOf, Partners.ClearsOnce, Partners.Links, Partners.TakesOut}
+use Rattle.mc_rule.specs.{Places.Each, Places.Stands, Segment.Rule}
 use Rattle.mc_evidence.proofs.KeptLemmas.{IsLinkOf, in_cold, kept, kept_by, kept_left, linked_once, listed_by, rise_at, was_linked, which_kept}
 use Rattle.mc_evidence.proofs.TurnLemmas.{turned_after}
 

@@ -2,31 +2,18 @@
 -- entry, then the old one, then each is told the other's whole history.
 use Rattle.std.proofs.Common.{◌≡◌, ◌≢◌, ℕ, List, [], ◌∷◌, ◌++◌, false, refl, sym, ap, ◌∙◌, subst, append-nil}
 use Rattle.std.specs.Prelude.{IsSome}
-use Rattle.mc_item.specs.Command.{key_of}
-use Rattle.mc_item.specs.Stripe.{MayDo, cache_of}
-use Rattle.mc_item.specs.declared.class_event.ClassEvent.{ClassEvent}
+use Rattle.mc_item.specs.{Command.key_of, Stripe.MayDo, Stripe.cache_of}
+use Rattle.mc_item.specs.declared.{class_event.ClassEvent.ClassEvent, class_event.Linked.Linked, class_event.Unlinked.Unlinked, item.ClassNo.ClassNo}
+use Rattle.mc_item.specs.declared.{item.Link.Link, stripe_event.Did.Did, stripe_event.StripeEvent.StripeEvent}
 use Rattle.mc_item.specs.declared.class_event.ClassEvent.TheVariants as entries
-use Rattle.mc_item.specs.declared.class_event.Linked.{Linked}
-use Rattle.mc_item.specs.declared.class_event.Unlinked.{Unlinked}
-use Rattle.mc_item.specs.declared.item.ClassNo.{ClassNo}
-use Rattle.mc_item.specs.declared.item.Link.{Link}
 use Rattle.mc_item.specs.declared.reply.Room.TheVariants as rooms
-use Rattle.mc_item.specs.declared.stripe_event.Did.{Did}
-use Rattle.mc_item.specs.declared.stripe_event.StripeEvent.{StripeEvent}
 use Rattle.mc_item.specs.declared.stripe_event.StripeEvent.TheVariants as items
-use Rattle.mc_rule.proofs.HistoryLemmas.{lists_of-push}
-use Rattle.mc_rule.proofs.ListLemmas.{nowhere, other_stays}
-use Rattle.mc_rule.proofs.OnceLemmas.{IsNumbered, numbered}
-use Rattle.mc_rule.proofs.PlaceLemmas.{last_stands, still_stands}
-use Rattle.mc_rule.proofs.TestLemmas.{none_some, not_equal, some_same}
-use Rattle.mc_rule.specs.Belonging.{IsEntryOf}
-use Rattle.mc_rule.specs.Lawful.{IsLawfulByLists, is_named}
-use Rattle.mc_rule.specs.Lists.{found, lists_of}
+use Rattle.mc_rule.proofs.{HistoryLemmas.lists_of-push, ListLemmas.nowhere, ListLemmas.other_stays, OnceLemmas.IsNumbered, OnceLemmas.numbered}
+use Rattle.mc_rule.proofs.{PlaceLemmas.last_stands, PlaceLemmas.still_stands, TestLemmas.none_some, TestLemmas.not_equal, TestLemmas.some_same}
+use Rattle.mc_rule.specs.{Belonging.IsEntryOf, Lawful.IsLawfulByLists, Lawful.is_named, Lists.found, Lists.lists_of, Places.Has}
 use Rattle.mc_rule.specs.Pairs.{IsKeyOf, IsLinking, IsUnlinking, LetsGo, link_to}
-use Rattle.mc_rule.specs.Places.{Has}
 use Rattle.mc_evidence.proofs.EntryLemmas.{command_step, linking_step, unlinking_step}
-use Rattle.mc_evidence.specs.Locks.{AreHeld, ClassKeeps, StripeKeeps}
-use Rattle.mc_evidence.specs.Setting.{Setting, site_in}
+use Rattle.mc_evidence.specs.{Locks.AreHeld, Locks.ClassKeeps, Locks.StripeKeeps, Setting.Setting, Setting.site_in}
 
 -- an entry stays while another number is linked
 entry_stays : (history : List ClassEvent) (n : ℕ) (key : List ℕ) (e : Linked) → IsNumbered history → is_named e.number history ≡ false → IsEntryOf history n key → IsEntryOf (history ++ entries.Linked e ∷ []) n key

@@ -3,32 +3,17 @@ use Rattle.std.proofs.Common.{◌≡◌, ◌==◌, ℕ, List, [], ◌∷◌, ◌
 use Rattle.std.specs.Prelude.{Option, Some, None, IsSomeAnd, nat_le, decimal}
 use Rattle.std.specs.Option.{option_map}
 use Rattle.mc_item.specs.Answer.{Row, fresh, row_of, get_row, store_row, grown_row, number_row, count_row, stepped, touch_row, delete_row, version_of}
-use Rattle.mc_item.specs.Command.{key_of}
-use Rattle.mc_item.specs.Item.{expiry_of}
-use Rattle.mc_item.specs.Measure.{class_of, cost_of, numeral_of}
-use Rattle.mc_item.specs.Stripe.{Fits, MayDo, cache_of}
-use Rattle.mc_item.specs.declared.answer.Answer.{Answer}
-use Rattle.mc_item.specs.declared.answer.Site.{Site}
-use Rattle.mc_item.specs.declared.command.Command.{Command}
+use Rattle.mc_item.specs.{Command.key_of, Item.expiry_of, Measure.class_of, Measure.cost_of, Measure.numeral_of, Stripe.Fits, Stripe.MayDo, Stripe.cache_of}
+use Rattle.mc_item.specs.declared.{answer.Answer.Answer, answer.Site.Site, command.Command.Command, command.Verb.Verb, counting.Step.TheVariants.Up}
+use Rattle.mc_item.specs.declared.{counting.Step.TheVariants.Down, item.ClassNo.ClassNo, item.Expiry.Expiry, item.Item.Item, item.Link.Link, reply.Reply.Reply}
+use Rattle.mc_item.specs.declared.{reply.Room.Room, stripe_event.Did.Did, stripe_event.StripeEvent.StripeEvent}
 use Rattle.mc_item.specs.declared.command.Command.TheVariants.{Get, Store, Huge, Incr, Decr, Touch, Delete}
-use Rattle.mc_item.specs.declared.command.Verb.{Verb}
 use Rattle.mc_item.specs.declared.command.Verb.TheVariants.{Set, Add, Replace, Cas}
-use Rattle.mc_item.specs.declared.counting.Step.TheVariants.{Up, Down}
-use Rattle.mc_item.specs.declared.item.ClassNo.{ClassNo}
-use Rattle.mc_item.specs.declared.item.Expiry.{Expiry}
-use Rattle.mc_item.specs.declared.item.Item.{Item}
-use Rattle.mc_item.specs.declared.item.Link.{Link}
-use Rattle.mc_item.specs.declared.reply.Reply.{Reply}
 use Rattle.mc_item.specs.declared.reply.Reply.TheVariants as replies
-use Rattle.mc_item.specs.declared.reply.Room.{Room}
 use Rattle.mc_item.specs.declared.reply.Room.TheVariants as rooms
-use Rattle.mc_item.specs.declared.stripe_event.Did.{Did}
-use Rattle.mc_item.specs.declared.stripe_event.StripeEvent.{StripeEvent}
 use Rattle.mc_item.specs.declared.stripe_event.StripeEvent.TheVariants as items
-use Rattle.mc_rule.specs.Pairs.{IsLinking, item_after, link_to}
-use Rattle.mc_rule.specs.Segment.{Rule, segment_for}
-use Rattle.mc_evidence.proofs.LegalLemmas.{with_link}
-use Rattle.mc_evidence.proofs.RowLemmas.{by_test}
+use Rattle.mc_rule.specs.{Pairs.IsLinking, Pairs.item_after, Pairs.link_to, Segment.Rule, Segment.segment_for}
+use Rattle.mc_evidence.proofs.{LegalLemmas.with_link, RowLemmas.by_test}
 use Rattle.mc_evidence.specs.Made.{linked_for}
 
 -- a command that was given a chunk left an item, whose new entry is its partner

@@ -1,12 +1,9 @@
 -- Seen lists that grow show histories that grow.
 use Rattle.std.proofs.Common.{◌≡◌, ℕ, ◌+◌, ◌-◌, List, [], ◌∷◌, ◌++◌, refl, sym, ap, ◌∙◌, map}
 use mathlib.Core.List.{IsPrefix}
-use Rattle.mc_item.specs.declared.class_event.ClassEvent.{ClassEvent}
-use Rattle.mc_item.specs.declared.event.Event.{Event}
-use Rattle.mc_item.specs.declared.event.Event.TheVariants.{Stripe, Class, Call}
-use Rattle.mc_item.specs.declared.stripe_event.StripeEvent.{StripeEvent}
-use Rattle.mc_evidence.specs.Locks.{SeesMore}
-use Rattle.mc_evidence.specs.Seen.{class_events, classes_seen, stripe_events, stripes_seen}
+use Rattle.mc_item.specs.declared.{class_event.ClassEvent.ClassEvent, event.Event.Event, event.Event.TheVariants.Stripe, event.Event.TheVariants.Class}
+use Rattle.mc_item.specs.declared.{event.Event.TheVariants.Call, stripe_event.StripeEvent.StripeEvent}
+use Rattle.mc_evidence.specs.{Locks.SeesMore, Seen.class_events, Seen.classes_seen, Seen.stripe_events, Seen.stripes_seen}
 
 -- the class's events of two lists are those of the one, then those of the other
 pub class_events-append : (xs ys : List Event) → class_events (xs ++ ys) ≡ class_events xs ++ class_events ys

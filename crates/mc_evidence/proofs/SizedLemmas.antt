@@ -4,31 +4,19 @@ use Rattle.std.specs.Prelude.{Option, Some, None, nat_le, position, decimal}
 use Rattle.std.specs.Option.{option_map}
 use Rattle.std.proofs.lemmas.List.Quantifiers.{position-Some}
 use Rattle.mc_item.specs.Answer.{Row, row_of, store_row, grown_row, number_row, count_row, stepped, version_of, get_row, touch_row, delete_row}
-use Rattle.mc_item.specs.Command.{key_of}
-use Rattle.mc_item.specs.Item.{expiry_of}
-use Rattle.mc_item.specs.Measure.{class_of, class_at, cost_of, numeral_of}
-use Rattle.mc_item.specs.Stripe.{cache_of, Fits, IsLegal, MayHappen}
-use Rattle.mc_item.specs.declared.answer.Need.{Need}
+use Rattle.mc_item.specs.{Command.key_of, Item.expiry_of, Measure.class_of, Measure.class_at, Measure.cost_of, Measure.numeral_of, Stripe.cache_of, Stripe.Fits}
+use Rattle.mc_item.specs.{Stripe.IsLegal, Stripe.MayHappen}
+use Rattle.mc_item.specs.declared.{answer.Need.Need, answer.Site.Site, command.Command.Command, command.Verb.Verb, command.Verb.TheVariants.Set}
+use Rattle.mc_item.specs.declared.{command.Verb.TheVariants.Add, command.Verb.TheVariants.Replace, command.Verb.TheVariants.Cas, counting.Step.TheVariants.Up}
+use Rattle.mc_item.specs.declared.{counting.Step.TheVariants.Down, item.ClassNo.ClassNo, item.Expiry.Expiry, item.Item.Item, item.Link.Link}
+use Rattle.mc_item.specs.declared.{stripe_event.StripeEvent.StripeEvent}
 use Rattle.mc_item.specs.declared.answer.Need.TheVariants as needs
-use Rattle.mc_item.specs.declared.answer.Site.{Site}
-use Rattle.mc_item.specs.declared.command.Command.{Command}
 use Rattle.mc_item.specs.declared.command.Command.TheVariants.{Get, Store, Huge, Incr, Decr, Touch, Delete}
-use Rattle.mc_item.specs.declared.command.Verb.{Verb}
-use Rattle.mc_item.specs.declared.command.Verb.TheVariants.{Set, Add, Replace, Cas}
-use Rattle.mc_item.specs.declared.counting.Step.TheVariants.{Up, Down}
-use Rattle.mc_item.specs.declared.item.ClassNo.{ClassNo}
-use Rattle.mc_item.specs.declared.item.Expiry.{Expiry}
-use Rattle.mc_item.specs.declared.item.Item.{Item}
-use Rattle.mc_item.specs.declared.item.Link.{Link}
 use Rattle.mc_item.specs.declared.reply.Room.TheVariants as rooms
-use Rattle.mc_item.specs.declared.stripe_event.StripeEvent.{StripeEvent}
 use Rattle.mc_item.specs.declared.stripe_event.StripeEvent.TheVariants as events
-use Rattle.mc_rule.proofs.HistoryLemmas.{legal_at}
-use Rattle.mc_rule.proofs.TestLemmas.{none_some, some_same}
-use Rattle.mc_rule.specs.Lists.{found}
-use Rattle.mc_rule.specs.Pairs.{IsKeyOf, item_after}
-use Rattle.mc_evidence.proofs.LegalLemmas.{IsGiftOf, holds, was_given}
-use Rattle.mc_evidence.proofs.RowLemmas.{by_test}
+use Rattle.mc_rule.proofs.{HistoryLemmas.legal_at, TestLemmas.none_some, TestLemmas.some_same}
+use Rattle.mc_rule.specs.{Lists.found, Pairs.IsKeyOf, Pairs.item_after}
+use Rattle.mc_evidence.proofs.{LegalLemmas.IsGiftOf, LegalLemmas.holds, LegalLemmas.was_given, RowLemmas.by_test}
 
 -- an item's key is of its stripe
 key_given : (site : Site) (before : List StripeEvent) (e : StripeEvent) (key : List ℕ) (link : Link) → MayHappen site (cache_of site before) before e → IsGiftOf key link e → IsKeyOf site key

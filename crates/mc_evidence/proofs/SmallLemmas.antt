@@ -3,28 +3,17 @@ use Rattle.std.proofs.Common.{◌≡◌, ◌≤◌, ◌^◌, ◌==◌, ℕ, List
 use Rattle.std.specs.Prelude.{Option, Some, None, IsSomeAnd, nat_le, decimal}
 use Rattle.std.specs.Option.{option_map}
 use Rattle.mc_item.specs.Answer.{Row, row_of, get_row, store_row, grown_row, number_row, count_row, stepped, version_of}
-use Rattle.mc_item.specs.Cache.{changed, answer_of}
-use Rattle.mc_item.specs.Command.{key_of}
-use Rattle.mc_item.specs.Item.{expiry_of, link_of_item}
-use Rattle.mc_item.specs.Measure.{class_of, cost_of, numeral_of}
-use Rattle.mc_item.specs.Stripe.{Fits, MayDo, cache_of}
-use Rattle.mc_item.specs.declared.answer.Site.{Site}
-use Rattle.mc_item.specs.declared.command.Command.{Command}
+use Rattle.mc_item.specs.{Cache.changed, Cache.answer_of, Command.key_of, Item.expiry_of, Item.link_of_item, Measure.class_of, Measure.cost_of}
+use Rattle.mc_item.specs.{Measure.numeral_of, Stripe.Fits, Stripe.MayDo, Stripe.cache_of}
+use Rattle.mc_item.specs.declared.{answer.Site.Site, command.Command.Command, command.Verb.Verb, counting.Step.TheVariants.Up, counting.Step.TheVariants.Down}
+use Rattle.mc_item.specs.declared.{item.ClassNo.ClassNo, item.Item.Item, item.Link.Link, reply.Room.Room, stripe_event.Did.Did}
+use Rattle.mc_item.specs.declared.{stripe_event.StripeEvent.StripeEvent}
 use Rattle.mc_item.specs.declared.command.Command.TheVariants.{Get, Store, Huge, Incr, Decr, Touch, Delete}
-use Rattle.mc_item.specs.declared.command.Verb.{Verb}
 use Rattle.mc_item.specs.declared.command.Verb.TheVariants.{Set, Add, Replace, Cas}
-use Rattle.mc_item.specs.declared.counting.Step.TheVariants.{Up, Down}
-use Rattle.mc_item.specs.declared.item.ClassNo.{ClassNo}
-use Rattle.mc_item.specs.declared.item.Item.{Item}
-use Rattle.mc_item.specs.declared.item.Link.{Link}
-use Rattle.mc_item.specs.declared.reply.Room.{Room}
 use Rattle.mc_item.specs.declared.reply.Room.TheVariants as rooms
-use Rattle.mc_item.specs.declared.stripe_event.Did.{Did}
-use Rattle.mc_item.specs.declared.stripe_event.StripeEvent.{StripeEvent}
 use Rattle.mc_item.specs.declared.stripe_event.StripeEvent.TheVariants as items
 use Rattle.mc_rule.specs.Pairs.{LetsGo, item_after}
-use Rattle.mc_evidence.proofs.LegalLemmas.{by_key, holds_push}
-use Rattle.mc_evidence.proofs.RowLemmas.{IsFresh, by_test, fits_fresh}
+use Rattle.mc_evidence.proofs.{LegalLemmas.by_key, LegalLemmas.holds_push, RowLemmas.IsFresh, RowLemmas.by_test, RowLemmas.fits_fresh}
 use Rattle.mc_evidence.specs.Small.{AreSmall, IsReader}
 
 -- with a chunk, a row leaves an item of a cost that a class can hold

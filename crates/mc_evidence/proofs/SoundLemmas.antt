@@ -1,37 +1,20 @@
 -- All stripes and all classes of a store together.
 use Rattle.std.proofs.Common.{List, [], ap, append_assoc, arith, refl, subst, sym, true, ℕ, ◌++◌, ◌<◌, ◌∷◌, ◌≡◌, ◌≤◌}
 use Rattle.std.specs.Prelude.{IsSome, IsSomeAnd, None, Option, Some}
-use Rattle.mc_item.specs.Item.{is_dead}
-use Rattle.mc_item.specs.Measure.{cost_of, stripe_of}
-use Rattle.mc_item.specs.Stripe.{IsLegal}
-use Rattle.mc_item.specs.declared.class_event.ClassEvent.{ClassEvent}
+use Rattle.mc_item.specs.{Item.is_dead, Measure.cost_of, Measure.stripe_of, Stripe.IsLegal}
+use Rattle.mc_item.specs.declared.{class_event.ClassEvent.ClassEvent, item.ClassNo.ClassNo, item.Item.Item, lists.Entry.Entry, lists.Seg.Seg}
+use Rattle.mc_item.specs.declared.{stripe_event.StripeEvent.StripeEvent}
 use Rattle.mc_item.specs.declared.class_event.ClassEvent.TheVariants as entries
-use Rattle.mc_item.specs.declared.item.ClassNo.{ClassNo}
-use Rattle.mc_item.specs.declared.item.Item.{Item}
-use Rattle.mc_item.specs.declared.lists.Entry.{Entry}
-use Rattle.mc_item.specs.declared.lists.Seg.{Seg}
-use Rattle.mc_item.specs.declared.stripe_event.StripeEvent.{StripeEvent}
 use Rattle.mc_rule.proofs.HistoryLemmas.{by_lists, lawful_at, lawful_before, legal_first}
-use Rattle.mc_rule.proofs.ListLemmas.{found_there}
-use Rattle.mc_rule.proofs.OnceLemmas.{IsNumbered, numbered}
-use Rattle.mc_rule.proofs.TestLemmas.{is_some_of}
-use Rattle.mc_rule.specs.Belonging.{HasEntry, HasItem}
-use Rattle.mc_rule.specs.Cited.{IsSuited}
-use Rattle.mc_rule.specs.Evidence.{AreEvidence, IsBacked, IsTold}
+use Rattle.mc_rule.proofs.{ListLemmas.found_there, OnceLemmas.IsNumbered, OnceLemmas.numbered, TestLemmas.is_some_of}
+use Rattle.mc_rule.specs.{Belonging.HasEntry, Belonging.HasItem, Cited.IsSuited, Evidence.AreEvidence, Evidence.IsBacked, Evidence.IsTold, Pairs.item_after}
+use Rattle.mc_rule.specs.{Pairs.link_to, Places.Each, Places.Stands}
 use Rattle.mc_rule.specs.Lawful.{IsLawfulByLists, IsLawfulByListsFrom, IsLawfulFrom, IsLawfulHistoryByLists, SuitsItem, SuitsMove}
 use Rattle.mc_rule.specs.Lists.{Lists, find, found, list_of, lists_of, times_in}
-use Rattle.mc_rule.specs.Pairs.{item_after, link_to}
-use Rattle.mc_rule.specs.Places.{Each, Stands}
-use Rattle.mc_evidence.proofs.CitedLemmas.{all_suited_later}
-use Rattle.mc_evidence.proofs.ExactLemmas.{entry_of_item, item_of_entry}
-use Rattle.mc_evidence.proofs.GrowLemmas.{all_backed_later, all_told_later}
-use Rattle.mc_evidence.proofs.LossLemmas.{lost_between}
-use Rattle.mc_evidence.proofs.RowLemmas.{held}
-use Rattle.mc_evidence.proofs.SizedLemmas.{link_sized}
-use Rattle.mc_evidence.specs.Locks.{ClassKeeps, HaveSeen, StripeKeeps}
-use Rattle.mc_evidence.specs.Losses.{AreNoCommands, WasLost}
-use Rattle.mc_evidence.specs.Setting.{IsClass, Setting, site_in}
-use Rattle.mc_evidence.specs.Sound.{IsSoundStore, cited_of}
+use Rattle.mc_evidence.proofs.{CitedLemmas.all_suited_later, ExactLemmas.entry_of_item, ExactLemmas.item_of_entry, GrowLemmas.all_backed_later}
+use Rattle.mc_evidence.proofs.{GrowLemmas.all_told_later, LossLemmas.lost_between, RowLemmas.held, SizedLemmas.link_sized}
+use Rattle.mc_evidence.specs.{Locks.ClassKeeps, Locks.HaveSeen, Locks.StripeKeeps, Losses.AreNoCommands, Losses.WasLost, Setting.IsClass, Setting.Setting}
+use Rattle.mc_evidence.specs.{Setting.site_in, Sound.IsSoundStore, Sound.cited_of}
 
 -- ---- the items that a class's events cite, in the whole store
 

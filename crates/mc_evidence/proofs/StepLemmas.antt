@@ -2,30 +2,15 @@
 use Rattle.std.proofs.Common.{◌≡◌, ℕ, List, [], ◌∷◌, ◌++◌, refl, sym, ap, ◌∙◌, inl, inr, length}
 use Rattle.std.specs.Prelude.{Some}
 use Rattle.mc_item.specs.Command.{key_of}
-use Rattle.mc_item.specs.declared.answer.Site.{Site}
-use Rattle.mc_item.specs.declared.class_event.ClassEvent.{ClassEvent}
+use Rattle.mc_item.specs.declared.{answer.Site.Site, class_event.ClassEvent.ClassEvent, class_event.Linked.Linked, class_event.Refused.Refused}
+use Rattle.mc_item.specs.declared.{class_event.Shifted.Shifted, class_event.Unlinked.Unlinked, item.ClassNo.ClassNo, item.Link.Link, item.Who.Who}
+use Rattle.mc_item.specs.declared.{lists.Entry.Entry, lists.Seg.Seg, stripe_event.Did.Did, stripe_event.StripeEvent.StripeEvent}
 use Rattle.mc_item.specs.declared.class_event.ClassEvent.TheVariants as entries
-use Rattle.mc_item.specs.declared.class_event.Linked.{Linked}
-use Rattle.mc_item.specs.declared.class_event.Refused.{Refused}
-use Rattle.mc_item.specs.declared.class_event.Shifted.{Shifted}
-use Rattle.mc_item.specs.declared.class_event.Unlinked.{Unlinked}
-use Rattle.mc_item.specs.declared.item.ClassNo.{ClassNo}
-use Rattle.mc_item.specs.declared.item.Link.{Link}
-use Rattle.mc_item.specs.declared.item.Who.{Who}
-use Rattle.mc_item.specs.declared.lists.Entry.{Entry}
-use Rattle.mc_item.specs.declared.lists.Seg.{Seg}
 use Rattle.mc_item.specs.declared.reply.Room.TheVariants as rooms
-use Rattle.mc_item.specs.declared.stripe_event.Did.{Did}
-use Rattle.mc_item.specs.declared.stripe_event.StripeEvent.{StripeEvent}
 use Rattle.mc_item.specs.declared.stripe_event.StripeEvent.TheVariants as items
-use Rattle.mc_rule.proofs.PlaceLemmas.{last_stands, still_stands}
-use Rattle.mc_rule.proofs.TestLemmas.{some_same}
-use Rattle.mc_rule.specs.Belonging.{Belong, IsEntryOf}
-use Rattle.mc_rule.specs.Evidence.{AreEvidence, IsBacked}
-use Rattle.mc_rule.specs.Lists.{found, lists_of}
-use Rattle.mc_rule.specs.Pairs.{ClearsMark, IsLinking, IsRefusal, IsUnlinking}
-use Rattle.mc_rule.specs.Places.{Has}
-use Rattle.mc_rule.specs.Segment.{Rule}
+use Rattle.mc_rule.proofs.{PlaceLemmas.last_stands, PlaceLemmas.still_stands, TestLemmas.some_same}
+use Rattle.mc_rule.specs.{Belonging.Belong, Belonging.IsEntryOf, Evidence.AreEvidence, Evidence.IsBacked, Lists.found, Lists.lists_of, Segment.Rule}
+use Rattle.mc_rule.specs.Pairs.{ClearsMark, IsLinking, IsUnlinking}
 use Rattle.mc_evidence.proofs.GrowLemmas.{class_push, pair_push, still_has, stripe_push, triple_push}
 use Rattle.mc_evidence.proofs.TurnLemmas.{stays}
 use Rattle.mc_evidence.specs.Made.{IsAlone, IsGivenNone, IsRefusedThere, LetsNoneGo, cooled_as, evicted_as, lost_at, lost_to, reclaimed_as}
@@ -60,10 +45,6 @@ module _ (site : Site) (rule : Rule) (class : ClassNo) (stripe : List StripeEven
       pair_push site rule class stripe history both (cooled_as e.who key) (entries.Shifted e)
       (λ m other. (history, _, last_stands history _, record { who = refl; item = one.item; why = active; at = at }))
       (λ why s x there of. (stripe, _, last_stands stripe _, (key_found e.number history key s x one.entry there, record { who = refl; item = one.item; why = active; at = at })))
-
-  -- a refusal stands for the command that cites it
-  pub refusal_stands : (e : Refused) (did : Did) → e.who ≡ did.who → did.room ≡ rooms.Refused class (length history) → Has entries.Refused (history ++ entries.Refused e ∷ []) (λ behind x. IsRefusal class did behind x)
-  refusal_stands e did who room = (history, e, last_stands history (entries.Refused e), record { who = who; room = room })
 
   alone_backed : (x : ClassEvent) → IsAlone site history x → IsBacked site rule class stripe history x
   alone_backed (entries.Linked e) away = λ of. absurd (away of)

@@ -2,27 +2,15 @@
 use Rattle.std.proofs.Common.{◌≡◌, ℕ, List, ◌∷◌, true, sym, ap, ◌∙◌, subst, length, arith, take, ◌+◌, length-append}
 use Rattle.std.specs.Prelude.{Option, Some, None, IsSomeAnd}
 use Rattle.std.proofs.lemmas.List.{take_all, take-append-le}
-use Rattle.mc_item.specs.Item.{is_dead, link_of_item}
-use Rattle.mc_item.specs.Stripe.{IsLegal, IsDead, MayLose}
-use Rattle.mc_item.specs.declared.answer.Site.{Site}
-use Rattle.mc_item.specs.declared.class_event.ClassEvent.{ClassEvent}
+use Rattle.mc_item.specs.{Item.is_dead, Item.link_of_item, Stripe.IsLegal, Stripe.IsDead, Stripe.MayLose}
+use Rattle.mc_item.specs.declared.{answer.Site.Site, class_event.ClassEvent.ClassEvent, class_event.Reclaimed.Reclaimed, class_event.Shifted.Shifted}
+use Rattle.mc_item.specs.declared.{item.ClassNo.ClassNo, item.Item.Item, item.Link.Link, stripe_event.StripeEvent.StripeEvent}
 use Rattle.mc_item.specs.declared.class_event.ClassEvent.TheVariants as entries
-use Rattle.mc_item.specs.declared.class_event.Reclaimed.{Reclaimed}
-use Rattle.mc_item.specs.declared.class_event.Shifted.{Shifted}
 use Rattle.mc_item.specs.declared.class_event.Why.TheVariants as whys
-use Rattle.mc_item.specs.declared.item.ClassNo.{ClassNo}
-use Rattle.mc_item.specs.declared.item.Item.{Item}
-use Rattle.mc_item.specs.declared.item.Link.{Link}
-use Rattle.mc_item.specs.declared.stripe_event.StripeEvent.{StripeEvent}
 use Rattle.mc_item.specs.declared.stripe_event.StripeEvent.TheVariants as items
-use Rattle.mc_rule.proofs.HistoryLemmas.{legal_at}
-use Rattle.mc_rule.proofs.TestLemmas.{some_same}
-use Rattle.mc_rule.specs.Cited.{IsSuited, cited_in}
-use Rattle.mc_rule.specs.Evidence.{IsBacked}
-use Rattle.mc_rule.specs.Lawful.{SuitsMove}
-use Rattle.mc_rule.specs.Pairs.{ClearsMark, item_after, link_to}
-use Rattle.mc_rule.specs.Places.{Stands}
-use Rattle.mc_rule.specs.Segment.{Rule}
+use Rattle.mc_rule.proofs.{HistoryLemmas.legal_at, TestLemmas.some_same}
+use Rattle.mc_rule.specs.{Cited.IsSuited, Cited.cited_in, Evidence.IsBacked, Lawful.SuitsMove, Pairs.ClearsMark, Pairs.item_after, Pairs.link_to, Places.Stands}
+use Rattle.mc_rule.specs.{Segment.Rule}
 use Rattle.mc_evidence.proofs.CitedLemmas.{cited_seen}
 
 -- what is cited at the place of an event is what its stripe held before it

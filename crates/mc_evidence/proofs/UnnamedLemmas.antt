@@ -3,24 +3,13 @@ use Rattle.std.proofs.Common.{◌≡◌, ◌≢◌, ℕ, List, [], ◌∷◌, �
 use Rattle.std.proofs.lemmas.Bool.{false≢true}
 use Rattle.std.specs.Prelude.{false, ◌==◌, Some}
 use Rattle.mc_item.specs.Stripe.{IsUnnamed, link_named, link_of}
-use Rattle.mc_item.specs.declared.answer.Site.{Site}
-use Rattle.mc_item.specs.declared.class_event.ClassEvent.{ClassEvent}
+use Rattle.mc_item.specs.declared.{answer.Site.Site, class_event.ClassEvent.ClassEvent, class_event.Linked.Linked, item.ClassNo.ClassNo, item.Link.Link}
+use Rattle.mc_item.specs.declared.{reply.Room.Room, stripe_event.Did.Did, stripe_event.StripeEvent.StripeEvent}
 use Rattle.mc_item.specs.declared.class_event.ClassEvent.TheVariants as entries
-use Rattle.mc_item.specs.declared.class_event.Linked.{Linked}
-use Rattle.mc_item.specs.declared.item.ClassNo.{ClassNo}
-use Rattle.mc_item.specs.declared.item.Link.{Link}
-use Rattle.mc_item.specs.declared.reply.Room.{Room}
 use Rattle.mc_item.specs.declared.reply.Room.TheVariants as rooms
-use Rattle.mc_item.specs.declared.stripe_event.Did.{Did}
-use Rattle.mc_item.specs.declared.stripe_event.StripeEvent.{StripeEvent}
 use Rattle.mc_item.specs.declared.stripe_event.StripeEvent.TheVariants as items
-use Rattle.mc_rule.proofs.HistoryLemmas.{stands_named}
-use Rattle.mc_rule.proofs.TestLemmas.{itself}
-use Rattle.mc_rule.specs.Evidence.{IsTold}
-use Rattle.mc_rule.specs.Lawful.{is_named}
-use Rattle.mc_rule.specs.Pairs.{IsLinking, link_to}
-use Rattle.mc_rule.specs.Places.{Each, Has}
-use Rattle.mc_rule.specs.Segment.{Rule}
+use Rattle.mc_rule.proofs.{HistoryLemmas.stands_named, TestLemmas.itself}
+use Rattle.mc_rule.specs.{Evidence.IsTold, Lawful.is_named, Pairs.IsLinking, Pairs.link_to, Places.Each, Places.Has, Segment.Rule}
 
 module _ (site : Site) (rule : Rule) (class : ClassNo) (n : ℕ) (history : List ClassEvent) (fresh : is_named n history ≡ false) where
   linked_named : (before : List StripeEvent) (did : Did) → did.room ≡ rooms.At (link_to class n) → Has entries.Linked history (λ behind e. IsLinking site rule class before did e) → ⊥

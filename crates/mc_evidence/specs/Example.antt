@@ -1,23 +1,12 @@
 -- Two chunks, and three sets: for the third the first is forced from HOT to COLD, and evicted.
 use Rattle.std.specs.Prelude.{ℕ, List, [], ◌∷◌, false, pos}
-use Rattle.mc_item.specs.declared.answer.Site.{Site}
-use Rattle.mc_item.specs.declared.class_event.ClassEvent.{ClassEvent}
+use Rattle.mc_item.specs.declared.{answer.Site.Site, class_event.ClassEvent.ClassEvent, class_event.Linked.Linked, class_event.Shifted.Shifted}
+use Rattle.mc_item.specs.declared.{class_event.Why.TheVariants.Forced, command.Command.TheVariants.Store, command.Verb.TheVariants.Set, item.ClassNo.ClassNo}
+use Rattle.mc_item.specs.declared.{item.Who.Who, lists.Seg.TheVariants.Hot, lists.Seg.TheVariants.Cold, reply.Reply.TheVariants.Stored}
+use Rattle.mc_item.specs.declared.{reply.Room.TheVariants.At, stripe_event.Did.Did, stripe_event.StripeEvent.StripeEvent}
 use Rattle.mc_item.specs.declared.class_event.ClassEvent.TheVariants as entries
-use Rattle.mc_item.specs.declared.class_event.Linked.{Linked}
-use Rattle.mc_item.specs.declared.class_event.Shifted.{Shifted}
-use Rattle.mc_item.specs.declared.class_event.Why.TheVariants.{Forced}
-use Rattle.mc_item.specs.declared.command.Command.TheVariants.{Store}
-use Rattle.mc_item.specs.declared.command.Verb.TheVariants.{Set}
-use Rattle.mc_item.specs.declared.item.ClassNo.{ClassNo}
-use Rattle.mc_item.specs.declared.item.Who.{Who}
-use Rattle.mc_item.specs.declared.lists.Seg.TheVariants.{Hot, Cold}
-use Rattle.mc_item.specs.declared.reply.Reply.TheVariants.{Stored}
-use Rattle.mc_item.specs.declared.reply.Room.TheVariants.{At}
-use Rattle.mc_item.specs.declared.stripe_event.Did.{Did}
-use Rattle.mc_item.specs.declared.stripe_event.StripeEvent.{StripeEvent}
 use Rattle.mc_item.specs.declared.stripe_event.StripeEvent.TheVariants as items
-use Rattle.mc_rule.specs.Pairs.{link_to}
-use Rattle.mc_rule.specs.Segment.{Rule}
+use Rattle.mc_rule.specs.{Pairs.link_to, Segment.Rule}
 use Rattle.mc_evidence.specs.Made.{evicted_as, lost_to}
 
 -- one stripe, one size

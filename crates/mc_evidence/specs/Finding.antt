@@ -1,16 +1,9 @@
 -- What an event of the one history finds in the other: where its partner stands.
 use Rattle.std.specs.Prelude.{ℕ, ◌≡◌, List, Some, length}
-use Rattle.mc_item.specs.Command.{key_of}
-use Rattle.mc_item.specs.Item.{link_of_item}
-use Rattle.mc_item.specs.declared.answer.Site.{Site}
-use Rattle.mc_item.specs.declared.class_event.Shifted.{Shifted}
-use Rattle.mc_item.specs.declared.class_event.Unlinked.{Unlinked}
-use Rattle.mc_item.specs.declared.item.ClassNo.{ClassNo}
-use Rattle.mc_item.specs.declared.item.Who.{Who}
-use Rattle.mc_item.specs.declared.stripe_event.Did.{Did}
-use Rattle.mc_item.specs.declared.stripe_event.StripeEvent.{StripeEvent}
-use Rattle.mc_rule.specs.Pairs.{ClearsMark, LetsGo, item_after, link_to}
-use Rattle.mc_rule.specs.Places.{Stands}
+use Rattle.mc_item.specs.{Command.key_of, Item.link_of_item}
+use Rattle.mc_item.specs.declared.{answer.Site.Site, class_event.Shifted.Shifted, class_event.Unlinked.Unlinked, item.ClassNo.ClassNo, item.Who.Who}
+use Rattle.mc_item.specs.declared.{stripe_event.Did.Did, stripe_event.StripeEvent.StripeEvent}
+use Rattle.mc_rule.specs.{Pairs.ClearsMark, Pairs.LetsGo, Pairs.item_after, Pairs.link_to, Places.Stands}
 
 -- an event stands somewhere in a history
 abbrev pub Occurs : {E : Type 0} → List E → E → Type 0

@@ -1,23 +1,12 @@
 -- Between two commands: items only go, each by a loss that has its cause.
 use Rattle.std.specs.Prelude.{ℕ, ◌≡◌, List, [], ◌∷◌, true, length}
-use Rattle.mc_item.specs.Cache.{marked}
-use Rattle.mc_item.specs.Item.{is_dead}
-use Rattle.mc_item.specs.declared.class_event.ClassEvent.{ClassEvent}
+use Rattle.mc_item.specs.{Cache.marked, Item.is_dead}
+use Rattle.mc_item.specs.declared.{class_event.ClassEvent.ClassEvent, class_event.Evicted.Evicted, item.ClassNo.ClassNo, item.Item.Item, item.Marks.Marks}
+use Rattle.mc_item.specs.declared.{lists.Seg.TheVariants.Cold, stripe_event.Cause.Cause, stripe_event.Cause.TheVariants.Expired}
+use Rattle.mc_item.specs.declared.{stripe_event.Cause.TheVariants.Taken, stripe_event.Lost.Lost, stripe_event.StripeEvent.StripeEvent}
 use Rattle.mc_item.specs.declared.class_event.ClassEvent.TheVariants as entries
-use Rattle.mc_item.specs.declared.class_event.Evicted.{Evicted}
-use Rattle.mc_item.specs.declared.item.ClassNo.{ClassNo}
-use Rattle.mc_item.specs.declared.item.Item.{Item}
-use Rattle.mc_item.specs.declared.item.Marks.{Marks}
-use Rattle.mc_item.specs.declared.lists.Seg.TheVariants.{Cold}
-use Rattle.mc_item.specs.declared.stripe_event.Cause.{Cause}
-use Rattle.mc_item.specs.declared.stripe_event.Cause.TheVariants.{Expired, Taken}
-use Rattle.mc_item.specs.declared.stripe_event.Lost.{Lost}
-use Rattle.mc_item.specs.declared.stripe_event.StripeEvent.{StripeEvent}
 use Rattle.mc_item.specs.declared.stripe_event.StripeEvent.TheVariants as items
-use Rattle.mc_rule.specs.Lawful.{IsIn}
-use Rattle.mc_rule.specs.Lists.{IsFull, lists_of}
-use Rattle.mc_rule.specs.Places.{Has}
-use Rattle.mc_rule.specs.Segment.{IsNearTail}
+use Rattle.mc_rule.specs.{Lawful.IsIn, Lists.IsFull, Lists.lists_of, Places.Has, Segment.IsNearTail}
 
 -- none of these events is a command
 abbrev pub AreNoCommands : List StripeEvent → Type 0

@@ -1,25 +1,14 @@
 -- The events that one call makes in both histories.
 use Rattle.std.specs.Prelude.{ℕ, ◌≡◌, ◌⊎◌, List, Some}
-use Rattle.mc_item.specs.Command.{key_of}
-use Rattle.mc_item.specs.Measure.{cost_of}
-use Rattle.mc_item.specs.declared.answer.Site.{Site}
-use Rattle.mc_item.specs.declared.class_event.ClassEvent.{ClassEvent}
+use Rattle.mc_item.specs.{Command.key_of, Measure.cost_of}
+use Rattle.mc_item.specs.declared.{answer.Site.Site, class_event.ClassEvent.ClassEvent, class_event.Linked.Linked, item.ClassNo.ClassNo, item.Item.Item}
+use Rattle.mc_item.specs.declared.{item.Who.Who, lists.Entry.Entry, lists.Seg.Seg, stripe_event.Cause.TheVariants.Expired, stripe_event.Cause.TheVariants.Taken}
+use Rattle.mc_item.specs.declared.{stripe_event.Did.Did, stripe_event.StripeEvent.StripeEvent}
 use Rattle.mc_item.specs.declared.class_event.ClassEvent.TheVariants as entries
-use Rattle.mc_item.specs.declared.class_event.Linked.{Linked}
-use Rattle.mc_item.specs.declared.item.ClassNo.{ClassNo}
-use Rattle.mc_item.specs.declared.item.Item.{Item}
-use Rattle.mc_item.specs.declared.item.Who.{Who}
-use Rattle.mc_item.specs.declared.lists.Entry.{Entry}
-use Rattle.mc_item.specs.declared.lists.Seg.{Seg}
 use Rattle.mc_item.specs.declared.reply.Room.TheVariants as rooms
-use Rattle.mc_item.specs.declared.stripe_event.Cause.TheVariants.{Expired, Taken}
-use Rattle.mc_item.specs.declared.stripe_event.Did.{Did}
-use Rattle.mc_item.specs.declared.stripe_event.StripeEvent.{StripeEvent}
 use Rattle.mc_item.specs.declared.stripe_event.StripeEvent.TheVariants as items
-use Rattle.mc_rule.specs.Lists.{found, lists_of}
+use Rattle.mc_rule.specs.{Lists.found, Lists.lists_of, Places.Has, Segment.Rule, Segment.segment_for}
 use Rattle.mc_rule.specs.Pairs.{ClearsMark, IsKeyOf, IsRefusal, LetsGo, link_to}
-use Rattle.mc_rule.specs.Places.{Has}
-use Rattle.mc_rule.specs.Segment.{Rule, segment_for}
 
 -- an item whose chunk was taken by the event at a place of its class
 abbrev pub lost_to : ClassNo → Who → List ℕ → ℕ → StripeEvent

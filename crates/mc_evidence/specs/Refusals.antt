@@ -2,18 +2,11 @@
 -- It is stated for the walks; what is proved of it here is that it stays while more is seen.
 use Rattle.std.specs.Prelude.{ℕ, ◌≡◌, ◌≢◌, ◌⊎◌, ◌<◌, List, IfSome}
 use Rattle.mc_item.specs.Command.{key_of}
-use Rattle.mc_item.specs.declared.answer.Site.{Site}
-use Rattle.mc_item.specs.declared.class_event.ClassEvent.{ClassEvent}
+use Rattle.mc_item.specs.declared.{answer.Site.Site, class_event.ClassEvent.ClassEvent, item.ClassNo.ClassNo, item.Who.Who, lists.Entry.Entry}
+use Rattle.mc_item.specs.declared.{stripe_event.Did.Did}
 use Rattle.mc_item.specs.declared.class_event.ClassEvent.TheVariants as entries
-use Rattle.mc_item.specs.declared.item.ClassNo.{ClassNo}
-use Rattle.mc_item.specs.declared.item.Who.{Who}
-use Rattle.mc_item.specs.declared.lists.Entry.{Entry}
 use Rattle.mc_item.specs.declared.reply.Room.TheVariants as rooms
-use Rattle.mc_item.specs.declared.stripe_event.Did.{Did}
-use Rattle.mc_rule.specs.Belonging.{IsEntryOf}
-use Rattle.mc_rule.specs.Lists.{from_tail, lists_of}
-use Rattle.mc_rule.specs.Pairs.{IsKeyOf, IsRefusal}
-use Rattle.mc_rule.specs.Places.{Has}
+use Rattle.mc_rule.specs.{Belonging.IsEntryOf, Lists.from_tail, Lists.lists_of, Pairs.IsKeyOf, Pairs.IsRefusal, Places.Has}
 
 -- none of the five entries nearest a list's tail has a key of the stripe
 abbrev pub NoneNear : Site → List Entry → Type 0

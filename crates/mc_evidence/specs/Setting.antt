@@ -1,7 +1,6 @@
 -- What is fixed for a store: its stripes, its classes, and their rule.
 use Rattle.std.specs.Prelude.{ℕ, ◌<◌, ◌≤◌, List, length}
-use Rattle.mc_item.specs.declared.answer.Site.{Site}
-use Rattle.mc_item.specs.declared.item.ClassNo.{ClassNo}
+use Rattle.mc_item.specs.declared.{answer.Site.Site, item.ClassNo.ClassNo}
 use Rattle.mc_rule.specs.Segment.{Rule}
 
 -- how many stripes there are, the classes' sizes, the rule of the segments, and how many chunks each class has

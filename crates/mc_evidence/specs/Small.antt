@@ -1,9 +1,8 @@
 -- Which items are small enough for a class, and which commands leave the links of items alone.
 use Rattle.std.specs.Prelude.{ℕ, ◌≡◌, ◌≤◌, ◌^◌, List, Some}
 use Rattle.mc_item.specs.Measure.{class_of}
-use Rattle.mc_item.specs.declared.command.Command.{Command}
+use Rattle.mc_item.specs.declared.{command.Command.Command, item.ClassNo.ClassNo}
 use Rattle.mc_item.specs.declared.command.Command.TheVariants.{Get, Store, Huge, Incr, Decr, Touch, Delete}
-use Rattle.mc_item.specs.declared.item.ClassNo.{ClassNo}
 
 -- what has a class among these sizes costs no more than 2^20 bytes
 pub record AreSmall (sizes : List ℕ) : Type 0 where

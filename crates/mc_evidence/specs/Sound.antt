@@ -1,16 +1,8 @@
 -- When the histories of all stripes and of all classes of a store are sound together.
 use Rattle.std.specs.Prelude.{ℕ, ◌<◌, List, Option}
-use Rattle.mc_item.specs.Measure.{stripe_of}
-use Rattle.mc_item.specs.Stripe.{IsLegal}
-use Rattle.mc_item.specs.declared.class_event.ClassEvent.{ClassEvent}
-use Rattle.mc_item.specs.declared.item.ClassNo.{ClassNo}
-use Rattle.mc_item.specs.declared.item.Item.{Item}
-use Rattle.mc_item.specs.declared.stripe_event.StripeEvent.{StripeEvent}
-use Rattle.mc_rule.specs.Cited.{cited_in}
-use Rattle.mc_rule.specs.Evidence.{AreEvidence}
-use Rattle.mc_rule.specs.Lawful.{IsLawfulHistory}
-use Rattle.mc_rule.specs.Partners.{ClearsOnce}
-use Rattle.mc_rule.specs.Places.{Each}
+use Rattle.mc_item.specs.{Measure.stripe_of, Stripe.IsLegal}
+use Rattle.mc_item.specs.declared.{class_event.ClassEvent.ClassEvent, item.ClassNo.ClassNo, item.Item.Item, stripe_event.StripeEvent.StripeEvent}
+use Rattle.mc_rule.specs.{Cited.cited_in, Evidence.AreEvidence, Lawful.IsLawfulHistory, Partners.ClearsOnce, Places.Each}
 use Rattle.mc_evidence.specs.Setting.{IsClass, Setting, site_in}
 
 -- what the stripe of a key held under it when it had this many events

@@ -1,27 +1,14 @@
 //! Each outcome of a judgement and each command keeps a stripe's and a class's whole histories in agreement: evidence of
 //! each other, with the items that the class's events cite, and with no mark that is cleared twice.
 ghost use Rattle.std.specs.Prelude.{IsSomeAnd, List, [], length, ℕ, ◌++◌, ◌∷◌, ◌≡◌};
-ghost use Rattle.mc_item.specs.Command.{key_of};
-ghost use Rattle.mc_item.specs.Stripe.{IsDead};
-ghost use Rattle.mc_item.specs.declared.answer.Site.{Site};
-ghost use Rattle.mc_item.specs.declared.class_event.ClassEvent.{ClassEvent};
+ghost use Rattle.mc_item.specs.{Command.key_of, Stripe.IsDead};
+ghost use Rattle.mc_item.specs.declared.{answer.Site.Site, class_event.ClassEvent.ClassEvent, class_event.Linked.Linked, class_event.Refused.Refused};
+ghost use Rattle.mc_item.specs.declared.{class_event.Shifted.Shifted, class_event.Surveyed.Surveyed, class_event.Unlinked.Unlinked, item.ClassNo.ClassNo};
+ghost use Rattle.mc_item.specs.declared.{item.Who.Who, stripe_event.Did.Did, stripe_event.StripeEvent.StripeEvent};
 ghost use Rattle.mc_item.specs.declared.class_event.ClassEvent.TheVariants as entries;
-ghost use Rattle.mc_item.specs.declared.class_event.Linked.{Linked};
-ghost use Rattle.mc_item.specs.declared.class_event.Refused.{Refused};
-ghost use Rattle.mc_item.specs.declared.class_event.Shifted.{Shifted};
-ghost use Rattle.mc_item.specs.declared.class_event.Surveyed.{Surveyed};
-ghost use Rattle.mc_item.specs.declared.class_event.Unlinked.{Unlinked};
-ghost use Rattle.mc_item.specs.declared.item.ClassNo.{ClassNo};
-ghost use Rattle.mc_item.specs.declared.item.Who.{Who};
-ghost use Rattle.mc_item.specs.declared.stripe_event.Did.{Did};
-ghost use Rattle.mc_item.specs.declared.stripe_event.StripeEvent.{StripeEvent};
 ghost use Rattle.mc_item.specs.declared.stripe_event.StripeEvent.TheVariants as items;
-ghost use Rattle.mc_rule.specs.Agreement.{Agree};
-ghost use Rattle.mc_rule.specs.Belonging.{Belong, IsEntryOf};
-ghost use Rattle.mc_rule.specs.Lawful.{IsLawfulHistoryByLists, SuitsMove};
-ghost use Rattle.mc_rule.specs.Lists.{moved};
-ghost use Rattle.mc_rule.specs.Pairs.{ClearsMark, IsKeyOf, IsLinking, IsUnlinking, item_after};
-ghost use Rattle.mc_rule.specs.Segment.{Rule};
+ghost use Rattle.mc_rule.specs.{Agreement.Agree, Belonging.Belong, Belonging.IsEntryOf, Lawful.IsLawfulHistoryByLists, Lawful.SuitsMove, Lists.moved};
+ghost use Rattle.mc_rule.specs.{Pairs.ClearsMark, Pairs.IsKeyOf, Pairs.IsLinking, Pairs.IsUnlinking, Pairs.item_after, Segment.Rule};
 ghost use Rattle.mc_evidence.specs.Made.{IsGivenNone, IsRefusedThere, LetsNoneGo, cooled_as, evicted_as, lost_at, lost_to, reclaimed_as};
 
 /// Each outcome of a judgement: an eviction or a reclaiming with its loss, a move that clears a mark with its cooling, and

@@ -1,26 +1,13 @@
 //! What a command of a stripe has to do with links: the new entry that it calls for, and when none comes or goes.
 ghost use Rattle.std.specs.Prelude.{IsSomeAnd, List, None, [], false, ℕ, ◌++◌, ◌^◌, ◌∷◌, ◌≡◌, ◌≤◌};
-ghost use Rattle.mc_item.specs.Command.{key_of};
-ghost use Rattle.mc_item.specs.Config.{IsSound};
-ghost use Rattle.mc_item.specs.Measure.{cost_of};
-ghost use Rattle.mc_item.specs.Stripe.{IsUnnamed, MayDo, cache_of};
-ghost use Rattle.mc_item.specs.declared.answer.Site.{Site};
-ghost use Rattle.mc_item.specs.declared.class_event.ClassEvent.{ClassEvent};
-ghost use Rattle.mc_item.specs.declared.config.Config.{Config};
-ghost use Rattle.mc_item.specs.declared.item.ClassNo.{ClassNo};
-ghost use Rattle.mc_item.specs.declared.item.Link.{Link};
+ghost use Rattle.mc_item.specs.{Command.key_of, Config.IsSound, Measure.cost_of, Stripe.IsUnnamed, Stripe.MayDo, Stripe.cache_of};
+ghost use Rattle.mc_item.specs.declared.{answer.Site.Site, class_event.ClassEvent.ClassEvent, config.Config.Config, item.ClassNo.ClassNo, item.Link.Link};
+ghost use Rattle.mc_item.specs.declared.{stripe_event.Did.Did, stripe_event.StripeEvent.StripeEvent};
 ghost use Rattle.mc_item.specs.declared.reply.Reply.TheVariants as replies;
 ghost use Rattle.mc_item.specs.declared.reply.Room.TheVariants as rooms;
-ghost use Rattle.mc_item.specs.declared.stripe_event.Did.{Did};
-ghost use Rattle.mc_item.specs.declared.stripe_event.StripeEvent.{StripeEvent};
 ghost use Rattle.mc_item.specs.declared.stripe_event.StripeEvent.TheVariants as items;
-ghost use Rattle.mc_rule.specs.Evidence.{IsTold};
-ghost use Rattle.mc_rule.specs.Lawful.{is_named};
-ghost use Rattle.mc_rule.specs.Pairs.{IsLinking, LetsGo, item_after, link_to};
-ghost use Rattle.mc_rule.specs.Places.{Each};
-ghost use Rattle.mc_rule.specs.Segment.{Rule};
-ghost use Rattle.mc_evidence.specs.Made.{linked_for};
-ghost use Rattle.mc_evidence.specs.Small.{AreSmall, IsReader};
+ghost use Rattle.mc_rule.specs.{Evidence.IsTold, Lawful.is_named, Pairs.IsLinking, Pairs.LetsGo, Pairs.item_after, Pairs.link_to, Places.Each, Segment.Rule};
+ghost use Rattle.mc_evidence.specs.{Made.linked_for, Small.AreSmall, Small.IsReader};
 
 /// A command that was given a chunk left an item, whose new entry is its partner.
 pub fn the_new_entry_is_a_partner()

@@ -1,19 +1,10 @@
 //! The items of a stripe and the entries of a slab class that are evidence of each other.
 ghost use Rattle.std.specs.Prelude.{List, Some, ℕ, ◌≡◌, ◌≤◌};
 ghost use Rattle.mc_item.specs.Stripe.{IsLegal};
-ghost use Rattle.mc_item.specs.declared.answer.Site.{Site};
-ghost use Rattle.mc_item.specs.declared.class_event.ClassEvent.{ClassEvent};
-ghost use Rattle.mc_item.specs.declared.item.ClassNo.{ClassNo};
-ghost use Rattle.mc_item.specs.declared.item.Item.{Item};
-ghost use Rattle.mc_item.specs.declared.lists.Entry.{Entry};
-ghost use Rattle.mc_item.specs.declared.lists.Seg.{Seg};
-ghost use Rattle.mc_item.specs.declared.stripe_event.StripeEvent.{StripeEvent};
-ghost use Rattle.mc_rule.specs.Belonging.{HasEntry, HasItem};
-ghost use Rattle.mc_rule.specs.Evidence.{AreEvidence};
-ghost use Rattle.mc_rule.specs.Lawful.{IsLawfulHistoryByLists};
-ghost use Rattle.mc_rule.specs.Lists.{found, lists_of, times_in};
-ghost use Rattle.mc_rule.specs.Pairs.{IsKeyOf, item_after};
-ghost use Rattle.mc_rule.specs.Segment.{Rule};
+ghost use Rattle.mc_item.specs.declared.{answer.Site.Site, class_event.ClassEvent.ClassEvent, item.ClassNo.ClassNo, item.Item.Item, lists.Entry.Entry};
+ghost use Rattle.mc_item.specs.declared.{lists.Seg.Seg, stripe_event.StripeEvent.StripeEvent};
+ghost use Rattle.mc_rule.specs.{Belonging.HasEntry, Belonging.HasItem, Evidence.AreEvidence, Lawful.IsLawfulHistoryByLists, Lists.found, Lists.lists_of};
+ghost use Rattle.mc_rule.specs.{Lists.times_in, Pairs.IsKeyOf, Pairs.item_after, Segment.Rule};
 
 /// An item with a link of the class has its entry there, an entry with a key of the stripe has its item, and a number
 /// stands in the four lists once at the most: so items are exactly entries, with one number, key and cost.

@@ -1,9 +1,7 @@
 //! Two chunks and three sets: the histories that such a run leaves are legal and lawful, and agree.
 ghost use Rattle.std.specs.Prelude.{[], ◌∷◌};
 ghost use Rattle.mc_item.specs.Stripe.{IsLegal};
-ghost use Rattle.mc_rule.specs.Agreement.{Agree};
-ghost use Rattle.mc_rule.specs.Belonging.{Belong};
-ghost use Rattle.mc_rule.specs.Lawful.{IsLawfulHistoryByLists};
+ghost use Rattle.mc_rule.specs.{Agreement.Agree, Belonging.Belong, Lawful.IsLawfulHistoryByLists};
 ghost use Rattle.mc_evidence.specs.Example.{class_before, class_story, first_class, small_rule, small_site, stripe_before, stripe_story};
 
 /// The definitions hold of a run of three sets with one eviction.

@@ -1,30 +1,15 @@
 //! What an event of a stripe finds in a class's history that is evidence of it, and an event of the class in the stripe's.
 ghost use Rattle.std.specs.Prelude.{IsSomeAnd, List, Some, [], length, ℕ, ◌++◌, ◌∷◌, ◌≡◌};
-ghost use Rattle.mc_item.specs.Command.{key_of};
-ghost use Rattle.mc_item.specs.Item.{link_of_item};
-ghost use Rattle.mc_item.specs.declared.answer.Site.{Site};
-ghost use Rattle.mc_item.specs.declared.class_event.ClassEvent.{ClassEvent};
+ghost use Rattle.mc_item.specs.{Command.key_of, Item.link_of_item};
+ghost use Rattle.mc_item.specs.declared.{answer.Site.Site, class_event.ClassEvent.ClassEvent, class_event.Evicted.Evicted, class_event.Linked.Linked};
+ghost use Rattle.mc_item.specs.declared.{class_event.Reclaimed.Reclaimed, class_event.Shifted.Shifted, class_event.Unlinked.Unlinked, item.ClassNo.ClassNo};
+ghost use Rattle.mc_item.specs.declared.{lists.Entry.Entry, lists.Seg.Seg, stripe_event.Cause.TheVariants.Expired, stripe_event.Cause.TheVariants.Taken};
+ghost use Rattle.mc_item.specs.declared.{stripe_event.Cooled.Cooled, stripe_event.Did.Did, stripe_event.Lost.Lost, stripe_event.StripeEvent.StripeEvent};
 ghost use Rattle.mc_item.specs.declared.class_event.ClassEvent.TheVariants as entries;
-ghost use Rattle.mc_item.specs.declared.class_event.Evicted.{Evicted};
-ghost use Rattle.mc_item.specs.declared.class_event.Linked.{Linked};
-ghost use Rattle.mc_item.specs.declared.class_event.Reclaimed.{Reclaimed};
-ghost use Rattle.mc_item.specs.declared.class_event.Shifted.{Shifted};
-ghost use Rattle.mc_item.specs.declared.class_event.Unlinked.{Unlinked};
-ghost use Rattle.mc_item.specs.declared.item.ClassNo.{ClassNo};
-ghost use Rattle.mc_item.specs.declared.lists.Entry.{Entry};
-ghost use Rattle.mc_item.specs.declared.lists.Seg.{Seg};
 ghost use Rattle.mc_item.specs.declared.reply.Room.TheVariants as rooms;
-ghost use Rattle.mc_item.specs.declared.stripe_event.Cause.TheVariants.{Expired, Taken};
-ghost use Rattle.mc_item.specs.declared.stripe_event.Cooled.{Cooled};
-ghost use Rattle.mc_item.specs.declared.stripe_event.Did.{Did};
-ghost use Rattle.mc_item.specs.declared.stripe_event.Lost.{Lost};
-ghost use Rattle.mc_item.specs.declared.stripe_event.StripeEvent.{StripeEvent};
 ghost use Rattle.mc_item.specs.declared.stripe_event.StripeEvent.TheVariants as items;
-ghost use Rattle.mc_rule.specs.Evidence.{AreEvidence};
-ghost use Rattle.mc_rule.specs.Lists.{found, linked, lists_of, unlinked};
+ghost use Rattle.mc_rule.specs.{Evidence.AreEvidence, Lists.found, Lists.linked, Lists.lists_of, Lists.unlinked, Places.Has, Places.Stands, Segment.Rule};
 ghost use Rattle.mc_rule.specs.Pairs.{ClearsMark, IsKeyOf, LetsGo, item_after, link_to};
-ghost use Rattle.mc_rule.specs.Places.{Has, Stands};
-ghost use Rattle.mc_rule.specs.Segment.{Rule};
 ghost use Rattle.mc_evidence.specs.Finding.{ClearsAt, Occurs, StandsAt, StandsFor, TakesAway};
 ghost use Rattle.mc_evidence.specs.Made.{cooled_as, evicted_as, linked_for, lost_at, lost_to, reclaimed_as};
 

@@ -1,21 +1,13 @@
 //! Each pair of events that one call makes keeps evidence, where each side is told the other's whole history.
 ghost use Rattle.std.specs.Prelude.{List, [], length, ℕ, ◌++◌, ◌∷◌, ◌≡◌};
 ghost use Rattle.mc_item.specs.Command.{key_of};
-ghost use Rattle.mc_item.specs.declared.answer.Site.{Site};
-ghost use Rattle.mc_item.specs.declared.class_event.ClassEvent.{ClassEvent};
+ghost use Rattle.mc_item.specs.declared.{answer.Site.Site, class_event.ClassEvent.ClassEvent, class_event.Linked.Linked, class_event.Shifted.Shifted};
+ghost use Rattle.mc_item.specs.declared.{class_event.Unlinked.Unlinked, item.ClassNo.ClassNo, item.Who.Who, stripe_event.Did.Did};
+ghost use Rattle.mc_item.specs.declared.{stripe_event.StripeEvent.StripeEvent};
 ghost use Rattle.mc_item.specs.declared.class_event.ClassEvent.TheVariants as entries;
-ghost use Rattle.mc_item.specs.declared.class_event.Linked.{Linked};
-ghost use Rattle.mc_item.specs.declared.class_event.Shifted.{Shifted};
-ghost use Rattle.mc_item.specs.declared.class_event.Unlinked.{Unlinked};
-ghost use Rattle.mc_item.specs.declared.item.ClassNo.{ClassNo};
-ghost use Rattle.mc_item.specs.declared.item.Who.{Who};
-ghost use Rattle.mc_item.specs.declared.stripe_event.Did.{Did};
-ghost use Rattle.mc_item.specs.declared.stripe_event.StripeEvent.{StripeEvent};
 ghost use Rattle.mc_item.specs.declared.stripe_event.StripeEvent.TheVariants as items;
-ghost use Rattle.mc_rule.specs.Belonging.{Belong, IsEntryOf};
-ghost use Rattle.mc_rule.specs.Evidence.{AreEvidence, IsTold};
+ghost use Rattle.mc_rule.specs.{Belonging.Belong, Belonging.IsEntryOf, Evidence.AreEvidence, Evidence.IsTold, Segment.Rule};
 ghost use Rattle.mc_rule.specs.Pairs.{ClearsMark, IsLinking, IsUnlinking};
-ghost use Rattle.mc_rule.specs.Segment.{Rule};
 ghost use Rattle.mc_evidence.specs.Made.{IsAlone, IsGivenNone, IsRefusedThere, LetsNoneGo, cooled_as, evicted_as, lost_at, lost_to, reclaimed_as};
 
 /// An eviction or a reclaiming, with its loss.

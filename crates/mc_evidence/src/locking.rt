@@ -2,33 +2,19 @@
 //! other's whole history behind it.
 ghost use Rattle.std.specs.Prelude.{IsSomeAnd, List, Some, [], length, true, ℕ, ◌++◌, ◌<◌, ◌∷◌, ◌≡◌};
 ghost use mathlib.Core.List.{IsPrefix};
-ghost use Rattle.mc_item.specs.Command.{key_of};
-ghost use Rattle.mc_item.specs.Stripe.{IsDead, MayDo, cache_of};
-ghost use Rattle.mc_item.specs.declared.class_event.ClassEvent.{ClassEvent};
+ghost use Rattle.mc_item.specs.{Command.key_of, Stripe.IsDead, Stripe.MayDo, Stripe.cache_of};
+ghost use Rattle.mc_item.specs.declared.{class_event.ClassEvent.ClassEvent, class_event.Linked.Linked, class_event.Refused.Refused};
+ghost use Rattle.mc_item.specs.declared.{class_event.Shifted.Shifted, class_event.Surveyed.Surveyed, class_event.Unlinked.Unlinked, item.ClassNo.ClassNo};
+ghost use Rattle.mc_item.specs.declared.{item.Link.Link, item.Who.Who, lists.Entry.Entry, lists.Seg.Seg, stripe_event.Did.Did};
+ghost use Rattle.mc_item.specs.declared.{stripe_event.StripeEvent.StripeEvent};
 ghost use Rattle.mc_item.specs.declared.class_event.ClassEvent.TheVariants as entries;
-ghost use Rattle.mc_item.specs.declared.class_event.Linked.{Linked};
-ghost use Rattle.mc_item.specs.declared.class_event.Refused.{Refused};
-ghost use Rattle.mc_item.specs.declared.class_event.Shifted.{Shifted};
-ghost use Rattle.mc_item.specs.declared.class_event.Surveyed.{Surveyed};
-ghost use Rattle.mc_item.specs.declared.class_event.Unlinked.{Unlinked};
-ghost use Rattle.mc_item.specs.declared.item.ClassNo.{ClassNo};
-ghost use Rattle.mc_item.specs.declared.item.Link.{Link};
-ghost use Rattle.mc_item.specs.declared.item.Who.{Who};
-ghost use Rattle.mc_item.specs.declared.lists.Entry.{Entry};
-ghost use Rattle.mc_item.specs.declared.lists.Seg.{Seg};
 ghost use Rattle.mc_item.specs.declared.reply.Room.TheVariants as rooms;
-ghost use Rattle.mc_item.specs.declared.stripe_event.Did.{Did};
-ghost use Rattle.mc_item.specs.declared.stripe_event.StripeEvent.{StripeEvent};
 ghost use Rattle.mc_item.specs.declared.stripe_event.StripeEvent.TheVariants as items;
-ghost use Rattle.mc_rule.specs.Belonging.{Belong, HasItem, IsEntryOf};
-ghost use Rattle.mc_rule.specs.Evidence.{AreEvidence};
-ghost use Rattle.mc_rule.specs.Lawful.{IsLawfulByLists, SuitsMove};
-ghost use Rattle.mc_rule.specs.Lists.{found, linked, lists_of, moved, unlinked};
+ghost use Rattle.mc_rule.specs.{Belonging.Belong, Belonging.HasItem, Belonging.IsEntryOf, Evidence.AreEvidence, Lawful.IsLawfulByLists, Lawful.SuitsMove};
+ghost use Rattle.mc_rule.specs.{Lists.found, Lists.linked, Lists.lists_of, Lists.moved, Lists.unlinked, Places.Has};
 ghost use Rattle.mc_rule.specs.Pairs.{ClearsMark, IsKeyOf, IsLinking, IsRefusal, IsUnlinking, LetsGo, item_after};
-ghost use Rattle.mc_rule.specs.Places.{Has};
 ghost use Rattle.mc_evidence.specs.Locks.{AreHeld, AreLent, ClassKeeps, KeepBoth, SeesMore, StripeKeeps};
-ghost use Rattle.mc_evidence.specs.Made.{cooled_as, evicted_as, lost_at, lost_to, reclaimed_as};
-ghost use Rattle.mc_evidence.specs.Setting.{Setting, site_in};
+ghost use Rattle.mc_evidence.specs.{Made.cooled_as, Made.evicted_as, Made.lost_at, Made.lost_to, Made.reclaimed_as, Setting.Setting, Setting.site_in};
 
 /// Without events each lock keeps what it keeps.
 pub fn locks_begin()

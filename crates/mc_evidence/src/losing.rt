@@ -1,18 +1,9 @@
 //! Between two commands of a stripe items only go, each by a loss that has its cause.
 ghost use Rattle.std.specs.Prelude.{IsSomeAnd, List, None, Some, false, ℕ, ◌++◌, ◌≡◌};
-ghost use Rattle.mc_item.specs.Cache.{visible_items};
-ghost use Rattle.mc_item.specs.Item.{is_dead};
-ghost use Rattle.mc_item.specs.Stripe.{IsLegal, cache_of};
-ghost use Rattle.mc_item.specs.declared.answer.Site.{Site};
-ghost use Rattle.mc_item.specs.declared.class_event.ClassEvent.{ClassEvent};
-ghost use Rattle.mc_item.specs.declared.item.ClassNo.{ClassNo};
-ghost use Rattle.mc_item.specs.declared.item.Item.{Item};
-ghost use Rattle.mc_item.specs.declared.stripe_event.StripeEvent.{StripeEvent};
-ghost use Rattle.mc_rule.specs.Evidence.{AreEvidence};
-ghost use Rattle.mc_rule.specs.Lawful.{IsLawfulHistoryByLists};
-ghost use Rattle.mc_rule.specs.Lists.{IsFull, lists_of};
-ghost use Rattle.mc_rule.specs.Pairs.{item_after};
-ghost use Rattle.mc_rule.specs.Segment.{Rule};
+ghost use Rattle.mc_item.specs.{Cache.visible_items, Item.is_dead, Stripe.IsLegal, Stripe.cache_of};
+ghost use Rattle.mc_item.specs.declared.{answer.Site.Site, class_event.ClassEvent.ClassEvent, item.ClassNo.ClassNo, item.Item.Item};
+ghost use Rattle.mc_item.specs.declared.{stripe_event.StripeEvent.StripeEvent};
+ghost use Rattle.mc_rule.specs.{Evidence.AreEvidence, Lawful.IsLawfulHistoryByLists, Lists.IsFull, Lists.lists_of, Pairs.item_after, Segment.Rule};
 ghost use Rattle.mc_evidence.specs.Losses.{AreNoCommands, IsSameItem, WasLost};
 
 /// Where no command stands between, each item that is visible at a moment was visible before, the same but for its marks.

@@ -1,33 +1,16 @@
 //! What partners are by themselves: the only ones, with the items that they cite.
 ghost use Rattle.std.specs.Prelude.{List, Some, length, ℕ, ◌≡◌};
-ghost use Rattle.mc_item.specs.Item.{link_of_item};
-ghost use Rattle.mc_item.specs.Stripe.{IsLegal};
-ghost use Rattle.mc_item.specs.declared.answer.Site.{Site};
-ghost use Rattle.mc_item.specs.declared.class_event.ClassEvent.{ClassEvent};
+ghost use Rattle.mc_item.specs.{Item.link_of_item, Stripe.IsLegal};
+ghost use Rattle.mc_item.specs.declared.{answer.Site.Site, class_event.ClassEvent.ClassEvent, class_event.Evicted.Evicted, class_event.Linked.Linked};
+ghost use Rattle.mc_item.specs.declared.{class_event.Reclaimed.Reclaimed, class_event.Refused.Refused, class_event.Shifted.Shifted};
+ghost use Rattle.mc_item.specs.declared.{class_event.Unlinked.Unlinked, class_event.Why.TheVariants.Hit, item.ClassNo.ClassNo};
+ghost use Rattle.mc_item.specs.declared.{stripe_event.Cause.TheVariants.Taken, stripe_event.Cooled.Cooled, stripe_event.Did.Did, stripe_event.Lost.Lost};
+ghost use Rattle.mc_item.specs.declared.{stripe_event.StripeEvent.StripeEvent};
 ghost use Rattle.mc_item.specs.declared.class_event.ClassEvent.TheVariants as entries;
-ghost use Rattle.mc_item.specs.declared.class_event.Evicted.{Evicted};
-ghost use Rattle.mc_item.specs.declared.class_event.Linked.{Linked};
-ghost use Rattle.mc_item.specs.declared.class_event.Reclaimed.{Reclaimed};
-ghost use Rattle.mc_item.specs.declared.class_event.Refused.{Refused};
-ghost use Rattle.mc_item.specs.declared.class_event.Shifted.{Shifted};
-ghost use Rattle.mc_item.specs.declared.class_event.Unlinked.{Unlinked};
-ghost use Rattle.mc_item.specs.declared.class_event.Why.TheVariants.{Hit};
-ghost use Rattle.mc_item.specs.declared.item.ClassNo.{ClassNo};
-ghost use Rattle.mc_item.specs.declared.stripe_event.Cause.TheVariants.{Taken};
-ghost use Rattle.mc_item.specs.declared.stripe_event.Cooled.{Cooled};
-ghost use Rattle.mc_item.specs.declared.stripe_event.Did.{Did};
-ghost use Rattle.mc_item.specs.declared.stripe_event.Lost.{Lost};
-ghost use Rattle.mc_item.specs.declared.stripe_event.StripeEvent.{StripeEvent};
 ghost use Rattle.mc_item.specs.declared.stripe_event.StripeEvent.TheVariants as items;
-ghost use Rattle.mc_rule.specs.Belonging.{IsEntryOf};
-ghost use Rattle.mc_rule.specs.Cited.{IsSuited};
-ghost use Rattle.mc_rule.specs.Evidence.{AreEvidence, IsBacked};
-ghost use Rattle.mc_rule.specs.Lawful.{IsLawfulHistoryByLists};
-ghost use Rattle.mc_rule.specs.Lists.{linked, unlinked};
+ghost use Rattle.mc_rule.specs.{Belonging.IsEntryOf, Cited.IsSuited, Evidence.AreEvidence, Evidence.IsBacked, Lawful.IsLawfulHistoryByLists, Lists.linked};
+ghost use Rattle.mc_rule.specs.{Lists.unlinked, Partners.ClearsOnce, Partners.Links, Partners.TakesOut, Places.Each, Places.Stands, Segment.Rule};
 ghost use Rattle.mc_rule.specs.Pairs.{IsCooling, IsEviction, IsKeyOf, IsLinking, IsReclaiming, IsRefusal, IsUnlinking, item_after, link_to};
-ghost use Rattle.mc_rule.specs.Partners.{ClearsOnce, Links, TakesOut};
-ghost use Rattle.mc_rule.specs.Places.{Each, Stands};
-ghost use Rattle.mc_rule.specs.Segment.{Rule};
 
 /// In a lawful class a number is linked at one place alone, and is taken out at one place alone.
 pub fn numbers_come_and_go_once()

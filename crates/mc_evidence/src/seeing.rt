@@ -1,21 +1,11 @@
 //! Evidence that one history has found in another stays while the other grows.
 ghost use Rattle.std.specs.Prelude.{List, map, ℕ, ◌++◌, ◌≡◌};
 ghost use mathlib.Core.List.{IsPrefix};
-ghost use Rattle.mc_item.specs.declared.answer.Site.{Site};
-ghost use Rattle.mc_item.specs.declared.class_event.ClassEvent.{ClassEvent};
-ghost use Rattle.mc_item.specs.declared.event.Event.{Event};
-ghost use Rattle.mc_item.specs.declared.event.Event.TheVariants.{Class, Stripe};
-ghost use Rattle.mc_item.specs.declared.item.ClassNo.{ClassNo};
-ghost use Rattle.mc_item.specs.declared.stripe_event.Did.{Did};
-ghost use Rattle.mc_item.specs.declared.stripe_event.StripeEvent.{StripeEvent};
-ghost use Rattle.mc_rule.specs.Cited.{IsSuited};
-ghost use Rattle.mc_rule.specs.Evidence.{IsBacked, IsTold};
-ghost use Rattle.mc_rule.specs.Places.{Each};
-ghost use Rattle.mc_rule.specs.Segment.{Rule};
-ghost use Rattle.mc_evidence.specs.Locks.{SeesMore, StripeKeeps};
-ghost use Rattle.mc_evidence.specs.Refusals.{WasTried};
+ghost use Rattle.mc_item.specs.declared.{answer.Site.Site, class_event.ClassEvent.ClassEvent, event.Event.Event, event.Event.TheVariants.Class};
+ghost use Rattle.mc_item.specs.declared.{event.Event.TheVariants.Stripe, item.ClassNo.ClassNo, stripe_event.Did.Did, stripe_event.StripeEvent.StripeEvent};
+ghost use Rattle.mc_rule.specs.{Cited.IsSuited, Evidence.IsBacked, Evidence.IsTold, Places.Each, Segment.Rule};
+ghost use Rattle.mc_evidence.specs.{Locks.SeesMore, Locks.StripeKeeps, Refusals.WasTried, Setting.IsClass, Setting.Setting, Setting.site_in};
 ghost use Rattle.mc_evidence.specs.Seen.{class_events, classes_seen, stripe_events, stripes_seen};
-ghost use Rattle.mc_evidence.specs.Setting.{IsClass, Setting, site_in};
 
 /// What events have found in another history as far as it was seen they find in it when more is seen: a stripe's events
 /// in a class's history, a class's events in a stripe's, the items that a class's events cite, and that a refusal wasn't

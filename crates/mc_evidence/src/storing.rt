@@ -1,19 +1,11 @@
 //! All stripes and all classes of a store together.
 ghost use Rattle.std.specs.Prelude.{List, None, Some, ℕ, ◌++◌, ◌<◌, ◌≡◌, ◌≤◌};
 ghost use Rattle.mc_item.specs.Measure.{stripe_of};
-ghost use Rattle.mc_item.specs.declared.class_event.ClassEvent.{ClassEvent};
-ghost use Rattle.mc_item.specs.declared.item.ClassNo.{ClassNo};
-ghost use Rattle.mc_item.specs.declared.item.Item.{Item};
-ghost use Rattle.mc_item.specs.declared.lists.Entry.{Entry};
-ghost use Rattle.mc_item.specs.declared.lists.Seg.{Seg};
-ghost use Rattle.mc_item.specs.declared.stripe_event.StripeEvent.{StripeEvent};
-ghost use Rattle.mc_rule.specs.Belonging.{HasEntry, HasItem};
-ghost use Rattle.mc_rule.specs.Lists.{found, lists_of, times_in};
-ghost use Rattle.mc_rule.specs.Pairs.{item_after};
-ghost use Rattle.mc_evidence.specs.Locks.{ClassKeeps, HaveSeen, StripeKeeps};
-ghost use Rattle.mc_evidence.specs.Losses.{AreNoCommands, WasLost};
-ghost use Rattle.mc_evidence.specs.Setting.{IsClass, Setting, site_in};
-ghost use Rattle.mc_evidence.specs.Sound.{IsSoundStore};
+ghost use Rattle.mc_item.specs.declared.{class_event.ClassEvent.ClassEvent, item.ClassNo.ClassNo, item.Item.Item, lists.Entry.Entry, lists.Seg.Seg};
+ghost use Rattle.mc_item.specs.declared.{stripe_event.StripeEvent.StripeEvent};
+ghost use Rattle.mc_rule.specs.{Belonging.HasEntry, Belonging.HasItem, Lists.found, Lists.lists_of, Lists.times_in, Pairs.item_after};
+ghost use Rattle.mc_evidence.specs.{Locks.ClassKeeps, Locks.HaveSeen, Locks.StripeKeeps, Losses.AreNoCommands, Losses.WasLost, Setting.IsClass};
+ghost use Rattle.mc_evidence.specs.{Setting.Setting, Setting.site_in, Sound.IsSoundStore};
 
 /// Where each lock keeps what it keeps, and of each stripe and class has seen a beginning, the whole store is sound.
 pub fn locks_keep_a_sound_store()

@@ -2,8 +2,7 @@
 use Rattle.std.specs.Prelude.{◌≡◌, List}
 use Rattle.mc_item.specs.Config.{IsBounded, IsSound}
 use Rattle.mc_item.specs.declared.config.Config.{Config}
-use Rattle.mc_board.specs.Histories.{blind}
-use Rattle.mc_board.specs.Views.{AreOwners, BoardView, OwnerView, SeenView, locks_of}
+use Rattle.mc_board.specs.{Histories.blind, Views.AreOwners, Views.BoardView, Views.OwnerView, Views.SeenView, Views.locks_of}
 use Rattle.mc_store.specs.Locked.{histories_for}
 
 -- a store of a configuration can be opened on this board, with these owners of its histories and this token

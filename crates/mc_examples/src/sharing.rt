@@ -1,8 +1,7 @@
 //! A store that threads share: two of them count visits, and a third caller reads.
 ghost use Rattle.std.specs.Prelude.{◌≡◌, IfSome};
 ghost use Rattle.mc_item.specs.Config.{IsBounded, IsSound};
-ghost use Rattle.mc_board.specs.Histories.{blind};
-ghost use Rattle.mc_board.specs.Views.{locks_of, AreOwners};
+ghost use Rattle.mc_board.specs.{Histories.blind, Views.locks_of, Views.AreOwners};
 ghost use Rattle.mc_store.specs.Locked.{histories_for};
 ghost use Rattle.mc_examples.specs.Parts.{AreParts};
 

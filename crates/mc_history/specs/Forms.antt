@@ -1,9 +1,7 @@
 -- A history is one of two forms.
 use Rattle.std.specs.Prelude.{true, false, ⊤, map}
-use Rattle.mc_history.specs.Events.{Events}
-use Rattle.mc_history.specs.Pieces.{events_of, room_of, IsKept}
-use Rattle.mc_history.specs.declared.history.Form.{Form}
-use Rattle.mc_history.specs.declared.history.Form.TheVariants.{Kept, LetGo}
+use Rattle.mc_history.specs.{Events.Events, Pieces.events_of, Pieces.room_of, Pieces.IsKept}
+use Rattle.mc_history.specs.declared.{history.Form.Form, history.Form.TheVariants.Kept, history.Form.TheVariants.LetGo}
 
 -- what contracts see of either form
 abbrev pub history_of : {E S : Type 0} → (S → E) → Form E S → Events E

@@ -1,7 +1,6 @@
 -- The pieces that a history's events lie in.
 use Rattle.std.specs.Prelude.{ℕ, ◌≡◌, ◌+◌, ◌-◌, ◌*◌, ◌^◌, ◌<◌, ◌≤◌, List, ◌++◌, Vec, length, vec_capacity}
-use Rattle.std.specs.List.{All, flat_map}
-use Rattle.std.specs.declared.alloc.Global.{Global}
+use Rattle.std.specs.{List.All, List.flat_map, declared.alloc.Global.Global}
 use Rattle.mc_history.specs.declared.pieces.Pieces.{Pieces}
 
 -- the events of the full pieces, one piece after another, and then those of the last

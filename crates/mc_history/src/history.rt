@@ -1,7 +1,6 @@
 //! The list of a history's events.
 ghost use Rattle.std.specs.Prelude.{◌≡◌, ◌+◌, ◌<◌, ◌≤◌, [], ◌∷◌, ◌++◌, length, OnOk, IsOk, Some, IfSome, true};
-ghost use Rattle.std.specs.Option.{option_copied};
-ghost use Rattle.std.specs.List.{slice_get};
+ghost use Rattle.std.specs.{Option.option_copied, List.slice_get};
 
 use crate::let_go::LetGo;
 use crate::pieces::Pieces;

@@ -1,7 +1,6 @@
 //! The pieces that a history lies in.
 ghost use Rattle.std.specs.Prelude.{◌≡◌, ◌+◌, ◌*◌, ◌^◌, ◌<◌, ◌≤◌, ◌∷◌, ◌++◌, [], length, vec_capacity, OnOk, IsOk};
-ghost use Rattle.std.specs.Option.{option_copied};
-ghost use Rattle.std.specs.List.{slice_get};
+ghost use Rattle.std.specs.{Option.option_copied, List.slice_get};
 ghost use Rattle.mc_history.specs.Pieces.{events_of, room_of, IsSound, IsKept};
 
 use std::alloc::{AllocError, Global};

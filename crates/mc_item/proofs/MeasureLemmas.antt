@@ -1,14 +1,10 @@
 -- Sizes that rise, and which number digits spell.
 use Rattle.std.proofs.Common.{◌≡◌, ◌≤◌, ◌<◌, ◌+◌, ◌-◌, ◌*◌, ◌^◌, zero, suc, subst, ℕ, List, [], ◌∷◌, Bool, true, false, refl, ap, sym, length, take, drop, get_or, arith, ◌∙◌}
 use Rattle.std.specs.Prelude.{Option, Some, None, if◌then◌else◌, nat_le, nat_lt, ◌==◌, ◌&&◌}
-use Rattle.std.specs.List.{list_all}
-use Rattle.std.proofs.lemmas.Bool.Decides.{nat_tests}
-use Rattle.std.proofs.lemmas.Bool.{le-leb}
-use Rattle.std.proofs.lemmas.List.{at_drop_more, at_drop_all}
-use Rattle.std.specs.List.{prefix_len}
+use Rattle.std.specs.{List.list_all, List.prefix_len}
+use Rattle.std.proofs.lemmas.{Bool.Decides.nat_tests, Bool.le-leb, List.at_drop_more, List.at_drop_all}
 use Rattle.std.proofs.Math.Nat.{pow-suc}
-use Rattle.mc_item.specs.Config.{is_rising}
-use Rattle.mc_item.specs.Measure.{is_digit, number_of, number_from, number_in, digits_of, numeral_of}
+use Rattle.mc_item.specs.{Config.is_rising, Measure.is_digit, Measure.number_of, Measure.number_from, Measure.number_in, Measure.digits_of, Measure.numeral_of}
 
 -- fewer than two numbers rise
 pub is_rising-short : (xs : List ℕ) → length xs ≤ 1 → is_rising xs ≡ true

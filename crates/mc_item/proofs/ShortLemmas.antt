@@ -1,8 +1,7 @@
 -- Thirty bytes, eight of them at a time.
 use Rattle.std.proofs.Common.{◌≡◌, ℕ, ◌<◌, ◌^◌, List, ◌++◌, sym, ap, ◌∙◌, length, take, drop, arith}
 use Rattle.std.specs.Int.{to_le_bytes, from_le_bytes, w64}
-use Rattle.std.proofs.lemmas.List.{take-append-drop, take_all, length-drop, drop-drop}
-use Rattle.std.proofs.lemmas.Nat.{from_le_bytes-to_le_bytes_8}
+use Rattle.std.proofs.lemmas.{List.take-append-drop, List.take_all, List.length-drop, List.drop-drop, Nat.from_le_bytes-to_le_bytes_8}
 
 -- lists that begin and end alike are one
 joined : (n : ℕ) (xs ys : List ℕ) → take n xs ≡ take n ys → drop n xs ≡ drop n ys → xs ≡ ys

@@ -2,10 +2,8 @@
 use Rattle.std.proofs.Common.{◌≡◌, ◌≤◌, List, [], ◌∷◌, ◌++◌, refl, sym, subst, append_assoc, append-nil, arith}
 use Rattle.mc_item.specs.Cache.{Cache, empty_cache, versions_of}
 use Rattle.mc_item.specs.Stripe.{cache_after, cache_from, cache_of, IsLegalFrom, IsLegal, MayHappen}
-use Rattle.mc_item.specs.declared.answer.Change.{Change}
+use Rattle.mc_item.specs.declared.{answer.Change.Change, answer.Site.Site, stripe_event.StripeEvent.StripeEvent}
 use Rattle.mc_item.specs.declared.answer.Change.TheVariants.{Stays, Goes, Hit, Touched, Counted, Renewed}
-use Rattle.mc_item.specs.declared.answer.Site.{Site}
-use Rattle.mc_item.specs.declared.stripe_event.StripeEvent.{StripeEvent}
 
 -- one event more is applied last
 pub cache_from-push : (site : Site) (cache : Cache) (es : List StripeEvent) (e : StripeEvent) → cache_from site cache (es ++ e ∷ []) ≡ cache_after site (cache_from site cache es) e

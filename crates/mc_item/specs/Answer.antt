@@ -2,27 +2,15 @@
 -- and what becomes of its key's item, which is absent or alive. Rows marked (own) are this profile's.
 use Rattle.std.specs.Prelude.{ℕ, ◌+◌, ◌-◌, ◌*◌, ◌%◌, ◌^◌, ◌==◌, List, ◌++◌, nat_le, if◌then◌else◌, Option, Some, None, length, replicate, decimal}
 use Rattle.std.specs.Option.{option_map}
-use Rattle.mc_item.specs.Item.{expiry_of, hit_marks, no_marks}
-use Rattle.mc_item.specs.Measure.{cost_of, class_of, numeral_of}
-use Rattle.mc_item.specs.declared.answer.Answer.{Answer}
-use Rattle.mc_item.specs.declared.answer.Change.{Change}
+use Rattle.mc_item.specs.{Item.expiry_of, Item.hit_marks, Item.no_marks, Measure.cost_of, Measure.class_of, Measure.numeral_of}
+use Rattle.mc_item.specs.declared.{answer.Answer.Answer, answer.Change.Change, answer.Need.Need, answer.Site.Site, command.Command.Command, command.Verb.Verb}
+use Rattle.mc_item.specs.declared.{counting.Step.Step, counting.Step.TheVariants.Up, counting.Step.TheVariants.Down, item.ClassNo.ClassNo, item.Expiry.Expiry}
+use Rattle.mc_item.specs.declared.{item.Item.Item, item.Link.Link, reply.Reply.Reply, reply.Room.Room}
 use Rattle.mc_item.specs.declared.answer.Change.TheVariants as changes
-use Rattle.mc_item.specs.declared.answer.Need.{Need}
 use Rattle.mc_item.specs.declared.answer.Need.TheVariants as needs
-use Rattle.mc_item.specs.declared.answer.Site.{Site}
-use Rattle.mc_item.specs.declared.command.Command.{Command}
 use Rattle.mc_item.specs.declared.command.Command.TheVariants.{Get, Store, Huge, Incr, Decr, Touch, Delete}
-use Rattle.mc_item.specs.declared.command.Verb.{Verb}
 use Rattle.mc_item.specs.declared.command.Verb.TheVariants.{Set, Add, Replace, Cas}
-use Rattle.mc_item.specs.declared.counting.Step.{Step}
-use Rattle.mc_item.specs.declared.counting.Step.TheVariants.{Up, Down}
-use Rattle.mc_item.specs.declared.item.ClassNo.{ClassNo}
-use Rattle.mc_item.specs.declared.item.Expiry.{Expiry}
-use Rattle.mc_item.specs.declared.item.Item.{Item}
-use Rattle.mc_item.specs.declared.item.Link.{Link}
-use Rattle.mc_item.specs.declared.reply.Reply.{Reply}
 use Rattle.mc_item.specs.declared.reply.Reply.TheVariants as replies
-use Rattle.mc_item.specs.declared.reply.Room.{Room}
 use Rattle.mc_item.specs.declared.reply.Room.TheVariants as rooms
 
 -- a row of the table: what is needed, and for the room that is given the answer

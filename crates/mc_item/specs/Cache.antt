@@ -1,19 +1,10 @@
 -- The sequential cache of one stripe: the items under their keys, and how many new versions there were so far.
 use Rattle.std.specs.Prelude.{ℕ, ◌+◌, List, if◌then◌else◌, Option, Some, None, nat_eq}
-use Rattle.std.specs.Cmp.Lexicographic.{pointwise}
-use Rattle.std.specs.Option.{option_map}
-use Rattle.mc_item.specs.Answer.{row_of}
-use Rattle.mc_item.specs.Command.{key_of}
-use Rattle.mc_item.specs.Item.{is_dead}
-use Rattle.mc_item.specs.declared.answer.Answer.{Answer}
-use Rattle.mc_item.specs.declared.answer.Change.{Change}
+use Rattle.std.specs.{Cmp.Lexicographic.pointwise, Option.option_map}
+use Rattle.mc_item.specs.{Answer.row_of, Command.key_of, Item.is_dead}
+use Rattle.mc_item.specs.declared.{answer.Answer.Answer, answer.Change.Change, answer.Site.Site, command.Command.Command, item.Expiry.Expiry, item.Item.Item}
+use Rattle.mc_item.specs.declared.{item.Marks.Marks, reply.Room.Room}
 use Rattle.mc_item.specs.declared.answer.Change.TheVariants.{Stays, Goes, Hit, Touched, Counted, Renewed}
-use Rattle.mc_item.specs.declared.answer.Site.{Site}
-use Rattle.mc_item.specs.declared.command.Command.{Command}
-use Rattle.mc_item.specs.declared.item.Expiry.{Expiry}
-use Rattle.mc_item.specs.declared.item.Item.{Item}
-use Rattle.mc_item.specs.declared.item.Marks.{Marks}
-use Rattle.mc_item.specs.declared.reply.Room.{Room}
 
 -- the item under each key, where there is one, and the number of versions; each step changes one key at most,
 -- so from the empty cache on only finitely many keys have an item

@@ -1,10 +1,7 @@
 -- Items: when one dies, what an exptime means, what hits leave, and where one has its chunk.
 use Rattle.std.specs.Prelude.{ℕ, ◌+◌, ◌==◌, nat_le, ℤ, pos, negsuc, Bool, true, false, if◌then◌else◌, Option, Some, None}
-use Rattle.mc_item.specs.declared.item.Expiry.{Expiry}
-use Rattle.mc_item.specs.declared.item.Expiry.TheVariants.{Never, At}
-use Rattle.mc_item.specs.declared.item.Marks.{Marks}
-use Rattle.mc_item.specs.declared.item.Item.{Item}
-use Rattle.mc_item.specs.declared.item.Link.{Link}
+use Rattle.mc_item.specs.declared.{item.Expiry.Expiry, item.Expiry.TheVariants.Never, item.Expiry.TheVariants.At, item.Marks.Marks, item.Item.Item}
+use Rattle.mc_item.specs.declared.{item.Link.Link}
 
 -- whether an expiry has come at a moment (own: the second of the expiry counts)
 abbrev pub has_come : Expiry → ℕ → Bool

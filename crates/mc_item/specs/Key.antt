@@ -1,9 +1,7 @@
 -- The bytes of a key: which there may be, and what is wrong with others (protocol.txt, "Keys"; the bytes are this profile's own).
 use Rattle.std.specs.Prelude.{ℕ, ◌≡◌, ◌==◌, ◌||◌, List, Bool, not, nat_lt, if◌then◌else◌, Option, Some, None, length}
 use Rattle.std.specs.List.{list_all}
-use Rattle.mc_item.specs.declared.key.Named.{Named}
-use Rattle.mc_item.specs.declared.key.Named.TheVariants.{Short, Long}
-use Rattle.mc_item.specs.declared.key.KeyFault.{KeyFault}
+use Rattle.mc_item.specs.declared.{key.Named.Named, key.Named.TheVariants.Short, key.Named.TheVariants.Long, key.KeyFault.KeyFault}
 use Rattle.mc_item.specs.declared.key.KeyFault.TheVariants.{Empty, TooLong, BadByte}
 
 -- any byte but NUL, LF, CR and space may stand in a key

@@ -1,23 +1,13 @@
 -- The history of a stripe: which events may happen to its cache, which histories are legal, and what they leave.
 use Rattle.std.specs.Prelude.{ℕ, ◌≡◌, ◌≢◌, List, [], ◌∷◌, ◌++◌, true, false, Option, Some, None, IsSomeAnd, IfSome}
-use Rattle.mc_item.specs.Answer.{row_of}
+use Rattle.mc_item.specs.{Answer.row_of, Command.key_of, Item.is_dead, Measure.stripe_of}
 use Rattle.mc_item.specs.Cache.{Cache, empty_cache, after_change, after_command, answer_of}
-use Rattle.mc_item.specs.Command.{key_of}
-use Rattle.mc_item.specs.Item.{is_dead}
-use Rattle.mc_item.specs.Measure.{stripe_of}
-use Rattle.mc_item.specs.declared.answer.Change.{Change}
+use Rattle.mc_item.specs.declared.{answer.Change.Change, answer.Need.Need, answer.Site.Site, item.Item.Item, item.Link.Link, reply.Room.Room}
+use Rattle.mc_item.specs.declared.{stripe_event.Cause.Cause, stripe_event.Cause.TheVariants.Expired, stripe_event.Cause.TheVariants.Taken, stripe_event.Did.Did}
+use Rattle.mc_item.specs.declared.{stripe_event.StripeEvent.StripeEvent}
 use Rattle.mc_item.specs.declared.answer.Change.TheVariants.{Stays, Goes, Hit}
-use Rattle.mc_item.specs.declared.answer.Need.{Need}
 use Rattle.mc_item.specs.declared.answer.Need.TheVariants as needs
-use Rattle.mc_item.specs.declared.answer.Site.{Site}
-use Rattle.mc_item.specs.declared.item.Item.{Item}
-use Rattle.mc_item.specs.declared.item.Link.{Link}
-use Rattle.mc_item.specs.declared.reply.Room.{Room}
 use Rattle.mc_item.specs.declared.reply.Room.TheVariants as rooms
-use Rattle.mc_item.specs.declared.stripe_event.Cause.{Cause}
-use Rattle.mc_item.specs.declared.stripe_event.Cause.TheVariants.{Expired, Taken}
-use Rattle.mc_item.specs.declared.stripe_event.Did.{Did}
-use Rattle.mc_item.specs.declared.stripe_event.StripeEvent.{StripeEvent}
 use Rattle.mc_item.specs.declared.stripe_event.StripeEvent.TheVariants as events
 
 -- the link that a room is, where it is one

@@ -1,7 +1,6 @@
 -- The bytes of a value.
 use Rattle.std.specs.Prelude.{ℕ, List}
-use Rattle.mc_item.specs.declared.value.Held.{Held}
-use Rattle.mc_item.specs.declared.value.Held.TheVariants.{Alone, Within}
+use Rattle.mc_item.specs.declared.{value.Held.Held, value.Held.TheVariants.Alone, value.Held.TheVariants.Within}
 
 -- the bytes of a value, wherever they are
 abbrev pub held_bytes : Held → List ℕ

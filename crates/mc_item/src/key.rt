@@ -1,10 +1,7 @@
 //! The names of items.
 ghost use Rattle.std.specs.Prelude.{◌≡◌, ◌∷◌, [], None, nat_eq, IfOk, IfErr, IfSome, MatchOption};
-ghost use Rattle.std.specs.Cmp.{partial_equiv_from_equiv};
-ghost use Rattle.std.specs.Cmp.Lexicographic.{pointwise, nat_list_eq_equiv};
-ghost use Rattle.std.specs.Cmp.Rules.{hashing};
+ghost use Rattle.std.specs.{Cmp.partial_equiv_from_equiv, Cmp.Lexicographic.pointwise, Cmp.Lexicographic.nat_list_eq_equiv, Cmp.Rules.hashing, List.list_all};
 ghost use Rattle.std.proofs.Common.{rules};
-ghost use Rattle.std.specs.List.{list_all};
 ghost use Rattle.mc_item.specs.Key.{key_fault_of, IsKey, named_bytes};
 ghost use Rattle.mc_item.specs.declared.key.KeyFault.TheVariants as faults;
 

@@ -3,12 +3,10 @@ ghost use Rattle.std.specs.Prelude.{◌≡◌, ◌+◌, ◌*◌, ◌<◌, ◌≤
 ghost use Rattle.std.specs.Option.{option_copied};
 ghost use Rattle.mc_item.specs.Answer as answers;
 ghost use Rattle.mc_item.specs.Measure.{IsClass, IsNeedOf};
-ghost use Rattle.mc_item.specs.declared.item.Item.{Item};
-ghost use Rattle.mc_item.specs.declared.item.Link.{Link};
+ghost use Rattle.mc_item.specs.declared.{item.Item.Item, item.Link.Link, item.ClassNo.ClassNo};
 ghost use Rattle.mc_item.specs.declared.reply.Reply.TheVariants as replies;
 ghost use Rattle.mc_item.specs.declared.answer.Change.TheVariants as changes;
 ghost use Rattle.mc_item.specs.declared.answer.Need.TheVariants as needs;
-ghost use Rattle.mc_item.specs.declared.item.ClassNo.{ClassNo};
 ghost use Rattle.mc_item.specs.declared.reply.Room.TheVariants as rooms;
 
 use crate::answer::{Answer, Change, Need, Site};

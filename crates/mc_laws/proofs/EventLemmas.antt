@@ -5,27 +5,15 @@ use Rattle.std.specs.Cmp.Lexicographic.{pointwise, bytes_decides}
 use Rattle.std.proofs.lemmas.Bool.Decides.{nat_tests}
 use Rattle.mc_item.specs.Answer.{store_row, get_row, version_of, cas_of}
 use Rattle.mc_item.specs.Cache.{Cache, empty_cache, changed, after_change, after_command, answer_of, if_alive, visible_items}
-use Rattle.mc_item.specs.Command.{key_of}
-use Rattle.mc_item.specs.Item.{has_come, expiry_of}
+use Rattle.mc_item.specs.{Command.key_of, Item.has_come, Item.expiry_of, Measure.class_of, Measure.cost_of}
 use Rattle.mc_laws.specs.Events.{key_named, AreOfOthers}
-use Rattle.mc_item.specs.Measure.{class_of, cost_of}
 use Rattle.mc_item.specs.Stripe.{cache_after, cache_from, cache_of, IsLegalFrom, IsLegal, IsDead, cooled_change}
-use Rattle.mc_item.specs.declared.answer.Change.{Change}
-use Rattle.mc_item.specs.declared.answer.Change.TheVariants.{Goes}
-use Rattle.mc_item.specs.declared.answer.Site.{Site}
-use Rattle.mc_item.specs.declared.command.Command.{Command}
-use Rattle.mc_item.specs.declared.command.Command.TheVariants.{Get, Store}
-use Rattle.mc_item.specs.declared.command.Verb.TheVariants.{Set}
-use Rattle.mc_item.specs.declared.item.ClassNo.{ClassNo}
-use Rattle.mc_item.specs.declared.item.Expiry.{Expiry}
-use Rattle.mc_item.specs.declared.item.Expiry.TheVariants.{Never, At}
-use Rattle.mc_item.specs.declared.item.Item.{Item}
-use Rattle.mc_item.specs.declared.item.Link.{Link}
+use Rattle.mc_item.specs.declared.{answer.Change.Change, answer.Change.TheVariants.Goes, answer.Site.Site, command.Command.Command}
+use Rattle.mc_item.specs.declared.{command.Command.TheVariants.Get, command.Command.TheVariants.Store, command.Verb.TheVariants.Set, item.ClassNo.ClassNo}
+use Rattle.mc_item.specs.declared.{item.Expiry.Expiry, item.Expiry.TheVariants.Never, item.Expiry.TheVariants.At, item.Item.Item, item.Link.Link}
+use Rattle.mc_item.specs.declared.{reply.Room.Room, stripe_event.Did.Did, stripe_event.StripeEvent.StripeEvent}
 use Rattle.mc_item.specs.declared.reply.Reply.TheVariants as replies
-use Rattle.mc_item.specs.declared.reply.Room.{Room}
 use Rattle.mc_item.specs.declared.reply.Room.TheVariants as rooms
-use Rattle.mc_item.specs.declared.stripe_event.Did.{Did}
-use Rattle.mc_item.specs.declared.stripe_event.StripeEvent.{StripeEvent}
 use Rattle.mc_item.specs.declared.stripe_event.StripeEvent.TheVariants as events
 
 -- ---- one key's change

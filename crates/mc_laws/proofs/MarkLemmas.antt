@@ -1,36 +1,22 @@
 -- What no reply shows: the items that are dead, and the marks that are cooled.
 use Rattle.std.proofs.Common.{◌≡◌, ◌≢◌, ◌≤◌, ℕ, List, [], ◌∷◌, ◌++◌, refl, sym, ap, ◌∙◌, subst, append_assoc, add-zero, ◌+◌, length, Bool, true, false}
 use Rattle.std.specs.Prelude.{Option, Some, None, IfSome, nat_eq, nat_le, if◌then◌else◌, decimal}
-use Rattle.std.specs.Option.{option_map}
-use Rattle.std.specs.Cmp.Lexicographic.{pointwise, bytes_decides}
+use Rattle.std.specs.{Option.option_map, Cmp.Lexicographic.pointwise, Cmp.Lexicographic.bytes_decides}
 use Rattle.std.proofs.lemmas.Bool.{false≢true}
 use Rattle.mc_laws.proofs.EventLemmas.{after_elsewhere, come_stays, legal_on}
 use Rattle.mc_laws.specs.Events.{NoneAsks}
 use Rattle.mc_item.specs.Answer.{Row, row_of, store_row, huge_row, grown_row, number_row, count_row, stepped, version_of, plain, padded, cas_of}
 use Rattle.mc_item.specs.Cache.{Cache, empty_cache, changed, after_change, answer_of, versions_of, marked}
-use Rattle.mc_item.specs.Command.{key_of}
-use Rattle.mc_item.specs.Item.{is_dead, no_marks, expiry_of}
-use Rattle.mc_item.specs.Measure.{class_of, cost_of, numeral_of}
+use Rattle.mc_item.specs.{Command.key_of, Item.is_dead, Item.no_marks, Item.expiry_of, Measure.class_of, Measure.cost_of, Measure.numeral_of}
 use Rattle.mc_item.specs.Stripe.{cache_after, cache_from, cache_of, IsLegal, IsAlive, IsDead, cooled_change}
-use Rattle.mc_item.specs.declared.answer.Change.{Change}
+use Rattle.mc_item.specs.declared.{answer.Change.Change, answer.Need.Need, answer.Site.Site, command.Command.Command, command.Verb.Verb}
+use Rattle.mc_item.specs.declared.{counting.Step.TheVariants.Up, counting.Step.TheVariants.Down, item.ClassNo.ClassNo, item.Item.Item, item.Link.Link}
+use Rattle.mc_item.specs.declared.{reply.Reply.Reply, reply.Room.Room, stripe_event.Cooled.Cooled, stripe_event.Did.Did, stripe_event.StripeEvent.StripeEvent}
 use Rattle.mc_item.specs.declared.answer.Change.TheVariants.{Stays, Goes, Hit, Touched, Counted, Renewed}
-use Rattle.mc_item.specs.declared.answer.Need.{Need}
 use Rattle.mc_item.specs.declared.answer.Need.TheVariants as needs
-use Rattle.mc_item.specs.declared.answer.Site.{Site}
-use Rattle.mc_item.specs.declared.command.Command.{Command}
 use Rattle.mc_item.specs.declared.command.Command.TheVariants.{Get, Store, Huge, Incr, Decr, Touch, Delete}
-use Rattle.mc_item.specs.declared.command.Verb.{Verb}
 use Rattle.mc_item.specs.declared.command.Verb.TheVariants.{Set, Add, Replace, Cas}
-use Rattle.mc_item.specs.declared.counting.Step.TheVariants.{Up, Down}
-use Rattle.mc_item.specs.declared.item.ClassNo.{ClassNo}
-use Rattle.mc_item.specs.declared.item.Item.{Item}
-use Rattle.mc_item.specs.declared.item.Link.{Link}
-use Rattle.mc_item.specs.declared.reply.Reply.{Reply}
 use Rattle.mc_item.specs.declared.reply.Reply.TheVariants as replies
-use Rattle.mc_item.specs.declared.reply.Room.{Room}
-use Rattle.mc_item.specs.declared.stripe_event.Cooled.{Cooled}
-use Rattle.mc_item.specs.declared.stripe_event.Did.{Did}
-use Rattle.mc_item.specs.declared.stripe_event.StripeEvent.{StripeEvent}
 use Rattle.mc_item.specs.declared.stripe_event.StripeEvent.TheVariants as events
 
 -- ---- one key's item after a change

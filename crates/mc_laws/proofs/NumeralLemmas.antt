@@ -1,8 +1,7 @@
 -- What the digits of a number are read as, and what an incr or decr that was answered a number leaves.
 use Rattle.std.proofs.Common.{◌≡◌, ◌≤◌, ◌<◌, ◌+◌, ◌-◌, ◌^◌, ℕ, List, [], ◌∷◌, ◌++◌, replicate, drop, take, length, length-append, append-nil, refl, sym, ap, ◌∙◌, subst, arith, rules, Bool, true}
 use Rattle.std.specs.Prelude.{Option, Some, None, IsSomeAnd, decimal, nat_lt, nat_le, ◌&&◌, ◌==◌, if◌then◌else◌, zero, suc}
-use Rattle.std.specs.List.{list_all, prefix_len}
-use Rattle.std.specs.Option.{option_map}
+use Rattle.std.specs.{List.list_all, List.prefix_len, Option.option_map}
 use Rattle.std.proofs.Math.Seq.{take-append_seam, drop-append_seam}
 use Rattle.std.proofs.lemmas.Bool.{and_parts, lt-ltb, le-leb, cond-true, cond_both}
 use Rattle.std.proofs.lemmas.Fmt.{decimal_nonempty, digits_decimal, digits_value-decimal, length-decimal-le}
@@ -14,17 +13,11 @@ use Rattle.mc_item.specs.Measure.{is_digit, number_from, number_of, digits_of, n
 use Rattle.mc_item.specs.Stripe.{cache_after, cache_from, cache_of, IsLegal}
 use Rattle.mc_item.specs.declared.answer.Change.TheVariants as changes
 use Rattle.mc_item.specs.declared.answer.Need.TheVariants as needs
-use Rattle.mc_item.specs.declared.answer.Site.{Site}
-use Rattle.mc_item.specs.declared.command.Command.{Command}
-use Rattle.mc_item.specs.declared.command.Command.TheVariants.{Incr, Decr}
-use Rattle.mc_item.specs.declared.counting.Step.TheVariants.{Up, Down}
-use Rattle.mc_item.specs.declared.item.ClassNo.{ClassNo}
-use Rattle.mc_item.specs.declared.item.Item.{Item}
+use Rattle.mc_item.specs.declared.{answer.Site.Site, command.Command.Command, command.Command.TheVariants.Incr, command.Command.TheVariants.Decr}
+use Rattle.mc_item.specs.declared.{counting.Step.TheVariants.Up, counting.Step.TheVariants.Down, item.ClassNo.ClassNo, item.Item.Item, reply.Room.Room}
+use Rattle.mc_item.specs.declared.{stripe_event.Did.Did, stripe_event.StripeEvent.StripeEvent}
 use Rattle.mc_item.specs.declared.reply.Reply.TheVariants as replies
-use Rattle.mc_item.specs.declared.reply.Room.{Room}
 use Rattle.mc_item.specs.declared.reply.Room.TheVariants as rooms
-use Rattle.mc_item.specs.declared.stripe_event.Did.{Did}
-use Rattle.mc_item.specs.declared.stripe_event.StripeEvent.{StripeEvent}
 use Rattle.mc_item.specs.declared.stripe_event.StripeEvent.TheVariants as events
 use Rattle.mc_laws.proofs.EventLemmas.{change_here, stays_meanwhile, legal_on}
 use Rattle.mc_laws.specs.Events.{AreOfOthers}

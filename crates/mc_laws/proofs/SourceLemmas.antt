@@ -2,36 +2,21 @@
 use Rattle.std.proofs.Common.{◌≡◌, ℕ, List, [], ◌∷◌, ◌++◌, refl, sym, ap, ◌∙◌, subst, append-nil, ◌-◌, ◌==◌, ◌⊎◌, inl, inr, ⊎_elim, length, Bool, true, false}
 use Rattle.std.specs.Prelude.{Option, Some, None, nat_le, if◌then◌else◌, decimal}
 use Rattle.std.specs.Option.{option_map}
-use Rattle.mc_laws.proofs.EventLemmas.{legal_before, legal_on}
-use Rattle.mc_laws.proofs.MarkLemmas.{by_key}
+use Rattle.mc_laws.proofs.{EventLemmas.legal_before, EventLemmas.legal_on, MarkLemmas.by_key}
 use Rattle.mc_laws.specs.Versions.{Holds, HoldsThroughout, Wrote, WroteNumber}
 use Rattle.mc_item.specs.Answer.{Row, answer, plain, fresh, row_of, get_row, store_row, let_go, padded}
 use Rattle.mc_item.specs.Answer.{grown_row, number_row, count_row, stepped, version_of, cas_of}
-use Rattle.mc_item.specs.Cache.{Cache, empty_cache, changed, answer_of}
-use Rattle.mc_item.specs.Command.{key_of}
-use Rattle.mc_item.specs.Item.{expiry_of}
-use Rattle.mc_item.specs.Measure.{class_of, cost_of, numeral_of}
-use Rattle.mc_item.specs.Stripe.{cache_after, cache_from, cache_of, IsLegalFrom, IsLegal, cooled_change}
-use Rattle.mc_item.specs.declared.answer.Answer.{Answer}
-use Rattle.mc_item.specs.declared.answer.Change.TheVariants.{Stays, Goes, Counted}
+use Rattle.mc_item.specs.{Cache.Cache, Cache.empty_cache, Cache.changed, Cache.answer_of, Command.key_of, Item.expiry_of, Measure.class_of, Measure.cost_of}
+use Rattle.mc_item.specs.{Measure.numeral_of, Stripe.cache_after, Stripe.cache_from, Stripe.cache_of, Stripe.IsLegalFrom, Stripe.IsLegal, Stripe.cooled_change}
+use Rattle.mc_item.specs.declared.{answer.Answer.Answer, answer.Change.TheVariants.Stays, answer.Change.TheVariants.Goes, answer.Change.TheVariants.Counted}
+use Rattle.mc_item.specs.declared.{answer.Site.Site, command.Command.Command, command.Verb.Verb, command.Verb.TheVariants.Set, command.Verb.TheVariants.Add}
+use Rattle.mc_item.specs.declared.{command.Verb.TheVariants.Replace, command.Verb.TheVariants.Cas, counting.Step.TheVariants.Up, counting.Step.TheVariants.Down}
+use Rattle.mc_item.specs.declared.{item.ClassNo.ClassNo, item.Item.Item, item.Link.Link, reply.Reply.Reply, reply.Room.Room, stripe_event.Cooled.Cooled}
+use Rattle.mc_item.specs.declared.{stripe_event.Did.Did, stripe_event.Lost.Lost, stripe_event.StripeEvent.StripeEvent}
 use Rattle.mc_item.specs.declared.answer.Need.TheVariants as needs
-use Rattle.mc_item.specs.declared.answer.Site.{Site}
-use Rattle.mc_item.specs.declared.command.Command.{Command}
 use Rattle.mc_item.specs.declared.command.Command.TheVariants.{Get, Store, Huge, Incr, Decr, Touch, Delete}
-use Rattle.mc_item.specs.declared.command.Verb.{Verb}
-use Rattle.mc_item.specs.declared.command.Verb.TheVariants.{Set, Add, Replace, Cas}
-use Rattle.mc_item.specs.declared.counting.Step.TheVariants.{Up, Down}
-use Rattle.mc_item.specs.declared.item.ClassNo.{ClassNo}
-use Rattle.mc_item.specs.declared.item.Item.{Item}
-use Rattle.mc_item.specs.declared.item.Link.{Link}
-use Rattle.mc_item.specs.declared.reply.Reply.{Reply}
 use Rattle.mc_item.specs.declared.reply.Reply.TheVariants as replies
-use Rattle.mc_item.specs.declared.reply.Room.{Room}
 use Rattle.mc_item.specs.declared.reply.Room.TheVariants as rooms
-use Rattle.mc_item.specs.declared.stripe_event.Cooled.{Cooled}
-use Rattle.mc_item.specs.declared.stripe_event.Did.{Did}
-use Rattle.mc_item.specs.declared.stripe_event.Lost.{Lost}
-use Rattle.mc_item.specs.declared.stripe_event.StripeEvent.{StripeEvent}
 use Rattle.mc_item.specs.declared.stripe_event.StripeEvent.TheVariants as events
 
 -- ---- earlier events

@@ -1,10 +1,8 @@
 -- A legal history with one event more, as a step.
 use Rattle.std.proofs.Common.{List, [], ◌∷◌, ◌++◌}
 use Rattle.mc_item.proofs.StripeLemmas.{IsLegal-push, cache_of-push}
-use Rattle.mc_item.specs.Cache.{empty_cache}
-use Rattle.mc_item.specs.Stripe.{IsLegal, Steps, cache_of}
-use Rattle.mc_item.specs.declared.answer.Site.{Site}
-use Rattle.mc_item.specs.declared.stripe_event.StripeEvent.{StripeEvent}
+use Rattle.mc_item.specs.{Cache.empty_cache, Stripe.IsLegal, Stripe.Steps, Stripe.cache_of}
+use Rattle.mc_item.specs.declared.{answer.Site.Site, stripe_event.StripeEvent.StripeEvent}
 use Rattle.mc_laws.proofs.EventLemmas.{legal_before, legal_on}
 
 -- the last event of a legal history is a step

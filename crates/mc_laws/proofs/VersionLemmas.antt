@@ -1,38 +1,23 @@
 -- What the laws of cas numbers rest on.
 use Rattle.std.proofs.Common.{◌≡◌, ◌<◌, ◌≤◌, ◌+◌, ◌⊎◌, inl, inr, ℕ, ℤ, List, [], ◌∷◌, ◌++◌, refl, sym, ap, ◌∙◌, subst, arith, Bool, true, false, eqb-true, mul-le-mul_right}
 use Rattle.std.specs.Prelude.{Option, Some, None, IsSomeAnd, IfSome, length, decimal, nat_eq, nat_le, ◌==◌, if◌then◌else◌}
-use Rattle.std.specs.Cmp.Lexicographic.{pointwise, bytes_decides}
-use Rattle.std.specs.Option.{option_map}
+use Rattle.std.specs.{Cmp.Lexicographic.pointwise, Cmp.Lexicographic.bytes_decides, Option.option_map}
 use Rattle.mc_item.specs.Answer.{Row, answer, plain, fresh, cas_of, version_of, get_row, let_go, store_row, padded, grown_row, number_row, count_row, stepped, touch_row, delete_row, row_of}
 use Rattle.mc_item.specs.Cache.{Cache, empty_cache, changed, versions_of, after_change, answer_of}
-use Rattle.mc_item.specs.Command.{key_of}
-use Rattle.mc_item.specs.Item.{expiry_of}
-use Rattle.mc_item.specs.Measure.{class_of, cost_of, numeral_of}
+use Rattle.mc_item.specs.{Command.key_of, Item.expiry_of, Measure.class_of, Measure.cost_of, Measure.numeral_of}
 use Rattle.mc_item.specs.Stripe.{cache_after, cache_from, cache_of, cooled_change, IsLegal, MayDo}
-use Rattle.mc_item.specs.declared.answer.Answer.{Answer}
-use Rattle.mc_item.specs.declared.answer.Change.{Change}
+use Rattle.mc_item.specs.declared.{answer.Answer.Answer, answer.Change.Change, answer.Site.Site, command.Command.Command, command.Verb.Verb}
+use Rattle.mc_item.specs.declared.{command.Verb.TheVariants.Set, command.Verb.TheVariants.Add, command.Verb.TheVariants.Replace, command.Verb.TheVariants.Cas}
+use Rattle.mc_item.specs.declared.{counting.Step.TheVariants.Up, counting.Step.TheVariants.Down, item.ClassNo.ClassNo, item.Expiry.Expiry, item.Item.Item}
+use Rattle.mc_item.specs.declared.{item.Link.Link, reply.Reply.Reply, reply.Room.Room, stripe_event.Did.Did, stripe_event.StripeEvent.StripeEvent}
 use Rattle.mc_item.specs.declared.answer.Change.TheVariants.{Stays, Goes, Hit, Touched, Counted, Renewed}
 use Rattle.mc_item.specs.declared.answer.Need.TheVariants as needs
-use Rattle.mc_item.specs.declared.answer.Site.{Site}
-use Rattle.mc_item.specs.declared.command.Command.{Command}
 use Rattle.mc_item.specs.declared.command.Command.TheVariants.{Get, Store, Huge, Incr, Decr, Touch, Delete}
-use Rattle.mc_item.specs.declared.command.Verb.{Verb}
-use Rattle.mc_item.specs.declared.command.Verb.TheVariants.{Set, Add, Replace, Cas}
-use Rattle.mc_item.specs.declared.counting.Step.TheVariants.{Up, Down}
-use Rattle.mc_item.specs.declared.item.ClassNo.{ClassNo}
-use Rattle.mc_item.specs.declared.item.Expiry.{Expiry}
-use Rattle.mc_item.specs.declared.item.Item.{Item}
-use Rattle.mc_item.specs.declared.item.Link.{Link}
-use Rattle.mc_item.specs.declared.reply.Reply.{Reply}
 use Rattle.mc_item.specs.declared.reply.Reply.TheVariants as replies
-use Rattle.mc_item.specs.declared.reply.Room.{Room}
 use Rattle.mc_item.specs.declared.reply.Room.TheVariants as rooms
-use Rattle.mc_item.specs.declared.stripe_event.Did.{Did}
-use Rattle.mc_item.specs.declared.stripe_event.StripeEvent.{StripeEvent}
 use Rattle.mc_item.specs.declared.stripe_event.StripeEvent.TheVariants as events
 use Rattle.mc_laws.proofs.EventLemmas.{legal_on}
-use Rattle.mc_laws.specs.Events.{key_named}
-use Rattle.mc_laws.specs.Versions.{Holds, HoldsThroughout, number_given, number_made}
+use Rattle.mc_laws.specs.{Events.key_named, Versions.Holds, Versions.HoldsThroughout, Versions.number_given, Versions.number_made}
 
 -- ---- the numbers of a stripe's versions
 

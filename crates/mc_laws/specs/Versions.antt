@@ -1,16 +1,11 @@
 -- Versions of items: which cas number an event gives, what holds while one version lasts, and who wrote it.
 use Rattle.std.specs.Prelude.{ℕ, List, [], ◌∷◌, ◌++◌, ◌≡◌, Option, Some, None, IsSomeAnd, decimal, replicate}
-use Rattle.mc_item.specs.Cache.{Cache, answer_of}
-use Rattle.mc_item.specs.Stripe.{cache_after}
-use Rattle.mc_item.specs.declared.answer.Change.{Change}
+use Rattle.mc_item.specs.{Cache.Cache, Cache.answer_of, Stripe.cache_after}
+use Rattle.mc_item.specs.declared.{answer.Change.Change, answer.Site.Site, command.Command.Command, item.Item.Item, reply.Reply.Reply}
+use Rattle.mc_item.specs.declared.{stripe_event.StripeEvent.StripeEvent}
 use Rattle.mc_item.specs.declared.answer.Change.TheVariants.{Stays, Goes, Hit, Touched, Counted, Renewed}
-use Rattle.mc_item.specs.declared.answer.Site.{Site}
-use Rattle.mc_item.specs.declared.command.Command.{Command}
 use Rattle.mc_item.specs.declared.command.Command.TheVariants.{Get, Store, Huge, Incr, Decr, Touch, Delete}
-use Rattle.mc_item.specs.declared.item.Item.{Item}
-use Rattle.mc_item.specs.declared.reply.Reply.{Reply}
 use Rattle.mc_item.specs.declared.reply.Reply.TheVariants as replies
-use Rattle.mc_item.specs.declared.stripe_event.StripeEvent.{StripeEvent}
 use Rattle.mc_item.specs.declared.stripe_event.StripeEvent.TheVariants as events
 
 -- the cas number that a change gives, where it makes a new version

@@ -1,12 +1,9 @@
 //! A law of numbers (protocol.txt, "Increment/Decrement").
 ghost use Rattle.std.specs.Prelude.{◌≡◌, ◌<◌, ◌+◌, ◌^◌, ◌++◌, ◌∷◌, [], List, ℕ, Some, IsSomeAnd};
-ghost use Rattle.mc_item.specs.Measure.{numeral_of};
-ghost use Rattle.mc_item.specs.Stripe.{IsLegal, cache_of};
-ghost use Rattle.mc_item.specs.declared.answer.Site.{Site};
+ghost use Rattle.mc_item.specs.{Measure.numeral_of, Stripe.IsLegal, Stripe.cache_of};
+ghost use Rattle.mc_item.specs.declared.{answer.Site.Site, stripe_event.Did.Did, stripe_event.StripeEvent.StripeEvent};
 ghost use Rattle.mc_item.specs.declared.command.Command.TheVariants as commands;
 ghost use Rattle.mc_item.specs.declared.reply.Reply.TheVariants as replies;
-ghost use Rattle.mc_item.specs.declared.stripe_event.Did.{Did};
-ghost use Rattle.mc_item.specs.declared.stripe_event.StripeEvent.{StripeEvent};
 ghost use Rattle.mc_item.specs.declared.stripe_event.StripeEvent.TheVariants as events;
 ghost use Rattle.mc_laws.specs.Events.{AreOfOthers};
 

@@ -1,16 +1,9 @@
 //! Laws of what no reply shows: items that are dead, and marks that are cooled.
 ghost use Rattle.std.specs.Prelude.{◌≡◌, ◌≤◌, ◌++◌, ◌∷◌, [], List, ℕ, None};
-ghost use Rattle.mc_item.specs.Answer.{row_of};
-ghost use Rattle.mc_item.specs.Cache.{Cache, after_change, answer_of, visible_items};
-ghost use Rattle.mc_item.specs.Command.{key_of};
+ghost use Rattle.mc_item.specs.{Answer.row_of, Cache.Cache, Cache.after_change, Cache.answer_of, Cache.visible_items, Command.key_of};
 ghost use Rattle.mc_item.specs.Stripe.{IsDead, IsLegal, cache_after, cache_from, cache_of};
-ghost use Rattle.mc_item.specs.declared.answer.Change.TheVariants.{Goes};
-ghost use Rattle.mc_item.specs.declared.answer.Site.{Site};
-ghost use Rattle.mc_item.specs.declared.command.Command.{Command};
-ghost use Rattle.mc_item.specs.declared.reply.Room.{Room};
-ghost use Rattle.mc_item.specs.declared.stripe_event.Cooled.{Cooled};
-ghost use Rattle.mc_item.specs.declared.stripe_event.Did.{Did};
-ghost use Rattle.mc_item.specs.declared.stripe_event.StripeEvent.{StripeEvent};
+ghost use Rattle.mc_item.specs.declared.{answer.Change.TheVariants.Goes, answer.Site.Site, command.Command.Command, reply.Room.Room};
+ghost use Rattle.mc_item.specs.declared.{stripe_event.Cooled.Cooled, stripe_event.Did.Did, stripe_event.StripeEvent.StripeEvent};
 ghost use Rattle.mc_item.specs.declared.stripe_event.StripeEvent.TheVariants as events;
 ghost use Rattle.mc_laws.specs.Events.{NoneAsks};
 

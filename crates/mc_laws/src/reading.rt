@@ -1,20 +1,13 @@
 //! Laws of what is read: who changes an item, and whence a value comes.
 ghost use Rattle.std.specs.Prelude.{◌≡◌, ◌≢◌, ◌++◌, ◌∷◌, [], List, ℕ, ℤ};
-ghost use Rattle.mc_item.specs.Answer.{cas_of};
-ghost use Rattle.mc_item.specs.Cache.{Cache, after_command};
-ghost use Rattle.mc_item.specs.Command.{key_of};
-ghost use Rattle.mc_item.specs.Stripe.{IsLegal, cache_of};
-ghost use Rattle.mc_item.specs.declared.answer.Site.{Site};
-ghost use Rattle.mc_item.specs.declared.command.Command.{Command};
+ghost use Rattle.mc_item.specs.{Answer.cas_of, Cache.Cache, Cache.after_command, Command.key_of, Stripe.IsLegal, Stripe.cache_of};
+ghost use Rattle.mc_item.specs.declared.{answer.Site.Site, command.Command.Command, reply.Room.Room, stripe_event.Did.Did};
+ghost use Rattle.mc_item.specs.declared.{stripe_event.StripeEvent.StripeEvent};
 ghost use Rattle.mc_item.specs.declared.command.Command.TheVariants as commands;
 ghost use Rattle.mc_item.specs.declared.command.Verb.TheVariants as verbs;
 ghost use Rattle.mc_item.specs.declared.reply.Reply.TheVariants as replies;
-ghost use Rattle.mc_item.specs.declared.reply.Room.{Room};
-ghost use Rattle.mc_item.specs.declared.stripe_event.Did.{Did};
-ghost use Rattle.mc_item.specs.declared.stripe_event.StripeEvent.{StripeEvent};
 ghost use Rattle.mc_item.specs.declared.stripe_event.StripeEvent.TheVariants as events;
-ghost use Rattle.mc_laws.specs.Events.{AreOfOthers};
-ghost use Rattle.mc_laws.specs.Versions.{HoldsThroughout, Wrote};
+ghost use Rattle.mc_laws.specs.{Events.AreOfOthers, Versions.HoldsThroughout, Versions.Wrote};
 
 /// A command on one key leaves every other key's item as it was.
 pub fn other_keys_stay()

@@ -1,9 +1,7 @@
 //! The law of legal histories: each is a chain of steps of the sequential cache.
 ghost use Rattle.std.specs.Prelude.{◌≡◌, ◌++◌, ◌∷◌, [], List};
-ghost use Rattle.mc_item.specs.Cache.{empty_cache};
-ghost use Rattle.mc_item.specs.Stripe.{IsLegal, Steps, cache_of};
-ghost use Rattle.mc_item.specs.declared.answer.Site.{Site};
-ghost use Rattle.mc_item.specs.declared.stripe_event.StripeEvent.{StripeEvent};
+ghost use Rattle.mc_item.specs.{Cache.empty_cache, Stripe.IsLegal, Stripe.Steps, Stripe.cache_of};
+ghost use Rattle.mc_item.specs.declared.{answer.Site.Site, stripe_event.StripeEvent.StripeEvent};
 
 /// The history without events is legal and leaves the empty cache; and a history with one event more is legal exactly
 /// where the history is, and the event is a step from the cache that the history leaves to the one that it leaves with it.

@@ -1,12 +1,10 @@
 //! Laws of cas numbers (protocol.txt, "Storage commands" and "Retrieval command", of the cas unique).
 ghost use Rattle.std.specs.Prelude.{◌≡◌, ◌<◌, ◌++◌, ◌∷◌, [], List, ℕ, ℤ, Some};
 ghost use Rattle.mc_item.specs.Stripe.{IsLegal, cache_of};
-ghost use Rattle.mc_item.specs.declared.answer.Site.{Site};
+ghost use Rattle.mc_item.specs.declared.{answer.Site.Site, stripe_event.Did.Did, stripe_event.StripeEvent.StripeEvent};
 ghost use Rattle.mc_item.specs.declared.command.Command.TheVariants as commands;
 ghost use Rattle.mc_item.specs.declared.command.Verb.TheVariants as verbs;
 ghost use Rattle.mc_item.specs.declared.reply.Reply.TheVariants as replies;
-ghost use Rattle.mc_item.specs.declared.stripe_event.Did.{Did};
-ghost use Rattle.mc_item.specs.declared.stripe_event.StripeEvent.{StripeEvent};
 ghost use Rattle.mc_item.specs.declared.stripe_event.StripeEvent.TheVariants as events;
 ghost use Rattle.mc_laws.specs.Versions.{HoldsThroughout, number_made};
 

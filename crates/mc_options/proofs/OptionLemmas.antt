@@ -1,10 +1,8 @@
 -- The command of the program as the reader of the command line sees it: its options, and what their texts are.
 use Rattle.std.proofs.Common.{◌≡◌, ◌∙◌, ◌<◌, ◌&&◌, ℕ, zero, suc, Bool, true, false, not, List, [], ◌∷◌, Some, ap, arith, codes, length, refl, slice_index, sym}
-use Rattle.std.proofs.lemmas.Bool.Decides.{nat_tests}
-use Rattle.std.proofs.lemmas.List.{get_or-map, length-map}
-use Rattle.std.specs.List.{slice_index_or}
+use Rattle.std.proofs.lemmas.{Bool.Decides.nat_tests, List.get_or-map, List.length-map}
+use Rattle.std.specs.{List.slice_index_or, Str.bytes_eq}
 use Rattle.std.specs.Prelude.{map}
-use Rattle.std.specs.Str.{bytes_eq}
 use Rattle.clap.proofs.OnLiterals.{clap_on_literals}
 use Rattle.clap.proofs.WalkLemmas.{first_value-rows}
 use Rattle.clap.specs.Walk.{is_empty, is_simple_arg}

@@ -1,12 +1,8 @@
 -- What the words give for an option is what it takes, as its parser reads it.
 use Rattle.std.proofs.Common.{◌≡◌, ◌∙◌, ◌<◌, ◌^◌, ℕ, Bool, true, false, List, [], ◌∷◌, Option, Some, None, ap, arith, codes, inl, inr, length, refl, subst, sym}
-use Rattle.std.proofs.lemmas.List.Elements.{All-get_or}
-use Rattle.std.proofs.lemmas.Slice.Eq.{bytes_eq-Decides}
-use Rattle.std.specs.Borrow.{Bor}
-use Rattle.std.specs.List.{All, slice_index_or}
-use Rattle.std.specs.Option.{option_map}
+use Rattle.std.proofs.lemmas.{List.Elements.All-get_or, Slice.Eq.bytes_eq-Decides, Bool.ne_eqb, Int.ints, Str.Parse.digit_from_value}
+use Rattle.std.specs.{Borrow.Bor, List.All, List.slice_index_or, Option.option_map, Str.bytes_eq}
 use Rattle.std.specs.Prelude.{slice_get}
-use Rattle.std.specs.Str.{bytes_eq}
 use Rattle.clap.proofs.CallerLemmas.{entry_by_id, same_rules_by_id}
 use Rattle.clap.specs.Facts.{Entry, EntryPasses, PassesArg, parser_of_value}
 use Rattle.clap.specs.Words.{Accepts, IsParsedFrom, Text, app_of, args_of, found_of, groups_of, matched_of, one_text, parser_of, read_as, reading_of, Rule}
@@ -18,9 +14,6 @@ use Rattle.clap.specs.declared.parser.matches.ArgMatches.{ArgMatches}
 use Rattle.clap.specs.declared.parser.matches.Found.{Found}
 use Rattle.clap.specs.declared.parser.matches.MatchedArg.{MatchedArg}
 use Rattle.std.proofs.Common.{◌==◌, cond, drop, ◌-◌, ◌^◌}
-use Rattle.std.proofs.lemmas.Bool.{ne_eqb}
-use Rattle.std.proofs.lemmas.Int.{ints}
-use Rattle.std.proofs.lemmas.Str.Parse.{digit_from_value}
 use Rattle.std.specs.Prelude.{pos, unwrap_or}
 use Rattle.std.specs.Str.Parse.{IsNumeral, starts_with_minus, without_leading_plus}
 use Rattle.clap.specs.Lexer.{without_minus}

@@ -2,8 +2,7 @@
 use Rattle.std.proofs.Common.{◌≡◌, ◌≤◌, ◌^◌, ℕ, List, Option, Some, None, arith, refl, subst, sym}
 use Rattle.std.specs.List.{All}
 use Rattle.std.specs.Prelude.{MatchOption, Result, Ok, Err}
-use Rattle.mc_item.specs.declared.config.Config.{Config}
-use Rattle.mc_item.specs.declared.config.ConfigFault.{ConfigFault}
+use Rattle.mc_item.specs.declared.{config.Config.Config, config.ConfigFault.ConfigFault}
 use Rattle.mc_options.specs.Asked.{AreMomentsNamed}
 
 -- a configuration that was handed back is the one that was handed in, and nothing is wrong with it

@@ -1,15 +1,9 @@
 -- What is read of the words: no fault, the sizes' text, what the other options say.
 use Rattle.std.proofs.Common.{◌≡◌, ◌∙◌, ◌<◌, ◌≤◌, ◌^◌, ℕ, Bool, true, false, List, [], Option, Some, None, ap, arith, codes, length, refl, rules, subst, sym}
-use Rattle.std.proofs.lemmas.Bool.Decides.{nat_tests}
-use Rattle.std.proofs.lemmas.Str.Parse.{IsNumeralModel, numerals_by_fold}
-use Rattle.std.proofs.lemmas.Slice.Eq.{bytes_eq-Decides}
-use Rattle.std.specs.Borrow.{Bor}
-use Rattle.std.specs.List.{list_all}
-use Rattle.std.specs.Option.{option_copied, option_map}
+use Rattle.std.proofs.lemmas.{Bool.Decides.nat_tests, Str.Parse.IsNumeralModel, Str.Parse.numerals_by_fold, Slice.Eq.bytes_eq-Decides}
+use Rattle.std.specs.{Borrow.Bor, List.list_all, Option.option_copied, Option.option_map, Str.bytes_eq, declared.num.ParseIntError.ParseIntError}
 use Rattle.std.specs.Prelude.{IsErrAnd, IsSomeAnd, MatchOption, Result, Err}
-use Rattle.std.specs.Str.{bytes_eq}
 use Rattle.std.specs.Str.Parse.{ExplainsUnsignedError, HasUnsignedDigitsIfOk, IsNumeral, ParsesUnsigned, digits_value, without_leading_plus}
-use Rattle.std.specs.declared.num.ParseIntError.{ParseIntError}
 use Rattle.clap.proofs.WalkLemmas.{one_text-rows}
 use Rattle.clap.specs.Words.{App, HasKind, HasMatchesOf, IsParsedFrom, ReadsOne, Text, app_of, fault_of, found_of, is_simple_and_free, one_of, one_text}
 use Rattle.clap.specs.declared.builder.command.Command.{Command}
@@ -18,8 +12,7 @@ use Rattle.clap.specs.declared.parser.matches.ArgMatches.{ArgMatches}
 use Rattle.mc_item.specs.Measure.{is_digit, number_from, number_of, number_in}
 use Rattle.mc_options.specs.Asked.{AreFound, AreGiven, IsNumberOf, IsNumberRead, IsYesRead, words_fault_of}
 use Rattle.mc_options.specs.Words.{is_yes, mcseg, refusals, text_in}
-use Rattle.mc_options.specs.declared.plans.Options.{Options}
-use Rattle.mc_options.specs.declared.plans.PlanFault.{PlanFault}
+use Rattle.mc_options.specs.declared.{plans.Options.Options, plans.PlanFault.PlanFault}
 use Rattle.mc_options.specs.declared.plans.PlanFault.TheVariants as plan_faults
 use Rattle.mc_options.specs.declared.words.WordsFault.TheVariants as words_faults
 use Rattle.mc_options.proofs.OptionLemmas.{chunks_option, events_option, is_free, rows_are, temp_option, temp_ttl_option}

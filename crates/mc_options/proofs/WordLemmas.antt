@@ -1,8 +1,6 @@
 -- Which numbers the parts between a text's commas spell, and which list they are.
 use Rattle.std.proofs.Common.{◌≡◌, ◌≤◌, ◌<◌, ℕ, ◌+◌, ◌^◌, Bool, true, false, ◌&&◌, cond, eqb, nat_lt, List, [], ◌∷◌, ◌++◌, Some, None, Option, length, map, drop, get_or, refl, subst, sym, ap, ◌∙◌, ◌⊎◌, inl, inr, append-nil, arith}
-use Rattle.std.proofs.lemmas.Bool.Decides.{nat_tests}
-use Rattle.std.proofs.lemmas.Bool.{cases_lt}
-use Rattle.std.proofs.lemmas.List.{at_drop_all, drop_more}
+use Rattle.std.proofs.lemmas.{Bool.Decides.nat_tests, Bool.cases_lt, List.at_drop_all, List.drop_more}
 use Rattle.std.proofs.lemmas.List.Splits.{slice_split_none, slice_split_at, slice_split_first}
 use Rattle.std.proofs.lemmas.List.Sums.{AllPass-from_list_all, split_at_first, fails_before_first, passes_at_first}
 use Rattle.std.specs.List.{list_all, slice_split, All, position_or_len, before_first, after_first}

@@ -1,20 +1,15 @@
 -- What options ask for: which numbers a list is, and which configuration is meant (own).
 use Rattle.std.specs.Prelude.{ℕ, ◌≡◌, ◌≤◌, ◌^◌, List, [], ◌∷◌, ◌++◌, Bool, Option, Some, None, codes, length, replicate, false, ◌⊎◌}
-use Rattle.std.specs.List.{All}
-use Rattle.std.specs.Str.Parse.{without_leading_plus}
+use Rattle.std.specs.{List.All, Str.Parse.without_leading_plus}
 use Rattle.clap.specs.Words.{Accepts, Text, one_text}
 use Rattle.clap.specs.declared.builder.value_parser.ValueParser.TheVariants as parsers
 use Rattle.clap.specs.declared.parser.matches.Found.{Found}
-use Rattle.mc_item.specs.Config.{fault_of, usual_config}
-use Rattle.mc_item.specs.Measure.{number_in}
-use Rattle.mc_item.specs.declared.config.Config.{Config}
-use Rattle.mc_item.specs.declared.config.ConfigFault.{ConfigFault}
+use Rattle.mc_item.specs.{Config.fault_of, Config.usual_config, Measure.number_in}
+use Rattle.mc_item.specs.declared.{config.Config.Config, config.ConfigFault.ConfigFault}
 use Rattle.mc_item.specs.declared.config.ConfigFault.TheVariants.{Stripes, Sizes, Chunks, Percent, Factor, Callers, Events}
 use Rattle.mc_options.specs.Words.{is_yes, numbers_below, sizes_in, temp_in, text_in, upkeep_in}
-use Rattle.mc_options.specs.declared.plans.Options.{Options}
-use Rattle.mc_options.specs.declared.plans.PlanFault.{PlanFault}
+use Rattle.mc_options.specs.declared.{plans.Options.Options, plans.PlanFault.PlanFault, words.WordsFault.WordsFault}
 use Rattle.mc_options.specs.declared.plans.PlanFault.TheVariants as plan_faults
-use Rattle.mc_options.specs.declared.words.WordsFault.{WordsFault}
 use Rattle.mc_options.specs.declared.words.WordsFault.TheVariants as words_faults
 
 -- there is a number where there is a text, and then the text is that number; a plus may stand before its digits

@@ -1,7 +1,6 @@
 //! Plans: what the options ask for.
 ghost use Rattle.std.specs.Prelude.{◌≡◌, ℕ, List, IfOk, Err, Option, None, MatchOption};
-ghost use Rattle.std.specs.Bool.{Decides};
-ghost use Rattle.std.specs.Option.{option_copied, option_map};
+ghost use Rattle.std.specs.{Bool.Decides, Option.option_copied, Option.option_map};
 ghost use Rattle.mc_item.specs.Config.{fault_of};
 ghost use Rattle.mc_options.specs.Asked.{AreMoments, AreMomentsNamed, AreNamed, IsBadList, IsFault, IsListOf, IsNoList, NamesNoMoments, NamesNone, asked, fault_number};
 ghost use Rattle.mc_options.specs.declared.plans.PlanFault.TheVariants as faults;

@@ -1,22 +1,12 @@
 -- What stands first of what comes, and where it is cut.
 use Rattle.std.proofs.Common.{◌≡◌, ◌∙◌, ◌≤◌, ◌∷◌, ◌++◌, ℕ, List, [], length, take, drop, refl, ap, sym, arith, append_assoc, append-nil, subst, take-append-drop, map}
-use Rattle.std.specs.Prelude.{Option, Some, None}
+use Rattle.std.specs.Prelude.{Option, None}
 use Rattle.std.proofs.lemmas.List.{map-append}
-use Rattle.mc_proto.specs.Lines.{Lacks}
-use Rattle.mc_proto.specs.Grammar.{Spells}
+use Rattle.mc_proto.specs.{Lines.Lacks, Grammar.Spells}
 use Rattle.mc_proto.specs.Scripts.{AreScripts, AsksFirst, IsLast, IsWhole, LineAsks, StandsFirst}
-use Rattle.mc_proto.specs.declared.request.Limits.{Limits}
-use Rattle.mc_proto.specs.declared.request.Request.TheVariants.{Next}
-use Rattle.mc_proto.specs.declared.splitting.First.{First}
+use Rattle.mc_proto.specs.declared.{request.Limits.Limits, request.Request.TheVariants.Next, splitting.First.First}
 use Rattle.mc_proto.specs.declared.splitting.First.TheVariants as firsts
-use Rattle.mc_proto.proofs.FirstLemmas.{none_alone}
-use Rattle.mc_proto.proofs.SplitLemmas.{whole_on}
-
--- what the first line asks for, where it ends in the first bytes
-pub some_ahead : (limits : Limits) (coming front : List ℕ) (o : Option First) (f : First) (more : List ℕ) → coming ≡ front ++ more → LineAsks limits front o → o ≡ Some f → AsksFirst limits coming f
-some_ahead limits coming front o f more is asks told =
-    let all : LineAsks limits front (Some f) = subst (LineAsks limits front) told asks in
-    subst (λ t. AsksFirst limits t f) (sym is) (all more)
+use Rattle.mc_proto.proofs.{FirstLemmas.none_alone, SplitLemmas.whole_on}
 
 -- no line ends in what comes
 pub none_ahead : (limits : Limits) (coming front : List ℕ) (o : Option First) (more : List ℕ) → coming ≡ front ++ more → (Lacks 10 front → length front ≤ 65536 → more ≡ []) → LineAsks limits front o → o ≡ None → AsksFirst limits coming firsts.Last

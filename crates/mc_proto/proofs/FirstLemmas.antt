@@ -2,14 +2,10 @@
 use Rattle.std.proofs.Common.{◌≡◌, ◌++◌, ◌+◌, ◌<◌, ◌≤◌, ℕ, List, [], length, refl, ap, sym, ◌∙◌, arith, take, get_or, true, false, subst, length-append, append-nil}
 use Rattle.std.specs.Prelude.{Option, Some, None}
 use Rattle.std.proofs.lemmas.List.{take_all, take-append-le, get_or_append_left}
-use Rattle.mc_proto.specs.Lines.{Lacks}
-use Rattle.mc_proto.specs.Table.{says}
-use Rattle.mc_proto.specs.Grammar.{wanted, IsFine}
+use Rattle.mc_proto.specs.{Lines.Lacks, Table.says, Grammar.wanted, Grammar.IsFine}
 use Rattle.mc_proto.specs.Scripts.{AsksFirst, IsLast, IsPlain, LineAsks, says_next}
-use Rattle.mc_proto.specs.declared.request.Limits.{Limits}
-use Rattle.mc_proto.specs.declared.splitting.First.{First}
+use Rattle.mc_proto.specs.declared.{request.Limits.Limits, splitting.First.First, state.Said.Said}
 use Rattle.mc_proto.specs.declared.splitting.First.TheVariants.{More, Begins, Last}
-use Rattle.mc_proto.specs.declared.state.Said.{Said}
 use Rattle.mc_proto.proofs.PlainLemmas.{plain_first}
 use Rattle.mc_proto.proofs.SplitLemmas.{last_block, last_line, last_too_long, more_first, next_first}
 

@@ -1,12 +1,9 @@
 -- Texts that end sooner.
 use Rattle.std.proofs.Common.{zero, suc, ◌≡◌, ◌∙◌, ◌≤◌, ◌<◌, ◌+◌, ◌-◌, ◌++◌, ◌∷◌, [], ℕ, List, length, take, drop, get_or, ap, sym, refl, arith, append_assoc, append-nil, take-append-drop}
 use Rattle.std.proofs.Math.Seq.{take-append_seam, take-append-add}
-use Rattle.std.proofs.lemmas.List.{take_more}
-use Rattle.std.proofs.lemmas.Grind.{flat_map-append}
-use Rattle.mc_proto.specs.Gathered.{bytes_of, part_bytes}
-use Rattle.mc_proto.specs.Text.{IsBeginning}
-use Rattle.mc_proto.specs.declared.gathering.TextPart.{TextPart}
-use Rattle.mc_proto.specs.declared.gathering.TextPart.TheVariants.{Shared}
+use Rattle.std.proofs.lemmas.{List.take_more, Grind.flat_map-append}
+use Rattle.mc_proto.specs.{Gathered.bytes_of, Gathered.part_bytes, Text.IsBeginning}
+use Rattle.mc_proto.specs.declared.{gathering.TextPart.TextPart, gathering.TextPart.TheVariants.Shared}
 
 -- of the first so many bytes, the first fewer
 take_fewer : (m n : ℕ) (bs : List ℕ) → m ≤ n → take m (take n bs) ≡ take m bs

@@ -3,29 +3,14 @@ use Rattle.std.proofs.Common.{◌≡◌, ◌++◌, ◌∷◌, [], ◌+◌, ◌<�
 use Rattle.std.specs.Prelude.{Option, Some, None, if◌then◌else◌}
 use Rattle.std.specs.List.{list_all}
 use Rattle.std.proofs.lemmas.List.{take_more, at_drop_more, length-map}
-use Rattle.mc_proto.specs.Lines.{is_key, key_of}
-use Rattle.mc_proto.specs.Table.{bad, row_says, Keys}
-use Rattle.mc_proto.specs.declared.request.Limits.{Limits}
-use Rattle.mc_proto.specs.declared.request.Request.TheVariants.{Get}
-use Rattle.mc_proto.specs.declared.state.Said.{Said}
-use Rattle.mc_proto.specs.declared.state.Said.TheVariants.{Whole}
+use Rattle.mc_proto.specs.{Lines.is_key, Lines.key_of, Table.bad, Table.row_says, Table.Keys}
+use Rattle.mc_proto.specs.declared.{request.Limits.Limits, request.Request.TheVariants.Get, state.Said.Said, state.Said.TheVariants.Whole}
 use Rattle.mc_proto.specs.declared.request.LineFault.TheVariants as faults
 
 pub get_or_map : {A B : Type 0} (f : A → B) (xs : List A) (i : ℕ) (d : A) → get_or (map f xs) i (f d) ≡ f (get_or xs i d)
 get_or_map f [] i d = refl
 get_or_map f (x ∷ xs) zero d = refl
 get_or_map f (x ∷ xs) (suc i) d = get_or_map f xs i d
-
--- the same within the list, whatever is answered beyond it
-pub get_or_map_within : {A B : Type 0} (f : A → B) (xs : List A) (i : ℕ) (d : A) (e : B) → i < length xs → get_or (map f xs) i e ≡ f (get_or xs i d)
-get_or_map_within f [] i d e l = absurd (omega arith)
-get_or_map_within f (x ∷ xs) zero d e l = refl
-get_or_map_within f (x ∷ xs) (suc i) d e l = get_or_map_within f xs i d e (omega arith)
-
-pub take_map : {A B : Type 0} (f : A → B) (n : ℕ) (xs : List A) → map f (take n xs) ≡ take n (map f xs)
-take_map f zero xs = refl
-take_map f (suc n) [] = refl
-take_map f (suc n) (x ∷ xs) = ap (λ (t : List _). f x ∷ t) (take_map f n xs)
 
 picked : (t k : List ℕ) (b : Bool) → is_key t ≡ b → Some k ≡ (if b then Some t else None) → (is_key t ≡ true) × (k ≡ t)
 picked t k true is e = let same : k ≡ t = cc in (is, same)

@@ -1,26 +1,17 @@
 -- Bytes in which no % stands straight before an n, and that no script begins in them.
 use Rattle.std.proofs.Common.{◌≡◌, ◌++◌, ◌∷◌, [], ◌+◌, ◌-◌, ◌<◌, ◌==◌, ℕ, List, length, refl, sym, ◌∙◌, ap, take, drop, take-append-drop, get_or, Bool, true, false, subst, inl, inr, All, zero, suc, arith}
 use Rattle.std.specs.Prelude.{if◌then◌else◌, ◌⊎◌, ◌&&◌, nat_eq, nat_lt, codes, Option, Some, None}
-use Rattle.std.specs.List.{list_all}
-use Rattle.std.specs.Option.{option_map, unwrap_or}
-use Rattle.std.specs.Cmp.Lexicographic.{pointwise}
-use Rattle.std.proofs.lemmas.Bool.{eqb-true}
-use Rattle.std.proofs.lemmas.List.Elements.{All-nil, All-cons}
+use Rattle.std.specs.{List.list_all, Option.option_map, Option.unwrap_or, Cmp.Lexicographic.pointwise}
+use Rattle.std.proofs.lemmas.{Bool.eqb-true, List.Elements.All-nil, List.Elements.All-cons}
 use Rattle.mc_proto.specs.Kinds.{Kind, Value, value, fault_of}
 use Rattle.mc_proto.specs.Lines.{LacksNext, LacksNextBehind, is_after, AreTokens, is_key, is_word, tokens, no_cr}
 use Rattle.mc_proto.specs.Table.{Asks, End, Line, Nothing, Noreply, Keys, Row, bad, no_line, table, quiet_of, kinds_say, row_says, rows_say, tokens_say, says}
-use Rattle.mc_proto.specs.Grammar.{Spells, Spelt}
-use Rattle.mc_proto.specs.Scripts.{IsOther, AreScripts, says_next}
-use Rattle.mc_proto.specs.declared.request.Limits.{Limits}
-use Rattle.mc_proto.specs.declared.request.LineFault.TheVariants.{Format, LineTooLong}
-use Rattle.mc_proto.specs.declared.request.Request.{Request}
-use Rattle.mc_proto.specs.declared.request.Request.TheVariants.{Bad, Next}
-use Rattle.mc_proto.specs.declared.state.Said.{Said}
+use Rattle.mc_proto.specs.{Grammar.Spells, Grammar.Spelt, Scripts.IsOther, Scripts.AreScripts, Scripts.says_next}
+use Rattle.mc_proto.specs.declared.{request.Limits.Limits, request.LineFault.TheVariants.Format, request.LineFault.TheVariants.LineTooLong}
+use Rattle.mc_proto.specs.declared.{request.Request.Request, request.Request.TheVariants.Bad, request.Request.TheVariants.Next, state.Said.Said}
+use Rattle.mc_proto.specs.declared.{state.Start.Start}
 use Rattle.mc_proto.specs.declared.state.Said.TheVariants as said
-use Rattle.mc_proto.specs.declared.state.Start.{Start}
-use Rattle.mc_proto.proofs.LineLemmas.{tokens_make_line}
-use Rattle.mc_proto.proofs.SplitLemmas.{asks_other}
-use Rattle.mc_proto.proofs.StreamLemmas.{stream_reads}
+use Rattle.mc_proto.proofs.{LineLemmas.tokens_make_line, SplitLemmas.asks_other, StreamLemmas.stream_reads}
 
 next_loose : (after : Bool) (bs : List ℕ) → LacksNextBehind after bs → LacksNext bs
 next_loose after [] lack = tt

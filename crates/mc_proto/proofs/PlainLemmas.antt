@@ -1,21 +1,15 @@
 -- Behind a line that begins as delete, get, incr or touch do, a script goes on at once.
 use Rattle.std.proofs.Common.{◌≡◌, ◌++◌, ◌∷◌, [], ◌+◌, ◌-◌, ◌<◌, ◌≤◌, ◌==◌, ℕ, List, length, refl, take, get_or, Bool, true, false, subst, inl, inr, zero, suc, arith}
 use Rattle.std.specs.Prelude.{if◌then◌else◌, ◌⊎◌, nat_eq, Option, Some, None}
-use Rattle.std.specs.List.{list_all}
-use Rattle.std.specs.Option.{option_map, unwrap_or}
+use Rattle.std.specs.{List.list_all, Option.option_map, Option.unwrap_or}
 use Rattle.mc_proto.specs.Kinds.{Kind, Value, value, fault_of}
 use Rattle.mc_proto.specs.Kinds.{Delta, NewExptime, Key, Flags, Exptime, Bytes, CasNumber, Moment, Classes}
 use Rattle.mc_proto.specs.Lines.{AreSpaces, AreTokens, Lacks, is_key, is_word, tokens, no_cr}
 use Rattle.mc_proto.specs.Table.{Asks, End, Line, Nothing, Noreply, Keys, Row, bad, no_line, table, quiet_of, kinds_say, row_says, rows_say, tokens_say, says}
-use Rattle.mc_proto.specs.Grammar.{Spells, closes, wanted, asked}
-use Rattle.mc_proto.specs.Scripts.{GoesOn, IsOther, IsPlain}
-use Rattle.mc_proto.specs.declared.request.Limits.{Limits}
-use Rattle.mc_proto.specs.declared.request.LineFault.TheVariants.{Format}
-use Rattle.mc_proto.specs.declared.request.Request.{Request}
-use Rattle.mc_proto.specs.declared.state.Said.{Said}
+use Rattle.mc_proto.specs.{Grammar.Spells, Grammar.closes, Grammar.wanted, Grammar.asked, Scripts.GoesOn, Scripts.IsOther, Scripts.IsPlain}
+use Rattle.mc_proto.specs.declared.{request.Limits.Limits, request.LineFault.TheVariants.Format, request.Request.Request, state.Said.Said}
 use Rattle.mc_proto.specs.declared.state.Said.TheVariants as said
-use Rattle.mc_proto.proofs.LineLemmas.{tokens_make_line}
-use Rattle.mc_proto.proofs.SplitLemmas.{spelt_first, other_is}
+use Rattle.mc_proto.proofs.{LineLemmas.tokens_make_line, SplitLemmas.spelt_first, SplitLemmas.other_is}
 
 -- bytes that are none, or begin with a plain one
 abbrev Begins : List ℕ → Type 0

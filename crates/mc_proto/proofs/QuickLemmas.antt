@@ -3,12 +3,11 @@ use Rattle.std.proofs.Common.{◌≡◌, ◌∷◌, [], ◌≤◌, ◌∙◌, �
 use Rattle.std.specs.Prelude.{Bool, Some, MatchOption, nat_le, if◌then◌else◌}
 use Rattle.std.proofs.lemmas.Bool.{le-leb}
 use Rattle.mc_item.specs.declared.command.Command.TheVariants as commands
-use Rattle.mc_item.specs.declared.command.Verb.{Verb}
-use Rattle.mc_item.specs.declared.command.Verb.TheVariants.{Set, Add, Replace, Cas}
+use Rattle.mc_item.specs.declared.{command.Verb.Verb, command.Verb.TheVariants.Set, command.Verb.TheVariants.Add, command.Verb.TheVariants.Replace}
+use Rattle.mc_item.specs.declared.{command.Verb.TheVariants.Cas}
 use Rattle.mc_proto.specs.Kinds as kinds
-use Rattle.mc_proto.specs.Lines.{tokens, number, number_up_to, up_to, exptime, key_of}
+use Rattle.mc_proto.specs.{Lines.tokens, Lines.number, Lines.number_up_to, Lines.up_to, Lines.exptime, Lines.key_of, Words.store_word}
 use Rattle.mc_proto.specs.Table.{tokens_say, row_says, Noreply, store, begun, count, one}
-use Rattle.mc_proto.specs.Words.{store_word}
 use Rattle.mc_proto.specs.declared.request.Limits.{Limits}
 
 within : (limit n : ℕ) → n ≤ limit → up_to limit (Some n) ≡ Some n

@@ -1,19 +1,14 @@
 -- What a reader keeps begins with no spelling.
 use Rattle.std.proofs.Common.{◌≡◌, ◌++◌, ◌∷◌, [], ◌+◌, ◌<◌, ℕ, List, length, refl, ap, sym, ◌∙◌, arith, append_assoc, Bool, true, false, inl, inr, length-append}
-use Rattle.mc_proto.specs.Lines.{Lacks}
-use Rattle.mc_proto.specs.declared.request.Limits.{Limits}
-use Rattle.mc_proto.specs.Table.{says}
-use Rattle.mc_proto.specs.Grammar.{IsLine, BeginsNone, Reads, wanted, closed}
+use Rattle.mc_proto.specs.{Lines.Lacks, Table.says, Grammar.IsLine, Grammar.BeginsNone, Grammar.Reads, Grammar.wanted, Grammar.closed}
+use Rattle.mc_proto.specs.declared.{request.Limits.Limits, request.Rest.Rest, request.Request.Request, state.State.State, state.State.TheVariants.Line}
+use Rattle.mc_proto.specs.declared.{state.State.TheVariants.Block, state.State.TheVariants.Skip, state.State.TheVariants.Closed, state.State.TheVariants.Failed}
 use Rattle.mc_proto.specs.Reader.{Stands, After, is_closed, line_rest, rest_of, rest_name}
-use Rattle.mc_proto.specs.declared.request.Rest.{Rest}
 use Rattle.mc_proto.specs.declared.request.Rest.TheVariants as rests
 use Rattle.std.specs.Prelude.{◌==◌, ◌||◌}
 use Rattle.std.specs.List.{list_any}
 use Rattle.std.proofs.Common.{subst}
 use Rattle.std.proofs.lemmas.Bool.{ne_eqb}
-use Rattle.mc_proto.specs.declared.request.Request.{Request}
-use Rattle.mc_proto.specs.declared.state.State.{State}
-use Rattle.mc_proto.specs.declared.state.State.TheVariants.{Line, Block, Skip, Closed, Failed}
 use Rattle.mc_proto.proofs.CutLemmas.{same_line, past_line, no_line}
 
 pub in_line : (limits : Limits) (rest u : List ℕ) → rest ≡ u → Lacks 10 u → length u < 65537 → BeginsNone limits rest

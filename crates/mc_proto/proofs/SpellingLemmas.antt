@@ -2,10 +2,9 @@
 use Rattle.std.proofs.Common.{◌≡◌, ◌++◌, ◌∷◌, [], ℕ, List, length, refl, ap, sym, ◌∙◌, arith, append_assoc, Bool, true, false, subst}
 use Rattle.std.specs.Prelude.{if◌then◌else◌}
 use Rattle.std.proofs.Common.{inl, inr}
-use Rattle.mc_proto.specs.declared.request.Limits.{Limits}
+use Rattle.mc_proto.specs.declared.{request.Limits.Limits, request.Request.Request}
 use Rattle.mc_proto.specs.Table.{says}
 use Rattle.mc_proto.specs.Grammar.{ByLine, ByLength, Spells, Spelt, Reads, BeginsNone, closes, closed, wanted, asked}
-use Rattle.mc_proto.specs.declared.request.Request.{Request}
 use Rattle.mc_proto.proofs.CutLemmas.{same_line, past_line, same_front}
 
 two_lines : (limits : Limits) (a b x y : List ℕ) (q r : Request) → ByLine limits a q → ByLine limits b r → a ++ x ≡ b ++ y → (a ≡ b) × (x ≡ y) × (q ≡ r)

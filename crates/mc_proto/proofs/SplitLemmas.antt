@@ -6,24 +6,16 @@ use Rattle.std.proofs.Math.Seq.{take-add}
 use Rattle.std.proofs.lemmas.List.{take_all, take_more, length-take-le}
 use Rattle.std.proofs.lemmas.List.Elements.{All-nil, All-head, All-tail, All-append, All-push}
 use Rattle.mc_item.specs.declared.command.Command.TheVariants as commands
-use Rattle.mc_proto.specs.Lines.{Lacks}
-use Rattle.mc_proto.specs.Table.{says}
+use Rattle.mc_proto.specs.{Lines.Lacks, Table.says, Reader.After}
 use Rattle.mc_proto.specs.Grammar.{IsLine, Spells, Spelt, Reads, BeginsNone, closes, closed, wanted, asked, IsFine}
-use Rattle.mc_proto.specs.Reader.{After}
 use Rattle.mc_proto.specs.Scripts.{IsOther, IsWhole, IsLast, IsCut, AreScripts, ReadAlone, StandsFirst, is_next, says_next, with_next}
-use Rattle.mc_proto.specs.declared.request.Limits.{Limits}
-use Rattle.mc_proto.specs.declared.request.LineFault.TheVariants.{LineTooLong, Chunk}
-use Rattle.mc_proto.specs.declared.request.Request.{Request}
+use Rattle.mc_proto.specs.declared.{request.Limits.Limits, request.LineFault.TheVariants.LineTooLong, request.LineFault.TheVariants.Chunk}
+use Rattle.mc_proto.specs.declared.{request.Request.Request, splitting.First.First, state.Said.Said, state.Start.Start, state.State.TheVariants.Line}
+use Rattle.mc_proto.specs.declared.{state.State.TheVariants.Closed}
 use Rattle.mc_proto.specs.declared.request.Request.TheVariants.{Get, One, Bad, At, Next, Juggle, Crawl, Quit}
-use Rattle.mc_proto.specs.declared.splitting.First.{First}
 use Rattle.mc_proto.specs.declared.splitting.First.TheVariants as firsts
-use Rattle.mc_proto.specs.declared.state.Said.{Said}
 use Rattle.mc_proto.specs.declared.state.Said.TheVariants as said
-use Rattle.mc_proto.specs.declared.state.Start.{Start}
-use Rattle.mc_proto.specs.declared.state.State.TheVariants.{Line, Closed}
-use Rattle.mc_proto.proofs.RestLemmas.{after_reads, in_line, in_block}
-use Rattle.mc_proto.proofs.SpellingLemmas.{begins_no_other}
-use Rattle.mc_proto.proofs.StreamLemmas.{reading_on}
+use Rattle.mc_proto.proofs.{RestLemmas.after_reads, RestLemmas.in_line, RestLemmas.in_block, SpellingLemmas.begins_no_other, StreamLemmas.reading_on}
 use Rattle.mc_proto.proofs.TakingLemmas.{parts, spelt_on, spelt_push, closed_push, stored_open, too_long}
 
 -- a line that is too long is the last script's
@@ -129,10 +121,6 @@ more_first limits bytes end n x l lf lack short is fine many whole off = (
   asks_open limits x (take n (drop (end + 1) bytes)) fine,
   asks_other x (take n (drop (end + 1) bytes)) off,
 )
-
--- no bytes are a whole script
-pub whole_none : (limits : Limits) → IsWhole limits []
-whole_none limits = record { requests = []; spelt = refl; others = All-nil IsOther; reads_on = refl }
 
 -- a whole script, and one request more
 pub whole_on : (limits : Limits) (front back : List ℕ) (r : Request) → IsWhole limits front → Spells limits back r → closes r ≡ false → IsOther r → IsWhole limits (front ++ back)

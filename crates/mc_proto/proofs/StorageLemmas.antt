@@ -3,14 +3,10 @@ use Rattle.std.proofs.Common.{◌≡◌, ◌∷◌, [], ◌≤◌, ◌-◌, ℕ,
 use Rattle.std.proofs.lemmas.List.{take_all}
 use Rattle.std.specs.Prelude.{Bool, Option, Some, None}
 use Rattle.std.specs.Option.{option_map, unwrap_or}
-use Rattle.mc_item.specs.declared.command.Verb.{Verb}
-use Rattle.mc_item.specs.declared.command.Verb.TheVariants.{Cas}
-use Rattle.mc_proto.specs.Kinds.{Key, Flags, Exptime, Bytes, CasNumber}
-use Rattle.mc_proto.specs.Lines.{key_of}
+use Rattle.mc_item.specs.declared.{command.Verb.Verb, command.Verb.TheVariants.Cas}
+use Rattle.mc_proto.specs.{Kinds.Key, Kinds.Flags, Kinds.Exptime, Kinds.Bytes, Kinds.CasNumber, Lines.key_of}
 use Rattle.mc_proto.specs.Table.{bad, store, kinds_say, row_says, quiet_of, Noreply}
-use Rattle.mc_proto.specs.declared.request.Limits.{Limits}
-use Rattle.mc_proto.specs.declared.request.LineFault.TheVariants.{Format}
-use Rattle.mc_proto.specs.declared.state.Said.{Said}
+use Rattle.mc_proto.specs.declared.{request.Limits.Limits, request.LineFault.TheVariants.Format, state.Said.Said}
 
 -- what is said of a token's value, or that the line is refused
 abbrev pub first : {A : Type 0} → Option A → Bool → (A → Said) → Said

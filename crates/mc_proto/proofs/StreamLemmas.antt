@@ -2,21 +2,14 @@
 use Rattle.std.proofs.Common.{◌≡◌, ◌++◌, ◌∷◌, [], ◌+◌, ◌-◌, ◌<◌, ◌≤◌, ℕ, List, length, refl, ap, sym, ◌∙◌, arith, append_assoc, append-nil, Bool, true, false, subst, inl, inr}
 use Rattle.std.specs.Prelude.{if◌then◌else◌, ◌⊎◌, ◌==◌}
 use Rattle.std.proofs.lemmas.Bool.{cases_lt, eqb-true, eqb-false}
-use Rattle.mc_proto.specs.Table.{says}
+use Rattle.mc_proto.specs.{Table.says, Reader.After}
 use Rattle.mc_proto.specs.Grammar.{Spelt, Reads, BeginsNone, closes, closed, stored, skipped}
-use Rattle.mc_proto.specs.Reader.{After}
-use Rattle.mc_proto.specs.declared.request.Limits.{Limits}
-use Rattle.mc_proto.specs.declared.request.LineFault.TheVariants.{LineTooLong}
-use Rattle.mc_proto.specs.declared.request.Request.{Request}
-use Rattle.mc_proto.specs.declared.request.Request.TheVariants.{Bad}
-use Rattle.mc_proto.specs.declared.state.Said.{Said}
+use Rattle.mc_proto.specs.declared.{request.Limits.Limits, request.LineFault.TheVariants.LineTooLong, request.Request.Request, request.Request.TheVariants.Bad}
+use Rattle.mc_proto.specs.declared.{state.Said.Said, state.Start.Start, state.State.State}
 use Rattle.mc_proto.specs.declared.state.Said.TheVariants as said
-use Rattle.mc_proto.specs.declared.state.Start.{Start}
-use Rattle.mc_proto.specs.declared.state.State.{State}
 use Rattle.mc_proto.specs.declared.state.State.TheVariants.{Line, Block, Skip, Closed, Failed}
-use Rattle.mc_proto.proofs.SpellingLemmas.{begins_no_other}
+use Rattle.mc_proto.proofs.{SpellingLemmas.begins_no_other, RestLemmas.after_reads}
 use Rattle.mc_proto.proofs.TakingLemmas.{too_long, line_more, line_asks, line_blocks, line_skips, block_more, block_done, skip_more, skip_done, stays_closed}
-use Rattle.mc_proto.proofs.RestLemmas.{after_reads}
 
 -- where a reader would stand after some bytes, whatever it is
 abbrev pub Somewhere : Limits → List ℕ → Type 0

@@ -4,19 +4,14 @@ use Rattle.std.specs.Prelude.{if◌then◌else◌, nat_eq, option_to_list}
 use Rattle.std.specs.Cmp.Lexicographic.{pointwise}
 use Rattle.std.proofs.Math.Seq.{take-add}
 use Rattle.std.proofs.lemmas.List.{take_more, take_all, take-append-le, length-take-le}
-use Rattle.mc_proto.specs.Lines.{Lacks}
-use Rattle.mc_proto.specs.declared.request.Limits.{Limits}
-use Rattle.mc_proto.specs.Table.{says}
+use Rattle.mc_proto.specs.{Lines.Lacks, Table.says}
+use Rattle.mc_proto.specs.declared.{request.Limits.Limits, state.Start.Start, request.LineFault.TheVariants.LineTooLong, request.LineFault.TheVariants.Chunk}
+use Rattle.mc_proto.specs.declared.{request.Request.Request, request.Request.TheVariants.Bad, request.Request.TheVariants.One, state.Said.Said}
+use Rattle.mc_proto.specs.declared.{state.State.State}
 use Rattle.mc_proto.specs.Grammar.{IsLine, Spells, Spelt, closes, closed, wanted, asked, stored, skipped, IsFine}
 use Rattle.mc_proto.specs.Reader.{Stands, After, is_closed, state_after, request_after, Kept, kept}
-use Rattle.mc_proto.specs.declared.state.Start.{Start}
-use Rattle.mc_proto.specs.declared.request.LineFault.TheVariants.{LineTooLong, Chunk}
-use Rattle.mc_proto.specs.declared.request.Request.{Request}
-use Rattle.mc_proto.specs.declared.request.Request.TheVariants.{Bad, One}
 use Rattle.mc_item.specs.declared.command.Command.TheVariants as commands
-use Rattle.mc_proto.specs.declared.state.Said.{Said}
 use Rattle.mc_proto.specs.declared.state.Said.TheVariants as said
-use Rattle.mc_proto.specs.declared.state.State.{State}
 use Rattle.mc_proto.specs.declared.state.State.TheVariants.{Line, Block, Skip, Closed}
 use Rattle.mc_proto.proofs.CutLemmas.{lacks_both, lacks_front}
 

@@ -1,8 +1,7 @@
 -- Texts that are joined.
 use Rattle.std.proofs.Common.{◌≡◌, ◌++◌, ◌∷◌, [], ◌+◌, ◌<◌, ◌≤◌, ℕ, List, length, refl, ap, sym, ◌∙◌, append_assoc, append-nil, take, get_or, arith, suc}
 use Rattle.std.specs.Prelude.{decimal, ◌/◌, ◌%◌}
-use Rattle.std.proofs.lemmas.Fmt.{decimal_digit, decimal_step}
-use Rattle.std.proofs.lemmas.List.{take-append-le, take_all, take_more, length-take-le}
+use Rattle.std.proofs.lemmas.{Fmt.decimal_digit, Fmt.decimal_step, List.take-append-le, List.take_all, List.take_more, List.length-take-le}
 use Rattle.mc_proto.specs.Text.{minute_text, minutes_text}
 
 -- what was added is taken back

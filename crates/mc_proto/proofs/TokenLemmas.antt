@@ -1,13 +1,12 @@
 -- Runs of bytes, and digits.
 use Rattle.std.proofs.Common.{◌≡◌, ◌++◌, ◌∷◌, [], ◌+◌, ◌<◌, ◌≤◌, ◌-◌, ◌^◌, ℕ, List, length, refl, ap, sym, ◌∙◌, arith, append_assoc, suc, zero, take, drop, get_or, take-append-drop, true, false, ◌==◌}
-use Rattle.std.proofs.lemmas.List.{take_more, at_drop_more, append-nil, length-take-le, length-drop, get_or-drop}
+use Rattle.std.proofs.lemmas.List.{take_more, append-nil, length-take-le, length-drop, get_or-drop}
 use Rattle.std.proofs.Math.Nat.{pow-suc}
 use Rattle.std.proofs.lemmas.Bool.{ne_eqb, eq-eqb, lt-ltb, le-leb, leb-true}
 use Rattle.std.specs.Prelude.{Bool, Option, IfSome, ◌&&◌, is_none, nat_lt, nat_le, ◌*◌, pos, if◌then◌else◌, Some, None, codes}
 use Rattle.std.specs.List.{list_all}
-use Rattle.mc_item.specs.Key.{is_key_byte}
+use Rattle.mc_item.specs.{Key.is_key_byte, Measure.is_digit, Measure.number_from, Measure.number_of, Measure.number_in}
 use Rattle.mc_item.specs.declared.key.KeyFault.TheVariants.{Empty, TooLong, BadByte}
-use Rattle.mc_item.specs.Measure.{is_digit, number_from, number_of, number_in}
 use Rattle.mc_proto.specs.Lines.{Lacks, tokens, tokens_from, is_key, number, exptime}
 use Rattle.mc_proto.proofs.CutLemmas.{lacks_both}
 
@@ -20,9 +19,6 @@ lacks_up_to b xs (suc n) l h =
     let at : n + 1 ≡ suc n = omega arith in
     let more : Lacks b (take (n + 1) xs) = lacks_more b xs n (omega arith) (lacks_up_to b xs n (omega arith) (λ i g. h i (omega arith))) (λ is. h n (omega arith) (eq-eqb (get_or xs n 0) b is)) in
     rw at at more
-
-pub space_more : (xs : List ℕ) (i : ℕ) → i < length xs → get_or xs i 0 ≡ 32 → tokens (drop (i + 1) xs) ≡ tokens (drop i xs)
-space_more xs i l is = sym (at_drop_more tokens xs i 0 l ∙ ap (λ (b : ℕ). tokens (b ∷ drop (i + 1) xs)) is)
 
 pub run_on : (t u after : List ℕ) → Lacks 32 u → tokens_from t (u ++ after) ≡ tokens_from (t ++ u) after
 run_on t [] after l = ap (λ (s : List ℕ). tokens_from s after) (sym (append-nil t))

@@ -1,16 +1,9 @@
 -- Lists in pieces, of which one is reached.
-use Rattle.std.proofs.Common.{◌≡◌, ◌∙◌, ◌+◌, ◌-◌, ◌<◌, ◌≤◌, ◌∷◌, ◌++◌, ℕ, List, [], zero, suc, length, take, drop, get_or, ap, sym, arith, append_assoc, append-nil, subst, take-append-drop, length-append, length-drop}
-use Rattle.std.proofs.lemmas.List.{take_more, length-take-le, take-append-le, drop-append-le}
-use Rattle.std.proofs.lemmas.Grind.{flat_map-append}
+use Rattle.std.proofs.Common.{◌≡◌, ◌∙◌, ◌+◌, ◌-◌, ◌<◌, ◌≤◌, ◌∷◌, ◌++◌, ℕ, List, [], length, take, drop, get_or, ap, sym, arith, append_assoc, append-nil, subst, take-append-drop, length-append, length-drop}
+use Rattle.std.proofs.lemmas.{List.take_more, List.length-take-le, List.take-append-le, List.drop-append-le, Grind.flat_map-append}
 use Rattle.std.proofs.Math.Seq.{take-add, take-append-add, drop-append-add}
 use Rattle.std.specs.List.{flat_map}
 use Rattle.mc_proto.specs.Lines.{Lacks}
-
--- a byte that is there isn't lacking
-lacks_at : (b : ℕ) (xs : List ℕ) (i : ℕ) → Lacks b xs → i < length xs → get_or xs i 0 ≡ b → ⊥
-lacks_at b [] i lack l is = absurd (omega arith)
-lacks_at b (x ∷ xs) zero lack l is = lack.0 is
-lacks_at b (x ∷ xs) (suc i) lack l is = lacks_at b xs i lack.1 (omega arith) is
 
 lacks_behind : (b : ℕ) (u v : List ℕ) → Lacks b (u ++ v) → Lacks b v
 lacks_behind b [] v l = l

@@ -1,9 +1,7 @@
 -- Answers to the calls of a request, and the text of a request by them (protocol.txt, by the commands; the directives' texts are this profile's own).
 use Rattle.std.specs.Prelude.{ℕ, ◌+◌, List, [], ◌∷◌, ◌++◌, if◌then◌else◌}
 use Rattle.mc_item.specs.Counts.{added, no_counts}
-use Rattle.mc_item.specs.declared.counts.Histogram.{Histogram}
-use Rattle.mc_item.specs.declared.counts.Moves.{Moves}
-use Rattle.mc_item.specs.declared.reply.Reply.{Reply}
+use Rattle.mc_item.specs.declared.{counts.Histogram.Histogram, counts.Moves.Moves, reply.Reply.Reply}
 use Rattle.mc_proto.specs.Text.{end_text, fault_text, histogram_text, moves_text, one_text, values_text}
 use Rattle.mc_proto.specs.declared.request.Request.{Request}
 use Rattle.mc_proto.specs.declared.request.Request.TheVariants as requests

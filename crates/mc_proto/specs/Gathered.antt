@@ -1,8 +1,7 @@
 -- Texts as they are gathered: parts that have bytes of their own, and parts that are the bytes of a value (own).
 use Rattle.std.specs.Prelude.{ℕ, List, ◌++◌, take}
 use Rattle.std.specs.List.{flat_map}
-use Rattle.mc_proto.specs.declared.gathering.TextPart.{TextPart}
-use Rattle.mc_proto.specs.declared.gathering.TextPart.TheVariants.{Own, Shared}
+use Rattle.mc_proto.specs.declared.{gathering.TextPart.TextPart, gathering.TextPart.TheVariants.Own, gathering.TextPart.TheVariants.Shared}
 
 -- the bytes of a part: its own, or the first so many of a value
 abbrev pub part_bytes : TextPart → List ℕ

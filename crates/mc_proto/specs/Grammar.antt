@@ -2,18 +2,12 @@
 use Rattle.std.specs.Prelude.{ℕ, ◌+◌, ◌^◌, ◌<◌, ◌≤◌, ◌≡◌, ◌⊎◌, List, [], ◌∷◌, ◌++◌, Bool, true, false, if◌then◌else◌, length, take, drop, nat_eq}
 use Rattle.std.specs.Cmp.Lexicographic.{pointwise}
 use Rattle.mc_item.specs.declared.command.Command.TheVariants as commands
-use Rattle.mc_proto.specs.Lines.{Lacks}
-use Rattle.mc_proto.specs.Table.{says}
-use Rattle.mc_proto.specs.declared.request.Limits.{Limits}
-use Rattle.mc_proto.specs.declared.request.LineFault.{LineFault}
+use Rattle.mc_proto.specs.{Lines.Lacks, Table.says}
+use Rattle.mc_proto.specs.declared.{request.Limits.Limits, request.LineFault.LineFault, request.Request.Request, request.Target.Target}
+use Rattle.mc_proto.specs.declared.{request.Target.TheVariants.All, request.Target.TheVariants.Class, state.Said.Said, state.Start.Start}
 use Rattle.mc_proto.specs.declared.request.LineFault.TheVariants.{Error, Format, Chunk, Delta, LineTooLong, Exptime}
-use Rattle.mc_proto.specs.declared.request.Request.{Request}
 use Rattle.mc_proto.specs.declared.request.Request.TheVariants.{Get, One, Bad, At, Next, Juggle, Crawl, Quit}
-use Rattle.mc_proto.specs.declared.request.Target.{Target}
-use Rattle.mc_proto.specs.declared.request.Target.TheVariants.{All, Class}
-use Rattle.mc_proto.specs.declared.state.Said.{Said}
 use Rattle.mc_proto.specs.declared.state.Said.TheVariants.{Whole, Block, Skip}
-use Rattle.mc_proto.specs.declared.state.Start.{Start}
 
 -- how many bytes follow the line
 abbrev pub wanted : Said → ℕ

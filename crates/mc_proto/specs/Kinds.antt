@@ -1,10 +1,8 @@
 -- The kinds of tokens: what each stands for, and which fault a token that isn't of its kind makes (protocol.txt, "Commands"; the limits are this profile's own).
 use Rattle.std.specs.Prelude.{ℕ, ◌-◌, ◌^◌, List, Option, ℤ}
 use Rattle.mc_proto.specs.Lines.{key_of, number_up_to, exptime, target_of}
-use Rattle.mc_proto.specs.declared.request.Limits.{Limits}
-use Rattle.mc_proto.specs.declared.request.LineFault.{LineFault}
+use Rattle.mc_proto.specs.declared.{request.Limits.Limits, request.LineFault.LineFault, request.Target.Target}
 use Rattle.mc_proto.specs.declared.request.LineFault.TheVariants as faults
-use Rattle.mc_proto.specs.declared.request.Target.{Target}
 
 -- what a token is due to be
 pub data Kind : Type 0 where

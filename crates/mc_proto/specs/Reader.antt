@@ -1,16 +1,10 @@
 -- What a reader keeps, what of a stream it stands for, and what the rest of a stream is called.
 use Rattle.std.specs.Prelude.{ℕ, ◌+◌, ◌<◌, ◌≤◌, ◌≡◌, ◌==◌, List, [], ◌∷◌, ◌++◌, Bool, true, false, if◌then◌else◌, Option, Some, None, length}
 use Rattle.std.specs.List.{list_any}
-use Rattle.mc_proto.specs.Lines.{Lacks}
-use Rattle.mc_proto.specs.Table.{says}
-use Rattle.mc_proto.specs.Grammar.{IsLine, Spelt, closed}
-use Rattle.mc_proto.specs.declared.request.Limits.{Limits}
-use Rattle.mc_proto.specs.declared.request.Request.{Request}
-use Rattle.mc_proto.specs.declared.request.Rest.{Rest}
+use Rattle.mc_proto.specs.{Lines.Lacks, Table.says, Grammar.IsLine, Grammar.Spelt, Grammar.closed}
+use Rattle.mc_proto.specs.declared.{request.Limits.Limits, request.Request.Request, request.Rest.Rest, state.Said.Said, state.State.State}
 use Rattle.mc_proto.specs.declared.request.Rest.TheVariants as rests
-use Rattle.mc_proto.specs.declared.state.Said.{Said}
 use Rattle.mc_proto.specs.declared.state.Said.TheVariants as said
-use Rattle.mc_proto.specs.declared.state.State.{State}
 use Rattle.mc_proto.specs.declared.state.State.TheVariants.{Line, Block, Skip, Closed, Failed}
 
 -- a reader as contracts see it: its limits, where it stands, and what it keeps of a line that isn't whole

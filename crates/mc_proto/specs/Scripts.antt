@@ -1,14 +1,9 @@
 -- The scripts of an input: a line %next in the place of a command begins the next script (own).
 use Rattle.std.specs.Prelude.{◌≡◌, ◌<◌, ◌≤◌, ◌+◌, ◌⊎◌, List, [], ◌∷◌, ◌++◌, ℕ, Bool, true, false, Option, Some, None, All, length, take, drop}
-use Rattle.mc_proto.specs.Lines.{Lacks}
-use Rattle.mc_proto.specs.Grammar.{Spells, Spelt, Reads, closes, closed}
-use Rattle.mc_proto.specs.declared.request.Limits.{Limits}
-use Rattle.mc_proto.specs.declared.request.Request.{Request}
+use Rattle.mc_proto.specs.{Lines.Lacks, Grammar.Spells, Grammar.Spelt, Grammar.Reads, Grammar.closes, Grammar.closed}
+use Rattle.mc_proto.specs.declared.{request.Limits.Limits, request.Request.Request, splitting.End.End, splitting.First.First, splitting.First.TheVariants.More}
+use Rattle.mc_proto.specs.declared.{splitting.First.TheVariants.Begins, splitting.First.TheVariants.Last, state.Said.Said}
 use Rattle.mc_proto.specs.declared.request.Request.TheVariants.{Get, One, Bad, At, Next, Juggle, Crawl, Quit}
-use Rattle.mc_proto.specs.declared.splitting.End.{End}
-use Rattle.mc_proto.specs.declared.splitting.First.{First}
-use Rattle.mc_proto.specs.declared.splitting.First.TheVariants.{More, Begins, Last}
-use Rattle.mc_proto.specs.declared.state.Said.{Said}
 use Rattle.mc_proto.specs.declared.state.Said.TheVariants as said
 
 -- a request that doesn't begin the next script

@@ -1,21 +1,16 @@
 -- The table of request lines, and the one rule that reads a line by it (protocol.txt, "Commands"; the directives and which fault comes first are this profile's own).
 use Rattle.std.specs.Prelude.{ℕ, ◌+◌, List, [], ◌∷◌, Bool, true, false, if◌then◌else◌, Option, Some, None, length, nat_lt, codes, ℤ}
-use Rattle.std.specs.List.{list_all}
-use Rattle.std.specs.Option.{option_map, unwrap_or}
-use Rattle.mc_item.specs.declared.command.Command.{Command}
+use Rattle.std.specs.{List.list_all, Option.option_map, Option.unwrap_or}
+use Rattle.mc_item.specs.declared.{command.Command.Command, command.Verb.Verb}
 use Rattle.mc_item.specs.declared.command.Command.TheVariants.{Incr, Decr, Touch, Delete}
-use Rattle.mc_item.specs.declared.command.Verb.{Verb}
 use Rattle.mc_item.specs.declared.command.Verb.TheVariants.{Set, Add, Replace, Cas}
 use Rattle.mc_proto.specs.Kinds.{Kind, Value, value, fault_of}
 use Rattle.mc_proto.specs.Kinds.{Key, Flags, Exptime, Bytes, CasNumber, Delta, NewExptime, Moment, Classes}
 use Rattle.mc_proto.specs.Lines.{is_key, is_word, tokens, no_cr}
-use Rattle.mc_proto.specs.declared.request.Limits.{Limits}
-use Rattle.mc_proto.specs.declared.request.LineFault.{LineFault}
-use Rattle.mc_proto.specs.declared.request.LineFault.TheVariants.{Error, Format}
+use Rattle.mc_proto.specs.declared.{request.Limits.Limits, request.LineFault.LineFault, request.LineFault.TheVariants.Error}
+use Rattle.mc_proto.specs.declared.{request.LineFault.TheVariants.Format, state.Said.Said, state.Start.Start}
 use Rattle.mc_proto.specs.declared.request.Request.TheVariants.{Get, One, Bad, At, Next, Juggle, Crawl, Quit}
-use Rattle.mc_proto.specs.declared.state.Said.{Said}
 use Rattle.mc_proto.specs.declared.state.Said.TheVariants.{Whole, Block, Skip}
-use Rattle.mc_proto.specs.declared.state.Start.{Start}
 
 -- what may stand behind the tokens that are due: nothing, the word noreply, or one or more keys
 pub data End : Type 0 where

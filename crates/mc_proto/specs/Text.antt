@@ -1,8 +1,6 @@
 -- The texts of replies (protocol.txt, by the commands; the directives' and two of the faults are this profile's own). Each line ends in CR LF.
 use Rattle.std.specs.Prelude.{ℕ, ◌+◌, ◌==◌, ◌≡◌, List, [], ◌∷◌, ◌++◌, Bool, if◌then◌else◌, length, codes, decimal}
-use Rattle.mc_item.specs.declared.counts.Histogram.{Histogram}
-use Rattle.mc_item.specs.declared.counts.Moves.{Moves}
-use Rattle.mc_item.specs.declared.reply.Reply.{Reply}
+use Rattle.mc_item.specs.declared.{counts.Histogram.Histogram, counts.Moves.Moves, reply.Reply.Reply}
 use Rattle.mc_item.specs.declared.reply.Reply.TheVariants as replies
 use Rattle.mc_proto.specs.declared.request.LineFault.{LineFault}
 use Rattle.mc_proto.specs.declared.request.LineFault.TheVariants as faults

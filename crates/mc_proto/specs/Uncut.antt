@@ -1,9 +1,7 @@
 -- An input on its way: the bytes that are the next script's so far, and those that come behind them (own).
 use Rattle.std.specs.Prelude.{◌<◌, ◌≤◌, ◌++◌, ℕ, List, Option, Some, None, length, take, drop}
-use Rattle.mc_proto.specs.Grammar.{Spells}
-use Rattle.mc_proto.specs.Scripts.{IsLast, IsWhole}
-use Rattle.mc_proto.specs.declared.request.Limits.{Limits}
-use Rattle.mc_proto.specs.declared.request.Request.TheVariants.{Next}
+use Rattle.mc_proto.specs.{Grammar.Spells, Scripts.IsLast, Scripts.IsWhole}
+use Rattle.mc_proto.specs.declared.{request.Limits.Limits, request.Request.TheVariants.Next}
 
 -- the bytes that were passed since some were taken last, and those that come
 pub record Passing : Type 0 where

@@ -1,8 +1,6 @@
 //! The lines incr, decr, touch and delete, read in one pass where one space stands behind the verb.
 ghost use Rattle.std.specs.Prelude.{◌≡◌, ◌∷◌, IfOk, IfSome, codes, if◌then◌else◌};
-ghost use Rattle.mc_proto.specs.Grammar.{IsFine};
-ghost use Rattle.mc_proto.specs.Lines.{tokens};
-ghost use Rattle.mc_proto.specs.Table.{tokens_say};
+ghost use Rattle.mc_proto.specs.{Grammar.IsFine, Lines.tokens, Table.tokens_say};
 
 use crate::command::count;
 use crate::quick::quiet_end;

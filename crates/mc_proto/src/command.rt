@@ -1,9 +1,8 @@
 //! The lines of a command that has no block: incr, decr, touch and delete.
 ghost use Rattle.std.specs.Prelude.{◌≡◌, ◌∷◌, [], IfOk, map};
-ghost use Rattle.mc_proto.specs.Grammar.{IsFine};
+ghost use Rattle.mc_proto.specs.{Grammar.IsFine, Table.row_says, Table.Noreply};
 ghost use Rattle.mc_proto.specs.Kinds as kinds;
 ghost use Rattle.mc_proto.specs.Table as table;
-ghost use Rattle.mc_proto.specs.Table.{row_says, Noreply};
 ghost use Rattle.mc_proto.specs.declared.request.Limits.{Limits};
 ghost use Rattle.mc_item.specs.declared.command.Command.TheVariants as commands;
 

@@ -1,9 +1,8 @@
 //! The lines of the directives, and quit: their verbs are followed by one token or none, and never by noreply.
 ghost use Rattle.std.specs.Prelude.{◌≡◌, ◌∷◌, [], ◌<◌, ◌≤◌, ◌^◌, IfSome, map, false};
-ghost use Rattle.mc_proto.specs.Grammar.{IsFine, IsModerate, closes};
+ghost use Rattle.mc_proto.specs.{Grammar.IsFine, Grammar.IsModerate, Grammar.closes, Table.row_says, Table.Nothing};
 ghost use Rattle.mc_proto.specs.Kinds as kinds;
 ghost use Rattle.mc_proto.specs.Lines as lines;
-ghost use Rattle.mc_proto.specs.Table.{row_says, Nothing};
 ghost use Rattle.mc_proto.specs.declared.request.Limits.{Limits};
 ghost use Rattle.mc_proto.specs.declared.request.Request.TheVariants as requests;
 ghost use Rattle.mc_proto.specs.declared.state.Said.TheVariants as said;

@@ -1,8 +1,7 @@
 //! The lines get and gets: one or more keys.
 ghost use Rattle.std.specs.Prelude.{◌≡◌, ◌∷◌, [], ℕ, List, IfOk, map};
-ghost use Rattle.mc_proto.specs.Grammar.{IsFine};
+ghost use Rattle.mc_proto.specs.{Grammar.IsFine, Table.row_says};
 ghost use Rattle.mc_proto.specs.Lines as lines;
-ghost use Rattle.mc_proto.specs.Table.{row_says};
 ghost use Rattle.mc_proto.specs.Table as table;
 ghost use Rattle.mc_proto.specs.declared.request.Limits.{Limits};
 ghost use Rattle.mc_proto.specs.declared.request.Request.TheVariants as requests;

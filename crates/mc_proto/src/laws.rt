@@ -1,12 +1,8 @@
 //! Laws of the grammar: a line is its tokens, how a stream reads depends on its bytes alone, and each stream reads in one way.
 ghost use Rattle.std.specs.Prelude.{◌≡◌, ◌++◌, ℕ, List};
-ghost use Rattle.mc_proto.specs.Grammar.{Spells, Spelt, Reads};
-ghost use Rattle.mc_proto.specs.Lines.{AreTokens, tokens};
-ghost use Rattle.mc_proto.specs.Reader.{After, Stands};
-ghost use Rattle.mc_proto.specs.Scripts.{AreScripts, ReadAlone, with_next};
-ghost use Rattle.mc_proto.specs.declared.request.Limits.{Limits};
-ghost use Rattle.mc_proto.specs.declared.request.Request.{Request};
-ghost use Rattle.mc_proto.specs.declared.state.State.{State};
+ghost use Rattle.mc_proto.specs.{Grammar.Spells, Grammar.Spelt, Grammar.Reads, Lines.AreTokens, Lines.tokens, Reader.After, Reader.Stands, Scripts.AreScripts};
+ghost use Rattle.mc_proto.specs.{Scripts.ReadAlone, Scripts.with_next};
+ghost use Rattle.mc_proto.specs.declared.{request.Limits.Limits, request.Request.Request, state.State.State};
 
 /// The tokens of a line are the runs of bytes other than the space that it is made of, and a line is made of no others.
 pub fn a_line_is_its_tokens()

@@ -1,9 +1,7 @@
 //! What a line says.
 ghost use Rattle.std.specs.Prelude.{◌≡◌, IfOk};
-ghost use Rattle.mc_proto.specs.Grammar.{IsFine};
-ghost use Rattle.mc_proto.specs.Lines.{tokens};
+ghost use Rattle.mc_proto.specs.{Grammar.IsFine, Lines.tokens, Table.tokens_say};
 ghost use Rattle.mc_proto.specs.Table as table;
-ghost use Rattle.mc_proto.specs.Table.{tokens_say};
 
 use crate::brief::{quick_count, quick_delete, quick_touch};
 use crate::quick::quick_store;

@@ -1,14 +1,11 @@
 //! The lines that come most often, read in one pass: get of one key, set, add and replace, each with one space behind
 //! the verb.
 ghost use Rattle.std.specs.Prelude.{◌≡◌, ◌∷◌, ◌++◌, [], ◌<◌, ◌≤◌, ◌^◌, ◌↔◌, IfOk, IsTrue, IfSome, MatchOption, codes, if◌then◌else◌, pos, false};
-ghost use Rattle.mc_proto.specs.Grammar.{IsFine};
-ghost use Rattle.mc_proto.specs.Lines.{tokens};
+ghost use Rattle.mc_proto.specs.{Grammar.IsFine, Lines.tokens, Table.tokens_say, Words.store_word};
 ghost use Rattle.mc_proto.specs.Table as table;
-ghost use Rattle.mc_proto.specs.Table.{tokens_say};
 ghost use Rattle.mc_proto.specs.declared.request.Limits.{Limits};
 ghost use Rattle.mc_proto.specs.declared.request.Request.TheVariants as requests;
 ghost use Rattle.mc_proto.specs.declared.state.Said.TheVariants as said;
-ghost use Rattle.mc_proto.specs.Words.{store_word};
 
 use crate::request::Limits;
 use crate::state::{Said, Start};

@@ -1,10 +1,8 @@
 //! Reads requests from pieces of bytes that are cut anywhere.
 ghost use Rattle.std.specs.Prelude.{◌≡◌, ◌++◌, [], ◌<◌, ℕ, List, All, IfOk, OnOk, OnErr, IsErr, IsOk};
-ghost use Rattle.mc_proto.specs.Grammar.{IsModerate, Reads, closed};
-ghost use Rattle.mc_proto.specs.Reader.{After, IsSound, rest_name};
-ghost use Rattle.mc_proto.specs.declared.request.Request.{Request};
-ghost use Rattle.mc_proto.specs.declared.state.State.{State};
-ghost use Rattle.mc_proto.specs.declared.state.State.TheVariants.{Line, Failed, Closed};
+ghost use Rattle.mc_proto.specs.{Grammar.IsModerate, Grammar.Reads, Grammar.closed, Reader.After, Reader.IsSound, Reader.rest_name};
+ghost use Rattle.mc_proto.specs.declared.{request.Request.Request, state.State.State, state.State.TheVariants.Line, state.State.TheVariants.Failed};
+ghost use Rattle.mc_proto.specs.declared.{state.State.TheVariants.Closed};
 
 use crate::piece::Piece;
 use crate::request::{Limits, Request, Rest};

@@ -1,7 +1,6 @@
 //! Where the texts of replies go.
 ghost use Rattle.std.specs.Prelude.{[], ◌≡◌, ◌++◌, ◌<◌, ◌≤◌, ℕ, List, IfOk, OnOk, OnErr, length, take};
-ghost use Rattle.mc_proto.specs.Gathered.{bytes_of};
-ghost use Rattle.mc_proto.specs.Text.{IsBeginning};
+ghost use Rattle.mc_proto.specs.{Gathered.bytes_of, Text.IsBeginning};
 
 use crate::gathering::{ReplyText, TextPart};
 

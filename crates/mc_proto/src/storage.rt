@@ -1,10 +1,9 @@
 //! The storage lines: set, add, replace and cas.
 ghost use Rattle.std.specs.Prelude.{◌≡◌, ◌∷◌, [], ◌+◌, ◌<◌, ◌≤◌, IfOk, IfSome, length, map};
 ghost use Rattle.mc_item.specs.declared.command.Verb.TheVariants as verbs;
-ghost use Rattle.mc_proto.specs.Grammar.{IsFine};
+ghost use Rattle.mc_proto.specs.{Grammar.IsFine, Table.row_says, Table.kinds_say, Table.Noreply};
 ghost use Rattle.mc_proto.specs.Kinds as kinds;
 ghost use Rattle.mc_proto.specs.Table as table;
-ghost use Rattle.mc_proto.specs.Table.{row_says, kinds_say, Noreply};
 
 use crate::request::Limits;
 use crate::said::{no_format, no_line, quiet_by};

@@ -2,15 +2,9 @@
 ghost use Rattle.std.specs.Prelude.{◌≡◌, ◌++◌, [], ◌+◌, ◌-◌, ◌<◌, ◌≤◌, ◌∷◌, ℕ, List, IfOk, OnOk, All, length, take, drop, nat_eq};
 ghost use Rattle.std.specs.Cmp.Lexicographic.{pointwise};
 ghost use Rattle.mc_item.specs.declared.command.Command.TheVariants as commands;
-ghost use Rattle.mc_proto.specs.Grammar.{stored, skipped, IsFine, IsModerate};
-ghost use Rattle.mc_proto.specs.Table.{says};
-ghost use Rattle.mc_proto.specs.Reader.{After, IsSound};
-ghost use Rattle.mc_proto.specs.declared.request.Limits.{Limits};
-ghost use Rattle.mc_proto.specs.declared.request.LineFault.TheVariants.{Chunk};
-ghost use Rattle.mc_proto.specs.declared.request.Request.{Request};
-ghost use Rattle.mc_proto.specs.declared.request.Request.TheVariants.{Bad, One};
-ghost use Rattle.mc_proto.specs.declared.state.State.{State};
-ghost use Rattle.mc_proto.specs.declared.state.State.TheVariants.{Line};
+ghost use Rattle.mc_proto.specs.{Grammar.stored, Grammar.skipped, Grammar.IsFine, Grammar.IsModerate, Table.says, Reader.After, Reader.IsSound};
+ghost use Rattle.mc_proto.specs.declared.{request.Limits.Limits, request.LineFault.TheVariants.Chunk, request.Request.Request, request.Request.TheVariants.Bad};
+ghost use Rattle.mc_proto.specs.declared.{request.Request.TheVariants.One, state.State.State, state.State.TheVariants.Line};
 
 use crate::line::said_of;
 use crate::piece::Piece;

@@ -1,7 +1,6 @@
 //! An input in pieces, of which the bytes are passed in order, and those passed are taken away as pieces of their own.
 ghost use Rattle.std.specs.Prelude.{◌≡◌, ◌-◌, ◌<◌, ◌≤◌, ◌++◌, ℕ, List, [], IfOk, OnOk, true, false, length, take, drop};
-ghost use Rattle.std.specs.VecDeque.{deque_len};
-ghost use Rattle.std.specs.List.{flat_map};
+ghost use Rattle.std.specs.{VecDeque.deque_len, List.flat_map};
 ghost use Rattle.mc_proto.specs.Lines.{Lacks, LacksNext};
 
 use crate::lacking::{ends_with_percent, lacks_next, pieces_lack_next};

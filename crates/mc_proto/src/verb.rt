@@ -1,8 +1,7 @@
 //! What a line says by its verb and the tokens behind it: the verbs are tried in the table's order, at most five in a function.
 ghost use Rattle.std.specs.Prelude.{◌≡◌, IfOk, drop, map};
-ghost use Rattle.mc_proto.specs.Grammar.{IsFine};
+ghost use Rattle.mc_proto.specs.{Grammar.IsFine, Table.rows_say, Table.tokens_say};
 ghost use Rattle.mc_proto.specs.Table as table;
-ghost use Rattle.mc_proto.specs.Table.{rows_say, tokens_say};
 
 use crate::command::{count_line, delete_line, touch_line};
 use crate::directive::{at_line, crawl_line, juggle_line, lone_line};

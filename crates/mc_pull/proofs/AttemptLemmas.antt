@@ -1,74 +1,38 @@
 -- One try of a command on the classes that it is lent: that it may be made there, and what it makes.
 use Rattle.std.proofs.Common.{◌≡◌, ◌<◌, ◌≤◌, ◌+◌, ◌^◌, ◌==◌, ◌&&◌, ℕ, List, [], ◌∷◌, ◌++◌, Bool, true, false, not, refl, sym, ap, ◌∙◌, subst, inl, inr, ◌⊎◌, length, append_assoc, append-nil, arith}
 use Rattle.std.specs.Prelude.{Option, Some, None, IfSome, IsSomeAnd, MatchOption, if◌then◌else◌, ◌||◌, nat_le, decimal, position, slice_get}
-use Rattle.std.specs.List.{All}
-use Rattle.std.specs.Option.{option_map}
+use Rattle.std.specs.{List.All, Option.option_map}
 use Rattle.std.proofs.lemmas.Bool.{false≢true, true≢false}
 use Rattle.mc_item.specs.Answer.{Row, fresh, row_of, store_row, let_go, grown_row, number_row, stepped, version_of}
-use Rattle.mc_item.specs.Cache.{changed}
-use Rattle.mc_item.specs.Command.{key_of}
-use Rattle.mc_item.specs.Item.{expiry_of, hit_marks, is_dead, link_of_item}
-use Rattle.mc_item.specs.Measure.{class_of, cost_of, numeral_of}
-use Rattle.mc_item.specs.Stripe.{Fits, IsAlive, IsLegal, IsUnnamed, link_of}
-use Rattle.mc_item.specs.declared.answer.Answer.{Answer}
-use Rattle.mc_item.specs.declared.answer.Change.{Change}
+use Rattle.mc_item.specs.{Cache.changed, Command.key_of, Item.expiry_of, Item.hit_marks, Item.is_dead, Item.link_of_item, Measure.class_of, Measure.cost_of}
+use Rattle.mc_item.specs.{Measure.numeral_of, Stripe.Fits, Stripe.IsAlive, Stripe.IsLegal, Stripe.IsUnnamed, Stripe.link_of}
+use Rattle.mc_item.specs.declared.{answer.Answer.Answer, answer.Change.Change, answer.Need.Need, answer.Site.Site, command.Command.Command, command.Verb.Verb}
+use Rattle.mc_item.specs.declared.{command.Verb.TheVariants.Set, command.Verb.TheVariants.Add, command.Verb.TheVariants.Replace, command.Verb.TheVariants.Cas}
+use Rattle.mc_item.specs.declared.{config.Config.Config, counting.Step.TheVariants.Up, counting.Step.TheVariants.Down, item.ClassNo.ClassNo, item.Expiry.Expiry}
+use Rattle.mc_item.specs.declared.{item.Item.Item, item.Link.Link, reply.Reply.Reply, reply.Room.Room, item.Who.Who, stripe_event.StripeEvent.StripeEvent}
 use Rattle.mc_item.specs.declared.answer.Change.TheVariants as changes
-use Rattle.mc_item.specs.declared.answer.Need.{Need}
 use Rattle.mc_item.specs.declared.answer.Need.TheVariants as needs
-use Rattle.mc_item.specs.declared.answer.Site.{Site}
 use Rattle.mc_item.specs.declared.class_event.ClassEvent.TheVariants as class_events
-use Rattle.mc_item.specs.declared.command.Command.{Command}
 use Rattle.mc_item.specs.declared.command.Command.TheVariants.{Get, Store, Huge, Incr, Decr, Touch, Delete}
-use Rattle.mc_item.specs.declared.command.Verb.{Verb}
-use Rattle.mc_item.specs.declared.command.Verb.TheVariants.{Set, Add, Replace, Cas}
-use Rattle.mc_item.specs.declared.config.Config.{Config}
-use Rattle.mc_item.specs.declared.counting.Step.TheVariants.{Up, Down}
-use Rattle.mc_item.specs.declared.item.ClassNo.{ClassNo}
-use Rattle.mc_item.specs.declared.item.Expiry.{Expiry}
-use Rattle.mc_item.specs.declared.item.Item.{Item}
-use Rattle.mc_item.specs.declared.item.Link.{Link}
-use Rattle.mc_item.specs.declared.reply.Reply.{Reply}
-use Rattle.mc_item.specs.declared.reply.Room.{Room}
 use Rattle.mc_item.specs.declared.reply.Room.TheVariants as rooms
-use Rattle.mc_item.specs.declared.item.Who.{Who}
-use Rattle.mc_item.specs.declared.stripe_event.StripeEvent.{StripeEvent}
-use Rattle.mc_rule.specs.Lawful.{is_named}
-use Rattle.mc_rule.specs.Lists.{links_of, lists_of, segment_of}
-use Rattle.mc_rule.specs.Pairs.{link_to}
+use Rattle.mc_rule.specs.{Lawful.is_named, Lists.links_of, Lists.lists_of, Lists.segment_of, Pairs.link_to}
 use Rattle.mc_rule.proofs.TestLemmas.{by_eq}
 use Rattle.mc_evidence.specs.Small.{AreSmall}
-use Rattle.mc_evidence.proofs.RowLemmas.{by_test}
-use Rattle.mc_evidence.proofs.SmallLemmas.{small_item}
-use Rattle.mc_evidence.proofs.UnnamedLemmas.{next_unnamed}
-use Rattle.mc_segment.specs.ClassState.{ClassView, HasPlaces, with_room}
-use Rattle.mc_segment.specs.Entries.{entry_of}
+use Rattle.mc_evidence.proofs.{RowLemmas.by_test, SmallLemmas.small_item, UnnamedLemmas.next_unnamed}
+use Rattle.mc_segment.specs.{ClassState.ClassView, ClassState.HasPlaces, ClassState.with_room, Entries.entry_of}
 use Rattle.mc_pull.specs.declared.parts.Part.{Part}
 use Rattle.mc_pull.specs.declared.parts.Part.TheVariants as parts
-use Rattle.mc_stripe.specs.Plan.{fate_of, woken_link}
-use Rattle.mc_stripe.specs.StripeState.{Stripe, cache_now}
-use Rattle.mc_stripe.specs.Trying.{item_of, row_at}
+use Rattle.mc_stripe.specs.{Plan.fate_of, Plan.woken_link, StripeState.Stripe, StripeState.cache_now, Trying.item_of, Trying.row_at, Plan.woken_by}
 use Rattle.mc_stripe.specs.Wanting.{Covers, Holds, IsGiven, IsTaken, Uses, changes_at, class_beside, class_of_fate, home_class, other_class}
 use Rattle.mc_stripe.specs.Wanting as wanting
-use Rattle.mc_stripe.specs.declared.fate.Fate.{Fate}
+use Rattle.mc_stripe.specs.declared.{fate.Fate.Fate, wanting.Given.Given, wanting.Home.Home, wanting.Other.Other, trying.Turn.Turn}
 use Rattle.mc_stripe.specs.declared.fate.Fate.TheVariants as fates
-use Rattle.mc_stripe.specs.declared.wanting.Given.{Given}
-use Rattle.mc_stripe.specs.declared.wanting.Home.{Home}
-use Rattle.mc_stripe.specs.declared.wanting.Other.{Other}
-use Rattle.mc_stripe.specs.declared.trying.Turn.{Turn}
-use Rattle.mc_pull.specs.Agreeing.{AgreeNow}
+use Rattle.mc_pull.specs.{Agreeing.AgreeNow, Lent.Each, Lent.IsLent, Lent.IsLentIf, Perform.AreLent, Perform.GivesRoom, Perform.MayAnswer, Perform.MayPerform}
+use Rattle.mc_pull.specs.{Perform.call, Perform.fate_for, Performed.cooled_if, Settled.cooled_event, Question.IsClassOf, Question.IsStripeOf}
 use Rattle.mc_pull.specs.Attempt.{GivesHome, HasFree, HasRoomFor, IsAny, IsSmallFate, MayTryOn, OffersHome, OffersOther}
-use Rattle.mc_stripe.specs.Plan.{woken_by}
-use Rattle.mc_pull.specs.Lent.{Each, IsLent, IsLentIf}
 use Rattle.mc_pull.specs.Parts.{gone_part, hit_part, is_cold, is_for, is_here, is_warming, new_part, number_in, part_for, places_of}
-use Rattle.mc_pull.specs.Perform.{AreLent, GivesRoom, MayAnswer, MayPerform, call, fate_for}
-use Rattle.mc_pull.specs.Performed.{cooled_if}
-use Rattle.mc_pull.specs.Settled.{cooled_event}
-use Rattle.mc_pull.specs.Question.{IsClassOf, IsStripeOf}
-use Rattle.mc_pull.proofs.CallLemmas.{after_is, did, may_do}
-use Rattle.mc_pull.proofs.PerformLemmas.{not_gone, not_new}
-use Rattle.mc_pull.proofs.PerformedLemmas.{IsOf, each_at, one_class}
-use Rattle.mc_pull.proofs.PlacedLemmas.{IsPlaced, row_places}
-use Rattle.mc_pull.proofs.CostLemmas.{small_at}
+use Rattle.mc_pull.proofs.{CallLemmas.after_is, CallLemmas.did, CallLemmas.may_do, PerformLemmas.not_gone, PerformLemmas.not_new, PerformedLemmas.IsOf}
+use Rattle.mc_pull.proofs.{PerformedLemmas.each_at, PerformedLemmas.one_class, PlacedLemmas.IsPlaced, PlacedLemmas.row_places, CostLemmas.small_at}
 
 -- ---- one of some classes
 record Picked (P : ClassView → Type 0) (vs : List ClassView) : Type 0 where

@@ -1,50 +1,24 @@
 -- What a call makes of its key's item, and what it tells one class.
 use Rattle.std.proofs.Common.{◌≡◌, ◌≢◌, ◌&&◌, ℕ, List, [], ◌∷◌, ◌++◌, Bool, true, false, refl, sym, ap, ◌∙◌, subst, inl, inr, ◌⊎◌, append_assoc}
 use Rattle.std.specs.Prelude.{Option, Some, None, IsSomeAnd, nat_eq, if◌then◌else◌}
-use Rattle.std.specs.Cmp.Lexicographic.{pointwise}
-use Rattle.std.specs.Option.{option_map}
+use Rattle.std.specs.{Cmp.Lexicographic.pointwise, Option.option_map}
 use Rattle.std.proofs.lemmas.Cmp.{nat_list_eq_equiv}
-use Rattle.mc_item.specs.Cache.{changed}
-use Rattle.mc_item.specs.Command.{key_of}
-use Rattle.mc_item.specs.Item.{link_of_item}
-use Rattle.mc_item.specs.Stripe.{IsLegal, MayDo}
-use Rattle.mc_item.specs.declared.class_event.ClassEvent.{ClassEvent}
+use Rattle.mc_item.specs.{Cache.changed, Command.key_of, Item.link_of_item, Stripe.IsLegal, Stripe.MayDo}
+use Rattle.mc_item.specs.declared.{class_event.ClassEvent.ClassEvent, class_event.Linked.Linked, item.ClassNo.ClassNo, item.Item.Item, item.Link.Link}
+use Rattle.mc_item.specs.declared.{lists.Entry.Entry, lists.Seg.Seg, stripe_event.Did.Did, stripe_event.StripeEvent.StripeEvent}
 use Rattle.mc_item.specs.declared.class_event.ClassEvent.TheVariants as entries
-use Rattle.mc_item.specs.declared.class_event.Linked.{Linked}
-use Rattle.mc_item.specs.declared.item.ClassNo.{ClassNo}
-use Rattle.mc_item.specs.declared.item.Item.{Item}
-use Rattle.mc_item.specs.declared.item.Link.{Link}
-use Rattle.mc_item.specs.declared.lists.Entry.{Entry}
-use Rattle.mc_item.specs.declared.lists.Seg.{Seg}
 use Rattle.mc_item.specs.declared.reply.Room.TheVariants as rooms
-use Rattle.mc_item.specs.declared.stripe_event.Did.{Did}
-use Rattle.mc_item.specs.declared.stripe_event.StripeEvent.{StripeEvent}
-use Rattle.mc_rule.specs.Agreement.{Agree}
-use Rattle.mc_rule.specs.Belonging.{IsEntryFor, IsEntryOf}
-use Rattle.mc_rule.specs.Evidence.{IsTold}
-use Rattle.mc_rule.specs.Lawful.{IsLawfulHistoryByLists}
-use Rattle.mc_rule.specs.Lists.{found, lists_of}
-use Rattle.mc_rule.specs.Pairs.{LetsGo, item_after, link_to}
-use Rattle.mc_rule.specs.Places.{Each}
-use Rattle.mc_rule.specs.Segment.{Rule}
-use Rattle.mc_rule.proofs.HistoryLemmas.{lists_of-push}
-use Rattle.mc_rule.proofs.ListLemmas.{other_stays}
-use Rattle.mc_rule.proofs.PlaceLemmas.{each_push, stands_at}
+use Rattle.mc_rule.specs.{Agreement.Agree, Belonging.IsEntryFor, Belonging.IsEntryOf, Evidence.IsTold, Lawful.IsLawfulHistoryByLists, Lists.found}
+use Rattle.mc_rule.specs.{Lists.lists_of, Pairs.LetsGo, Pairs.item_after, Pairs.link_to, Places.Each, Segment.Rule}
+use Rattle.mc_rule.proofs.{HistoryLemmas.lists_of-push, ListLemmas.other_stays, PlaceLemmas.each_push, PlaceLemmas.stands_at}
 use Rattle.mc_rule.proofs.TestLemmas.{by_eq, none_some, not_equal, some_same}
 use Rattle.mc_evidence.specs.Made.{IsGivenNone, IsRefusedThere, LetsNoneGo, cooled_as}
-use Rattle.mc_evidence.proofs.CitedLemmas.{all_suited_later}
-use Rattle.mc_evidence.proofs.ExactLemmas.{entry_of_item}
-use Rattle.mc_evidence.proofs.GrowLemmas.{stripe_push}
-use Rattle.mc_evidence.proofs.HeldLemmas.{link_held}
+use Rattle.mc_evidence.proofs.{CitedLemmas.all_suited_later, ExactLemmas.entry_of_item, GrowLemmas.stripe_push, HeldLemmas.link_held, RowLemmas.IsNoChunk}
 use Rattle.mc_evidence.proofs.LegalLemmas.{by_key, held_named, holds_push, link_new}
-use Rattle.mc_evidence.proofs.RowLemmas.{IsNoChunk}
-use Rattle.mc_segment.specs.ClassState.{ClassView}
-use Rattle.mc_segment.specs.Entries.{entry_of}
+use Rattle.mc_segment.specs.{ClassState.ClassView, Entries.entry_of}
 use Rattle.mc_stripe.specs.StripeState.{Stripe, cache_now}
-use Rattle.mc_pull.specs.Agreeing.{HasRefusal}
-use Rattle.mc_pull.specs.Parts.{is_for, number_in}
+use Rattle.mc_pull.specs.{Agreeing.HasRefusal, Parts.is_for, Parts.number_in, Performed.cooled_if, Performed.did_event}
 use Rattle.mc_pull.specs.Perform.{Call, MayAnswer, answer_to, item_before}
-use Rattle.mc_pull.specs.Performed.{cooled_if, did_event}
 use Rattle.mc_pull.proofs.PlacedLemmas.{IsPlaced, row_places}
 
 -- an item that is changed in all but its link keeps it

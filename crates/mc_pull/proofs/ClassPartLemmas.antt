@@ -1,50 +1,31 @@
 -- A class's part of a call keeps its history and the stripe's in agreement.
 use Rattle.std.proofs.Common.{◌≡◌, ◌≢◌, ◌+◌, ◌==◌, ◌&&◌, ℕ, List, [], ◌∷◌, ◌++◌, Bool, true, false, not, refl, sym, ap, ◌∙◌, subst, inl, inr, ◌⊎◌, length, append_assoc, length-append, append-nil}
 use Rattle.std.specs.Prelude.{Option, Some, None, IsSomeAnd, if◌then◌else◌, slice_get}
-use Rattle.std.proofs.lemmas.Bool.{false≢true}
-use Rattle.std.proofs.lemmas.Bool.Decides.{eqb_tells}
-use Rattle.mc_item.specs.Cache.{changed, counted, marked, touched}
-use Rattle.mc_item.specs.Item.{link_of_item}
-use Rattle.mc_item.specs.Measure.{cost_of}
-use Rattle.mc_item.specs.Stripe.{IsLegal}
-use Rattle.mc_item.specs.declared.answer.Change.{Change}
+use Rattle.std.proofs.lemmas.{Bool.false≢true, Bool.Decides.eqb_tells}
+use Rattle.mc_item.specs.{Cache.changed, Cache.counted, Cache.marked, Cache.touched, Item.link_of_item, Measure.cost_of, Stripe.IsLegal}
+use Rattle.mc_item.specs.declared.{answer.Change.Change, class_event.ClassEvent.ClassEvent, class_event.Linked.Linked, class_event.Shifted.Shifted}
+use Rattle.mc_item.specs.declared.{class_event.Unlinked.Unlinked, item.ClassNo.ClassNo, item.Item.Item, item.Link.Link, lists.Seg.TheVariants.Warm}
+use Rattle.mc_item.specs.declared.{lists.Seg.TheVariants.Cold, reply.Room.Room, stripe_event.StripeEvent.StripeEvent}
 use Rattle.mc_item.specs.declared.answer.Change.TheVariants as changes
-use Rattle.mc_item.specs.declared.class_event.ClassEvent.{ClassEvent}
 use Rattle.mc_item.specs.declared.class_event.ClassEvent.TheVariants as entries
-use Rattle.mc_item.specs.declared.class_event.Linked.{Linked}
-use Rattle.mc_item.specs.declared.class_event.Shifted.{Shifted}
-use Rattle.mc_item.specs.declared.class_event.Unlinked.{Unlinked}
 use Rattle.mc_item.specs.declared.class_event.Why.TheVariants as whys
-use Rattle.mc_item.specs.declared.item.ClassNo.{ClassNo}
-use Rattle.mc_item.specs.declared.item.Item.{Item}
-use Rattle.mc_item.specs.declared.item.Link.{Link}
-use Rattle.mc_item.specs.declared.lists.Seg.TheVariants.{Warm, Cold}
-use Rattle.mc_item.specs.declared.reply.Room.{Room}
 use Rattle.mc_item.specs.declared.reply.Room.TheVariants as rooms
-use Rattle.mc_item.specs.declared.stripe_event.StripeEvent.{StripeEvent}
-use Rattle.mc_rule.specs.Agreement.{Agree}
-use Rattle.mc_rule.specs.Belonging.{Belong}
-use Rattle.mc_rule.specs.Lawful.{IsLawfulHistoryByLists, SuitsMove}
-use Rattle.mc_rule.specs.Lists.{lists_of, links_of, segment_of}
-use Rattle.mc_rule.specs.Pairs.{IsLinking, IsUnlinking, item_after, link_to}
+use Rattle.mc_rule.specs.{Agreement.Agree, Belonging.Belong, Lawful.IsLawfulHistoryByLists, Lawful.SuitsMove, Lists.lists_of, Lists.links_of, Lists.segment_of}
+use Rattle.mc_rule.specs.{Pairs.IsLinking, Pairs.IsUnlinking, Pairs.item_after, Pairs.link_to}
 use Rattle.mc_rule.proofs.TestLemmas.{none_some, some_same}
 use Rattle.mc_evidence.specs.Made.{IsGivenNone, IsRefusedThere, LetsNoneGo, cooled_as, linked_for}
 use Rattle.mc_evidence.proofs.AgreeLemmas.{agree_cooled, agree_links, agree_neither, agree_replaces, agree_unlinks}
-use Rattle.mc_evidence.proofs.RoomLemmas.{new_entry}
-use Rattle.mc_evidence.proofs.RowLemmas.{IsNoChunk}
+use Rattle.mc_evidence.proofs.{RoomLemmas.new_entry, RowLemmas.IsNoChunk}
 use Rattle.mc_segment.specs.ClassState.{ClassView}
 use Rattle.mc_stripe.specs.declared.fate.Fate.TheVariants as fates
-use Rattle.mc_stripe.specs.Plan.{fate_of, gone_fate, hit_fate}
-use Rattle.mc_stripe.specs.StripeState.{Stripe}
+use Rattle.mc_stripe.specs.{Plan.fate_of, Plan.gone_fate, Plan.hit_fate, StripeState.Stripe}
 use Rattle.mc_pull.specs.declared.parts.Part.{Part}
 use Rattle.mc_pull.specs.declared.parts.Part.TheVariants as parts
-use Rattle.mc_pull.specs.Agreeing.{HasRefusal}
+use Rattle.mc_pull.specs.{Agreeing.HasRefusal, Performed.did_event, Performed.events_in, Performed.part_in}
 use Rattle.mc_pull.specs.Parts.{gone_part, hit_part, is_cold, is_here, is_warming, new_part, number_in, part_events, part_for}
 use Rattle.mc_pull.specs.Perform.{Call, MayAnswer, IsRoomOf, answer_to, item_before}
-use Rattle.mc_pull.specs.Performed.{did_event, events_in, part_in}
 use Rattle.mc_pull.proofs.CallLemmas.{AgreesWith, Finds, KeepsLink, after_is, entry, entry_stays, finds, kept_link, did, given_none, goes, key, may_do, not_held, noted, placed, refused_there, spared_if_apart, spared_if_kept, still_agrees}
-use Rattle.mc_pull.proofs.PlacedLemmas.{IsPlaced}
-use Rattle.mc_pull.proofs.PerformLemmas.{active_after}
+use Rattle.mc_pull.proofs.{PlacedLemmas.IsPlaced, PerformLemmas.active_after}
 
 module _ (s : Stripe) (c : Call) (legal : IsLegal s.site s.history) (may : MayAnswer s c) where
   module _ (v : ClassView) (lawful : IsLawfulHistoryByLists v.chunks v.rule v.history) (agree : Agree s.site v.rule v.number s.history v.history) where

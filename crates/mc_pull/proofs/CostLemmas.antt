@@ -1,10 +1,8 @@
 -- What has a class of small sizes is small.
 use Rattle.std.proofs.Common.{ℕ, ◌≡◌, ◌≤◌, ◌^◌, true, List, arith, get_or}
 use Rattle.std.specs.Prelude.{Option, Some, None, nat_le, position}
-use Rattle.std.specs.List.{All}
-use Rattle.std.specs.Option.{option_map}
-use Rattle.std.proofs.lemmas.Bool.Decides.{nat_tests}
-use Rattle.std.proofs.lemmas.List.Quantifiers.{position-Some}
+use Rattle.std.specs.{List.All, Option.option_map}
+use Rattle.std.proofs.lemmas.{Bool.Decides.nat_tests, List.Quantifiers.position-Some}
 use Rattle.mc_item.specs.Measure.{class_at}
 use Rattle.mc_item.specs.declared.item.ClassNo.{ClassNo}
 

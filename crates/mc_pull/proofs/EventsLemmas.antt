@@ -1,17 +1,12 @@
 -- The events that a command makes in a class: what holds of each kind of them holds of all.
 use Rattle.std.proofs.Common.{◌+◌, ℕ, List, [], ◌∷◌, length}
-use Rattle.mc_item.specs.declared.class_event.ClassEvent.{ClassEvent}
+use Rattle.mc_item.specs.declared.{class_event.ClassEvent.ClassEvent, item.Expiry.Expiry, lists.Seg.TheVariants.Warm, lists.Seg.TheVariants.Cold}
 use Rattle.mc_item.specs.declared.class_event.Why.TheVariants as whys
-use Rattle.mc_item.specs.declared.item.Expiry.{Expiry}
-use Rattle.mc_item.specs.declared.lists.Seg.TheVariants.{Warm, Cold}
-use Rattle.mc_segment.specs.ClassCalls.{linked_event, unlinked_event, shifted_event}
-use Rattle.mc_segment.specs.ClassState.{ClassView}
+use Rattle.mc_segment.specs.{ClassCalls.linked_event, ClassCalls.unlinked_event, ClassCalls.shifted_event, ClassState.ClassView}
 use Rattle.mc_stripe.specs.StripeState.{Stripe}
 use Rattle.mc_pull.specs.declared.parts.Part.{Part}
 use Rattle.mc_pull.specs.declared.parts.Part.TheVariants as parts
-use Rattle.mc_pull.specs.Parts.{part_events}
-use Rattle.mc_pull.specs.Perform.{Call}
-use Rattle.mc_pull.specs.Performed.{events_in, part_in}
+use Rattle.mc_pull.specs.{Parts.part_events, Perform.Call, Performed.events_in, Performed.part_in}
 
 pub events_so : (P : List ClassEvent → Type 0) (s : Stripe) (c : Call) (v : ClassView) → P []
     → ((key : List ℕ) (cost : ℕ) (expiry : Expiry) → P (linked_event v c.who key cost c.moment expiry ∷ []))

@@ -1,38 +1,24 @@
 -- A class's part of a call is nothing to the other stripes: its entries have the command's key.
 use Rattle.std.proofs.Common.{◌≡◌, ◌≢◌, ◌≤◌, ◌==◌, ◌&&◌, ℕ, List, [], ◌∷◌, ◌++◌, Bool, true, false, refl, sym, ap, ◌∙◌, subst, append_assoc, append-nil, length, arith, ◌+◌}
 use Rattle.std.specs.Prelude.{Option, Some, None, if◌then◌else◌, nat_eq}
-use Rattle.std.specs.Cmp.Lexicographic.{bytes_decides, pointwise}
-use Rattle.std.specs.Option.{option_map}
+use Rattle.std.specs.{Cmp.Lexicographic.bytes_decides, Cmp.Lexicographic.pointwise, Option.option_map}
 use Rattle.std.proofs.lemmas.Bool.{false≢true}
 use Rattle.mc_item.specs.Command.{key_of}
-use Rattle.mc_item.specs.declared.answer.Site.{Site}
-use Rattle.mc_item.specs.declared.class_event.ClassEvent.{ClassEvent}
+use Rattle.mc_item.specs.declared.{answer.Site.Site, class_event.ClassEvent.ClassEvent, class_event.Linked.Linked, item.Expiry.Expiry, item.Link.Link}
+use Rattle.mc_item.specs.declared.{lists.Entry.Entry, lists.Seg.Seg, lists.Seg.TheVariants.Warm, lists.Seg.TheVariants.Cold}
 use Rattle.mc_item.specs.declared.class_event.ClassEvent.TheVariants as entries
-use Rattle.mc_item.specs.declared.class_event.Linked.{Linked}
 use Rattle.mc_item.specs.declared.class_event.Why.TheVariants as whys
-use Rattle.mc_item.specs.declared.item.Expiry.{Expiry}
-use Rattle.mc_item.specs.declared.item.Link.{Link}
-use Rattle.mc_item.specs.declared.lists.Entry.{Entry}
-use Rattle.mc_item.specs.declared.lists.Seg.{Seg}
-use Rattle.mc_item.specs.declared.lists.Seg.TheVariants.{Warm, Cold}
-use Rattle.mc_rule.specs.Lists.{found, links_of, lists_of, segment_of}
-use Rattle.mc_rule.specs.Pairs.{IsKeyOf}
-use Rattle.mc_rule.specs.Segment.{segment_for}
-use Rattle.mc_rule.proofs.HistoryLemmas.{lists_of-push}
-use Rattle.mc_rule.proofs.ListLemmas.{other_stays}
-use Rattle.mc_rule.proofs.TestLemmas.{none_some, not_equal, some_same}
+use Rattle.mc_rule.specs.{Lists.found, Lists.links_of, Lists.lists_of, Lists.segment_of, Pairs.IsKeyOf, Segment.segment_for}
+use Rattle.mc_rule.proofs.{HistoryLemmas.lists_of-push, ListLemmas.other_stays, TestLemmas.none_some, TestLemmas.not_equal, TestLemmas.some_same}
 use Rattle.mc_evidence.specs.Made.{IsOfOthers}
-use Rattle.mc_segment.specs.ClassCalls.{linked_event, shifted_event, unlinked_event}
-use Rattle.mc_segment.specs.ClassState.{ClassView}
-use Rattle.mc_segment.specs.Entries.{entry_of}
+use Rattle.mc_segment.specs.{ClassCalls.linked_event, ClassCalls.shifted_event, ClassCalls.unlinked_event, ClassState.ClassView, Entries.entry_of}
 use Rattle.mc_stripe.specs.declared.fate.Fate.{Fate}
 use Rattle.mc_stripe.specs.declared.fate.Fate.TheVariants as fates
 use Rattle.mc_stripe.specs.StripeState.{Stripe}
 use Rattle.mc_pull.specs.declared.parts.Part.{Part}
 use Rattle.mc_pull.specs.declared.parts.Part.TheVariants as parts
 use Rattle.mc_pull.specs.Parts.{gone_part, hit_part, is_cold, is_for, is_here, new_part, number_in, part_events, part_for}
-use Rattle.mc_pull.specs.Perform.{Call, MayAnswer, fate_for}
-use Rattle.mc_pull.specs.Performed.{events_in}
+use Rattle.mc_pull.specs.{Perform.Call, Perform.MayAnswer, Perform.fate_for, Performed.events_in}
 use Rattle.mc_pull.proofs.SightLemmas.{IsElsewhere, of_one_stripe}
 
 -- no entry has a number that isn't linked yet

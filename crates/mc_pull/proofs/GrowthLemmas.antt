@@ -2,17 +2,11 @@
 use Rattle.std.proofs.Common.{zero, suc, ◌≡◌, ℕ, List, [], ◌∷◌, ◌++◌, Some, None, refl, sym, ap, ◌∙◌, subst, length, append_assoc}
 use Rattle.std.specs.Prelude.{slice_get}
 use Rattle.std.proofs.lemmas.List.{append-nil}
-use Rattle.mc_item.specs.declared.class_event.ClassEvent.{ClassEvent}
-use Rattle.mc_item.specs.declared.config.Config.{Config}
-use Rattle.mc_item.specs.declared.item.Who.{Who}
-use Rattle.mc_item.specs.declared.lists.Seg.{Seg}
+use Rattle.mc_item.specs.declared.{class_event.ClassEvent.ClassEvent, config.Config.Config, item.Who.Who, lists.Seg.Seg}
 use Rattle.mc_segment.specs.declared.surveying.Survey.{Survey}
 use Rattle.mc_segment.specs.ClassState.{ClassView}
-use Rattle.mc_pull.specs.declared.judge.Mode.{Mode}
-use Rattle.mc_pull.specs.declared.judge.Mode.TheVariants.{Plain, Evict, Force}
-use Rattle.mc_pull.specs.Growth.{Grows, Kept}
-use Rattle.mc_pull.specs.Question.{IsSurveyIn, MayWalk, IsClassOf}
-use Rattle.mc_pull.specs.Walker.{Walker, walker_of}
+use Rattle.mc_pull.specs.declared.{judge.Mode.Mode, judge.Mode.TheVariants.Plain, judge.Mode.TheVariants.Evict, judge.Mode.TheVariants.Force}
+use Rattle.mc_pull.specs.{Growth.Grows, Growth.Kept, Question.IsSurveyIn, Question.MayWalk, Question.IsClassOf, Walker.Walker, Walker.walker_of}
 
 pub grows_itself : (c : ClassView) → Grows c c
 grows_itself c = record { same = refl; events = []; history_is = sym (append-nil c.history) }

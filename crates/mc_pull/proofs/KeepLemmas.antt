@@ -2,27 +2,14 @@
 use Rattle.std.proofs.Common.{◌≡◌, ◌≢◌, ◌++◌, ◌∷◌, [], List, Result, Ok, Err, sym, ap, subst, length}
 use Rattle.std.specs.Prelude.{IfOk, OnErr}
 use Rattle.mc_item.specs.Stripe.{IsLegal}
-use Rattle.mc_item.specs.declared.answer.Site.{Site}
-use Rattle.mc_item.specs.declared.class_event.ClassEvent.{ClassEvent}
-use Rattle.mc_item.specs.declared.fault.Fault.{Fault}
-use Rattle.mc_item.specs.declared.item.ClassNo.{ClassNo}
-use Rattle.mc_item.specs.declared.stripe_event.StripeEvent.{StripeEvent}
-use Rattle.mc_rule.specs.Agreement.{Agree}
-use Rattle.mc_rule.specs.Cited.{IsSuited}
-use Rattle.mc_rule.specs.Evidence.{IsBacked, IsTold}
-use Rattle.mc_rule.specs.Lawful.{IsLawfulHistoryByLists}
-use Rattle.mc_rule.specs.Places.{Each}
-use Rattle.mc_rule.specs.Segment.{Rule}
+use Rattle.mc_item.specs.declared.{answer.Site.Site, class_event.ClassEvent.ClassEvent, fault.Fault.Fault, item.ClassNo.ClassNo}
+use Rattle.mc_item.specs.declared.{stripe_event.StripeEvent.StripeEvent}
+use Rattle.mc_rule.specs.{Agreement.Agree, Cited.IsSuited, Evidence.IsBacked, Evidence.IsTold, Lawful.IsLawfulHistoryByLists, Places.Each, Segment.Rule}
 use Rattle.mc_rule.proofs.PlaceLemmas.{each_push}
-use Rattle.mc_evidence.proofs.CitedLemmas.{all_suited_later}
-use Rattle.mc_evidence.proofs.GrowLemmas.{stripe_push}
+use Rattle.mc_evidence.proofs.{CitedLemmas.all_suited_later, GrowLemmas.stripe_push}
 use Rattle.mc_segment.specs.ClassState.{ClassView, with_room}
-use Rattle.mc_stripe.specs.StripeCalls.{KeepsSite}
-use Rattle.mc_stripe.specs.StripeState.{Stripe, cache_now}
-use Rattle.mc_pull.specs.Agreeing.{AgreeNow, KeepsAgreement}
-use Rattle.mc_pull.specs.Judgement.{done_of}
-use Rattle.mc_pull.specs.Question.{Question}
-use Rattle.mc_pull.specs.Sight.{KeepsSight}
+use Rattle.mc_stripe.specs.{StripeCalls.KeepsSite, StripeState.Stripe, StripeState.cache_now}
+use Rattle.mc_pull.specs.{Agreeing.AgreeNow, Agreeing.KeepsAgreement, Judgement.done_of, Question.Question, Sight.KeepsSight}
 use Rattle.mc_pull.specs.Settled.{IsSettled, class_events, class_with, stripe_events}
 use Rattle.mc_pull.specs.declared.judge.Done.{Done}
 use Rattle.mc_pull.proofs.SettledLemmas.{settled_agrees, settled_far, settled_spares}

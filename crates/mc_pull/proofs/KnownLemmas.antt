@@ -2,35 +2,19 @@
 use Rattle.std.proofs.Common.{◌≡◌, ◌≢◌, ℕ, Bool, true, false, Some, None, Option, refl, sym, ap, ◌∙◌, subst, arith}
 use Rattle.std.specs.Prelude.{IsSome, IsSomeAnd, if◌then◌else◌, option_map, ◌==◌, ◌&&◌}
 use Rattle.std.proofs.lemmas.Bool.Decides.{nat_tests}
-use Rattle.mc_item.specs.Item.{is_dead}
-use Rattle.mc_item.specs.Measure.{stripe_of}
-use Rattle.mc_item.specs.Stripe.{IsLegal}
-use Rattle.mc_item.specs.declared.config.Config.{Config}
-use Rattle.mc_item.specs.declared.item.ClassNo.{ClassNo}
-use Rattle.mc_item.specs.declared.item.Item.{Item}
-use Rattle.mc_item.specs.declared.item.Link.{Link}
-use Rattle.mc_item.specs.declared.lists.Entry.{Entry}
-use Rattle.mc_item.specs.declared.lists.Seg.{Seg}
+use Rattle.mc_item.specs.{Item.is_dead, Measure.stripe_of, Stripe.IsLegal}
+use Rattle.mc_item.specs.declared.{config.Config.Config, item.ClassNo.ClassNo, item.Item.Item, item.Link.Link, lists.Entry.Entry, lists.Seg.Seg}
 use Rattle.mc_item.specs.declared.lists.Seg.TheVariants as segs
-use Rattle.mc_rule.specs.Belonging.{IsItemFor}
-use Rattle.mc_rule.specs.Lawful.{IsLawfulHistoryByLists, IsListed}
+use Rattle.mc_rule.specs.{Belonging.IsItemFor, Lawful.IsLawfulHistoryByLists, Lawful.IsListed, Pairs.IsKeyOf, Pairs.link_to, Segment.Rule}
 use Rattle.mc_rule.specs.Lists.{Lists, found, lists_of}
-use Rattle.mc_rule.specs.Pairs.{IsKeyOf, link_to}
-use Rattle.mc_rule.specs.Segment.{Rule}
 use Rattle.mc_evidence.proofs.ExactLemmas.{item_of_entry}
-use Rattle.mc_segment.specs.ClassState.{ClassView}
-use Rattle.mc_segment.specs.Entries.{entry_of}
+use Rattle.mc_segment.specs.{ClassState.ClassView, Entries.entry_of}
 use Rattle.mc_stripe.specs.StripeState.{Stripe, cache_now}
-use Rattle.mc_pull.specs.declared.judge.Done.{Done}
+use Rattle.mc_pull.specs.declared.{judge.Done.Done, judge.Judge.Judge, judge.Judge.TheVariants.Dead, judge.Judge.TheVariants.Walk, judge.Mode.Mode}
 use Rattle.mc_pull.specs.declared.judge.Done.TheVariants as done
-use Rattle.mc_pull.specs.declared.judge.Judge.{Judge}
-use Rattle.mc_pull.specs.declared.judge.Judge.TheVariants.{Dead, Walk}
-use Rattle.mc_pull.specs.declared.judge.Mode.{Mode}
 use Rattle.mc_pull.specs.declared.judge.Mode.TheVariants.{Evict, Force, Plain}
-use Rattle.mc_pull.specs.Agreeing.{AgreeNow}
+use Rattle.mc_pull.specs.{Agreeing.AgreeNow, Outcome.is_due, Outcome.outcome_of, Question.HasKeyOf, Question.Question}
 use Rattle.mc_pull.specs.Judgement.{done_by, done_if, done_of, done_with, has_link}
-use Rattle.mc_pull.specs.Outcome.{is_due, outcome_of}
-use Rattle.mc_pull.specs.Question.{HasKeyOf, Question}
 
 -- what is no stranger's outcome
 abbrev is_known : Done → Bool

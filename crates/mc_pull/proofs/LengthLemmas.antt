@@ -1,23 +1,15 @@
 -- How many entries events take of a list: each at most one; and an answer that takes none may pass one.
 use Rattle.std.proofs.Common.{suc, ◌≡◌, ◌+◌, ◌≤◌, ℕ, List, [], ◌∷◌, ◌++◌, Bool, true, false, Option, Some, None, refl, sym, subst, length, arith}
 use Rattle.std.specs.Prelude.{◌==◌, if◌then◌else◌}
-use Rattle.mc_item.specs.declared.class_event.ClassEvent.{ClassEvent}
+use Rattle.mc_item.specs.declared.{class_event.ClassEvent.ClassEvent, class_event.Why.Why, lists.Entry.Entry, lists.Seg.Seg}
 use Rattle.mc_item.specs.declared.class_event.ClassEvent.TheVariants as events
-use Rattle.mc_item.specs.declared.class_event.Why.{Why}
-use Rattle.mc_item.specs.declared.lists.Entry.{Entry}
-use Rattle.mc_item.specs.declared.lists.Seg.{Seg}
 use Rattle.mc_item.specs.declared.lists.Seg.TheVariants.{Hot, Warm, Cold, Temp}
 use Rattle.mc_segment.specs.ClassState.{ClassView}
 use Rattle.mc_rule.specs.Lists.{Lists, list_of, with_list, find, without, linked, moved_entry, lists_after, lists_from, lists_of, entry, time_after}
-use Rattle.mc_pull.specs.declared.judge.Done.{Done}
+use Rattle.mc_pull.specs.declared.{judge.Done.Done, judge.Judge.Judge, judge.Judge.TheVariants.Walk, judge.Judge.TheVariants.Dead, looking.Judged.Judged}
+use Rattle.mc_pull.specs.declared.{pulled.Pulled.Pulled}
 use Rattle.mc_pull.specs.declared.judge.Done.TheVariants as done
-use Rattle.mc_pull.specs.declared.judge.Judge.{Judge}
-use Rattle.mc_pull.specs.declared.judge.Judge.TheVariants.{Walk, Dead}
-use Rattle.mc_pull.specs.declared.looking.Judged.{Judged}
-use Rattle.mc_pull.specs.declared.pulled.Pulled.{Pulled}
-use Rattle.mc_pull.specs.Pulled.{counts_after, counts_if}
-use Rattle.mc_pull.specs.Question.{Question}
-use Rattle.mc_pull.specs.Settled.{class_events, warm_events, cold_events}
+use Rattle.mc_pull.specs.{Pulled.counts_after, Pulled.counts_if, Question.Question, Settled.class_events, Settled.warm_events, Settled.cold_events}
 use Rattle.mc_pull.specs.Walk.{Pull, Way, class_at, question_at, events_at}
 
 one_more : (n : ℕ) → n ≤ suc n

@@ -2,27 +2,15 @@
 use Rattle.std.proofs.Common.{◌≡◌, ◌++◌, List, [], ◌∷◌, Option, Some, None, Result, Ok, Err, refl, sym, ap, ◌∙◌, subst, append_assoc}
 use Rattle.std.specs.Prelude.{IfOk, OnErr}
 use Rattle.std.proofs.lemmas.List.{append-nil}
-use Rattle.mc_item.specs.declared.answer.Site.{Site}
-use Rattle.mc_item.specs.declared.class_event.ClassEvent.{ClassEvent}
+use Rattle.mc_item.specs.declared.{answer.Site.Site, class_event.ClassEvent.ClassEvent, class_event.Surveyed.Surveyed, fault.Fault.Fault, item.ClassNo.ClassNo}
+use Rattle.mc_item.specs.declared.{lists.Entry.Entry, stripe_event.StripeEvent.StripeEvent}
 use Rattle.mc_item.specs.declared.class_event.ClassEvent.TheVariants as entries
-use Rattle.mc_item.specs.declared.class_event.Surveyed.{Surveyed}
-use Rattle.mc_item.specs.declared.fault.Fault.{Fault}
-use Rattle.mc_item.specs.declared.item.ClassNo.{ClassNo}
-use Rattle.mc_item.specs.declared.lists.Entry.{Entry}
-use Rattle.mc_item.specs.declared.stripe_event.StripeEvent.{StripeEvent}
-use Rattle.mc_rule.specs.Agreement.{Agree}
-use Rattle.mc_rule.specs.Lists.{lists_of}
-use Rattle.mc_rule.specs.Segment.{Rule}
+use Rattle.mc_rule.specs.{Agreement.Agree, Lists.lists_of, Segment.Rule}
 use Rattle.mc_evidence.proofs.AgreeLemmas.{agree_surveyed}
-use Rattle.mc_segment.specs.ClassState.{ClassView, with_room}
-use Rattle.mc_segment.specs.Entries.{entry_of}
-use Rattle.mc_stripe.specs.StripeCalls.{KeepsSite}
-use Rattle.mc_stripe.specs.StripeState.{Stripe}
-use Rattle.mc_pull.specs.Agreeing.{KeepsAgreement}
-use Rattle.mc_pull.specs.Lone.{AreMadeBy, Walked}
-use Rattle.mc_pull.specs.Question.{Question}
+use Rattle.mc_segment.specs.{ClassState.ClassView, ClassState.with_room, Entries.entry_of}
+use Rattle.mc_stripe.specs.{StripeCalls.KeepsSite, StripeState.Stripe}
+use Rattle.mc_pull.specs.{Agreeing.KeepsAgreement, Lone.AreMadeBy, Lone.Walked, Question.Question, Walker.Walker, Walker.walker_of}
 use Rattle.mc_pull.specs.Settled.{IsSettled, events_with, stripe_events}
-use Rattle.mc_pull.specs.Walker.{Walker, walker_of}
 use Rattle.mc_pull.specs.declared.judge.Done.{Done}
 use Rattle.mc_pull.specs.declared.judge.Done.TheVariants as done
 

@@ -3,33 +3,20 @@ use Rattle.std.proofs.Common.{◌≡◌, ◌<◌, ◌≤◌, ℕ, List, Bool, tr
 use Rattle.std.specs.Prelude.{◌||◌, nat_lt, if◌then◌else◌, IsSomeAnd}
 use Rattle.std.specs.Option.{option_map}
 use Rattle.std.proofs.lemmas.Bool.Decides.{nat_tests}
-use Rattle.mc_item.specs.declared.class_event.Why.{Why}
+use Rattle.mc_item.specs.declared.{class_event.Why.Why, item.Item.Item, item.Who.Who, lists.Entry.Entry, lists.Seg.Seg, lists.Seg.TheVariants.Hot}
+use Rattle.mc_item.specs.declared.{lists.Seg.TheVariants.Warm, lists.Seg.TheVariants.Cold, lists.Seg.TheVariants.Temp, class_event.Surveyed.Surveyed}
 use Rattle.mc_item.specs.declared.class_event.Why.TheVariants as whys
-use Rattle.mc_item.specs.declared.item.Item.{Item}
-use Rattle.mc_item.specs.declared.item.Who.{Who}
-use Rattle.mc_item.specs.declared.lists.Entry.{Entry}
-use Rattle.mc_item.specs.declared.lists.Seg.{Seg}
-use Rattle.mc_item.specs.declared.lists.Seg.TheVariants.{Hot, Warm, Cold, Temp}
-use Rattle.mc_item.specs.Cache.{Cache}
-use Rattle.mc_item.specs.Item.{is_dead}
-use Rattle.mc_rule.specs.Lawful.{IsSurveyed, IsIn, IsOlder}
-use Rattle.mc_item.specs.declared.class_event.Surveyed.{Surveyed}
+use Rattle.mc_item.specs.{Cache.Cache, Item.is_dead}
+use Rattle.mc_rule.specs.{Lawful.IsSurveyed, Lawful.IsIn, Lawful.IsOlder, Segment.IsNearTail, Segment.greatest_age_of}
 use Rattle.mc_segment.specs.declared.surveying.Survey.{Survey}
 use Rattle.mc_rule.specs.Lists.{Lists, list_of, lists_of, find, found, found_in, segment_of, IsFull}
-use Rattle.mc_rule.specs.Segment.{IsNearTail, greatest_age_of}
-use Rattle.mc_segment.specs.ClassCalls.{shifted_event, MayCome}
-use Rattle.mc_segment.specs.ClassState.{ClassView}
-use Rattle.mc_segment.specs.Entries.{entry_of}
-use Rattle.mc_pull.specs.declared.judge.Done.{Done}
+use Rattle.mc_segment.specs.{ClassCalls.shifted_event, ClassCalls.MayCome, ClassState.ClassView, Entries.entry_of}
+use Rattle.mc_pull.specs.declared.{judge.Done.Done, judge.Judge.Judge, judge.Judge.TheVariants.Walk, judge.Judge.TheVariants.Dead, judge.Mode.Mode}
+use Rattle.mc_pull.specs.declared.{judge.Mode.TheVariants.Plain, judge.Mode.TheVariants.Evict, judge.Mode.TheVariants.Force}
 use Rattle.mc_pull.specs.declared.judge.Done.TheVariants as done
-use Rattle.mc_pull.specs.declared.judge.Judge.{Judge}
-use Rattle.mc_pull.specs.declared.judge.Judge.TheVariants.{Walk, Dead}
-use Rattle.mc_pull.specs.declared.judge.Mode.{Mode}
-use Rattle.mc_pull.specs.declared.judge.Mode.TheVariants.{Plain, Evict, Force}
 use Rattle.mc_pull.specs.Outcome.{outcome_of, is_over, is_old, is_due, cold_why}
 use Rattle.mc_pull.specs.Judgement.{done_of, done_with, done_if, done_by, has_link}
-use Rattle.mc_pull.specs.Question.{Question, question, MayJudge, MayJudgeBy}
-use Rattle.mc_pull.specs.Settled.{passed_of}
+use Rattle.mc_pull.specs.{Question.Question, Question.question, Question.MayJudge, Question.MayJudgeBy, Settled.passed_of}
 
 -- ---- the table, read backwards
 -- when an entry goes to COLD

@@ -2,17 +2,12 @@
 use Rattle.std.proofs.Common.{ℕ, ◌≡◌, ◌∷◌, Bool, true, false, List, refl, sym, ap, ◌∙◌, subst}
 use Rattle.std.specs.Prelude.{Option, Some, None, if◌then◌else◌, IsSome, ◌==◌}
 use Rattle.std.proofs.lemmas.Bool.{false≢true}
-use Rattle.mc_item.specs.declared.lists.Entry.{Entry}
-use Rattle.mc_item.specs.declared.lists.Seg.{Seg}
-use Rattle.mc_item.specs.declared.lists.Seg.TheVariants.{Hot, Warm, Cold, Temp}
-use Rattle.mc_rule.specs.Lists.{Lists, find, found_in, linked}
-use Rattle.mc_rule.specs.Lawful.{IsListed}
-use Rattle.mc_item.specs.declared.item.Expiry.{Expiry}
-use Rattle.mc_item.specs.declared.reply.Room.{Room}
-use Rattle.mc_rule.specs.Lists.{lists_of, segment_of}
+use Rattle.mc_item.specs.declared.{lists.Entry.Entry, lists.Seg.Seg, lists.Seg.TheVariants.Hot, lists.Seg.TheVariants.Warm, lists.Seg.TheVariants.Cold}
+use Rattle.mc_item.specs.declared.{lists.Seg.TheVariants.Temp, item.Expiry.Expiry, reply.Room.Room}
+use Rattle.mc_rule.specs.{Lists.Lists, Lists.find, Lists.found_in, Lists.linked, Lawful.IsListed, Lists.lists_of, Lists.segment_of}
 use Rattle.mc_segment.specs.ClassState.{ClassView}
-use Rattle.mc_stripe.specs.declared.fate.Fate.{Fate}
-use Rattle.mc_stripe.specs.declared.fate.Fate.TheVariants.{Untouched, Renewed, Goes, Woken}
+use Rattle.mc_stripe.specs.declared.{fate.Fate.Fate, fate.Fate.TheVariants.Untouched, fate.Fate.TheVariants.Renewed, fate.Fate.TheVariants.Goes}
+use Rattle.mc_stripe.specs.declared.{fate.Fate.TheVariants.Woken}
 use Rattle.mc_pull.specs.Parts.{Copies, gone_part, hit_part, is_cold, is_here, new_part, number_in, part_for}
 use Rattle.mc_pull.specs.declared.parts.Part.{Part}
 use Rattle.mc_pull.specs.declared.parts.Part.TheVariants as parts

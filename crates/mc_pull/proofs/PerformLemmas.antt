@@ -2,34 +2,20 @@
 use Rattle.std.proofs.Common.{ℕ, ◌≡◌, ◌+◌, ◌++◌, ◌&&◌, ◌∷◌, Bool, true, false, not, List, refl, sym, ap, ◌∙◌, subst, inl, inr}
 use Rattle.std.specs.Prelude.{Option, Some, None, if◌then◌else◌, IsSomeAnd, nat_eq, [], ◌||◌, ◌⊎◌}
 use Rattle.std.specs.Cmp.Lexicographic.{pointwise}
-use Rattle.std.proofs.lemmas.Cmp.{nat_list_eq_equiv}
-use Rattle.std.proofs.lemmas.Bool.{false≢true}
-use Rattle.mc_item.specs.Cache.{Cache, changed}
-use Rattle.mc_item.specs.Command.{key_of}
-use Rattle.mc_item.specs.Stripe.{cache_of, cache_after}
-use Rattle.mc_item.specs.declared.answer.Change.{Change}
+use Rattle.std.proofs.lemmas.{Cmp.nat_list_eq_equiv, Bool.false≢true}
+use Rattle.mc_item.specs.{Cache.Cache, Cache.changed, Command.key_of, Stripe.cache_of, Stripe.cache_after}
+use Rattle.mc_item.specs.declared.{answer.Change.Change, answer.Site.Site, class_event.ClassEvent.ClassEvent, item.Expiry.Expiry, item.Item.Item}
+use Rattle.mc_item.specs.declared.{item.Link.Link, item.Who.Who, reply.Reply.Reply, reply.Room.Room, stripe_event.StripeEvent.StripeEvent}
 use Rattle.mc_item.specs.declared.answer.Change.TheVariants as changes
-use Rattle.mc_item.specs.declared.answer.Site.{Site}
-use Rattle.mc_item.specs.declared.class_event.ClassEvent.{ClassEvent}
-use Rattle.mc_item.specs.declared.item.Expiry.{Expiry}
-use Rattle.mc_item.specs.declared.item.Item.{Item}
-use Rattle.mc_item.specs.declared.item.Link.{Link}
-use Rattle.mc_item.specs.declared.item.Who.{Who}
-use Rattle.mc_item.specs.declared.reply.Reply.{Reply}
-use Rattle.mc_item.specs.declared.reply.Room.{Room}
-use Rattle.mc_item.specs.declared.stripe_event.StripeEvent.{StripeEvent}
 use Rattle.mc_item.specs.declared.stripe_event.StripeEvent.TheVariants as stripe_event
 use Rattle.mc_item.proofs.StripeLemmas.{cache_of-push}
 use Rattle.mc_segment.specs.ClassState.{ClassView, with_room}
 use Rattle.mc_stripe.specs.declared.fate.Fate.TheVariants as fates
-use Rattle.mc_stripe.specs.Plan.{fate_of}
-use Rattle.mc_stripe.specs.StripeState.{Stripe, cache_now}
+use Rattle.mc_stripe.specs.{Plan.fate_of, StripeState.Stripe, StripeState.cache_now}
 use Rattle.mc_pull.specs.declared.parts.Part.{Part}
 use Rattle.mc_pull.specs.declared.parts.Part.TheVariants as parts
 use Rattle.mc_pull.specs.Parts.{part_for, part_events, new_part, gone_part, is_warming, number_in, is_here}
-use Rattle.mc_pull.specs.Perform.{Call, item_before, answer_to}
-use Rattle.mc_pull.specs.Performed.{part_in, is_cooling}
-use Rattle.mc_pull.specs.Settled.{class_with}
+use Rattle.mc_pull.specs.{Perform.Call, Perform.item_before, Perform.answer_to, Performed.part_in, Performed.is_cooling, Settled.class_with}
 
 -- ---- a part that warms an entry is that of a hit that leaves the item ACTIVE
 pub not_new : (key : List ℕ) (cost : ℕ) (expiry : Expiry) (b : Bool) (o : Option ℕ) → is_warming (new_part key cost expiry b o) ≡ false

@@ -2,48 +2,26 @@
 use Rattle.std.proofs.Common.{◌≡◌, ◌≢◌, ◌&&◌, ◌++◌, ℕ, List, [], ◌∷◌, Bool, true, false, not, refl, sym, ap, ◌∙◌, subst, inl, inr, ◌⊎◌}
 use Rattle.std.specs.Prelude.{Option, Some, None, if◌then◌else◌, ◌||◌}
 use Rattle.std.proofs.lemmas.Bool.{false≢true}
-use Rattle.mc_item.specs.Cache.{changed, counted, marked, touched}
-use Rattle.mc_item.specs.Item.{link_of_item}
-use Rattle.mc_item.specs.Stripe.{IsLegal, link_of}
-use Rattle.mc_item.specs.declared.answer.Change.{Change}
+use Rattle.mc_item.specs.{Cache.changed, Cache.counted, Cache.marked, Cache.touched, Item.link_of_item, Stripe.IsLegal, Stripe.link_of}
+use Rattle.mc_item.specs.declared.{answer.Change.Change, answer.Site.Site, class_event.ClassEvent.ClassEvent, config.Config.Config, item.ClassNo.ClassNo}
+use Rattle.mc_item.specs.declared.{item.Item.Item, item.Link.Link, reply.Room.Room, stripe_event.StripeEvent.StripeEvent}
 use Rattle.mc_item.specs.declared.answer.Change.TheVariants as changes
-use Rattle.mc_item.specs.declared.answer.Site.{Site}
-use Rattle.mc_item.specs.declared.class_event.ClassEvent.{ClassEvent}
-use Rattle.mc_item.specs.declared.config.Config.{Config}
-use Rattle.mc_item.specs.declared.item.ClassNo.{ClassNo}
-use Rattle.mc_item.specs.declared.item.Item.{Item}
-use Rattle.mc_item.specs.declared.item.Link.{Link}
-use Rattle.mc_item.specs.declared.reply.Room.{Room}
-use Rattle.mc_item.specs.declared.stripe_event.StripeEvent.{StripeEvent}
-use Rattle.mc_rule.specs.Agreement.{Agree}
-use Rattle.mc_rule.specs.Cited.{IsSuited}
-use Rattle.mc_rule.specs.Evidence.{IsBacked, IsTold}
-use Rattle.mc_rule.specs.Lawful.{IsLawfulHistoryByLists}
-use Rattle.mc_rule.specs.Lists.{lists_of}
-use Rattle.mc_rule.specs.Pairs.{item_after, link_to}
-use Rattle.mc_rule.specs.Places.{Each as EachEvent}
-use Rattle.mc_rule.specs.Segment.{Rule}
+use Rattle.mc_rule.specs.{Agreement.Agree, Cited.IsSuited, Evidence.IsBacked, Evidence.IsTold, Lawful.IsLawfulHistoryByLists, Lists.lists_of, Pairs.item_after}
+use Rattle.mc_rule.specs.{Pairs.link_to, Places.Each as EachEvent, Segment.Rule}
 use Rattle.mc_rule.proofs.TestLemmas.{by_eq, none_some, some_same}
 use Rattle.mc_evidence.specs.Made.{IsGivenNone, LetsNoneGo}
 use Rattle.mc_evidence.proofs.AgreeLemmas.{agree_neither}
-use Rattle.mc_segment.specs.ClassState.{ClassView}
-use Rattle.mc_segment.specs.Entries.{entry_of}
-use Rattle.mc_stripe.specs.Plan.{fate_of, gone_fate}
-use Rattle.mc_stripe.specs.StripeCalls.{KeepsSite}
-use Rattle.mc_stripe.specs.StripeState.{Stripe}
+use Rattle.mc_segment.specs.{ClassState.ClassView, Entries.entry_of}
+use Rattle.mc_stripe.specs.{Plan.fate_of, Plan.gone_fate, StripeCalls.KeepsSite, StripeState.Stripe}
 use Rattle.mc_stripe.specs.declared.fate.Fate.TheVariants as fates
-use Rattle.mc_pull.specs.Agreeing.{AgreeNow, HasRefusal, IsApart, KeepsAgreements}
-use Rattle.mc_pull.specs.Lent.{AreDistinct, Each, EachPair, IsLent, IsLentIf}
+use Rattle.mc_pull.specs.{Agreeing.AgreeNow, Agreeing.HasRefusal, Agreeing.IsApart, Agreeing.KeepsAgreements, Lent.AreDistinct, Lent.Each, Lent.EachPair}
+use Rattle.mc_pull.specs.{Lent.IsLent, Lent.IsLentIf, Sight.BacksStill, Sight.KeepsSights, Sight.SuitsStill}
 use Rattle.mc_pull.specs.Parts.{hit_part, is_for, is_here, is_warming, number_in, part_for}
 use Rattle.mc_pull.specs.Perform.{AreLent, Call, GivesRoom, MayPerform, answer_to, item_before}
 use Rattle.mc_pull.specs.Performed.{GainsPart, IsPerformed, IsUntouched, Stays, events_in, events_on_stripe, is_cooling, part_in}
 use Rattle.mc_pull.proofs.CallLemmas.{AgreesWith, after_is, did, given_none, kept_link, key, neither_told, noted, placed, refused_there, spared_if_apart, spared_if_kept, still_agrees, still_told}
-use Rattle.mc_pull.proofs.ClassPartLemmas.{part_agrees}
-use Rattle.mc_pull.specs.Sight.{BacksStill, KeepsSights, SuitsStill}
-use Rattle.mc_pull.proofs.FarPartLemmas.{IsNumbered, part_far}
-use Rattle.mc_pull.proofs.PerformLemmas.{not_gone, not_new}
-use Rattle.mc_pull.proofs.PlacedLemmas.{IsPlaced}
-use Rattle.mc_pull.proofs.SightLemmas.{backed_on, suited_on}
+use Rattle.mc_pull.proofs.{ClassPartLemmas.part_agrees, FarPartLemmas.IsNumbered, FarPartLemmas.part_far, PerformLemmas.not_gone, PerformLemmas.not_new}
+use Rattle.mc_pull.proofs.{PlacedLemmas.IsPlaced, SightLemmas.backed_on, SightLemmas.suited_on}
 
 -- ---- the classes of a list
 abbrev pub IsOf : ClassView → List ClassView → Type 0

@@ -1,15 +1,9 @@
 -- One round more.
-use Rattle.std.proofs.Common.{suc, ◌≡◌, ℕ, ◌+◌, List, [], ◌++◌, Bool, true, false, ◌<◌, inl, inr, refl, sym, ap, ◌∙◌, subst, arith, append_assoc}
-use Rattle.mc_item.specs.declared.class_event.ClassEvent.{ClassEvent}
-use Rattle.mc_pull.specs.declared.looking.Answer.{Answer}
-use Rattle.mc_item.specs.declared.lists.Seg.{Seg}
-use Rattle.mc_item.specs.declared.lists.Seg.TheVariants.{Hot, Cold}
+use Rattle.std.proofs.Common.{suc, ◌≡◌, ℕ, ◌+◌, List, [], ◌++◌, Bool, true, false, inl, refl, sym, ap, ◌∙◌, subst, arith, append_assoc}
+use Rattle.mc_item.specs.declared.{class_event.ClassEvent.ClassEvent, lists.Seg.Seg, lists.Seg.TheVariants.Cold}
+use Rattle.mc_pull.specs.declared.{looking.Answer.Answer, judge.Mode.Mode, judge.Mode.TheVariants.Evict, pulled.Pulled.Pulled}
 use Rattle.std.proofs.lemmas.List.{append-nil}
-use Rattle.mc_pull.specs.declared.judge.Mode.{Mode}
-use Rattle.mc_pull.specs.declared.judge.Mode.TheVariants.{Evict, Force}
-use Rattle.mc_pull.specs.declared.pulled.Pulled.{Pulled}
-use Rattle.mc_pull.specs.Juggle.{Juggling, JuggleStep, Adds, IsJuggled}
-use Rattle.mc_pull.specs.Pulled.{sum_of, did_something, plus}
+use Rattle.mc_pull.specs.{Juggle.Juggling, Juggle.JuggleStep, Juggle.Adds, Juggle.IsJuggled, Pulled.sum_of, Pulled.did_something, Pulled.plus}
 use Rattle.mc_pull.specs.Rounds.{Rounds, Repeats, Walks, ForcesHot, IsRoomRound, is_free}
 
 -- steps so far, with the answers that a gate has given for them
@@ -17,9 +11,6 @@ pub record OnRounds {S : Type 0} (Step : S → List Answer → S → Type 0) (ol
   pub xs : List Answer
   pub answers : new ≡ old ++ xs
   pub each : Repeats Step times first xs now
-
-pub rounds_begin : {S : Type 0} (Step : S → List Answer → S → Type 0) (old : List Answer) (first : S) → old ≡ old ++ [] → OnRounds Step old old first first 0
-rounds_begin Step old first none = record { xs = []; answers = none; each = (refl, refl) }
 
 pub rounds_more : {S : Type 0} {Step : S → List Answer → S → Type 0} {old new later : List Answer} {first now next : S} {times more : ℕ} (zs : List Answer)
     → OnRounds Step old new first now times → later ≡ new ++ zs → Step now zs next → more ≡ suc times → OnRounds Step old later first next more
@@ -55,22 +46,6 @@ module _ (r : Rounds) (old mid : List Answer) (before between : List ClassEvent)
     },
   )
 
-  pub room_hot : (new : List Answer) (after : List ClassEvent) (forced : Pulled) → did_something pulled ≡ false → Walked r Hot Force mid new between after forced → RoundMade r old new before after
-  room_hot new after forced nothing hot = (
-    cold.0 ++ hot.0,
-    hot.1 ∙ (ap (λ (ys : List Answer). ys ++ hot.0) cold.1 ∙ append_assoc old cold.0 hot.0),
-    record {
-      full = full;
-      cold = cold.0;
-      hot = hot.0;
-      between = between;
-      pulled = pulled;
-      cold_is = cold.2;
-      hot_is = subst (λ (b : Bool). ForcesHot r b between hot.0 after) (sym nothing) (forced, hot.2);
-      answers = refl;
-    },
-  )
-
 -- ---- juggling
 pub plus_sum : (p q : Pulled) → sum_of (plus p q) ≡ sum_of p + sum_of q
 plus_sum p q = omega arith
@@ -85,12 +60,4 @@ module _ {Step : JuggleStep} {old new : List Answer} {first now : Juggling} {tim
     on.xs,
     on.answers,
     record { times = times; between = now; most = on.xs; last = []; each = on.each; end = inl (full, refl, refl); answers = sym (append-nil on.xs) },
-  )
-
-  -- the last round did nothing
-  pub juggled_end : (later zs : List Answer) (last : Juggling) → times < 500 → later ≡ new ++ zs → Adds Step false now zs last → JuggledBy Step old later first last
-  juggled_end later zs last few is idle = (
-    on.xs ++ zs,
-    is ∙ (ap (λ (ys : List Answer). ys ++ zs) on.answers ∙ append_assoc old on.xs zs),
-    record { times = times; between = now; most = on.xs; last = zs; each = on.each; end = inr (few, idle); answers = refl },
   )

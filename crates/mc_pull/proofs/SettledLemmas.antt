@@ -3,46 +3,24 @@ use Rattle.std.proofs.Common.{◌≡◌, ◌≢◌, ℕ, List, [], ◌∷◌, �
 use Rattle.std.specs.Prelude.{◌==◌, ◌&&◌, if◌then◌else◌, IsSomeAnd}
 use Rattle.std.specs.Option.{option_map}
 use Rattle.std.proofs.lemmas.Bool.Decides.{nat_tests}
-use Rattle.mc_item.specs.Item.{is_dead, link_of_item}
-use Rattle.mc_item.specs.Measure.{cost_of}
-use Rattle.mc_item.specs.Stripe.{cache_of, IsLegal}
-use Rattle.mc_item.specs.declared.answer.Site.{Site}
-use Rattle.mc_item.specs.declared.class_event.ClassEvent.{ClassEvent}
-use Rattle.mc_item.specs.declared.class_event.Shifted.{Shifted}
+use Rattle.mc_item.specs.{Item.is_dead, Item.link_of_item, Measure.cost_of, Stripe.cache_of, Stripe.IsLegal}
+use Rattle.mc_item.specs.declared.{answer.Site.Site, class_event.ClassEvent.ClassEvent, class_event.Shifted.Shifted, item.ClassNo.ClassNo, item.Item.Item}
+use Rattle.mc_item.specs.declared.{item.Link.Link, lists.Entry.Entry, lists.Seg.Seg, lists.Seg.TheVariants.Warm, lists.Seg.TheVariants.Cold}
+use Rattle.mc_item.specs.declared.{stripe_event.StripeEvent.StripeEvent}
 use Rattle.mc_item.specs.declared.class_event.Why.TheVariants as whys
-use Rattle.mc_item.specs.declared.item.ClassNo.{ClassNo}
-use Rattle.mc_item.specs.declared.item.Item.{Item}
-use Rattle.mc_item.specs.declared.item.Link.{Link}
-use Rattle.mc_item.specs.declared.lists.Entry.{Entry}
-use Rattle.mc_item.specs.declared.lists.Seg.{Seg}
-use Rattle.mc_item.specs.declared.lists.Seg.TheVariants.{Warm, Cold}
-use Rattle.mc_item.specs.declared.stripe_event.StripeEvent.{StripeEvent}
-use Rattle.mc_rule.specs.Agreement.{Agree}
-use Rattle.mc_rule.specs.Belonging.{Belong}
-use Rattle.mc_rule.specs.Evidence.{IsTold}
-use Rattle.mc_rule.specs.Lawful.{IsLawfulHistoryByLists, SuitsMove}
-use Rattle.mc_rule.specs.Lists.{found, lists_of}
-use Rattle.mc_rule.specs.Pairs.{link_to, item_after, ClearsMark, IsKeyOf}
-use Rattle.mc_rule.specs.Segment.{Rule}
+use Rattle.mc_rule.specs.{Agreement.Agree, Belonging.Belong, Evidence.IsTold, Lawful.IsLawfulHistoryByLists, Lawful.SuitsMove, Lists.found, Lists.lists_of}
+use Rattle.mc_rule.specs.{Pairs.link_to, Pairs.item_after, Pairs.ClearsMark, Pairs.IsKeyOf, Segment.Rule}
 use Rattle.mc_evidence.specs.Made.{IsOfOthers, lost_to, lost_at, cooled_as}
-use Rattle.mc_evidence.proofs.AgreeLemmas.{agree_evicted, agree_reclaimed, agree_cooled, agree_moved}
-use Rattle.mc_evidence.proofs.RowLemmas.{held}
-use Rattle.mc_evidence.proofs.SizedLemmas.{key_of_stripe}
-use Rattle.mc_segment.specs.ClassCalls.{evicted_event, reclaimed_event, shifted_event}
-use Rattle.mc_segment.specs.ClassState.{ClassView}
-use Rattle.mc_segment.specs.Entries.{entry_of}
-use Rattle.mc_pull.specs.declared.judge.Done.{Done}
+use Rattle.mc_evidence.proofs.{AgreeLemmas.agree_evicted, AgreeLemmas.agree_reclaimed, AgreeLemmas.agree_cooled, AgreeLemmas.agree_moved, RowLemmas.held}
+use Rattle.mc_evidence.proofs.{SizedLemmas.key_of_stripe}
+use Rattle.mc_segment.specs.{ClassCalls.evicted_event, ClassCalls.reclaimed_event, ClassCalls.shifted_event, ClassState.ClassView, Entries.entry_of}
+use Rattle.mc_pull.specs.declared.{judge.Done.Done, judge.Judge.Judge, judge.Judge.TheVariants.Walk, judge.Judge.TheVariants.Dead, judge.Mode.Mode}
+use Rattle.mc_pull.specs.declared.{judge.Mode.TheVariants.Plain, judge.Mode.TheVariants.Evict, judge.Mode.TheVariants.Force}
 use Rattle.mc_pull.specs.declared.judge.Done.TheVariants as done
-use Rattle.mc_pull.specs.declared.judge.Judge.{Judge}
-use Rattle.mc_pull.specs.declared.judge.Judge.TheVariants.{Walk, Dead}
-use Rattle.mc_pull.specs.declared.judge.Mode.{Mode}
-use Rattle.mc_pull.specs.declared.judge.Mode.TheVariants.{Plain, Evict, Force}
 use Rattle.mc_pull.specs.Judgement.{done_of, done_with, done_if, done_by, has_link}
-use Rattle.mc_pull.specs.Outcome.{cold_why, is_due, is_over}
-use Rattle.mc_pull.specs.Question.{Question}
+use Rattle.mc_pull.specs.{Outcome.cold_why, Outcome.is_due, Outcome.is_over, Question.Question}
 use Rattle.mc_pull.specs.Settled.{class_events, stripe_events, events_with, passed_of, warm_events, cold_events}
-use Rattle.mc_pull.proofs.OutcomeLemmas.{Means, outcome_means}
-use Rattle.mc_pull.proofs.SightLemmas.{IsElsewhere, entry_of_others, of_one_stripe}
+use Rattle.mc_pull.proofs.{OutcomeLemmas.Means, OutcomeLemmas.outcome_means, SightLemmas.IsElsewhere, SightLemmas.entry_of_others, SightLemmas.of_one_stripe}
 
 some_same : {A : Type 0} (a b : A) → Some a ≡ Some b → a ≡ b
 some_same a b h = cc

@@ -2,24 +2,11 @@
 use Rattle.std.proofs.Common.{◌≡◌, ◌≢◌, ℕ, List, [], ◌∷◌, ◌++◌, sym, ap, ◌∙◌, subst}
 use Rattle.std.specs.Prelude.{Some}
 use Rattle.mc_item.specs.Measure.{stripe_of}
-use Rattle.mc_item.specs.declared.answer.Site.{Site}
-use Rattle.mc_item.specs.declared.class_event.ClassEvent.{ClassEvent}
+use Rattle.mc_item.specs.declared.{answer.Site.Site, class_event.ClassEvent.ClassEvent, class_event.Refused.Refused, class_event.Surveyed.Surveyed}
+use Rattle.mc_item.specs.declared.{item.ClassNo.ClassNo, item.StripeNo.StripeNo, lists.Entry.Entry, lists.Seg.Seg, stripe_event.StripeEvent.StripeEvent}
 use Rattle.mc_item.specs.declared.class_event.ClassEvent.TheVariants as entries
-use Rattle.mc_item.specs.declared.class_event.Refused.{Refused}
-use Rattle.mc_item.specs.declared.class_event.Surveyed.{Surveyed}
-use Rattle.mc_item.specs.declared.item.ClassNo.{ClassNo}
-use Rattle.mc_item.specs.declared.item.StripeNo.{StripeNo}
-use Rattle.mc_item.specs.declared.lists.Entry.{Entry}
-use Rattle.mc_item.specs.declared.lists.Seg.{Seg}
-use Rattle.mc_item.specs.declared.stripe_event.StripeEvent.{StripeEvent}
-use Rattle.mc_rule.specs.Cited.{IsSuited}
-use Rattle.mc_rule.specs.Evidence.{IsBacked}
-use Rattle.mc_rule.specs.Lists.{found, lists_of}
-use Rattle.mc_rule.specs.Pairs.{IsKeyOf}
-use Rattle.mc_rule.specs.Places.{Each}
-use Rattle.mc_rule.specs.Segment.{Rule}
-use Rattle.mc_rule.proofs.PlaceLemmas.{each_push}
-use Rattle.mc_rule.proofs.TestLemmas.{some_same}
+use Rattle.mc_rule.specs.{Cited.IsSuited, Evidence.IsBacked, Lists.found, Lists.lists_of, Pairs.IsKeyOf, Places.Each, Segment.Rule}
+use Rattle.mc_rule.proofs.{PlaceLemmas.each_push, TestLemmas.some_same}
 use Rattle.mc_evidence.specs.Made.{IsOfOthers}
 
 -- a key is of one stripe alone
@@ -72,11 +59,6 @@ module _ (site : Site) (class : ClassNo) (seen : List StripeEvent) where
   suited_on history each x away = each_push (IsSuited site class seen) history x each (suited_elsewhere history x away)
 
   -- ---- a class's own events need nothing of any stripe
-  pub survey_backed : (rule : Rule) (history : List ClassEvent) (e : Surveyed) → Each (IsBacked site rule class seen) history → Each (IsBacked site rule class seen) (history ++ entries.Surveyed e ∷ [])
-  survey_backed rule history e each = backed_on rule history each (entries.Surveyed e) tt
-
-  pub survey_suited : (history : List ClassEvent) (e : Surveyed) → Each (IsSuited site class seen) history → Each (IsSuited site class seen) (history ++ entries.Surveyed e ∷ [])
-  survey_suited history e each = suited_on history each (entries.Surveyed e) tt
 
   pub refusal_backed : (rule : Rule) (history : List ClassEvent) (e : Refused) → Each (IsBacked site rule class seen) history → Each (IsBacked site rule class seen) (history ++ entries.Refused e ∷ [])
   refusal_backed rule history e each = backed_on rule history each (entries.Refused e) tt

@@ -1,8 +1,7 @@
 -- The numbers of a list from its tail, one after the other.
-use Rattle.std.proofs.Common.{◌≡◌, ◌+◌, ℕ, zero, suc, List, [], ◌∷◌, ◌++◌, Some, None, refl, sym, ap, ◌∙◌, take, reverse, length, arith, ◌≤◌}
+use Rattle.std.proofs.Common.{◌≡◌, ◌+◌, ℕ, zero, suc, List, [], ◌∷◌, ◌++◌, Some, None, refl, sym, ap, ◌∙◌, take, reverse, arith}
 use Rattle.std.specs.Prelude.{slice_get}
-use Rattle.std.proofs.lemmas.List.{reverse-append, map-append, length-reverse}
-use Rattle.std.proofs.lemmas.Option.{slice_get_within}
+use Rattle.std.proofs.lemmas.List.{reverse-append, map-append}
 use Rattle.mc_item.specs.declared.lists.Entry.{Entry}
 use Rattle.mc_rule.specs.Segment.{numbers_of}
 
@@ -32,7 +31,3 @@ tail_number es j e h =
     ap (λ (ns : List ℕ). take (j + 1) ns) same
     ∙ (ap (λ (k : ℕ). take k (numbers_of (reverse es))) more
     ∙ (take_next (reverse es) j e h ∙ ap (λ (ns : List ℕ). take j ns ++ e.number ∷ []) (sym same)))
-
--- who stands at a place from the tail has as many behind it
-pub tail_within : (es : List Entry) (j : ℕ) (e : Entry) → Some e ≡ slice_get (reverse es) j → j ≤ length es
-tail_within es j e h = omega (arith, slice_get_within (reverse es) j e (sym h), length-reverse es)

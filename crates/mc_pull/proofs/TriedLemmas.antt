@@ -1,40 +1,20 @@
 -- A search for a chunk that found none has tried: its walks took, moved or reclaimed an entry, or passed all that they looked at.
 use Rattle.std.proofs.Common.{length, ◌≡◌, ◌≢◌, ℕ, zero, suc, ◌+◌, ◌<◌, ◌≤◌, ◌&&◌, ◌⊎◌, if◌then◌else◌, List, [], ◌∷◌, ◌++◌, Bool, true, false, Some, None, Option, inl, inr, refl, sym, ap, ◌∙◌, subst, arith, append_assoc, reverse, nat_eq}
 use Rattle.std.specs.Prelude.{IsSomeAnd, nat_lt, nat_le, not}
-use Rattle.std.proofs.lemmas.Bool.Decides.{nat_tests}
-use Rattle.std.proofs.lemmas.List.{append-nil, length-append, length-reverse}
-use Rattle.std.proofs.lemmas.Option.{slice_get_within}
-use Rattle.mc_item.specs.Cache.{Cache}
-use Rattle.mc_item.specs.Item.{is_dead}
-use Rattle.mc_item.specs.Measure.{stripe_of}
-use Rattle.mc_item.specs.declared.class_event.ClassEvent.{ClassEvent}
-use Rattle.mc_item.specs.declared.item.Item.{Item}
-use Rattle.mc_item.specs.declared.item.StripeNo.{StripeNo}
-use Rattle.mc_item.specs.declared.item.Who.{Who}
-use Rattle.mc_item.specs.declared.lists.Entry.{Entry}
-use Rattle.mc_item.specs.declared.lists.Seg.{Seg}
-use Rattle.mc_item.specs.declared.lists.Seg.TheVariants.{Hot, Cold}
-use Rattle.mc_rule.specs.Lists.{Lists, count_of, from_tail, lists_of, list_of}
-use Rattle.mc_segment.specs.Entries.{entry_of}
-use Rattle.mc_rule.specs.Segment.{Rule}
-use Rattle.mc_segment.specs.ClassState.{ClassView}
+use Rattle.std.proofs.lemmas.{Bool.Decides.nat_tests, List.append-nil, List.length-append, List.length-reverse, Option.slice_get_within}
+use Rattle.mc_item.specs.{Cache.Cache, Item.is_dead, Measure.stripe_of}
+use Rattle.mc_item.specs.declared.{class_event.ClassEvent.ClassEvent, item.Item.Item, item.StripeNo.StripeNo, item.Who.Who, lists.Entry.Entry, lists.Seg.Seg}
+use Rattle.mc_item.specs.declared.{lists.Seg.TheVariants.Hot, lists.Seg.TheVariants.Cold}
+use Rattle.mc_rule.specs.{Lists.Lists, Lists.count_of, Lists.from_tail, Lists.lists_of, Lists.list_of, Segment.Rule}
+use Rattle.mc_segment.specs.{Entries.entry_of, ClassState.ClassView}
 use Rattle.mc_stripe.specs.StripeState.{cache_now}
-use Rattle.mc_pull.specs.declared.judge.Done.{Done}
+use Rattle.mc_pull.specs.declared.{judge.Done.Done, judge.Judge.TheVariants.Walk, judge.Mode.Mode, judge.Mode.TheVariants.Evict, judge.Mode.TheVariants.Force}
+use Rattle.mc_pull.specs.declared.{looking.Answer.Answer, looking.Judged.Judged, pulled.Pulled.Pulled}
 use Rattle.mc_pull.specs.declared.judge.Done.TheVariants as done
-use Rattle.mc_pull.specs.declared.judge.Judge.TheVariants.{Walk}
-use Rattle.mc_pull.specs.declared.judge.Mode.{Mode}
-use Rattle.mc_pull.specs.declared.judge.Mode.TheVariants.{Evict, Force}
-use Rattle.mc_pull.specs.declared.looking.Answer.{Answer}
-use Rattle.mc_pull.specs.declared.looking.Judged.{Judged}
-use Rattle.mc_pull.specs.declared.pulled.Pulled.{Pulled}
-use Rattle.mc_pull.specs.Judgement.{done_by, done_if, done_of, done_with, has_link}
-use Rattle.mc_pull.specs.Looks.{IsJudgedIf}
-use Rattle.mc_pull.specs.Outcome.{is_due, outcome_of}
-use Rattle.mc_pull.specs.Pulled.{counts_if, did_something, is_end_if}
-use Rattle.mc_pull.specs.Question.{question}
+use Rattle.mc_pull.specs.{Judgement.done_by, Judgement.done_if, Judgement.done_of, Judgement.done_with, Judgement.has_link, Looks.IsJudgedIf, Outcome.is_due}
+use Rattle.mc_pull.specs.{Outcome.outcome_of, Pulled.counts_if, Pulled.did_something, Pulled.is_end_if, Question.question, Settled.class_events, Tried.AreHad}
+use Rattle.mc_pull.specs.{Tried.AreTries, Tried.IsNoneNear, Tried.IsTried}
 use Rattle.mc_pull.specs.Rounds.{ForcesHot, IsRoom, IsRoomRound, Repeats, Rounds, Walks}
-use Rattle.mc_pull.specs.Settled.{class_events}
-use Rattle.mc_pull.specs.Tried.{AreHad, AreTries, IsNoneNear, IsTried}
 use Rattle.mc_pull.specs.Walk.{IsAlong, IsAnswer, Pull, Way, class_at, events_at, is_going, is_wanted, next_entry, numbers_passed, pull, question_at, run, start_of, step}
 
 -- ---- events of walks are tries

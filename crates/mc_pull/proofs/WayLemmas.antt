@@ -1,23 +1,13 @@
 -- One answer more on the way of a walk.
 use Rattle.std.proofs.Common.{length, ◌≡◌, ℕ, ◌+◌, ◌-◌, ◌<◌, ◌≤◌, List, [], ◌∷◌, ◌++◌, Bool, true, false, Some, None, Option, refl, sym, ap, ◌∙◌, subst, arith, append_assoc}
-use Rattle.mc_item.specs.declared.class_event.ClassEvent.{ClassEvent}
-use Rattle.mc_item.specs.declared.config.Config.{Config}
-use Rattle.mc_item.specs.declared.item.Who.{Who}
-use Rattle.mc_item.specs.declared.lists.Entry.{Entry}
-use Rattle.mc_item.specs.declared.lists.Seg.{Seg}
+use Rattle.mc_item.specs.declared.{class_event.ClassEvent.ClassEvent, config.Config.Config, item.Who.Who, lists.Entry.Entry, lists.Seg.Seg}
 use Rattle.mc_rule.specs.Lists.{lists_of, list_of}
 use Rattle.mc_segment.specs.ClassState.{ClassView}
-use Rattle.mc_pull.specs.declared.judge.Done.{Done}
+use Rattle.mc_pull.specs.declared.{judge.Done.Done, judge.Mode.Mode, looking.Answer.Answer, looking.Judged.Judged, pulled.Pulled.Pulled}
 use Rattle.mc_pull.specs.declared.judge.Done.TheVariants as done
-use Rattle.mc_pull.specs.declared.judge.Mode.{Mode}
-use Rattle.mc_pull.specs.declared.looking.Answer.{Answer}
-use Rattle.mc_pull.specs.declared.looking.Judged.{Judged}
-use Rattle.mc_pull.specs.declared.pulled.Pulled.{Pulled}
-use Rattle.mc_pull.specs.Growth.{Grows}
-use Rattle.mc_pull.specs.Pulled.{sum_of, counts_after, counts_if, is_end_if}
+use Rattle.mc_pull.specs.{Growth.Grows, Pulled.sum_of, Pulled.counts_after, Pulled.counts_if, Pulled.is_end_if}
 use Rattle.mc_pull.specs.Walk.{Pull, pull, Way, way, next_entry, events_at, is_going, step, run, IsAnswer, IsAlong, start_of, IsWalk, IsBeginning}
-use Rattle.mc_pull.proofs.GrowthLemmas.{grows_both}
-use Rattle.mc_pull.proofs.LengthLemmas.{few_taken, answer_passes}
+use Rattle.mc_pull.proofs.{GrowthLemmas.grows_both, LengthLemmas.few_taken, LengthLemmas.answer_passes}
 
 pub run-push : (p : Pull) (w : Way) (xs : List Answer) (a : Answer) → run p w (xs ++ a ∷ []) ≡ step p (run p w xs) a
 run-push p w [] a = refl

@@ -1,17 +1,12 @@
 -- That steps on a class and a stripe keep what their histories are of each other.
 use Rattle.std.specs.Prelude.{ℕ, ◌≡◌, ◌≢◌, List, Some, slice_get}
-use Rattle.mc_item.specs.declared.class_event.ClassEvent.{ClassEvent}
+use Rattle.mc_item.specs.declared.{class_event.ClassEvent.ClassEvent, item.ClassNo.ClassNo, item.Who.Who, reply.Room.Room}
 use Rattle.mc_item.specs.declared.class_event.ClassEvent.TheVariants as events
-use Rattle.mc_item.specs.declared.item.ClassNo.{ClassNo}
-use Rattle.mc_item.specs.declared.item.Who.{Who}
-use Rattle.mc_item.specs.declared.reply.Room.{Room}
 use Rattle.mc_item.specs.declared.reply.Room.TheVariants as rooms
-use Rattle.mc_rule.specs.Agreement.{Agree}
-use Rattle.mc_rule.specs.Segment.{Rule}
+use Rattle.mc_rule.specs.{Agreement.Agree, Segment.Rule}
 use Rattle.mc_segment.specs.ClassState.{ClassView}
 use Rattle.mc_stripe.specs.StripeState.{Stripe}
-use Rattle.mc_pull.specs.Lent.{Each, EachPair}
-use Rattle.mc_pull.specs.Perform.{Call}
+use Rattle.mc_pull.specs.{Lent.Each, Lent.EachPair, Perform.Call}
 
 -- the histories of a class and of a stripe agree
 abbrev pub AgreeNow : ClassView → Stripe → Type 0

@@ -1,32 +1,18 @@
 -- One try of a command on a stripe and the classes that it is lent (own).
 use Rattle.std.specs.Prelude.{ℕ, ◌≡◌, ◌<◌, ◌≤◌, ◌+◌, ◌^◌, ◌⊎◌, List, [], ◌∷◌, Option, Some, None, IfSome, IsSomeAnd, length, slice_get}
-use Rattle.mc_item.specs.Command.{key_of}
-use Rattle.mc_item.specs.Measure.{stripe_of}
+use Rattle.mc_item.specs.{Command.key_of, Measure.stripe_of}
 use Rattle.mc_item.specs.declared.class_event.ClassEvent.TheVariants as class_events
-use Rattle.mc_item.specs.declared.command.Command.{Command}
-use Rattle.mc_item.specs.declared.config.Config.{Config}
-use Rattle.mc_item.specs.declared.reply.Reply.{Reply}
-use Rattle.mc_item.specs.declared.reply.Room.{Room}
+use Rattle.mc_item.specs.declared.{command.Command.Command, config.Config.Config, reply.Reply.Reply, reply.Room.Room, item.Who.Who}
 use Rattle.mc_item.specs.declared.reply.Room.TheVariants as rooms
-use Rattle.mc_item.specs.declared.item.Who.{Who}
 use Rattle.mc_rule.specs.Lists.{count_of, links_of, lists_of}
 use Rattle.mc_segment.specs.ClassState.{ClassView, HasPlaces as ClassHasPlaces}
-use Rattle.mc_stripe.specs.StripeState.{Stripe}
-use Rattle.mc_stripe.specs.Trying.{item_of, row_at}
-use Rattle.mc_stripe.specs.Wanting.{IsWanting, Uses}
-use Rattle.mc_stripe.specs.declared.fate.Fate.{Fate}
+use Rattle.mc_stripe.specs.{StripeState.Stripe, Trying.item_of, Trying.row_at, Wanting.IsWanting, Wanting.Uses}
+use Rattle.mc_stripe.specs.declared.{fate.Fate.Fate, wanting.Given.Given, wanting.Home.Home, wanting.Other.Other, trying.Turn.Turn}
 use Rattle.mc_stripe.specs.declared.fate.Fate.TheVariants as fates
-use Rattle.mc_stripe.specs.declared.wanting.Given.{Given}
-use Rattle.mc_stripe.specs.declared.wanting.Home.{Home}
-use Rattle.mc_stripe.specs.declared.wanting.Other.{Other}
 use Rattle.mc_pull.specs.declared.attempting.Tried.{Tried}
 use Rattle.mc_pull.specs.declared.attempting.Tried.TheVariants as tried
-use Rattle.mc_stripe.specs.declared.trying.Turn.{Turn}
-use Rattle.mc_pull.specs.Agreeing.{AgreeNow, KeepsAgreements}
-use Rattle.mc_pull.specs.Lent.{AreDistinct, Each}
-use Rattle.mc_pull.specs.Perform.{MayPerform, answer_to, call}
-use Rattle.mc_pull.specs.Performed.{IsPerformed, IsUntouched}
-use Rattle.mc_pull.specs.Sight.{KeepsSights}
+use Rattle.mc_pull.specs.{Agreeing.AgreeNow, Agreeing.KeepsAgreements, Lent.AreDistinct, Lent.Each, Perform.MayPerform, Perform.answer_to, Perform.call}
+use Rattle.mc_pull.specs.{Performed.IsPerformed, Performed.IsUntouched, Sight.KeepsSights}
 
 -- a chunk is free
 abbrev pub HasFree : ClassView → Type 0

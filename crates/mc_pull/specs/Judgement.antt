@@ -1,20 +1,12 @@
 -- What is done with an entry, by its class and the cache of its key's stripe.
 use Rattle.std.specs.Prelude.{ℕ, ◌==◌, ◌&&◌, Bool, if◌then◌else◌, Option, Some, None}
-use Rattle.mc_item.specs.declared.item.ClassNo.{ClassNo}
-use Rattle.mc_item.specs.declared.item.Item.{Item}
-use Rattle.mc_item.specs.declared.lists.Entry.{Entry}
-use Rattle.mc_item.specs.Cache.{Cache}
-use Rattle.mc_item.specs.Item.{is_dead}
-use Rattle.mc_rule.specs.Lists.{Lists, lists_of}
-use Rattle.mc_rule.specs.Segment.{Rule}
-use Rattle.mc_segment.specs.ClassState.{ClassView}
-use Rattle.mc_segment.specs.Entries.{entry_of}
-use Rattle.mc_pull.specs.declared.judge.Judge.{Judge}
-use Rattle.mc_pull.specs.declared.judge.Judge.TheVariants.{Walk, Dead}
-use Rattle.mc_pull.specs.declared.judge.Done.{Done}
+use Rattle.mc_item.specs.declared.{item.ClassNo.ClassNo, item.Item.Item, lists.Entry.Entry}
+use Rattle.mc_item.specs.{Cache.Cache, Item.is_dead}
+use Rattle.mc_rule.specs.{Lists.Lists, Lists.lists_of, Segment.Rule}
+use Rattle.mc_segment.specs.{ClassState.ClassView, Entries.entry_of}
+use Rattle.mc_pull.specs.declared.{judge.Judge.Judge, judge.Judge.TheVariants.Walk, judge.Judge.TheVariants.Dead, judge.Done.Done}
 use Rattle.mc_pull.specs.declared.judge.Done.TheVariants as done
-use Rattle.mc_pull.specs.Outcome.{is_due, outcome_of}
-use Rattle.mc_pull.specs.Question.{Question}
+use Rattle.mc_pull.specs.{Outcome.is_due, Outcome.outcome_of, Question.Question}
 
 -- the item has the chunk of this entry
 abbrev pub has_link : ClassNo → ℕ → Item → Bool

@@ -1,23 +1,13 @@
 -- How the lists of a class are juggled: rounds of walks by a survey.
 use Rattle.std.specs.Prelude.{ℕ, ◌≡◌, ◌<◌, ◌++◌, ◌⊎◌, List, [], ◌∷◌, Bool, true, false}
-use Rattle.mc_item.specs.declared.class_event.ClassEvent.{ClassEvent}
+use Rattle.mc_item.specs.declared.{class_event.ClassEvent.ClassEvent, class_event.Surveyed.Surveyed, config.Config.Config, counts.Moves.Moves, item.Who.Who}
 use Rattle.mc_item.specs.declared.class_event.ClassEvent.TheVariants as events
-use Rattle.mc_item.specs.declared.class_event.Surveyed.{Surveyed}
-use Rattle.mc_item.specs.declared.config.Config.{Config}
-use Rattle.mc_item.specs.declared.counts.Moves.{Moves}
-use Rattle.mc_item.specs.declared.item.Who.{Who}
 use Rattle.mc_item.specs.declared.lists.Seg.TheVariants.{Hot, Warm, Cold, Temp}
 use Rattle.mc_segment.specs.declared.surveying.Survey.{Survey}
-use Rattle.mc_segment.specs.ClassCalls.{survey_of, surveyed_event}
-use Rattle.mc_segment.specs.ClassState.{ClassView, with_room}
-use Rattle.mc_pull.specs.declared.judge.Mode.TheVariants.{Plain}
-use Rattle.mc_pull.specs.declared.looking.Answer.{Answer}
-use Rattle.mc_pull.specs.declared.pulled.Pulled.{Pulled}
-use Rattle.mc_pull.specs.Pulled.{none_pulled, did_something, plus}
-use Rattle.mc_pull.specs.Rounds.{Rounds, Walks, Repeats}
-use Rattle.mc_pull.specs.Settled.{class_with}
-use Rattle.mc_pull.specs.Walk.{class_at}
-use Rattle.mc_pull.specs.Walker.{Walker}
+use Rattle.mc_segment.specs.{ClassCalls.survey_of, ClassCalls.surveyed_event, ClassState.ClassView, ClassState.with_room}
+use Rattle.mc_pull.specs.declared.{judge.Mode.TheVariants.Plain, looking.Answer.Answer, pulled.Pulled.Pulled}
+use Rattle.mc_pull.specs.{Pulled.none_pulled, Pulled.did_something, Pulled.plus, Rounds.Rounds, Rounds.Walks, Rounds.Repeats, Settled.class_with, Walk.class_at}
+use Rattle.mc_pull.specs.{Walker.Walker}
 
 -- what was kept for a walker since any earlier gate and history is kept by a survey of the walker's own call too
 abbrev pub KeepsSurveys : {S : Type 0} → (Walker → S → List ClassEvent → S → List ClassEvent → Type 0) → Walker → Type 0

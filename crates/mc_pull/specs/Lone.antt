@@ -1,18 +1,11 @@
 -- A gate that is lent one stripe.
 use Rattle.std.specs.Prelude.{ℕ, ◌≡◌, ◌≢◌, ◌++◌, List, [], ◌∷◌}
-use Rattle.mc_item.specs.declared.class_event.ClassEvent.{ClassEvent}
-use Rattle.mc_item.specs.declared.config.Config.{Config}
-use Rattle.mc_item.specs.declared.item.ClassNo.{ClassNo}
-use Rattle.mc_item.specs.declared.stripe_event.Cause.{Cause}
-use Rattle.mc_item.specs.declared.stripe_event.Cause.TheVariants.{Expired, Taken}
-use Rattle.mc_item.specs.declared.stripe_event.StripeEvent.{StripeEvent}
+use Rattle.mc_item.specs.declared.{class_event.ClassEvent.ClassEvent, config.Config.Config, item.ClassNo.ClassNo, stripe_event.Cause.Cause}
+use Rattle.mc_item.specs.declared.{stripe_event.Cause.TheVariants.Expired, stripe_event.Cause.TheVariants.Taken, stripe_event.StripeEvent.StripeEvent}
 use Rattle.mc_item.specs.declared.stripe_event.StripeEvent.TheVariants as events
-use Rattle.mc_rule.specs.Agreement.{Agree}
-use Rattle.mc_rule.specs.Segment.{Rule}
-use Rattle.mc_stripe.specs.StripeState.{Stripe}
-use Rattle.mc_stripe.specs.StripeCalls.{KeepsSite}
-use Rattle.mc_pull.specs.Question.{IsStripeOf}
-use Rattle.mc_pull.specs.Walker.{Walker}
+use Rattle.mc_rule.specs.{Agreement.Agree, Segment.Rule}
+use Rattle.mc_stripe.specs.{StripeState.Stripe, StripeCalls.KeepsSite}
+use Rattle.mc_pull.specs.{Question.IsStripeOf, Walker.Walker}
 
 -- the stripe has this number, and was made with this configuration
 pub record Serves (number : ℕ) (s : Stripe) (config : Config) : Type 0 where

@@ -1,17 +1,11 @@
 -- What a gate answers, and what its answer does to the class.
 use Rattle.std.specs.Prelude.{ℕ, ◌≡◌, List, [], Option, Some, None, length}
-use Rattle.mc_item.specs.declared.class_event.ClassEvent.{ClassEvent}
-use Rattle.mc_item.specs.declared.config.Config.{Config}
-use Rattle.mc_item.specs.declared.item.StripeNo.{StripeNo}
+use Rattle.mc_item.specs.declared.{class_event.ClassEvent.ClassEvent, config.Config.Config, item.StripeNo.StripeNo}
 use Rattle.mc_item.specs.Stripe.{IsLegal}
 use Rattle.mc_segment.specs.ClassState.{ClassView}
 use Rattle.mc_stripe.specs.StripeState.{Stripe, cache_now}
-use Rattle.mc_pull.specs.declared.judge.Done.{Done}
-use Rattle.mc_pull.specs.declared.looking.Answer.{Answer}
-use Rattle.mc_pull.specs.declared.looking.Judged.{Judged}
-use Rattle.mc_pull.specs.Judgement.{done_of}
-use Rattle.mc_pull.specs.Question.{Question, IsStripeOf}
-use Rattle.mc_pull.specs.Settled.{class_events}
+use Rattle.mc_pull.specs.declared.{judge.Done.Done, looking.Answer.Answer, looking.Judged.Judged}
+use Rattle.mc_pull.specs.{Judgement.done_of, Question.Question, Question.IsStripeOf, Settled.class_events}
 
 -- what was done, with a stripe that had so many events
 abbrev pub judgement : Done → ℕ → Judged

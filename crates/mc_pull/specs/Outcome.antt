@@ -1,16 +1,11 @@
 -- The table of the segments: what becomes of an entry, and whether a walk ends there (own, modelled on items.c).
 use Rattle.std.specs.Prelude.{ℕ, Bool, true, false, ◌||◌, nat_lt, if◌then◌else◌}
-use Rattle.mc_item.specs.declared.class_event.Why.{Why}
+use Rattle.mc_item.specs.declared.{class_event.Why.Why, lists.Entry.Entry, lists.Seg.Seg, lists.Seg.TheVariants.Hot, lists.Seg.TheVariants.Warm}
+use Rattle.mc_item.specs.declared.{lists.Seg.TheVariants.Cold}
 use Rattle.mc_item.specs.declared.class_event.Why.TheVariants as whys
-use Rattle.mc_item.specs.declared.lists.Entry.{Entry}
-use Rattle.mc_item.specs.declared.lists.Seg.{Seg}
-use Rattle.mc_item.specs.declared.lists.Seg.TheVariants.{Hot, Warm, Cold}
-use Rattle.mc_rule.specs.Lists.{Lists, bytes_of}
-use Rattle.mc_rule.specs.Segment.{Rule, age_of, limit_of, greatest_age_of}
+use Rattle.mc_rule.specs.{Lists.Lists, Lists.bytes_of, Segment.Rule, Segment.age_of, Segment.limit_of, Segment.greatest_age_of}
 use Rattle.mc_segment.specs.declared.surveying.Survey.{Survey}
-use Rattle.mc_pull.specs.declared.judge.Mode.{Mode}
-use Rattle.mc_pull.specs.declared.judge.Mode.TheVariants.{Plain, Evict, Force}
-use Rattle.mc_pull.specs.declared.judge.Done.{Done}
+use Rattle.mc_pull.specs.declared.{judge.Mode.Mode, judge.Mode.TheVariants.Plain, judge.Mode.TheVariants.Evict, judge.Mode.TheVariants.Force, judge.Done.Done}
 use Rattle.mc_pull.specs.declared.judge.Done.TheVariants as done
 
 -- the bytes of a segment exceed its limit by a survey

@@ -1,21 +1,13 @@
 -- A class's part of a command: which of its entries come, go or move, and the events of that.
 use Rattle.std.specs.Prelude.{ℕ, ◌≡◌, ◌==◌, ◌&&◌, ◌<◌, ◌≤◌, ◌^◌, nat_eq, List, [], ◌∷◌, Bool, true, false, if◌then◌else◌, Option, Some, None}
 use Rattle.std.specs.Cmp.Lexicographic.{pointwise}
-use Rattle.mc_item.specs.declared.class_event.ClassEvent.{ClassEvent}
+use Rattle.mc_item.specs.declared.{class_event.ClassEvent.ClassEvent, item.Expiry.Expiry, item.Link.Link, item.Who.Who, lists.Entry.Entry, lists.Seg.Seg}
+use Rattle.mc_item.specs.declared.{reply.Room.Room}
 use Rattle.mc_item.specs.declared.class_event.Why.TheVariants as whys
-use Rattle.mc_item.specs.declared.item.Expiry.{Expiry}
-use Rattle.mc_item.specs.declared.item.Link.{Link}
-use Rattle.mc_item.specs.declared.item.Who.{Who}
-use Rattle.mc_item.specs.declared.lists.Entry.{Entry}
-use Rattle.mc_item.specs.declared.lists.Seg.{Seg}
 use Rattle.mc_item.specs.declared.lists.Seg.TheVariants.{Hot, Warm, Cold, Temp}
-use Rattle.mc_item.specs.declared.reply.Room.{Room}
 use Rattle.mc_item.specs.declared.reply.Room.TheVariants as rooms
-use Rattle.mc_rule.specs.Lists.{lists_of, count_of, segment_of}
-use Rattle.mc_rule.specs.Lawful.{IsListed}
-use Rattle.mc_segment.specs.ClassState.{ClassView}
-use Rattle.mc_segment.specs.ClassCalls.{linked_event, unlinked_event, shifted_event}
-use Rattle.mc_segment.specs.Entries.{entry_of}
+use Rattle.mc_rule.specs.{Lists.lists_of, Lists.count_of, Lists.segment_of, Lawful.IsListed}
+use Rattle.mc_segment.specs.{ClassState.ClassView, ClassCalls.linked_event, ClassCalls.unlinked_event, ClassCalls.shifted_event, Entries.entry_of}
 use Rattle.mc_stripe.specs.declared.fate.Fate.{Fate}
 use Rattle.mc_stripe.specs.declared.fate.Fate.TheVariants as fates
 use Rattle.mc_pull.specs.declared.parts.Part.{Part}

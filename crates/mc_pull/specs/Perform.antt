@@ -1,27 +1,15 @@
 -- One command on a stripe and the classes that it is lent: when it may be made.
 use Rattle.std.specs.Prelude.{ℕ, ◌≡◌, ◌<◌, ◌≤◌, ◌^◌, List, true, Option, Some, slice_get}
-use Rattle.mc_item.specs.declared.answer.Answer.{Answer}
+use Rattle.mc_item.specs.declared.{answer.Answer.Answer, command.Command.Command, config.Config.Config, item.Item.Item, item.Who.Who, reply.Room.Room}
 use Rattle.mc_item.specs.declared.class_event.ClassEvent.TheVariants as class_events
-use Rattle.mc_item.specs.declared.command.Command.{Command}
-use Rattle.mc_item.specs.declared.config.Config.{Config}
-use Rattle.mc_item.specs.declared.item.Item.{Item}
-use Rattle.mc_item.specs.declared.item.Who.{Who}
-use Rattle.mc_item.specs.declared.reply.Room.{Room}
 use Rattle.mc_item.specs.declared.reply.Room.TheVariants as rooms
-use Rattle.mc_item.specs.Answer.{row_of}
-use Rattle.mc_item.specs.Cache.{answer_of}
-use Rattle.mc_item.specs.Command.{key_of}
-use Rattle.mc_item.specs.Measure.{stripe_of}
-use Rattle.mc_item.specs.Stripe.{Fits, IsAlive, link_of}
+use Rattle.mc_item.specs.{Answer.row_of, Cache.answer_of, Command.key_of, Measure.stripe_of, Stripe.Fits, Stripe.IsAlive, Stripe.link_of}
 use Rattle.mc_rule.specs.Lists.{lists_of, links_of, count_of}
 use Rattle.mc_segment.specs.ClassState.{ClassView}
 use Rattle.mc_stripe.specs.declared.fate.Fate.{Fate}
 use Rattle.mc_stripe.specs.declared.fate.Fate.TheVariants as fates
-use Rattle.mc_stripe.specs.Plan.{fate_of}
-use Rattle.mc_stripe.specs.StripeState.{Stripe, cache_now}
-use Rattle.mc_pull.specs.Lent.{AreDistinct, Each, IsLent, IsLentIf}
-use Rattle.mc_pull.specs.Parts.{is_here}
-use Rattle.mc_pull.specs.Question.{IsClassOf, IsStripeOf}
+use Rattle.mc_stripe.specs.{Plan.fate_of, StripeState.Stripe, StripeState.cache_now}
+use Rattle.mc_pull.specs.{Lent.AreDistinct, Lent.Each, Lent.IsLent, Lent.IsLentIf, Parts.is_here, Question.IsClassOf, Question.IsStripeOf}
 
 -- a call: who makes it, the command, its moment and the room that it is given
 pub record Call : Type 0 where

@@ -1,20 +1,14 @@
 -- One command on a stripe and the classes that it is lent: the events of all of them, and the faults that it may answer.
 use Rattle.std.specs.Prelude.{ℕ, ◌≡◌, ◌<◌, ◌+◌, ◌++◌, ◌⊎◌, ◌||◌, List, [], ◌∷◌, Bool, true, false, length}
-use Rattle.mc_item.specs.declared.class_event.ClassEvent.{ClassEvent}
-use Rattle.mc_item.specs.declared.fault.Fault.{Fault}
-use Rattle.mc_item.specs.declared.fault.Fault.TheVariants.{NoMemory, HistoryFull}
-use Rattle.mc_item.specs.declared.item.Who.{Who}
-use Rattle.mc_item.specs.declared.stripe_event.StripeEvent.{StripeEvent}
+use Rattle.mc_item.specs.declared.{class_event.ClassEvent.ClassEvent, fault.Fault.Fault, fault.Fault.TheVariants.NoMemory, fault.Fault.TheVariants.HistoryFull}
+use Rattle.mc_item.specs.declared.{item.Who.Who, stripe_event.StripeEvent.StripeEvent}
 use Rattle.mc_item.specs.declared.stripe_event.StripeEvent.TheVariants as stripe_events
-use Rattle.mc_item.specs.Command.{key_of}
-use Rattle.mc_item.specs.Stripe.{IsAlive}
+use Rattle.mc_item.specs.{Command.key_of, Stripe.IsAlive}
 use Rattle.mc_segment.specs.ClassState.{ClassView, with_room}
 use Rattle.mc_stripe.specs.StripeState.{Stripe}
 use Rattle.mc_pull.specs.declared.parts.Part.{Part}
-use Rattle.mc_pull.specs.Lent.{EachPair}
-use Rattle.mc_pull.specs.Parts.{part_for, part_events, places_of, is_warming}
-use Rattle.mc_pull.specs.Perform.{Call, answer_to, fate_for, item_before}
-use Rattle.mc_pull.specs.Settled.{class_with, cooled_event}
+use Rattle.mc_pull.specs.{Lent.EachPair, Parts.part_for, Parts.part_events, Parts.places_of, Parts.is_warming, Perform.Call, Perform.answer_to}
+use Rattle.mc_pull.specs.{Perform.fate_for, Perform.item_before, Settled.class_with, Settled.cooled_event}
 
 -- a class's part of a call
 abbrev pub part_in : Stripe → Call → ClassView → Part

@@ -1,27 +1,15 @@
 -- What is asked of an entry, and when it may be asked.
 use Rattle.std.specs.Prelude.{ℕ, ◌≡◌, List, Some, slice_get}
-use Rattle.mc_item.specs.declared.class_event.ClassEvent.{ClassEvent}
+use Rattle.mc_item.specs.declared.{class_event.ClassEvent.ClassEvent, config.Config.Config, item.StripeNo.StripeNo, item.Who.Who, lists.Entry.Entry}
+use Rattle.mc_item.specs.declared.{lists.Seg.Seg, lists.Seg.TheVariants.Hot, lists.Seg.TheVariants.Cold}
 use Rattle.mc_item.specs.declared.class_event.ClassEvent.TheVariants as events
-use Rattle.mc_item.specs.declared.config.Config.{Config}
-use Rattle.mc_item.specs.declared.item.StripeNo.{StripeNo}
-use Rattle.mc_item.specs.declared.item.Who.{Who}
-use Rattle.mc_item.specs.declared.lists.Entry.{Entry}
-use Rattle.mc_item.specs.declared.lists.Seg.{Seg}
-use Rattle.mc_item.specs.declared.lists.Seg.TheVariants.{Hot, Cold}
-use Rattle.mc_item.specs.Config.{IsBounded}
-use Rattle.mc_item.specs.Measure.{stripe_of}
-use Rattle.mc_rule.specs.Lists.{list_of, lists_of, IsFull}
-use Rattle.mc_rule.specs.Segment.{rule_of, IsNearTail}
-use Rattle.mc_rule.specs.Lawful.{IsIn, IsListed}
+use Rattle.mc_item.specs.{Config.IsBounded, Measure.stripe_of}
+use Rattle.mc_rule.specs.{Lists.list_of, Lists.lists_of, Lists.IsFull, Segment.rule_of, Segment.IsNearTail, Lawful.IsIn, Lawful.IsListed}
 use Rattle.mc_segment.specs.declared.surveying.Survey.{Survey}
-use Rattle.mc_segment.specs.ClassState.{ClassView, chunks_for}
-use Rattle.mc_segment.specs.Entries.{entry_of}
+use Rattle.mc_segment.specs.{ClassState.ClassView, ClassState.chunks_for, Entries.entry_of}
 use Rattle.mc_stripe.specs.StripeState.{Stripe}
-use Rattle.mc_pull.specs.declared.judge.Ask.{Ask}
-use Rattle.mc_pull.specs.declared.judge.Mode.{Mode}
-use Rattle.mc_pull.specs.declared.judge.Mode.TheVariants.{Plain, Evict, Force}
-use Rattle.mc_pull.specs.declared.judge.Judge.{Judge}
-use Rattle.mc_pull.specs.declared.judge.Judge.TheVariants.{Walk, Dead}
+use Rattle.mc_pull.specs.declared.{judge.Ask.Ask, judge.Mode.Mode, judge.Mode.TheVariants.Plain, judge.Mode.TheVariants.Evict, judge.Mode.TheVariants.Force}
+use Rattle.mc_pull.specs.declared.{judge.Judge.Judge, judge.Judge.TheVariants.Walk, judge.Judge.TheVariants.Dead}
 
 -- what is asked: by whom, of which entry, how, and at which moment
 pub record Question : Type 0 where

@@ -1,7 +1,6 @@
 -- The faults that a judgement may answer.
 use Rattle.std.specs.Prelude.{◌<◌, ◌≤◌, ◌⊎◌, length}
-use Rattle.mc_item.specs.declared.fault.Fault.{Fault}
-use Rattle.mc_item.specs.declared.fault.Fault.TheVariants.{NoMemory, HistoryFull}
+use Rattle.mc_item.specs.declared.{fault.Fault.Fault, fault.Fault.TheVariants.NoMemory, fault.Fault.TheVariants.HistoryFull}
 use Rattle.mc_segment.specs.ClassState.{ClassView, HasPlaces, MayRefuse}
 use Rattle.mc_stripe.specs.StripeState.{Stripe}
 use Rattle.mc_pull.specs.declared.judge.Done.{Done}

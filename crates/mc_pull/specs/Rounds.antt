@@ -1,18 +1,11 @@
 -- Rounds of walks, and how room is made in a full class.
 use Rattle.std.specs.Prelude.{ℕ, zero, suc, ◌≡◌, ◌≤◌, ◌++◌, List, [], Bool, true, false, nat_lt}
-use Rattle.mc_item.specs.declared.class_event.ClassEvent.{ClassEvent}
-use Rattle.mc_item.specs.declared.config.Config.{Config}
-use Rattle.mc_item.specs.declared.item.Who.{Who}
-use Rattle.mc_item.specs.declared.lists.Seg.{Seg}
-use Rattle.mc_item.specs.declared.lists.Seg.TheVariants.{Hot, Cold}
+use Rattle.mc_item.specs.declared.{class_event.ClassEvent.ClassEvent, config.Config.Config, item.Who.Who, lists.Seg.Seg, lists.Seg.TheVariants.Hot}
+use Rattle.mc_item.specs.declared.{lists.Seg.TheVariants.Cold}
 use Rattle.mc_rule.specs.Lists.{lists_of, count_of}
 use Rattle.mc_segment.specs.ClassState.{ClassView}
-use Rattle.mc_pull.specs.declared.judge.Mode.{Mode}
-use Rattle.mc_pull.specs.declared.judge.Mode.TheVariants.{Evict, Force}
-use Rattle.mc_pull.specs.declared.looking.Answer.{Answer}
-use Rattle.mc_pull.specs.declared.pulled.Pulled.{Pulled}
-use Rattle.mc_pull.specs.Pulled.{did_something}
-use Rattle.mc_pull.specs.Walk.{pull, class_at, IsWalk}
+use Rattle.mc_pull.specs.declared.{judge.Mode.Mode, judge.Mode.TheVariants.Evict, judge.Mode.TheVariants.Force, looking.Answer.Answer, pulled.Pulled.Pulled}
+use Rattle.mc_pull.specs.{Pulled.did_something, Walk.pull, Walk.class_at, Walk.IsWalk}
 
 -- what is fixed for rounds: the class, the caller's call, its moment and the configuration
 pub record Rounds : Type 0 where

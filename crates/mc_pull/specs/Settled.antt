@@ -1,25 +1,16 @@
 -- The events that a judgement makes in both histories.
 use Rattle.std.specs.Prelude.{ℕ, ◌≡◌, ◌++◌, List, [], ◌∷◌, Option, Some, None, length}
-use Rattle.mc_item.specs.declared.class_event.ClassEvent.{ClassEvent}
+use Rattle.mc_item.specs.declared.{class_event.ClassEvent.ClassEvent, item.Who.Who, lists.Entry.Entry, lists.Seg.TheVariants.Warm, lists.Seg.TheVariants.Cold}
+use Rattle.mc_item.specs.declared.{stripe_event.Cause.Cause, stripe_event.StripeEvent.StripeEvent}
 use Rattle.mc_item.specs.declared.class_event.Why.TheVariants as whys
-use Rattle.mc_item.specs.declared.item.Who.{Who}
-use Rattle.mc_item.specs.declared.lists.Entry.{Entry}
-use Rattle.mc_item.specs.declared.lists.Seg.TheVariants.{Warm, Cold}
-use Rattle.mc_item.specs.declared.stripe_event.Cause.{Cause}
 use Rattle.mc_item.specs.declared.stripe_event.Cause.TheVariants as causes
-use Rattle.mc_item.specs.declared.stripe_event.StripeEvent.{StripeEvent}
 use Rattle.mc_item.specs.declared.stripe_event.StripeEvent.TheVariants as events
 use Rattle.mc_rule.specs.Lists.{lists_of}
-use Rattle.mc_segment.specs.ClassState.{ClassView}
-use Rattle.mc_segment.specs.ClassCalls.{reclaimed_event, evicted_event, shifted_event}
-use Rattle.mc_segment.specs.Entries.{entry_of}
+use Rattle.mc_segment.specs.{ClassState.ClassView, ClassCalls.reclaimed_event, ClassCalls.evicted_event, ClassCalls.shifted_event, Entries.entry_of}
 use Rattle.mc_stripe.specs.StripeState.{Stripe}
-use Rattle.mc_pull.specs.declared.judge.Judge.{Judge}
-use Rattle.mc_pull.specs.declared.judge.Judge.TheVariants.{Walk, Dead}
-use Rattle.mc_pull.specs.declared.judge.Done.{Done}
+use Rattle.mc_pull.specs.declared.{judge.Judge.Judge, judge.Judge.TheVariants.Walk, judge.Judge.TheVariants.Dead, judge.Done.Done}
 use Rattle.mc_pull.specs.declared.judge.Done.TheVariants as done
-use Rattle.mc_pull.specs.Outcome.{cold_why}
-use Rattle.mc_pull.specs.Question.{Question}
+use Rattle.mc_pull.specs.{Outcome.cold_why, Question.Question}
 
 -- an item goes, for a cause
 abbrev pub lost_event : Who → List ℕ → Cause → StripeEvent

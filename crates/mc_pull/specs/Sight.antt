@@ -1,19 +1,11 @@
 -- That steps on a class and a stripe keep what is seen elsewhere: what is seen of any other class tells the stripe's events as
 -- before, and what is seen of any other stripe backs the class's events and has the items that they cite.
 use Rattle.std.specs.Prelude.{◌≡◌, ◌≢◌, List}
-use Rattle.mc_item.specs.declared.answer.Site.{Site}
-use Rattle.mc_item.specs.declared.class_event.ClassEvent.{ClassEvent}
-use Rattle.mc_item.specs.declared.item.ClassNo.{ClassNo}
-use Rattle.mc_item.specs.declared.stripe_event.StripeEvent.{StripeEvent}
-use Rattle.mc_rule.specs.Cited.{IsSuited}
-use Rattle.mc_rule.specs.Evidence.{IsBacked, IsTold}
-use Rattle.mc_rule.specs.Places.{Each}
-use Rattle.mc_rule.specs.Segment.{Rule}
+use Rattle.mc_item.specs.declared.{answer.Site.Site, class_event.ClassEvent.ClassEvent, item.ClassNo.ClassNo, stripe_event.StripeEvent.StripeEvent}
+use Rattle.mc_rule.specs.{Cited.IsSuited, Evidence.IsBacked, Evidence.IsTold, Places.Each, Segment.Rule}
 use Rattle.mc_segment.specs.ClassState.{ClassView}
 use Rattle.mc_stripe.specs.StripeState.{Stripe}
-use Rattle.mc_pull.specs.Agreeing.{HasRefusal, IsApart}
-use Rattle.mc_pull.specs.Lent.{EachPair}
-use Rattle.mc_pull.specs.Perform.{Call}
+use Rattle.mc_pull.specs.{Agreeing.HasRefusal, Agreeing.IsApart, Lent.EachPair, Perform.Call}
 
 -- what is seen of a class tells all events of a stripe still
 abbrev pub TellsStill : Stripe → Stripe → Rule → ClassNo → List ClassEvent → Type 0

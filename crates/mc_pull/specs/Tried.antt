@@ -1,13 +1,9 @@
 -- That a call which found no chunk has tried for one (own).
 use Rattle.std.specs.Prelude.{◌≡◌, ◌≢◌, ◌<◌, ◌++◌, ℕ, List, [], ◌∷◌, Some, IsSomeAnd}
 use Rattle.mc_item.specs.Measure.{stripe_of}
-use Rattle.mc_item.specs.declared.class_event.ClassEvent.{ClassEvent}
+use Rattle.mc_item.specs.declared.{class_event.ClassEvent.ClassEvent, item.StripeNo.StripeNo, item.Who.Who, lists.Entry.Entry, lists.Seg.Seg}
+use Rattle.mc_item.specs.declared.{lists.Seg.TheVariants.Hot, lists.Seg.TheVariants.Cold}
 use Rattle.mc_item.specs.declared.class_event.ClassEvent.TheVariants as events
-use Rattle.mc_item.specs.declared.item.StripeNo.{StripeNo}
-use Rattle.mc_item.specs.declared.item.Who.{Who}
-use Rattle.mc_item.specs.declared.lists.Entry.{Entry}
-use Rattle.mc_item.specs.declared.lists.Seg.{Seg}
-use Rattle.mc_item.specs.declared.lists.Seg.TheVariants.{Hot, Cold}
 use Rattle.mc_rule.specs.Lists.{from_tail, lists_of, list_of}
 use Rattle.mc_pull.specs.declared.judge.Done.TheVariants as done
 use Rattle.mc_pull.specs.declared.looking.Answer.{Answer}

@@ -1,24 +1,13 @@
 -- A walk along the tail of a list, as a function of a gate's answers.
 use Rattle.std.specs.Prelude.{ℕ, ◌≡◌, ◌-◌, ◌++◌, List, [], ◌∷◌, Bool, true, false, ◌&&◌, not, nat_lt, nat_le, Option, Some, None, length, min, take, reverse}
 use Rattle.std.specs.Option.{IsSomeAnd}
-use Rattle.mc_item.specs.declared.class_event.ClassEvent.{ClassEvent}
-use Rattle.mc_item.specs.declared.config.Config.{Config}
-use Rattle.mc_item.specs.declared.item.Who.{Who}
-use Rattle.mc_item.specs.declared.lists.Entry.{Entry}
-use Rattle.mc_item.specs.declared.lists.Seg.{Seg}
+use Rattle.mc_item.specs.declared.{class_event.ClassEvent.ClassEvent, config.Config.Config, item.Who.Who, lists.Entry.Entry, lists.Seg.Seg}
 use Rattle.mc_item.specs.Measure.{stripe_of}
-use Rattle.mc_rule.specs.Lists.{lists_of, list_of, count_of, from_tail}
-use Rattle.mc_rule.specs.Segment.{numbers_of}
+use Rattle.mc_rule.specs.{Lists.lists_of, Lists.list_of, Lists.count_of, Lists.from_tail, Segment.numbers_of}
 use Rattle.mc_segment.specs.ClassState.{ClassView}
-use Rattle.mc_pull.specs.declared.judge.Judge.TheVariants.{Walk}
-use Rattle.mc_pull.specs.declared.judge.Mode.{Mode}
-use Rattle.mc_pull.specs.declared.judge.Mode.TheVariants.{Plain, Evict, Force}
-use Rattle.mc_pull.specs.declared.looking.Answer.{Answer}
-use Rattle.mc_pull.specs.declared.looking.Judged.{Judged}
-use Rattle.mc_pull.specs.declared.pulled.Pulled.{Pulled}
-use Rattle.mc_pull.specs.Looks.{events_if, IsJudgedIf}
-use Rattle.mc_pull.specs.Pulled.{none_pulled, counts_if, is_end_if}
-use Rattle.mc_pull.specs.Question.{Question, question}
+use Rattle.mc_pull.specs.declared.{judge.Judge.TheVariants.Walk, judge.Mode.Mode, judge.Mode.TheVariants.Plain, judge.Mode.TheVariants.Evict}
+use Rattle.mc_pull.specs.declared.{judge.Mode.TheVariants.Force, looking.Answer.Answer, looking.Judged.Judged, pulled.Pulled.Pulled}
+use Rattle.mc_pull.specs.{Looks.events_if, Looks.IsJudgedIf, Pulled.none_pulled, Pulled.counts_if, Pulled.is_end_if, Question.Question, Question.question}
 
 -- what is fixed for a walk: the class, the list, the mode, the caller's call, its moment and the configuration
 pub record Pull : Type 0 where

@@ -1,7 +1,6 @@
 -- Who walks along the lists of a class.
 use Rattle.std.specs.Prelude.{ℕ}
-use Rattle.mc_item.specs.declared.item.ClassNo.{ClassNo}
-use Rattle.mc_item.specs.declared.item.Who.{Who}
+use Rattle.mc_item.specs.declared.{item.ClassNo.ClassNo, item.Who.Who}
 use Rattle.mc_rule.specs.Segment.{Rule}
 use Rattle.mc_segment.specs.ClassState.{ClassView}
 

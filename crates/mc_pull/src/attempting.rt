@@ -2,18 +2,14 @@
 //! each class, or it wants something, and nothing happened. All growths come first: after a fault nothing of it
 //! stands. `HistoryFull` is answered only where a history lacks a place that the command needs in it.
 ghost use Rattle.std.specs.Prelude.{if◌then◌else◌, ◌≡◌, ◌≤◌, ◌<◌, ◌+◌, ◌∷◌, [], ◌||◌, true, Some, None, IfOk, OnErr, OnOk, IsErrOf, length};
-ghost use Rattle.mc_item.specs.declared.config.Config.{Config};
-ghost use Rattle.mc_item.specs.declared.fault.Fault.TheVariants.{HistoryFull};
-ghost use Rattle.mc_item.specs.declared.item.Link.{Link};
+ghost use Rattle.mc_item.specs.declared.{config.Config.Config, fault.Fault.TheVariants.HistoryFull, item.Link.Link};
 ghost use Rattle.mc_item.specs.declared.reply.Room.TheVariants as rooms;
 ghost use Rattle.mc_segment.specs.ClassState.{HasPlaces, with_room};
 ghost use Rattle.mc_stripe.specs.StripeCalls.{KeepsSite};
 ghost use Rattle.mc_pull.specs.Attempt.{GivesHome, HasFree, HasRoomFor, IsNoted, IsReady, IsSmallFate, IsTriedBy, Leaves, MayTryOn, OffersHome, OffersOther};
 ghost use Rattle.mc_pull.specs.Parts as words;
-ghost use Rattle.mc_pull.specs.Parts.{MayMake, part_for};
-ghost use Rattle.mc_pull.specs.Perform.{call};
-ghost use Rattle.mc_pull.specs.Performed.{IsUntouched, MayRefuseCall};
-ghost use Rattle.mc_pull.specs.Question.{IsClassOf, IsStripeOf};
+ghost use Rattle.mc_pull.specs.{Parts.MayMake, Parts.part_for, Perform.call, Performed.IsUntouched, Performed.MayRefuseCall, Question.IsClassOf};
+ghost use Rattle.mc_pull.specs.{Question.IsStripeOf};
 
 use crate::certain::cool_if;
 use crate::making::make;

@@ -6,8 +6,7 @@ ghost use Rattle.mc_item.specs.declared.stripe_event.Cause.TheVariants as causes
 ghost use Rattle.mc_segment.specs.ClassState.{appended, HasPlaces};
 ghost use Rattle.mc_segment.specs.ClassCalls.{linked_event, unlinked_event, reclaimed_event, evicted_event, shifted_event, MayCome};
 ghost use Rattle.mc_pull.specs.Settled.{lost_event, cooled_event};
-ghost use Rattle.mc_stripe.specs.StripeState.{cache_now};
-ghost use Rattle.mc_stripe.specs.StripeCalls.{KeepsSite, Gains};
+ghost use Rattle.mc_stripe.specs.{StripeState.cache_now, StripeCalls.KeepsSite, StripeCalls.Gains};
 
 use mc_item::{ClassNo, Expiry, Key, Passed, Seg, Who, Why};
 use mc_segment::ClassState;

@@ -1,19 +1,11 @@
 //! Juggling: rounds of walks by one survey.
 ghost use Rattle.std.specs.Prelude.{◌≡◌, ◌≤◌, ◌+◌, ◌++◌, ◌∷◌, [], ◌⊎◌, List, IfOk, IfErr, OnOk, OnErr};
-ghost use Rattle.mc_item.specs.declared.config.Config.{Config};
-ghost use Rattle.mc_item.specs.declared.lists.Seg.TheVariants.{Temp};
-ghost use Rattle.mc_segment.specs.ClassCalls.{surveyed_event};
-ghost use Rattle.mc_segment.specs.ClassState.{with_room};
-ghost use Rattle.mc_pull.specs.declared.judge.Mode.TheVariants.{Plain};
-ghost use Rattle.mc_pull.specs.Growth.{Grows, Kept};
+ghost use Rattle.mc_item.specs.declared.{config.Config.Config, lists.Seg.TheVariants.Temp};
+ghost use Rattle.mc_segment.specs.{ClassCalls.surveyed_event, ClassState.with_room};
+ghost use Rattle.mc_pull.specs.declared.{judge.Mode.TheVariants.Plain, looking.Answer.Answer};
+ghost use Rattle.mc_pull.specs.{Growth.Grows, Growth.Kept, Pulled.none_pulled, Pulled.sum_of, Question.IsClassOf, Question.IsSurveyIn, Refusal.MayFailAlone};
+ghost use Rattle.mc_pull.specs.{Rounds.rounds, Rounds.Walks, Settled.class_with, Walker.walker_of};
 ghost use Rattle.mc_pull.specs.Juggle.{juggling, survey_at, history_surveyed, KeepsSurveys, OutlastsSurveys, PullsWarm, IsJuggleRound, IsJuggled, JugglesTemp, JugglesRounds, IsJuggle};
-ghost use Rattle.mc_pull.specs.Pulled.{none_pulled, sum_of};
-ghost use Rattle.mc_pull.specs.Question.{IsClassOf, IsSurveyIn};
-ghost use Rattle.mc_pull.specs.Refusal.{MayFailAlone};
-ghost use Rattle.mc_pull.specs.Rounds.{rounds, Walks};
-ghost use Rattle.mc_pull.specs.Settled.{class_with};
-ghost use Rattle.mc_pull.specs.Walker.{walker_of};
-ghost use Rattle.mc_pull.specs.declared.looking.Answer.{Answer};
 
 use crate::judge::Mode;
 use crate::looking::Gate;

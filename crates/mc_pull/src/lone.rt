@@ -1,12 +1,7 @@
 //! A gate that is lent one stripe, and has no other.
 ghost use Rattle.std.specs.Prelude.{◌≡◌, ◌≤◌, ◌+◌, ◌++◌, List, IfOk, IfErr};
-ghost use Rattle.mc_pull.specs.Growth.{Grows};
-ghost use Rattle.mc_pull.specs.Juggle.{IsJuggle};
-ghost use Rattle.mc_pull.specs.Lone.{Serves, Walked};
-ghost use Rattle.mc_pull.specs.Question.{IsClassOf};
-ghost use Rattle.mc_pull.specs.Refusal.{MayFail};
-ghost use Rattle.mc_pull.specs.Rounds.{rounds, IsRoom};
-ghost use Rattle.mc_pull.specs.Walker.{walker_of};
+ghost use Rattle.mc_pull.specs.{Growth.Grows, Juggle.IsJuggle, Lone.Serves, Lone.Walked, Question.IsClassOf, Refusal.MayFail, Rounds.rounds, Rounds.IsRoom};
+ghost use Rattle.mc_pull.specs.{Walker.walker_of};
 ghost use Rattle.mc_pull.specs.declared.looking.Answer.{Answer};
 
 use crate::juggling::juggle;
@@ -27,8 +22,7 @@ pub struct Lone<'a> {
 
 impl<'a> Gate for Lone<'a> {
     ghost use Rattle.std.specs.Prelude.{◌∷◌, []};
-    ghost use Rattle.mc_pull.specs.Lone.{Serves, Walked};
-    ghost use Rattle.mc_pull.specs.Refusal.{MayFail};
+    ghost use Rattle.mc_pull.specs.{Lone.Serves, Lone.Walked, Refusal.MayFail};
 
     ghost answers = { λ g. g.answers.now.items };
 

@@ -1,18 +1,11 @@
 //! Looks: how an entry's stripe is reached, by whoever can.
 ghost use Rattle.std.specs.Prelude.{◌≡◌, ◌++◌, ◌∷◌, [], List, Some, None, is_some, length, IfOk, IfErr, OnOk, OnErr};
-ghost use Rattle.mc_item.specs.declared.item.StripeNo.{StripeNo};
-ghost use Rattle.mc_item.specs.declared.class_event.ClassEvent.{ClassEvent};
+ghost use Rattle.mc_item.specs.declared.{item.StripeNo.StripeNo, class_event.ClassEvent.ClassEvent};
 ghost use Rattle.mc_segment.specs.ClassState.{with_room};
-ghost use Rattle.mc_stripe.specs.StripeState.{cache_now};
-ghost use Rattle.mc_stripe.specs.StripeCalls.{KeepsSite};
-ghost use Rattle.mc_pull.specs.Agreeing.{KeepsAgreement};
-ghost use Rattle.mc_pull.specs.Judgement.{done_of};
-ghost use Rattle.mc_pull.specs.Looks.{answer, judgement, events_if, IsJudged, IsJudgedIf};
+ghost use Rattle.mc_stripe.specs.{StripeState.cache_now, StripeCalls.KeepsSite};
+ghost use Rattle.mc_pull.specs.{Agreeing.KeepsAgreement, Judgement.done_of, Looks.answer, Looks.judgement, Looks.events_if, Looks.IsJudged, Looks.IsJudgedIf};
+ghost use Rattle.mc_pull.specs.{Refusal.MayFail, Refusal.MayRefuseFor, Settled.class_with, Settled.IsSettled, Sight.KeepsSight, Walker.walker_of};
 ghost use Rattle.mc_pull.specs.Question.{question, question_of, HasKeyOf, IsAsked, IsClassOf, MayJudge};
-ghost use Rattle.mc_pull.specs.Refusal.{MayFail, MayRefuseFor};
-ghost use Rattle.mc_pull.specs.Settled.{class_with, IsSettled};
-ghost use Rattle.mc_pull.specs.Sight.{KeepsSight};
-ghost use Rattle.mc_pull.specs.Walker.{walker_of};
 
 use crate::judge::{Ask, Done, Judge};
 use crate::settling::settle_ask;
@@ -103,9 +96,7 @@ impl<'a> Look<'a> {
 /// What lets a walk look at the stripe of an entry.
 pub trait Gate {
     ghost use Rattle.std.specs.Prelude.{List, ℕ};
-    ghost use Rattle.mc_item.specs.declared.config.Config.{Config};
-    ghost use Rattle.mc_item.specs.declared.class_event.ClassEvent.{ClassEvent};
-    ghost use Rattle.mc_item.specs.declared.fault.Fault.{Fault};
+    ghost use Rattle.mc_item.specs.declared.{config.Config.Config, class_event.ClassEvent.ClassEvent, fault.Fault.Fault};
     ghost use Rattle.mc_segment.specs.ClassState.{ClassView};
     ghost use Rattle.mc_pull.specs.Walker.{Walker};
     ghost use Rattle.mc_pull.specs.declared.looking.Answer.{Answer};

@@ -1,9 +1,8 @@
 //! A class's part of a command is made.
 ghost use Rattle.std.specs.Prelude.{◌≡◌, ◌≤◌, true};
 ghost use Rattle.mc_segment.specs.ClassState.{HasPlaces};
-ghost use Rattle.mc_pull.specs.Settled.{class_with};
+ghost use Rattle.mc_pull.specs.{Settled.class_with, Parts.part_events, Parts.Copies, Parts.MayMake};
 ghost use Rattle.mc_pull.specs.Parts as words;
-ghost use Rattle.mc_pull.specs.Parts.{part_events, Copies, MayMake};
 
 use crate::certain;
 use crate::parts::Part;

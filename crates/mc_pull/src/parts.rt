@@ -1,7 +1,6 @@
 //! A class's part of a command.
 ghost use Rattle.std.specs.Prelude.{◌≡◌, ◌≤◌, ◌<◌, ◌^◌, true, Some, IfSome};
-ghost use Rattle.mc_rule.specs.Lists.{lists_of, count_of, segment_of};
-ghost use Rattle.mc_rule.specs.Lawful.{IsListed};
+ghost use Rattle.mc_rule.specs.{Lists.lists_of, Lists.count_of, Lists.segment_of, Lawful.IsListed};
 ghost use Rattle.mc_item.specs.declared.lists.Seg.TheVariants.{Cold};
 ghost use Rattle.mc_segment.specs.Entries.{entry_of};
 ghost use Rattle.mc_pull.specs.Parts as words;

@@ -1,16 +1,11 @@
 //! Walks along the tail of a list.
 ghost use Rattle.std.specs.Prelude.{◌≡◌, ◌<◌, ◌≤◌, ◌++◌, ◌∷◌, [], List, true, false, length, take, reverse, IfOk, IfErr, OnErr};
-ghost use Rattle.mc_rule.specs.Lists.{lists_of, list_of, count_of};
-ghost use Rattle.mc_rule.specs.Segment.{numbers_of};
+ghost use Rattle.mc_rule.specs.{Lists.lists_of, Lists.list_of, Lists.count_of, Segment.numbers_of};
 ghost use Rattle.mc_segment.specs.ClassState.{with_room};
-ghost use Rattle.mc_pull.specs.Growth.{Grows, Kept};
-ghost use Rattle.mc_pull.specs.Looks.{answer, events_if, IsJudgedIf};
-ghost use Rattle.mc_pull.specs.Pulled.{sum_of};
-ghost use Rattle.mc_pull.specs.Question.{question, HasKeyOf, IsClassOf, MayJudge, MayWalk};
-ghost use Rattle.mc_pull.specs.Settled.{class_with};
+ghost use Rattle.mc_pull.specs.{Growth.Grows, Growth.Kept, Looks.answer, Looks.events_if, Looks.IsJudgedIf, Pulled.sum_of, Question.question};
+ghost use Rattle.mc_pull.specs.{Question.HasKeyOf, Question.IsClassOf, Question.MayJudge, Question.MayWalk, Settled.class_with, Walker.walker_of};
 ghost use Rattle.mc_pull.specs.Walk as words;
 ghost use Rattle.mc_pull.specs.Walk.{pull, way, step, IsAnswer, IsWalk, IsBeginning};
-ghost use Rattle.mc_pull.specs.Walker.{walker_of};
 ghost use Rattle.mc_pull.specs.declared.looking.Answer.{Answer};
 
 use crate::judge::{Judge, Mode};

@@ -1,10 +1,7 @@
 //! Rounds of walks that make room in a full class.
 ghost use Rattle.std.specs.Prelude.{◌≡◌, ◌++◌, List, false, IfOk, IfErr};
-ghost use Rattle.mc_pull.specs.Growth.{Grows, Kept};
-ghost use Rattle.mc_pull.specs.Question.{IsClassOf};
+ghost use Rattle.mc_pull.specs.{Growth.Grows, Growth.Kept, Question.IsClassOf, Rounds.rounds, Rounds.IsRoomRound, Rounds.IsRoom, Walker.walker_of};
 ghost use Rattle.mc_pull.specs.Rounds as words;
-ghost use Rattle.mc_pull.specs.Rounds.{rounds, IsRoomRound, IsRoom};
-ghost use Rattle.mc_pull.specs.Walker.{walker_of};
 ghost use Rattle.mc_pull.specs.declared.looking.Answer.{Answer};
 
 use crate::judge::Mode;

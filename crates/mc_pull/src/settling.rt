@@ -1,19 +1,12 @@
 //! One entry is judged with its stripe, and what is to be done is done in both.
 ghost use Rattle.std.specs.Prelude.{◌≡◌, ◌<◌, ◌⊎◌, length, IfOk, IfErr, OnOk, OnErr, IsSomeAnd, MatchResult};
-ghost use Rattle.mc_rule.specs.Segment.{rule_of};
-ghost use Rattle.mc_rule.specs.Lawful.{IsListed};
-ghost use Rattle.mc_rule.specs.Lists.{lists_of};
-ghost use Rattle.mc_segment.specs.ClassState.{with_room, HasPlaces, MayRefuse};
-ghost use Rattle.mc_segment.specs.Entries.{entry_of};
-ghost use Rattle.mc_stripe.specs.StripeState.{cache_now};
-ghost use Rattle.mc_stripe.specs.StripeCalls.{KeepsSite};
-ghost use Rattle.mc_pull.specs.Agreeing.{KeepsAgreement};
-ghost use Rattle.mc_pull.specs.Judgement.{done_of};
+ghost use Rattle.mc_rule.specs.{Segment.rule_of, Lawful.IsListed, Lists.lists_of};
+ghost use Rattle.mc_segment.specs.{ClassState.with_room, ClassState.HasPlaces, ClassState.MayRefuse, Entries.entry_of};
+ghost use Rattle.mc_stripe.specs.{StripeState.cache_now, StripeCalls.KeepsSite};
+ghost use Rattle.mc_pull.specs.{Agreeing.KeepsAgreement, Judgement.done_of, Settled.class_events, Settled.class_with, Settled.IsSettled, Sight.KeepsSight};
 ghost use Rattle.mc_pull.specs.Question.{question, question_of, IsAsked, IsClassOf, IsStripeOf, MayJudge};
 ghost use Rattle.mc_pull.specs.Refusal.{HavePlaces, MayFail, MayRefuseBoth, MayRefuseFor};
 ghost use Rattle.mc_pull.specs.Settled as words;
-ghost use Rattle.mc_pull.specs.Settled.{class_events, class_with, IsSettled};
-ghost use Rattle.mc_pull.specs.Sight.{KeepsSight};
 ghost use Rattle.mc_pull.specs.Outcome as table;
 ghost use Rattle.mc_pull.specs.declared.judge.Done.TheVariants as done;
 ghost use Rattle.mc_pull.specs.declared.judge.Judge.TheVariants as judges;

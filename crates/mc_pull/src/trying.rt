@@ -1,9 +1,7 @@
 //! Laws of a search for a chunk.
 ghost use Rattle.std.specs.Prelude.{List, false};
-ghost use Rattle.mc_item.specs.declared.class_event.ClassEvent.{ClassEvent};
-ghost use Rattle.mc_item.specs.declared.item.StripeNo.{StripeNo};
-ghost use Rattle.mc_pull.specs.Rounds.{IsRoom, Rounds};
-ghost use Rattle.mc_pull.specs.Tried.{AreHad, IsTried};
+ghost use Rattle.mc_item.specs.declared.{class_event.ClassEvent.ClassEvent, item.StripeNo.StripeNo};
+ghost use Rattle.mc_pull.specs.{Rounds.IsRoom, Rounds.Rounds, Tried.AreHad, Tried.IsTried};
 ghost use Rattle.mc_pull.specs.declared.looking.Answer.{Answer};
 
 /// Whoever made room in vain, by a gate that had one stripe at hand, has tried: an entry was taken, moved or reclaimed, or

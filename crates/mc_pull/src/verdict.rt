@@ -1,12 +1,10 @@
 //! What is to be done with an entry.
 ghost use Rattle.std.specs.Prelude.{◌≡◌, ◌*◌, ◌/◌};
-ghost use Rattle.mc_rule.specs.Lists.{lists_of};
+ghost use Rattle.mc_rule.specs.{Lists.lists_of, Segment.rule_of};
 ghost use Rattle.mc_rule.specs.Segment as rules;
-ghost use Rattle.mc_rule.specs.Segment.{rule_of};
 ghost use Rattle.mc_item.specs.declared.item.Who.{Who};
 ghost use Rattle.mc_pull.specs.Judgement as words;
-ghost use Rattle.mc_pull.specs.Judgement.{done_of};
-ghost use Rattle.mc_pull.specs.Question.{question};
+ghost use Rattle.mc_pull.specs.{Judgement.done_of, Question.question};
 ghost use Rattle.mc_pull.specs.Outcome as table;
 ghost use Rattle.mc_stripe.specs.StripeState.{cache_now};
 

@@ -2,42 +2,21 @@
 use Rattle.std.proofs.Common.{arith, length, ◌≡◌, ◌++◌, ℕ, List, [], ◌∷◌, refl, sym, ap, ◌∙◌, subst, inl, inr, Result, Ok, Err}
 use Rattle.std.specs.Prelude.{Option, Some, None, IfOk, IfSome, IsSomeAnd, OnErr}
 use Rattle.mc_item.specs.Config.{IsBounded}
-use Rattle.mc_item.specs.declared.answer.Need.{Need}
+use Rattle.mc_item.specs.declared.{answer.Need.Need, answer.Site.Site, class_event.ClassEvent.ClassEvent, command.Command.Command, config.Config.Config}
+use Rattle.mc_item.specs.declared.{fault.Fault.Fault, item.ClassNo.ClassNo, item.Who.Who, stripe_event.StripeEvent.StripeEvent}
 use Rattle.mc_item.specs.declared.answer.Need.TheVariants as needs
-use Rattle.mc_item.specs.declared.answer.Site.{Site}
-use Rattle.mc_item.specs.declared.class_event.ClassEvent.{ClassEvent}
-use Rattle.mc_item.specs.declared.command.Command.{Command}
-use Rattle.mc_item.specs.declared.config.Config.{Config}
-use Rattle.mc_item.specs.declared.fault.Fault.{Fault}
-use Rattle.mc_item.specs.declared.item.ClassNo.{ClassNo}
-use Rattle.mc_item.specs.declared.item.Who.{Who}
 use Rattle.mc_item.specs.declared.reply.Room.TheVariants as rooms
-use Rattle.mc_item.specs.declared.stripe_event.StripeEvent.{StripeEvent}
-use Rattle.mc_rule.specs.Agreement.{Agree}
-use Rattle.mc_rule.specs.Segment.{Rule, rule_of}
+use Rattle.mc_rule.specs.{Agreement.Agree, Segment.Rule, Segment.rule_of}
 use Rattle.mc_evidence.proofs.AgreeLemmas.{agree_begins, agree_refused}
-use Rattle.mc_segment.specs.ClassCalls.{Makes, refused_event}
-use Rattle.mc_segment.specs.ClassState.{ClassView, appended, opened, with_room}
-use Rattle.mc_stripe.specs.StripeCalls.{KeepsSite}
-use Rattle.mc_stripe.specs.StripeState.{Stripe}
-use Rattle.mc_stripe.specs.Trying.{row_at}
-use Rattle.mc_stripe.specs.Wanting.{IsTaken}
-use Rattle.mc_stripe.specs.declared.trying.Turn.{Turn}
-use Rattle.mc_stripe.specs.declared.wanting.Given.{Given}
-use Rattle.mc_stripe.specs.declared.wanting.Home.{Home}
-use Rattle.mc_pull.specs.declared.attempting.Tried.{Tried}
+use Rattle.mc_segment.specs.{ClassCalls.Makes, ClassCalls.refused_event, ClassState.ClassView, ClassState.appended, ClassState.opened, ClassState.with_room}
+use Rattle.mc_stripe.specs.{StripeCalls.KeepsSite, StripeState.Stripe, Trying.row_at, Wanting.IsTaken}
+use Rattle.mc_stripe.specs.declared.{trying.Turn.Turn, wanting.Given.Given, wanting.Home.Home}
+use Rattle.mc_pull.specs.declared.{attempting.Tried.Tried, judge.Done.Done}
 use Rattle.mc_pull.specs.declared.attempting.Tried.TheVariants as tried
-use Rattle.mc_pull.specs.Agreeing.{AgreeNow, IsApart, KeepsAgreement}
+use Rattle.mc_pull.specs.{Agreeing.AgreeNow, Agreeing.IsApart, Agreeing.KeepsAgreement, Lent.EachPair, Growth.Grows, Lone.Serves, Lone.Walked, Walker.walker_of}
+use Rattle.mc_pull.specs.{Performed.GainsPart, Performed.IsUntouched, Performed.Stays, Performed.events_in, Perform.Call, Perform.call, Question.IsClassOf}
+use Rattle.mc_pull.specs.{Question.Question, Settled.IsSettled, Settled.class_events}
 use Rattle.mc_pull.specs.Attempt.{GivesHome, IsAny, IsOffered, IsTriedBy, OffersHome}
-use Rattle.mc_pull.specs.Lent.{EachPair}
-use Rattle.mc_pull.specs.Growth.{Grows}
-use Rattle.mc_pull.specs.Lone.{Serves, Walked}
-use Rattle.mc_pull.specs.Walker.{walker_of}
-use Rattle.mc_pull.specs.Performed.{GainsPart, IsUntouched, Stays, events_in}
-use Rattle.mc_pull.specs.Perform.{Call, call}
-use Rattle.mc_pull.specs.Question.{IsClassOf, Question}
-use Rattle.mc_pull.specs.Settled.{IsSettled, class_events}
-use Rattle.mc_pull.specs.declared.judge.Done.{Done}
 use Rattle.mc_pull_tests.specs.Met.{AreMet}
 
 -- ---- a class that has gained events

@@ -3,9 +3,7 @@ use Rattle.std.specs.Prelude.{◌≢◌}
 use Rattle.mc_item.specs.declared.config.Config.{Config}
 use Rattle.mc_segment.specs.ClassState.{ClassView}
 use Rattle.mc_stripe.specs.StripeState.{Stripe}
-use Rattle.mc_pull.specs.Agreeing.{AgreeNow}
-use Rattle.mc_pull.specs.Lone.{Serves}
-use Rattle.mc_pull.specs.Question.{IsClassOf}
+use Rattle.mc_pull.specs.{Agreeing.AgreeNow, Lone.Serves, Question.IsClassOf}
 
 -- all were made with this configuration, the stripe is the first, and each class agrees with it
 pub record AreMet (config : Config) (s : Stripe) (first second : ClassView) : Type 0 where

@@ -4,15 +4,10 @@ use Rattle.std.proofs.Common.{◌≡◌, ℕ, List, [], ◌∷◌, ◌++◌, Boo
 use Rattle.std.proofs.lemmas.Bool.{false≢true}
 use Rattle.mc_item.specs.Cache.{Cache, empty_cache}
 use Rattle.mc_item.specs.Stripe.{cache_after, cache_from, cache_of, IsLegalFrom, IsLegal, MayHappen}
-use Rattle.mc_item.specs.declared.answer.Site.{Site}
-use Rattle.mc_item.specs.declared.class_event.ClassEvent.{ClassEvent}
-use Rattle.mc_item.specs.declared.item.ClassNo.{ClassNo}
-use Rattle.mc_item.specs.declared.item.Item.{Item}
-use Rattle.mc_item.specs.declared.stripe_event.StripeEvent.{StripeEvent}
+use Rattle.mc_item.specs.declared.{answer.Site.Site, class_event.ClassEvent.ClassEvent, item.ClassNo.ClassNo, item.Item.Item}
+use Rattle.mc_item.specs.declared.{stripe_event.StripeEvent.StripeEvent}
 use Rattle.mc_rule.specs.Lawful.{IsLawfulByLists, IsLawfulByListsFrom, IsLawfulFrom, IsLawfulHistory, IsLawfulHistoryByLists, is_named, names}
-use Rattle.mc_rule.specs.Lists.{Lists, lists_after, lists_from, lists_of, no_lists}
-use Rattle.mc_rule.specs.Places.{Stands}
-use Rattle.mc_rule.specs.Segment.{Rule}
+use Rattle.mc_rule.specs.{Lists.Lists, Lists.lists_after, Lists.lists_from, Lists.lists_of, Lists.no_lists, Places.Stands, Segment.Rule}
 
 -- ---- a class
 
@@ -71,10 +66,6 @@ module _ (chunks : ℕ) (rule : Rule) where
   -- and those before it are lawful
   pub lawful_before : (h before : List ClassEvent) (e : ClassEvent) → IsLawfulHistoryByLists chunks rule h → Stands h before e → IsLawfulHistoryByLists chunks rule before
   lawful_before h before e lawful s = lawful_front [] before (e ∷ s.later) (subst (IsLawfulHistoryByLists chunks rule) s.is lawful)
-
-  -- a beginning of a lawful history is lawful
-  pub lawful_first : (first rest : List ClassEvent) → IsLawfulHistoryByLists chunks rule (first ++ rest) → IsLawfulHistoryByLists chunks rule first
-  lawful_first first rest lawful = lawful_front [] first rest lawful
 
 lawful_from-push : (chunks : ℕ) (rule : Rule) (before es : List ClassEvent) (e : ClassEvent) → IsLawfulByListsFrom chunks rule before es
     → IsLawfulByLists chunks rule (before ++ es) e → IsLawfulByListsFrom chunks rule before (es ++ e ∷ [])

@@ -3,12 +3,10 @@ use Rattle.std.proofs.Common.{◌≡◌, ℕ, ◌≤◌, List, [], ◌∷◌, �
 use Rattle.std.proofs.lemmas.Bool.{false≢true, eqb-true}
 use Rattle.mc_item.specs.declared.class_event.ClassEvent.{ClassEvent}
 use Rattle.mc_item.specs.declared.class_event.ClassEvent.TheVariants as events
-use Rattle.mc_rule.proofs.HistoryLemmas.{is_named-push, lists_of-push, neither}
-use Rattle.mc_rule.proofs.ListLemmas.{linked_times, moved_times, other_times, unlinked_times}
-use Rattle.mc_rule.proofs.TestLemmas.{is_some_of}
-use Rattle.mc_rule.specs.Lawful.{IsLawfulByLists, IsLawfulByListsFrom, IsLawfulHistoryByLists, is_named, names}
+use Rattle.mc_rule.proofs.{HistoryLemmas.is_named-push, HistoryLemmas.lists_of-push, HistoryLemmas.neither, ListLemmas.linked_times, ListLemmas.moved_times}
+use Rattle.mc_rule.proofs.{ListLemmas.other_times, ListLemmas.unlinked_times, TestLemmas.is_some_of}
+use Rattle.mc_rule.specs.{Lawful.IsLawfulByLists, Lawful.IsLawfulByListsFrom, Lawful.IsLawfulHistoryByLists, Lawful.is_named, Lawful.names, Segment.Rule}
 use Rattle.mc_rule.specs.Lists.{entry, find, list_of, lists_after, lists_of, moved, times_in, unlinked}
-use Rattle.mc_rule.specs.Segment.{Rule}
 
 -- each number stands once at the most, and nowhere where no event named it
 pub record IsNumbered (h : List ClassEvent) : Type 0 where

@@ -1,14 +1,7 @@
 -- When the histories of a stripe and of a slab class agree, taken whole (own).
 use Rattle.std.specs.Prelude.{List}
-use Rattle.mc_item.specs.declared.answer.Site.{Site}
-use Rattle.mc_item.specs.declared.class_event.ClassEvent.{ClassEvent}
-use Rattle.mc_item.specs.declared.item.ClassNo.{ClassNo}
-use Rattle.mc_item.specs.declared.stripe_event.StripeEvent.{StripeEvent}
-use Rattle.mc_rule.specs.Cited.{IsSuited}
-use Rattle.mc_rule.specs.Evidence.{AreEvidence}
-use Rattle.mc_rule.specs.Partners.{ClearsOnce}
-use Rattle.mc_rule.specs.Places.{Each}
-use Rattle.mc_rule.specs.Segment.{Rule}
+use Rattle.mc_item.specs.declared.{answer.Site.Site, class_event.ClassEvent.ClassEvent, item.ClassNo.ClassNo, stripe_event.StripeEvent.StripeEvent}
+use Rattle.mc_rule.specs.{Cited.IsSuited, Evidence.AreEvidence, Partners.ClearsOnce, Places.Each, Segment.Rule}
 
 -- a stripe's and a class's histories agree: they are evidence of each other, the class's events have the items that they
 -- cite, and no mark is cleared twice

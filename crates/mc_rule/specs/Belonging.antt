@@ -1,16 +1,9 @@
 -- Which item of a stripe and which entry of a slab class belong together (own).
 use Rattle.std.specs.Prelude.{ℕ, ◌≡◌, List, Some, IsSomeAnd}
-use Rattle.mc_item.specs.Item.{link_of_item}
-use Rattle.mc_item.specs.Measure.{cost_of}
-use Rattle.mc_item.specs.declared.answer.Site.{Site}
-use Rattle.mc_item.specs.declared.class_event.ClassEvent.{ClassEvent}
-use Rattle.mc_item.specs.declared.item.ClassNo.{ClassNo}
-use Rattle.mc_item.specs.declared.item.Item.{Item}
-use Rattle.mc_item.specs.declared.lists.Entry.{Entry}
-use Rattle.mc_item.specs.declared.lists.Seg.{Seg}
-use Rattle.mc_item.specs.declared.stripe_event.StripeEvent.{StripeEvent}
-use Rattle.mc_rule.specs.Lists.{found, lists_of}
-use Rattle.mc_rule.specs.Pairs.{item_after, link_to}
+use Rattle.mc_item.specs.{Item.link_of_item, Measure.cost_of}
+use Rattle.mc_item.specs.declared.{answer.Site.Site, class_event.ClassEvent.ClassEvent, item.ClassNo.ClassNo, item.Item.Item, lists.Entry.Entry, lists.Seg.Seg}
+use Rattle.mc_item.specs.declared.{stripe_event.StripeEvent.StripeEvent}
+use Rattle.mc_rule.specs.{Lists.found, Lists.lists_of, Pairs.item_after, Pairs.link_to}
 
 -- a class has an entry of this number, with this key
 pub record IsEntryOf (history : List ClassEvent) (number : ℕ) (key : List ℕ) : Type 0 where

@@ -1,15 +1,10 @@
 -- The cited item: what the first events of a stripe, this many, leave under the key of a class's entry.
 use Rattle.std.specs.Prelude.{ℕ, ◌≡◌, List, true, nat_le, if◌then◌else◌, Option, None, IsSomeAnd, length, take}
 use Rattle.mc_item.specs.Item.{is_dead}
-use Rattle.mc_item.specs.declared.answer.Site.{Site}
-use Rattle.mc_item.specs.declared.class_event.ClassEvent.{ClassEvent}
+use Rattle.mc_item.specs.declared.{answer.Site.Site, class_event.ClassEvent.ClassEvent, item.ClassNo.ClassNo, item.Item.Item}
+use Rattle.mc_item.specs.declared.{stripe_event.StripeEvent.StripeEvent}
 use Rattle.mc_item.specs.declared.class_event.ClassEvent.TheVariants as entries
-use Rattle.mc_item.specs.declared.item.ClassNo.{ClassNo}
-use Rattle.mc_item.specs.declared.item.Item.{Item}
-use Rattle.mc_item.specs.declared.stripe_event.StripeEvent.{StripeEvent}
-use Rattle.mc_rule.specs.Evidence.{OfStripe}
-use Rattle.mc_rule.specs.Lawful.{SuitsMove}
-use Rattle.mc_rule.specs.Pairs.{item_after, link_to}
+use Rattle.mc_rule.specs.{Evidence.OfStripe, Lawful.SuitsMove, Pairs.item_after, Pairs.link_to}
 
 -- what a stripe held under a key when it had this many events; nothing, where it is not seen to have had so many
 abbrev pub cited_in : Site → List StripeEvent → List ℕ → ℕ → Option Item

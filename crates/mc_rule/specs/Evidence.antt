@@ -1,24 +1,14 @@
 -- Evidence: what an event of a stripe has to find in a class's history, and an event of a class in a stripe's.
 use Rattle.std.specs.Prelude.{ℕ, ◌≡◌, List, Some}
-use Rattle.mc_item.specs.Command.{key_of}
-use Rattle.mc_item.specs.Item.{link_of_item}
-use Rattle.mc_item.specs.declared.answer.Site.{Site}
-use Rattle.mc_item.specs.declared.class_event.ClassEvent.{ClassEvent}
+use Rattle.mc_item.specs.{Command.key_of, Item.link_of_item}
+use Rattle.mc_item.specs.declared.{answer.Site.Site, class_event.ClassEvent.ClassEvent, item.ClassNo.ClassNo, lists.Entry.Entry, lists.Seg.Seg}
+use Rattle.mc_item.specs.declared.{stripe_event.Cause.Cause, stripe_event.Cause.TheVariants.Expired, stripe_event.Cause.TheVariants.Taken, stripe_event.Did.Did}
+use Rattle.mc_item.specs.declared.{stripe_event.Lost.Lost, stripe_event.StripeEvent.StripeEvent}
 use Rattle.mc_item.specs.declared.class_event.ClassEvent.TheVariants as entries
-use Rattle.mc_item.specs.declared.item.ClassNo.{ClassNo}
-use Rattle.mc_item.specs.declared.lists.Entry.{Entry}
-use Rattle.mc_item.specs.declared.lists.Seg.{Seg}
 use Rattle.mc_item.specs.declared.reply.Room.TheVariants as rooms
-use Rattle.mc_item.specs.declared.stripe_event.Cause.{Cause}
-use Rattle.mc_item.specs.declared.stripe_event.Cause.TheVariants.{Expired, Taken}
-use Rattle.mc_item.specs.declared.stripe_event.Did.{Did}
-use Rattle.mc_item.specs.declared.stripe_event.Lost.{Lost}
-use Rattle.mc_item.specs.declared.stripe_event.StripeEvent.{StripeEvent}
 use Rattle.mc_item.specs.declared.stripe_event.StripeEvent.TheVariants as items
-use Rattle.mc_rule.specs.Lists.{found, lists_of}
+use Rattle.mc_rule.specs.{Lists.found, Lists.lists_of, Places.Each, Places.Has, Segment.Rule}
 use Rattle.mc_rule.specs.Pairs.{ClearsMark, IsCooling, IsEviction, IsKeyOf, IsLinking, IsReclaiming, IsRefusal, IsUnlinking, LetsGo, item_after, link_to}
-use Rattle.mc_rule.specs.Places.{Each, Has}
-use Rattle.mc_rule.specs.Segment.{Rule}
 
 -- a stripe's command, told to a class: a chunk of the class that it was given was linked, a link of the class that it took
 -- away was unlinked, and a refusal of the class that it names stands there

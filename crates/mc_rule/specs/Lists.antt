@@ -1,12 +1,9 @@
 -- The four lists of a slab class, newest first, and what each event leaves of them (own, modelled on new_lru.txt and items.c).
 use Rattle.std.specs.Prelude.{ℕ, ◌+◌, ◌≤◌, ◌==◌, List, [], ◌∷◌, if◌then◌else◌, Option, Some, None, length, reverse, slice_get}
 use Rattle.std.specs.Option.{option_map}
-use Rattle.mc_item.specs.declared.lists.Entry.{Entry}
-use Rattle.mc_item.specs.declared.lists.Seg.{Seg}
+use Rattle.mc_item.specs.declared.{lists.Entry.Entry, lists.Seg.Seg, class_event.ClassEvent.ClassEvent, class_event.Why.Why}
 use Rattle.mc_item.specs.declared.lists.Seg.TheVariants.{Hot, Warm, Cold, Temp}
-use Rattle.mc_item.specs.declared.class_event.ClassEvent.{ClassEvent}
 use Rattle.mc_item.specs.declared.class_event.ClassEvent.TheVariants as events
-use Rattle.mc_item.specs.declared.class_event.Why.{Why}
 use Rattle.mc_item.specs.declared.class_event.Why.TheVariants as whys
 
 -- the lists of a class, each with its newest entry first

@@ -1,29 +1,14 @@
 -- Which event of a stripe and which event of a slab class are partners: what one call makes of an item and of its entry.
 -- Both have one who.
 use Rattle.std.specs.Prelude.{ℕ, ◌≡◌, ◌≢◌, List, [], ◌∷◌, ◌++◌, length, Option, Some, IsSomeAnd}
-use Rattle.mc_item.specs.Command.{key_of}
-use Rattle.mc_item.specs.Item.{link_of_item}
-use Rattle.mc_item.specs.Measure.{cost_of, stripe_of}
-use Rattle.mc_item.specs.Stripe.{cache_of}
-use Rattle.mc_item.specs.declared.answer.Site.{Site}
-use Rattle.mc_item.specs.declared.class_event.ClassEvent.{ClassEvent}
-use Rattle.mc_item.specs.declared.class_event.Evicted.{Evicted}
-use Rattle.mc_item.specs.declared.class_event.Linked.{Linked}
-use Rattle.mc_item.specs.declared.class_event.Reclaimed.{Reclaimed}
-use Rattle.mc_item.specs.declared.class_event.Refused.{Refused}
-use Rattle.mc_item.specs.declared.class_event.Shifted.{Shifted}
-use Rattle.mc_item.specs.declared.class_event.Unlinked.{Unlinked}
-use Rattle.mc_item.specs.declared.class_event.Why.{Why}
+use Rattle.mc_item.specs.{Command.key_of, Item.link_of_item, Measure.cost_of, Measure.stripe_of, Stripe.cache_of}
+use Rattle.mc_item.specs.declared.{answer.Site.Site, class_event.ClassEvent.ClassEvent, class_event.Evicted.Evicted, class_event.Linked.Linked}
+use Rattle.mc_item.specs.declared.{class_event.Reclaimed.Reclaimed, class_event.Refused.Refused, class_event.Shifted.Shifted, class_event.Unlinked.Unlinked}
+use Rattle.mc_item.specs.declared.{class_event.Why.Why, item.ClassNo.ClassNo, item.Item.Item, item.Link.Link, stripe_event.Cause.TheVariants.Expired}
+use Rattle.mc_item.specs.declared.{stripe_event.Cause.TheVariants.Taken, stripe_event.Cooled.Cooled, stripe_event.Did.Did, stripe_event.Lost.Lost}
+use Rattle.mc_item.specs.declared.{stripe_event.StripeEvent.StripeEvent}
 use Rattle.mc_item.specs.declared.class_event.Why.TheVariants as whys
-use Rattle.mc_item.specs.declared.item.ClassNo.{ClassNo}
-use Rattle.mc_item.specs.declared.item.Item.{Item}
-use Rattle.mc_item.specs.declared.item.Link.{Link}
 use Rattle.mc_item.specs.declared.reply.Room.TheVariants as rooms
-use Rattle.mc_item.specs.declared.stripe_event.Cause.TheVariants.{Expired, Taken}
-use Rattle.mc_item.specs.declared.stripe_event.Cooled.{Cooled}
-use Rattle.mc_item.specs.declared.stripe_event.Did.{Did}
-use Rattle.mc_item.specs.declared.stripe_event.Lost.{Lost}
-use Rattle.mc_item.specs.declared.stripe_event.StripeEvent.{StripeEvent}
 use Rattle.mc_item.specs.declared.stripe_event.StripeEvent.TheVariants as events
 use Rattle.mc_rule.specs.Segment.{Rule, segment_for}
 

@@ -1,10 +1,8 @@
 -- That a partner is the only one: each number is linked and taken out once, and no two moves clear one mark.
 use Rattle.std.specs.Prelude.{ℕ, ◌≡◌, List}
-use Rattle.mc_item.specs.declared.class_event.ClassEvent.{ClassEvent}
+use Rattle.mc_item.specs.declared.{class_event.ClassEvent.ClassEvent, class_event.Shifted.Shifted}
 use Rattle.mc_item.specs.declared.class_event.ClassEvent.TheVariants as entries
-use Rattle.mc_item.specs.declared.class_event.Shifted.{Shifted}
-use Rattle.mc_rule.specs.Pairs.{ClearsMark}
-use Rattle.mc_rule.specs.Places.{Stands}
+use Rattle.mc_rule.specs.{Pairs.ClearsMark, Places.Stands}
 
 -- an event of a class links this number
 abbrev pub Links : ℕ → ClassEvent → Type 0

@@ -1,12 +1,8 @@
 -- The rule of the segments: where a new entry goes, ages, surveys, limits, and who stands near a tail
 -- (own, modelled on new_lru.txt and items.c).
 use Rattle.std.specs.Prelude.{ℕ, ◌+◌, ◌-◌, ◌*◌, ◌/◌, ◌≤◌, ◌≡◌, ◌==◌, ◌&&◌, List, [], ◌∷◌, Bool, nat_lt, nat_le, if◌then◌else◌, Option, Some, None, length, map, reverse}
-use Rattle.mc_item.specs.declared.config.Config.{Config}
-use Rattle.mc_item.specs.declared.item.Expiry.{Expiry}
-use Rattle.mc_item.specs.declared.item.Expiry.TheVariants.{Never, At}
-use Rattle.mc_item.specs.declared.lists.Entry.{Entry}
-use Rattle.mc_item.specs.declared.lists.Seg.{Seg}
-use Rattle.mc_item.specs.declared.lists.Seg.TheVariants.{Hot, Warm, Cold, Temp}
+use Rattle.mc_item.specs.declared.{config.Config.Config, item.Expiry.Expiry, item.Expiry.TheVariants.Never, item.Expiry.TheVariants.At, lists.Entry.Entry}
+use Rattle.mc_item.specs.declared.{lists.Seg.Seg, lists.Seg.TheVariants.Hot, lists.Seg.TheVariants.Warm, lists.Seg.TheVariants.Cold, lists.Seg.TheVariants.Temp}
 use Rattle.mc_rule.specs.Lists.{Lists, bytes_of, from_tail}
 
 -- the numbers that the rule needs: percents are of the bytes of HOT, WARM and COLD, factors are hundredths of an age

@@ -2,11 +2,9 @@
 use Rattle.std.proofs.Common.{◌≡◌, ◌+◌, ◌≤◌, ℕ, List, [], ◌∷◌, ◌++◌, refl, sym, ap, ◌∙◌, append_assoc, append-nil, length, arith, Bool, length-append, map, take, subst}
 use Rattle.std.proofs.lemmas.List.{map-append}
 use Rattle.mc_item.specs.declared.command.Command.TheVariants as commands
-use Rattle.mc_item.specs.declared.fault.Fault.{Fault}
+use Rattle.mc_item.specs.declared.{fault.Fault.Fault, reply.Reply.Reply}
 use Rattle.mc_item.specs.declared.fault.Fault.TheVariants as faults
-use Rattle.mc_item.specs.declared.reply.Reply.{Reply}
-use Rattle.mc_proto.specs.Answers.{Answer, Replied, replies_of}
-use Rattle.mc_proto.specs.Text.{end_text, value_text, values_text}
+use Rattle.mc_proto.specs.{Answers.Answer, Answers.Replied, Answers.replies_of, Text.end_text, Text.value_text, Text.values_text}
 use Rattle.mc_proto.specs.declared.request.Limits.{Limits}
 use Rattle.mc_proto.specs.declared.request.Request.TheVariants as requests
 use Rattle.mc_script.specs.Calls.{Adds, Answers, AnswersKey, Begins, Breaks, Fails, FailsKey, IsPart, Makes}

@@ -1,12 +1,10 @@
 -- A directive's calls, one for each slab class.
 use Rattle.std.proofs.Common.{◌≡◌, ◌+◌, ◌-◌, ◌<◌, ℕ, zero, suc, List, [], ◌∷◌, ◌++◌, sym, ap, ◌∙◌, arith, map, subst}
 use Rattle.std.proofs.lemmas.List.{map-append}
-use Rattle.mc_item.specs.declared.fault.Fault.{Fault}
-use Rattle.mc_item.specs.declared.item.ClassNo.{ClassNo}
+use Rattle.mc_item.specs.declared.{fault.Fault.Fault, item.ClassNo.ClassNo}
 use Rattle.mc_proto.specs.Answers.{Answer}
-use Rattle.mc_script.specs.Calls.{Adds, Breaks, Makes}
+use Rattle.mc_script.specs.{Calls.Adds, Calls.Breaks, Calls.Makes, Script.classes_from}
 use Rattle.mc_script.specs.Exchanges.{Call, Exchange, IsOfKind, exchange}
-use Rattle.mc_script.specs.Script.{classes_from}
 use Rattle.mc_script.proofs.CallLemmas.{breaks_first, breaks_later, makes_both, makes_one}
 
 -- classes from one on, and those behind them

@@ -1,15 +1,12 @@
 -- The crawler's directive, class by class, and the sums of histograms.
-use Rattle.std.proofs.Common.{◌≡◌, ◌+◌, ◌<◌, ◌^◌, ℕ, List, [], ◌∷◌, ◌++◌, refl, sym, ap, ◌∙◌, arith, length, map, subst}
+use Rattle.std.proofs.Common.{◌≡◌, ◌+◌, ◌<◌, ◌^◌, ℕ, List, [], ◌∷◌, ◌++◌, refl, sym, ap, ◌∙◌, arith, length, map}
 use Rattle.std.specs.List.{sum}
 use Rattle.std.proofs.lemmas.List.Sums.{sum_by-cons}
 use Rattle.mc_item.specs.Counts.{FitInPairs, FitsTogether, added, no_counts, sums}
-use Rattle.mc_item.specs.declared.counts.Histogram.{Histogram}
-use Rattle.mc_item.specs.declared.fault.Fault.{Fault}
+use Rattle.mc_item.specs.declared.{counts.Histogram.Histogram, fault.Fault.Fault}
 use Rattle.mc_proto.specs.Answers.{Answer, Counted, Moved, Replied, counts_of}
 use Rattle.mc_script.specs.Calls.{Adds, AddsUp, Breaks, CrawlsAll}
-use Rattle.mc_script.specs.Exchanges.{Crawls, Exchange, exchange}
-use Rattle.mc_script.specs.Script.{classes_from}
-use Rattle.mc_script.proofs.CallLemmas.{makes_none}
+use Rattle.mc_script.specs.{Exchanges.Crawls, Exchanges.Exchange, Exchanges.exchange, Script.classes_from}
 use Rattle.mc_script.proofs.ClassLemmas.{class_fails, class_more}
 
 -- lists may be summed place by place in any order
@@ -102,10 +99,6 @@ both_fit a b first second few = record {
   gone = omega arith;
 }
 
--- no class yet
-pub crawled_none : (first caller turn moment : ℕ) (notes : List Exchange → Type 0) → CrawlsAll (classes_from first 0) no_counts caller turn turn moment notes notes
-crawled_none first caller turn moment notes = record { answers = []; sums = refl; makes = makes_none caller turn moment notes }
-
 -- one class more
 pub crawled_more : (first n : ℕ) (sum histogram : Histogram) (caller caller' turn turn' turn'' moment : ℕ) (notes notes' notes'' : List Exchange → Type 0)
     → CrawlsAll (classes_from first n) sum caller turn turn' moment notes notes' → caller' ≡ caller
@@ -123,8 +116,3 @@ pub crawled_fails : (first n all : ℕ) (fault : Fault) (sum : Histogram) (calle
     → Breaks fault (map Crawls (classes_from first all)) caller turn moment notes notes''
 crawled_fails first n all fault sum caller caller' turn turn' moment notes notes' notes'' below so_far same none =
     class_fails Crawls first n all fault so_far.answers caller caller' turn turn' moment notes notes' notes'' below so_far.makes same none
-
--- all classes were crawled
-pub crawled_all : (first n all : ℕ) (sum : Histogram) (caller turn turn' moment : ℕ) (notes notes' : List Exchange → Type 0)
-    → n ≡ all → CrawlsAll (classes_from first n) sum caller turn turn' moment notes notes' → CrawlsAll (classes_from first all) sum caller turn turn' moment notes notes'
-crawled_all first n all sum caller turn turn' moment notes notes' is so_far = subst (λ (k : ℕ). CrawlsAll (classes_from first k) sum caller turn turn' moment notes notes') is so_far

@@ -1,12 +1,8 @@
 -- The maintainer's directive, class by class.
-use Rattle.std.proofs.Common.{◌≡◌, ◌+◌, ◌<◌, ℕ, List, [], ◌∷◌, ◌++◌, refl, sym, ap, ◌∙◌, arith, map, subst}
-use Rattle.mc_item.specs.declared.counts.Moves.{Moves}
-use Rattle.mc_item.specs.declared.fault.Fault.{Fault}
+use Rattle.std.proofs.Common.{◌≡◌, ◌+◌, ◌<◌, ℕ, List, [], ◌∷◌, ◌++◌, sym, ap, ◌∙◌, arith, map, subst}
+use Rattle.mc_item.specs.declared.{counts.Moves.Moves, fault.Fault.Fault}
 use Rattle.mc_proto.specs.Answers.{Answer, Counted, Moved, Replied, moves_of, moves_sum}
-use Rattle.mc_script.specs.Calls.{Adds, Breaks, JugglesAll}
-use Rattle.mc_script.specs.Exchanges.{Exchange, Juggles, exchange}
-use Rattle.mc_script.specs.Script.{classes_from}
-use Rattle.mc_script.proofs.CallLemmas.{makes_none}
+use Rattle.mc_script.specs.{Calls.Adds, Calls.Breaks, Calls.JugglesAll, Exchanges.Exchange, Exchanges.Juggles, Exchanges.exchange, Script.classes_from}
 use Rattle.mc_script.proofs.ClassLemmas.{class_fails, class_more}
 
 -- sums may be taken in any order
@@ -29,10 +25,6 @@ moves_of-push [] moves = moves_sum-none moves
 moves_of-push (Replied reply ∷ bs) moves = moves_of-push bs moves
 moves_of-push (Counted histogram ∷ bs) moves = moves_of-push bs moves
 moves_of-push (Moved first ∷ bs) moves = ap (moves_sum first) (moves_of-push bs moves) ∙ sym (moves_sum-assoc first (moves_of bs) moves)
-
--- no class yet
-pub juggled_none : (first caller turn moment : ℕ) (notes : List Exchange → Type 0) → JugglesAll (classes_from first 0) (record { reclaimed = 0; moved = 0 }) caller turn turn moment notes notes
-juggled_none first caller turn moment notes = record { answers = []; sums = refl; makes = makes_none caller turn moment notes }
 
 -- one class more
 pub juggled_more : (first n : ℕ) (sums moves : Moves) (caller caller' turn turn' turn'' moment : ℕ) (notes notes' notes'' : List Exchange → Type 0)

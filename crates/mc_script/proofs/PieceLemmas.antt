@@ -3,20 +3,16 @@ use Rattle.std.proofs.Common.{◌≡◌, ℕ, List, [], ◌∷◌, ◌++◌, ref
 use Rattle.std.specs.Prelude.{if◌then◌else◌}
 use Rattle.mc_item.specs.declared.fault.Fault.{Fault}
 use Rattle.mc_item.specs.declared.fault.Fault.TheVariants as faults
-use Rattle.mc_proto.specs.Grammar.{Reads}
-use Rattle.mc_proto.specs.Text.{IsBeginning}
-use Rattle.mc_proto.specs.declared.request.Limits.{Limits}
-use Rattle.mc_proto.specs.declared.request.Request.{Request}
-use Rattle.mc_proto.proofs.RestLemmas.{after_reads}
-use Rattle.mc_proto.proofs.StreamLemmas.{stream_reads, reading_on}
-use Rattle.mc_script.specs.Progress.{EndsHere, FailsHere, Goes, GoesOn, HasAnswered, HasCome}
-use Rattle.mc_script.specs.Run.{ArePartOf, first_moment, HasBroken, HasRead, HasRun, HasStopped, NoneEnds}
-use Rattle.mc_script.specs.Exchanges.{Exchange, exchanges}
+use Rattle.mc_proto.specs.{Grammar.Reads, Text.IsBeginning}
+use Rattle.mc_proto.specs.declared.{request.Limits.Limits, request.Request.Request}
+use Rattle.mc_proto.proofs.{RestLemmas.after_reads, StreamLemmas.stream_reads, StreamLemmas.reading_on}
+use Rattle.mc_script.specs.{Progress.EndsHere, Progress.FailsHere, Progress.Goes, Progress.GoesOn, Progress.HasAnswered, Progress.HasCome, Run.ArePartOf}
+use Rattle.mc_script.specs.{Run.first_moment, Run.HasBroken, Run.HasRead, Run.HasRun, Run.HasStopped, Run.NoneEnds, Exchanges.Exchange, Exchanges.exchanges}
 use Rattle.mc_script.specs.Script.{Answered, all_exchanges, calls_of, ends, moment_behind, own_requests, requests_of, texts_of, turn_behind}
 use Rattle.mc_script.specs.declared.scripting.Progress.{Progress}
 use Rattle.mc_script.specs.declared.scripting.Progress.TheVariants as progress
-use Rattle.mc_script.proofs.CallLemmas.{AreAnswers-none, exchanges-none, part_few}
-use Rattle.mc_script.proofs.ProgressLemmas.{requests_of-append, printed_more}
+use Rattle.mc_script.proofs.{CallLemmas.AreAnswers-none, CallLemmas.exchanges-none, CallLemmas.part_few, ProgressLemmas.requests_of-append}
+use Rattle.mc_script.proofs.{ProgressLemmas.printed_more}
 
 -- requests none of which ends the script are its own, and so are those behind them
 own_requests-append : (front back : List Request) → NoneEnds front → own_requests (front ++ back) ≡ front ++ own_requests back

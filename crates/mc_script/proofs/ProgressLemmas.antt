@@ -2,15 +2,10 @@
 use Rattle.std.proofs.Common.{◌≡◌, ◌+◌, ℕ, List, [], ◌∷◌, ◌++◌, length, refl, sym, ap, ◌∙◌, append_assoc, append-nil, false, true, subst}
 use Rattle.mc_item.specs.declared.fault.Fault.{Fault}
 use Rattle.mc_item.specs.declared.fault.Fault.TheVariants as faults
-use Rattle.mc_proto.specs.Answers.{Answer, text_of}
-use Rattle.mc_proto.specs.Grammar.{IsModerate}
-use Rattle.mc_proto.specs.Text.{IsBeginning}
-use Rattle.mc_proto.specs.declared.request.Limits.{Limits}
-use Rattle.mc_proto.specs.declared.request.Request.{Request}
-use Rattle.mc_script.specs.Calls.{Answers, Fails}
+use Rattle.mc_proto.specs.{Answers.Answer, Answers.text_of, Grammar.IsModerate, Text.IsBeginning}
+use Rattle.mc_proto.specs.declared.{request.Limits.Limits, request.Request.Request}
+use Rattle.mc_script.specs.{Calls.Answers, Calls.Fails, Run.NoneEnds, Run.first_moment, Exchanges.Exchange, Exchanges.exchanges}
 use Rattle.mc_script.specs.Progress.{AreModerate, Goes, HasAnswered, HasFailed, HasTorn, Went}
-use Rattle.mc_script.specs.Run.{NoneEnds, first_moment}
-use Rattle.mc_script.specs.Exchanges.{Exchange, exchanges}
 use Rattle.mc_script.specs.Script.{Answered, AreWhole, IsWhole, all_exchanges, answered, calls_of, ends, moment_after, moment_behind, requests_of, texts_of, turn_behind}
 use Rattle.mc_script.specs.declared.scripting.Progress.TheVariants as progress
 

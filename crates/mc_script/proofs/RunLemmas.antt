@@ -1,16 +1,11 @@
 -- How a run starts, goes on from piece to piece, and ends.
 use Rattle.std.proofs.Common.{◌≡◌, ℕ, List, [], ◌∷◌, ◌++◌, refl, sym, ap, ◌∙◌, append_assoc, append-nil, arith, subst, suc}
 use Rattle.std.specs.Prelude.{All}
-use Rattle.mc_proto.specs.Grammar.{IsModerate}
-use Rattle.mc_proto.specs.Reader.{After}
-use Rattle.mc_proto.specs.declared.request.Limits.{Limits}
-use Rattle.mc_proto.specs.declared.request.Request.{Request}
-use Rattle.mc_proto.specs.declared.state.State.{State}
+use Rattle.mc_proto.specs.{Grammar.IsModerate, Reader.After}
+use Rattle.mc_proto.specs.declared.{request.Limits.Limits, request.Request.Request, state.State.State}
 use Rattle.mc_proto.proofs.RestLemmas.{after_reads}
-use Rattle.mc_script.specs.Progress.{AreModerate, GoesOn, HasAnswered, HasCome, IsOnWay}
-use Rattle.mc_script.specs.Run.{first_moment, HasRun, HasRunTo, HasStarved, IsOut}
-use Rattle.mc_script.specs.Exchanges.{Exchange}
-use Rattle.mc_script.specs.Script.{Answered, texts_of}
+use Rattle.mc_script.specs.{Progress.AreModerate, Progress.GoesOn, Progress.HasAnswered, Progress.HasCome, Progress.IsOnWay, Run.first_moment, Run.HasRun}
+use Rattle.mc_script.specs.{Run.HasRunTo, Run.HasStarved, Run.IsOut, Exchanges.Exchange, Script.Answered, Script.texts_of}
 use Rattle.mc_script.proofs.PieceLemmas.{own_requests-all, NoneEnds-append}
 
 -- before the first piece

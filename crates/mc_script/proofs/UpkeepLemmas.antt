@@ -5,19 +5,13 @@ use Rattle.std.specs.List.{flat_map}
 use Rattle.std.proofs.Math.Seq.{take-suc}
 use Rattle.std.proofs.lemmas.List.{take-append-drop}
 use Rattle.mc_item.specs.declared.fault.Fault.{Fault}
-use Rattle.mc_proto.specs.declared.request.Limits.{Limits}
-use Rattle.mc_proto.specs.declared.request.Request.{Request}
+use Rattle.mc_proto.specs.declared.{request.Limits.Limits, request.Request.Request}
 use Rattle.mc_proto.specs.declared.request.Request.TheVariants as requests
-use Rattle.mc_script.specs.Calls.{Answers, Fails}
-use Rattle.mc_script.specs.Exchanges.{Exchange}
-use Rattle.mc_script.specs.Progress.{HasAnswered}
-use Rattle.mc_script.specs.Run.{first_moment}
+use Rattle.mc_script.specs.{Calls.Answers, Calls.Fails, Exchanges.Exchange, Progress.HasAnswered, Run.first_moment}
 use Rattle.mc_script.specs.Script.{Answered, answered, calls_of, ends, moment_after, requests_of, turn_behind}
 use Rattle.mc_script.specs.Upkeep.{HasBrokenOff, HasKeptUp, WorksAll, directive_of, many_calls, work_of}
-use Rattle.mc_script.specs.declared.upkeep.Keeper.{Keeper}
-use Rattle.mc_script.specs.declared.upkeep.Keeper.TheVariants.{Maintainer, Crawler}
-use Rattle.mc_script.proofs.CallLemmas.{makes_none}
-use Rattle.mc_script.proofs.ProgressLemmas.{answered_more, failed, requests_of-append}
+use Rattle.mc_script.specs.declared.{upkeep.Keeper.Keeper, upkeep.Keeper.TheVariants.Maintainer, upkeep.Keeper.TheVariants.Crawler}
+use Rattle.mc_script.proofs.{CallLemmas.makes_none, ProgressLemmas.answered_more, ProgressLemmas.failed, ProgressLemmas.requests_of-append}
 
 -- the work at these moments was done so far; the texts that a script would print are gathered nowhere
 pub record HasKept (limits : Limits) (keeper : Keeper) (moments : List ℕ) (notes : List Exchange → Type 0) (caller turn : ℕ) : Type 0 where

@@ -1,17 +1,11 @@
 -- What is known of a caller's calls, and what a request does to it.
 use Rattle.std.specs.Prelude.{ℕ, ◌≡◌, ◌≤◌, ◌<◌, ◌+◌, Bool, List, [], ◌∷◌, ◌++◌, length, map, take}
 use Rattle.std.specs.List.{sum}
-use Rattle.mc_item.specs.declared.command.Command.TheVariants.{Get}
-use Rattle.mc_item.specs.declared.fault.Fault.{Fault}
+use Rattle.mc_item.specs.declared.{command.Command.TheVariants.Get, fault.Fault.Fault, item.ClassNo.ClassNo, counts.Histogram.Histogram, counts.Moves.Moves}
+use Rattle.mc_item.specs.declared.{reply.Reply.Reply}
 use Rattle.mc_item.specs.declared.fault.Fault.TheVariants as faults
-use Rattle.mc_item.specs.declared.item.ClassNo.{ClassNo}
-use Rattle.mc_item.specs.declared.counts.Histogram.{Histogram}
-use Rattle.mc_item.specs.declared.counts.Moves.{Moves}
-use Rattle.mc_item.specs.declared.reply.Reply.{Reply}
-use Rattle.mc_proto.specs.Answers.{Answer, Replied, counts_of, moves_of, text_of}
-use Rattle.mc_proto.specs.Text.{value_text}
-use Rattle.mc_proto.specs.declared.request.Limits.{Limits}
-use Rattle.mc_proto.specs.declared.request.Request.{Request}
+use Rattle.mc_proto.specs.{Answers.Answer, Answers.Replied, Answers.counts_of, Answers.moves_of, Answers.text_of, Text.value_text}
+use Rattle.mc_proto.specs.declared.{request.Limits.Limits, request.Request.Request}
 use Rattle.mc_script.specs.Exchanges.{AreAnswers, Asks, Call, Crawls, Exchange, Juggles, exchanges}
 use Rattle.mc_script.specs.Script.{calls_of}
 

@@ -1,8 +1,6 @@
 -- Calls, their answers, and exchanges: a call with its answer, in a turn of its caller.
 use Rattle.std.specs.Prelude.{ℕ, ◌+◌, List, [], ◌∷◌}
-use Rattle.mc_item.specs.declared.command.Command.{Command}
-use Rattle.mc_item.specs.declared.item.ClassNo.{ClassNo}
-use Rattle.mc_item.specs.declared.item.Who.{Who}
+use Rattle.mc_item.specs.declared.{command.Command.Command, item.ClassNo.ClassNo, item.Who.Who}
 use Rattle.mc_proto.specs.Answers.{Answer, Counted, Replied, Moved}
 
 -- a call: a command, or the maintainer's or the crawler's work on a slab class

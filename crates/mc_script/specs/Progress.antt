@@ -2,19 +2,11 @@
 use Rattle.std.specs.Prelude.{ℕ, ◌≡◌, ◌<◌, List, [], ◌∷◌, ◌++◌, Option, Some, None, true, false, length}
 use Rattle.mc_item.specs.declared.fault.Fault.{Fault}
 use Rattle.mc_item.specs.declared.fault.Fault.TheVariants as faults
-use Rattle.mc_proto.specs.Answers.{Answer}
-use Rattle.mc_proto.specs.Grammar.{IsModerate}
-use Rattle.mc_proto.specs.Reader.{After}
-use Rattle.mc_proto.specs.Text.{IsBeginning}
-use Rattle.mc_proto.specs.declared.request.Limits.{Limits}
-use Rattle.mc_proto.specs.declared.state.State.{State}
-use Rattle.mc_proto.specs.declared.request.Request.{Request}
-use Rattle.mc_script.specs.Calls.{IsPart}
-use Rattle.mc_script.specs.Exchanges.{AreAnswers, Exchange, exchanges}
+use Rattle.mc_proto.specs.{Answers.Answer, Grammar.IsModerate, Reader.After, Text.IsBeginning}
+use Rattle.mc_proto.specs.declared.{request.Limits.Limits, state.State.State, request.Request.Request}
+use Rattle.mc_script.specs.{Calls.IsPart, Exchanges.AreAnswers, Exchanges.Exchange, Exchanges.exchanges, Run.Leaves, Run.NoneEnds, Run.first_moment}
 use Rattle.mc_script.specs.Script.{Answered, AreWhole, all_exchanges, calls_of, ends, moment_behind, requests_of, texts_of, turn_behind}
-use Rattle.mc_script.specs.Run.{Leaves, NoneEnds, first_moment}
-use Rattle.mc_script.specs.declared.outcome.Outcome.{Outcome}
-use Rattle.mc_script.specs.declared.scripting.Progress.{Progress}
+use Rattle.mc_script.specs.declared.{outcome.Outcome.Outcome, scripting.Progress.Progress}
 use Rattle.mc_script.specs.declared.scripting.Progress.TheVariants.{More, Ended, Memory, Full, Output}
 
 -- these requests were answered, and their texts are taken or gathered

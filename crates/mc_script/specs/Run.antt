@@ -2,13 +2,9 @@
 use Rattle.std.specs.Prelude.{ℕ, ◌≡◌, ◌<◌, ◌≤◌, ◌⊎◌, List, [], ◌∷◌, ◌++◌, Option, Some, None, false, length}
 use Rattle.mc_item.specs.declared.fault.Fault.{Fault}
 use Rattle.mc_item.specs.declared.fault.Fault.TheVariants as faults
-use Rattle.mc_proto.specs.Answers.{Answer}
-use Rattle.mc_proto.specs.Grammar.{Reads}
-use Rattle.mc_proto.specs.Text.{IsBeginning}
-use Rattle.mc_proto.specs.declared.request.Limits.{Limits}
-use Rattle.mc_proto.specs.declared.request.Request.{Request}
-use Rattle.mc_script.specs.Calls.{IsPart}
-use Rattle.mc_script.specs.Exchanges.{AreAnswers, Exchange, exchanges}
+use Rattle.mc_proto.specs.{Answers.Answer, Grammar.Reads, Text.IsBeginning}
+use Rattle.mc_proto.specs.declared.{request.Limits.Limits, request.Request.Request}
+use Rattle.mc_script.specs.{Calls.IsPart, Exchanges.AreAnswers, Exchanges.Exchange, Exchanges.exchanges}
 use Rattle.mc_script.specs.Script.{Answered, AreWhole, all_exchanges, calls_of, ends, moment_behind, own_requests, requests_of, texts_of, turn_behind}
 use Rattle.mc_script.specs.declared.outcome.Outcome.{Outcome}
 use Rattle.mc_script.specs.declared.outcome.Outcome.TheVariants.{Done, Memory, HistoryFull, Input, Output}

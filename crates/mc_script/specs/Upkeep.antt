@@ -4,18 +4,12 @@ use Rattle.std.specs.List.{flat_map}
 use Rattle.mc_item.specs.declared.fault.Fault.{Fault}
 use Rattle.mc_item.specs.declared.fault.Fault.TheVariants as faults
 use Rattle.mc_proto.specs.Answers.{Answer}
-use Rattle.mc_proto.specs.declared.request.Limits.{Limits}
-use Rattle.mc_proto.specs.declared.request.Request.{Request}
+use Rattle.mc_proto.specs.declared.{request.Limits.Limits, request.Request.Request, request.Target.TheVariants.All}
 use Rattle.mc_proto.specs.declared.request.Request.TheVariants as requests
-use Rattle.mc_proto.specs.declared.request.Target.TheVariants.{All}
-use Rattle.mc_script.specs.Calls.{IsPart, Makes}
-use Rattle.mc_script.specs.Exchanges.{AreAnswers, Exchange, exchanges}
-use Rattle.mc_script.specs.Run.{first_moment}
+use Rattle.mc_script.specs.{Calls.IsPart, Calls.Makes, Exchanges.AreAnswers, Exchanges.Exchange, Exchanges.exchanges, Run.first_moment}
 use Rattle.mc_script.specs.Script.{Answered, AreWhole, all_exchanges, calls_of, moment_behind, requests_of, turn_behind}
-use Rattle.mc_script.specs.declared.outcome.Outcome.{Outcome}
+use Rattle.mc_script.specs.declared.{outcome.Outcome.Outcome, upkeep.Keeper.Keeper, upkeep.Keeper.TheVariants.Maintainer, upkeep.Keeper.TheVariants.Crawler}
 use Rattle.mc_script.specs.declared.outcome.Outcome.TheVariants.{Done, Memory, HistoryFull, Input, Output}
-use Rattle.mc_script.specs.declared.upkeep.Keeper.{Keeper}
-use Rattle.mc_script.specs.declared.upkeep.Keeper.TheVariants.{Maintainer, Crawler}
 
 -- the directive that a script would give for a keeper's work on all slab classes
 abbrev pub directive_of : Keeper → Request

@@ -1,12 +1,10 @@
 //! One request: its calls are made, and its text is gathered.
 ghost use Rattle.std.specs.Prelude.{◌≡◌, ◌≤◌, ◌++◌, ◌^◌, [], ◌∷◌, OnErr, OnOk, IfErr, IsErrOf, if◌then◌else◌};
 ghost use Rattle.mc_item.specs.declared.fault.Fault.TheVariants as faults;
-ghost use Rattle.mc_proto.specs.Grammar.{IsModerate};
-ghost use Rattle.mc_proto.specs.Text.{fault_text, reply_text};
+ghost use Rattle.mc_proto.specs.{Grammar.IsModerate, Text.fault_text, Text.reply_text};
 ghost use Rattle.mc_proto.specs.declared.request.Limits.{Limits};
 ghost use Rattle.mc_proto.specs.declared.request.Request.TheVariants as requests;
-ghost use Rattle.mc_script.specs.Calls.{Answers, AnswersKey, Begins, Fails, FailsKey};
-ghost use Rattle.mc_script.specs.Script.{AllThere, moment_after};
+ghost use Rattle.mc_script.specs.{Calls.Answers, Calls.AnswersKey, Calls.Begins, Calls.Fails, Calls.FailsKey, Script.AllThere, Script.moment_after};
 
 use crate::calls::Calls;
 use crate::crawling::answer_crawl;

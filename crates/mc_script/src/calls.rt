@@ -3,8 +3,7 @@ ghost use Rattle.std.specs.Prelude.{◌≡◌, ◌≤◌, ◌<◌, ◌+◌, ◌^
 ghost use Rattle.mc_item.specs.declared.fault.Fault.TheVariants as faults;
 ghost use Rattle.mc_item.specs.declared.item.ClassNo.{ClassNo};
 ghost use Rattle.mc_proto.specs.Answers.{Counted, Moved, Replied};
-ghost use Rattle.mc_script.specs.Calls.{Adds, AddsUp};
-ghost use Rattle.mc_script.specs.Exchanges.{Asks, Crawls, Exchange, Juggles, exchange};
+ghost use Rattle.mc_script.specs.{Calls.Adds, Calls.AddsUp, Exchanges.Asks, Exchanges.Crawls, Exchanges.Exchange, Exchanges.Juggles, Exchanges.exchange};
 
 use mc_item::{ClassNo, Command, Fault, Histogram, Moves, Reply};
 use std::sync::Wait;

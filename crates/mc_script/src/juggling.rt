@@ -4,8 +4,7 @@ ghost use Rattle.mc_item.specs.declared.fault.Fault.TheVariants as faults;
 ghost use Rattle.mc_proto.specs.Grammar.{AreAmong};
 ghost use Rattle.mc_proto.specs.declared.request.Request.TheVariants as requests;
 ghost use Rattle.mc_script.specs.Calls.{Answers, Begins, Breaks, Fails, JugglesAll};
-ghost use Rattle.mc_script.specs.Exchanges.{Juggles};
-ghost use Rattle.mc_script.specs.Script.{AllThere, classes_from, classes_of};
+ghost use Rattle.mc_script.specs.{Exchanges.Juggles, Script.AllThere, Script.classes_from, Script.classes_of};
 
 use crate::calls::Calls;
 use mc_item::{ClassNo, Fault, Moves};

@@ -2,8 +2,7 @@
 ghost use Rattle.std.specs.Prelude.{◌≡◌, ◌≤◌, ◌<◌, ◌++◌, ◌^◌, List, ℕ, [], None, Some, OnErr, OnOk, true, false, length};
 ghost use Rattle.mc_proto.specs.Text.{IsBeginning};
 ghost use Rattle.mc_script.specs.Progress.{AreModerate, AreWritten, Goes, HasAnswered, HasCome, LeavesPiece};
-ghost use Rattle.mc_script.specs.Run.{AreCounted, AreCountedSoFar, IsOut, Leaves};
-ghost use Rattle.mc_script.specs.Script.{AllThere, Answered, ends};
+ghost use Rattle.mc_script.specs.{Run.AreCounted, Run.AreCountedSoFar, Run.IsOut, Run.Leaves, Script.AllThere, Script.Answered, Script.ends};
 ghost use Rattle.mc_proto.specs.declared.request.Limits.{Limits};
 ghost use Rattle.mc_script.specs.declared.outcome.Outcome.TheVariants as outcomes;
 

@@ -2,9 +2,7 @@
 ghost use Rattle.std.specs.Prelude.{◌≡◌, ◌≤◌, ◌<◌, ◌^◌, ℕ, [], IfErr, OnOk, IsErrOf};
 ghost use Rattle.std.specs.List.{All};
 ghost use Rattle.mc_item.specs.declared.fault.Fault.TheVariants as faults;
-ghost use Rattle.mc_script.specs.Calls.{Fails};
-ghost use Rattle.mc_script.specs.Script.{AllThere};
-ghost use Rattle.mc_script.specs.Upkeep.{KeepsUp, WorksAll, directive_of, many_calls, work_of};
+ghost use Rattle.mc_script.specs.{Calls.Fails, Script.AllThere, Upkeep.KeepsUp, Upkeep.WorksAll, Upkeep.directive_of, Upkeep.many_calls, Upkeep.work_of};
 ghost use Rattle.mc_script.specs.declared.outcome.Outcome.TheVariants as outcomes;
 
 use crate::calls::Calls;

@@ -3,16 +3,11 @@ use Rattle.std.proofs.Common.{◌≡◌, ℕ, ◌+◌, ◌*◌, ◌^◌, ◌==�
 use Rattle.std.specs.Prelude.{if◌then◌else◌}
 use Rattle.std.proofs.lemmas.Bool.{cases_lt}
 use Rattle.std.proofs.Common.{inl, inr}
-use Rattle.mc_item.specs.declared.lists.Entry.{Entry}
-use Rattle.mc_item.specs.declared.lists.Seg.{Seg}
-use Rattle.mc_item.specs.declared.lists.Seg.TheVariants.{Hot, Warm, Cold, Temp}
+use Rattle.mc_item.specs.declared.{lists.Entry.Entry, lists.Seg.Seg, lists.Seg.TheVariants.Hot, lists.Seg.TheVariants.Warm, lists.Seg.TheVariants.Cold}
+use Rattle.mc_item.specs.declared.{lists.Seg.TheVariants.Temp}
 use Rattle.mc_rule.specs.Lists.{found, found_in, count_of, Lists, list_of, with_list, linked, unlinked, find, without, times, times_in}
-use Rattle.mc_segment.specs.declared.arena.Node.{Node}
-use Rattle.mc_segment.specs.declared.arena.Place.{Place}
-use Rattle.mc_segment.specs.declared.ends.Ends.{Ends}
-use Rattle.mc_segment.specs.declared.ends.Heads.{Heads}
-use Rattle.mc_segment.specs.Links.{with_newer, with_older, points_to, apply_newer, apply_older}
-use Rattle.mc_segment.specs.Nodes.{node, node_at, lacks}
+use Rattle.mc_segment.specs.declared.{arena.Node.Node, arena.Place.Place, ends.Ends.Ends, ends.Heads.Heads}
+use Rattle.mc_segment.specs.{Links.with_newer, Links.with_older, Links.points_to, Links.apply_newer, Links.apply_older, Nodes.node, Nodes.node_at, Nodes.lacks}
 use Rattle.std.specs.HashMap.{spare}
 use Rattle.mc_segment.specs.Slots.{Slots, slot, renewed, reolded, place_newer, place_older}
 use Rattle.mc_segment.specs.Arena.{Held, held, all_bytes, code, part, nodes_of, ends_of, with_ends, pushed_ends, taken_ends, lists_in, IsPart, IsArena}

@@ -1,10 +1,9 @@
 -- Steps on the nodes of a list.
 use Rattle.std.proofs.Common.{◌≡◌, ℕ, suc, ◌+◌, ◌-◌, ◌==◌, ◌≤◌, List, [], ◌∷◌, Bool, true, false, Option, Some, None, refl, sym, ap, ◌∙◌, subst, length, arith}
-use Rattle.std.specs.Prelude.{if◌then◌else◌, is_some, is_ok, Result, Ok, Err, OnOk}
+use Rattle.std.specs.Prelude.{if◌then◌else◌, is_some}
 use Rattle.std.specs.Option.{option_map}
 use Rattle.std.proofs.Common.{◌≢◌, inl, inr}
-use Rattle.std.proofs.lemmas.Bool.Decides.{eqb_tells}
-use Rattle.std.proofs.lemmas.Bool.{false≢true, eq-eqb}
+use Rattle.std.proofs.lemmas.{Bool.Decides.eqb_tells, Bool.false≢true, Bool.eq-eqb}
 use Rattle.mc_item.specs.declared.lists.Entry.{Entry}
 use Rattle.mc_rule.specs.Lists.{find, without, cost_sum}
 use Rattle.mc_segment.specs.declared.arena.Node.{Node}
@@ -131,9 +130,6 @@ names_lacked w (e ∷ es) m k x is a b =
 
 pub some_none : {A : Type 0} {x : A} → None ≡ Some x → ⊥
 some_none h = cc
-
-found_none : (w : Option ℕ) (es : List Entry) (q : ℕ) (x : Node) → lacks q es ≡ true → node_at w es q ≡ Some x → ⊥
-found_none w es q x l h = some_none (sym (node_lacks w es q l) ∙ h)
 
 -- the first number, once a number is taken out
 taken_first : (w : Option ℕ) (es : List Entry) (m : ℕ) (x : Node) → node_at w es m ≡ Some x → first_number (without m es) ≡ (if points_to m (first_number es) then x.older else first_number es)
@@ -308,10 +304,6 @@ take_chain f g n o count bytes es m x c at h =
       bytes_is = omega (arith, c.bytes_is, size);
       apart = distinct_without es m c.apart;
     }
-
-pub ok_of : {T E : Type 0} (r : Result T E) (P : Type 0) → is_ok r ≡ true → OnOk r P → P
-ok_of (Ok _) P h p = p
-ok_of (Err _) P h p = absurd (false≢true h)
 
 pub without_absent : (m : ℕ) (es : List Entry) → find m es ≡ None → without m es ≡ es
 without_absent m [] h = refl

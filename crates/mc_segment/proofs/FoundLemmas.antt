@@ -3,12 +3,10 @@ use Rattle.std.proofs.Common.{◌≡◌, ℕ, zero, suc, ◌+◌, ◌-◌, ◌==
 use Rattle.std.specs.Prelude.{if◌then◌else◌, slice_get, IsSome, IfSome, length}
 use Rattle.std.specs.Option.{option_map}
 use Rattle.std.proofs.lemmas.Bool.{cases_lt, false≢true}
-use Rattle.mc_item.specs.declared.lists.Entry.{Entry}
-use Rattle.mc_item.specs.declared.lists.Seg.{Seg}
+use Rattle.mc_item.specs.declared.{lists.Entry.Entry, lists.Seg.Seg}
 use Rattle.mc_item.specs.declared.lists.Seg.TheVariants.{Hot, Warm, Cold, Temp}
 use Rattle.mc_rule.specs.Lists.{Lists, list_of, find, found, found_in, segment_of, times, times_in}
-use Rattle.mc_segment.proofs.ChainLemmas.{by_eq, itself, some_none}
-use Rattle.mc_segment.proofs.TailLemmas.{stands_once, once_in}
+use Rattle.mc_segment.proofs.{ChainLemmas.by_eq, ChainLemmas.itself, ChainLemmas.some_none, TailLemmas.stands_once, TailLemmas.once_in}
 
 times_none : (q : ℕ) (es : List Entry) → times q es ≡ 0 → find q es ≡ None
 times_none q [] h = refl

@@ -3,16 +3,13 @@ use Rattle.std.proofs.Common.{◌≡◌, ℕ, ◌+◌, ◌==◌, ◌≤◌, List
 use Rattle.std.specs.Prelude.{if◌then◌else◌}
 use Rattle.std.specs.Option.{option_map}
 use Rattle.std.proofs.lemmas.Bool.{false≢true}
-use Rattle.mc_item.specs.declared.lists.Entry.{Entry}
-use Rattle.mc_item.specs.declared.lists.Seg.{Seg}
-use Rattle.mc_item.specs.declared.lists.Seg.TheVariants.{Hot, Warm, Cold, Temp}
+use Rattle.mc_item.specs.declared.{lists.Entry.Entry, lists.Seg.Seg, lists.Seg.TheVariants.Hot, lists.Seg.TheVariants.Warm, lists.Seg.TheVariants.Cold}
+use Rattle.mc_item.specs.declared.{lists.Seg.TheVariants.Temp}
 use Rattle.mc_rule.specs.Lists.{count_of, Lists, list_of, with_list, linked, cost_sum, times}
-use Rattle.mc_segment.specs.declared.arena.Node.{Node}
-use Rattle.mc_segment.specs.declared.arena.Place.{Place}
+use Rattle.mc_segment.specs.declared.{arena.Node.Node, arena.Place.Place}
 use Rattle.mc_segment.specs.Links.{with_newer, with_older, points_to, apply_newer, apply_older}
 use Rattle.mc_segment.specs.Nodes.{node, first_number, node_at, lacks, distinct}
-use Rattle.mc_segment.specs.Slots.{renewed, reolded, place_newer, place_older}
-use Rattle.mc_segment.specs.Arena.{all_bytes, code, part}
+use Rattle.mc_segment.specs.{Slots.renewed, Slots.reolded, Slots.place_newer, Slots.place_older, Arena.all_bytes, Arena.code, Arena.part}
 use Rattle.mc_segment.proofs.ChainLemmas.{by_eq, both_of, not_of, not_equal, some_none}
 
 abbrev pub entry_of : Option Node → Option Entry

@@ -1,20 +1,14 @@
 -- What a class keeps, one event later.
 use Rattle.std.proofs.Common.{◌≡◌, ◌+◌, ◌<◌, ◌≤◌, ◌^◌, ◌==◌, ℕ, List, [], ◌∷◌, ◌++◌, Bool, true, false, Some, None, length, refl, sym, ap, ◌∙◌, subst, append_assoc, length-append, arith}
 use Rattle.std.specs.Prelude.{◌||◌, not, if◌then◌else◌, slice_get}
-use Rattle.std.proofs.lemmas.Bool.{false≢true}
-use Rattle.std.proofs.lemmas.List.{append-nil}
-use Rattle.mc_item.specs.declared.class_event.ClassEvent.{ClassEvent}
+use Rattle.std.proofs.lemmas.{Bool.false≢true, List.append-nil, Bool.Decides.nat_tests}
+use Rattle.mc_item.specs.declared.{class_event.ClassEvent.ClassEvent, config.Config.Config, item.ClassNo.ClassNo}
 use Rattle.mc_item.specs.declared.class_event.ClassEvent.TheVariants as events
-use Rattle.mc_item.specs.declared.config.Config.{Config}
 use Rattle.mc_item.specs.declared.config.ConfigFault.TheVariants.{Stripes, Sizes, Chunks, Percent, Factor, Callers, Events}
-use Rattle.mc_item.specs.declared.item.ClassNo.{ClassNo}
-use Rattle.std.proofs.lemmas.Bool.Decides.{nat_tests}
 use Rattle.mc_item.specs.Config.{fault_of, are_stripes, are_sizes, are_chunks, are_percents, are_factors, are_callers, are_events}
 use Rattle.mc_rule.specs.Lists.{Lists, no_lists, lists_from, lists_of, lists_after, links_in, links_of}
-use Rattle.mc_rule.specs.Segment.{Rule}
-use Rattle.mc_rule.specs.Lawful.{names, is_named, IsLawfulByLists, IsLawfulByListsFrom, IsLawfulHistoryByLists}
-use Rattle.mc_segment.specs.Arena.{Held}
-use Rattle.mc_segment.specs.ClassState.{ClassView, class_view, HasPlaces, IsReplay}
+use Rattle.mc_rule.specs.{Segment.Rule, Lawful.names, Lawful.is_named, Lawful.IsLawfulByLists, Lawful.IsLawfulByListsFrom}
+use Rattle.mc_segment.specs.{Arena.Held, ClassState.ClassView, ClassState.class_view, ClassState.HasPlaces, ClassState.IsReplay}
 use Rattle.mc_segment.proofs.ChainLemmas.{not_equal}
 
 -- ---- one event more
@@ -93,11 +87,6 @@ module _ (h : Held) (number : ClassNo) (chunks max_events : ℕ) (keeps_events :
 
   pub seen_fresh : (q : ℕ) → h.next ≤ q → is_named q v.history ≡ false
   seen_fresh q below = sym (ap (λ (x : ClassView). is_named q x.history) is) ∙ r.fresh q below
-
-  pub seen_lawful : IsLawfulHistoryByLists v.chunks v.rule v.history
-  seen_lawful =
-      let P : ClassView → Type 0 = λ x. IsLawfulHistoryByLists x.chunks x.rule x.history in
-      subst P is r.lawful
 
   pub keeps : (later : Held) (now : List ClassEvent) (e : ClassEvent) → now ≡ old ++ e ∷ [] → later.lists ≡ lists_after (lists_of v.history) e → later.next ≡ h.next + links_in e → HasPlaces v 1
       → ((q : ℕ) → later.next ≤ q → names q e ≡ false) → IsLawfulByLists v.chunks v.rule v.history e → IsReplay later chunks max_events rule now

@@ -1,18 +1,15 @@
 -- Places of a list, from its tail.
 use Rattle.std.proofs.Common.{◌≡◌, ◌≢◌, ℕ, zero, suc, ◌+◌, ◌-◌, ◌==◌, ◌<◌, ◌≤◌, List, [], ◌∷◌, Bool, true, Option, Some, None, refl, sym, ap, ◌∙◌, subst, length, arith}
 use Rattle.std.specs.Prelude.{if◌then◌else◌, slice_get}
-use Rattle.std.proofs.lemmas.Bool.{false≢true, cases_lt}
+use Rattle.std.proofs.lemmas.{Bool.false≢true, Bool.cases_lt, List.take-append-drop, List.reverse-append, List.length-reverse, List.length-map, List.map-append}
+use Rattle.std.proofs.lemmas.{List.get_or-reverse, Option.slice_get-get_or, Option.get_or_from_slice_get, Option.slice_get_past, Option.slice_get_within}
 use Rattle.std.proofs.Common.{inl, inr}
 use Rattle.std.proofs.Common.{◌++◌, take, drop, reverse, length-drop}
-use Rattle.std.proofs.lemmas.List.{take-append-drop, reverse-append, length-reverse, length-map, map-append, get_or-reverse}
-use Rattle.std.proofs.lemmas.Option.{slice_get-get_or, get_or_from_slice_get, slice_get_past, slice_get_within}
 use Rattle.std.proofs.Math.Seq.{take-append_seam}
-use Rattle.mc_item.specs.declared.lists.Entry.{Entry}
+use Rattle.mc_item.specs.declared.{lists.Entry.Entry, lists.Seg.Seg, lists.Seg.TheVariants.Hot, lists.Seg.TheVariants.Warm, lists.Seg.TheVariants.Cold}
+use Rattle.mc_item.specs.declared.{lists.Seg.TheVariants.Temp}
 use Rattle.std.specs.Prelude.{IfSome}
-use Rattle.mc_item.specs.declared.lists.Seg.{Seg}
-use Rattle.mc_item.specs.declared.lists.Seg.TheVariants.{Hot, Warm, Cold, Temp}
-use Rattle.mc_rule.specs.Lists.{Lists, list_of, from_tail, times, times_in}
-use Rattle.mc_rule.specs.Segment.{behind, numbers_of, numbers_behind}
+use Rattle.mc_rule.specs.{Lists.Lists, Lists.list_of, Lists.from_tail, Lists.times, Lists.times_in, Segment.behind, Segment.numbers_of, Segment.numbers_behind}
 use Rattle.mc_segment.specs.declared.arena.Node.{Node}
 use Rattle.mc_segment.specs.Nodes.{node, first_number, last_from, node_at, lacks, distinct, before, IsChain}
 use Rattle.mc_segment.proofs.ChainLemmas.{by_eq, both_of, not_of, itself, some_none}

@@ -1,16 +1,10 @@
 -- Four lists over one table of places: which lists the places and the ends stand for.
 use Rattle.std.specs.Prelude.{ℕ, ◌≡◌, ◌==◌, ◌+◌, ◌-◌, ◌*◌, ◌^◌, ◌≤◌, List, Option, Some, None, true, if◌then◌else◌}
-use Rattle.mc_item.specs.declared.lists.Entry.{Entry}
-use Rattle.mc_item.specs.declared.lists.Seg.{Seg}
+use Rattle.mc_item.specs.declared.{lists.Entry.Entry, lists.Seg.Seg}
 use Rattle.mc_item.specs.declared.lists.Seg.TheVariants.{Hot, Warm, Cold, Temp}
 use Rattle.mc_rule.specs.Lists.{Lists, list_of, cost_sum, count_of}
-use Rattle.mc_segment.specs.declared.arena.Node.{Node}
-use Rattle.mc_segment.specs.declared.arena.Place.{Place}
-use Rattle.mc_segment.specs.declared.ends.Ends.{Ends}
-use Rattle.mc_segment.specs.declared.ends.Heads.{Heads}
-use Rattle.mc_segment.specs.Nodes.{walk, IsChain}
-use Rattle.mc_segment.specs.Links.{end_of}
-use Rattle.mc_segment.specs.Slots.{is_among}
+use Rattle.mc_segment.specs.declared.{arena.Node.Node, arena.Place.Place, ends.Ends.Ends, ends.Heads.Heads}
+use Rattle.mc_segment.specs.{Nodes.walk, Nodes.IsChain, Links.end_of, Slots.is_among}
 
 -- an arena as contracts see it: its lists, the next number, how many more entries it takes without memory, and its slots
 pub record Held : Type 0 where

@@ -1,15 +1,8 @@
 -- The event that each call of a class makes, and how such a call ends.
 use Rattle.std.specs.Prelude.{ℕ, ◌≡◌, ◌≤◌, List, Result, MatchResult, length}
-use Rattle.mc_item.specs.declared.class_event.ClassEvent.{ClassEvent}
+use Rattle.mc_item.specs.declared.{class_event.ClassEvent.ClassEvent, class_event.Why.Why, fault.Fault.Fault, item.Expiry.Expiry, item.Who.Who, lists.Seg.Seg}
 use Rattle.mc_item.specs.declared.class_event.ClassEvent.TheVariants as events
-use Rattle.mc_item.specs.declared.class_event.Why.{Why}
-use Rattle.mc_item.specs.declared.fault.Fault.{Fault}
-use Rattle.mc_item.specs.declared.item.Expiry.{Expiry}
-use Rattle.mc_item.specs.declared.item.Who.{Who}
-use Rattle.mc_item.specs.declared.lists.Seg.{Seg}
-use Rattle.mc_rule.specs.Lists.{lists_of, links_of}
-use Rattle.mc_rule.specs.Lawful.{IsLawfulByLists}
-use Rattle.mc_rule.specs.Segment.{segment_for, total_of, cold_age_of}
+use Rattle.mc_rule.specs.{Lists.lists_of, Lists.links_of, Lawful.IsLawfulByLists, Segment.segment_for, Segment.total_of, Segment.cold_age_of}
 use Rattle.mc_segment.specs.declared.surveying.Survey.{Survey}
 use Rattle.mc_segment.specs.ClassState.{ClassView, appended, with_room, HasPlaces, MayRefuse}
 

@@ -1,13 +1,8 @@
 -- A slab class as its callers see it: its history and limits, and how many more events take no memory.
 use Rattle.std.specs.Prelude.{ℕ, ◌≡◌, ◌+◌, ◌-◌, ◌^◌, ◌<◌, ◌≤◌, Bool, false, List, [], ◌∷◌, ◌++◌, length, slice_index}
-use Rattle.mc_item.specs.declared.class_event.ClassEvent.{ClassEvent}
-use Rattle.mc_item.specs.declared.config.Config.{Config}
-use Rattle.mc_item.specs.declared.fault.Fault.{Fault}
-use Rattle.mc_item.specs.declared.fault.Fault.TheVariants.{NoMemory, HistoryFull}
-use Rattle.mc_item.specs.declared.item.ClassNo.{ClassNo}
-use Rattle.mc_rule.specs.Lists.{lists_of, links_of}
-use Rattle.mc_rule.specs.Segment.{Rule, rule_of}
-use Rattle.mc_rule.specs.Lawful.{is_named, IsLawfulHistoryByLists}
+use Rattle.mc_item.specs.declared.{class_event.ClassEvent.ClassEvent, config.Config.Config, fault.Fault.Fault, fault.Fault.TheVariants.NoMemory}
+use Rattle.mc_item.specs.declared.{fault.Fault.TheVariants.HistoryFull, item.ClassNo.ClassNo}
+use Rattle.mc_rule.specs.{Lists.lists_of, Lists.links_of, Segment.Rule, Segment.rule_of, Lawful.is_named, Lawful.IsLawfulHistoryByLists}
 use Rattle.mc_segment.specs.Arena.{Held}
 
 -- a class: its number, its limit of chunks and of events, whether events are kept in memory, the numbers of its rule, all

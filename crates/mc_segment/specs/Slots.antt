@@ -1,10 +1,7 @@
 -- The slots of a class's entries, under their numbers.
-use Rattle.std.specs.Map.{lookup}
+use Rattle.std.specs.{Map.lookup, Option.option_map, declared.hash.BuildHasherDefault.BuildHasherDefault, declared.hash.FoldHasher.FoldHasher}
 use Rattle.std.specs.Prelude.{ℕ, ◌≡◌, List, Bool, Option, Some, None, if◌then◌else◌, is_some, nat_eq}
-use Rattle.std.specs.Option.{option_map}
 use Rattle.std.specs.HashMap.{HashMap, get, spare}
-use Rattle.std.specs.declared.hash.BuildHasherDefault.{BuildHasherDefault}
-use Rattle.std.specs.declared.hash.FoldHasher.{FoldHasher}
 use Rattle.mc_segment.specs.declared.arena.Place.{Place}
 use Rattle.mc_segment.specs.Links.{with_newer, with_older, points_to}
 

@@ -35,8 +35,7 @@ pub struct Arena {
 
 impl Model for Arena {
     ghost use Rattle.std.specs.HashMap.{spare};
-    ghost use Rattle.mc_segment.specs.Slots.{slot};
-    ghost use Rattle.mc_segment.specs.Arena.{Held, held, lists_in, IsArena};
+    ghost use Rattle.mc_segment.specs.{Slots.slot, Arena.Held, Arena.held, Arena.lists_in, Arena.IsArena};
 
     ghost Value = { Held };
 

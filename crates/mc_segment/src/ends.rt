@@ -1,7 +1,6 @@
 //! The ends of the four lists.
 ghost use Rattle.std.specs.Prelude.{◌≡◌, ◌+◌, ◌<◌, ◌≤◌, ◌^◌};
-ghost use Rattle.mc_segment.specs.Links.{end_of};
-ghost use Rattle.mc_segment.specs.Arena.{ends_of, with_ends, pushed_ends, taken_ends};
+ghost use Rattle.mc_segment.specs.{Links.end_of, Arena.ends_of, Arena.with_ends, Arena.pushed_ends, Arena.taken_ends};
 
 use mc_item::Seg;
 

@@ -2,8 +2,7 @@
 ghost use Rattle.std.specs.Prelude.{◌≡◌, ◌<◌, ◌≤◌, ◌+◌, ◌^◌, Some, true, IfOk, OnOk, OnErr};
 ghost use Rattle.mc_rule.specs.Lists.{lists_of, links_of, count_of};
 ghost use Rattle.mc_rule.specs.Segment as rules;
-ghost use Rattle.mc_segment.specs.ClassState.{HasPlaces};
-ghost use Rattle.mc_segment.specs.ClassCalls.{linked_event, Makes, Stays, MayEnd};
+ghost use Rattle.mc_segment.specs.{ClassState.HasPlaces, ClassCalls.linked_event, ClassCalls.Makes, ClassCalls.Stays, ClassCalls.MayEnd};
 
 use crate::state::ClassState;
 use mc_item::{Expiry, Fault, Key, Seg, Who};

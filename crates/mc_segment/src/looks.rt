@@ -1,10 +1,8 @@
 //! What an arena tells of its entries, by their numbers and from the tails.
 ghost use Rattle.std.specs.Prelude.{◌≡◌, ◌+◌, ◌-◌, ◌<◌, ◌≤◌, ℕ, length, None, Some, take, reverse, slice_get};
 ghost use Rattle.std.specs.Option.{option_copied};
-ghost use Rattle.mc_item.specs.declared.lists.Entry.{Entry};
-ghost use Rattle.mc_item.specs.declared.lists.Seg.{Seg};
-ghost use Rattle.mc_rule.specs.Lists.{list_of, found, segment_of};
-ghost use Rattle.mc_rule.specs.Segment.{numbers_of};
+ghost use Rattle.mc_item.specs.declared.{lists.Entry.Entry, lists.Seg.Seg};
+ghost use Rattle.mc_rule.specs.{Lists.list_of, Lists.found, Lists.segment_of, Segment.numbers_of};
 ghost use Rattle.mc_segment.specs.Entries.{entry_of};
 
 use crate::arena::Arena;

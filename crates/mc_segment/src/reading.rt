@@ -1,12 +1,10 @@
 //! What a class tells of its lists and its history. None of these calls but `key` takes memory.
 ghost use Rattle.std.specs.Prelude.{◌≡◌, ◌≤◌, ◌^◌, ◌+◌, ◌↔◌, ℕ, false, None, Some, length, take, reverse, IsTrue, IfSome, IfOk};
 ghost use Rattle.std.specs.Option.{option_copied, IsSomeAnd};
-ghost use Rattle.mc_item.specs.declared.lists.Entry.{Entry};
+ghost use Rattle.mc_item.specs.declared.{lists.Entry.Entry, lists.Seg.Seg};
 ghost use Rattle.mc_rule.specs.Lists.{lists_of, links_of, list_of, bytes_of, count_of, times_in, find, found, IsFull};
 ghost use Rattle.mc_segment.specs.Entries.{entry_of};
-ghost use Rattle.mc_rule.specs.Segment.{numbers_of, numbers_behind};
-ghost use Rattle.mc_item.specs.declared.lists.Seg.{Seg};
-ghost use Rattle.mc_rule.specs.Lawful.{is_named, IsIn, IsListed, IsLawfulHistoryByLists};
+ghost use Rattle.mc_rule.specs.{Segment.numbers_of, Segment.numbers_behind, Lawful.is_named, Lawful.IsIn, Lawful.IsListed, Lawful.IsLawfulHistoryByLists};
 
 use crate::shown::ShownClass;
 use crate::state::ClassState;

@@ -2,8 +2,7 @@
 ghost use Rattle.std.specs.Prelude.{◌<◌, ◌≤◌, ◌+◌, OnOk, OnErr};
 ghost use Rattle.std.specs.Option.{IsSomeAnd};
 ghost use Rattle.mc_rule.specs.Lists.{lists_of, segment_of};
-ghost use Rattle.mc_segment.specs.ClassState.{HasPlaces};
-ghost use Rattle.mc_segment.specs.ClassCalls.{shifted_event, MayCome, Makes, Stays, MayEnd};
+ghost use Rattle.mc_segment.specs.{ClassState.HasPlaces, ClassCalls.shifted_event, ClassCalls.MayCome, ClassCalls.Makes, ClassCalls.Stays, ClassCalls.MayEnd};
 
 use crate::state::ClassState;
 use mc_item::{Fault, Passed, Seg, Shifted, Who, Why};

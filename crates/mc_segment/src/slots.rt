@@ -1,7 +1,6 @@
 //! The slots of a class, under the numbers of their entries: one is made with each new entry, and given back when it goes.
 ghost use Rattle.std.specs.Prelude.{◌≡◌, ◌<◌, ◌≤◌, ◌+◌, ◌==◌, ℕ, Some, None, true, false, OnOk, IsOk, if◌then◌else◌};
-ghost use Rattle.std.specs.HashMap.{spare};
-ghost use Rattle.std.specs.Option.{option_copied, option_map};
+ghost use Rattle.std.specs.{HashMap.spare, Option.option_copied, Option.option_map};
 ghost use Rattle.mc_segment.specs.Slots.{slot, has_slot, place_newer, place_older, renewed, reolded, IsShaped};
 
 use crate::arena::Place;

@@ -1,7 +1,6 @@
 //! Events that move no entry: surveys and refusals.
 ghost use Rattle.std.specs.Prelude.{◌≡◌, ◌<◌, ◌≤◌, ◌+◌, Some, length, slice_get, IfOk, OnOk, OnErr};
-ghost use Rattle.mc_rule.specs.Lists.{lists_of};
-ghost use Rattle.mc_rule.specs.Segment.{total_of, cold_age_of};
+ghost use Rattle.mc_rule.specs.{Lists.lists_of, Segment.total_of, Segment.cold_age_of};
 ghost use Rattle.mc_segment.specs.ClassState.{HasPlaces};
 ghost use Rattle.mc_segment.specs.ClassCalls.{survey_of, surveyed_event, refused_event, MayCome, Makes, Stays, MayEnd};
 

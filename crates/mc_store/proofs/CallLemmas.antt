@@ -3,34 +3,19 @@ use Rattle.std.proofs.Common.{◌≡◌, ◌<◌, ℕ, List, inl, inr, arith, Re
 use Rattle.std.specs.Prelude.{IfOk, OnErr}
 use mathlib.Core.List.{IsPrefix}
 use Rattle.atomic_table.specs.Seated.{TableId}
-use Rattle.mc_item.specs.declared.answer.Site.{Site}
-use Rattle.mc_item.specs.declared.call_event.CallEvent.{CallEvent}
-use Rattle.mc_item.specs.declared.command.Command.{Command}
-use Rattle.mc_item.specs.declared.config.Config.{Config}
-use Rattle.mc_item.specs.declared.fault.Fault.{Fault}
-use Rattle.mc_item.specs.declared.item.Who.{Who}
-use Rattle.mc_item.specs.declared.reply.Reply.{Reply}
+use Rattle.mc_item.specs.declared.{answer.Site.Site, call_event.CallEvent.CallEvent, command.Command.Command, config.Config.Config, fault.Fault.Fault}
+use Rattle.mc_item.specs.declared.{item.Who.Who, reply.Reply.Reply, event.Event.Event, event.Event.TheVariants.Call}
 use Rattle.mc_board.specs.Histories.{Grows, HasSeen, list_at}
 use Rattle.mc_board.specs.declared.rule.Sight.{Sight}
-use Rattle.mc_evidence.specs.Locks.{StripeKeeps}
-use Rattle.mc_evidence.specs.Seen.{classes_seen}
-use Rattle.mc_evidence.proofs.LockLemmas.{stripe_sees_more}
-use Rattle.mc_evidence.proofs.SeenLemmas.{classes_grow}
-use Rattle.mc_stripe.specs.StripeCalls.{KeepsSite}
-use Rattle.mc_store.specs.Commands.{IsCut}
+use Rattle.mc_evidence.specs.{Locks.StripeKeeps, Seen.classes_seen}
+use Rattle.mc_evidence.proofs.{LockLemmas.stripe_sees_more, SeenLemmas.classes_grow}
+use Rattle.mc_stripe.specs.{StripeCalls.KeepsSite, StripeState.Stripe}
+use Rattle.mc_store.specs.{Commands.IsCut, Locked.IsLockedStripe, Locked.setting_of, Serving.HasSeenShort, Serving.IsShort, Sides.StripeSide, Sides.stripe_told}
 use Rattle.mc_store.specs.Calls.{IsCutBy, IsReplied, IsRepliedBy, IsSeenGrow}
-use Rattle.mc_store.specs.Locked.{IsLockedStripe, setting_of}
-use Rattle.mc_store.specs.Serving.{HasSeenShort, IsShort}
-use Rattle.mc_store.specs.Sides.{StripeSide, stripe_told}
-use Rattle.mc_store.proofs.EarnedLemmas.{told_sees}
-use Rattle.mc_store.proofs.ShortLemmas.{short_grows, short_stripe}
+use Rattle.mc_store.proofs.{EarnedLemmas.told_sees, ShortLemmas.short_grows, ShortLemmas.short_stripe, ServedLemmas.map_length}
 use Rattle.mc_store.specs.Callers.{asked_for, answered_at, turns_of, calls_told, moment_of}
 use Rattle.mc_store.specs.Passes.{CallerView, PassView, HasAsked, HasCalled, caller_of, next_who}
 use Rattle.mc_item.specs.declared.call_event.CallEvent.TheVariants.{Answered, Asked, Crawled, Juggled}
-use Rattle.mc_store.proofs.ServedLemmas.{map_length}
-use Rattle.mc_item.specs.declared.event.Event.{Event}
-use Rattle.mc_item.specs.declared.event.Event.TheVariants.{Call}
-use Rattle.mc_stripe.specs.StripeState.{Stripe}
 
 module _ (table : TableId) (config : Config) (old new : StripeSide) (before after : Sight) (old_kept : IsLockedStripe table config old) (new_kept : IsLockedStripe table config new) (site : KeepsSite old.stripe new.stripe)
     (seen : HasSeen (stripe_told old.stripe.history) before old.lock) (told : list_at after.seen new.lock ≡ stripe_told new.stripe.history) (grows : Grows new.sight after) where

@@ -1,19 +1,13 @@
 -- What a caller's history says of the events that name the caller: each has its call, and no turn is answered twice.
 use Rattle.std.proofs.Common.{◌≡◌, ◌<◌, ◌+◌, ℕ, List, [], ◌∷◌, ◌++◌, Some, slice_get, length, sym, ap, ◌∙◌, subst, arith}
 use Rattle.mc_item.specs.declared.call_event.Answered as kinds
-use Rattle.mc_item.specs.declared.call_event.CallEvent.{CallEvent}
+use Rattle.mc_item.specs.declared.{call_event.CallEvent.CallEvent, class_event.ClassEvent.ClassEvent, config.Config.Config, item.Who.Who, stripe_event.Did.Did}
+use Rattle.mc_item.specs.declared.{stripe_event.StripeEvent.StripeEvent}
 use Rattle.mc_item.specs.declared.call_event.CallEvent.TheVariants.{Answered, Asked, Crawled, Juggled}
-use Rattle.mc_item.specs.declared.class_event.ClassEvent.{ClassEvent}
-use Rattle.mc_item.specs.declared.config.Config.{Config}
-use Rattle.mc_item.specs.declared.item.Who.{Who}
-use Rattle.mc_item.specs.declared.stripe_event.Did.{Did}
-use Rattle.mc_item.specs.declared.stripe_event.StripeEvent.{StripeEvent}
 use Rattle.mc_item.specs.declared.stripe_event.StripeEvent.TheVariants as events
 use Rattle.mc_store.specs.Callers.{IsCalled, IsNext, answered_at, moment_of, turns_of, who_of}
 use Rattle.mc_store.specs.Finals.{AreClasses, AreItsOwn, AreItsOwnInClasses, AreStripes, FinalView}
-use Rattle.mc_store.specs.Made.{IsClassCalled, maker_of}
-use Rattle.mc_store.specs.Passes.{PassView}
-use Rattle.mc_store.specs.Sides.{ClassSide, StripeSide}
+use Rattle.mc_store.specs.{Made.IsClassCalled, Made.maker_of, Passes.PassView, Sides.ClassSide, Sides.StripeSide}
 
 -- each event was called
 pub was_called : (config : Config) (final : FinalView) (passes : ℕ → PassView) (number place : ℕ) (s : StripeSide) (event : StripeEvent) → AreStripes final.board config final.stripes

@@ -4,36 +4,23 @@ use Rattle.std.specs.Prelude.{OnOk, OnErr}
 use Rattle.std.proofs.lemmas.List.{map-append}
 use mathlib.Core.List.{IsPrefix}
 use Rattle.mc_item.specs.Command.{key_of}
-use Rattle.mc_item.specs.declared.answer.Site.{Site}
-use Rattle.mc_item.specs.declared.call_event.CallEvent.{CallEvent}
-use Rattle.mc_item.specs.declared.class_event.ClassEvent.{ClassEvent}
-use Rattle.mc_item.specs.declared.config.Config.{Config}
-use Rattle.mc_item.specs.declared.event.Event.{Event}
-use Rattle.mc_item.specs.declared.event.Event.TheVariants.{Call, Class, Stripe}
-use Rattle.mc_item.specs.declared.fault.Fault.{Fault}
-use Rattle.mc_item.specs.declared.command.Command.{Command}
-use Rattle.mc_item.specs.declared.item.ClassNo.{ClassNo}
-use Rattle.mc_item.specs.declared.item.Who.{Who}
-use Rattle.mc_item.specs.declared.stripe_event.Cause.{Cause}
-use Rattle.mc_item.specs.declared.stripe_event.Cause.TheVariants.{Expired, Taken}
-use Rattle.mc_item.specs.declared.stripe_event.StripeEvent.{StripeEvent}
+use Rattle.mc_item.specs.declared.{answer.Site.Site, call_event.CallEvent.CallEvent, class_event.ClassEvent.ClassEvent, config.Config.Config, event.Event.Event}
+use Rattle.mc_item.specs.declared.{event.Event.TheVariants.Call, event.Event.TheVariants.Class, event.Event.TheVariants.Stripe, fault.Fault.Fault}
+use Rattle.mc_item.specs.declared.{command.Command.Command, item.ClassNo.ClassNo, item.Who.Who, stripe_event.Cause.Cause}
+use Rattle.mc_item.specs.declared.{stripe_event.Cause.TheVariants.Expired, stripe_event.Cause.TheVariants.Taken, stripe_event.StripeEvent.StripeEvent}
 use Rattle.mc_item.specs.declared.stripe_event.StripeEvent.TheVariants as events
-use Rattle.mc_board.specs.Histories.{Grows, list_at, with_seen}
-use Rattle.mc_board.specs.Views.{SeenView}
+use Rattle.mc_board.specs.{Histories.Grows, Histories.list_at, Histories.with_seen, Views.SeenView}
 use Rattle.mc_board.specs.declared.rule.Sight.{Sight}
 use Rattle.mc_board.proofs.SeenLemmas.{list_at_same}
 use Rattle.mc_segment.specs.ClassState.{ClassView}
 use Rattle.mc_stripe.specs.StripeCalls.{KeepsSite}
 use Rattle.mc_stripe.specs.StripeState as states
-use Rattle.mc_pull.specs.Lone.{AreMadeBy, IsCauseOf, IsMadeBy, StripeGrows}
+use Rattle.mc_pull.specs.{Lone.AreMadeBy, Lone.IsCauseOf, Lone.IsMadeBy, Lone.StripeGrows, Settled.cooled_event, Walker.Walker}
 use Rattle.mc_pull.specs.Perform as words
 use Rattle.mc_pull.specs.Performed.{IsPerformed, IsUntouched, did_event, events_on_stripe, is_cooling}
-use Rattle.mc_pull.specs.Settled.{cooled_event}
-use Rattle.mc_pull.specs.Walker.{Walker}
-use Rattle.mc_store.specs.Callers.{AreCalled, IsBegun, IsBegunAs, IsCall, IsMomentOf, IsCalled, IsNext, IsOf, answered_at, asked_for, call_events, calls_told, who_of}
+use Rattle.mc_store.specs.Callers.{AreCalled, IsBegun, IsBegunAs, IsMomentOf, IsCalled, IsNext, IsOf, answered_at, asked_for, call_events, calls_told, who_of}
 use Rattle.mc_store.specs.Locked.{HasBegun, HasBegunAs, HasBegunCommand, caller_place, locks_for}
-use Rattle.mc_store.specs.Made.{IsClassCalled, maker_of}
-use Rattle.mc_store.specs.Passes.{CallerView, HasAsked, HasCalled}
+use Rattle.mc_store.specs.{Made.IsClassCalled, Made.maker_of, Passes.CallerView, Passes.HasAsked, Passes.HasCalled}
 
 -- ---- a caller's history
 
@@ -77,20 +64,6 @@ called_told before after lock lock_is list told at only =
     told ∙ (ap (λ (k : ℕ). record before { sight = with_seen before.sight k list }) at ∙ ap (λ (es : List Event). record before { sight = with_seen before.sight lock_is es }) only)
 
 -- ---- calls that stand in a history
-
-pub is_call_more : (call : CallEvent) (xs ys : List CallEvent) → IsCall call xs → IsCall call (xs ++ ys)
-is_call_more call [] ys is = absurd is
-is_call_more call (x ∷ xs) ys (inl same) = inl same
-is_call_more call (x ∷ xs) ys (inr more) = inr (is_call_more call xs ys more)
-
-pub is_call_last : (call : CallEvent) (xs : List CallEvent) → IsCall call (xs ++ call ∷ [])
-is_call_last call [] = inl refl
-is_call_last call (x ∷ xs) = inr (is_call_last call xs)
-
--- what stands in a beginning stands in the whole
-pub is_call_prefix : (call : CallEvent) (xs ys : List Event) → IsPrefix xs ys → IsCall call (call_events xs) → IsCall call (call_events ys)
-is_call_prefix call xs ys p is =
-    subst (IsCall call) (sym (call_events-append xs p.0) ∙ ap call_events p.1) (is_call_more call (call_events xs) (call_events p.0) is)
 
 -- what always holds holds of what was answered
 on_ok_always : {T E P : Type 0} (r : Result T E) → P → OnOk r P

@@ -2,22 +2,16 @@
 use Rattle.std.proofs.Common.{◌≡◌, ◌<◌, ◌-◌, ℕ, List, Option, Some, None, slice_get, sym, ap, ◌∙◌, subst, arith}
 use mathlib.Core.List.{IsPrefix}
 use Rattle.atomic_table.specs.Seated.{TableId}
-use Rattle.mc_item.specs.declared.class_event.ClassEvent.{ClassEvent}
-use Rattle.mc_item.specs.declared.config.Config.{Config}
-use Rattle.mc_item.specs.declared.event.Event.{Event}
-use Rattle.mc_item.specs.declared.item.ClassNo.{ClassNo}
-use Rattle.mc_item.specs.declared.stripe_event.StripeEvent.{StripeEvent}
+use Rattle.mc_item.specs.declared.{class_event.ClassEvent.ClassEvent, config.Config.Config, event.Event.Event, item.ClassNo.ClassNo}
+use Rattle.mc_item.specs.declared.{stripe_event.StripeEvent.StripeEvent}
 use Rattle.mc_board.specs.declared.rule.Sight.{Sight}
 use Rattle.mc_board.specs.Histories.{blind, list_at}
-use Rattle.mc_evidence.specs.Locks.{ClassKeeps, StripeKeeps}
-use Rattle.mc_evidence.specs.Seen.{class_events, classes_seen, stripe_events, stripes_seen}
-use Rattle.mc_evidence.specs.Setting.{IsClass}
-use Rattle.mc_evidence.specs.Sound.{IsSoundStore}
-use Rattle.mc_evidence.proofs.SeenLemmas.{class_events-map, classes_grow, stripe_events-map, stripes_grow}
-use Rattle.mc_evidence.proofs.SoundLemmas.{entry_in, item_in, locks_sound, once_in}
+use Rattle.mc_evidence.specs.{Locks.ClassKeeps, Locks.StripeKeeps, Seen.class_events, Seen.classes_seen, Seen.stripe_events, Seen.stripes_seen, Setting.IsClass}
+use Rattle.mc_evidence.specs.{Sound.IsSoundStore}
+use Rattle.mc_evidence.proofs.{SeenLemmas.class_events-map, SeenLemmas.classes_grow, SeenLemmas.stripe_events-map, SeenLemmas.stripes_grow}
+use Rattle.mc_evidence.proofs.{SoundLemmas.entry_in, SoundLemmas.item_in, SoundLemmas.locks_sound, SoundLemmas.once_in}
 use Rattle.mc_store.specs.Finals.{AreClasses, AreExactlyEntries, AreStripes, IsBehindClasses, IsBehindStripes, class_histories, class_history, stripe_histories, stripe_history}
-use Rattle.mc_store.specs.Locked.{class_lock, setting_of}
-use Rattle.mc_store.specs.Sides.{ClassSide, StripeSide, class_told, stripe_told}
+use Rattle.mc_store.specs.{Locked.class_lock, Locked.setting_of, Sides.ClassSide, Sides.StripeSide, Sides.class_told, Sides.stripe_told}
 use Rattle.mc_store.proofs.PlaceLemmas.{get_some}
 
 -- what a stripe that is there has seen

@@ -1,32 +1,17 @@
 -- What stands before a command's answer, and what its key's item and its row are then.
 use Rattle.std.proofs.Common.{◌≡◌, ◌++◌, ◌∷◌, [], ◌+◌, inl, inr, ℕ, List, Bool, true, false, refl, sym, ap, ◌∙◌, subst, arith, append-nil}
 use Rattle.std.specs.Prelude.{Option, Some, None, IsSomeAnd, if◌then◌else◌}
-use Rattle.mc_item.specs.Answer.{row_of}
-use Rattle.mc_item.specs.Cache.{Cache, if_alive, visible_items}
-use Rattle.mc_item.specs.Command.{key_of}
-use Rattle.mc_item.specs.Item.{is_dead}
-use Rattle.mc_item.specs.Stripe.{cache_of, IsAlive}
-use Rattle.mc_item.specs.declared.answer.Need.{Need}
+use Rattle.mc_item.specs.{Answer.row_of, Cache.Cache, Cache.if_alive, Cache.visible_items, Command.key_of, Item.is_dead, Stripe.cache_of, Stripe.IsAlive}
+use Rattle.mc_item.specs.declared.{answer.Need.Need, answer.Site.Site, command.Command.Command, config.Config.Config, item.Item.Item, item.Who.Who}
+use Rattle.mc_item.specs.declared.{stripe_event.Cause.TheVariants.Expired, stripe_event.StripeEvent.StripeEvent}
 use Rattle.mc_item.specs.declared.answer.Need.TheVariants as needs
-use Rattle.mc_item.specs.declared.answer.Site.{Site}
-use Rattle.mc_item.specs.declared.command.Command.{Command}
-use Rattle.mc_item.specs.declared.config.Config.{Config}
-use Rattle.mc_item.specs.declared.item.Item.{Item}
-use Rattle.mc_item.specs.declared.item.Who.{Who}
-use Rattle.mc_item.specs.declared.stripe_event.Cause.TheVariants.{Expired}
-use Rattle.mc_item.specs.declared.stripe_event.StripeEvent.{StripeEvent}
 use Rattle.mc_item.specs.declared.stripe_event.StripeEvent.TheVariants as events
 use Rattle.mc_item.proofs.StripeLemmas.{cache_of-push}
 use Rattle.mc_rule.specs.Pairs.{item_after}
 use Rattle.mc_evidence.specs.Losses.{AreNoCommands, IsSameItem}
-use Rattle.mc_evidence.proofs.LegalLemmas.{after_loss}
-use Rattle.mc_evidence.proofs.LossLemmas.{was_there}
-use Rattle.mc_stripe.specs.Plan.{dead_link, visible_row}
-use Rattle.mc_stripe.specs.StripeCalls.{KeepsSite}
-use Rattle.mc_stripe.specs.StripeState.{Stripe, cache_now}
-use Rattle.mc_pull.specs.Lone.{AreMadeBy}
-use Rattle.mc_pull.specs.Settled.{lost_event}
-use Rattle.mc_pull.specs.Walker.{Walker}
+use Rattle.mc_evidence.proofs.{LegalLemmas.after_loss, LossLemmas.was_there}
+use Rattle.mc_stripe.specs.{Plan.dead_link, Plan.visible_row, StripeCalls.KeepsSite, StripeState.Stripe, StripeState.cache_now}
+use Rattle.mc_pull.specs.{Lone.AreMadeBy, Settled.lost_event, Walker.Walker}
 use Rattle.mc_store.specs.Commands.{IsSearch, LeadsUp, burial, walker_in}
 
 -- a walker makes no command

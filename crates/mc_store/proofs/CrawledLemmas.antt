@@ -2,30 +2,20 @@
 use Rattle.std.proofs.Common.{◌≡◌, ◌+◌, ℕ, List, [], ◌∷◌, ◌++◌, Result, Ok, Err, refl, sym, ap, ◌∙◌, subst, inl, inr, arith, length, append_assoc}
 use Rattle.std.specs.Prelude.{OnOk}
 use mathlib.Core.List.{IsPrefix}
-use Rattle.mc_item.specs.declared.class_event.ClassEvent.{ClassEvent}
+use Rattle.mc_item.specs.declared.{class_event.ClassEvent.ClassEvent, config.Config.Config, counts.Histogram.Histogram, event.Event.Event}
+use Rattle.mc_item.specs.declared.{event.Event.TheVariants.Call, event.Event.TheVariants.Class, event.Event.TheVariants.Stripe, fault.Fault.Fault}
+use Rattle.mc_item.specs.declared.{item.ClassNo.ClassNo, item.Link.Link, item.Who.Who}
 use Rattle.mc_item.specs.Counts.{no_counts}
-use Rattle.mc_item.specs.declared.config.Config.{Config}
-use Rattle.mc_item.specs.declared.counts.Histogram.{Histogram}
-use Rattle.mc_item.specs.declared.event.Event.{Event}
-use Rattle.mc_item.specs.declared.event.Event.TheVariants.{Call, Class, Stripe}
-use Rattle.mc_item.specs.declared.fault.Fault.{Fault}
-use Rattle.mc_item.specs.declared.item.ClassNo.{ClassNo}
-use Rattle.mc_item.specs.declared.item.Link.{Link}
-use Rattle.mc_item.specs.declared.item.Who.{Who}
 use Rattle.mc_board.specs.Histories.{Grows, list_at}
 use Rattle.mc_board.specs.declared.rule.Sight.{Sight}
 use Rattle.mc_rule.specs.Lists.{count_of, lists_of}
 use Rattle.mc_board.proofs.PrefixLemmas.{prefix_self, prefix_trans}
 use Rattle.mc_segment.specs.ClassState.{ClassView, opened}
 use Rattle.mc_pull.specs.declared.looking.Answer.{Answer}
-use Rattle.mc_crawl.specs.Crawl.{AreReclaims, IsCrawled, Reclaims, crawl}
-use Rattle.mc_crawl.specs.CrawlCount.{IsBalanced, counted}
-use Rattle.mc_crawl.specs.Snapshot.{links_of}
+use Rattle.mc_crawl.specs.{Crawl.AreReclaims, Crawl.IsCrawled, Crawl.Reclaims, Crawl.crawl, CrawlCount.IsBalanced, CrawlCount.counted, Snapshot.links_of}
 use Rattle.mc_crawl.specs.declared.kind.Kind.{Kind}
-use Rattle.mc_store.specs.Calls.{IsSeenGrowOf}
+use Rattle.mc_store.specs.{Calls.IsSeenGrowOf, Locked.class_lock, Sides.class_told}
 use Rattle.mc_store.specs.Crawls.{AreLinksCounted, CountsLink, HasReclaims, IsCrawledBy, IsLinkCounted, IsSeenSound, IsSnapshot, ShowsReclaims}
-use Rattle.mc_store.specs.Locked.{class_lock}
-use Rattle.mc_store.specs.Sides.{class_told}
 use Rattle.mc_store.proofs.ServedLemmas.{map_append}
 
 -- at least none is there

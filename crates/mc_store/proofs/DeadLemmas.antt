@@ -3,26 +3,15 @@ use Rattle.std.proofs.Common.{◌≡◌, ℕ, List, [], ◌∷◌, Option, Some,
 use Rattle.std.specs.Prelude.{◌==◌, ◌&&◌, IsSome, IsSomeAnd, if◌then◌else◌}
 use Rattle.std.specs.Option.{option_map}
 use Rattle.std.proofs.lemmas.Bool.Decides.{nat_tests}
-use Rattle.mc_item.specs.Item.{is_dead}
-use Rattle.mc_item.specs.Stripe.{IsLegal}
-use Rattle.mc_item.specs.declared.item.ClassNo.{ClassNo}
-use Rattle.mc_item.specs.declared.item.Item.{Item}
-use Rattle.mc_item.specs.declared.item.Link.{Link}
-use Rattle.mc_item.specs.declared.item.Who.{Who}
-use Rattle.mc_item.specs.declared.lists.Entry.{Entry}
-use Rattle.mc_item.specs.declared.lists.Seg.{Seg}
-use Rattle.mc_item.specs.declared.stripe_event.Cause.TheVariants.{Expired}
-use Rattle.mc_rule.specs.Belonging.{HasEntry, IsEntryFor}
-use Rattle.mc_rule.specs.Lawful.{IsLawfulHistoryByLists, IsListed}
-use Rattle.mc_rule.specs.Lists.{found, lists_of}
+use Rattle.mc_item.specs.{Item.is_dead, Stripe.IsLegal}
+use Rattle.mc_item.specs.declared.{item.ClassNo.ClassNo, item.Item.Item, item.Link.Link, item.Who.Who, lists.Entry.Entry, lists.Seg.Seg}
+use Rattle.mc_item.specs.declared.{stripe_event.Cause.TheVariants.Expired}
+use Rattle.mc_rule.specs.{Belonging.HasEntry, Belonging.IsEntryFor, Lawful.IsLawfulHistoryByLists, Lawful.IsListed, Lists.found, Lists.lists_of}
 use Rattle.mc_evidence.proofs.ExactLemmas.{entry_of_item}
 use Rattle.mc_segment.specs.ClassState.{ClassView}
-use Rattle.mc_stripe.specs.Plan.{dead_link}
-use Rattle.mc_stripe.specs.StripeState.{Stripe, cache_now}
-use Rattle.mc_pull.specs.Agreeing.{AgreeNow}
+use Rattle.mc_stripe.specs.{Plan.dead_link, StripeState.Stripe, StripeState.cache_now}
+use Rattle.mc_pull.specs.{Agreeing.AgreeNow, Question.question, Settled.lost_event, Settled.stripe_events}
 use Rattle.mc_pull.specs.Judgement.{done_of, done_with, done_if, has_link}
-use Rattle.mc_pull.specs.Question.{question}
-use Rattle.mc_pull.specs.Settled.{lost_event, stripe_events}
 use Rattle.mc_pull.specs.declared.judge.Done.TheVariants as done
 use Rattle.mc_pull.specs.declared.judge.Judge.TheVariants.{Dead}
 

@@ -2,42 +2,21 @@
 use Rattle.std.proofs.Common.{◌≡◌, ◌<◌, ◌⊎◌, ℕ, Bool, false, List, [], ◌∷◌, ◌++◌, inl, inr, refl, sym, ap, ◌∙◌, subst, append_assoc}
 use Rattle.std.specs.Prelude.{Option, Some, None, IfSome}
 use mathlib.Core.List.{IsPrefix}
-use Rattle.mc_item.specs.Command.{key_of}
-use Rattle.mc_item.specs.Measure.{stripe_of}
-use Rattle.mc_item.specs.declared.answer.Site.{Site}
-use Rattle.mc_item.specs.declared.class_event.ClassEvent.{ClassEvent}
+use Rattle.mc_item.specs.{Command.key_of, Measure.stripe_of}
+use Rattle.mc_item.specs.declared.{answer.Site.Site, class_event.ClassEvent.ClassEvent, command.Command.Command, config.Config.Config, item.ClassNo.ClassNo}
+use Rattle.mc_item.specs.declared.{item.StripeNo.StripeNo, item.Who.Who, lists.Entry.Entry, lists.Seg.Seg, lists.Seg.TheVariants.Hot}
+use Rattle.mc_item.specs.declared.{lists.Seg.TheVariants.Cold, reply.Reply.Reply, reply.Room.Room, stripe_event.Did.Did}
 use Rattle.mc_item.specs.declared.class_event.ClassEvent.TheVariants as entries
-use Rattle.mc_item.specs.declared.command.Command.{Command}
-use Rattle.mc_item.specs.declared.config.Config.{Config}
-use Rattle.mc_item.specs.declared.item.ClassNo.{ClassNo}
-use Rattle.mc_item.specs.declared.item.StripeNo.{StripeNo}
-use Rattle.mc_item.specs.declared.item.Who.{Who}
-use Rattle.mc_item.specs.declared.lists.Entry.{Entry}
-use Rattle.mc_item.specs.declared.lists.Seg.{Seg}
-use Rattle.mc_item.specs.declared.lists.Seg.TheVariants.{Hot, Cold}
-use Rattle.mc_item.specs.declared.reply.Reply.{Reply}
-use Rattle.mc_item.specs.declared.reply.Room.{Room}
 use Rattle.mc_item.specs.declared.reply.Room.TheVariants as rooms
-use Rattle.mc_item.specs.declared.stripe_event.Did.{Did}
-use Rattle.mc_rule.specs.Lists.{from_tail, list_of, lists_of}
-use Rattle.mc_rule.specs.Pairs.{IsKeyOf, IsRefusal}
-use Rattle.mc_rule.specs.Places.{Has}
-use Rattle.mc_evidence.specs.Refusals.{HasTried, NoneNear, WasTried}
-use Rattle.mc_evidence.proofs.GrowLemmas.{tried_later}
-use Rattle.mc_pull.specs.Tried.{IsNoneNear}
-use Rattle.mc_evidence.specs.Seen.{class_events, classes_seen}
-use Rattle.mc_evidence.proofs.SeenLemmas.{class_events-map, classes_grow}
+use Rattle.mc_rule.specs.{Lists.from_tail, Lists.list_of, Lists.lists_of, Pairs.IsKeyOf, Pairs.IsRefusal, Places.Has, Segment.Rule, Places.Stands}
+use Rattle.mc_evidence.specs.{Refusals.HasTried, Refusals.NoneNear, Refusals.WasTried, Seen.class_events, Seen.classes_seen}
+use Rattle.mc_evidence.proofs.{GrowLemmas.tried_later, SeenLemmas.class_events-map, SeenLemmas.classes_grow}
+use Rattle.mc_pull.specs.{Tried.IsNoneNear, Question.IsClassOf, Rounds.IsRoom, Rounds.Rounds, Rounds.rounds}
 use Rattle.mc_board.specs.Histories.{Grows, list_at}
 use Rattle.mc_board.specs.declared.rule.Sight.{Sight}
-use Rattle.mc_segment.specs.ClassCalls.{refused_event}
-use Rattle.mc_segment.specs.ClassState.{ClassView, chunks_for, class_view, opened}
-use Rattle.mc_rule.specs.Segment.{Rule}
-use Rattle.mc_rule.specs.Places.{Stands}
-use Rattle.mc_pull.specs.Question.{IsClassOf}
-use Rattle.mc_pull.specs.Rounds.{IsRoom, Rounds, rounds}
+use Rattle.mc_segment.specs.{ClassCalls.refused_event, ClassState.ClassView, ClassState.chunks_for, ClassState.class_view, ClassState.opened}
 use Rattle.mc_store.specs.Earned.{HasGoneThrough, HasSearched, IsInVain, IsEarned, IsEarnedAt, IsEarnedIn, IsLastResort}
-use Rattle.mc_store.specs.Locked.{class_lock}
-use Rattle.mc_store.specs.Sides.{class_told}
+use Rattle.mc_store.specs.{Locked.class_lock, Sides.class_told}
 
 -- who has seen all that a class told has seen its history
 pub class_seen : (config : Config) (sight : Sight) (lock : ℕ) (class : ClassNo) (history : List ClassEvent) → lock ≡ class_lock config class → list_at sight.seen lock ≡ class_told history

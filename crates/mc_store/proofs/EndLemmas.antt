@@ -1,46 +1,20 @@
 -- How a command under the lock of its stripe ends, by how its steps end.
 use Rattle.std.proofs.Common.{◌≡◌, ◌++◌, ◌∷◌, [], ℕ, List, Result, Ok, Err, inl, inr, ⊎_elim, length, append-nil, refl, ap, ◌∙◌, subst, sym}
 use Rattle.std.specs.Prelude.{Option, Some, IsErrAnd, IsErrOf}
-use Rattle.mc_item.specs.Answer.{row_of}
-use Rattle.mc_item.specs.Cache.{Cache}
-use Rattle.mc_item.specs.Command.{key_of}
-use Rattle.mc_item.specs.Stripe.{IsAlive, cache_of}
-use Rattle.mc_item.specs.declared.answer.Need.{Need}
+use Rattle.mc_item.specs.{Answer.row_of, Cache.Cache, Command.key_of, Stripe.IsAlive, Stripe.cache_of}
+use Rattle.mc_item.specs.declared.{answer.Need.Need, answer.Site.Site, call_event.CallEvent.CallEvent, command.Command.Command, config.Config.Config}
+use Rattle.mc_item.specs.declared.{fault.Fault.Fault, fault.Fault.TheVariants.HistoryFull, item.ClassNo.ClassNo, item.Item.Item, item.Link.Link, item.Who.Who}
+use Rattle.mc_item.specs.declared.{reply.Reply.Reply, stripe_event.StripeEvent.StripeEvent}
 use Rattle.mc_item.specs.declared.answer.Need.TheVariants as needs
-use Rattle.mc_item.specs.declared.answer.Site.{Site}
-use Rattle.mc_item.specs.declared.call_event.CallEvent.{CallEvent}
-use Rattle.mc_item.specs.declared.command.Command.{Command}
-use Rattle.mc_item.specs.declared.config.Config.{Config}
-use Rattle.mc_item.specs.declared.fault.Fault.{Fault}
-use Rattle.mc_item.specs.declared.fault.Fault.TheVariants.{HistoryFull}
-use Rattle.mc_item.specs.declared.item.ClassNo.{ClassNo}
-use Rattle.mc_item.specs.declared.item.Item.{Item}
-use Rattle.mc_item.specs.declared.item.Link.{Link}
-use Rattle.mc_item.specs.declared.item.Who.{Who}
-use Rattle.mc_item.specs.declared.reply.Reply.{Reply}
-use Rattle.mc_item.specs.declared.stripe_event.StripeEvent.{StripeEvent}
 use Rattle.mc_item.specs.declared.stripe_event.StripeEvent.TheVariants as events
 use Rattle.mc_board.specs.declared.rule.Sight.{Sight}
-use Rattle.mc_stripe.specs.Plan.{dead_link}
-use Rattle.mc_stripe.specs.StripeCalls.{KeepsSite}
-use Rattle.mc_stripe.specs.StripeState.{Stripe, cache_now}
-use Rattle.mc_stripe.specs.Trying.{item_of, row_at}
-use Rattle.mc_stripe.specs.Wanting.{Holds, IsWanting, classes_for}
-use Rattle.mc_stripe.specs.declared.wanting.Want.{Want}
-use Rattle.mc_pull.specs.Perform.{answer_to, call}
-use Rattle.mc_pull.specs.Performed.{cooled_if}
-use Rattle.mc_stripe.specs.declared.trying.Turn.{Turn}
-use Rattle.mc_pull.specs.Question.{IsStripeOf}
-use Rattle.mc_store.specs.Callers.{answered_at}
-use Rattle.mc_store.specs.Calls.{IsReplied}
-use Rattle.mc_store.specs.Commands.{IsCut, IsSearch, burial}
-use Rattle.mc_store.specs.Earned.{IsEarned, IsEarnedIn}
-use Rattle.mc_store.specs.Held.{Ends, IsMadeIn, IsWalked, Suffice, WantsAlone, WantsChunk, nothing}
-use Rattle.mc_store.specs.Passes.{CallerView}
-use Rattle.mc_store.specs.Serving.{IsShort}
-use Rattle.mc_store.specs.Sides.{StripeSide}
-use Rattle.mc_store.proofs.CommandLemmas.{led_same, visible_alive}
-use Rattle.mc_store.proofs.EarnedLemmas.{earned_told}
+use Rattle.mc_stripe.specs.{Plan.dead_link, StripeCalls.KeepsSite, StripeState.Stripe, StripeState.cache_now, Trying.item_of, Trying.row_at, Wanting.Holds}
+use Rattle.mc_stripe.specs.{Wanting.IsWanting, Wanting.classes_for}
+use Rattle.mc_stripe.specs.declared.{wanting.Want.Want, trying.Turn.Turn}
+use Rattle.mc_pull.specs.{Perform.answer_to, Perform.call, Performed.cooled_if, Question.IsStripeOf}
+use Rattle.mc_store.specs.{Callers.answered_at, Calls.IsReplied, Commands.IsCut, Commands.IsSearch, Commands.burial, Earned.IsEarned, Earned.IsEarnedIn}
+use Rattle.mc_store.specs.{Held.Ends, Held.IsMadeIn, Held.IsWalked, Held.Suffice, Held.nothing, Passes.CallerView, Serving.IsShort, Sides.StripeSide}
+use Rattle.mc_store.proofs.{CommandLemmas.led_same, CommandLemmas.visible_alive, EarnedLemmas.earned_told}
 use Rattle.mc_store.proofs.UnderLemmas.{IsSearched, cut_behind, cut_from, replied_behind, replied_from, site_both}
 
 module _ (config : Config) (command : Command) (turn : Turn) where
@@ -192,18 +166,6 @@ module _ (s s_new : Stripe) (site : KeepsSite s s_new) (same : s_new.history ≡
 
   abbrev Wants : Want → Site → Cache → Type 0
   Wants want t c = IsWanting nothing (key_of command) (c.items (key_of command)) moment (row_of t c.versions (c.items (key_of command)) command moment) want
-
-  pub wants_same : (want : Want) → WantsAlone s command moment want → WantsAlone s_new command moment want
-  wants_same want was = subst (λ (t : Site). Wants want t (cache_now s_new)) (sym site.site) (subst (λ (c : Cache). Wants want s.site c) (sym cache_same) was)
-
-  abbrev Freshens : ClassNo → Site → Cache → Type 0
-  Freshens class t c = (row_of t c.versions (c.items (key_of command)) command moment).need ≡ needs.Fresh class
-
-  pub chunk_same : (class : ClassNo) (other : Option ClassNo) → WantsChunk class other s command moment → WantsChunk class other s_new command moment
-  chunk_same class other was = record {
-    suffice = suffice_same (Some class) other was.suffice;
-    fresh = subst (λ (t : Site). Freshens class t (cache_now s_new)) (sym site.site) (subst (λ (c : Cache). Freshens class s.site c) (sym cache_same) was.fresh);
-  }
 
   pub searched_same : (config : Config) (who : Who) (t : Stripe) → IsSearched config who command moment t s → IsSearched config who command moment t s_new
   searched_same config who t searched = (searched.0, searched.1, same ∙ searched.2)

@@ -1,15 +1,10 @@
 -- A closed store held against a caller's history: each event that names the caller was called.
 use Rattle.std.proofs.Common.{◌≡◌, ◌+◌, ℕ, List, Some, slice_get, subst}
 use Rattle.atomic_table.specs.Seated.{TableId}
-use Rattle.mc_item.specs.declared.call_event.CallEvent.{CallEvent}
-use Rattle.mc_item.specs.declared.config.Config.{Config}
+use Rattle.mc_item.specs.declared.{call_event.CallEvent.CallEvent, config.Config.Config}
 use Rattle.mc_board.specs.Histories.{HasSeen, list_at}
-use Rattle.mc_store.specs.Callers.{IsCalled, call_events, calls_told}
-use Rattle.mc_store.specs.Finals.{AreClasses, AreItsOwn, AreItsOwnInClasses, AreStripes}
-use Rattle.mc_store.specs.Locked.{caller_place, locks_for}
-use Rattle.mc_store.specs.Made.{IsClassCalled}
-use Rattle.mc_store.specs.Passes.{PassView}
-use Rattle.mc_store.specs.Sides.{ClassSide, StripeSide}
+use Rattle.mc_store.specs.{Callers.IsCalled, Callers.call_events, Callers.calls_told, Finals.AreClasses, Finals.AreItsOwn, Finals.AreItsOwnInClasses}
+use Rattle.mc_store.specs.{Finals.AreStripes, Locked.caller_place, Locked.locks_for, Made.IsClassCalled, Passes.PassView, Sides.ClassSide, Sides.StripeSide}
 use Rattle.mc_store.proofs.CallerLemmas.{call_events-told, called_prefix, class_called_prefix}
 
 -- what each stripe has seen of a caller's history begins it

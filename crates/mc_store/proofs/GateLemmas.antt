@@ -4,29 +4,17 @@ use Rattle.std.specs.Prelude.{IfErr, IfOk}
 use Rattle.std.proofs.lemmas.List.{append-nil}
 use mathlib.Core.List.{IsPrefix}
 use Rattle.atomic_table.specs.Seated.{TableId}
-use Rattle.mc_item.specs.declared.class_event.ClassEvent.{ClassEvent}
-use Rattle.mc_item.specs.declared.config.Config.{Config}
-use Rattle.mc_item.specs.declared.event.Event.{Event}
-use Rattle.mc_item.specs.declared.fault.Fault.{Fault}
-use Rattle.mc_item.specs.declared.fault.Fault.TheVariants.{HistoryFull}
-use Rattle.mc_item.specs.declared.item.Who.{Who}
-use Rattle.mc_item.specs.declared.stripe_event.StripeEvent.{StripeEvent}
+use Rattle.mc_item.specs.declared.{class_event.ClassEvent.ClassEvent, config.Config.Config, event.Event.Event, fault.Fault.Fault}
+use Rattle.mc_item.specs.declared.{fault.Fault.TheVariants.HistoryFull, item.Who.Who, stripe_event.StripeEvent.StripeEvent}
 use Rattle.mc_evidence.proofs.EntryLemmas.{survey_step}
 use Rattle.mc_evidence.specs.Seen.{stripes_seen}
-use Rattle.mc_segment.specs.ClassCalls.{surveyed_event}
-use Rattle.mc_segment.specs.ClassState.{ClassView, with_room}
+use Rattle.mc_segment.specs.{ClassCalls.surveyed_event, ClassState.ClassView, ClassState.with_room}
 use Rattle.mc_stripe.specs.StripeState.{Stripe}
-use Rattle.mc_board.specs.Histories.{Grows, list_at}
-use Rattle.mc_board.specs.Views.{OwnerView, SeenView}
+use Rattle.mc_board.specs.{Histories.Grows, Histories.list_at, Views.OwnerView, Views.SeenView}
 use Rattle.mc_board.specs.declared.rule.Sight.{Sight}
 use Rattle.mc_board.proofs.PrefixLemmas.{prefix_length, prefix_more, prefix_self}
-use Rattle.mc_pull.specs.Lone.{AreMadeBy, StripeGrows}
-use Rattle.mc_pull.specs.Question.{IsClassOf}
-use Rattle.mc_pull.specs.Settled.{class_with}
-use Rattle.mc_pull.specs.Walker.{Walker}
-use Rattle.mc_store.specs.Locked.{setting_of}
-use Rattle.mc_store.specs.Serving.{HasSeenShort, IsServed, MayFailSeen}
-use Rattle.mc_store.specs.Sides.{class_told}
+use Rattle.mc_pull.specs.{Lone.AreMadeBy, Lone.StripeGrows, Question.IsClassOf, Settled.class_with, Walker.Walker}
+use Rattle.mc_store.specs.{Locked.setting_of, Serving.HasSeenShort, Serving.IsServed, Serving.MayFailSeen, Sides.class_told}
 use Rattle.mc_store.proofs.ServedLemmas.{map_append, short_of}
 
 -- ---- stripes that grow

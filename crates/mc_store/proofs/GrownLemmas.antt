@@ -3,31 +3,18 @@ use Rattle.std.proofs.Common.{◌≡◌, ◌<◌, ◌+◌, ℕ, List, Result, Ok
 use Rattle.std.specs.Prelude.{IfErr, IfOk}
 use mathlib.Core.List.{IsPrefix}
 use Rattle.atomic_table.specs.Seated.{TableId}
-use Rattle.mc_item.specs.declared.class_event.ClassEvent.{ClassEvent}
-use Rattle.mc_item.specs.declared.config.Config.{Config}
-use Rattle.mc_item.specs.declared.counts.Moves.{Moves}
-use Rattle.mc_item.specs.declared.fault.Fault.{Fault}
-use Rattle.mc_item.specs.declared.fault.Fault.TheVariants.{HistoryFull}
-use Rattle.mc_item.specs.declared.item.ClassNo.{ClassNo}
-use Rattle.mc_item.specs.declared.item.Who.{Who}
-use Rattle.mc_evidence.specs.Locks.{ClassKeeps}
-use Rattle.mc_evidence.specs.Seen.{stripes_seen}
+use Rattle.mc_item.specs.declared.{class_event.ClassEvent.ClassEvent, config.Config.Config, counts.Moves.Moves, fault.Fault.Fault}
+use Rattle.mc_item.specs.declared.{fault.Fault.TheVariants.HistoryFull, item.ClassNo.ClassNo, item.Who.Who}
+use Rattle.mc_evidence.specs.{Locks.ClassKeeps, Seen.stripes_seen}
 use Rattle.mc_board.specs.Histories.{Grows, list_at}
 use Rattle.mc_board.specs.declared.rule.Sight.{Sight}
 use Rattle.mc_segment.specs.ClassState.{ClassView}
 use Rattle.mc_pull.specs.Growth as classes
-use Rattle.mc_pull.specs.Juggle.{IsJuggle}
-use Rattle.mc_pull.specs.Rounds.{rounds}
+use Rattle.mc_pull.specs.{Juggle.IsJuggle, Rounds.rounds}
 use Rattle.mc_pull.specs.declared.looking.Answer.{Answer}
-use Rattle.mc_store.specs.Calls.{IsJuggledBy, IsSeenGrowOf}
-use Rattle.mc_store.specs.Crawls.{IsSeenSound}
-use Rattle.mc_store.specs.Finals.{IsBehindAt}
-use Rattle.mc_store.specs.Locked.{IsHeldClass, class_lock, setting_of}
-use Rattle.mc_store.specs.Serving.{HasSeenShort, MayFailSeen}
-use Rattle.mc_store.specs.Sides.{ClassSide, class_told}
-use Rattle.mc_store.proofs.GateLemmas.{short_seen}
-use Rattle.mc_store.proofs.PairLemmas.{class_sees}
-use Rattle.mc_store.proofs.ServedLemmas.{short_of}
+use Rattle.mc_store.specs.{Calls.IsJuggledBy, Calls.IsSeenGrowOf, Crawls.IsSeenSound, Finals.IsBehindAt, Locked.IsHeldClass, Locked.class_lock}
+use Rattle.mc_store.specs.{Locked.setting_of, Serving.HasSeenShort, Serving.MayFailSeen, Sides.ClassSide, Sides.class_told}
+use Rattle.mc_store.proofs.{GateLemmas.short_seen, PairLemmas.class_sees, ServedLemmas.short_of}
 
 -- what a class's lock keeps is seen by whoever was told of it all
 pub seen_sound : (table : TableId) (config : Config) (class : ClassNo) (after : Sight) (s : ClassSide) → IsHeldClass table config s → s.class.number ≡ class → list_at after.seen s.lock ≡ class_told s.class.history → Grows s.sight after

@@ -1,31 +1,19 @@
 -- A reply that was given stands in what a closed store leaves.
 use Rattle.std.proofs.Common.{◌≡◌, ◌<◌, ℕ, List, [], ◌∷◌, ◌++◌, Some, refl, sym, ap, ◌∙◌, subst, arith, length, length-append, slice_get}
 use mathlib.Core.List.{IsPrefix}
-use Rattle.mc_item.specs.Command.{key_of}
-use Rattle.mc_item.specs.Stripe.{IsLegal}
-use Rattle.mc_item.specs.declared.call_event.CallEvent.{CallEvent}
-use Rattle.mc_item.specs.declared.command.Command.{Command}
-use Rattle.mc_item.specs.declared.config.Config.{Config}
-use Rattle.mc_item.specs.declared.event.Event.{Event}
-use Rattle.mc_item.specs.declared.item.Who.{Who}
-use Rattle.mc_item.specs.declared.reply.Reply.{Reply}
-use Rattle.mc_item.specs.declared.stripe_event.StripeEvent.{StripeEvent}
+use Rattle.mc_item.specs.{Command.key_of, Stripe.IsLegal}
+use Rattle.mc_item.specs.declared.{call_event.CallEvent.CallEvent, command.Command.Command, config.Config.Config, event.Event.Event, item.Who.Who}
+use Rattle.mc_item.specs.declared.{reply.Reply.Reply, stripe_event.StripeEvent.StripeEvent}
 use Rattle.mc_item.specs.declared.stripe_event.StripeEvent.TheVariants as events
 use Rattle.mc_board.specs.Histories.{Grows, list_at}
 use Rattle.mc_board.specs.declared.rule.Sight.{Sight}
 use Rattle.mc_board.proofs.PrefixLemmas.{prefix_length, prefix_trans}
-use Rattle.mc_evidence.specs.Seen.{stripe_events}
-use Rattle.mc_evidence.specs.Setting.{site_in}
+use Rattle.mc_evidence.specs.{Seen.stripe_events, Setting.site_in}
 use Rattle.mc_evidence.proofs.SeenLemmas.{stripe_events-map}
 use Rattle.mc_pull.specs.Performed.{cooled_if}
-use Rattle.mc_store.specs.Calls.{IsRepliedBy}
+use Rattle.mc_store.specs.{Calls.IsRepliedBy, Headline.IsBorneOut, Headline.answered_did, Locked.setting_of, Sides.stripe_told}
 use Rattle.mc_store.specs.Finals.{AreStripes, FinalView, IsBehindStripes, stripe_histories, stripe_history}
-use Rattle.mc_store.specs.Headline.{IsBorneOut, answered_did}
-use Rattle.mc_store.specs.Locked.{setting_of}
-use Rattle.mc_store.specs.Sides.{stripe_told}
-use Rattle.mc_store.proofs.ClosedLemmas.{stripe_begins}
-use Rattle.mc_store.proofs.PlaceLemmas.{get_some}
-use Rattle.mc_store.proofs.ServedLemmas.{map_length}
+use Rattle.mc_store.proofs.{ClosedLemmas.stripe_begins, PlaceLemmas.get_some, ServedLemmas.map_length}
 
 -- behind a list, and whatever follows, stands what comes next
 get_next : {X : Type 0} (xs ys more : List X) (x : X) → slice_get ((xs ++ x ∷ ys) ++ more) (length xs) ≡ Some x

@@ -2,61 +2,32 @@
 use Rattle.std.proofs.Common.{◌≡◌, ◌≢◌, ◌≤◌, ◌<◌, ◌+◌, ◌++◌, ◌∷◌, ◌⊎◌, [], ℕ, List, Bool, true, false, Result, Ok, Err, inl, inr, length, refl, sym, ap, ◌∙◌, subst, arith}
 use Rattle.std.specs.Prelude.{◌==◌, Option, Some, None, IfOk, IfSome, IsSomeAnd, if◌then◌else◌, slice_get}
 use Rattle.std.proofs.lemmas.Bool.Decides.{nat_tests}
-use Rattle.mc_item.specs.Answer.{Row}
-use Rattle.mc_item.specs.Command.{key_of}
-use Rattle.mc_item.specs.Item.{link_of_item}
-use Rattle.mc_item.specs.Stripe.{link_of}
-use Rattle.mc_item.specs.declared.answer.Need.{Need}
+use Rattle.mc_item.specs.{Answer.Row, Command.key_of, Item.link_of_item, Stripe.link_of}
+use Rattle.mc_item.specs.declared.{answer.Need.Need, command.Command.Command, class_event.ClassEvent.ClassEvent, config.Config.Config, fault.Fault.Fault}
+use Rattle.mc_item.specs.declared.{item.ClassNo.ClassNo, item.Item.Item, item.Link.Link, item.StripeNo.StripeNo, item.Who.Who, reply.Reply.Reply}
+use Rattle.mc_item.specs.declared.{reply.Room.Room}
 use Rattle.mc_item.specs.declared.answer.Need.TheVariants as needs
-use Rattle.mc_item.specs.declared.answer.Site.{Site}
-use Rattle.mc_item.specs.declared.command.Command.{Command}
-use Rattle.mc_item.specs.declared.class_event.ClassEvent.{ClassEvent}
-use Rattle.mc_item.specs.declared.config.Config.{Config}
-use Rattle.mc_item.specs.declared.fault.Fault.{Fault}
-use Rattle.mc_item.specs.declared.item.ClassNo.{ClassNo}
-use Rattle.mc_item.specs.declared.item.Item.{Item}
-use Rattle.mc_item.specs.declared.item.Link.{Link}
-use Rattle.mc_item.specs.declared.item.StripeNo.{StripeNo}
-use Rattle.mc_item.specs.declared.item.Who.{Who}
-use Rattle.mc_item.specs.declared.reply.Reply.{Reply}
-use Rattle.mc_item.specs.declared.reply.Room.{Room}
 use Rattle.mc_item.specs.declared.reply.Room.TheVariants as rooms
 use Rattle.atomic_table.specs.Seated.{TableId}
 use Rattle.mc_rule.specs.Lists.{count_of, lists_of}
 use Rattle.mc_rule.proofs.PlaceLemmas.{at_place}
-use Rattle.mc_segment.specs.ClassCalls.{Makes, refused_event}
-use Rattle.mc_segment.specs.ClassState.{ClassView, with_room}
+use Rattle.mc_segment.specs.{ClassCalls.Makes, ClassCalls.refused_event, ClassState.ClassView, ClassState.with_room}
 use Rattle.mc_evidence.specs.Seen.{classes_seen}
 use Rattle.mc_board.specs.Histories.{Grows, list_at}
 use Rattle.mc_board.specs.declared.rule.Sight.{Sight}
-use Rattle.mc_stripe.specs.Plan.{fate_of}
-use Rattle.mc_stripe.specs.StripeState.{Stripe}
-use Rattle.mc_stripe.specs.Trying.{item_of, row_at}
+use Rattle.mc_stripe.specs.{Plan.fate_of, StripeState.Stripe, Trying.item_of, Trying.row_at}
 use Rattle.mc_stripe.specs.Wanting.{Covers, Holds, IsCrowded, IsTaken, IsWanting, LacksPlace, LacksRoom, changes_at, classes_for, home_class, links_at, other_class}
-use Rattle.mc_stripe.specs.declared.wanting.Classes.{Classes}
-use Rattle.mc_stripe.specs.declared.fate.Fate.{Fate}
+use Rattle.mc_stripe.specs.declared.{wanting.Classes.Classes, fate.Fate.Fate, wanting.Given.Given, wanting.Home.Home, wanting.Other.Other, wanting.Want.Want}
+use Rattle.mc_stripe.specs.declared.{trying.Turn.Turn}
 use Rattle.mc_stripe.specs.declared.fate.Fate.TheVariants as fates
-use Rattle.mc_stripe.specs.declared.wanting.Given.{Given}
-use Rattle.mc_stripe.specs.declared.wanting.Home.{Home}
-use Rattle.mc_stripe.specs.declared.wanting.Other.{Other}
-use Rattle.mc_stripe.specs.declared.wanting.Want.{Want}
 use Rattle.mc_stripe.specs.declared.wanting.Want.TheVariants as wants
 use Rattle.mc_pull.specs.Attempt.{GivesHome, IsNoted, IsReady, Leaves, OffersHome, OffersOther}
-use Rattle.mc_pull.specs.declared.attempting.Tried.{Tried}
-use Rattle.mc_pull.specs.declared.attempting.Tried.TheVariants.{Made, Wants}
-use Rattle.mc_stripe.specs.declared.trying.Turn.{Turn}
-use Rattle.mc_store.specs.Callers.{answered_at}
-use Rattle.mc_store.specs.Earned.{HasGivenUp, IsEarnedAt, IsEarnedIn}
+use Rattle.mc_pull.specs.declared.{attempting.Tried.Tried, attempting.Tried.TheVariants.Made, attempting.Tried.TheVariants.Wants}
+use Rattle.mc_store.specs.{Callers.answered_at, Earned.HasGivenUp, Earned.IsEarnedAt, Earned.IsEarnedIn, Locked.IsLockedClass, Passes.CallerView}
+use Rattle.mc_store.specs.{Serving.HasSeenShort, Serving.IsShort, Sides.ClassSide, Sides.StripeSide, Sides.class_told, Trying.IsMadeBy, Trying.IsTriedUnder}
+use Rattle.mc_store.specs.{Trying.Stay}
 use Rattle.mc_store.specs.Held.{IsMadeIn, IsRefusedAt, IsStillFull, IsTriedOn, MayWant, Suffice, WantsAlone, WantsChunk, nothing}
-use Rattle.mc_store.specs.Locked.{IsLockedClass}
-use Rattle.mc_store.specs.Passes.{CallerView}
-use Rattle.mc_store.specs.Serving.{HasSeenShort, IsShort}
-use Rattle.mc_store.specs.Sides.{ClassSide, StripeSide, class_told}
-use Rattle.mc_store.specs.Trying.{IsMadeBy, IsTriedUnder, Stay}
-use Rattle.mc_store.proofs.CommandLemmas.{not_dead}
-use Rattle.mc_store.proofs.EarnedLemmas.{earned_sees}
-use Rattle.mc_store.proofs.NeedLemmas.{fresh_classes}
-use Rattle.mc_store.proofs.ShortLemmas.{short_class, short_grows}
+use Rattle.mc_store.proofs.{CommandLemmas.not_dead, EarnedLemmas.earned_sees, NeedLemmas.fresh_classes, ShortLemmas.short_class, ShortLemmas.short_grows}
 
 pub some_none : {A : Type 0} (a : A) (o : Option A) → o ≡ Some a → o ≡ None → ⊥
 some_none a o is none = absurd (cc (is, none))

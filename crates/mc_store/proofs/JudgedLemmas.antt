@@ -4,37 +4,21 @@ use Rattle.std.specs.Prelude.{Option, Some, IsSomeAnd}
 use mathlib.Core.List.{IsPrefix}
 use Rattle.atomic_table.specs.Seated.{TableId}
 use Rattle.mc_item.specs.Stripe.{IsLegal}
-use Rattle.mc_item.specs.declared.answer.Site.{Site}
-use Rattle.mc_item.specs.declared.config.Config.{Config}
-use Rattle.mc_item.specs.declared.fault.Fault.{Fault}
-use Rattle.mc_rule.specs.Lawful.{IsLawfulHistoryByLists}
-use Rattle.mc_rule.specs.Segment.{Rule}
-use Rattle.mc_board.specs.Histories.{Grows, with_seen}
-use Rattle.mc_board.specs.Views.{OwnerView, SeenView}
+use Rattle.mc_item.specs.declared.{answer.Site.Site, config.Config.Config, fault.Fault.Fault}
+use Rattle.mc_rule.specs.{Lawful.IsLawfulHistoryByLists, Segment.Rule}
+use Rattle.mc_board.specs.{Histories.Grows, Histories.with_seen, Views.OwnerView, Views.SeenView}
 use Rattle.mc_board.proofs.PrefixLemmas.{prefix_self}
 use Rattle.mc_segment.specs.ClassState.{ClassView, chunks_for}
-use Rattle.mc_stripe.specs.StripeCalls.{KeepsSite}
-use Rattle.mc_stripe.specs.StripeState.{Stripe, cache_now}
-use Rattle.mc_pull.specs.declared.judge.Done.{Done}
-use Rattle.mc_pull.specs.declared.looking.Judged.{Judged}
-use Rattle.mc_pull.specs.Agreeing.{AgreeNow, KeepsAgreement}
+use Rattle.mc_stripe.specs.{StripeCalls.KeepsSite, StripeState.Stripe, StripeState.cache_now}
+use Rattle.mc_pull.specs.declared.{judge.Done.Done, looking.Judged.Judged}
+use Rattle.mc_pull.specs.{Agreeing.AgreeNow, Agreeing.KeepsAgreement, Judgement.done_of, Lone.StripeGrows, Looks.judgement, Question.HasKeyOf}
+use Rattle.mc_pull.specs.{Question.MayJudge, Question.Question, Refusal.MayFail, Sight.KeepsSight, Walker.Walker}
 use Rattle.mc_pull.specs.Growth as classes
-use Rattle.mc_pull.specs.Judgement.{done_of}
-use Rattle.mc_pull.specs.Lone.{StripeGrows}
-use Rattle.mc_pull.specs.Looks.{judgement}
-use Rattle.mc_pull.specs.Question.{HasKeyOf, MayJudge, Question}
-use Rattle.mc_pull.specs.Refusal.{MayFail}
-use Rattle.mc_pull.specs.Sight.{KeepsSight}
-use Rattle.mc_pull.specs.Walker.{Walker}
 use Rattle.mc_pull.proofs.KnownLemmas.{known}
-use Rattle.mc_store.specs.Looked.{IsKnown}
-use Rattle.mc_store.specs.Locked.{IsHeldClass, IsLockedStripe, HasBegun}
-use Rattle.mc_store.specs.Serving.{IsServed, MayFailSeen, class_side}
-use Rattle.mc_store.specs.Sides.{StripeSide, class_told, stripe_told}
-use Rattle.mc_store.proofs.LookedLemmas.{judged_listed}
-use Rattle.mc_store.proofs.PairLemmas.{class_sees, site_of_number, stripe_sees}
+use Rattle.mc_store.specs.{Looked.IsKnown, Locked.IsHeldClass, Locked.IsLockedStripe, Locked.HasBegun, Serving.IsServed, Serving.MayFailSeen}
+use Rattle.mc_store.specs.{Serving.class_side, Sides.StripeSide, Sides.class_told, Sides.stripe_told}
+use Rattle.mc_store.proofs.{LookedLemmas.judged_listed, PairLemmas.class_sees, PairLemmas.site_of_number, PairLemmas.stripe_sees, CallerLemmas.begun_sees}
 use Rattle.mc_store.proofs.ServedLemmas.{agree_told, class_stepped, fails_seen, stripe_side, stripe_stepped}
-use Rattle.mc_store.proofs.CallerLemmas.{begun_sees}
 
 module _ (table : TableId) (config : Config) (own : StripeSide) (own_kept : IsLockedStripe table config own) (s : Stripe) (own_owner : OwnerView) (own_seen : SeenView) (own_is : stripe_side own_owner own_seen s ≡ own)
     (owner : OwnerView) (seen : SeenView) (c : ClassView) (served : IsServed table config owner seen c)

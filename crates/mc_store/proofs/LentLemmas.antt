@@ -3,26 +3,16 @@ use Rattle.std.proofs.Common.{◌≡◌, ◌≢◌, ◌⊎◌, ◌++◌, ◌∷�
 use Rattle.std.specs.Prelude.{OnOk, OnErr}
 use Rattle.std.proofs.lemmas.List.{append-nil, map-append}
 use mathlib.Core.List.{IsPrefix}
-use Rattle.mc_item.specs.declared.class_event.ClassEvent.{ClassEvent}
-use Rattle.mc_item.specs.declared.event.Event.{Event}
+use Rattle.mc_item.specs.declared.{class_event.ClassEvent.ClassEvent, event.Event.Event, fault.Fault.Fault, item.ClassNo.ClassNo, item.Who.Who, reply.Room.Room}
+use Rattle.mc_item.specs.declared.{stripe_event.StripeEvent.StripeEvent}
 use Rattle.mc_item.specs.declared.event.Event.TheVariants as events
-use Rattle.mc_item.specs.declared.fault.Fault.{Fault}
-use Rattle.mc_item.specs.declared.item.ClassNo.{ClassNo}
-use Rattle.mc_item.specs.declared.item.Who.{Who}
-use Rattle.mc_item.specs.declared.reply.Room.{Room}
-use Rattle.mc_item.specs.declared.stripe_event.StripeEvent.{StripeEvent}
 use Rattle.mc_rule.specs.Segment.{Rule}
 use Rattle.mc_board.proofs.PrefixLemmas.{same_or_not}
 use Rattle.mc_segment.specs.ClassState.{ClassView}
 use Rattle.mc_stripe.specs.StripeState.{Stripe}
-use Rattle.mc_pull.specs.Agreeing.{HasRefusal, IsApart}
-use Rattle.mc_pull.specs.Growth.{Grows}
-use Rattle.mc_pull.specs.Lent.{EachPair}
-use Rattle.mc_pull.specs.Perform.{Call}
+use Rattle.mc_pull.specs.{Agreeing.HasRefusal, Agreeing.IsApart, Growth.Grows, Lent.EachPair, Perform.Call, Sight.KeepsSights, Sight.TellsStill}
 use Rattle.mc_pull.specs.Performed.{GainsPart, IsPerformed, IsUntouched, Stays, events_in, events_on_stripe, is_cooling}
-use Rattle.mc_pull.specs.Sight.{KeepsSights, TellsStill}
-use Rattle.mc_store.specs.Performing.{IsOneOf, IsRefusedIn}
-use Rattle.mc_store.specs.Sides.{class_told, stripe_told}
+use Rattle.mc_store.specs.{Performing.IsOneOf, Performing.IsRefusedIn, Sides.class_told, Sides.stripe_told}
 
 -- ---- a history that has only grown begins with what its owner told
 

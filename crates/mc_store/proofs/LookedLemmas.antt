@@ -1,56 +1,29 @@
 -- What a walker leaves by a gate that has one stripe at hand: visit by visit, and where its search was in vain.
 use Rattle.std.proofs.Common.{arith, ◌≤◌, ◌≡◌, ◌≢◌, ℕ, List, [], ◌∷◌, ◌++◌, Bool, true, false, Result, Ok, Err, inl, inr, refl, sym, ap, ◌∙◌, subst, append_assoc, append-nil}
 use Rattle.std.specs.Prelude.{Option, Some, None, IsSome, IsSomeAnd, IfOk, OnOk, OnErr, is_some, nat_lt, option_map, if◌then◌else◌}
-use Rattle.std.proofs.lemmas.Bool.Decides.{nat_tests}
-use Rattle.std.proofs.lemmas.List.{append_cancel_left}
-use Rattle.mc_item.specs.Cache.{Cache}
-use Rattle.mc_item.specs.Item.{is_dead}
-use Rattle.mc_item.specs.Measure.{stripe_of}
-use Rattle.mc_item.specs.Stripe.{IsAlive}
-use Rattle.mc_item.specs.declared.answer.Site.{Site}
-use Rattle.mc_item.specs.declared.class_event.ClassEvent.{ClassEvent}
+use Rattle.std.proofs.lemmas.{Bool.Decides.nat_tests, List.append_cancel_left}
+use Rattle.mc_item.specs.{Cache.Cache, Item.is_dead, Measure.stripe_of, Stripe.IsAlive}
+use Rattle.mc_item.specs.declared.{answer.Site.Site, class_event.ClassEvent.ClassEvent, config.Config.Config, fault.Fault.Fault, item.Item.Item}
+use Rattle.mc_item.specs.declared.{item.StripeNo.StripeNo, item.Who.Who, lists.Entry.Entry, lists.Seg.Seg, stripe_event.StripeEvent.StripeEvent}
 use Rattle.mc_item.specs.declared.class_event.ClassEvent.TheVariants as entries
-use Rattle.mc_item.specs.declared.config.Config.{Config}
-use Rattle.mc_item.specs.declared.fault.Fault.{Fault}
-use Rattle.mc_item.specs.declared.item.Item.{Item}
-use Rattle.mc_item.specs.declared.item.StripeNo.{StripeNo}
-use Rattle.mc_item.specs.declared.item.Who.{Who}
-use Rattle.mc_item.specs.declared.lists.Entry.{Entry}
-use Rattle.mc_item.specs.declared.lists.Seg.{Seg}
 use Rattle.mc_item.specs.declared.lists.Seg.TheVariants as segs
-use Rattle.mc_item.specs.declared.stripe_event.StripeEvent.{StripeEvent}
 use Rattle.mc_item.specs.declared.stripe_event.StripeEvent.TheVariants as events
-use Rattle.mc_evidence.specs.Losses.{AreNoCommands}
-use Rattle.mc_evidence.specs.Refusals.{HasTried}
-use Rattle.mc_rule.specs.Belonging.{IsEntryOf}
-use Rattle.mc_rule.specs.Lawful.{IsIn, IsListed}
+use Rattle.mc_evidence.specs.{Losses.AreNoCommands, Refusals.HasTried}
+use Rattle.mc_rule.specs.{Belonging.IsEntryOf, Lawful.IsIn, Lawful.IsListed, Pairs.item_after, Places.Stands, Segment.Rule}
 use Rattle.mc_rule.specs.Lists.{IsFull, Lists, count_of, find, found, found_in, lists_of}
-use Rattle.mc_rule.specs.Pairs.{item_after}
-use Rattle.mc_rule.specs.Places.{Stands}
-use Rattle.mc_rule.specs.Segment.{Rule}
-use Rattle.mc_segment.specs.ClassState.{ClassView, with_room}
-use Rattle.mc_segment.specs.Entries.{entry_of}
+use Rattle.mc_segment.specs.{ClassState.ClassView, ClassState.with_room, Entries.entry_of}
 use Rattle.mc_stripe.specs.StripeState.{Stripe, cache_now}
-use Rattle.mc_pull.specs.declared.judge.Done.{Done}
+use Rattle.mc_pull.specs.declared.{judge.Done.Done, judge.Judge.Judge, judge.Judge.TheVariants.Dead, judge.Judge.TheVariants.Walk, looking.Answer.Answer}
+use Rattle.mc_pull.specs.declared.{looking.Judged.Judged}
 use Rattle.mc_pull.specs.declared.judge.Done.TheVariants as done
-use Rattle.mc_pull.specs.declared.judge.Judge.{Judge}
-use Rattle.mc_pull.specs.declared.judge.Judge.TheVariants.{Dead, Walk}
-use Rattle.mc_pull.specs.declared.looking.Answer.{Answer}
-use Rattle.mc_pull.specs.declared.looking.Judged.{Judged}
 use Rattle.mc_pull.specs.Growth as classes
-use Rattle.mc_pull.specs.Judgement.{done_by, done_of}
-use Rattle.mc_pull.specs.Lone.{AreMadeBy, StripeGrows}
-use Rattle.mc_pull.specs.Looks.{answer, events_if}
-use Rattle.mc_pull.specs.Outcome.{is_due}
-use Rattle.mc_pull.specs.Question.{HasKeyOf, MayJudge, MayJudgeBy, Question}
-use Rattle.mc_pull.specs.Rounds.{IsRoom, Rounds, rounds}
-use Rattle.mc_pull.specs.Settled.{class_events, class_with, cold_events, warm_events}
+use Rattle.mc_pull.specs.{Judgement.done_by, Judgement.done_of, Lone.AreMadeBy, Lone.StripeGrows, Looks.answer, Looks.events_if, Outcome.is_due}
+use Rattle.mc_pull.specs.{Question.HasKeyOf, Question.MayJudge, Question.MayJudgeBy, Question.Question, Rounds.IsRoom, Rounds.Rounds, Rounds.rounds}
+use Rattle.mc_pull.specs.{Settled.class_events, Settled.class_with, Settled.cold_events, Settled.warm_events, Walker.Walker, Walker.walker_of}
 use Rattle.mc_pull.specs.Tried.{AreHad, AreTries, IsNoneNear, IsTried, IsTry}
-use Rattle.mc_pull.specs.Walker.{Walker, walker_of}
 use Rattle.mc_pull.proofs.OutcomeLemmas.{Means, done_is, outcome_means}
 use Rattle.mc_store.proofs.CommandLemmas.{alive_behind}
-use Rattle.mc_store.specs.Earned.{HasSearched, IsSearchInVain}
-use Rattle.mc_store.specs.Looked.{AreOfOthers, HasLooked, IsKnown, IsOfOther}
+use Rattle.mc_store.specs.{Earned.HasSearched, Earned.IsSearchInVain, Looked.AreOfOthers, Looked.HasLooked, Looked.IsKnown, Looked.IsOfOther}
 
 true_false : true ≡ false → ⊥
 true_false h = cc

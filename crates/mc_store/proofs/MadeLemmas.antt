@@ -3,40 +3,25 @@ use Rattle.std.proofs.Common.{◌≡◌, ◌<◌, ◌+◌, ℕ, zero, suc, List,
 use Rattle.std.specs.Prelude.{IfOk, OnOk, OnErr, Option, None}
 use Rattle.std.proofs.lemmas.List.{append-nil}
 use Rattle.atomic_table.specs.Seated.{TableId}
-use Rattle.mc_item.specs.declared.call_event.CallEvent.{CallEvent}
-use Rattle.mc_item.specs.declared.class_event.ClassEvent.{ClassEvent}
+use Rattle.mc_item.specs.declared.{call_event.CallEvent.CallEvent, class_event.ClassEvent.ClassEvent, class_event.Surveyed.Surveyed, command.Command.Command}
+use Rattle.mc_item.specs.declared.{config.Config.Config, fault.Fault.Fault, item.ClassNo.ClassNo, item.Who.Who}
 use Rattle.mc_item.specs.declared.class_event.ClassEvent.TheVariants as events
-use Rattle.mc_item.specs.declared.class_event.Surveyed.{Surveyed}
-use Rattle.mc_item.specs.declared.command.Command.{Command}
-use Rattle.mc_item.specs.declared.config.Config.{Config}
-use Rattle.mc_item.specs.declared.fault.Fault.{Fault}
-use Rattle.mc_item.specs.declared.item.ClassNo.{ClassNo}
-use Rattle.mc_item.specs.declared.item.Who.{Who}
 use Rattle.mc_board.specs.Histories.{Grows, list_at}
 use Rattle.mc_board.specs.declared.rule.Sight.{Sight}
 use Rattle.mc_board.proofs.PrefixLemmas.{prefix_self}
-use Rattle.mc_segment.specs.ClassCalls.{Makes, Stays, refused_event}
-use Rattle.mc_segment.specs.ClassState.{ClassView, with_room}
+use Rattle.mc_segment.specs.{ClassCalls.Makes, ClassCalls.Stays, ClassCalls.refused_event, ClassState.ClassView, ClassState.with_room}
 use Rattle.mc_stripe.specs.StripeState.{Stripe}
-use Rattle.mc_pull.specs.declared.judge.Done.{Done}
+use Rattle.mc_pull.specs.declared.{judge.Done.Done, judge.Judge.Judge, judge.Judge.TheVariants.Walk, judge.Judge.TheVariants.Dead, looking.Judged.Judged}
 use Rattle.mc_pull.specs.declared.judge.Done.TheVariants as done
-use Rattle.mc_pull.specs.declared.judge.Judge.{Judge}
-use Rattle.mc_pull.specs.declared.judge.Judge.TheVariants.{Walk, Dead}
-use Rattle.mc_pull.specs.declared.looking.Judged.{Judged}
-use Rattle.mc_pull.specs.Lent.{EachPair}
-use Rattle.mc_pull.specs.Looks.{events_if}
-use Rattle.mc_pull.specs.Perform.{Call}
+use Rattle.mc_pull.specs.{Lent.EachPair, Looks.events_if, Perform.Call, Performed.GainsPart, Performed.IsPerformed, Performed.IsUntouched, Question.Question}
 use Rattle.mc_pull.specs.Performed as performed
-use Rattle.mc_pull.specs.Performed.{GainsPart, IsPerformed, IsUntouched}
-use Rattle.mc_pull.specs.Question.{Question}
 use Rattle.mc_pull.specs.Settled.{IsSettled, class_events, class_with, cold_events, warm_events}
 use Rattle.mc_pull.proofs.EventsLemmas.{events_so}
 use Rattle.mc_crawl.specs.Crawl.{AreReclaims, Reclaims}
 use Rattle.mc_store.specs.Callers.{answered_at, asked_for, call_events, crawling_of, juggling_of}
 use Rattle.mc_store.specs.Locked.{HasBegunAs, HasBegunCommand, IsHeldClass, IsLockedClass, locks_for}
 use Rattle.mc_store.specs.Made.{AreCalledInClass, AreOwnEvents, GainsOwn, IsClassCalled, IsOwnEvent, SuitsCall, WalksOwn, maker_of}
-use Rattle.mc_store.specs.Passes.{CallerView, HasAsked, HasCalled}
-use Rattle.mc_store.specs.Sides.{ClassSide}
+use Rattle.mc_store.specs.{Passes.CallerView, Passes.HasAsked, Passes.HasCalled, Sides.ClassSide}
 use Rattle.mc_store.proofs.CallerLemmas.{asked_called, begun_as_more, class_called_prefix, get_append}
 use Rattle.mc_store.proofs.PairLemmas.{class_sees, grows_trans}
 

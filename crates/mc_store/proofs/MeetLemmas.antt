@@ -5,10 +5,8 @@ use Rattle.mc_item.specs.declared.config.Config.{Config}
 use Rattle.mc_board.specs.Histories.{Grows, with_seen}
 use Rattle.mc_board.specs.declared.rule.Sight.{Sight}
 use Rattle.mc_pull.specs.Agreeing.{AgreeNow}
-use Rattle.mc_store.specs.Locked.{IsLockedClass, IsLockedStripe}
-use Rattle.mc_store.specs.Sides.{ClassSide, StripeSide, class_told, stripe_told}
-use Rattle.mc_store.proofs.MadeLemmas.{locked_sees}
-use Rattle.mc_store.proofs.PairLemmas.{heard_class, heard_stripe, met, stripe_sees}
+use Rattle.mc_store.specs.{Locked.IsLockedClass, Locked.IsLockedStripe, Sides.ClassSide, Sides.StripeSide, Sides.class_told, Sides.stripe_told}
+use Rattle.mc_store.proofs.{MadeLemmas.locked_sees, PairLemmas.heard_class, PairLemmas.heard_stripe, PairLemmas.met, PairLemmas.stripe_sees}
 
 -- first the stripe is told, then the class
 module _ (table : TableId) (config : Config) (own own_first own_new : StripeSide) (lent lent_first lent_new : ClassSide) (kept : IsLockedStripe table config own) (kept_of : IsLockedClass table config lent)

@@ -4,54 +4,28 @@ use Rattle.std.specs.Prelude.{◌==◌, Option, Some, None, IfSome, IsSomeAnd, n
 use Rattle.std.specs.Option.{option_map}
 use Rattle.std.proofs.lemmas.Bool.Decides.{nat_tests}
 use Rattle.mc_item.specs.Answer.{Row, cas_of, grown_row, number_row, padded, plain, row_of, store_row, stepped, version_of}
-use Rattle.mc_item.specs.Cache.{marked}
-use Rattle.mc_item.specs.Command.{key_of}
-use Rattle.mc_item.specs.Item.{expiry_of, is_dead, link_of_item}
-use Rattle.mc_item.specs.Measure.{class_of, cost_of, numeral_of}
-use Rattle.mc_item.specs.Stripe.{IsLegal, cache_of}
-use Rattle.mc_item.specs.declared.answer.Change.{Change}
+use Rattle.mc_item.specs.{Cache.marked, Command.key_of, Item.expiry_of, Item.is_dead, Item.link_of_item, Measure.class_of, Measure.cost_of, Measure.numeral_of}
+use Rattle.mc_item.specs.{Stripe.IsLegal, Stripe.cache_of}
+use Rattle.mc_item.specs.declared.{answer.Change.Change, answer.Need.Need, answer.Site.Site, command.Command.Command, command.Verb.Verb}
+use Rattle.mc_item.specs.declared.{command.Verb.TheVariants.Set, command.Verb.TheVariants.Add, command.Verb.TheVariants.Replace, command.Verb.TheVariants.Cas}
+use Rattle.mc_item.specs.declared.{config.Config.Config, counting.Step.TheVariants.Up, counting.Step.TheVariants.Down, item.ClassNo.ClassNo, item.Item.Item}
+use Rattle.mc_item.specs.declared.{item.Link.Link, item.Marks.Marks, stripe_event.StripeEvent.StripeEvent}
 use Rattle.mc_item.specs.declared.answer.Change.TheVariants as changes
-use Rattle.mc_item.specs.declared.answer.Need.{Need}
 use Rattle.mc_item.specs.declared.answer.Need.TheVariants as needs
-use Rattle.mc_item.specs.declared.answer.Site.{Site}
-use Rattle.mc_item.specs.declared.command.Command.{Command}
 use Rattle.mc_item.specs.declared.command.Command.TheVariants.{Get, Store, Huge, Incr, Decr, Touch, Delete}
-use Rattle.mc_item.specs.declared.command.Verb.{Verb}
-use Rattle.mc_item.specs.declared.command.Verb.TheVariants.{Set, Add, Replace, Cas}
-use Rattle.mc_item.specs.declared.config.Config.{Config}
-use Rattle.mc_item.specs.declared.counting.Step.TheVariants.{Up, Down}
-use Rattle.mc_item.specs.declared.item.ClassNo.{ClassNo}
-use Rattle.mc_item.specs.declared.item.Item.{Item}
-use Rattle.mc_item.specs.declared.item.Link.{Link}
-use Rattle.mc_item.specs.declared.item.Marks.{Marks}
 use Rattle.mc_item.specs.declared.reply.Reply.TheVariants as replies
 use Rattle.mc_item.specs.declared.reply.Room.TheVariants as rooms
-use Rattle.mc_item.specs.declared.stripe_event.StripeEvent.{StripeEvent}
 use Rattle.atomic_table.specs.Seated.{TableId}
 use Rattle.mc_rule.specs.Pairs.{item_after}
-use Rattle.mc_evidence.proofs.LossLemmas.{was_there}
-use Rattle.mc_evidence.proofs.RowLemmas.{held}
-use Rattle.mc_evidence.proofs.SizedLemmas.{IsSized, NamesSized, link_sized, row_names}
-use Rattle.mc_evidence.specs.Losses.{AreNoCommands, IsSameItem}
-use Rattle.mc_evidence.specs.Setting.{IsClass}
-use Rattle.mc_stripe.specs.Plan.{dead_link, fate_of, gone_fate, hit_fate}
-use Rattle.mc_stripe.specs.StripeCalls.{KeepsSite}
-use Rattle.mc_stripe.specs.StripeState.{Stripe, cache_now}
-use Rattle.mc_stripe.specs.Trying.{item_of, row_at}
-use Rattle.mc_stripe.specs.Wanting.{Holds, class_beside, class_of_fate, classes_for, classes_of}
-use Rattle.mc_stripe.specs.declared.fate.Fate.{Fate}
+use Rattle.mc_evidence.proofs.{LossLemmas.was_there, RowLemmas.held, SizedLemmas.IsSized, SizedLemmas.NamesSized, SizedLemmas.link_sized, SizedLemmas.row_names}
+use Rattle.mc_evidence.specs.{Losses.AreNoCommands, Losses.IsSameItem, Setting.IsClass}
+use Rattle.mc_stripe.specs.{Plan.dead_link, Plan.fate_of, Plan.gone_fate, Plan.hit_fate, StripeCalls.KeepsSite, StripeState.Stripe, StripeState.cache_now}
+use Rattle.mc_stripe.specs.{Trying.item_of, Trying.row_at, Wanting.Holds, Wanting.class_beside, Wanting.class_of_fate, Wanting.classes_for, Wanting.classes_of}
+use Rattle.mc_stripe.specs.declared.{fate.Fate.Fate, wanting.Classes.Classes, trying.Turn.Turn}
 use Rattle.mc_stripe.specs.declared.fate.Fate.TheVariants as fates
-use Rattle.mc_stripe.specs.declared.wanting.Classes.{Classes}
-use Rattle.mc_stripe.specs.declared.trying.Turn.{Turn}
-use Rattle.mc_pull.specs.Lone.{AreMadeBy}
-use Rattle.mc_pull.specs.Question.{IsStripeOf}
-use Rattle.mc_store.specs.Commands.{walker_in}
-use Rattle.mc_store.specs.Held.{IsWalked, Suffice}
-use Rattle.mc_store.specs.Locked.{IsLockedStripe, setting_of}
-use Rattle.mc_store.specs.Sides.{StripeSide}
-use Rattle.mc_store.proofs.CommandLemmas.{search_no_commands, searched_alive}
-use Rattle.mc_store.proofs.PairLemmas.{site_of_number}
-use Rattle.mc_store.proofs.StillLemmas.{versions_behind}
+use Rattle.mc_pull.specs.{Lone.AreMadeBy, Question.IsStripeOf}
+use Rattle.mc_store.specs.{Commands.walker_in, Held.IsWalked, Held.Suffice, Locked.IsLockedStripe, Locked.setting_of, Sides.StripeSide}
+use Rattle.mc_store.proofs.{CommandLemmas.search_no_commands, CommandLemmas.searched_alive, PairLemmas.site_of_number, StillLemmas.versions_behind}
 
 -- a class that a row needs is one of the store's
 module _ (config : Config) (s : Stripe) (made : IsStripeOf config s) where

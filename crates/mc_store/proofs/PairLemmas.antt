@@ -2,41 +2,25 @@
 use Rattle.std.proofs.Common.{◌≡◌, ◌≢◌, ◌<◌, ℕ, List, [], ◌∷◌, sym, ap, ◌∙◌, subst, ⊎_elim, inl, inr}
 use Rattle.atomic_table.specs.Seated.{TableId}
 use Rattle.mc_item.specs.Stripe.{IsLegal}
-use Rattle.mc_item.specs.declared.answer.Site.{Site}
-use Rattle.mc_item.specs.declared.class_event.ClassEvent.{ClassEvent}
-use Rattle.mc_item.specs.declared.config.Config.{Config}
-use Rattle.mc_item.specs.declared.item.ClassNo.{ClassNo}
-use Rattle.mc_item.specs.declared.stripe_event.StripeEvent.{StripeEvent}
-use Rattle.mc_rule.specs.Cited.{IsSuited}
-use Rattle.mc_rule.specs.Evidence.{IsBacked, IsTold}
-use Rattle.mc_rule.specs.Lawful.{IsLawfulHistoryByLists}
-use Rattle.mc_rule.specs.Partners.{ClearsOnce}
-use Rattle.mc_rule.specs.Places.{Each}
-use Rattle.mc_rule.specs.Segment.{Rule, rule_of}
-use Rattle.mc_evidence.specs.Seen.{class_events, classes_seen, stripe_events, stripes_seen}
-use Rattle.mc_evidence.specs.Setting.{IsClass, site_in}
-use Rattle.mc_evidence.proofs.LockLemmas.{class_sees_more, stripe_sees_more}
-use Rattle.mc_evidence.proofs.SeenLemmas.{class_events-map, classes_grow, stripe_events-map, stripes_grow}
+use Rattle.mc_item.specs.declared.{answer.Site.Site, class_event.ClassEvent.ClassEvent, config.Config.Config, item.ClassNo.ClassNo}
+use Rattle.mc_item.specs.declared.{stripe_event.StripeEvent.StripeEvent}
+use Rattle.mc_rule.specs.{Cited.IsSuited, Evidence.IsBacked, Evidence.IsTold, Lawful.IsLawfulHistoryByLists, Partners.ClearsOnce, Places.Each, Segment.Rule}
+use Rattle.mc_rule.specs.{Segment.rule_of}
+use Rattle.mc_evidence.specs.{Seen.class_events, Seen.classes_seen, Seen.stripe_events, Seen.stripes_seen, Setting.IsClass, Setting.site_in}
+use Rattle.mc_evidence.proofs.{LockLemmas.class_sees_more, LockLemmas.stripe_sees_more, SeenLemmas.class_events-map, SeenLemmas.classes_grow}
+use Rattle.mc_evidence.proofs.{SeenLemmas.stripe_events-map, SeenLemmas.stripes_grow}
 use Rattle.mc_board.specs.Histories.{Grows, list_at, with_seen}
 use Rattle.mc_board.specs.declared.rule.Sight.{Sight}
-use Rattle.mc_board.proofs.PrefixLemmas.{prefix_trans, same_or_not}
-use Rattle.mc_board.proofs.SeenLemmas.{list_at_other, list_at_same}
+use Rattle.mc_board.proofs.{PrefixLemmas.prefix_trans, PrefixLemmas.same_or_not, SeenLemmas.list_at_other, SeenLemmas.list_at_same}
 use Rattle.mc_segment.specs.ClassState.{ClassView, chunks_for}
-use Rattle.mc_stripe.specs.StripeCalls.{KeepsSite}
-use Rattle.mc_stripe.specs.StripeState.{Stripe}
-use Rattle.mc_pull.specs.Agreeing.{AgreeNow, IsApart}
+use Rattle.mc_stripe.specs.{StripeCalls.KeepsSite, StripeState.Stripe}
+use Rattle.mc_pull.specs.{Agreeing.AgreeNow, Agreeing.IsApart, Lent.EachPair, Sight.BacksStill, Sight.SuitsStill, Sight.TellsStill}
 use Rattle.mc_pull.specs.Growth as classes
-use Rattle.mc_pull.specs.Lent.{EachPair}
 use Rattle.mc_pull.specs.Question as made
-use Rattle.mc_pull.specs.Sight.{BacksStill, SuitsStill, TellsStill}
 use Rattle.mc_pull.proofs.GrowthLemmas.{class_later}
-use Rattle.mc_store.proofs.ShortLemmas.{stripe_made}
-use Rattle.mc_store.specs.Callers.{AreCalled}
+use Rattle.mc_store.proofs.{ShortLemmas.stripe_made, CallerLemmas.called_sees, LentLemmas.one_or_apart}
+use Rattle.mc_store.specs.{Callers.AreCalled, Performing.IsOneOf, Sides.ClassSide, Sides.StripeSide, Sides.class_told, Sides.stripe_told}
 use Rattle.mc_store.specs.Locked.{IsHeldClass, IsLockedStripe, class_lock, locks_for, setting_of}
-use Rattle.mc_store.specs.Performing.{IsOneOf}
-use Rattle.mc_store.specs.Sides.{ClassSide, StripeSide, class_told, stripe_told}
-use Rattle.mc_store.proofs.CallerLemmas.{called_sees}
-use Rattle.mc_store.proofs.LentLemmas.{one_or_apart}
 
 -- ---- what was seen
 

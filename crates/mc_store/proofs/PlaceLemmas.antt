@@ -5,10 +5,8 @@ use Rattle.mc_board.proofs.PrefixLemmas.{same_or_not}
 use Rattle.mc_pull.proofs.GrowthLemmas.{slice_get-last}
 use Rattle.atomic_table.specs.Seated.{TableId}
 use Rattle.mc_item.specs.declared.config.Config.{Config}
-use Rattle.mc_store.specs.Finals.{AreClasses, AreStripes}
-use Rattle.mc_store.specs.Passes.{ArePasses, PassView, new_pass}
-use Rattle.mc_store.specs.Locked.{IsClassUnder, IsLockedClass, IsLockedStripe, IsStripeUnder}
-use Rattle.mc_store.specs.Sides.{AreClassesOn, AreStripesOn, ClassSide, StripeSide}
+use Rattle.mc_store.specs.{Finals.AreClasses, Finals.AreStripes, Passes.ArePasses, Passes.PassView, Passes.new_pass, Locked.IsClassUnder, Locked.IsLockedClass}
+use Rattle.mc_store.specs.{Locked.IsLockedStripe, Locked.IsStripeUnder, Sides.AreClassesOn, Sides.AreStripesOn, Sides.ClassSide, Sides.StripeSide}
 
 -- what stands at a place of a list with one more at its end stood there before, or is that one
 pub get_push : {A : Type 0} (xs : List A) (x y : A) (k : ℕ) → slice_get (xs ++ x ∷ []) k ≡ Some y → (slice_get xs k ≡ Some y) ⊎ ((x ≡ y) × (length xs ≡ k))

@@ -3,24 +3,14 @@ use Rattle.std.proofs.Common.{◌≡◌, ◌++◌, ◌∷◌, [], List, Result, 
 use Rattle.std.specs.Prelude.{OnOk, OnErr}
 use Rattle.std.proofs.lemmas.List.{append-nil}
 use Rattle.atomic_table.specs.Seated.{TableId}
-use Rattle.mc_item.specs.declared.class_event.ClassEvent.{ClassEvent}
-use Rattle.mc_item.specs.declared.class_event.Refused.{Refused}
-use Rattle.mc_item.specs.declared.config.Config.{Config}
-use Rattle.mc_item.specs.declared.fault.Fault.{Fault}
-use Rattle.mc_item.specs.declared.item.Who.{Who}
-use Rattle.mc_rule.specs.Cited.{IsSuited}
-use Rattle.mc_rule.specs.Evidence.{IsBacked}
-use Rattle.mc_rule.specs.Lawful.{IsLawfulHistoryByLists}
-use Rattle.mc_rule.specs.Partners.{ClearsOnce}
-use Rattle.mc_rule.specs.Places.{Each}
+use Rattle.mc_item.specs.declared.{class_event.ClassEvent.ClassEvent, class_event.Refused.Refused, config.Config.Config, fault.Fault.Fault, item.Who.Who}
+use Rattle.mc_rule.specs.{Cited.IsSuited, Evidence.IsBacked, Lawful.IsLawfulHistoryByLists, Partners.ClearsOnce, Places.Each}
 use Rattle.mc_rule.proofs.PlaceLemmas.{each_push}
 use Rattle.mc_board.specs.Histories as seen
-use Rattle.mc_segment.specs.ClassCalls.{Makes, Stays, refused_event}
-use Rattle.mc_segment.specs.ClassState.{ClassView}
+use Rattle.mc_segment.specs.{ClassCalls.Makes, ClassCalls.Stays, ClassCalls.refused_event, ClassState.ClassView}
 use Rattle.mc_pull.specs.Growth.{Grows}
 use Rattle.mc_pull.proofs.SightLemmas.{refusal_backed, refusal_suited}
-use Rattle.mc_store.specs.Locked.{IsHeldClass}
-use Rattle.mc_store.specs.Sides.{ClassSide}
+use Rattle.mc_store.specs.{Locked.IsHeldClass, Sides.ClassSide}
 use Rattle.mc_store.proofs.PairLemmas.{class_alone}
 
 module _ {T : Type 0} (v w : ClassView) (who : Who) where

@@ -1,7 +1,6 @@
 -- What a stripe and a class are once one was told the other's history behind a step.
 use Rattle.std.proofs.Common.{◌≡◌, ap, ◌∙◌, subst}
-use Rattle.mc_board.specs.Histories.{Grows, with_seen}
-use Rattle.mc_board.specs.Views.{OwnerView, SeenView}
+use Rattle.mc_board.specs.{Histories.Grows, Histories.with_seen, Views.OwnerView, Views.SeenView}
 use Rattle.mc_segment.specs.ClassState.{ClassView}
 use Rattle.mc_stripe.specs.StripeState.{Stripe}
 use Rattle.mc_store.specs.Sides.{ClassSide, StripeSide, class_told, stripe_told}

@@ -5,36 +5,23 @@ use Rattle.std.proofs.lemmas.List.{append-nil}
 use mathlib.Core.List.{IsPrefix}
 use Rattle.atomic_table.specs.Seated.{TableId}
 use Rattle.mc_item.specs.Stripe.{IsLegal}
-use Rattle.mc_item.specs.declared.class_event.ClassEvent.{ClassEvent}
-use Rattle.mc_item.specs.declared.config.Config.{Config}
-use Rattle.mc_item.specs.declared.event.Event.{Event}
+use Rattle.mc_item.specs.declared.{class_event.ClassEvent.ClassEvent, config.Config.Config, event.Event.Event, fault.Fault.Fault}
+use Rattle.mc_item.specs.declared.{fault.Fault.TheVariants.HistoryFull, fault.Fault.TheVariants.NoMemory, stripe_event.StripeEvent.StripeEvent}
+use Rattle.mc_item.specs.declared.{item.ClassNo.ClassNo}
 use Rattle.mc_item.specs.declared.event.Event.TheVariants as events
-use Rattle.mc_item.specs.declared.fault.Fault.{Fault}
-use Rattle.mc_item.specs.declared.fault.Fault.TheVariants.{HistoryFull, NoMemory}
-use Rattle.mc_item.specs.declared.stripe_event.StripeEvent.{StripeEvent}
 use Rattle.mc_rule.specs.Lawful.{IsLawfulHistoryByLists}
-use Rattle.mc_item.specs.declared.item.ClassNo.{ClassNo}
-use Rattle.mc_evidence.specs.Setting.{IsClass}
-use Rattle.mc_evidence.specs.Seen.{classes_seen, stripes_seen}
-use Rattle.mc_board.specs.Histories.{Grows, list_at, with_seen}
-use Rattle.mc_board.specs.Views.{OwnerView, SeenView}
+use Rattle.mc_evidence.specs.{Setting.IsClass, Seen.classes_seen, Seen.stripes_seen}
+use Rattle.mc_board.specs.{Histories.Grows, Histories.list_at, Histories.with_seen, Views.OwnerView, Views.SeenView}
 use Rattle.mc_board.specs.declared.rule.Sight.{Sight}
 use Rattle.mc_board.proofs.SeenLemmas.{list_at_same}
 use Rattle.mc_segment.specs.ClassState.{ClassView, with_room}
-use Rattle.mc_stripe.specs.StripeCalls.{KeepsSite}
-use Rattle.mc_stripe.specs.StripeState.{Stripe}
-use Rattle.mc_pull.specs.Agreeing.{AgreeNow, KeepsAgreement}
+use Rattle.mc_stripe.specs.{StripeCalls.KeepsSite, StripeState.Stripe}
+use Rattle.mc_pull.specs.{Agreeing.AgreeNow, Agreeing.KeepsAgreement, Lone.StripeGrows, Question.Question, Refusal.MayFail, Settled.IsSettled}
+use Rattle.mc_pull.specs.{Settled.class_events, Settled.stripe_events, Sight.KeepsSight, Walker.Walker}
 use Rattle.mc_pull.specs.Growth as classes
-use Rattle.mc_pull.specs.Lone.{StripeGrows}
-use Rattle.mc_pull.specs.Question.{Question}
-use Rattle.mc_pull.specs.Refusal.{MayFail}
-use Rattle.mc_pull.specs.Settled.{IsSettled, class_events, stripe_events}
-use Rattle.mc_pull.specs.Sight.{KeepsSight}
-use Rattle.mc_pull.specs.Walker.{Walker}
 use Rattle.mc_pull.specs.declared.judge.Done.{Done}
-use Rattle.mc_store.specs.Locked.{IsHeldClass, IsLockedStripe, class_lock, setting_of, HasBegun}
-use Rattle.mc_store.specs.Serving.{HasSeenShort, IsShort, MayFailSeen, class_side}
-use Rattle.mc_store.specs.Sides.{ClassSide, StripeSide, class_told, stripe_told}
+use Rattle.mc_store.specs.{Locked.IsHeldClass, Locked.IsLockedStripe, Locked.class_lock, Locked.setting_of, Locked.HasBegun, Serving.HasSeenShort}
+use Rattle.mc_store.specs.{Serving.IsShort, Serving.MayFailSeen, Serving.class_side, Sides.ClassSide, Sides.StripeSide, Sides.class_told, Sides.stripe_told}
 use Rattle.mc_store.proofs.CallerLemmas.{called_walked}
 use Rattle.mc_store.proofs.PairLemmas.{class_after, class_sees, heard_class, heard_stripe, met, stripe_after, stripe_sees}
 

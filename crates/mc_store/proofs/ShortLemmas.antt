@@ -2,36 +2,22 @@
 use Rattle.std.proofs.Common.{Result, Ok, Err, ◌≤◌, inl, inr, true, false, refl, sym, ap, ◌∙◌, subst, arith, suc}
 use Rattle.std.specs.Prelude.{ℕ, ◌≡◌, ◌<◌, ◌+◌, ◌++◌, ◌⊎◌, List, [], ◌∷◌, Bool, Option, Some, None, length, slice_index_or, OnErr, IfErr, IsErrAnd, slice_get}
 use Rattle.mc_item.specs.Command.{key_of}
-use Rattle.mc_item.specs.declared.answer.Site.{Site}
-use Rattle.mc_item.specs.declared.config.Config.{Config}
-use Rattle.mc_item.specs.declared.fault.Fault.{Fault}
-use Rattle.mc_item.specs.declared.fault.Fault.TheVariants.{HistoryFull}
-use Rattle.mc_item.specs.declared.item.Expiry.{Expiry}
-use Rattle.mc_item.specs.declared.item.Who.{Who}
-use Rattle.mc_item.specs.declared.reply.Room.{Room}
+use Rattle.mc_item.specs.declared.{answer.Site.Site, config.Config.Config, fault.Fault.Fault, fault.Fault.TheVariants.HistoryFull, item.Expiry.Expiry}
+use Rattle.mc_item.specs.declared.{item.Who.Who, reply.Room.Room, class_event.ClassEvent.ClassEvent, event.Event.Event, stripe_event.StripeEvent.StripeEvent}
 use Rattle.mc_rule.specs.Lists.{lists_of, segment_of}
-use Rattle.mc_segment.specs.ClassCalls.{Makes, refused_event}
-use Rattle.mc_segment.specs.ClassState.{ClassView}
-use Rattle.mc_stripe.specs.StripeCalls.{KeepsSite}
-use Rattle.mc_stripe.specs.StripeState.{Stripe}
+use Rattle.mc_segment.specs.{ClassCalls.Makes, ClassCalls.refused_event, ClassState.ClassView}
+use Rattle.mc_stripe.specs.{StripeCalls.KeepsSite, StripeState.Stripe}
 use Rattle.mc_stripe.specs.declared.fate.Fate.{Fate}
 use Rattle.mc_stripe.specs.declared.fate.Fate.TheVariants as fates
-use Rattle.mc_pull.specs.Lent.{EachPair}
+use Rattle.mc_pull.specs.{Lent.EachPair, Perform.Call, Perform.fate_for, Question.IsStripeOf}
 use Rattle.mc_pull.specs.Parts.{gone_part, hit_part, is_cold, is_here, new_part, number_in, part_for, places_of}
-use Rattle.mc_pull.specs.Perform.{Call, fate_for}
 use Rattle.mc_pull.specs.Performed.{IsAnyFull, IsStripeFull, IsUntouched, MayRefuseCall, Stays, is_cooling, one_if, part_in}
-use Rattle.mc_pull.specs.Question.{IsStripeOf}
 use Rattle.mc_pull.proofs.GrowthLemmas.{slice_get-last}
 use Rattle.atomic_table.specs.Seated.{TableId}
-use Rattle.mc_item.specs.declared.class_event.ClassEvent.{ClassEvent}
-use Rattle.mc_item.specs.declared.event.Event.{Event}
-use Rattle.mc_item.specs.declared.stripe_event.StripeEvent.{StripeEvent}
 use Rattle.mc_board.specs.Histories.{Grows, list_at}
 use Rattle.mc_board.specs.declared.rule.Sight.{Sight}
 use Rattle.mc_board.proofs.PrefixLemmas.{prefix_length}
-use Rattle.mc_store.specs.Locked.{IsHeldClass, locks_for}
-use Rattle.mc_store.specs.Serving.{HasSeenShort}
-use Rattle.mc_store.specs.Sides.{ClassSide, class_told, stripe_told}
+use Rattle.mc_store.specs.{Locked.IsHeldClass, Locked.locks_for, Serving.HasSeenShort, Sides.ClassSide, Sides.class_told, Sides.stripe_told}
 
 -- one of the classes has less than two places left in its history
 pub record HasShort (cs : List ClassView) : Type 0 where

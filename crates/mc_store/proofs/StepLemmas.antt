@@ -4,33 +4,21 @@ use Rattle.std.specs.Prelude.{OnErr, IfErr, slice_index_or}
 use Rattle.std.proofs.lemmas.List.{length-map}
 use Rattle.atomic_table.specs.Seated.{TableId}
 use Rattle.mc_item.specs.Stripe.{IsLegal}
-use Rattle.mc_item.specs.declared.config.Config.{Config}
-use Rattle.mc_item.specs.declared.event.Event.{Event}
+use Rattle.mc_item.specs.declared.{config.Config.Config, event.Event.Event, fault.Fault.Fault, fault.Fault.TheVariants.HistoryFull}
 use Rattle.mc_item.specs.declared.event.Event.TheVariants as events
-use Rattle.mc_item.specs.declared.fault.Fault.{Fault}
-use Rattle.mc_item.specs.declared.fault.Fault.TheVariants.{HistoryFull}
 use Rattle.mc_rule.specs.Lawful.{IsLawfulHistoryByLists}
 use Rattle.mc_evidence.specs.Seen.{classes_seen}
 use Rattle.mc_board.specs.Histories.{Grows, list_at, with_seen}
 use Rattle.mc_board.specs.declared.rule.Sight.{Sight}
-use Rattle.mc_board.proofs.PrefixLemmas.{prefix_self}
-use Rattle.mc_board.proofs.SeenLemmas.{list_at_other, list_at_same}
+use Rattle.mc_board.proofs.{PrefixLemmas.prefix_self, SeenLemmas.list_at_other, SeenLemmas.list_at_same}
 use Rattle.mc_segment.specs.ClassState.{ClassView}
-use Rattle.mc_stripe.specs.StripeCalls.{KeepsSite}
-use Rattle.mc_stripe.specs.StripeState.{Stripe}
-use Rattle.mc_pull.specs.Agreeing.{AgreeNow}
+use Rattle.mc_stripe.specs.{StripeCalls.KeepsSite, StripeState.Stripe}
+use Rattle.mc_pull.specs.{Agreeing.AgreeNow, Perform.Call, Performed.IsUntouched, Performed.MayRefuseCall, Sight.BacksStill, Sight.KeepsSights}
+use Rattle.mc_pull.specs.{Sight.SuitsStill}
 use Rattle.mc_pull.specs.Growth as classes
-use Rattle.mc_pull.specs.Perform.{Call}
-use Rattle.mc_pull.specs.Performed.{IsUntouched, MayRefuseCall}
-use Rattle.mc_pull.specs.Sight.{BacksStill, KeepsSights, SuitsStill}
-use Rattle.mc_store.proofs.ShortLemmas.{HasShort, all_short}
-use Rattle.mc_store.specs.Callers.{AreCalled}
-use Rattle.mc_store.specs.Locked.{IsHeldClass, IsLockedStripe, class_lock, locks_for}
-use Rattle.mc_store.specs.Performing.{IsRefusedIn}
-use Rattle.mc_store.specs.Serving.{HasSeenShort, IsShort}
-use Rattle.mc_store.specs.Sides.{ClassSide, StripeSide, class_told, stripe_told}
-use Rattle.mc_store.proofs.CallerLemmas.{called_sees}
-use Rattle.mc_store.proofs.LentLemmas.{apart_tells}
+use Rattle.mc_store.proofs.{ShortLemmas.HasShort, ShortLemmas.all_short, CallerLemmas.called_sees, LentLemmas.apart_tells}
+use Rattle.mc_store.specs.{Callers.AreCalled, Locked.IsHeldClass, Locked.IsLockedStripe, Locked.class_lock, Locked.locks_for, Performing.IsRefusedIn}
+use Rattle.mc_store.specs.{Serving.HasSeenShort, Serving.IsShort, Sides.ClassSide, Sides.StripeSide, Sides.class_told, Sides.stripe_told}
 use Rattle.mc_store.proofs.PairLemmas.{IsHeard, class_after, heard_before, heard_class, heard_stripe, stripe_after}
 
 -- ---- full histories

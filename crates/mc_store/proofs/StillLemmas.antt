@@ -1,11 +1,8 @@
 -- A search adds no version.
 use Rattle.std.proofs.Common.{◌≡◌, ◌++◌, ◌∷◌, [], ◌+◌, List, refl, sym, ap, ◌∙◌, arith, append-nil, append_assoc}
 use Rattle.std.specs.Prelude.{Option, Some, None}
-use Rattle.mc_item.specs.Cache.{Cache, versions_of}
-use Rattle.mc_item.specs.Stripe.{cache_of, cooled_change}
-use Rattle.mc_item.specs.declared.answer.Site.{Site}
-use Rattle.mc_item.specs.declared.item.Item.{Item}
-use Rattle.mc_item.specs.declared.stripe_event.StripeEvent.{StripeEvent}
+use Rattle.mc_item.specs.{Cache.Cache, Cache.versions_of, Stripe.cache_of, Stripe.cooled_change}
+use Rattle.mc_item.specs.declared.{answer.Site.Site, item.Item.Item, stripe_event.StripeEvent.StripeEvent}
 use Rattle.mc_item.specs.declared.stripe_event.StripeEvent.TheVariants as events
 use Rattle.mc_item.proofs.StripeLemmas.{cache_of-push}
 use Rattle.mc_evidence.specs.Losses.{AreNoCommands}

@@ -1,36 +1,19 @@
 -- One try of a command under locks, as a step that made it or made nothing.
 use Rattle.std.proofs.Common.{◌≡◌, ◌++◌, length, ℕ, List, [], ◌∷◌, true, false, Result, Ok, Err, refl, sym, ap, ◌∙◌, subst, inl, inr}
 use Rattle.std.specs.Prelude.{Option, Some, None, IfErr, IfOk, IfSome, IsErrOf, IsSomeAnd, OnErr, OnOk}
-use Rattle.mc_item.specs.declared.answer.Need.{Need}
+use Rattle.mc_item.specs.declared.{answer.Need.Need, command.Command.Command, config.Config.Config, fault.Fault.Fault, fault.Fault.TheVariants.HistoryFull}
+use Rattle.mc_item.specs.declared.{fault.Fault.TheVariants.NoMemory, item.ClassNo.ClassNo, item.Who.Who, reply.Room.Room}
 use Rattle.mc_item.specs.declared.answer.Need.TheVariants as needs
-use Rattle.mc_item.specs.declared.command.Command.{Command}
-use Rattle.mc_item.specs.declared.config.Config.{Config}
-use Rattle.mc_item.specs.declared.fault.Fault.{Fault}
-use Rattle.mc_item.specs.declared.fault.Fault.TheVariants.{HistoryFull, NoMemory}
-use Rattle.mc_item.specs.declared.item.ClassNo.{ClassNo}
-use Rattle.mc_item.specs.declared.item.Who.{Who}
-use Rattle.mc_item.specs.declared.reply.Room.{Room}
 use Rattle.mc_item.specs.declared.reply.Room.TheVariants as rooms
 use Rattle.mc_segment.specs.ClassState.{ClassView, with_room}
-use Rattle.mc_stripe.specs.StripeCalls.{KeepsSite}
-use Rattle.mc_stripe.specs.StripeState.{Stripe}
-use Rattle.mc_stripe.specs.Wanting.{IsTaken}
-use Rattle.mc_stripe.specs.declared.wanting.Given.{Given}
-use Rattle.mc_stripe.specs.declared.wanting.Home.{Home}
-use Rattle.mc_pull.specs.declared.attempting.Tried.{Tried}
-use Rattle.mc_pull.specs.declared.attempting.Tried.TheVariants.{Made, Wants}
-use Rattle.mc_stripe.specs.declared.trying.Turn.{Turn}
-use Rattle.mc_pull.specs.Agreeing.{KeepsAgreements}
-use Rattle.mc_pull.specs.Attempt.{GivesHome, IsAny, IsOffered, IsTriedBy, OffersHome}
-use Rattle.mc_pull.specs.Perform.{Call, call}
-use Rattle.mc_pull.specs.Performed.{IsPerformed, IsUntouched, MayRefuseCall, is_cooling}
-use Rattle.mc_pull.specs.Sight.{KeepsSights}
+use Rattle.mc_stripe.specs.{StripeCalls.KeepsSite, StripeState.Stripe, Wanting.IsTaken}
+use Rattle.mc_stripe.specs.declared.{wanting.Given.Given, wanting.Home.Home, trying.Turn.Turn}
+use Rattle.mc_pull.specs.declared.{attempting.Tried.Tried, attempting.Tried.TheVariants.Made, attempting.Tried.TheVariants.Wants}
+use Rattle.mc_pull.specs.{Agreeing.KeepsAgreements, Attempt.GivesHome, Attempt.IsAny, Attempt.IsOffered, Attempt.IsTriedBy, Attempt.OffersHome, Perform.Call}
+use Rattle.mc_pull.specs.{Perform.call, Performed.IsPerformed, Performed.IsUntouched, Performed.MayRefuseCall, Performed.is_cooling, Sight.KeepsSights}
 use Rattle.mc_pull.proofs.PerformedLemmas.{untouched_kept, untouched_seen}
-use Rattle.mc_store.specs.Performing.{IsOneOf, IsRefusedIn}
-use Rattle.mc_store.specs.Callers.{answered_at}
-use Rattle.mc_store.specs.Passes.{CallerView}
-use Rattle.mc_store.specs.Sides.{ClassSide}
-use Rattle.mc_store.specs.Trying.{IsTriedUnder, Stay, is_made}
+use Rattle.mc_store.specs.{Performing.IsOneOf, Performing.IsRefusedIn, Callers.answered_at, Passes.CallerView, Sides.ClassSide, Trying.IsTriedUnder}
+use Rattle.mc_store.specs.{Trying.Stay, Trying.is_made}
 
 -- what a try came to, where only that it made its command is asked
 abbrev pub result_of : Result Tried Fault → Result (Unit {0}) Fault

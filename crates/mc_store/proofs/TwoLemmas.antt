@@ -1,32 +1,21 @@
 -- A stripe and two classes under their locks, once a command was made on them: the stripe is told by the lower class and by
 -- the higher, then each of them is told by it.
-use Rattle.std.proofs.Common.{◌≢◌, ◌≡◌, ◌<◌, ◌∷◌, [], Result, Err, sym, ap, ◌∙◌, subst}
+use Rattle.std.proofs.Common.{◌≢◌, ◌≡◌, ◌∷◌, [], Result, Err, sym, ap, ◌∙◌, subst}
 use Rattle.std.specs.Prelude.{OnErr, IfErr}
 use Rattle.atomic_table.specs.Seated.{TableId}
 use Rattle.mc_item.specs.Stripe.{IsLegal}
-use Rattle.mc_item.specs.declared.config.Config.{Config}
-use Rattle.mc_item.specs.declared.fault.Fault.{Fault}
-use Rattle.mc_item.specs.declared.fault.Fault.TheVariants.{HistoryFull}
+use Rattle.mc_item.specs.declared.{config.Config.Config, fault.Fault.Fault, fault.Fault.TheVariants.HistoryFull}
 use Rattle.mc_rule.specs.Lawful.{IsLawfulHistoryByLists}
-use Rattle.mc_board.specs.Histories.{Grows, list_at, with_seen}
-use Rattle.mc_board.specs.Views.{OwnerView, SeenView}
+use Rattle.mc_board.specs.{Histories.Grows, Histories.list_at, Histories.with_seen, Views.OwnerView, Views.SeenView}
 use Rattle.mc_segment.specs.ClassState.{ClassView}
-use Rattle.mc_stripe.specs.StripeCalls.{KeepsSite}
-use Rattle.mc_stripe.specs.StripeState.{Stripe}
-use Rattle.mc_pull.specs.Agreeing.{AgreeNow, KeepsAgreements}
+use Rattle.mc_stripe.specs.{StripeCalls.KeepsSite, StripeState.Stripe}
+use Rattle.mc_pull.specs.{Agreeing.AgreeNow, Agreeing.KeepsAgreements, Lent.EachPair, Perform.Call, Performed.IsUntouched, Performed.MayRefuseCall}
+use Rattle.mc_pull.specs.{Sight.KeepsSights}
 use Rattle.mc_pull.specs.Growth as classes
-use Rattle.mc_pull.specs.Lent.{EachPair}
-use Rattle.mc_pull.specs.Perform.{Call}
-use Rattle.mc_pull.specs.Performed.{IsUntouched, MayRefuseCall}
-use Rattle.mc_pull.specs.Sight.{KeepsSights}
-use Rattle.mc_store.specs.Callers.{AreCalled}
-use Rattle.mc_store.specs.Locked.{IsHeldClass, IsLockedStripe, locks_for}
-use Rattle.mc_store.specs.Performing.{IsRefusedIn}
-use Rattle.mc_store.specs.Serving.{IsShort, class_side}
-use Rattle.mc_store.specs.Sides.{ClassSide, StripeSide, class_told, stripe_told}
-use Rattle.mc_store.proofs.PairLemmas.{grows_trans, stripe_sees}
+use Rattle.mc_store.specs.{Callers.AreCalled, Locked.IsHeldClass, Locked.IsLockedStripe, Locked.locks_for, Performing.IsRefusedIn, Serving.IsShort}
+use Rattle.mc_store.specs.{Serving.class_side, Sides.ClassSide, Sides.StripeSide, Sides.class_told, Sides.stripe_told}
+use Rattle.mc_store.proofs.{PairLemmas.grows_trans, PairLemmas.stripe_sees, StepLemmas.class_end, StepLemmas.two_end, StepLemmas.two_short}
 use Rattle.mc_store.proofs.SaidLemmas.{lent_more, lent_said, own_more, own_said, stripe_side}
-use Rattle.mc_store.proofs.StepLemmas.{class_end, two_end, two_short}
 
 module _ (table : TableId) (config : Config) (c : Call) (s s_new : Stripe) (low_class v high_class w : ClassView)
     -- the stripe's tokens, before the command and behind it, and as it is told by the lower class, by the higher, and is left

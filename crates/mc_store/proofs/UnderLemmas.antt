@@ -1,36 +1,19 @@
 -- A command under the lock of its stripe: what is seen behind it, and what stands before its answer.
 use Rattle.std.proofs.Common.{◌≡◌, ◌⊎◌, ◌++◌, ◌∷◌, [], ℕ, List, inl, inr, length, refl, ap, sym, ◌∙◌, subst, append_assoc, append-nil}
 use Rattle.std.specs.Prelude.{Option, None}
-use Rattle.mc_item.specs.Answer.{Row}
-use Rattle.mc_item.specs.Command.{key_of}
-use Rattle.mc_item.specs.Stripe.{IsAlive}
+use Rattle.mc_item.specs.{Answer.Row, Command.key_of, Stripe.IsAlive}
 use Rattle.mc_item.specs.declared.answer.Need.TheVariants as needs
-use Rattle.mc_item.specs.declared.answer.Site.{Site}
-use Rattle.mc_item.specs.declared.call_event.CallEvent.{CallEvent}
-use Rattle.mc_item.specs.declared.command.Command.{Command}
-use Rattle.mc_item.specs.declared.config.Config.{Config}
-use Rattle.mc_item.specs.declared.event.Event.{Event}
-use Rattle.mc_item.specs.declared.item.Link.{Link}
-use Rattle.mc_item.specs.declared.item.Who.{Who}
-use Rattle.mc_item.specs.declared.reply.Reply.{Reply}
-use Rattle.mc_item.specs.declared.reply.Room.{Room}
-use Rattle.mc_item.specs.declared.stripe_event.StripeEvent.{StripeEvent}
+use Rattle.mc_item.specs.declared.{answer.Site.Site, call_event.CallEvent.CallEvent, command.Command.Command, config.Config.Config, event.Event.Event}
+use Rattle.mc_item.specs.declared.{item.Link.Link, item.Who.Who, reply.Reply.Reply, reply.Room.Room, stripe_event.StripeEvent.StripeEvent}
 use Rattle.mc_item.specs.declared.stripe_event.StripeEvent.TheVariants as events
 use Rattle.mc_board.specs.Histories.{Grows, list_at, with_seen}
 use Rattle.mc_board.specs.declared.rule.Sight.{Sight}
 use Rattle.mc_board.proofs.SeenLemmas.{list_at_same}
-use Rattle.mc_stripe.specs.Plan.{dead_link, visible_row}
-use Rattle.mc_stripe.specs.StripeCalls.{KeepsSite}
-use Rattle.mc_stripe.specs.StripeState.{Stripe, cache_now}
-use Rattle.mc_pull.specs.Perform.{answer_to, call}
-use Rattle.mc_pull.specs.Performed.{cooled_if, events_on_stripe}
+use Rattle.mc_stripe.specs.{Plan.dead_link, Plan.visible_row, StripeCalls.KeepsSite, StripeState.Stripe, StripeState.cache_now}
+use Rattle.mc_pull.specs.{Perform.answer_to, Perform.call, Performed.cooled_if, Performed.events_on_stripe}
 use Rattle.mc_store.specs.Commands.{IsCut, IsSearch, LeadsUp, burial}
 use Rattle.mc_store.proofs.CommandLemmas.{buried_alive, buried_row, not_dead, searches_none}
-use Rattle.mc_store.specs.Callers.{answered_at}
-use Rattle.mc_store.specs.Calls.{IsReplied}
-use Rattle.mc_store.specs.Earned.{IsEarned}
-use Rattle.mc_store.specs.Performing.{IsMade}
-use Rattle.mc_store.specs.Serving.{GrowsBut}
+use Rattle.mc_store.specs.{Callers.answered_at, Calls.IsReplied, Earned.IsEarned, Performing.IsMade, Serving.GrowsBut}
 
 -- of a lock whose history was told, that is what was seen
 pub told_at : (sight : Sight) (lock : ℕ) (list : List Event) (new : Sight) (other : ℕ) (is : List Event) → new ≡ with_seen sight lock list → other ≡ lock → list ≡ is → list_at new.seen other ≡ is

@@ -1,30 +1,17 @@
 -- What a call on a store leaves, by what its pass had seen before and has seen after (own).
 use Rattle.std.specs.Prelude.{◌≡◌, ◌++◌, ℕ, List, [], ◌∷◌}
 use mathlib.Core.List.{IsPrefix}
-use Rattle.mc_item.specs.declared.call_event.CallEvent.{CallEvent}
-use Rattle.mc_item.specs.declared.class_event.ClassEvent.{ClassEvent}
-use Rattle.mc_item.specs.declared.command.Command.{Command}
-use Rattle.mc_item.specs.declared.config.Config.{Config}
-use Rattle.mc_item.specs.declared.item.ClassNo.{ClassNo}
-use Rattle.mc_item.specs.declared.item.Who.{Who}
-use Rattle.mc_item.specs.declared.counts.Moves.{Moves}
-use Rattle.mc_item.specs.declared.reply.Reply.{Reply}
-use Rattle.mc_evidence.specs.Locks.{ClassKeeps, StripeKeeps}
-use Rattle.mc_evidence.specs.Seen.{classes_seen, stripes_seen}
+use Rattle.mc_item.specs.declared.{call_event.CallEvent.CallEvent, class_event.ClassEvent.ClassEvent, command.Command.Command, config.Config.Config}
+use Rattle.mc_item.specs.declared.{item.ClassNo.ClassNo, item.Who.Who, counts.Moves.Moves, reply.Reply.Reply}
+use Rattle.mc_evidence.specs.{Locks.ClassKeeps, Locks.StripeKeeps, Seen.classes_seen, Seen.stripes_seen}
 use Rattle.mc_board.specs.Histories.{list_at}
 use Rattle.mc_board.specs.declared.rule.Sight.{Sight}
 use Rattle.mc_segment.specs.ClassState.{ClassView}
-use Rattle.mc_stripe.specs.StripeState.{Stripe}
-use Rattle.mc_stripe.specs.StripeCalls.{KeepsSite}
-use Rattle.mc_pull.specs.Juggle.{IsJuggle}
-use Rattle.mc_pull.specs.Question.{IsClassOf, IsStripeOf}
-use Rattle.mc_pull.specs.Rounds.{rounds}
+use Rattle.mc_stripe.specs.{StripeState.Stripe, StripeCalls.KeepsSite}
+use Rattle.mc_pull.specs.{Juggle.IsJuggle, Question.IsClassOf, Question.IsStripeOf, Rounds.rounds}
 use Rattle.mc_pull.specs.declared.looking.Answer.{Answer}
-use Rattle.mc_store.specs.Commands.{IsAnswered, IsCut}
-use Rattle.mc_store.specs.Callers.{answered_at, asked_for}
-use Rattle.mc_store.specs.Earned.{IsEarned}
-use Rattle.mc_store.specs.Locked.{class_lock, setting_of}
-use Rattle.mc_store.specs.Sides.{class_told, stripe_told}
+use Rattle.mc_store.specs.{Commands.IsAnswered, Commands.IsCut, Callers.answered_at, Callers.asked_for, Earned.IsEarned, Locked.class_lock, Locked.setting_of}
+use Rattle.mc_store.specs.{Sides.class_told, Sides.stripe_told}
 
 -- a command was answered with this reply, and its caller's history has one event more, which says where the answer stands; a
 -- refusal that the answer cites was earned: it stands behind a search by the same call, by what is seen of its class

@@ -2,25 +2,13 @@
 -- answered or broken off (own).
 use Rattle.std.specs.Prelude.{ℕ, ◌≡◌, ◌++◌, ◌⊎◌, List, [], ◌∷◌, Bool, Option, Some, None, length}
 use Rattle.mc_item.specs.Command.{key_of}
-use Rattle.mc_item.specs.declared.answer.Need.{Need}
+use Rattle.mc_item.specs.declared.{answer.Need.Need, command.Command.Command, config.Config.Config, item.ClassNo.ClassNo, item.Link.Link, item.Who.Who}
+use Rattle.mc_item.specs.declared.{reply.Reply.Reply, reply.Room.Room, stripe_event.Cause.TheVariants.Expired, stripe_event.StripeEvent.StripeEvent}
 use Rattle.mc_item.specs.declared.answer.Need.TheVariants as needs
-use Rattle.mc_item.specs.declared.command.Command.{Command}
-use Rattle.mc_item.specs.declared.config.Config.{Config}
-use Rattle.mc_item.specs.declared.item.ClassNo.{ClassNo}
-use Rattle.mc_item.specs.declared.item.Link.{Link}
-use Rattle.mc_item.specs.declared.item.Who.{Who}
-use Rattle.mc_item.specs.declared.reply.Reply.{Reply}
-use Rattle.mc_item.specs.declared.reply.Room.{Room}
-use Rattle.mc_item.specs.declared.stripe_event.Cause.TheVariants.{Expired}
-use Rattle.mc_item.specs.declared.stripe_event.StripeEvent.{StripeEvent}
 use Rattle.mc_item.specs.declared.stripe_event.StripeEvent.TheVariants as events
 use Rattle.mc_rule.specs.Segment.{rule_of}
-use Rattle.mc_stripe.specs.Plan.{dead_link, visible_row}
-use Rattle.mc_stripe.specs.StripeState.{Stripe, cache_now}
-use Rattle.mc_pull.specs.Lone.{AreMadeBy}
-use Rattle.mc_pull.specs.Performed.{cooled_if}
-use Rattle.mc_pull.specs.Settled.{lost_event}
-use Rattle.mc_pull.specs.Walker.{Walker}
+use Rattle.mc_stripe.specs.{Plan.dead_link, Plan.visible_row, StripeState.Stripe, StripeState.cache_now}
+use Rattle.mc_pull.specs.{Lone.AreMadeBy, Performed.cooled_if, Settled.lost_event, Walker.Walker}
 
 -- the walker of a call in a class of a configuration
 abbrev pub walker_in : Config → Who → ℕ → ClassNo → Walker

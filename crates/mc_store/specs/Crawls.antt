@@ -1,29 +1,20 @@
 -- What a crawl of a class leaves, by what its pass had seen before and has seen after (own).
 use Rattle.std.specs.Prelude.{◌≡◌, ◌+◌, ◌++◌, ◌⊎◌, ℕ, List, [], ◌∷◌}
 use mathlib.Core.List.{IsPrefix}
-use Rattle.mc_item.specs.declared.class_event.ClassEvent.{ClassEvent}
+use Rattle.mc_item.specs.declared.{class_event.ClassEvent.ClassEvent, config.Config.Config, counts.Histogram.Histogram, event.Event.Event}
+use Rattle.mc_item.specs.declared.{event.Event.TheVariants.Call, event.Event.TheVariants.Class, event.Event.TheVariants.Stripe, item.ClassNo.ClassNo}
+use Rattle.mc_item.specs.declared.{item.Link.Link, item.Who.Who}
 use Rattle.mc_item.specs.Counts.{no_counts}
-use Rattle.mc_item.specs.declared.config.Config.{Config}
-use Rattle.mc_item.specs.declared.counts.Histogram.{Histogram}
-use Rattle.mc_item.specs.declared.event.Event.{Event}
-use Rattle.mc_item.specs.declared.event.Event.TheVariants.{Call, Class, Stripe}
-use Rattle.mc_item.specs.declared.item.ClassNo.{ClassNo}
-use Rattle.mc_item.specs.declared.item.Link.{Link}
-use Rattle.mc_item.specs.declared.item.Who.{Who}
-use Rattle.mc_evidence.specs.Locks.{ClassKeeps}
-use Rattle.mc_evidence.specs.Seen.{stripes_seen}
+use Rattle.mc_evidence.specs.{Locks.ClassKeeps, Seen.stripes_seen}
 use Rattle.mc_rule.specs.Lists.{count_of, lists_of}
 use Rattle.mc_board.specs.Histories.{list_at}
 use Rattle.mc_board.specs.declared.rule.Sight.{Sight}
 use Rattle.mc_segment.specs.ClassState.{ClassView, opened}
 use Rattle.mc_pull.specs.Question.{IsClassOf}
 use Rattle.mc_pull.specs.declared.looking.Answer.{Answer}
-use Rattle.mc_crawl.specs.Crawl.{IsCrawled, IsReclaim, crawl}
-use Rattle.mc_crawl.specs.CrawlCount.{IsBalanced, counted}
-use Rattle.mc_crawl.specs.Snapshot.{links_of}
+use Rattle.mc_crawl.specs.{Crawl.IsCrawled, Crawl.IsReclaim, Crawl.crawl, CrawlCount.IsBalanced, CrawlCount.counted, Snapshot.links_of}
 use Rattle.mc_crawl.specs.declared.kind.Kind.{Kind}
-use Rattle.mc_store.specs.Locked.{class_lock, setting_of}
-use Rattle.mc_store.specs.Sides.{class_told}
+use Rattle.mc_store.specs.{Locked.class_lock, Locked.setting_of, Sides.class_told}
 
 -- among these events at least so many are a `Reclaimed` by this caller's call and of this moment
 abbrev pub HasReclaims : Who → ℕ → ℕ → List Event → Type 0

@@ -1,27 +1,16 @@
 -- That a reply for want of a chunk was earned: the refusal that it cites stands behind a search by the same call (own).
 use Rattle.std.specs.Prelude.{◌≡◌, ◌⊎◌, ℕ, List, false, length}
-use Rattle.mc_item.specs.Measure.{stripe_of}
-use Rattle.mc_item.specs.Stripe.{IsAlive}
-use Rattle.mc_item.specs.declared.answer.Site.{Site}
-use Rattle.mc_item.specs.declared.class_event.ClassEvent.{ClassEvent}
-use Rattle.mc_item.specs.declared.config.Config.{Config}
-use Rattle.mc_item.specs.declared.item.ClassNo.{ClassNo}
-use Rattle.mc_item.specs.declared.item.StripeNo.{StripeNo}
-use Rattle.mc_item.specs.declared.item.Who.{Who}
-use Rattle.mc_item.specs.declared.lists.Seg.TheVariants.{Hot, Cold}
-use Rattle.mc_item.specs.declared.reply.Room.{Room}
+use Rattle.mc_item.specs.{Measure.stripe_of, Stripe.IsAlive}
+use Rattle.mc_item.specs.declared.{answer.Site.Site, class_event.ClassEvent.ClassEvent, config.Config.Config, item.ClassNo.ClassNo, item.StripeNo.StripeNo}
+use Rattle.mc_item.specs.declared.{item.Who.Who, lists.Seg.TheVariants.Hot, lists.Seg.TheVariants.Cold, reply.Room.Room, stripe_event.Did.Did}
 use Rattle.mc_item.specs.declared.reply.Room.TheVariants as rooms
-use Rattle.mc_item.specs.declared.stripe_event.Did.{Did}
 use Rattle.mc_rule.specs.Places.{Stands}
-use Rattle.mc_evidence.specs.Refusals.{HasTried, WasTried}
-use Rattle.mc_evidence.specs.Seen.{classes_seen}
+use Rattle.mc_evidence.specs.{Refusals.HasTried, Refusals.WasTried, Seen.classes_seen}
 use Rattle.mc_board.specs.Histories.{list_at}
 use Rattle.mc_board.specs.declared.rule.Sight.{Sight}
-use Rattle.mc_segment.specs.ClassCalls.{refused_event}
-use Rattle.mc_segment.specs.ClassState.{ClassView, opened}
+use Rattle.mc_segment.specs.{ClassCalls.refused_event, ClassState.ClassView, ClassState.opened}
 use Rattle.mc_stripe.specs.StripeState.{Stripe, cache_now}
-use Rattle.mc_pull.specs.Rounds.{IsRoom, rounds}
-use Rattle.mc_pull.specs.Tried.{AreHad, IsNoneNear}
+use Rattle.mc_pull.specs.{Rounds.IsRoom, Rounds.rounds, Tried.AreHad, Tried.IsNoneNear}
 use Rattle.mc_pull.specs.declared.looking.Answer.{Answer}
 
 -- a call for a key of a stripe has searched a class for a chunk: it took or moved an entry, or reclaimed one of another key; or

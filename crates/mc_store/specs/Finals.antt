@@ -1,25 +1,14 @@
 -- A closed store: its stripes and its classes, and what was seen of them before (own).
 use Rattle.std.specs.Prelude.{◌≡◌, ℕ, ◌+◌, ◌-◌, ◌<◌, ◌≤◌, List, [], Option, Some, None, length, slice_get}
 use Rattle.atomic_table.specs.Seated.{TableId}
-use Rattle.mc_item.specs.declared.class_event.ClassEvent.{ClassEvent}
-use Rattle.mc_item.specs.declared.config.Config.{Config}
-use Rattle.mc_item.specs.declared.event.Event.{Event}
+use Rattle.mc_item.specs.declared.{class_event.ClassEvent.ClassEvent, config.Config.Config, event.Event.Event, item.ClassNo.ClassNo, item.Item.Item}
+use Rattle.mc_item.specs.declared.{lists.Entry.Entry, lists.Seg.Seg, stripe_event.StripeEvent.StripeEvent}
 use Rattle.mc_item.specs.Measure.{stripe_of}
-use Rattle.mc_item.specs.declared.item.ClassNo.{ClassNo}
-use Rattle.mc_item.specs.declared.item.Item.{Item}
-use Rattle.mc_item.specs.declared.lists.Entry.{Entry}
-use Rattle.mc_item.specs.declared.lists.Seg.{Seg}
-use Rattle.mc_item.specs.declared.stripe_event.StripeEvent.{StripeEvent}
 use Rattle.mc_board.specs.Histories.{HasNoted, HasSeen}
 use Rattle.mc_board.specs.declared.rule.Sight.{Sight}
 use Rattle.mc_evidence.specs.Setting.{IsClass, Setting, site_in}
-use Rattle.mc_rule.specs.Belonging.{HasEntry, HasItem}
-use Rattle.mc_rule.specs.Lists.{found, lists_of, times_in}
-use Rattle.mc_rule.specs.Pairs.{item_after}
-use Rattle.mc_store.specs.Callers.{IsCalled, who_of}
-use Rattle.mc_store.specs.Locked.{IsClassUnder, IsStripeUnder}
-use Rattle.mc_store.specs.Made.{IsClassCalled, maker_of}
-use Rattle.mc_store.specs.Passes.{PassView}
+use Rattle.mc_rule.specs.{Belonging.HasEntry, Belonging.HasItem, Lists.found, Lists.lists_of, Lists.times_in, Pairs.item_after}
+use Rattle.mc_store.specs.{Callers.IsCalled, Callers.who_of, Locked.IsClassUnder, Locked.IsStripeUnder, Made.IsClassCalled, Made.maker_of, Passes.PassView}
 use Rattle.mc_store.specs.Sides.{ClassSide, StripeSide, class_told, stripe_told}
 
 -- a closed store: its board, and all stripes and all classes in the order of their numbers

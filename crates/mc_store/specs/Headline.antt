@@ -1,19 +1,12 @@
 -- What a closed store bears out of each reply that was given, and of each item that went (own).
 use Rattle.std.specs.Prelude.{◌≡◌, ◌≤◌, ℕ, List, Some, length, slice_get}
 use Rattle.mc_item.specs.Stripe.{IsLegal}
-use Rattle.mc_item.specs.declared.command.Command.{Command}
-use Rattle.mc_item.specs.declared.config.Config.{Config}
-use Rattle.mc_item.specs.declared.item.Who.{Who}
-use Rattle.mc_item.specs.declared.reply.Reply.{Reply}
-use Rattle.mc_item.specs.declared.reply.Room.{Room}
-use Rattle.mc_item.specs.declared.stripe_event.Did.{Did}
+use Rattle.mc_item.specs.declared.{command.Command.Command, config.Config.Config, item.Who.Who, reply.Reply.Reply, reply.Room.Room, stripe_event.Did.Did}
 use Rattle.mc_item.specs.declared.stripe_event.StripeEvent.TheVariants as events
 use Rattle.mc_board.specs.Histories.{list_at}
 use Rattle.mc_board.specs.declared.rule.Sight.{Sight}
 use Rattle.mc_evidence.specs.Setting.{site_in}
-use Rattle.mc_store.specs.Finals.{stripe_histories}
-use Rattle.mc_store.specs.Locked.{setting_of}
-use Rattle.mc_store.specs.Sides.{StripeSide}
+use Rattle.mc_store.specs.{Finals.stripe_histories, Locked.setting_of, Sides.StripeSide}
 
 -- a command that was answered, in the room that it was given
 abbrev pub answered_did : Who → Command → ℕ → Reply → Room → Did

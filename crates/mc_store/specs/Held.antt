@@ -1,42 +1,22 @@
 -- The classes that a command holds, and one try on them (own).
 use Rattle.std.specs.Prelude.{ℕ, ◌≡◌, ◌<◌, ◌≤◌, ◌+◌, ◌^◌, ◌++◌, ◌∷◌, [], List, Option, Some, None, IfSome, Result, IfOk, OnErr, IsErrOf, length}
-use Rattle.std.specs.Sync.Mutex.{mutex_guard_value}
-use Rattle.std.specs.declared.sync.MutexGuard.{MutexGuard}
-use Rattle.mc_item.specs.Command.{key_of}
-use Rattle.mc_item.specs.Measure.{stripe_of}
-use Rattle.mc_item.specs.Stripe.{IsAlive}
+use Rattle.std.specs.{Sync.Mutex.mutex_guard_value, declared.sync.MutexGuard.MutexGuard}
+use Rattle.mc_item.specs.{Command.key_of, Measure.stripe_of, Stripe.IsAlive}
 use Rattle.mc_item.specs.declared.answer.Need.TheVariants as needs
-use Rattle.mc_item.specs.declared.command.Command.{Command}
-use Rattle.mc_item.specs.declared.config.Config.{Config}
-use Rattle.mc_item.specs.declared.fault.Fault.{Fault}
-use Rattle.mc_item.specs.declared.fault.Fault.TheVariants.{HistoryFull}
-use Rattle.mc_item.specs.declared.item.ClassNo.{ClassNo}
-use Rattle.mc_item.specs.declared.reply.Reply.{Reply}
-use Rattle.mc_item.specs.declared.reply.Room.{Room}
-use Rattle.mc_item.specs.declared.stripe_event.StripeEvent.{StripeEvent}
+use Rattle.mc_item.specs.declared.{command.Command.Command, config.Config.Config, fault.Fault.Fault, fault.Fault.TheVariants.HistoryFull, item.ClassNo.ClassNo}
+use Rattle.mc_item.specs.declared.{reply.Reply.Reply, reply.Room.Room, stripe_event.StripeEvent.StripeEvent}
 use Rattle.mc_rule.specs.Lists.{IsFull, lists_of}
 use Rattle.mc_segment.specs.ClassState.{ClassView}
 use Rattle.mc_board.specs.declared.rule.Sight.{Sight}
-use Rattle.mc_stripe.specs.StripeCalls.{KeepsSite}
-use Rattle.mc_stripe.specs.StripeState.{Stripe, cache_now}
-use Rattle.mc_stripe.specs.Trying.{item_of, row_at}
-use Rattle.mc_stripe.specs.Wanting.{Holds, IsWanting, classes_for}
-use Rattle.mc_stripe.specs.declared.wanting.Given.{Given}
-use Rattle.mc_stripe.specs.declared.wanting.Want.{Want}
+use Rattle.mc_stripe.specs.{StripeCalls.KeepsSite, StripeState.Stripe, StripeState.cache_now, Trying.item_of, Trying.row_at, Wanting.Holds, Wanting.IsWanting}
+use Rattle.mc_stripe.specs.{Wanting.classes_for}
+use Rattle.mc_stripe.specs.declared.{wanting.Given.Given, wanting.Want.Want, trying.Turn.Turn}
 use Rattle.mc_stripe.specs.declared.wanting.Want.TheVariants as wants
 use Rattle.mc_pull.specs.declared.attempting.Tried.{Tried}
 use Rattle.mc_pull.specs.declared.attempting.Tried.TheVariants as tried
-use Rattle.mc_stripe.specs.declared.trying.Turn.{Turn}
-use Rattle.mc_pull.specs.Lone.{AreMadeBy}
-use Rattle.mc_pull.specs.Perform.{call}
-use Rattle.mc_store.specs.Callers.{answered_at}
-use Rattle.mc_store.specs.Calls.{IsReplied}
-use Rattle.mc_store.specs.Commands.{IsCut, walker_in}
-use Rattle.mc_store.specs.Earned.{HasGivenUp, IsEarnedAt, IsEarnedIn}
-use Rattle.mc_store.specs.Passes.{CallerView, HasAsked}
-use Rattle.mc_store.specs.Performing.{IsMade}
-use Rattle.mc_store.specs.Serving.{HasSeenShort, IsShort}
-use Rattle.mc_store.specs.Sides.{ClassSide, StripeSide}
+use Rattle.mc_pull.specs.{Lone.AreMadeBy, Perform.call}
+use Rattle.mc_store.specs.{Callers.answered_at, Calls.IsReplied, Commands.IsCut, Commands.walker_in, Earned.HasGivenUp, Earned.IsEarnedAt, Earned.IsEarnedIn}
+use Rattle.mc_store.specs.{Passes.CallerView, Passes.HasAsked, Performing.IsMade, Serving.HasSeenShort, Serving.IsShort, Sides.ClassSide, Sides.StripeSide}
 
 -- a class's number
 abbrev pub number_of : ClassSide → ClassNo

@@ -2,24 +2,17 @@
 use Rattle.std.specs.Prelude.{◌≡◌, ℕ, ◌+◌, ◌-◌, ◌<◌, length}
 use Rattle.atomic_table.specs.Seated.{TableId}
 use Rattle.mc_item.specs.Config.{IsSound}
-use Rattle.mc_item.specs.declared.call_event.CallEvent.{CallEvent}
-use Rattle.mc_item.specs.declared.command.Command.{Command}
-use Rattle.mc_item.specs.declared.config.Config.{Config}
-use Rattle.mc_item.specs.declared.item.ClassNo.{ClassNo}
-use Rattle.mc_item.specs.declared.item.Who.{Who}
+use Rattle.mc_item.specs.declared.{call_event.CallEvent.CallEvent, command.Command.Command, config.Config.Config, item.ClassNo.ClassNo, item.Who.Who}
 use Rattle.mc_rule.specs.Segment.{rule_of}
 use Rattle.mc_board.specs.Histories.{list_at}
 use Rattle.mc_board.specs.declared.rule.Sight.{Sight}
 use Rattle.mc_segment.specs.ClassState.{chunks_for}
 use Rattle.mc_pull.specs.Question as made
-use Rattle.mc_evidence.specs.Locks.{ClassKeeps, StripeKeeps}
-use Rattle.mc_evidence.specs.Seen.{classes_seen, stripes_seen}
-use Rattle.mc_evidence.specs.Setting.{IsClass, Setting}
+use Rattle.mc_evidence.specs.{Locks.ClassKeeps, Locks.StripeKeeps, Seen.classes_seen, Seen.stripes_seen, Setting.IsClass, Setting.Setting}
 use Rattle.mc_store.specs.declared.lock_no.LockNo.{LockNo}
 use Rattle.mc_store.specs.declared.lock_no.LockNo.TheVariants as locks
 use Rattle.mc_store.specs.Callers.{AreCalled, IsBegun, IsBegunAs, asked_for, call_events}
-use Rattle.mc_store.specs.Made.{AreCalledInClass}
-use Rattle.mc_store.specs.Sides.{ClassSide, StripeSide}
+use Rattle.mc_store.specs.{Made.AreCalledInClass, Sides.ClassSide, Sides.StripeSide}
 
 -- what is fixed for a store of a configuration
 abbrev pub setting_of : Config → Setting

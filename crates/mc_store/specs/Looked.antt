@@ -1,20 +1,14 @@
 -- What a walker leaves by a gate that has one stripe at hand (own).
 use Rattle.std.specs.Prelude.{◌≡◌, ◌≢◌, ◌++◌, ◌∷◌, [], ℕ, List, IsSomeAnd}
-use Rattle.mc_item.specs.Measure.{stripe_of}
-use Rattle.mc_item.specs.Stripe.{IsAlive}
-use Rattle.mc_item.specs.declared.class_event.ClassEvent.{ClassEvent}
+use Rattle.mc_item.specs.{Measure.stripe_of, Stripe.IsAlive}
+use Rattle.mc_item.specs.declared.{class_event.ClassEvent.ClassEvent, item.Who.Who}
 use Rattle.mc_item.specs.declared.class_event.ClassEvent.TheVariants as events
-use Rattle.mc_item.specs.declared.item.Who.{Who}
 use Rattle.mc_rule.specs.Lists.{found, lists_of}
 use Rattle.mc_segment.specs.ClassState.{ClassView}
 use Rattle.mc_stripe.specs.StripeState.{Stripe, cache_now}
 use Rattle.mc_pull.specs.declared.judge.Done.TheVariants as done
-use Rattle.mc_pull.specs.declared.looking.Answer.{Answer}
-use Rattle.mc_pull.specs.declared.looking.Judged.{Judged}
-use Rattle.mc_pull.specs.Judgement.{done_of}
-use Rattle.mc_pull.specs.Question.{Question}
-use Rattle.mc_pull.specs.Tried.{AreHad}
-use Rattle.mc_pull.specs.Walker.{Walker}
+use Rattle.mc_pull.specs.declared.{looking.Answer.Answer, looking.Judged.Judged}
+use Rattle.mc_pull.specs.{Judgement.done_of, Question.Question, Tried.AreHad, Walker.Walker}
 
 -- what was done with an entry is what this stripe tells of it, to which it is no stranger
 pub record IsKnown (c : ClassView) (s : Stripe) (q : Question) (j : Judged) : Type 0 where

@@ -1,12 +1,8 @@
 -- Events of slab classes: who made each, at which moment, and that its caller's history has the call that it is of (own).
 use Rattle.std.specs.Prelude.{◌≡◌, ◌<◌, ◌+◌, ◌++◌, ℕ, List, [], ◌∷◌, Some, slice_get}
-use Rattle.mc_item.specs.declared.call_event.CallEvent.{CallEvent}
+use Rattle.mc_item.specs.declared.{call_event.CallEvent.CallEvent, class_event.ClassEvent.ClassEvent, event.Event.Event, item.ClassNo.ClassNo, item.Who.Who}
 use Rattle.mc_item.specs.declared.call_event.CallEvent.TheVariants.{Answered, Asked, Crawled, Juggled}
-use Rattle.mc_item.specs.declared.class_event.ClassEvent.{ClassEvent}
 use Rattle.mc_item.specs.declared.class_event.ClassEvent.TheVariants as events
-use Rattle.mc_item.specs.declared.event.Event.{Event}
-use Rattle.mc_item.specs.declared.item.ClassNo.{ClassNo}
-use Rattle.mc_item.specs.declared.item.Who.{Who}
 use Rattle.mc_board.specs.Histories.{Grows}
 use Rattle.mc_board.specs.declared.rule.Sight.{Sight}
 use Rattle.mc_store.specs.Callers.{IsBegun, call_events}

@@ -1,8 +1,6 @@
 -- What a contract sees of a pass, and the passes of a new store (own).
 use Rattle.std.specs.Prelude.{◌≡◌, ℕ, ◌<◌, ◌+◌, ◌^◌, ◌++◌, ◌∷◌, List, [], Some, length, slice_get}
-use Rattle.mc_item.specs.declared.call_event.CallEvent.{CallEvent}
-use Rattle.mc_item.specs.declared.command.Command.{Command}
-use Rattle.mc_item.specs.declared.item.Who.{Who}
+use Rattle.mc_item.specs.declared.{call_event.CallEvent.CallEvent, command.Command.Command, item.Who.Who}
 use Rattle.mc_board.specs.Histories.{blind}
 use Rattle.mc_board.specs.declared.rule.Sight.{Sight}
 use Rattle.mc_store.specs.Callers.{IsBegunAs, asked_for, turns_of}

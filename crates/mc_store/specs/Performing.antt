@@ -1,13 +1,10 @@
 -- One command under locks: what it leaves of its stripe (own).
 use Rattle.std.specs.Prelude.{◌≡◌, ◌++◌, Bool, List, [], ◌∷◌, ◌⊎◌}
-use Rattle.mc_item.specs.declared.item.ClassNo.{ClassNo}
-use Rattle.mc_item.specs.declared.reply.Reply.{Reply}
-use Rattle.mc_item.specs.declared.reply.Room.{Room}
+use Rattle.mc_item.specs.declared.{item.ClassNo.ClassNo, reply.Reply.Reply, reply.Room.Room}
 use Rattle.mc_item.specs.declared.reply.Room.TheVariants as rooms
 use Rattle.mc_segment.specs.ClassState.{ClassView}
 use Rattle.mc_stripe.specs.StripeState.{Stripe}
-use Rattle.mc_pull.specs.Perform.{Call, answer_to}
-use Rattle.mc_pull.specs.Performed.{events_on_stripe}
+use Rattle.mc_pull.specs.{Perform.Call, Perform.answer_to, Performed.events_on_stripe}
 
 -- a command was made on its stripe: its events stand at the end of the history, and this is its reply
 pub record IsMade (s s_new : Stripe) (c : Call) (reply : Reply) : Type 0 where

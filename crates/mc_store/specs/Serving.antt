@@ -2,15 +2,11 @@
 use Rattle.std.specs.Prelude.{◌≡◌, ◌≢◌, ◌<◌, ◌+◌, ◌⊎◌, ℕ, length}
 use mathlib.Core.List.{IsPrefix}
 use Rattle.atomic_table.specs.Seated.{TableId}
-use Rattle.mc_item.specs.declared.config.Config.{Config}
-use Rattle.mc_item.specs.declared.fault.Fault.{Fault}
-use Rattle.mc_item.specs.declared.fault.Fault.TheVariants.{HistoryFull, NoMemory}
-use Rattle.mc_board.specs.Histories.{list_at}
-use Rattle.mc_board.specs.Views.{OwnerView, SeenView}
+use Rattle.mc_item.specs.declared.{config.Config.Config, fault.Fault.Fault, fault.Fault.TheVariants.HistoryFull, fault.Fault.TheVariants.NoMemory}
+use Rattle.mc_board.specs.{Histories.list_at, Views.OwnerView, Views.SeenView}
 use Rattle.mc_board.specs.declared.rule.Sight.{Sight}
 use Rattle.mc_segment.specs.ClassState.{ClassView}
-use Rattle.mc_store.specs.Locked.{IsHeldClass, locks_for}
-use Rattle.mc_store.specs.Sides.{ClassSide, StripeSide, class_told}
+use Rattle.mc_store.specs.{Locked.IsHeldClass, Locked.locks_for, Sides.ClassSide, Sides.StripeSide, Sides.class_told}
 
 -- a class with the tokens that are apart from it
 abbrev pub class_side : OwnerView → SeenView → ClassView → ClassSide

@@ -1,24 +1,14 @@
 -- One try of a command under locks (own).
 use Rattle.std.specs.Prelude.{◌≡◌, ◌++◌, List, ◌∷◌, [], Bool, true, false, Result, Ok, Err, length}
 use Rattle.mc_item.specs.Command.{key_of}
-use Rattle.mc_item.specs.declared.command.Command.{Command}
-use Rattle.mc_item.specs.declared.fault.Fault.{Fault}
-use Rattle.mc_item.specs.declared.reply.Reply.{Reply}
-use Rattle.mc_item.specs.declared.reply.Room.{Room}
+use Rattle.mc_item.specs.declared.{command.Command.Command, fault.Fault.Fault, reply.Reply.Reply, reply.Room.Room}
 use Rattle.mc_segment.specs.ClassState.{with_room}
-use Rattle.mc_stripe.specs.StripeState.{Stripe}
-use Rattle.mc_stripe.specs.Trying.{item_of, row_at}
-use Rattle.mc_stripe.specs.Wanting.{IsWanting, Uses}
-use Rattle.mc_stripe.specs.declared.fate.Fate.{Fate}
-use Rattle.mc_stripe.specs.declared.wanting.Given.{Given}
+use Rattle.mc_stripe.specs.{StripeState.Stripe, Trying.item_of, Trying.row_at, Wanting.IsWanting, Wanting.Uses}
+use Rattle.mc_stripe.specs.declared.{fate.Fate.Fate, wanting.Given.Given, trying.Turn.Turn}
 use Rattle.mc_pull.specs.declared.attempting.Tried.{Tried}
 use Rattle.mc_pull.specs.declared.attempting.Tried.TheVariants as tried
-use Rattle.mc_stripe.specs.declared.trying.Turn.{Turn}
 use Rattle.mc_pull.specs.Perform.{call}
-use Rattle.mc_store.specs.Callers.{answered_at}
-use Rattle.mc_store.specs.Passes.{CallerView}
-use Rattle.mc_store.specs.Performing.{IsMade}
-use Rattle.mc_store.specs.Sides.{ClassSide}
+use Rattle.mc_store.specs.{Callers.answered_at, Passes.CallerView, Performing.IsMade, Sides.ClassSide}
 
 -- a try made its command
 abbrev pub is_made_of : Tried → Bool

@@ -4,14 +4,10 @@ ghost use Rattle.std.specs.Sync.Mutex.{mutex_guard_value};
 ghost use Rattle.mc_item.specs.declared.fault.Fault.TheVariants.{HistoryFull};
 ghost use Rattle.mc_board.specs.Histories.{Grows};
 ghost use Rattle.mc_evidence.specs.Setting.{IsClass};
-ghost use Rattle.mc_stripe.specs.Plan.{dead_link};
-ghost use Rattle.mc_stripe.specs.StripeCalls.{KeepsSite};
-ghost use Rattle.mc_stripe.specs.StripeState.{cache_now};
+ghost use Rattle.mc_stripe.specs.{Plan.dead_link, StripeCalls.KeepsSite, StripeState.cache_now};
 ghost use Rattle.mc_stripe.specs.declared.wanting.Want.TheVariants as wants;
-ghost use Rattle.mc_store.specs.Commands.{burial};
+ghost use Rattle.mc_store.specs.{Commands.burial, Locked.HasBegunCommand, Locked.setting_of, Serving.IsShort};
 ghost use Rattle.mc_store.specs.Held.{Ends, IsCallOn, WantsAlone, number_in};
-ghost use Rattle.mc_store.specs.Locked.{HasBegunCommand, setting_of};
-ghost use Rattle.mc_store.specs.Serving.{IsShort};
 
 use crate::caller::Caller;
 use crate::held::{answer_at_home, answer_at_item, try_home};

@@ -1,11 +1,8 @@
 //! A caller and its history.
 ghost use Rattle.std.specs.Prelude.{◌≡◌, ◌<◌, ◌+◌, ◌^◌, ◌++◌, ◌∷◌, ℕ, [], length};
-ghost use Rattle.mc_item.specs.declared.call_event.CallEvent.{CallEvent};
-ghost use Rattle.mc_item.specs.declared.item.Who.{Who};
+ghost use Rattle.mc_item.specs.declared.{call_event.CallEvent.CallEvent, item.Who.Who};
 ghost use Rattle.mc_board.specs.Histories.{with_seen, Grows, HasSeen};
-ghost use Rattle.mc_store.specs.Callers.{answered_at, call_events, calls_told};
-ghost use Rattle.mc_store.specs.Locked.{caller_place, HasBegunAs};
-ghost use Rattle.mc_store.specs.Passes.{HasCalled};
+ghost use Rattle.mc_store.specs.{Callers.answered_at, Callers.call_events, Callers.calls_told, Locked.caller_place, Locked.HasBegunAs, Passes.HasCalled};
 
 use crate::locked::{LockedClass, LockedStripe};
 use crate::named::Named;
@@ -24,9 +21,7 @@ pub(crate) struct Caller<N: Named> {
 
 impl<N: Named> Model for Caller<N> {
     ghost use Rattle.std.specs.Prelude.{◌≡◌, ◌<◌};
-    ghost use Rattle.mc_store.specs.Callers.{call_events, calls_told};
-    ghost use Rattle.mc_store.specs.Locked.{caller_place};
-    ghost use Rattle.mc_store.specs.Passes.{CallerView};
+    ghost use Rattle.mc_store.specs.{Callers.call_events, Callers.calls_told, Locked.caller_place, Passes.CallerView};
 
     ghost Value = { CallerView };
 

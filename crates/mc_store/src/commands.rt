@@ -1,17 +1,11 @@
 //! One command on a store, under the lock of its key's stripe.
 ghost use Rattle.std.specs.Prelude.{◌≡◌, ◌≤◌, ◌<◌, ◌⊎◌, ◌+◌, ◌++◌, ◌-◌, ◌^◌, IfOk, IfSome, OnOk, OnErr, IsErrOf, length, List, ◌∷◌, []};
-ghost use Rattle.mc_item.specs.Command.{key_of};
-ghost use Rattle.mc_item.specs.Measure.{stripe_of};
-ghost use Rattle.mc_item.specs.declared.call_event.CallEvent.{CallEvent};
-ghost use Rattle.mc_item.specs.declared.fault.Fault.TheVariants.{HistoryFull};
+ghost use Rattle.mc_item.specs.{Command.key_of, Measure.stripe_of};
+ghost use Rattle.mc_item.specs.declared.{call_event.CallEvent.CallEvent, fault.Fault.TheVariants.HistoryFull};
 ghost use Rattle.mc_board.specs.Histories.{Grows};
 ghost use Rattle.mc_evidence.specs.Setting.{IsClass};
-ghost use Rattle.mc_store.specs.Callers.{asked_for};
-ghost use Rattle.mc_store.specs.Calls.{IsCutBy, IsRepliedBy};
-ghost use Rattle.mc_store.specs.Held.{Ends, IsCallOn};
-ghost use Rattle.mc_store.specs.Locked.{setting_of};
-ghost use Rattle.mc_store.specs.Passes.{next_who, caller_of};
-ghost use Rattle.mc_store.specs.Serving.{HasSeenShort};
+ghost use Rattle.mc_store.specs.{Callers.asked_for, Calls.IsCutBy, Calls.IsRepliedBy, Held.Ends, Held.IsCallOn, Locked.setting_of, Passes.next_who};
+ghost use Rattle.mc_store.specs.{Passes.caller_of, Serving.HasSeenShort};
 
 use crate::answering::{answer, answer_for};
 use crate::caller::Caller;

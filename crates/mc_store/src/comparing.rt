@@ -2,9 +2,8 @@
 ghost use Rattle.std.specs.Prelude.{◌≡◌, ◌<◌, ℕ, Some, length, slice_get};
 ghost use Rattle.mc_evidence.specs.Sound.{IsSoundStore};
 ghost use Rattle.mc_board.specs.Histories.{HasSeen};
-ghost use Rattle.mc_store.specs.Callers.{calls_told};
+ghost use Rattle.mc_store.specs.{Callers.calls_told, Locked.caller_place, Locked.setting_of};
 ghost use Rattle.mc_store.specs.Finals.{AreClasses, AreExactlyEntries, AreStripes, IsBehindClasses, IsBehindStripes, class_histories, stripe_histories};
-ghost use Rattle.mc_store.specs.Locked.{caller_place, setting_of};
 ghost use Rattle.mc_store.specs.Sides.{AreClassesOn, AreStripesOn, ClassSide, StripeSide};
 
 use crate::caller::Caller;

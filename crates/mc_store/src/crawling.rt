@@ -4,16 +4,11 @@ ghost use Rattle.mc_item.specs.declared.fault.Fault.TheVariants.{HistoryFull, No
 ghost use Rattle.mc_evidence.specs.Setting.{IsClass};
 ghost use Rattle.mc_board.specs.Histories.{Grows, list_at};
 ghost use Rattle.mc_pull.specs.Growth as classes;
-ghost use Rattle.mc_crawl.specs.Crawl.{Reclaims};
-ghost use Rattle.mc_crawl.specs.CrawlCount.{IsBalanced, MayCount};
+ghost use Rattle.mc_crawl.specs.{Crawl.Reclaims, CrawlCount.IsBalanced, CrawlCount.MayCount};
 ghost use Rattle.mc_store.specs.Crawls.{CountsLink, IsCrawledBy, IsLinkCounted, IsSeenSound, IsSnapshot, ShowsReclaims};
-ghost use Rattle.mc_store.specs.Locked.{class_lock, setting_of, HasBegun, HasBegunAs};
-ghost use Rattle.mc_store.specs.Passes.{next_who, caller_of, HasCalled};
-ghost use Rattle.mc_store.specs.Made.{WalksOwn};
-ghost use Rattle.mc_store.specs.Sides.{class_told};
-ghost use Rattle.mc_store.specs.Serving.{HasSeenShort, IsServed, MayFailSeen};
+ghost use Rattle.mc_store.specs.{Locked.class_lock, Locked.setting_of, Locked.HasBegun, Locked.HasBegunAs, Passes.next_who, Passes.caller_of, Passes.HasCalled};
+ghost use Rattle.mc_store.specs.{Made.WalksOwn, Sides.class_told, Serving.HasSeenShort, Serving.IsServed, Serving.MayFailSeen, Callers.crawling_of};
 ghost use Rattle.mc_pull.specs.Question.{IsClassOf};
-ghost use Rattle.mc_store.specs.Callers.{crawling_of};
 
 use crate::gates::Trying;
 use crate::locked::LockedClass;

@@ -24,8 +24,7 @@ pub struct Final {
 }
 
 impl Model for Final {
-    ghost use Rattle.mc_store.specs.Finals.{FinalView};
-    ghost use Rattle.mc_store.specs.Sides.{AreClassesOn, AreStripesOn};
+    ghost use Rattle.mc_store.specs.{Finals.FinalView, Sides.AreClassesOn, Sides.AreStripesOn};
 
     ghost Value = { FinalView };
 

@@ -1,17 +1,8 @@
 //! Gates of walks under the locks of a store: other stripes are only tried.
 ghost use Rattle.std.specs.Prelude.{◌≡◌, ◌≢◌, ◌≤◌, ◌+◌, ◌++◌, List, IfErr, IfOk, false, true};
-ghost use Rattle.mc_pull.specs.Growth.{Grows};
-ghost use Rattle.mc_pull.specs.Juggle.{IsJuggle};
-ghost use Rattle.mc_pull.specs.Lone.{StripeGrows};
-ghost use Rattle.mc_pull.specs.Question.{IsClassOf};
-ghost use Rattle.mc_pull.specs.Rounds.{IsRoom, rounds};
-ghost use Rattle.mc_pull.specs.Walker.{walker_of};
+ghost use Rattle.mc_pull.specs.{Growth.Grows, Juggle.IsJuggle, Lone.StripeGrows, Question.IsClassOf, Rounds.IsRoom, Rounds.rounds, Walker.walker_of};
 ghost use Rattle.mc_pull.specs.declared.looking.Answer.{Answer};
-ghost use Rattle.mc_store.specs.Earned.{IsSearchInVain};
-ghost use Rattle.mc_store.specs.Looked.{IsOfCall};
-ghost use Rattle.mc_store.specs.Serving.{IsServed, MayFailSeen};
-ghost use Rattle.mc_store.specs.Locked.{HasBegun};
-ghost use Rattle.mc_store.specs.Made.{WalksOwn};
+ghost use Rattle.mc_store.specs.{Earned.IsSearchInVain, Looked.IsOfCall, Serving.IsServed, Serving.MayFailSeen, Locked.HasBegun, Made.WalksOwn};
 
 use crate::judging::judge;
 use crate::locked::LockedStripe;
@@ -83,9 +74,7 @@ impl<'a, N: Named> Trying<'a, N> {
 
 impl<'a, N: Named> Gate for Trying<'a, N> {
     ghost use Rattle.std.specs.Prelude.{◌≡◌, ◌∷◌, []};
-    ghost use Rattle.mc_store.specs.Locked.{HasBegun};
-    ghost use Rattle.mc_store.specs.Made.{WalksOwn};
-    ghost use Rattle.mc_store.specs.Serving.{IsServed, MayFailSeen};
+    ghost use Rattle.mc_store.specs.{Locked.HasBegun, Made.WalksOwn, Serving.IsServed, Serving.MayFailSeen};
 
     ghost answers = { λ g. g.answers.now.items };
 
@@ -141,10 +130,7 @@ pub(crate) struct Holding<'a, 'b, N: Named> {
 impl<'a, 'b, N: Named> Gate for Holding<'a, 'b, N> {
     ghost use Rattle.std.specs.Prelude.{◌≡◌, ◌∷◌, []};
     ghost use Rattle.mc_pull.specs.Lone.{StripeGrows};
-    ghost use Rattle.mc_store.specs.Looked.{HasLooked, IsOfCall};
-    ghost use Rattle.mc_store.specs.Locked.{HasBegun};
-    ghost use Rattle.mc_store.specs.Made.{WalksOwn};
-    ghost use Rattle.mc_store.specs.Serving.{IsServed, MayFailSeen};
+    ghost use Rattle.mc_store.specs.{Looked.HasLooked, Looked.IsOfCall, Locked.HasBegun, Made.WalksOwn, Serving.IsServed, Serving.MayFailSeen};
 
     ghost answers = { λ g. g.others.answers.now.items };
 

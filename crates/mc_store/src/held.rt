@@ -10,8 +10,7 @@ ghost use Rattle.mc_rule.specs.Lists.{IsFull, lists_of};
 ghost use Rattle.mc_segment.specs.ClassState.{with_room};
 ghost use Rattle.mc_stripe.specs.StripeCalls.{KeepsSite};
 ghost use Rattle.mc_store.specs.Held.{Ends, HasGivenUpAny, IsCallOn, IsRefusedAt, IsStillFull, IsTriedOn, IsWalked, Suffice, WantsChunk, number_in};
-ghost use Rattle.mc_store.specs.Locked.{HasBegunCommand};
-ghost use Rattle.mc_store.specs.Serving.{IsShort};
+ghost use Rattle.mc_store.specs.{Locked.HasBegunCommand, Serving.IsShort};
 
 use crate::caller::Caller;
 use crate::locked::{LockedClass, LockedStripe};

@@ -1,14 +1,9 @@
 //! One entry under locks, judged with its key's stripe.
 ghost use Rattle.std.specs.Prelude.{◌≡◌, true, is_some, None, IfErr, IsSomeAnd, OnOk, OnErr};
 ghost use Rattle.mc_segment.specs.ClassState.{with_room};
-ghost use Rattle.mc_pull.specs.Lone.{StripeGrows};
-ghost use Rattle.mc_pull.specs.Looks.{events_if, IsJudgedIf};
+ghost use Rattle.mc_pull.specs.{Lone.StripeGrows, Looks.events_if, Looks.IsJudgedIf, Settled.class_with, Walker.walker_of};
 ghost use Rattle.mc_pull.specs.Question.{question_of, HasKeyOf, MayJudge};
-ghost use Rattle.mc_pull.specs.Settled.{class_with};
-ghost use Rattle.mc_pull.specs.Walker.{walker_of};
-ghost use Rattle.mc_store.specs.Looked.{IsKnown};
-ghost use Rattle.mc_store.specs.Serving.{IsServed, MayFailSeen};
-ghost use Rattle.mc_store.specs.Locked.{HasBegun};
+ghost use Rattle.mc_store.specs.{Looked.IsKnown, Serving.IsServed, Serving.MayFailSeen, Locked.HasBegun};
 ghost use Rattle.mc_board.specs.Histories.{Grows};
 
 use crate::locked::LockedStripe;

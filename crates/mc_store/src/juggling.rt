@@ -3,11 +3,7 @@ ghost use Rattle.std.specs.Prelude.{◌≡◌, ◌≤◌, ◌⊎◌, ◌+◌, �
 ghost use Rattle.mc_item.specs.declared.fault.Fault.TheVariants.{HistoryFull};
 ghost use Rattle.mc_evidence.specs.Setting.{IsClass};
 ghost use Rattle.mc_board.specs.Histories.{Grows};
-ghost use Rattle.mc_store.specs.Calls.{IsJuggledBy};
-ghost use Rattle.mc_store.specs.Locked.{setting_of};
-ghost use Rattle.mc_store.specs.Passes.{next_who};
-ghost use Rattle.mc_store.specs.Serving.{HasSeenShort};
-ghost use Rattle.mc_store.specs.Callers.{juggling_of};
+ghost use Rattle.mc_store.specs.{Calls.IsJuggledBy, Locked.setting_of, Passes.next_who, Serving.HasSeenShort, Callers.juggling_of};
 
 use crate::named::Named;
 use crate::pass::Pass;

@@ -1,31 +1,16 @@
 //! The headline over what a closed store leaves: laws, which are contracts alone.
 ghost use Rattle.std.specs.Prelude.{◌≡◌, ◌<◌, ◌+◌, ◌++◌, ℕ, List, IsSomeAnd, None, Some, slice_get};
-ghost use Rattle.mc_item.specs.Cache.{visible_items};
-ghost use Rattle.mc_item.specs.Stripe.{cache_of};
-ghost use Rattle.mc_item.specs.declared.call_event.CallEvent.{CallEvent};
-ghost use Rattle.mc_item.specs.declared.class_event.ClassEvent.{ClassEvent};
-ghost use Rattle.mc_item.specs.declared.command.Command.{Command};
-ghost use Rattle.mc_item.specs.declared.config.Config.{Config};
-ghost use Rattle.mc_item.specs.declared.item.Item.{Item};
-ghost use Rattle.mc_item.specs.declared.item.Who.{Who};
-ghost use Rattle.mc_item.specs.declared.reply.Reply.{Reply};
-ghost use Rattle.mc_item.specs.declared.stripe_event.StripeEvent.{StripeEvent};
+ghost use Rattle.mc_item.specs.{Cache.visible_items, Stripe.cache_of};
+ghost use Rattle.mc_item.specs.declared.{call_event.CallEvent.CallEvent, class_event.ClassEvent.ClassEvent, command.Command.Command, config.Config.Config};
+ghost use Rattle.mc_item.specs.declared.{item.Item.Item, item.Who.Who, reply.Reply.Reply, stripe_event.StripeEvent.StripeEvent, stripe_event.Did.Did};
 ghost use Rattle.mc_item.specs.declared.stripe_event.StripeEvent.TheVariants as events;
 ghost use Rattle.mc_rule.specs.Pairs.{item_after};
-ghost use Rattle.mc_evidence.specs.Losses.{AreNoCommands, IsSameItem, WasLost};
-ghost use Rattle.mc_evidence.specs.Setting.{site_in};
-ghost use Rattle.mc_evidence.specs.Sound.{IsSoundStore};
+ghost use Rattle.mc_evidence.specs.{Losses.AreNoCommands, Losses.IsSameItem, Losses.WasLost, Setting.site_in, Sound.IsSoundStore};
 ghost use Rattle.mc_board.specs.Histories.{Grows};
 ghost use Rattle.mc_board.specs.declared.rule.Sight.{Sight};
-ghost use Rattle.mc_store.specs.Calls.{IsRepliedBy};
+ghost use Rattle.mc_store.specs.{Calls.IsRepliedBy, Headline.IsBorneOut, Locked.setting_of, Callers.IsCalled, Callers.who_of, Passes.PassView};
+ghost use Rattle.mc_store.specs.{Made.IsClassCalled, Made.maker_of, Sides.ClassSide, Sides.StripeSide};
 ghost use Rattle.mc_store.specs.Finals.{AreClasses, AreItsOwn, AreItsOwnInClasses, AreStripes, FinalView, IsBehindStripes, class_histories, stripe_histories};
-ghost use Rattle.mc_store.specs.Headline.{IsBorneOut};
-ghost use Rattle.mc_store.specs.Locked.{setting_of};
-ghost use Rattle.mc_item.specs.declared.stripe_event.Did.{Did};
-ghost use Rattle.mc_store.specs.Callers.{IsCalled, who_of};
-ghost use Rattle.mc_store.specs.Passes.{PassView};
-ghost use Rattle.mc_store.specs.Made.{IsClassCalled, maker_of};
-ghost use Rattle.mc_store.specs.Sides.{ClassSide, StripeSide};
 
 /// Whatever a pass's command was answered, a closed store bears it out: where what the pass has seen since begins the final
 /// histories, the reply stands in one event of its stripe's legal history, behind all that the pass had seen before the call.

@@ -18,8 +18,7 @@ pub(crate) struct LockedStripe<N: Named> {
 }
 
 impl<N: Named> Model for LockedStripe<N> {
-    ghost use Rattle.mc_store.specs.Sides.{StripeSide};
-    ghost use Rattle.mc_store.specs.Locked.{IsLockedStripe};
+    ghost use Rattle.mc_store.specs.{Sides.StripeSide, Locked.IsLockedStripe};
 
     ghost Value = { StripeSide };
 
@@ -85,8 +84,7 @@ pub(crate) struct LockedClass<N: Named> {
 }
 
 impl<N: Named> Model for LockedClass<N> {
-    ghost use Rattle.mc_store.specs.Sides.{ClassSide};
-    ghost use Rattle.mc_store.specs.Locked.{IsLockedClass};
+    ghost use Rattle.mc_store.specs.{Sides.ClassSide, Locked.IsLockedClass};
 
     ghost Value = { ClassSide };
 

@@ -1,10 +1,8 @@
 //! Calls that change nothing but what a pass has noted: visits, counts and meetings.
 ghost use Rattle.std.specs.Prelude.{◌≡◌, ◌<◌, ◌≤◌, length};
 ghost use Rattle.std.specs.Fn.{FnOnceReturnsAt, FnOnceTakesAt};
-ghost use Rattle.mc_board.specs.Histories.{list_at, number_at, with_noted, AreInLine};
-ghost use Rattle.mc_board.specs.Views.{locks_of};
-ghost use Rattle.mc_store.specs.Locked.{lock_of, IsLock, IsStripeUnder};
-ghost use Rattle.mc_store.specs.Sides.{StripeSide};
+ghost use Rattle.mc_board.specs.{Histories.list_at, Histories.number_at, Histories.with_noted, Histories.AreInLine, Views.locks_of};
+ghost use Rattle.mc_store.specs.{Locked.lock_of, Locked.IsLock, Locked.IsStripeUnder, Sides.StripeSide};
 
 use crate::lock_no::LockNo;
 use crate::named::Named;

@@ -1,10 +1,8 @@
 //! How a store is made.
 ghost use Rattle.std.specs.Prelude.{◌≡◌, ◌≤◌, ◌<◌, ◌+◌, ◌-◌, ◌^◌, [], length, IfOk};
 ghost use Rattle.mc_item.specs.Config.{IsBounded, IsSound};
-ghost use Rattle.mc_board.specs.Histories.{blind};
-ghost use Rattle.mc_board.specs.Views.{locks_of, AreOwners};
-ghost use Rattle.mc_store.specs.Locked.{histories_for, locks_for};
-ghost use Rattle.mc_store.specs.Passes.{ArePasses, new_pass};
+ghost use Rattle.mc_board.specs.{Histories.blind, Views.locks_of, Views.AreOwners};
+ghost use Rattle.mc_store.specs.{Locked.histories_for, Locked.locks_for, Passes.ArePasses, Passes.new_pass};
 
 use crate::caller::Caller;
 use crate::locked::{LockedClass, LockedStripe};

@@ -2,9 +2,7 @@
 ghost use Rattle.std.specs.Prelude.{◌≡◌, []};
 ghost use mathlib.Core.List.{IsPrefix};
 ghost use Rattle.mc_board.specs.Histories.{list_at, with_seen, Grows};
-ghost use Rattle.mc_store.specs.Finals.{IsBehindAt};
-ghost use Rattle.mc_store.specs.Sides.{class_told, stripe_told};
-ghost use Rattle.mc_store.specs.Serving.{GrowsBut};
+ghost use Rattle.mc_store.specs.{Finals.IsBehindAt, Sides.class_told, Sides.stripe_told, Serving.GrowsBut};
 
 use crate::owned_stripe::OwnedStripe;
 use mc_board::{Board, Owner, Seen};

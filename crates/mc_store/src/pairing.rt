@@ -7,12 +7,9 @@ ghost use Rattle.mc_evidence.specs.Seen.{classes_seen};
 ghost use Rattle.mc_rule.specs.Lists.{IsFull, lists_of};
 ghost use Rattle.mc_segment.specs.ClassCalls.{Makes, Stays, refused_event};
 ghost use Rattle.mc_board.specs.Histories.{Grows, list_at};
-ghost use Rattle.mc_pull.specs.Agreeing.{AgreeNow};
+ghost use Rattle.mc_pull.specs.{Agreeing.AgreeNow, Perform.call};
 ghost use Rattle.mc_pull.specs.Growth as classes;
-ghost use Rattle.mc_pull.specs.Perform.{call};
-ghost use Rattle.mc_store.specs.Callers.{answered_at, calls_told};
-ghost use Rattle.mc_store.specs.Locked.{HasBegunCommand, caller_place};
-ghost use Rattle.mc_store.specs.Sides.{class_told, stripe_told};
+ghost use Rattle.mc_store.specs.{Callers.answered_at, Callers.calls_told, Locked.HasBegunCommand, Locked.caller_place, Sides.class_told, Sides.stripe_told};
 
 use crate::caller::Caller;
 use crate::locked::{LockedClass, LockedStripe};

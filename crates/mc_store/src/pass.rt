@@ -1,8 +1,7 @@
 //! What a caller has seen.
 ghost use Rattle.std.specs.Prelude.{◌≡◌, ◌<◌, ◌≤◌, ◌+◌, ◌-◌, ◌^◌, ◌++◌, ◌∷◌, IfOk, IfErr, OnOk, OnErr, [], length};
 ghost use Rattle.mc_item.specs.declared.fault.Fault.TheVariants.{HistoryFull};
-ghost use Rattle.mc_store.specs.Callers.{call_events, calls_told, turns_of};
-ghost use Rattle.mc_store.specs.Passes.{next_who};
+ghost use Rattle.mc_store.specs.{Callers.call_events, Callers.calls_told, Callers.turns_of, Passes.next_who};
 
 use crate::caller::Caller;
 use crate::named::Named;
@@ -23,8 +22,7 @@ pub struct Pass<N: Named> {
 
 impl<N: Named> Model for Pass<N> {
     ghost use Rattle.std.specs.Prelude.{◌≡◌, ◌≤◌, ◌+◌, length};
-    ghost use Rattle.mc_store.specs.Callers.{turns_of};
-    ghost use Rattle.mc_store.specs.Passes.{PassView};
+    ghost use Rattle.mc_store.specs.{Callers.turns_of, Passes.PassView};
 
     ghost Value = { PassView };
 

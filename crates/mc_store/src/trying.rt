@@ -4,10 +4,8 @@ ghost use Rattle.mc_item.specs.declared.fault.Fault.TheVariants.{HistoryFull};
 ghost use Rattle.mc_board.specs.Histories.{Grows};
 ghost use Rattle.mc_pull.specs.Attempt.{HasRoomFor, MayTryOn};
 ghost use Rattle.mc_stripe.specs.StripeCalls.{KeepsSite};
-ghost use Rattle.mc_store.specs.Passes.{HasAsked};
-ghost use Rattle.mc_store.specs.Serving.{IsShort};
+ghost use Rattle.mc_store.specs.{Passes.HasAsked, Serving.IsShort, Trying.IsTriedUnder};
 ghost use Rattle.mc_store.specs.Trying as words;
-ghost use Rattle.mc_store.specs.Trying.{IsTriedUnder};
 
 use crate::caller::Caller;
 use crate::locked::{LockedClass, LockedStripe};

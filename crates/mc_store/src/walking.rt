@@ -1,22 +1,12 @@
 //! Walks under the locks of a store: room is made in a class, a class is juggled, a dead item goes.
 ghost use Rattle.std.specs.Prelude.{◌≡◌, ◌≤◌, ◌+◌, ◌++◌, ◌∷◌, [], ◌^◌, List, Some, IfOk, IfErr, OnOk, OnErr, IsErrOf, false};
-ghost use Rattle.mc_item.specs.declared.fault.Fault.TheVariants.{HistoryFull};
-ghost use Rattle.mc_item.specs.declared.stripe_event.Cause.TheVariants.{Expired};
-ghost use Rattle.mc_stripe.specs.Plan.{dead_link};
-ghost use Rattle.mc_stripe.specs.StripeCalls.{KeepsSite};
-ghost use Rattle.mc_stripe.specs.StripeState.{cache_now};
+ghost use Rattle.mc_item.specs.declared.{fault.Fault.TheVariants.HistoryFull, stripe_event.Cause.TheVariants.Expired};
+ghost use Rattle.mc_stripe.specs.{Plan.dead_link, StripeCalls.KeepsSite, StripeState.cache_now};
 ghost use Rattle.mc_pull.specs.Growth as classes;
-ghost use Rattle.mc_pull.specs.Juggle.{IsJuggle};
-ghost use Rattle.mc_pull.specs.Lone.{StripeGrows};
-ghost use Rattle.mc_pull.specs.Rounds.{IsRoom, rounds};
-ghost use Rattle.mc_pull.specs.Settled.{lost_event};
-ghost use Rattle.mc_pull.specs.Walker.{walker_of};
+ghost use Rattle.mc_pull.specs.{Juggle.IsJuggle, Lone.StripeGrows, Rounds.IsRoom, Rounds.rounds, Settled.lost_event, Walker.walker_of};
 ghost use Rattle.mc_pull.specs.declared.looking.Answer.{Answer};
-ghost use Rattle.mc_store.specs.Callers.{juggling_of};
-ghost use Rattle.mc_store.specs.Earned.{IsSearchInVain};
-ghost use Rattle.mc_store.specs.Serving.{IsServed, IsShort, MayFailSeen};
-ghost use Rattle.mc_store.specs.Locked.{HasBegun, HasBegunAs, HasBegunCommand};
-ghost use Rattle.mc_store.specs.Made.{WalksOwn};
+ghost use Rattle.mc_store.specs.{Callers.juggling_of, Earned.IsSearchInVain, Serving.IsServed, Serving.IsShort, Serving.MayFailSeen, Locked.HasBegun};
+ghost use Rattle.mc_store.specs.{Locked.HasBegunAs, Locked.HasBegunCommand, Made.WalksOwn};
 ghost use Rattle.mc_board.specs.Histories.{Grows};
 
 use crate::gates::{Holding, Trying};

@@ -1,13 +1,10 @@
 -- Lemmas for a count's try.
 use Rattle.std.proofs.Common.{ℕ, ◌≡◌, Bool, true, false, List, length, refl}
 use Rattle.std.specs.Prelude.{Option, Some, None, decimal, nat_le, if◌then◌else◌}
-use Rattle.mc_item.specs.Answer.{Row, cas_of, grown_row, number_row, padded, plain}
-use Rattle.mc_item.specs.Measure.{class_of, cost_of}
+use Rattle.mc_item.specs.{Answer.Row, Answer.cas_of, Answer.grown_row, Answer.number_row, Answer.padded, Answer.plain, Measure.class_of, Measure.cost_of}
 use Rattle.mc_item.specs.declared.answer.Change.TheVariants as changes
 use Rattle.mc_item.specs.declared.answer.Need.TheVariants as needs
-use Rattle.mc_item.specs.declared.answer.Site.{Site}
-use Rattle.mc_item.specs.declared.item.ClassNo.{ClassNo}
-use Rattle.mc_item.specs.declared.item.Item.{Item}
+use Rattle.mc_item.specs.declared.{answer.Site.Site, item.ClassNo.ClassNo, item.Item.Item}
 use Rattle.mc_item.specs.declared.reply.Reply.TheVariants as replies
 use Rattle.mc_stripe.specs.Wanting.{Covers, class_beside, classes_for}
 use Rattle.mc_stripe.specs.declared.wanting.Given.{Given}

@@ -1,26 +1,15 @@
 -- Lemmas for the tries that need a chunk.
 use Rattle.std.proofs.Common.{ℕ, ◌≡◌, List, refl, sym, ap, subst}
 use Rattle.std.specs.Prelude.{Option, Some, None, if◌then◌else◌}
-use Rattle.mc_item.specs.Answer.{Row}
-use Rattle.mc_item.specs.Cache.{changed}
-use Rattle.mc_item.specs.Item.{link_of_item}
-use Rattle.mc_item.specs.Stripe.{Fits, IsAlive}
-use Rattle.mc_item.specs.declared.answer.Need.{Need}
+use Rattle.mc_item.specs.{Answer.Row, Cache.changed, Item.link_of_item, Stripe.Fits, Stripe.IsAlive}
+use Rattle.mc_item.specs.declared.{answer.Need.Need, command.Verb.Verb, item.ClassNo.ClassNo, item.Item.Item, item.Link.Link, reply.Room.TheVariants.At}
+use Rattle.mc_item.specs.declared.{reply.Room.TheVariants.Keep, reply.Room.TheVariants.Refused, stripe_event.StripeEvent.StripeEvent}
 use Rattle.mc_item.specs.declared.answer.Need.TheVariants as needs
-use Rattle.mc_item.specs.declared.command.Verb.{Verb}
 use Rattle.mc_item.specs.declared.command.Verb.TheVariants.{Set, Add, Replace, Cas}
-use Rattle.mc_item.specs.declared.item.ClassNo.{ClassNo}
-use Rattle.mc_item.specs.declared.item.Item.{Item}
-use Rattle.mc_item.specs.declared.item.Link.{Link}
 use Rattle.mc_item.specs.declared.reply.Room as rooms
-use Rattle.mc_item.specs.declared.reply.Room.TheVariants.{At, Keep, Refused}
-use Rattle.mc_item.specs.declared.stripe_event.StripeEvent.{StripeEvent}
-use Rattle.mc_stripe.specs.Plan.{fate_of}
-use Rattle.mc_stripe.specs.Putting.{goes, storing_row}
+use Rattle.mc_stripe.specs.{Plan.fate_of, Putting.goes, Putting.storing_row}
 use Rattle.mc_stripe.specs.Wanting.{Covers, HasPlaces, IsCrowded, IsGiven, IsLacking, IsTaken, IsWanting, LacksPlace, Uses, class_beside}
-use Rattle.mc_stripe.specs.declared.fate.Fate.{Fate}
-use Rattle.mc_stripe.specs.declared.wanting.Given.{Given}
-use Rattle.mc_stripe.specs.declared.wanting.Want.{Want}
+use Rattle.mc_stripe.specs.declared.{fate.Fate.Fate, wanting.Given.Given, wanting.Want.Want}
 use Rattle.mc_stripe.specs.declared.wanting.Want.TheVariants as wants
 
 -- a row that needs a chunk of a class, of which all classes are held

@@ -2,22 +2,11 @@
 use Rattle.std.proofs.Common.{◌≡◌, ◌+◌, ◌≤◌, ◌<◌, ◌++◌, ◌∷◌, [], ℕ, List, length, length-append, sym, ap, ◌∙◌, subst, arith}
 use Rattle.std.specs.Prelude.{Option, Some, None, nat_eq, if◌then◌else◌, IsSomeAnd, true}
 use Rattle.std.specs.Cmp.Lexicographic.{pointwise}
-use Rattle.mc_item.specs.Answer.{row_of}
-use Rattle.mc_item.specs.Cache.{Cache, changed, versions_of, answer_of, after_change}
-use Rattle.mc_item.specs.Command.{key_of}
-use Rattle.mc_item.specs.Measure.{stripe_of}
+use Rattle.mc_item.specs.{Answer.row_of, Cache.Cache, Cache.changed, Cache.versions_of, Cache.answer_of, Cache.after_change, Command.key_of, Measure.stripe_of}
 use Rattle.mc_item.specs.Stripe.{cache_of, cache_after, MayHappen, IsAlive, Fits, MayLose, cooled_change}
-use Rattle.mc_item.specs.declared.answer.Answer.{Answer}
-use Rattle.mc_item.specs.declared.answer.Change.{Change}
-use Rattle.mc_item.specs.declared.answer.Change.TheVariants.{Goes}
-use Rattle.mc_item.specs.declared.answer.Site.{Site}
-use Rattle.mc_item.specs.declared.stripe_event.Lost.{Lost}
-use Rattle.mc_item.specs.declared.stripe_event.Cooled.{Cooled}
-use Rattle.mc_item.specs.declared.command.Command.{Command}
-use Rattle.mc_item.specs.declared.item.Item.{Item}
-use Rattle.mc_item.specs.declared.item.Who.{Who}
-use Rattle.mc_item.specs.declared.reply.Room.{Room}
-use Rattle.mc_item.specs.declared.stripe_event.StripeEvent.{StripeEvent}
+use Rattle.mc_item.specs.declared.{answer.Answer.Answer, answer.Change.Change, answer.Change.TheVariants.Goes, answer.Site.Site, stripe_event.Lost.Lost}
+use Rattle.mc_item.specs.declared.{stripe_event.Cooled.Cooled, command.Command.Command, item.Item.Item, item.Who.Who, reply.Room.Room}
+use Rattle.mc_item.specs.declared.{stripe_event.StripeEvent.StripeEvent}
 use Rattle.mc_item.specs.declared.stripe_event.StripeEvent.TheVariants as events
 use Rattle.mc_item.proofs.StripeLemmas.{cache_of-push, IsLegal-push, versions_of-few}
 use Rattle.mc_stripe.specs.StripeState.{IsKept}

@@ -1,24 +1,13 @@
 -- Lemmas for a try that made its command.
 use Rattle.std.proofs.Common.{ℕ, ◌≡◌, ◌<◌, ◌+◌, ◌++◌, ◌∷◌, [], List, length, refl, ap, ◌∙◌, subst}
 use Rattle.std.specs.Prelude.{Option}
-use Rattle.mc_item.specs.Answer.{Row, row_of}
-use Rattle.mc_item.specs.Cache.{changed, versions_of}
-use Rattle.mc_item.specs.Command.{key_of}
-use Rattle.mc_item.specs.Measure.{stripe_of}
+use Rattle.mc_item.specs.{Answer.Row, Answer.row_of, Cache.changed, Cache.versions_of, Command.key_of, Measure.stripe_of}
 use Rattle.mc_item.specs.Stripe.{Fits, IsAlive, cache_of}
-use Rattle.mc_item.specs.declared.answer.Site.{Site}
-use Rattle.mc_item.specs.declared.command.Command.{Command}
-use Rattle.mc_item.specs.declared.item.Item.{Item}
-use Rattle.mc_item.specs.declared.item.Who.{Who}
-use Rattle.mc_item.specs.declared.reply.Reply.{Reply}
-use Rattle.mc_item.specs.declared.reply.Room.{Room}
-use Rattle.mc_item.specs.declared.stripe_event.StripeEvent.{StripeEvent}
+use Rattle.mc_item.specs.declared.{answer.Site.Site, command.Command.Command, item.Item.Item, item.Who.Who, reply.Reply.Reply, reply.Room.Room}
+use Rattle.mc_item.specs.declared.{stripe_event.StripeEvent.StripeEvent}
 use Rattle.mc_item.specs.declared.stripe_event.StripeEvent.TheVariants as events
-use Rattle.mc_stripe.specs.StripeState.{IsKept}
-use Rattle.mc_stripe.specs.Trying.{IsMade, Puts}
-use Rattle.mc_stripe.specs.Wanting.{Uses}
-use Rattle.mc_stripe.specs.declared.fate.Fate.{Fate}
-use Rattle.mc_stripe.specs.declared.wanting.Given.{Given}
+use Rattle.mc_stripe.specs.{StripeState.IsKept, Trying.IsMade, Trying.Puts, Wanting.Uses}
+use Rattle.mc_stripe.specs.declared.{fate.Fate.Fate, wanting.Given.Given}
 use Rattle.mc_stripe.proofs.StateLemmas.{command_kept}
 
 -- a command that was made by its row, in a room that fits

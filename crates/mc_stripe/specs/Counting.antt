@@ -1,9 +1,7 @@
 -- An incr or decr, by its step (own).
 use Rattle.std.specs.Prelude.{ℕ, List, Option}
 use Rattle.mc_item.specs.Answer.{Row, count_row, stepped}
-use Rattle.mc_item.specs.declared.answer.Site.{Site}
-use Rattle.mc_item.specs.declared.counting.Step.{Step}
-use Rattle.mc_item.specs.declared.item.Item.{Item}
+use Rattle.mc_item.specs.declared.{answer.Site.Site, counting.Step.Step, item.Item.Item}
 
 -- the row of an incr or decr
 abbrev pub step_row : Site → ℕ → List ℕ → Step → Option Item → Row

@@ -1,16 +1,9 @@
 -- What becomes of the chunks of a command's key, and the row of the item that is visible.
 use Rattle.std.specs.Prelude.{ℕ, ◌&&◌, List, Bool, not, if◌then◌else◌, Option, Some, None}
-use Rattle.mc_item.specs.Answer.{Row, row_of}
-use Rattle.mc_item.specs.Cache.{visible_items}
-use Rattle.mc_item.specs.Command.{key_of}
-use Rattle.mc_item.specs.Item.{hit_marks, is_dead, link_of_item}
-use Rattle.mc_item.specs.Measure.{cost_of}
-use Rattle.mc_item.specs.declared.answer.Change.{Change}
+use Rattle.mc_item.specs.{Answer.Row, Answer.row_of, Cache.visible_items, Command.key_of, Item.hit_marks, Item.is_dead, Item.link_of_item, Measure.cost_of}
+use Rattle.mc_item.specs.declared.{answer.Change.Change, command.Command.Command, item.Item.Item, item.Link.Link}
 use Rattle.mc_item.specs.declared.answer.Change.TheVariants as changes
-use Rattle.mc_item.specs.declared.command.Command.{Command}
 use Rattle.mc_item.specs.declared.command.Command.TheVariants.{Get, Store, Huge, Incr, Decr, Touch, Delete}
-use Rattle.mc_item.specs.declared.item.Item.{Item}
-use Rattle.mc_item.specs.declared.item.Link.{Link}
 use Rattle.mc_stripe.specs.StripeState.{Stripe, cache_now}
 use Rattle.mc_stripe.specs.declared.fate.Fate.{Fate}
 use Rattle.mc_stripe.specs.declared.fate.Fate.TheVariants as fates

@@ -1,10 +1,6 @@
 -- What a stripe's history is shown of an event that it lets go (own).
 use Rattle.std.specs.Prelude.{ℕ, Option, Some, None}
-use Rattle.mc_item.specs.declared.command.Command.{Command}
-use Rattle.mc_item.specs.declared.item.Who.{Who}
-use Rattle.mc_item.specs.declared.reply.Reply.{Reply}
-use Rattle.mc_item.specs.declared.reply.Room.{Room}
-use Rattle.mc_item.specs.declared.stripe_event.StripeEvent.{StripeEvent}
+use Rattle.mc_item.specs.declared.{command.Command.Command, item.Who.Who, reply.Reply.Reply, reply.Room.Room, stripe_event.StripeEvent.StripeEvent}
 use Rattle.mc_item.specs.declared.stripe_event.StripeEvent.TheVariants as events
 use Rattle.mc_stripe.specs.declared.shown.ShownStripe.{ShownStripe}
 use Rattle.mc_stripe.specs.declared.shown.ShownStripe.TheVariants as shown

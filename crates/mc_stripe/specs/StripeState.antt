@@ -1,11 +1,8 @@
 -- A stripe as contracts see it, and what its fields keep.
 use Rattle.std.specs.Prelude.{ℕ, ◌≡◌, ◌<◌, ◌≤◌, ◌^◌, Bool, List, Option, length}
 use Rattle.std.specs.List.{All}
-use Rattle.mc_item.specs.Cache.{Cache}
-use Rattle.mc_item.specs.Stripe.{cache_of, IsLegal}
-use Rattle.mc_item.specs.declared.answer.Site.{Site}
-use Rattle.mc_item.specs.declared.item.Item.{Item}
-use Rattle.mc_item.specs.declared.stripe_event.StripeEvent.{StripeEvent}
+use Rattle.mc_item.specs.{Cache.Cache, Stripe.cache_of, Stripe.IsLegal}
+use Rattle.mc_item.specs.declared.{answer.Site.Site, item.Item.Item, stripe_event.StripeEvent.StripeEvent}
 
 -- a stripe: what is fixed, how many events its history may have, whether they are kept in memory, the history, oldest
 -- first, and how many more events need no memory

@@ -1,22 +1,10 @@
 -- What a try of a command is: it was made, or it says what is wanting, and nothing happened (own).
 use Rattle.std.specs.Prelude.{ℕ, ◌≡◌, Bool, true, List, nat_eq, if◌then◌else◌, Option, Some}
 use Rattle.std.specs.Cmp.Lexicographic.{pointwise}
-use Rattle.mc_item.specs.Answer.{Row, row_of}
-use Rattle.mc_item.specs.Cache.{changed, versions_of}
-use Rattle.mc_item.specs.Command.{key_of}
-use Rattle.mc_item.specs.declared.command.Command.{Command}
-use Rattle.mc_item.specs.declared.item.Item.{Item}
-use Rattle.mc_item.specs.declared.item.Who.{Who}
-use Rattle.mc_item.specs.declared.reply.Reply.{Reply}
-use Rattle.mc_item.specs.declared.reply.Room.{Room}
-use Rattle.mc_stripe.specs.StripeCalls.{Notes}
-use Rattle.mc_stripe.specs.StripeState.{Stripe, cache_now}
-use Rattle.mc_stripe.specs.Wanting.{IsWanting, Uses}
-use Rattle.mc_stripe.specs.declared.fate.Fate.{Fate}
-use Rattle.mc_stripe.specs.declared.trying.Done.{Done}
-use Rattle.mc_stripe.specs.declared.trying.Made.{Made}
-use Rattle.mc_stripe.specs.declared.wanting.Given.{Given}
-use Rattle.mc_stripe.specs.declared.wanting.Want.{Want}
+use Rattle.mc_item.specs.{Answer.Row, Answer.row_of, Cache.changed, Cache.versions_of, Command.key_of}
+use Rattle.mc_item.specs.declared.{command.Command.Command, item.Item.Item, item.Who.Who, reply.Reply.Reply, reply.Room.Room}
+use Rattle.mc_stripe.specs.{StripeCalls.Notes, StripeState.Stripe, StripeState.cache_now, Wanting.IsWanting, Wanting.Uses}
+use Rattle.mc_stripe.specs.declared.{fate.Fate.Fate, trying.Done.Done, trying.Made.Made, wanting.Given.Given, wanting.Want.Want}
 
 -- the new items have this under a key, and what the old had under each other
 abbrev pub Puts : (old new : List ℕ → Option Item) → List ℕ → Option Item → Type 0

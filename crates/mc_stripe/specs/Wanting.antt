@@ -1,22 +1,13 @@
 -- What a command may use, and what it wants before it can be made (own).
 use Rattle.std.specs.Prelude.{ℕ, ◌≡◌, ◌==◌, ◌<◌, ◌≤◌, ◌+◌, ◌⊎◌, List, Option, Some, None, IfSome, IsSomeAnd, if◌then◌else◌}
 use Rattle.std.specs.Option.{option_map}
-use Rattle.mc_item.specs.Answer.{Row}
-use Rattle.mc_item.specs.Item.{link_of_item}
-use Rattle.mc_item.specs.Stripe.{IsAlive, link_of}
-use Rattle.mc_item.specs.declared.answer.Need.{Need}
+use Rattle.mc_item.specs.{Answer.Row, Item.link_of_item, Stripe.IsAlive, Stripe.link_of}
+use Rattle.mc_item.specs.declared.{answer.Need.Need, item.ClassNo.ClassNo, item.Item.Item, item.Link.Link, reply.Room.Room}
 use Rattle.mc_item.specs.declared.answer.Need.TheVariants as needs
-use Rattle.mc_item.specs.declared.item.ClassNo.{ClassNo}
-use Rattle.mc_item.specs.declared.item.Item.{Item}
-use Rattle.mc_item.specs.declared.item.Link.{Link}
-use Rattle.mc_item.specs.declared.reply.Room.{Room}
 use Rattle.mc_item.specs.declared.reply.Room.TheVariants as rooms
 use Rattle.mc_stripe.specs.Plan.{dead_link, fate_of}
-use Rattle.mc_stripe.specs.declared.fate.Fate.{Fate}
+use Rattle.mc_stripe.specs.declared.{fate.Fate.Fate, wanting.Classes.Classes, wanting.Given.Given, wanting.Want.Want}
 use Rattle.mc_stripe.specs.declared.fate.Fate.TheVariants as fates
-use Rattle.mc_stripe.specs.declared.wanting.Classes.{Classes}
-use Rattle.mc_stripe.specs.declared.wanting.Given.{Given}
-use Rattle.mc_stripe.specs.declared.wanting.Want.{Want}
 use Rattle.mc_stripe.specs.declared.wanting.Want.TheVariants as wants
 
 -- the class of a link, where it is another than this

@@ -1,21 +1,14 @@
 //! One try of a command on a stripe: from look-up to event, with one look-up of its key.
 ghost use Rattle.std.specs.Prelude.{◌≡◌, ◌≤◌, ◌<◌, ◌+◌, ◌^◌, ◌↔◌, IfOk, IfErr, OnErr, IsErrOf, nat_eq, length};
-ghost use Rattle.std.specs.Cmp.Lexicographic.{pointwise};
-ghost use Rattle.std.specs.HashMap.{get, spare};
-ghost use Rattle.mc_item.specs.Answer.{cas_of, row_of};
-ghost use Rattle.mc_item.specs.Command.{key_of};
+ghost use Rattle.std.specs.{Cmp.Lexicographic.pointwise, HashMap.get, HashMap.spare};
+ghost use Rattle.mc_item.specs.{Answer.cas_of, Answer.row_of, Command.key_of, Stripe.Fits};
 ghost use Rattle.mc_item.specs.Item as items;
 ghost use Rattle.mc_item.specs.Measure as measure;
-ghost use Rattle.mc_item.specs.Stripe.{Fits};
 ghost use Rattle.mc_item.specs.declared.answer.Need.TheVariants as needs;
 ghost use Rattle.mc_item.specs.declared.fault.Fault.TheVariants as faults;
-ghost use Rattle.mc_item.specs.declared.item.ClassNo.{ClassNo as TheClass};
-ghost use Rattle.mc_item.specs.declared.reply.Room.{Room as TheRoom};
-ghost use Rattle.mc_stripe.specs.Plan.{woken_by, woken_link};
-ghost use Rattle.mc_stripe.specs.StripeCalls.{KeepsSite};
-ghost use Rattle.mc_stripe.specs.StripeState.{cache_now};
+ghost use Rattle.mc_item.specs.declared.{item.ClassNo.ClassNo as TheClass, reply.Room.Room as TheRoom};
+ghost use Rattle.mc_stripe.specs.{Plan.woken_by, Plan.woken_link, StripeCalls.KeepsSite, StripeState.cache_now, Wanting.IsTaken};
 ghost use Rattle.mc_stripe.specs.Trying.{IsDone, IsLeft, IsOpen, Makes, Stays};
-ghost use Rattle.mc_stripe.specs.Wanting.{IsTaken};
 
 use crate::counting::count_item;
 use crate::deleting::delete_item;

@@ -1,7 +1,6 @@
 //! What a command makes of the item under its key.
 ghost use Rattle.std.specs.Prelude.{◌≡◌, ◌≤◌, ◌<◌, ℕ, List, nat_eq, if◌then◌else◌, Some, None};
-ghost use Rattle.std.specs.Cmp.Lexicographic.{pointwise};
-ghost use Rattle.std.specs.HashMap.{get, spare};
+ghost use Rattle.std.specs.{Cmp.Lexicographic.pointwise, HashMap.get, HashMap.spare};
 ghost use Rattle.mc_item.specs.Cache.{changed};
 
 use mc_item::{Change, Item, Key};

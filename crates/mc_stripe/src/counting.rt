@@ -1,14 +1,10 @@
 //! An incr or decr, from look-up to answer.
 ghost use Rattle.std.specs.Prelude.{◌≡◌, ◌<◌, ◌^◌, ℕ, IfOk, IfErr, OnOk, OnErr, IfSome, Some, nat_eq, true};
-ghost use Rattle.std.specs.Cmp.Lexicographic.{pointwise};
-ghost use Rattle.std.specs.HashMap.{get, spare};
-ghost use Rattle.mc_item.specs.Answer.{cas_of};
-ghost use Rattle.mc_item.specs.Cache.{changed, versions_of};
-ghost use Rattle.mc_item.specs.Stripe.{IsAlive};
+ghost use Rattle.std.specs.{Cmp.Lexicographic.pointwise, HashMap.get, HashMap.spare};
+ghost use Rattle.mc_item.specs.{Answer.cas_of, Cache.changed, Cache.versions_of, Stripe.IsAlive};
 ghost use Rattle.mc_item.specs.declared.answer.Need.TheVariants as needs;
 ghost use Rattle.mc_item.specs.declared.item.ClassNo.{ClassNo as TheClass};
-ghost use Rattle.mc_stripe.specs.Counting.{step_row};
-ghost use Rattle.mc_stripe.specs.Trying.{IsLeft, Makes, Stays};
+ghost use Rattle.mc_stripe.specs.{Counting.step_row, Trying.IsLeft, Trying.Makes, Trying.Stays};
 ghost use Rattle.mc_stripe.specs.Wanting.{Covers, IsLacking, IsTaken, IsWanting, Uses, class_beside};
 
 use crate::changing::{change_found, versions_of as versions_in};

@@ -1,14 +1,11 @@
 //! Items that go without a command of their key, and marks that are cleared.
 ghost use Rattle.std.specs.Prelude.{◌≡◌, ◌≢◌, ◌≤◌, ◌<◌, ◌+◌, ℕ, List, OnOk, OnErr, IsErrOf, IsSomeAnd, ◌↔◌, nat_eq, if◌then◌else◌, length, true, Err};
-ghost use Rattle.std.specs.Cmp.Lexicographic.{pointwise};
-ghost use Rattle.std.specs.HashMap.{get, spare};
-ghost use Rattle.mc_item.specs.Cache.{changed};
-ghost use Rattle.mc_item.specs.Stripe.{IsDead, MayLose, cooled_change};
+ghost use Rattle.std.specs.{Cmp.Lexicographic.pointwise, HashMap.get, HashMap.spare};
+ghost use Rattle.mc_item.specs.{Cache.changed, Stripe.IsDead, Stripe.MayLose, Stripe.cooled_change};
 ghost use Rattle.mc_item.specs.declared.fault.Fault.TheVariants as faults;
 ghost use Rattle.mc_item.specs.declared.stripe_event.Cause.TheVariants as causes;
 ghost use Rattle.mc_item.specs.declared.stripe_event.StripeEvent.TheVariants as events;
-ghost use Rattle.mc_stripe.specs.StripeState.{cache_now};
-ghost use Rattle.mc_stripe.specs.StripeCalls.{KeepsSite, Gains};
+ghost use Rattle.mc_stripe.specs.{StripeState.cache_now, StripeCalls.KeepsSite, StripeCalls.Gains};
 
 use crate::changing::remove;
 use crate::shown::push_event;

@@ -1,9 +1,7 @@
 //! A get, from look-up to answer.
 ghost use Rattle.std.specs.Prelude.{◌≡◌, Bool, Some, IfOk, IfErr, OnErr, nat_eq, true};
-ghost use Rattle.std.specs.Cmp.Lexicographic.{pointwise};
-ghost use Rattle.std.specs.HashMap.{get, spare};
-ghost use Rattle.mc_item.specs.Answer.{get_row};
-ghost use Rattle.mc_item.specs.Cache.{changed};
+ghost use Rattle.std.specs.{Cmp.Lexicographic.pointwise, HashMap.get, HashMap.spare};
+ghost use Rattle.mc_item.specs.{Answer.get_row, Cache.changed};
 ghost use Rattle.mc_item.specs.declared.reply.Room.TheVariants as rooms;
 ghost use Rattle.mc_stripe.specs.Trying.{IsLeft, Makes, Stays};
 

@@ -1,7 +1,6 @@
 //! A storage command that no class can hold, from look-up to answer.
 ghost use Rattle.std.specs.Prelude.{◌≤◌, IfOk, IfErr, nat_eq, true};
-ghost use Rattle.std.specs.Cmp.Lexicographic.{pointwise};
-ghost use Rattle.std.specs.HashMap.{get, spare};
+ghost use Rattle.std.specs.{Cmp.Lexicographic.pointwise, HashMap.get, HashMap.spare};
 ghost use Rattle.mc_item.specs.Answer.{huge_row};
 ghost use Rattle.mc_stripe.specs.Trying.{IsLeft, Makes};
 

@@ -1,22 +1,14 @@
 //! Storage commands, from look-up to what becomes of the item.
 ghost use Rattle.std.specs.Prelude.{◌≡◌, ◌<◌, ◌≤◌, ◌+◌, ◌^◌, ℕ, List, true, false, IfOk, IfErr, IfSome, IfNone, OnOk, OnErr, nat_eq, if◌then◌else◌, Option, Some, None};
-ghost use Rattle.std.specs.Cmp.Lexicographic.{pointwise};
-ghost use Rattle.std.specs.HashMap.{get, spare};
+ghost use Rattle.std.specs.{Cmp.Lexicographic.pointwise, HashMap.get, HashMap.spare};
 ghost use Rattle.mc_item.specs.Answer as answers;
-ghost use Rattle.mc_item.specs.Answer.{cas_of, store_row, version_of};
-ghost use Rattle.mc_item.specs.Measure.{cost_of};
-ghost use Rattle.mc_item.specs.declared.item.ClassNo.{ClassNo as TheClass};
-ghost use Rattle.mc_item.specs.declared.item.Item.{Item as TheItem};
-ghost use Rattle.mc_item.specs.declared.item.Link.{Link as TheLink};
+ghost use Rattle.mc_item.specs.{Answer.cas_of, Answer.store_row, Answer.version_of, Measure.cost_of, Cache.changed, Cache.versions_of, Item.link_of_item};
+ghost use Rattle.mc_item.specs.{Stripe.IsAlive};
+ghost use Rattle.mc_item.specs.declared.{item.ClassNo.ClassNo as TheClass, item.Item.Item as TheItem, item.Link.Link as TheLink};
 ghost use Rattle.mc_item.specs.declared.reply.Room.TheVariants as rooms;
-ghost use Rattle.mc_item.specs.Cache.{changed, versions_of};
-ghost use Rattle.mc_item.specs.Item.{link_of_item};
-ghost use Rattle.mc_item.specs.Stripe.{IsAlive};
-ghost use Rattle.mc_stripe.specs.Plan.{fate_of};
+ghost use Rattle.mc_stripe.specs.{Plan.fate_of, Trying.IsLeft, Trying.IsMade, Trying.Stays, Wanting.IsGiven, Wanting.IsWanting, Wanting.Uses};
 ghost use Rattle.mc_stripe.specs.Putting.{added, declined_row, goes, answer_of_room, reply_of, storing_row};
 ghost use Rattle.mc_stripe.specs.declared.fate.Fate.TheVariants as fates;
-ghost use Rattle.mc_stripe.specs.Trying.{IsLeft, IsMade, Stays};
-ghost use Rattle.mc_stripe.specs.Wanting.{IsGiven, IsWanting, Uses};
 
 use crate::changing::remove;
 use crate::fate::Fate;

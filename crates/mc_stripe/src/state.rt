@@ -1,12 +1,10 @@
 //! The state of a stripe.
 ghost use Rattle.std.specs.Prelude.{◌≡◌, ◌≤◌, ◌<◌, ◌+◌, [], OnOk, IsErrOf, IsTrue, MatchBool, ◌↔◌, length};
 ghost use Rattle.std.specs.Option.{option_copied};
-ghost use Rattle.mc_item.specs.Config.{IsBounded};
+ghost use Rattle.mc_item.specs.{Config.IsBounded, Stripe.IsLegal};
 ghost use Rattle.mc_item.specs.Measure as measure;
-ghost use Rattle.mc_item.specs.Stripe.{IsLegal};
 ghost use Rattle.mc_item.specs.declared.fault.Fault.TheVariants as faults;
-ghost use Rattle.mc_stripe.specs.StripeState.{HasBounds, cache_now};
-ghost use Rattle.mc_stripe.specs.StripeCalls.{KeepsSite};
+ghost use Rattle.mc_stripe.specs.{StripeState.HasBounds, StripeState.cache_now, StripeCalls.KeepsSite};
 
 use crate::shown::ShownStripe;
 use mc_history::History;
@@ -31,8 +29,7 @@ pub struct StripeState {
 
 impl Model for StripeState {
     ghost use Rattle.std.specs.Prelude.{min, nat_eq};
-    ghost use Rattle.std.specs.Cmp.Lexicographic.{pointwise};
-    ghost use Rattle.std.specs.HashMap.{get, spare};
+    ghost use Rattle.std.specs.{Cmp.Lexicographic.pointwise, HashMap.get, HashMap.spare};
     ghost use Rattle.mc_stripe.specs.StripeState.{Stripe, stripe, IsKept};
 
     ghost Value = { Stripe };

@@ -1,9 +1,7 @@
 //! A storage command on a stripe, whether a class can hold its new version or none.
 ghost use Rattle.std.specs.Prelude.{◌≡◌, ◌<◌, ◌≤◌, ◌+◌, ◌^◌, Some, IfOk, IfErr, OnErr, nat_eq, true};
-ghost use Rattle.std.specs.Cmp.Lexicographic.{pointwise};
-ghost use Rattle.std.specs.HashMap.{get, spare};
-ghost use Rattle.mc_item.specs.Answer.{cas_of, store_row, version_of};
-ghost use Rattle.mc_item.specs.Measure.{class_of, cost_of};
+ghost use Rattle.std.specs.{Cmp.Lexicographic.pointwise, HashMap.get, HashMap.spare};
+ghost use Rattle.mc_item.specs.{Answer.cas_of, Answer.store_row, Answer.version_of, Measure.class_of, Measure.cost_of};
 ghost use Rattle.mc_stripe.specs.Putting as words;
 ghost use Rattle.mc_stripe.specs.Trying.{IsLeft, Makes, Stays};
 

@@ -2,8 +2,7 @@
 use Rattle.mc_item.specs.declared.config.Config.{Config}
 use Rattle.mc_segment.specs.ClassState.{ClassView}
 use Rattle.mc_stripe.specs.StripeState.{Stripe}
-use Rattle.mc_pull.specs.Lone.{Serves}
-use Rattle.mc_pull.specs.Question.{IsClassOf}
+use Rattle.mc_pull.specs.{Lone.Serves, Question.IsClassOf}
 
 -- both states were made with this configuration, and the stripe is the first
 pub record IsWorld (config : Config) (c : ClassView) (s : Stripe) : Type 0 where

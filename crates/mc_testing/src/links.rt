@@ -3,10 +3,8 @@
 ghost use Rattle.std.specs.Prelude.{◌≡◌, ◌≢◌, MatchBool, Some, true, false};
 ghost use Rattle.mc_item.specs.Stripe.{Fits, IsAlive, IsDead, IsUnnamed, link_named};
 ghost use Rattle.mc_item.specs.declared.answer.Need.TheVariants as needs;
-ghost use Rattle.mc_item.specs.declared.item.ClassNo.{ClassNo as TheClass};
-ghost use Rattle.mc_item.specs.declared.reply.Room.{Room as TheRoom};
-ghost use Rattle.mc_stripe.specs.StripeState.{cache_now};
-ghost use Rattle.mc_stripe.specs.Wanting.{IsGiven, IsTaken};
+ghost use Rattle.mc_item.specs.declared.{item.ClassNo.ClassNo as TheClass, reply.Room.Room as TheRoom};
+ghost use Rattle.mc_stripe.specs.{StripeState.cache_now, Wanting.IsGiven, Wanting.IsTaken};
 
 use mc_history::History;
 use mc_item::{Key, Link, Room, StripeEvent};

@@ -17,8 +17,7 @@ pub struct ByList<'a> {
 
 impl<'a> Gate for ByList<'a> {
     ghost use Rattle.std.specs.Prelude.{◌∷◌, []};
-    ghost use Rattle.mc_pull.specs.Lone.{Serves};
-    ghost use Rattle.mc_pull.specs.Refusal.{MayFail};
+    ghost use Rattle.mc_pull.specs.{Lone.Serves, Refusal.MayFail};
 
     ghost answers = { λ g. g.answers.now.items };
 

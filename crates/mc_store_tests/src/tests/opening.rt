@@ -1,8 +1,7 @@
 //! Stores for the tests: what they are opened with, by a name that the caller picks.
 ghost use Rattle.std.specs.Prelude.{◌≡◌, IfOk, length};
 ghost use Rattle.mc_item.specs.Config.{IsBounded, IsSound};
-ghost use Rattle.mc_board.specs.Histories.{blind};
-ghost use Rattle.mc_board.specs.Views.{locks_of, AreOwners};
+ghost use Rattle.mc_board.specs.{Histories.blind, Views.locks_of, Views.AreOwners};
 ghost use Rattle.mc_store.specs.Locked.{histories_for};
 ghost use Rattle.mc_store_tests.specs.Opening.{AreParts};
 

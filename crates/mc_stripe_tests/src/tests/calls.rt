@@ -1,8 +1,6 @@
 //! Calls of a stripe and what they tell. Where what a call requires doesn't hold, the test ends.
 ghost use Rattle.std.specs.Prelude.{◌≡◌, ◌<◌, ◌≤◌, ◌^◌, IsSomeAnd, true};
-ghost use Rattle.mc_item.specs.Command.{key_of};
-ghost use Rattle.mc_item.specs.Measure.{stripe_of};
-ghost use Rattle.mc_item.specs.Stripe.{IsDead};
+ghost use Rattle.mc_item.specs.{Command.key_of, Measure.stripe_of, Stripe.IsDead};
 ghost use Rattle.mc_stripe.specs.StripeState.{cache_now};
 
 use super::noted::reply_in;

@@ -1,8 +1,7 @@
 use Rattle.std.proofs.Common.{◌<◌, ◌∙◌, sym, ap, subst}
 use Rattle.mc_board.specs.declared.rule.Counts.{Counts}
 use Rattle.mc_board.specs.Views.{locks_of}
-use Rattle.mc_board.proofs.RuleLemmas.{words_some}
-use Rattle.mc_board.proofs.ShareKeeps.{deals_as}
+use Rattle.mc_board.proofs.{RuleLemmas.words_some, ShareKeeps.deals_as}
 use Rattle.mc_board.proofs.board.deal.Goals as goal
 
 pub split_seat-place-requires : goal.split_seat-place-requires

@@ -3,9 +3,7 @@ use Rattle.atomic_table.specs.Table.{Me}
 use Rattle.mc_board.specs.declared.rule.View.{View}
 use Rattle.mc_board.specs.declared.rule.View.TheVariants as views
 use Rattle.mc_board.specs.Steps.{owned_of, owned_told, hearing, IsOwnerAhead}
-use Rattle.mc_board.proofs.RuleLemmas.{words_some}
-use Rattle.mc_board.proofs.ShareKeeps.{owner_hears_as}
-use Rattle.mc_board.proofs.CountKeeps.{compares_as}
+use Rattle.mc_board.proofs.{RuleLemmas.words_some, ShareKeeps.owner_hears_as, CountKeeps.compares_as}
 use Rattle.mc_board.proofs.owner.hear.Goals as goal
 
 pub join_seat-requires : goal.join_seat-requires

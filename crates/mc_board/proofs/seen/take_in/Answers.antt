@@ -2,12 +2,8 @@ use Rattle.std.proofs.Common.{◌≡◌, [], ◌∙◌, sym, ap, subst}
 use Rattle.atomic_table.specs.Table.{Me}
 use Rattle.mc_board.specs.declared.rule.View.{View}
 use Rattle.mc_board.specs.declared.rule.View.TheVariants as views
-use Rattle.mc_board.specs.Histories.{Grows}
-use Rattle.mc_board.specs.Steps.{known_of, known_told, hearing}
-use Rattle.mc_board.specs.Learning.{known_learned, learned_of, IsLearned}
-use Rattle.mc_board.proofs.RuleLemmas.{words_some}
-use Rattle.mc_board.proofs.ShareKeeps.{seen_hears_as}
-use Rattle.mc_board.proofs.LearnKeeps.{learns_as}
+use Rattle.mc_board.specs.{Histories.Grows, Steps.known_of, Steps.known_told, Steps.hearing, Learning.known_learned, Learning.learned_of, Learning.IsLearned}
+use Rattle.mc_board.proofs.{RuleLemmas.words_some, ShareKeeps.seen_hears_as, LearnKeeps.learns_as}
 use Rattle.mc_board.proofs.seen.take_in.Goals as goal
 
 pub join_seat-requires : goal.join_seat-requires

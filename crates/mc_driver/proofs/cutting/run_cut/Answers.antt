@@ -1,7 +1,6 @@
 use Rattle.std.proofs.Common.{ap, subst}
 use Rattle.std.specs.List.{flat_map}
-use Rattle.mc_proto.specs.Gathered.{bytes_of}
-use Rattle.mc_proto.specs.Scripts.{AreScripts}
+use Rattle.mc_proto.specs.{Gathered.bytes_of, Scripts.AreScripts}
 use Rattle.mc_driver.proofs.CutLemmas.{run_of}
 use Rattle.mc_driver.proofs.cutting.run_cut.Goals as goal
 

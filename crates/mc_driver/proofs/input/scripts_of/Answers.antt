@@ -1,10 +1,8 @@
 use Rattle.std.proofs.Common.{◌≡◌, ◌∷◌, [], arith, length-append, subst, sym}
-use Rattle.std.specs.List.{All}
-use Rattle.std.specs.Vec.Iter.{into_iter_items}
+use Rattle.std.specs.{List.All, Vec.Iter.into_iter_items}
 use Rattle.std.proofs.lemmas.List.Elements.{All-push}
 use Rattle.mc_script.proofs.IterLemmas.{split_at}
-use Rattle.mc_driver.proofs.InputLemmas.{front_more}
-use Rattle.mc_driver.proofs.JobLemmas.{fewer}
+use Rattle.mc_driver.proofs.{InputLemmas.front_more, JobLemmas.fewer}
 use Rattle.mc_driver.proofs.input.scripts_of.Goals as goal
 
 pub split_off-part-requires-clause-has_parts : goal.split_off-part-requires-clause-has_parts

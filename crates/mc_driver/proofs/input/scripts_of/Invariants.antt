@@ -1,6 +1,5 @@
 use Rattle.std.proofs.Common.{◌≡◌, ◌≤◌, ◌+◌, ◌++◌, [], length, map}
-use Rattle.std.specs.List.{All}
-use Rattle.std.specs.Vec.Iter.{into_iter_items}
+use Rattle.std.specs.{List.All, Vec.Iter.into_iter_items}
 use Rattle.mc_driver.proofs.input.scripts_of.Given as goal
 
 -- there is a part for each of the other sources, and those so far have sinks that took nothing

@@ -1,6 +1,5 @@
 use Rattle.std.proofs.Common.{◌++◌, map}
-use Rattle.std.specs.List.{flat_map}
-use Rattle.std.specs.Vec.Iter.{into_iter_items}
+use Rattle.std.specs.{List.flat_map, Vec.Iter.into_iter_items}
 use Rattle.mc_proto.specs.Scripts.{AreScripts}
 use Rattle.mc_driver.proofs.input.sources_of.Given as goal
 

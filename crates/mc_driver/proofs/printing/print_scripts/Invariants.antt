@@ -1,6 +1,5 @@
 use Rattle.std.proofs.Common.{take}
-use Rattle.std.specs.List.{flat_map}
-use Rattle.std.specs.Io.KnownBytes.{Appends}
+use Rattle.std.specs.{List.flat_map, Io.KnownBytes.Appends}
 use Rattle.mc_proto.specs.Gathered.{bytes_of}
 use Rattle.mc_driver.proofs.printing.print_scripts.Given as goal
 

@@ -1,11 +1,9 @@
 use Rattle.std.proofs.Common.{◌≡◌, inr, subst, arith}
-use Rattle.std.specs.List.{All, flat_map}
-use Rattle.std.specs.Io.KnownBytes.{Appends}
+use Rattle.std.specs.{List.All, List.flat_map, Io.KnownBytes.Appends}
 use Rattle.mc_script.specs.declared.outcome.Outcome.TheVariants.{Done}
 use Rattle.mc_proto.specs.Gathered.{bytes_of}
 use Rattle.mc_item.proofs.ConfigLemmas.{bounded}
-use Rattle.mc_driver.specs.Input.{IsRunOf}
-use Rattle.mc_driver.specs.Status.{IsFirstFault}
+use Rattle.mc_driver.specs.{Input.IsRunOf, Status.IsFirstFault}
 use Rattle.mc_driver.proofs.StatusLemmas.{told_not_two, told_small, unrun_for_number}
 use Rattle.mc_driver.proofs.program.run_input.Goals as goal
 

@@ -1,6 +1,5 @@
 use Rattle.std.proofs.Common.{◌≡◌, ◌<◌, ℕ, slice_index_or}
-use Rattle.mc_script.specs.declared.outcome.Outcome.{Outcome}
-use Rattle.mc_script.specs.declared.outcome.Outcome.TheVariants.{Done}
+use Rattle.mc_script.specs.declared.{outcome.Outcome.Outcome, outcome.Outcome.TheVariants.Done}
 use Rattle.mc_driver.proofs.program.say_outcomes.Given as goal
 
 -- those so far are done

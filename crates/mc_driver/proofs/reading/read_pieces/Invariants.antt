@@ -1,5 +1,4 @@
-use Rattle.std.specs.List.{flat_map}
-use Rattle.std.specs.Io.KnownBytes.{Consumes}
+use Rattle.std.specs.{List.flat_map, Io.KnownBytes.Consumes}
 use Rattle.mc_driver.proofs.reading.read_pieces.Given as goal
 
 -- the pieces so far were the reader's

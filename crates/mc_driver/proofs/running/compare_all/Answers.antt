@@ -1,8 +1,6 @@
 use Rattle.std.proofs.Common.{◌≡◌, length, slice_get, set, ap, ◌∙◌, subst, sym, below_more, arith}
-use Rattle.std.proofs.lemmas.List.{set-get_or}
-use Rattle.std.proofs.lemmas.Option.{get_or_from_slice_get, slice_get_within}
-use Rattle.mc_store.specs.Finals.{AreStripes, FinalView}
-use Rattle.mc_store.specs.Passes.{PassView}
+use Rattle.std.proofs.lemmas.{List.set-get_or, Option.get_or_from_slice_get, Option.slice_get_within}
+use Rattle.mc_store.specs.{Finals.AreStripes, Finals.FinalView, Passes.PassView}
 use Rattle.mc_driver.specs.Called.{IsCompared}
 use Rattle.mc_driver.proofs.running.compare_all.Goals as goal
 

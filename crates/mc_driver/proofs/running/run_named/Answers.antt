@@ -1,13 +1,8 @@
 use Rattle.std.proofs.Common.{◌≡◌, ◌∙◌, List, ap, arith, length, map, slice_get, slice_index_or, sym, subst}
 use Rattle.std.proofs.lemmas.List.{length-map}
-use Rattle.mc_store.specs.Finals.{AreClasses, AreStripes, FinalView}
-use Rattle.mc_store.specs.Passes.{ArePasses, PassView}
-use Rattle.mc_driver.specs.Jobs.{HasWorked, ends_in}
-use Rattle.mc_driver.specs.Left.{IsLeft}
-use Rattle.mc_driver.specs.Run.{limits_of}
-use Rattle.mc_driver.proofs.JobLemmas.{all_start}
-use Rattle.mc_driver.proofs.LeftLemmas.{store_left}
-use Rattle.mc_driver.proofs.RunLemmas.{run_left, written_back}
+use Rattle.mc_store.specs.{Finals.AreClasses, Finals.AreStripes, Finals.FinalView, Passes.ArePasses, Passes.PassView}
+use Rattle.mc_driver.specs.{Jobs.HasWorked, Jobs.ends_in, Left.IsLeft, Run.limits_of}
+use Rattle.mc_driver.proofs.{JobLemmas.all_start, LeftLemmas.store_left, RunLemmas.run_left, RunLemmas.written_back}
 use Rattle.mc_driver.proofs.running.run_named.Goals as goal
 
 pub run_jobs-requires-clause-first : goal.run_jobs-requires-clause-first

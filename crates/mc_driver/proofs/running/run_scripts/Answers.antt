@@ -1,7 +1,6 @@
 use Rattle.std.proofs.Common.{◌∙◌, ap, subst}
 use Rattle.mc_item.specs.declared.config.Config.{Config}
-use Rattle.mc_driver.specs.Called.{AreWholeTurns, HasCalls}
-use Rattle.mc_driver.specs.Run.{HasFull, histories_left, with_callers}
+use Rattle.mc_driver.specs.{Called.AreWholeTurns, Called.HasCalls, Run.HasFull, Run.histories_left, Run.with_callers}
 use Rattle.mc_driver.proofs.running.run_scripts.Goals as goal
 
 pub returns-clause-full : goal.returns-clause-full

@@ -1,6 +1,5 @@
 use Rattle.mc_laws.proofs.EventLemmas.{change_elsewhere}
-use Rattle.mc_item.specs.Cache.{answer_of}
-use Rattle.mc_item.specs.Command.{key_of}
+use Rattle.mc_item.specs.{Cache.answer_of, Command.key_of}
 use Rattle.mc_laws.proofs.reading.other_keys_stay.Goals as goal
 
 pub returns : goal.returns

@@ -1,7 +1,6 @@
 use Rattle.std.proofs.Common.{arith, rules, tests, eqb, sym, length, ◌∙◌}
-use Rattle.std.proofs.lemmas.List.{length_push}
+use Rattle.std.proofs.lemmas.{List.length_push, Iterator.Splits.YieldsList-from_slice_split}
 use Rattle.std.proofs.lemmas.Iterator.Consumers.{YieldsList-at, YieldsList-turn, YieldsList-end}
-use Rattle.std.proofs.lemmas.Iterator.Splits.{YieldsList-from_slice_split}
 use Rattle.std.specs.List.{slice_split}
 use Rattle.mc_options.proofs.WordLemmas.{part_read, part_refused, parts_read}
 use Rattle.mc_options.proofs.plans.list_in.Goals as goal

@@ -1,8 +1,6 @@
 use Rattle.std.proofs.Common.{◌++◌, subst, sym}
 use Rattle.mc_proto.specs.Scripts.{IsLast, StandsFirst}
-use Rattle.mc_proto.proofs.DividingLemmas.{goes_on, stays_on}
-use Rattle.mc_proto.proofs.NextLemmas.{lacks_next}
-use Rattle.mc_proto.proofs.SplitLemmas.{last_on}
+use Rattle.mc_proto.proofs.{DividingLemmas.goes_on, DividingLemmas.stays_on, NextLemmas.lacks_next, SplitLemmas.last_on}
 use Rattle.mc_proto.proofs.dividing.pass_script.Goals as goal
 
 pub returns-then-lacks_next-clause-line : goal.returns-then-lacks_next-clause-line

@@ -1,7 +1,6 @@
 use Rattle.std.proofs.Common.{◌∙◌, ap, subst, drop}
 use Rattle.std.specs.List.{flat_map}
-use Rattle.mc_proto.specs.Scripts.{IsLast}
-use Rattle.mc_proto.specs.Uncut.{PassesScript}
+use Rattle.mc_proto.specs.{Scripts.IsLast, Uncut.PassesScript}
 use Rattle.mc_proto.proofs.DividingLemmas.{cut_last, cut_on}
 use Rattle.mc_proto.proofs.dividing.split_pieces.Goals as goal
 

@@ -1,5 +1,4 @@
-use Rattle.std.specs.List.{flat_map}
-use Rattle.std.specs.VecDeque.Iter.{deque_iter_rest}
+use Rattle.std.specs.{List.flat_map, VecDeque.Iter.deque_iter_rest}
 use Rattle.mc_proto.specs.Lines.{LacksNextBehind}
 use Rattle.mc_proto.proofs.lacking.pieces_lack_next.Given as goal
 

@@ -1,7 +1,6 @@
 use Rattle.std.proofs.Common.{◌≡◌, ◌++◌, ◌∙◌, ℕ, List, Bor, IfOk, length, map, take, sym, ap, arith, subst}
 use Rattle.std.proofs.lemmas.List.{take_all}
-use Rattle.mc_proto.specs.Lines.{tokens}
-use Rattle.mc_proto.specs.Table.{tokens_say}
+use Rattle.mc_proto.specs.{Lines.tokens, Table.tokens_say}
 use Rattle.mc_proto.proofs.line.other_said.Goals as goal
 
 pub split_at-requires : goal.split_at-requires

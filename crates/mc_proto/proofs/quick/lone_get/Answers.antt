@@ -1,13 +1,11 @@
 use Rattle.std.proofs.Common.{◌≡◌, ◌∷◌, [], ◌∙◌, ℕ, List, Bool, true, false, sym, ap, codes}
 use Rattle.std.specs.Prelude.{◌&&◌, if◌then◌else◌}
-use Rattle.mc_proto.specs.Lines.{tokens, no_cr, is_key}
-use Rattle.mc_proto.specs.Table.{says, tokens_say, bad}
+use Rattle.mc_proto.specs.{Lines.tokens, Lines.no_cr, Lines.is_key, Table.says, Table.tokens_say, Table.bad}
 use Rattle.mc_proto.specs.declared.request.Limits.{Limits}
 use Rattle.mc_proto.specs.declared.request.LineFault.TheVariants as faults
 use Rattle.mc_proto.specs.declared.request.Request.TheVariants as requests
 use Rattle.mc_proto.specs.declared.state.Said.TheVariants as said
-use Rattle.mc_proto.proofs.KeyListLemmas.{key_some}
-use Rattle.mc_proto.proofs.TokenLemmas.{lone_tokens}
+use Rattle.mc_proto.proofs.{KeyListLemmas.key_some, TokenLemmas.lone_tokens}
 use Rattle.mc_proto.proofs.quick.lone_get.Goals as goal
 
 lone_says : (limits : Limits) (line token key : List ℕ) → tokens (no_cr line) ≡ codes "get" ∷ token ∷ [] → is_key token ≡ true → key ≡ token → says limits line ≡ said.Whole (requests.Get (key ∷ []) false)

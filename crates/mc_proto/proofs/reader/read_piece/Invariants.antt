@@ -1,6 +1,5 @@
 use Rattle.std.proofs.Common.{◌≡◌, ◌++◌, List, ℕ, length, All}
-use Rattle.mc_proto.specs.Grammar.{IsModerate}
-use Rattle.mc_proto.specs.Reader.{After, IsSound}
+use Rattle.mc_proto.specs.{Grammar.IsModerate, Reader.After, Reader.IsSound}
 use Rattle.mc_proto.specs.declared.request.Request.{Request}
 use Rattle.mc_proto.proofs.reader.read_piece.Given as goal
 

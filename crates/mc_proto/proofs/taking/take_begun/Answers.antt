@@ -1,7 +1,6 @@
 use Rattle.std.proofs.Common.{◌≡◌, ◌++◌, ◌∷◌, [], ◌+◌, ◌∙◌, arith, ap, take, drop, List, ℕ, length}
 use Rattle.mc_proto.specs.Grammar.{stored}
-use Rattle.mc_proto.specs.declared.request.Request.{Request}
-use Rattle.mc_proto.specs.declared.state.State.TheVariants.{Line}
+use Rattle.mc_proto.specs.declared.{request.Request.Request, state.State.TheVariants.Line}
 use Rattle.mc_proto.proofs.TakingLemmas.{behind, first_done, first_more}
 use Rattle.mc_proto.proofs.taking.take_begun.Goals as goal
 

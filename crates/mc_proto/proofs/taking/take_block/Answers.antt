@@ -1,7 +1,6 @@
 use Rattle.std.proofs.Common.{◌≡◌, ◌++◌, ◌∷◌, [], ◌-◌, ◌+◌, ◌∙◌, arith, refl, ap, take, List, ℕ, length}
 use Rattle.mc_proto.specs.Grammar.{stored}
-use Rattle.mc_proto.specs.declared.state.State.TheVariants.{Line}
-use Rattle.mc_proto.specs.declared.request.Request.{Request}
+use Rattle.mc_proto.specs.declared.{state.State.TheVariants.Line, request.Request.Request}
 use Rattle.mc_proto.proofs.TakingLemmas.{behind, block_more, block_done}
 use Rattle.mc_proto.proofs.taking.take_block.Goals as goal
 

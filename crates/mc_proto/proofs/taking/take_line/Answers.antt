@@ -1,13 +1,9 @@
 use Rattle.std.proofs.Common.{◌≡◌, ◌≤◌, ◌++◌, ◌∷◌, [], ◌+◌, ◌<◌, ◌∙◌, arith, sym, ap, subst, take, get_or, List, ℕ, length, false, refl, rules, Result, Ok, Err}
 use Rattle.std.specs.Prelude.{IfOk}
 use Rattle.std.proofs.lemmas.List.{take_all}
-use Rattle.mc_proto.specs.Lines.{Lacks}
-use Rattle.mc_proto.specs.Table.{says}
-use Rattle.mc_proto.specs.declared.request.LineFault.TheVariants.{LineTooLong}
-use Rattle.mc_proto.specs.declared.request.Request.TheVariants.{Bad, Get}
-use Rattle.mc_proto.specs.declared.state.Said.TheVariants.{Whole}
-use Rattle.mc_proto.specs.Grammar.{IsFine}
-use Rattle.mc_proto.specs.declared.state.State.TheVariants.{Line, Closed}
+use Rattle.mc_proto.specs.{Lines.Lacks, Table.says, Grammar.IsFine}
+use Rattle.mc_proto.specs.declared.{request.LineFault.TheVariants.LineTooLong, request.Request.TheVariants.Bad, request.Request.TheVariants.Get}
+use Rattle.mc_proto.specs.declared.{state.Said.TheVariants.Whole, state.State.TheVariants.Line, state.State.TheVariants.Closed}
 use Rattle.mc_proto.proofs.TakingLemmas.{behind, too_long, line_blocks, line_more, line_done, line_skips}
 use Rattle.mc_proto.proofs.taking.take_line.Goals as goal
 

@@ -1,6 +1,5 @@
 use Rattle.std.proofs.Common.{◌≡◌, ◌+◌, length}
-use Rattle.std.specs.List.{flat_map}
-use Rattle.std.specs.VecDeque.Iter.{deque_iter_rest}
+use Rattle.std.specs.{List.flat_map, VecDeque.Iter.deque_iter_rest}
 use Rattle.mc_proto.proofs.uncut.hold.Given as goal
 
 -- the pieces so far have what is no longer missing

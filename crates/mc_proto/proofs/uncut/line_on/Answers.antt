@@ -1,6 +1,5 @@
 use Rattle.std.proofs.Common.{◌≡◌, ◌∙◌, ◌<◌, ◌+◌, ◌++◌, length, take, drop, ap, sym, arith}
-use Rattle.std.specs.List.{flat_map}
-use Rattle.std.specs.VecDeque.Iter.{deque_iter_rest}
+use Rattle.std.specs.{List.flat_map, VecDeque.Iter.deque_iter_rest}
 use Rattle.mc_proto.proofs.UncutLemmas.{line_ends, line_left}
 use Rattle.mc_proto.proofs.uncut.line_on.Goals as goal
 

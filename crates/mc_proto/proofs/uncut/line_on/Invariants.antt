@@ -1,6 +1,5 @@
 use Rattle.std.proofs.Common.{◌≡◌, ◌++◌}
-use Rattle.std.specs.List.{flat_map}
-use Rattle.std.specs.VecDeque.Iter.{deque_iter_rest}
+use Rattle.std.specs.{List.flat_map, VecDeque.Iter.deque_iter_rest}
 use Rattle.mc_proto.proofs.uncut.line_on.Given as goal
 
 -- the line so far, and the pieces that are left

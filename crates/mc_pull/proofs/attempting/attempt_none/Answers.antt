@@ -1,9 +1,7 @@
 use Rattle.std.proofs.Common.{[]}
 use Rattle.std.specs.Prelude.{None}
-use Rattle.mc_pull.specs.Perform.{call}
-use Rattle.mc_pull.specs.Performed.{IsPerformed}
-use Rattle.mc_pull.proofs.AttemptLemmas.{may_perform}
-use Rattle.mc_pull.proofs.PerformedLemmas.{performed_kept, performed_seen}
+use Rattle.mc_pull.specs.{Perform.call, Performed.IsPerformed}
+use Rattle.mc_pull.proofs.{AttemptLemmas.may_perform, PerformedLemmas.performed_kept, PerformedLemmas.performed_seen}
 use Rattle.mc_pull.proofs.attempting.attempt_none.Goals as goal
 
 pub returns-in-Ok-clause-tried : goal.returns-in-Ok-clause-tried

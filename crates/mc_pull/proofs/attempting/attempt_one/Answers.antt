@@ -1,27 +1,19 @@
 use Rattle.std.proofs.Common.{rules, arith, ◌≡◌, ◌≤◌, ◌++◌, ◌∷◌, [], ℕ, ◌+◌, Bool, true, List, length, refl, sym, ap, ◌∙◌, subst, inl, inr}
 use Rattle.std.specs.Prelude.{IsErrOf, Option, Some, None, false, IsSomeAnd, ◌||◌, if◌then◌else◌}
-use Rattle.mc_item.specs.Command.{key_of}
-use Rattle.mc_item.specs.Stripe.{Fits}
+use Rattle.mc_item.specs.{Command.key_of, Stripe.Fits}
 use Rattle.mc_item.specs.declared.answer.Need.TheVariants as needs
-use Rattle.mc_item.specs.declared.fault.Fault.TheVariants.{HistoryFull}
-use Rattle.mc_item.specs.declared.item.Link.{Link}
+use Rattle.mc_item.specs.declared.{fault.Fault.TheVariants.HistoryFull, item.Link.Link, stripe_event.StripeEvent.StripeEvent}
 use Rattle.mc_item.specs.declared.reply.Room.TheVariants as rooms
-use Rattle.mc_item.specs.declared.stripe_event.StripeEvent.{StripeEvent}
-use Rattle.mc_rule.specs.Lawful.{is_named}
-use Rattle.mc_rule.specs.Lists.{links_of}
+use Rattle.mc_rule.specs.{Lawful.is_named, Lists.links_of}
 use Rattle.mc_segment.specs.ClassState.{ClassView}
-use Rattle.mc_stripe.specs.StripeState.{Stripe, cache_now}
-use Rattle.mc_stripe.specs.StripeCalls.{KeepsSite}
+use Rattle.mc_stripe.specs.{StripeState.Stripe, StripeState.cache_now, StripeCalls.KeepsSite, Trying.IsDone, Trying.item_of, Trying.row_at}
 use Rattle.mc_stripe.specs.declared.fate.Fate.{Fate}
-use Rattle.mc_stripe.specs.Trying.{IsDone, item_of, row_at}
-use Rattle.mc_pull.specs.Attempt.{HasFree}
+use Rattle.mc_pull.specs.{Attempt.HasFree, Perform.answer_to, Perform.call}
 use Rattle.mc_pull.specs.Parts.{hit_part, is_here, is_warming, number_in, part_for, places_of}
-use Rattle.mc_pull.specs.Perform.{answer_to, call}
 use Rattle.mc_pull.specs.Performed.{one_if, IsPerformed, cooled_if, did_event, events_on_stripe, part_in}
 use Rattle.mc_pull.proofs.AttemptLemmas.{warm_alive, warm_on, warm_places, cooled_history, cooled_where, either_cooled, here_free, here_small, may_perform, offered_fits, part_ready, warms_part}
-use Rattle.mc_pull.proofs.PartLemmas.{copied_part}
+use Rattle.mc_pull.proofs.{PartLemmas.copied_part, PerformedLemmas.each_at, PerformedLemmas.performed_kept, PerformedLemmas.performed_seen}
 use Rattle.mc_pull.proofs.PerformLemmas.{active_after, any_one, cool_ready, made_in}
-use Rattle.mc_pull.proofs.PerformedLemmas.{each_at, performed_kept, performed_seen}
 use Rattle.mc_pull.proofs.attempting.attempt_one.Goals as goal
 
 pub returns-in_err-warms-clause-refusal : goal.returns-in_err-warms-clause-refusal

@@ -1,29 +1,19 @@
 use Rattle.std.proofs.Common.{rules, arith, ◌≡◌, ◌≤◌, ◌++◌, ◌∷◌, [], ℕ, ◌+◌, Bool, true, List, length, refl, sym, ap, ◌∙◌, subst, inl, inr}
 use Rattle.std.specs.Prelude.{IsErrOf, Option, Some, None, false, IsSomeAnd, ◌||◌, if◌then◌else◌}
-use Rattle.mc_item.specs.Command.{key_of}
-use Rattle.mc_item.specs.Stripe.{Fits}
+use Rattle.mc_item.specs.{Command.key_of, Stripe.Fits}
 use Rattle.mc_item.specs.declared.answer.Need.TheVariants as needs
-use Rattle.mc_item.specs.declared.fault.Fault.TheVariants.{HistoryFull}
-use Rattle.mc_item.specs.declared.item.Link.{Link}
+use Rattle.mc_item.specs.declared.{fault.Fault.TheVariants.HistoryFull, item.Link.Link, stripe_event.StripeEvent.StripeEvent}
 use Rattle.mc_item.specs.declared.reply.Room.TheVariants as rooms
-use Rattle.mc_pull.specs.Parts.{places_of}
-use Rattle.mc_item.specs.declared.stripe_event.StripeEvent.{StripeEvent}
-use Rattle.mc_rule.specs.Lawful.{is_named}
-use Rattle.mc_rule.specs.Lists.{links_of}
+use Rattle.mc_pull.specs.{Parts.places_of, Attempt.HasFree, Parts.hit_part, Parts.is_here, Parts.is_warming, Parts.number_in, Parts.part_for, Perform.answer_to}
+use Rattle.mc_pull.specs.{Perform.call, Performed.one_if, Performed.IsPerformed, Performed.cooled_if, Performed.did_event, Performed.events_on_stripe}
+use Rattle.mc_pull.specs.{Performed.part_in}
+use Rattle.mc_rule.specs.{Lawful.is_named, Lists.links_of}
 use Rattle.mc_segment.specs.ClassState.{ClassView}
-use Rattle.mc_stripe.specs.StripeState.{Stripe, cache_now}
-use Rattle.mc_stripe.specs.StripeCalls.{KeepsSite}
+use Rattle.mc_stripe.specs.{StripeState.Stripe, StripeState.cache_now, StripeCalls.KeepsSite, Trying.IsDone}
 use Rattle.mc_stripe.specs.declared.fate.Fate.{Fate}
-use Rattle.mc_stripe.specs.Trying.{IsDone}
-use Rattle.mc_pull.specs.Attempt.{HasFree}
-use Rattle.mc_pull.specs.Parts.{hit_part, is_here, is_warming, number_in, part_for}
-use Rattle.mc_pull.specs.Perform.{answer_to, call}
-use Rattle.mc_pull.proofs.PartLemmas.{copied_part}
-use Rattle.mc_pull.proofs.PerformLemmas.{warms_either}
-use Rattle.mc_pull.specs.Performed.{one_if, IsPerformed, cooled_if, did_event, events_on_stripe, part_in}
+use Rattle.mc_pull.proofs.{PartLemmas.copied_part, PerformLemmas.warms_either, PerformLemmas.any_two, PerformLemmas.cool_ready, PerformLemmas.made_in}
+use Rattle.mc_pull.proofs.{PerformedLemmas.each_at, PerformedLemmas.performed_kept, PerformedLemmas.performed_seen}
 use Rattle.mc_pull.proofs.AttemptLemmas.{either_on, either_so, warm_alive, warm_on, warm_places, cooled_history, cooled_where, either_cooled, here_free, here_small, may_perform, offered_fits, part_ready, warms_part}
-use Rattle.mc_pull.proofs.PerformLemmas.{any_two, cool_ready, made_in}
-use Rattle.mc_pull.proofs.PerformedLemmas.{each_at, performed_kept, performed_seen}
 use Rattle.mc_pull.proofs.attempting.attempt_two.Goals as goal
 
 pub returns-in_err-warms_home-clause-refusal : goal.returns-in_err-warms_home-clause-refusal

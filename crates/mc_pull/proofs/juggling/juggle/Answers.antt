@@ -1,8 +1,7 @@
 use Rattle.std.proofs.Common.{List, ◌++◌, Bool, refl, ap, ◌∙◌, sym, subst, append_assoc}
 use Rattle.mc_segment.specs.ClassState.{ClassView}
 use Rattle.mc_rule.specs.Segment.{Rule}
-use Rattle.mc_pull.specs.Juggle.{juggling, JugglesTemp, JugglesRounds}
-use Rattle.mc_pull.specs.Rounds.{rounds}
+use Rattle.mc_pull.specs.{Juggle.juggling, Juggle.JugglesTemp, Juggle.JugglesRounds, Rounds.rounds}
 use Rattle.mc_pull.specs.declared.looking.Answer.{Answer}
 use Rattle.mc_pull.proofs.juggling.juggle.Goals as goal
 

@@ -3,11 +3,9 @@ use Rattle.std.specs.Prelude.{IfOk}
 use Rattle.mc_item.specs.declared.class_event.ClassEvent.{ClassEvent}
 use Rattle.mc_segment.specs.ClassState.{ClassView}
 use Rattle.mc_segment.specs.declared.surveying.Survey.{Survey}
-use Rattle.mc_pull.specs.Juggle.{juggling, survey_at, IsJuggled, IsJuggleRound}
-use Rattle.mc_pull.specs.Rounds.{rounds}
+use Rattle.mc_pull.specs.{Juggle.juggling, Juggle.survey_at, Juggle.IsJuggled, Juggle.IsJuggleRound, Rounds.rounds, Walker.walker_of}
 use Rattle.mc_pull.specs.declared.looking.Answer.{Answer}
 use Rattle.mc_pull.proofs.GrowthLemmas.{kept_later}
-use Rattle.mc_pull.specs.Walker.{walker_of}
 use Rattle.mc_pull.proofs.juggling.juggle_rest.Goals as goal
 
 pub returns-clause-rest : goal.returns-clause-rest

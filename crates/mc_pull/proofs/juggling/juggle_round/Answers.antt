@@ -1,14 +1,9 @@
 use Rattle.std.proofs.Common.{List, ◌++◌, Bool, refl, ap, ◌∙◌, subst, append_assoc}
 use Rattle.mc_item.specs.declared.lists.Seg.TheVariants.{Cold}
 use Rattle.mc_segment.specs.ClassState.{ClassView}
-use Rattle.mc_pull.specs.declared.judge.Mode.TheVariants.{Plain}
-use Rattle.mc_pull.specs.declared.looking.Answer.{Answer}
-use Rattle.mc_pull.specs.declared.pulled.Pulled.{Pulled}
-use Rattle.mc_pull.specs.Juggle.{PullsWarm}
-use Rattle.mc_pull.specs.Pulled.{plus}
-use Rattle.mc_pull.specs.Rounds.{rounds}
+use Rattle.mc_pull.specs.declared.{judge.Mode.TheVariants.Plain, looking.Answer.Answer, pulled.Pulled.Pulled}
+use Rattle.mc_pull.specs.{Juggle.PullsWarm, Pulled.plus, Rounds.rounds, Walk.pull, Walk.IsWalk}
 use Rattle.mc_pull.proofs.GrowthLemmas.{grows_both}
-use Rattle.mc_pull.specs.Walk.{pull, IsWalk}
 use Rattle.mc_pull.proofs.juggling.juggle_round.Goals as goal
 
 pub returns-clause-round : goal.returns-clause-round

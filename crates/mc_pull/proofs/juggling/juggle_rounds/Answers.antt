@@ -1,8 +1,6 @@
 use Rattle.std.proofs.Common.{◌≡◌, ◌-◌, suc, ◌∙◌, sym, ap, subst, arith}
 use Rattle.mc_segment.specs.ClassState.{ClassView}
-use Rattle.mc_pull.specs.Juggle.{IsJuggleRound}
-use Rattle.mc_pull.specs.Pulled.{sum_of, plus}
-use Rattle.mc_pull.specs.Rounds.{rounds}
+use Rattle.mc_pull.specs.{Juggle.IsJuggleRound, Pulled.sum_of, Pulled.plus, Rounds.rounds}
 use Rattle.mc_pull.proofs.RoundLemmas.{rounds_more, plus_sum, juggled_all}
 use Rattle.mc_pull.proofs.GrowthLemmas.{grows_both, class_later, survey_later, kept_later}
 use Rattle.mc_pull.proofs.juggling.juggle_rounds.Goals as goal

@@ -1,12 +1,8 @@
 use Rattle.std.proofs.Common.{List, ◌≡◌, ◌+◌, ◌-◌, ◌*◌, ◌≤◌, true}
 use Rattle.mc_item.specs.declared.class_event.ClassEvent.{ClassEvent}
-use Rattle.mc_pull.specs.Growth.{Grows}
-use Rattle.mc_pull.specs.Question.{IsClassOf, IsSurveyIn}
+use Rattle.mc_pull.specs.{Growth.Grows, Question.IsClassOf, Question.IsSurveyIn, Pulled.sum_of, Rounds.rounds, Walker.walker_of}
 use Rattle.mc_pull.specs.Juggle.{juggling, Adds, IsJuggleRound}
-use Rattle.mc_pull.specs.Pulled.{sum_of}
-use Rattle.mc_pull.specs.Rounds.{rounds}
 use Rattle.mc_pull.proofs.RoundLemmas.{OnRounds}
-use Rattle.mc_pull.specs.Walker.{walker_of}
 use Rattle.mc_pull.proofs.juggling.juggle_rounds.Given as goal
 
 abbrev pub invariant-rounds : goal.invariant-rounds

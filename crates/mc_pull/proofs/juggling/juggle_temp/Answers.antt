@@ -1,16 +1,12 @@
 use Rattle.std.proofs.Common.{List, ◌≡◌, ◌++◌, Bool, sym, subst, refl}
 use Rattle.std.specs.Prelude.{IfOk}
-use Rattle.mc_item.specs.declared.class_event.ClassEvent.{ClassEvent}
-use Rattle.mc_item.specs.declared.lists.Seg.TheVariants.{Temp}
+use Rattle.mc_item.specs.declared.{class_event.ClassEvent.ClassEvent, lists.Seg.TheVariants.Temp}
 use Rattle.mc_segment.specs.ClassState.{ClassView}
 use Rattle.mc_segment.specs.declared.surveying.Survey.{Survey}
 use Rattle.mc_pull.specs.Juggle.{juggling, survey_at, IsJuggled, JugglesTemp}
-use Rattle.mc_pull.specs.Pulled.{none_pulled}
-use Rattle.mc_pull.specs.Rounds.{rounds, Walks}
-use Rattle.mc_pull.specs.declared.judge.Mode.TheVariants.{Plain}
-use Rattle.mc_pull.specs.declared.looking.Answer.{Answer}
+use Rattle.mc_pull.specs.{Pulled.none_pulled, Rounds.rounds, Rounds.Walks, Walker.walker_of}
+use Rattle.mc_pull.specs.declared.{judge.Mode.TheVariants.Plain, looking.Answer.Answer}
 use Rattle.mc_pull.proofs.GrowthLemmas.{kept_later}
-use Rattle.mc_pull.specs.Walker.{walker_of}
 use Rattle.mc_pull.proofs.juggling.juggle_temp.Goals as goal
 
 pub returns-clause-temp : goal.returns-clause-temp

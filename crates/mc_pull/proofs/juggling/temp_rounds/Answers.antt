@@ -2,8 +2,7 @@ use Rattle.std.proofs.Common.{◌≡◌, ◌-◌, suc, ◌∙◌, sym, ap, subst
 use Rattle.mc_segment.specs.ClassState.{ClassView}
 use Rattle.mc_pull.specs.declared.judge.Mode.TheVariants.{Plain}
 use Rattle.mc_item.specs.declared.lists.Seg.TheVariants.{Temp}
-use Rattle.mc_pull.specs.Pulled.{sum_of, plus}
-use Rattle.mc_pull.specs.Rounds.{rounds, Walks}
+use Rattle.mc_pull.specs.{Pulled.sum_of, Pulled.plus, Rounds.rounds, Rounds.Walks}
 use Rattle.mc_pull.proofs.RoundLemmas.{rounds_more, plus_sum, juggled_all}
 use Rattle.mc_pull.proofs.GrowthLemmas.{grows_both, class_later, survey_later, kept_later}
 use Rattle.mc_pull.proofs.juggling.temp_rounds.Goals as goal

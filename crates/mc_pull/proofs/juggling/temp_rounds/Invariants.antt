@@ -1,14 +1,9 @@
 use Rattle.std.proofs.Common.{List, ◌≡◌, ◌+◌, ◌-◌, ◌*◌, ◌≤◌, true}
-use Rattle.mc_item.specs.declared.class_event.ClassEvent.{ClassEvent}
+use Rattle.mc_item.specs.declared.{class_event.ClassEvent.ClassEvent, lists.Seg.TheVariants.Temp}
 use Rattle.mc_pull.specs.declared.judge.Mode.TheVariants.{Plain}
-use Rattle.mc_pull.specs.Growth.{Grows}
-use Rattle.mc_pull.specs.Question.{IsClassOf, IsSurveyIn}
-use Rattle.mc_pull.specs.Juggle.{juggling, Adds}
-use Rattle.mc_pull.specs.Pulled.{none_pulled, sum_of}
-use Rattle.mc_pull.specs.Rounds.{rounds, Walks}
-use Rattle.mc_item.specs.declared.lists.Seg.TheVariants.{Temp}
+use Rattle.mc_pull.specs.{Growth.Grows, Question.IsClassOf, Question.IsSurveyIn, Juggle.juggling, Juggle.Adds, Pulled.none_pulled, Pulled.sum_of, Rounds.rounds}
+use Rattle.mc_pull.specs.{Rounds.Walks, Walker.walker_of}
 use Rattle.mc_pull.proofs.RoundLemmas.{OnRounds}
-use Rattle.mc_pull.specs.Walker.{walker_of}
 use Rattle.mc_pull.proofs.juggling.temp_rounds.Given as goal
 
 abbrev pub invariant-rounds : goal.invariant-rounds

@@ -1,11 +1,7 @@
 use Rattle.std.proofs.Common.{subst, sym, ap, ◌∙◌}
-use Rattle.mc_rule.specs.Lawful.{IsListed}
-use Rattle.mc_rule.specs.Lists.{lists_of, links_of, entry}
-use Rattle.mc_rule.specs.Segment.{segment_for}
-use Rattle.mc_segment.specs.ClassState.{ClassView}
-use Rattle.mc_segment.specs.ClassCalls.{linked_event}
+use Rattle.mc_rule.specs.{Lawful.IsListed, Lists.lists_of, Lists.links_of, Lists.entry, Segment.segment_for, Lists.no_lists}
+use Rattle.mc_segment.specs.{ClassState.ClassView, ClassCalls.linked_event}
 use Rattle.mc_segment.proofs.StateLemmas.{lists_from-push}
-use Rattle.mc_rule.specs.Lists.{no_lists}
 use Rattle.mc_pull.proofs.PartLemmas.{listed_linked}
 use Rattle.mc_pull.proofs.making.make.Goals as goal
 

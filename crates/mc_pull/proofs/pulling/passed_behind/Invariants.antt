@@ -1,6 +1,5 @@
 use Rattle.std.proofs.Common.{◌≡◌, take, reverse, length}
-use Rattle.mc_rule.specs.Lists.{lists_of, list_of}
-use Rattle.mc_rule.specs.Segment.{numbers_of}
+use Rattle.mc_rule.specs.{Lists.lists_of, Lists.list_of, Segment.numbers_of}
 use Rattle.mc_pull.proofs.pulling.passed_behind.Given as goal
 
 abbrev pub invariant-numbers : goal.invariant-numbers

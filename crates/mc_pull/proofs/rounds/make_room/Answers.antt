@@ -1,8 +1,7 @@
 use Rattle.std.proofs.Common.{◌≡◌, ◌-◌, suc, ◌∙◌, subst, arith}
 use Rattle.mc_segment.specs.ClassState.{ClassView}
 use Rattle.mc_pull.specs.Rounds.{rounds, IsRoomRound}
-use Rattle.mc_pull.proofs.RoundLemmas.{rounds_more}
-use Rattle.mc_pull.proofs.GrowthLemmas.{grows_both, class_later, kept_later}
+use Rattle.mc_pull.proofs.{RoundLemmas.rounds_more, GrowthLemmas.grows_both, GrowthLemmas.class_later, GrowthLemmas.kept_later}
 use Rattle.mc_pull.proofs.rounds.make_room.Goals as goal
 
 pub rounds-preserved : goal.rounds-preserved

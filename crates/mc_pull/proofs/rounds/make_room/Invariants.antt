@@ -1,10 +1,7 @@
 use Rattle.std.proofs.Common.{List, ◌≡◌, ◌-◌, ◌≤◌}
 use Rattle.mc_item.specs.declared.class_event.ClassEvent.{ClassEvent}
-use Rattle.mc_pull.specs.Growth.{Grows}
-use Rattle.mc_pull.specs.Question.{IsClassOf}
-use Rattle.mc_pull.specs.Rounds.{rounds, IsRoomRound}
+use Rattle.mc_pull.specs.{Growth.Grows, Question.IsClassOf, Rounds.rounds, Rounds.IsRoomRound, Walker.walker_of}
 use Rattle.mc_pull.proofs.RoundLemmas.{OnRounds}
-use Rattle.mc_pull.specs.Walker.{walker_of}
 use Rattle.mc_pull.proofs.rounds.make_room.Given as goal
 
 abbrev pub invariant-rounds : goal.invariant-rounds

@@ -1,16 +1,12 @@
 use Rattle.std.proofs.Common.{◌≡◌, subst, sym, ap, ◌∙◌, List, ℕ}
 use Rattle.std.specs.Prelude.{IsSomeAnd}
-use Rattle.mc_item.specs.declared.class_event.Why.{Why}
-use Rattle.mc_item.specs.declared.lists.Seg.TheVariants.{Cold}
-use Rattle.mc_rule.specs.Lists.{lists_of, segment_of}
-use Rattle.mc_rule.specs.Segment.{Rule}
+use Rattle.mc_item.specs.declared.{class_event.Why.Why, lists.Seg.TheVariants.Cold}
+use Rattle.mc_rule.specs.{Lists.lists_of, Lists.segment_of, Segment.Rule}
 use Rattle.mc_segment.specs.ClassCalls.{shifted_event, MayCome}
 use Rattle.mc_stripe.specs.StripeState.{cache_now}
 use Rattle.mc_pull.specs.declared.judge.Judge.{Judge}
 use Rattle.mc_pull.specs.declared.judge.Done.TheVariants as done
-use Rattle.mc_pull.specs.Outcome.{cold_why}
-use Rattle.mc_pull.specs.Judgement.{done_of}
-use Rattle.mc_pull.specs.Question.{question, MayJudgeBy}
+use Rattle.mc_pull.specs.{Outcome.cold_why, Judgement.done_of, Question.question, Question.MayJudgeBy}
 use Rattle.mc_pull.proofs.OutcomeLemmas.{cold_may}
 use Rattle.mc_pull.proofs.settling.settle_cold.Goals as goal
 

@@ -1,12 +1,9 @@
 use Rattle.std.proofs.Common.{subst, sym, List, ℕ}
 use Rattle.mc_item.specs.declared.lists.Seg.TheVariants.{Cold}
-use Rattle.mc_rule.specs.Lawful.{IsIn}
-use Rattle.mc_rule.specs.Lists.{lists_of, IsFull}
-use Rattle.mc_rule.specs.Segment.{IsNearTail}
+use Rattle.mc_rule.specs.{Lawful.IsIn, Lists.lists_of, Lists.IsFull, Segment.IsNearTail}
 use Rattle.mc_segment.specs.ClassState.{ClassView}
 use Rattle.mc_stripe.specs.StripeState.{cache_now}
-use Rattle.mc_pull.specs.Question.{question_of}
-use Rattle.mc_pull.specs.Settled.{passed_of}
+use Rattle.mc_pull.specs.{Question.question_of, Settled.passed_of}
 use Rattle.mc_pull.proofs.OutcomeLemmas.{taken_may}
 use Rattle.mc_pull.proofs.settling.settle_taken.Goals as goal
 

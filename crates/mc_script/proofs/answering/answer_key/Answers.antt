@@ -2,8 +2,7 @@ use Rattle.std.proofs.Common.{rules}
 use Rattle.mc_item.specs.declared.command.Command.TheVariants as commands
 use Rattle.mc_item.specs.declared.fault.Fault.TheVariants as faults
 use Rattle.mc_proto.specs.Answers.{Replied}
-use Rattle.mc_script.specs.Calls.{FailsKey}
-use Rattle.mc_script.specs.Exchanges.{Asks}
+use Rattle.mc_script.specs.{Calls.FailsKey, Exchanges.Asks}
 use Rattle.mc_script.proofs.CallLemmas.{adds_none, breaks_end, breaks_none, makes_one}
 use Rattle.mc_script.proofs.answering.answer_key.Goals as goal
 

@@ -1,7 +1,6 @@
 use Rattle.std.proofs.Common.{rules, ◌++◌, ◌∷◌, [], List, ℕ, ap, ◌∙◌, sym, append_assoc, append-nil}
 use Rattle.mc_item.specs.declared.fault.Fault.TheVariants as faults
-use Rattle.mc_proto.specs.Answers.{Replied}
-use Rattle.mc_proto.specs.Text.{end_text, value_text}
+use Rattle.mc_proto.specs.{Answers.Replied, Text.end_text, Text.value_text}
 use Rattle.mc_proto.specs.declared.request.Request.TheVariants as requests
 use Rattle.mc_script.specs.Calls.{Fails}
 use Rattle.mc_script.proofs.CallLemmas.{breaks_end}

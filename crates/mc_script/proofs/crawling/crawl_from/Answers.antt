@@ -1,7 +1,6 @@
 use Rattle.std.proofs.Common.{rules, ◌≡◌, ◌∙◌, ◌+◌, length, arith, subst, sym, ap}
 use Rattle.mc_item.specs.declared.counts.Histogram.{Histogram}
-use Rattle.mc_script.specs.Calls.{AddsUp, CrawlsAll}
-use Rattle.mc_script.specs.Script.{classes_from}
+use Rattle.mc_script.specs.{Calls.AddsUp, Calls.CrawlsAll, Script.classes_from}
 use Rattle.mc_script.proofs.HistogramLemmas.{adds_up_both, both_fit, crawled_fails, crawled_more, sums_long}
 use Rattle.mc_script.proofs.crawling.crawl_from.Goals as goal
 

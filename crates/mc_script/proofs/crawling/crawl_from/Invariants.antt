@@ -1,6 +1,5 @@
 use Rattle.std.proofs.Common.{◌≡◌, ◌≤◌, ◌*◌, length}
-use Rattle.mc_script.specs.Calls.{AddsUp, CrawlsAll}
-use Rattle.mc_script.specs.Script.{classes_from}
+use Rattle.mc_script.specs.{Calls.AddsUp, Calls.CrawlsAll, Script.classes_from}
 use Rattle.mc_script.proofs.crawling.crawl_from.Given as goal
 
 -- the classes so far were crawled, and no sum is large

@@ -1,6 +1,5 @@
 use Rattle.std.proofs.Common.{◌≡◌, ◌≤◌, ◌*◌}
-use Rattle.mc_script.specs.Calls.{JugglesAll}
-use Rattle.mc_script.specs.Script.{classes_from}
+use Rattle.mc_script.specs.{Calls.JugglesAll, Script.classes_from}
 use Rattle.mc_script.proofs.juggling.juggle_from.Given as goal
 
 -- the classes so far were juggled, and no sum is large

@@ -1,7 +1,5 @@
 use Rattle.std.proofs.Common.{◌≡◌, ◌≤◌, ◌^◌, List, ℕ}
-use Rattle.mc_script.specs.Progress.{HasAnswered, Went}
-use Rattle.mc_script.specs.Run.{NoneEnds}
-use Rattle.mc_script.specs.Script.{Answered}
+use Rattle.mc_script.specs.{Progress.HasAnswered, Progress.Went, Run.NoneEnds, Script.Answered}
 use Rattle.mc_script.proofs.scripting.answer_all.Given as goal
 
 -- the requests so far were answered, behind those before

@@ -2,8 +2,7 @@ use Rattle.std.proofs.Common.{◌<◌, List, ℕ, sym, ◌∙◌, refl, arith, s
 use Rattle.std.specs.Prelude.{All}
 use Rattle.mc_proto.specs.Grammar.{IsModerate}
 use Rattle.mc_proto.specs.declared.request.Limits.{Limits}
-use Rattle.mc_script.specs.Progress.{GoesOn, IsOnWay}
-use Rattle.mc_script.specs.Run.{AreCounted, Leaves}
+use Rattle.mc_script.specs.{Progress.GoesOn, Progress.IsOnWay, Run.AreCounted, Run.Leaves}
 use Rattle.mc_script.specs.declared.outcome.Outcome.{Outcome}
 use Rattle.mc_script.specs.declared.outcome.Outcome.TheVariants as outcomes
 use Rattle.mc_script.proofs.RunLemmas.{way_starts, way_out, way_ends, way_runs_out, way_starves, way_comes, way_goes_on, answered_at, moderate_are}

@@ -1,13 +1,7 @@
 use Rattle.std.proofs.Common.{◌∙◌, ap, refl, subst, sym}
-use Rattle.mc_item.specs.declared.command.Command.{Command}
 use Rattle.mc_stripe.specs.StripeState.{Stripe}
-use Rattle.mc_store.specs.Callers.{asked_for}
-use Rattle.mc_store.specs.Held.{Ends}
-use Rattle.mc_store.specs.Passes.{CallerView, HasAsked}
-use Rattle.mc_store.specs.Sides.{StripeSide}
-use Rattle.mc_store.proofs.CallerLemmas.{asked_called}
-use Rattle.mc_store.proofs.EndLemmas.{ends_made, ends_same}
-use Rattle.mc_store.proofs.UnderLemmas.{searched_itself, site_itself}
+use Rattle.mc_store.specs.{Callers.asked_for, Held.Ends, Passes.CallerView, Passes.HasAsked, Sides.StripeSide}
+use Rattle.mc_store.proofs.{CallerLemmas.asked_called, EndLemmas.ends_made, EndLemmas.ends_same, UnderLemmas.searched_itself, UnderLemmas.site_itself}
 use Rattle.mc_store.proofs.answering.answer_for.Goals as goal
 
 pub returns-in-Made : goal.returns-in-Made

@@ -1,22 +1,12 @@
 use Rattle.std.proofs.Common.{◌≡◌, ◌∙◌, ℕ, Err, Ok, ap, refl, sym, subst}
 use Rattle.std.specs.Prelude.{None}
-use Rattle.mc_item.specs.Command.{key_of}
-use Rattle.mc_item.specs.Measure.{stripe_of}
+use Rattle.mc_item.specs.{Command.key_of, Measure.stripe_of}
 use Rattle.mc_item.specs.declared.answer.Site.{Site}
-use Rattle.mc_item.specs.declared.command.Command.{Command}
-use Rattle.mc_stripe.specs.StripeCalls.{KeepsSite}
-use Rattle.mc_stripe.specs.StripeState.{Stripe}
-use Rattle.mc_stripe.specs.Trying.{item_of}
-use Rattle.mc_store.specs.Callers.{asked_for}
-use Rattle.mc_store.specs.Held.{Ends}
-use Rattle.mc_store.specs.Passes.{CallerView}
-use Rattle.mc_store.specs.Sides.{StripeSide}
-use Rattle.mc_store.proofs.CallerLemmas.{asked_called, command_sees}
-use Rattle.mc_store.proofs.CommandLemmas.{buried_alive, not_dead}
+use Rattle.mc_stripe.specs.{StripeCalls.KeepsSite, StripeState.Stripe, Trying.item_of}
+use Rattle.mc_store.specs.{Callers.asked_for, Held.Ends, Passes.CallerView, Sides.StripeSide}
+use Rattle.mc_store.proofs.{CallerLemmas.asked_called, CallerLemmas.command_sees, CommandLemmas.buried_alive, CommandLemmas.not_dead, HeldLemmas.made_alone}
+use Rattle.mc_store.proofs.{HeldLemmas.some_none, ShortLemmas.stripe_made, UnderLemmas.searched_itself, UnderLemmas.site_itself}
 use Rattle.mc_store.proofs.EndLemmas.{buried_now, ends_buried, ends_early, ends_err, ends_made, ends_same}
-use Rattle.mc_store.proofs.HeldLemmas.{made_alone, some_none}
-use Rattle.mc_store.proofs.ShortLemmas.{stripe_made}
-use Rattle.mc_store.proofs.UnderLemmas.{searched_itself, site_itself}
 use Rattle.mc_store.proofs.answering.answer_want.Goals as goal
 
 pub answer_with-requires-clause-begun : goal.answer_with-requires-clause-begun

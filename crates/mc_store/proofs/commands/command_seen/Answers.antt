@@ -1,15 +1,10 @@
 use Rattle.std.proofs.Common.{◌≡◌, ◌++◌, ◌∷◌, [], List, ◌∙◌, ap, subst, arith, length, ◌<◌, ◌+◌, sym}
 use Rattle.mc_item.specs.declared.call_event.CallEvent.{CallEvent}
 use Rattle.std.specs.Prelude.{IfOk, OnErr}
-use Rattle.mc_board.specs.Histories.{Grows, HasSeen, list_at}
-use Rattle.mc_board.specs.Views.{SeenView}
+use Rattle.mc_board.specs.{Histories.Grows, Histories.HasSeen, Histories.list_at, Views.SeenView}
 use Rattle.mc_board.specs.declared.rule.Sight.{Sight}
 use Rattle.mc_stripe.specs.StripeCalls.{KeepsSite}
-use Rattle.mc_store.specs.Commands.{IsCut}
-use Rattle.mc_store.specs.Calls.{IsReplied}
-use Rattle.mc_store.specs.Callers.{asked_for}
-use Rattle.mc_store.specs.Passes.{CallerView, PassView}
-use Rattle.mc_store.specs.Sides.{StripeSide, stripe_told}
+use Rattle.mc_store.specs.{Commands.IsCut, Calls.IsReplied, Callers.asked_for, Passes.CallerView, Passes.PassView, Sides.StripeSide, Sides.stripe_told}
 use Rattle.mc_store.proofs.CallLemmas.{cut_by_err, on_err_more, replied_by_ok, replied_sees, short_shared, turns_kept}
 use Rattle.mc_store.proofs.commands.command_seen.Goals as goal
 

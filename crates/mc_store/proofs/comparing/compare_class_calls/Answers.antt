@@ -1,11 +1,7 @@
 use Rattle.std.proofs.Common.{◌≡◌, length, slice_get, set, ap, ◌∙◌, subst, below_more, arith}
-use Rattle.std.proofs.lemmas.List.{set-get_or}
-use Rattle.std.proofs.lemmas.Option.{get_or_from_slice_get, slice_get_within}
+use Rattle.std.proofs.lemmas.{List.set-get_or, Option.get_or_from_slice_get, Option.slice_get_within}
 use Rattle.mc_board.specs.Histories.{HasSeen}
-use Rattle.mc_store.specs.Callers.{calls_told}
-use Rattle.mc_store.specs.Locked.{caller_place}
-use Rattle.mc_store.specs.Passes.{CallerView}
-use Rattle.mc_store.specs.Sides.{ClassSide}
+use Rattle.mc_store.specs.{Callers.calls_told, Locked.caller_place, Passes.CallerView, Sides.ClassSide}
 use Rattle.mc_store.proofs.comparing.compare_class_calls.Goals as goal
 
 pub loop-i-preserved : goal.loop-i-preserved

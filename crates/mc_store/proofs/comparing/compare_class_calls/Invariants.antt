@@ -1,8 +1,6 @@
 use Rattle.std.proofs.Common.{◌≡◌, ◌<◌, ℕ, Some, slice_get}
 use Rattle.mc_board.specs.Histories.{HasSeen}
-use Rattle.mc_store.specs.Callers.{calls_told}
-use Rattle.mc_store.specs.Locked.{caller_place}
-use Rattle.mc_store.specs.Sides.{ClassSide}
+use Rattle.mc_store.specs.{Callers.calls_told, Locked.caller_place, Sides.ClassSide}
 use Rattle.mc_store.proofs.comparing.compare_class_calls.Given as goal
 
 abbrev pub invariant-loop-i : goal.invariant-loop-i

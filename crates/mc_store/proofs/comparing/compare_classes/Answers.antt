@@ -1,9 +1,7 @@
 use Rattle.std.proofs.Common.{◌≡◌, length, slice_get, set, ap, ◌∙◌, subst, below_more, arith}
-use Rattle.std.proofs.lemmas.List.{set-get_or}
-use Rattle.std.proofs.lemmas.Option.{get_or_from_slice_get, slice_get_within}
+use Rattle.std.proofs.lemmas.{List.set-get_or, Option.get_or_from_slice_get, Option.slice_get_within}
 use Rattle.mc_board.specs.Views.{SeenView}
-use Rattle.mc_store.specs.Finals.{IsBehindAt}
-use Rattle.mc_store.specs.Sides.{ClassSide, class_told}
+use Rattle.mc_store.specs.{Finals.IsBehindAt, Sides.ClassSide, Sides.class_told}
 use Rattle.mc_store.proofs.comparing.compare_classes.Goals as goal
 
 pub loop-i-preserved : goal.loop-i-preserved

@@ -1,6 +1,5 @@
 use Rattle.std.proofs.Common.{◌≡◌, ◌<◌, ℕ, Some, slice_get}
-use Rattle.mc_store.specs.Finals.{IsBehindAt}
-use Rattle.mc_store.specs.Sides.{ClassSide, class_told}
+use Rattle.mc_store.specs.{Finals.IsBehindAt, Sides.ClassSide, Sides.class_told}
 use Rattle.mc_store.proofs.comparing.compare_classes.Given as goal
 
 abbrev pub invariant-loop-i : goal.invariant-loop-i

@@ -1,6 +1,5 @@
 use Rattle.std.proofs.Common.{◌≡◌, ◌<◌, ℕ, Some, slice_get}
-use Rattle.mc_store.specs.Finals.{IsBehindStripes}
-use Rattle.mc_store.specs.Sides.{ClassSide}
+use Rattle.mc_store.specs.{Finals.IsBehindStripes, Sides.ClassSide}
 use Rattle.mc_store.proofs.comparing.compare_from_classes.Given as goal
 
 abbrev pub invariant-loop-i : goal.invariant-loop-i

@@ -1,8 +1,6 @@
 use Rattle.std.proofs.Common.{◌≡◌, length, List, slice_get, set, ap, ◌∙◌, subst, below_more, arith}
-use Rattle.std.proofs.lemmas.List.{set-get_or}
-use Rattle.std.proofs.lemmas.Option.{get_or_from_slice_get, slice_get_within}
-use Rattle.mc_store.specs.Finals.{IsBehindClasses}
-use Rattle.mc_store.specs.Sides.{StripeSide, ClassSide}
+use Rattle.std.proofs.lemmas.{List.set-get_or, Option.get_or_from_slice_get, Option.slice_get_within}
+use Rattle.mc_store.specs.{Finals.IsBehindClasses, Sides.StripeSide, Sides.ClassSide}
 use Rattle.mc_store.proofs.comparing.compare_from_stripes.Goals as goal
 
 pub loop-i-preserved : goal.loop-i-preserved

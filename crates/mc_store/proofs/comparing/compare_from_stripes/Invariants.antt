@@ -1,6 +1,5 @@
 use Rattle.std.proofs.Common.{◌≡◌, ◌<◌, ℕ, Some, slice_get}
-use Rattle.mc_store.specs.Finals.{IsBehindClasses}
-use Rattle.mc_store.specs.Sides.{StripeSide}
+use Rattle.mc_store.specs.{Finals.IsBehindClasses, Sides.StripeSide}
 use Rattle.mc_store.proofs.comparing.compare_from_stripes.Given as goal
 
 abbrev pub invariant-loop-i : goal.invariant-loop-i

@@ -1,6 +1,5 @@
 use Rattle.std.proofs.Common.{◌≡◌, ◌<◌, ℕ, Some, slice_get}
-use Rattle.mc_store.specs.Finals.{IsBehindAt}
-use Rattle.mc_store.specs.Sides.{StripeSide, stripe_told}
+use Rattle.mc_store.specs.{Finals.IsBehindAt, Sides.StripeSide, Sides.stripe_told}
 use Rattle.mc_store.proofs.comparing.compare_stripes.Given as goal
 
 abbrev pub invariant-loop-i : goal.invariant-loop-i

@@ -1,23 +1,14 @@
 use Rattle.std.proofs.Common.{◌≡◌, ◌∙◌, ℕ, List, Err, ap, refl, sym, subst}
 use Rattle.std.specs.Prelude.{Option, Some}
 use Rattle.mc_item.specs.Command.{key_of}
-use Rattle.mc_item.specs.declared.answer.Site.{Site}
-use Rattle.mc_item.specs.declared.class_event.ClassEvent.{ClassEvent}
-use Rattle.mc_item.specs.declared.command.Command.{Command}
-use Rattle.mc_item.specs.declared.fault.Fault.TheVariants.{HistoryFull}
-use Rattle.mc_item.specs.declared.item.ClassNo.{ClassNo}
-use Rattle.mc_item.specs.declared.item.StripeNo.{StripeNo}
+use Rattle.mc_item.specs.declared.{answer.Site.Site, class_event.ClassEvent.ClassEvent, fault.Fault.TheVariants.HistoryFull, item.ClassNo.ClassNo}
+use Rattle.mc_item.specs.declared.{item.StripeNo.StripeNo}
 use Rattle.mc_segment.specs.ClassState.{ClassView}
-use Rattle.mc_stripe.specs.StripeCalls.{KeepsSite}
-use Rattle.mc_stripe.specs.StripeState.{Stripe}
-use Rattle.mc_store.specs.Earned.{HasGivenUp, IsEarnedAt}
-use Rattle.mc_store.specs.Held.{Ends, Suffice, number_in}
-use Rattle.mc_store.specs.Sides.{StripeSide}
-use Rattle.mc_store.proofs.CallerLemmas.{command_sees}
+use Rattle.mc_stripe.specs.{StripeCalls.KeepsSite, StripeState.Stripe}
+use Rattle.mc_store.specs.{Earned.HasGivenUp, Earned.IsEarnedAt, Held.Ends, Held.Suffice, Held.number_in, Sides.StripeSide}
+use Rattle.mc_store.proofs.{CallerLemmas.command_sees, NeedLemmas.suffice_behind, UnderLemmas.site_both}
 use Rattle.mc_store.proofs.EndLemmas.{ends_cut, ends_err, ends_made, searched_same, searched_walk, suffice_same}
 use Rattle.mc_store.proofs.HeldLemmas.{earned_now, made_caller, no_burial, refuse_short, some_none, wants_place}
-use Rattle.mc_store.proofs.NeedLemmas.{suffice_behind}
-use Rattle.mc_store.proofs.UnderLemmas.{site_both}
 use Rattle.mc_store.proofs.held.answer_at_home.Goals as goal
 
 pub unreachable-requires : goal.unreachable-requires

@@ -1,6 +1,5 @@
 use Rattle.std.proofs.Common.{refl}
-use Rattle.mc_store.proofs.EndLemmas.{ends_made}
-use Rattle.mc_store.proofs.UnderLemmas.{searched_itself, site_itself}
+use Rattle.mc_store.proofs.{EndLemmas.ends_made, UnderLemmas.searched_itself, UnderLemmas.site_itself}
 use Rattle.mc_store.proofs.held.answer_at_item.Goals as goal
 
 pub returns-in-Made : goal.returns-in-Made

@@ -1,17 +1,12 @@
 use Rattle.std.proofs.Common.{◌≡◌, ◌≢◌, ◌∙◌, ◌∷◌, [], ℕ, ap, inl, inr, refl, sym, subst, ⊎_elim}
 use Rattle.std.specs.Prelude.{IfOk, None, Some}
-use Rattle.mc_item.specs.Command.{key_of}
-use Rattle.mc_item.specs.Measure.{stripe_of}
+use Rattle.mc_item.specs.{Command.key_of, Measure.stripe_of}
 use Rattle.mc_item.specs.declared.item.ClassNo.{ClassNo}
 use Rattle.mc_segment.specs.ClassState.{ClassView}
-use Rattle.mc_stripe.specs.StripeState.{Stripe}
-use Rattle.mc_stripe.specs.Trying.{item_of, row_at}
+use Rattle.mc_stripe.specs.{StripeState.Stripe, Trying.item_of, Trying.row_at}
 use Rattle.mc_stripe.specs.declared.wanting.Given.{Given}
-use Rattle.mc_pull.specs.Agreeing.{AgreeNow}
-use Rattle.mc_pull.specs.Attempt.{IsNoted, OffersHome, OffersOther}
-use Rattle.mc_store.specs.Held.{number_in, number_of}
-use Rattle.mc_store.specs.Sides.{ClassSide, StripeSide}
-use Rattle.mc_store.specs.Trying.{IsTriedUnder}
+use Rattle.mc_pull.specs.{Agreeing.AgreeNow, Attempt.IsNoted, Attempt.OffersHome, Attempt.OffersOther}
+use Rattle.mc_store.specs.{Held.number_in, Held.number_of, Sides.ClassSide, Sides.StripeSide, Trying.IsTriedUnder}
 use Rattle.mc_store.proofs.HeldLemmas.{crowded_both, crowded_home, heard_of, home_fits, keeps_full, noted_of, other_fits, readied, readied_class, refused_of, same_number, short_seen, taken_earned, tried_on, wants_chunk}
 use Rattle.mc_store.proofs.PairLemmas.{grows_trans}
 use Rattle.mc_store.proofs.held.try_home.Goals as goal

@@ -3,12 +3,10 @@ use Rattle.std.specs.Prelude.{IfOk, None, Some}
 use Rattle.mc_item.specs.Command.{key_of}
 use Rattle.mc_item.specs.declared.item.ClassNo.{ClassNo}
 use Rattle.mc_segment.specs.ClassState.{ClassView}
-use Rattle.mc_stripe.specs.StripeState.{Stripe}
-use Rattle.mc_stripe.specs.Trying.{item_of, row_at}
+use Rattle.mc_stripe.specs.{StripeState.Stripe, Trying.item_of, Trying.row_at}
 use Rattle.mc_stripe.specs.declared.wanting.Given.{Given}
 use Rattle.mc_pull.specs.Attempt.{OffersOther}
-use Rattle.mc_store.specs.Sides.{ClassSide, StripeSide}
-use Rattle.mc_store.specs.Trying.{IsTriedUnder}
+use Rattle.mc_store.specs.{Sides.ClassSide, Sides.StripeSide, Trying.IsTriedUnder}
 use Rattle.mc_store.proofs.HeldLemmas.{crowded_other, none_earned, other_fits, readied, same_number, short_seen, tried_on}
 use Rattle.mc_store.proofs.PairLemmas.{grows_trans}
 use Rattle.mc_store.proofs.held.try_other.Goals as goal

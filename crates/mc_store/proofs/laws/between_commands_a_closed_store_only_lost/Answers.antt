@@ -1,8 +1,6 @@
 use Rattle.mc_evidence.specs.Setting.{site_in}
-use Rattle.mc_evidence.proofs.LossLemmas.{visible_before}
-use Rattle.mc_evidence.proofs.SoundLemmas.{loss_in}
-use Rattle.mc_store.specs.Finals.{class_histories, stripe_histories}
-use Rattle.mc_store.specs.Locked.{setting_of}
+use Rattle.mc_evidence.proofs.{LossLemmas.visible_before, SoundLemmas.loss_in}
+use Rattle.mc_store.specs.{Finals.class_histories, Finals.stripe_histories, Locked.setting_of}
 use Rattle.mc_store.proofs.laws.between_commands_a_closed_store_only_lost.Goals as goal
 
 pub returns : goal.returns

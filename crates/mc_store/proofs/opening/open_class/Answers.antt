@@ -1,12 +1,10 @@
 use Rattle.std.proofs.Common.{rules, ◌≡◌, List, [], ap, ◌∙◌, subst, sym}
 use Rattle.mc_item.specs.declared.class_event.ClassEvent.{ClassEvent}
-use Rattle.mc_evidence.specs.Locks.{ClassKeeps}
-use Rattle.mc_evidence.specs.Seen.{stripes_seen}
+use Rattle.mc_evidence.specs.{Locks.ClassKeeps, Seen.stripes_seen}
 use Rattle.mc_evidence.proofs.LockLemmas.{class_begins}
 use Rattle.mc_board.specs.Histories.{list_at}
 use Rattle.mc_segment.specs.ClassState.{ClassView}
-use Rattle.mc_store.specs.Locked.{setting_of}
-use Rattle.mc_store.specs.Sides.{ClassSide}
+use Rattle.mc_store.specs.{Locked.setting_of, Sides.ClassSide}
 use Rattle.mc_store.proofs.MadeLemmas.{called_none}
 use Rattle.mc_store.proofs.opening.open_class.Goals as goal
 

@@ -1,11 +1,9 @@
 use Rattle.std.proofs.Common.{rules, ◌≡◌, List, [], ap, ◌∙◌, subst, sym}
 use Rattle.mc_item.specs.declared.stripe_event.StripeEvent.{StripeEvent}
-use Rattle.mc_evidence.specs.Locks.{StripeKeeps}
-use Rattle.mc_evidence.specs.Seen.{classes_seen}
+use Rattle.mc_evidence.specs.{Locks.StripeKeeps, Seen.classes_seen}
 use Rattle.mc_evidence.proofs.LockLemmas.{stripe_begins}
 use Rattle.mc_board.specs.Histories.{list_at}
-use Rattle.mc_store.specs.Locked.{setting_of}
-use Rattle.mc_store.specs.Sides.{StripeSide}
+use Rattle.mc_store.specs.{Locked.setting_of, Sides.StripeSide}
 use Rattle.mc_store.proofs.opening.open_stripe.Goals as goal
 
 pub new-requires-2 : goal.new-requires-2

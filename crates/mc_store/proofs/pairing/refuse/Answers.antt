@@ -1,15 +1,10 @@
 use Rattle.std.proofs.Common.{ap, refl, sym, subst}
-use Rattle.mc_board.specs.Histories.{Grows, list_at}
-use Rattle.mc_board.specs.Views.{OwnerView}
+use Rattle.mc_board.specs.{Histories.Grows, Histories.list_at, Views.OwnerView}
 use Rattle.mc_board.proofs.PrefixLemmas.{prefix_self}
 use Rattle.mc_segment.specs.ClassState.{ClassView}
-use Rattle.mc_store.specs.Locked.{HasBegunCommand, IsLockedClass}
-use Rattle.mc_store.specs.Serving.{class_side}
-use Rattle.mc_store.specs.Sides.{ClassSide, StripeSide}
-use Rattle.mc_store.proofs.CallerLemmas.{command_sees}
-use Rattle.mc_store.proofs.MadeLemmas.{gains_refused, locked_told}
-use Rattle.mc_store.proofs.LentLemmas.{class_behind}
-use Rattle.mc_store.proofs.RefusedLemmas.{refusal_grows, refused_after}
+use Rattle.mc_store.specs.{Locked.HasBegunCommand, Locked.IsLockedClass, Serving.class_side, Sides.ClassSide, Sides.StripeSide}
+use Rattle.mc_store.proofs.{CallerLemmas.command_sees, MadeLemmas.gains_refused, MadeLemmas.locked_told, LentLemmas.class_behind, RefusedLemmas.refusal_grows}
+use Rattle.mc_store.proofs.{RefusedLemmas.refused_after}
 use Rattle.mc_store.proofs.pairing.refuse.Goals as goal
 
 pub catch_up_class-requires-clause-behind : goal.catch_up_class-requires-clause-behind

@@ -1,19 +1,11 @@
 use Rattle.std.proofs.Common.{◌≡◌, ◌++◌, ◌∷◌, [], ap, sym, ◌∙◌, subst, length, true, ℕ, ◌<◌}
 use Rattle.std.specs.Prelude.{None}
-use Rattle.mc_board.specs.Histories.{list_at}
-use Rattle.mc_board.specs.Views.{OwnerView}
+use Rattle.mc_board.specs.{Histories.list_at, Views.OwnerView}
 use Rattle.mc_item.specs.declared.answer.Site.{Site}
-use Rattle.mc_store.specs.Callers.{answered_at, calls_told}
-use Rattle.mc_store.specs.Locked.{IsLockedStripe, caller_place}
-use Rattle.mc_store.specs.Sides.{StripeSide}
+use Rattle.mc_store.specs.{Callers.answered_at, Callers.calls_told, Locked.IsLockedStripe, Locked.caller_place, Sides.StripeSide, Trying.IsTriedUnder}
 use Rattle.mc_stripe.specs.declared.wanting.Given.{Given}
-use Rattle.mc_store.specs.Trying.{IsTriedUnder}
 use Rattle.std.specs.Prelude.{IfOk}
-use Rattle.mc_store.proofs.CallerLemmas.{called_performed}
-use Rattle.mc_store.proofs.LentLemmas.{own_behind}
-use Rattle.mc_store.proofs.PairLemmas.{stripe_sees}
-use Rattle.mc_store.proofs.SaidLemmas.{stripe_side}
-use Rattle.mc_store.proofs.StepLemmas.{alone_end}
+use Rattle.mc_store.proofs.{CallerLemmas.called_performed, LentLemmas.own_behind, PairLemmas.stripe_sees, SaidLemmas.stripe_side, StepLemmas.alone_end}
 use Rattle.mc_store.proofs.TryingLemmas.{call_at, performed_at, refused_at, result_of, seen_at, under_tried, untouched_at, when}
 use Rattle.mc_store.proofs.trying.try_alone.Goals as goal
 

@@ -4,20 +4,12 @@ use Rattle.mc_board.specs.Histories.{list_at}
 use Rattle.mc_item.specs.declared.answer.Site.{Site}
 use Rattle.mc_pull.specs.Attempt.{IsOffered}
 use Rattle.mc_stripe.specs.StripeState.{Stripe}
-use Rattle.mc_store.specs.Passes.{CallerView, HasCalled}
-use Rattle.mc_store.specs.Performing.{IsRefusedIn}
-use Rattle.mc_store.specs.Trying.{IsTriedUnder}
+use Rattle.mc_store.specs.{Passes.CallerView, Passes.HasCalled, Performing.IsRefusedIn, Trying.IsTriedUnder, Callers.answered_at, Callers.asked_for}
+use Rattle.mc_store.specs.{Callers.calls_told, Locked.IsLockedClass, Locked.IsLockedStripe, Locked.caller_place, Made.GainsOwn, Serving.class_side}
+use Rattle.mc_store.specs.{Sides.ClassSide, Sides.StripeSide}
 use Rattle.mc_segment.specs.ClassState.{ClassView}
-use Rattle.mc_store.specs.Callers.{answered_at, asked_for, calls_told}
-use Rattle.mc_store.specs.Locked.{IsLockedClass, IsLockedStripe, caller_place}
-use Rattle.mc_store.specs.Made.{GainsOwn}
-use Rattle.mc_store.specs.Serving.{class_side}
-use Rattle.mc_store.specs.Sides.{ClassSide, StripeSide}
-use Rattle.mc_store.proofs.MadeLemmas.{gains_performed, locked_told, noted_called}
-use Rattle.mc_store.proofs.CallerLemmas.{called_performed}
-use Rattle.mc_store.proofs.LentLemmas.{class_behind, lent_grow, own_behind}
-use Rattle.mc_store.proofs.PairLemmas.{grows_trans, seen_on}
-use Rattle.mc_store.proofs.SaidLemmas.{stripe_side}
+use Rattle.mc_store.proofs.{MadeLemmas.gains_performed, MadeLemmas.locked_told, MadeLemmas.noted_called, CallerLemmas.called_performed, LentLemmas.class_behind}
+use Rattle.mc_store.proofs.{LentLemmas.lent_grow, LentLemmas.own_behind, PairLemmas.grows_trans, PairLemmas.seen_on, SaidLemmas.stripe_side}
 use Rattle.mc_store.proofs.TwoLemmas.{two_full, two_high, two_low, two_stripe}
 use Rattle.mc_store.proofs.TryingLemmas.{call_at, kept_at, performed_at, refusal_at, refused_at, result_of, seen_at, stay_of, under_tried, unless, untouched_at, when}
 use Rattle.mc_store.proofs.trying.try_on_two.Goals as goal

@@ -1,30 +1,17 @@
 use Rattle.std.proofs.Common.{◌≡◌, ◌++◌, ◌∷◌, [], List, Some, ap, sym, subst, ◌∙◌}
-use Rattle.mc_item.specs.declared.fault.Fault.TheVariants.{HistoryFull}
-use Rattle.mc_item.specs.declared.stripe_event.Cause.TheVariants.{Expired}
-use Rattle.mc_item.specs.declared.stripe_event.StripeEvent.{StripeEvent}
+use Rattle.mc_item.specs.declared.{fault.Fault.TheVariants.HistoryFull, stripe_event.Cause.TheVariants.Expired, stripe_event.StripeEvent.StripeEvent}
 use Rattle.mc_segment.specs.ClassState.{ClassView}
-use Rattle.mc_stripe.specs.Plan.{dead_link}
-use Rattle.mc_stripe.specs.StripeState.{Stripe, cache_now}
-use Rattle.mc_pull.specs.Agreeing.{AgreeNow}
-use Rattle.mc_pull.specs.Question.{question}
-use Rattle.mc_pull.specs.Refusal.{MayFail}
-use Rattle.mc_pull.specs.Settled.{lost_event, stripe_events}
-use Rattle.mc_pull.specs.declared.judge.Done.{Done}
-use Rattle.mc_pull.specs.declared.judge.Judge.TheVariants.{Dead}
+use Rattle.mc_stripe.specs.{Plan.dead_link, StripeState.Stripe, StripeState.cache_now}
+use Rattle.mc_pull.specs.{Agreeing.AgreeNow, Question.question, Refusal.MayFail, Settled.lost_event, Settled.stripe_events}
+use Rattle.mc_pull.specs.declared.{judge.Done.Done, judge.Judge.TheVariants.Dead}
 use Rattle.mc_pull.proofs.LoneLemmas.{settle_walked}
-use Rattle.mc_store.proofs.DeadLemmas.{dead_listed, dead_reclaimed, told_dead}
-use Rattle.mc_store.proofs.ShortLemmas.{err_is}
-use Rattle.mc_store.specs.Sides.{ClassSide, StripeSide}
+use Rattle.mc_store.proofs.{DeadLemmas.dead_listed, DeadLemmas.dead_reclaimed, DeadLemmas.told_dead, ShortLemmas.err_is, MadeLemmas.gains_settled}
+use Rattle.mc_store.proofs.{MadeLemmas.locked_told, CallerLemmas.begun_sees, CallerLemmas.command_any, CallerLemmas.command_sees, PairLemmas.grows_trans}
+use Rattle.mc_store.specs.{Sides.ClassSide, Sides.StripeSide, Locked.HasBegun, Locked.HasBegunCommand, Locked.IsLockedClass, Made.GainsOwn, Serving.class_side}
 use Rattle.mc_store.specs.declared.locked.LockedStripe.TheInside as stripes
 use Rattle.mc_store.specs.declared.locked.LockedClass.TheInside as classes
 use Rattle.mc_store.proofs.ServedLemmas.{class_paired, class_told_more, settled_grows, settled_told, short_paired, stripe_paired}
 use Rattle.mc_store.proofs.walking.bury_under.Goals as goal
-use Rattle.mc_store.specs.Locked.{HasBegun, HasBegunCommand, IsLockedClass}
-use Rattle.mc_store.specs.Made.{GainsOwn}
-use Rattle.mc_store.specs.Serving.{class_side}
-use Rattle.mc_store.proofs.MadeLemmas.{gains_settled, locked_told}
-use Rattle.mc_store.proofs.CallerLemmas.{begun_sees, command_any, command_sees}
-use Rattle.mc_store.proofs.PairLemmas.{grows_trans}
 use Rattle.mc_board.specs.Histories.{Grows}
 
 pub settle-done-requires-clause-judge : goal.settle-done-requires-clause-judge

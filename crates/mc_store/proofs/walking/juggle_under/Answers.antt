@@ -1,18 +1,11 @@
 use Rattle.std.proofs.Common.{◌≡◌, List, ap, ◌∙◌, subst, sym}
-use Rattle.mc_item.specs.declared.config.Config.{Config}
-use Rattle.mc_item.specs.declared.counts.Moves.{Moves}
+use Rattle.mc_item.specs.declared.{config.Config.Config, counts.Moves.Moves}
 use Rattle.mc_board.specs.Views.{OwnerView}
 use Rattle.mc_segment.specs.ClassState.{ClassView}
-use Rattle.mc_pull.specs.Juggle.{IsJuggle}
-use Rattle.mc_pull.specs.Rounds.{rounds}
+use Rattle.mc_pull.specs.{Juggle.IsJuggle, Rounds.rounds}
 use Rattle.mc_pull.specs.declared.looking.Answer.{Answer}
-use Rattle.mc_store.specs.Callers.{juggling_of}
-use Rattle.mc_store.specs.Locked.{HasBegunAs, IsLockedClass}
-use Rattle.mc_store.specs.Serving.{class_side}
-use Rattle.mc_store.specs.Sides.{ClassSide}
-use Rattle.mc_store.proofs.CallerLemmas.{begun_as_sees}
-use Rattle.mc_store.proofs.GateLemmas.{ok_more}
-use Rattle.mc_store.proofs.MadeLemmas.{locked_gains, of_juggling}
+use Rattle.mc_store.specs.{Callers.juggling_of, Locked.HasBegunAs, Locked.IsLockedClass, Serving.class_side, Sides.ClassSide}
+use Rattle.mc_store.proofs.{CallerLemmas.begun_as_sees, GateLemmas.ok_more, MadeLemmas.locked_gains, MadeLemmas.of_juggling}
 use Rattle.mc_store.proofs.walking.juggle_under.Goals as goal
 
 pub returns-clause-juggle : goal.returns-clause-juggle

@@ -2,24 +2,16 @@ use Rattle.std.proofs.Common.{Bool, false, ◌≡◌, List, ap, ◌∙◌, inr, 
 use Rattle.mc_segment.specs.ClassState.{ClassView}
 use Rattle.mc_stripe.specs.StripeState.{Stripe}
 use Rattle.mc_board.proofs.SeenLemmas.{list_at_same}
-use Rattle.mc_board.specs.Histories.{list_at}
-use Rattle.mc_board.specs.Views.{OwnerView, SeenView}
+use Rattle.mc_board.specs.{Histories.list_at, Views.OwnerView, Views.SeenView}
 use Rattle.mc_board.specs.declared.rule.Sight.{Sight}
-use Rattle.mc_pull.specs.Lone.{StripeGrows}
-use Rattle.mc_pull.specs.Rounds.{IsRoom, rounds}
-use Rattle.mc_pull.specs.Walker.{walker_of}
+use Rattle.mc_pull.specs.{Lone.StripeGrows, Rounds.IsRoom, Rounds.rounds, Walker.walker_of}
 use Rattle.mc_pull.specs.declared.looking.Answer.{Answer}
-use Rattle.mc_store.specs.Earned.{IsSearchInVain}
+use Rattle.mc_store.specs.{Earned.IsSearchInVain, Locked.HasBegunCommand, Locked.IsLockedClass, Serving.class_side}
 use Rattle.mc_store.specs.Sides.{ClassSide, StripeSide, class_told}
 use Rattle.mc_store.specs.declared.locked.LockedStripe.TheInside.{Inside}
-use Rattle.mc_store.proofs.GateLemmas.{ok_more, room_full}
-use Rattle.mc_store.proofs.PairLemmas.{grows_trans}
-use Rattle.mc_store.proofs.ServedLemmas.{stripe_heard}
+use Rattle.mc_store.proofs.{GateLemmas.ok_more, GateLemmas.room_full, PairLemmas.grows_trans, ServedLemmas.stripe_heard, MadeLemmas.locked_commanded}
+use Rattle.mc_store.proofs.{CallerLemmas.command_any, CallerLemmas.command_sees}
 use Rattle.mc_store.proofs.walking.make_room_under.Goals as goal
-use Rattle.mc_store.specs.Locked.{HasBegunCommand, IsLockedClass}
-use Rattle.mc_store.specs.Serving.{class_side}
-use Rattle.mc_store.proofs.MadeLemmas.{locked_commanded}
-use Rattle.mc_store.proofs.CallerLemmas.{command_any, command_sees}
 
 pub invariant_of-own : goal.invariant_of-own
 invariant_of-own g c =

@@ -1,10 +1,7 @@
 use Rattle.std.proofs.Common.{◌≡◌, subst}
 use Rattle.std.specs.Prelude.{IfErr, IfOk, nat_eq}
-use Rattle.std.specs.Cmp.Lexicographic.{pointwise}
-use Rattle.std.specs.HashMap.{get}
-use Rattle.mc_item.specs.Answer.{store_row, version_of}
-use Rattle.mc_item.specs.Item.{expiry_of}
-use Rattle.mc_item.specs.Measure.{class_of, cost_of}
+use Rattle.std.specs.{Cmp.Lexicographic.pointwise, HashMap.get}
+use Rattle.mc_item.specs.{Answer.store_row, Answer.version_of, Item.expiry_of, Measure.class_of, Measure.cost_of}
 use Rattle.mc_item.specs.declared.item.Expiry.{Expiry}
 use Rattle.mc_stripe.specs.Trying.{IsLeft}
 use Rattle.mc_stripe.proofs.attempting.make.Goals as goal

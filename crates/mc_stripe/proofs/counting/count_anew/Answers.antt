@@ -1,15 +1,10 @@
 use Rattle.std.proofs.Common.{◌≡◌, ◌∙◌, ap, subst}
 use Rattle.std.specs.Prelude.{Some, IfSome}
 use Rattle.std.specs.Option.{option_map}
-use Rattle.mc_item.specs.Answer.{stepped}
-use Rattle.mc_item.specs.Measure.{numeral_of}
-use Rattle.mc_item.specs.declared.answer.Answer.{Answer}
-use Rattle.mc_item.specs.declared.answer.Need.{Need}
+use Rattle.mc_item.specs.{Answer.stepped, Measure.numeral_of}
+use Rattle.mc_item.specs.declared.{answer.Answer.Answer, answer.Need.Need, item.ClassNo.ClassNo}
 use Rattle.mc_item.specs.declared.answer.Need.TheVariants as needs
-use Rattle.mc_item.specs.declared.item.ClassNo.{ClassNo}
-use Rattle.mc_stripe.specs.Counting.{step_row}
-use Rattle.mc_stripe.specs.Plan.{fate_of}
-use Rattle.mc_stripe.specs.Wanting.{IsTaken, LacksPlace}
+use Rattle.mc_stripe.specs.{Counting.step_row, Plan.fate_of, Wanting.IsTaken, Wanting.LacksPlace}
 use Rattle.mc_stripe.specs.declared.fate.Fate.{Fate}
 use Rattle.mc_stripe.proofs.CountLemmas.{number_covers}
 use Rattle.mc_stripe.proofs.counting.count_anew.Goals as goal

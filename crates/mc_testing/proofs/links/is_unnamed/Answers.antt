@@ -1,8 +1,7 @@
 use Rattle.std.proofs.Common.{◌≡◌, ◌≢◌, Some, ℕ, zero, suc, ◌<◌, ◌≤◌, List, [], ◌∷◌, length, refl, arith}
 use Rattle.std.specs.List.{slice_get}
 use Rattle.mc_item.specs.Stripe.{IsUnnamed, link_named}
-use Rattle.mc_item.specs.declared.item.Link.{Link}
-use Rattle.mc_item.specs.declared.stripe_event.StripeEvent.{StripeEvent}
+use Rattle.mc_item.specs.declared.{item.Link.Link, stripe_event.StripeEvent.StripeEvent}
 use Rattle.mc_testing.proofs.links.is_unnamed.Goals as goal
 
 none_gives : (link : Link) (es : List StripeEvent) (n : ℕ) → length es ≤ n → ((i : ℕ) (e : StripeEvent) → i < n → slice_get es i ≡ Some e → link_named e ≢ Some link) → IsUnnamed link es

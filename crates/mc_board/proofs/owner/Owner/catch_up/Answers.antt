@@ -1,8 +1,7 @@
 use Rattle.std.proofs.Common.{◌<◌, ◌∷◌, ◌++◌, [], ℕ, length, map, get_or, ap, sym, subst, ◌∙◌, arith, length-append}
 use Rattle.std.proofs.lemmas.List.{length-map}
 use mathlib.Core.List.{IsPrefix}
-use Rattle.mc_board.specs.Views.{OwnerView}
-use Rattle.mc_board.specs.Steps.{some_event}
+use Rattle.mc_board.specs.{Views.OwnerView, Steps.some_event}
 use Rattle.mc_board.proofs.PrefixLemmas.{prefix_next}
 use Rattle.mc_board.proofs.owner.Owner.catch_up.Goals as goal
 

@@ -1,8 +1,6 @@
 use Rattle.std.proofs.Common.{◌≡◌, ◌∙◌, sym, ap, subst, rules}
 use Rattle.mc_board.specs.Histories.{with_seen, Grows, HasSeen}
-use Rattle.mc_board.proofs.RuleLemmas.{words_some}
-use Rattle.mc_board.proofs.SeenLemmas.{Grows-with_seen}
-use Rattle.mc_board.proofs.ShareKeeps.{tells_as}
+use Rattle.mc_board.proofs.{RuleLemmas.words_some, SeenLemmas.Grows-with_seen, ShareKeeps.tells_as}
 use Rattle.mc_board.proofs.owner.Owner.tell.Goals as goal
 
 pub split_seat-requires : goal.split_seat-requires

@@ -1,6 +1,5 @@
 use Rattle.std.proofs.Common.{◌∙◌, sym, ap}
-use Rattle.mc_board.proofs.RuleLemmas.{words_some}
-use Rattle.mc_board.proofs.ShareKeeps.{copies_as}
+use Rattle.mc_board.proofs.{RuleLemmas.words_some, ShareKeeps.copies_as}
 use Rattle.mc_board.proofs.seen.Seen.copy.Goals as goal
 
 pub split_seat-requires : goal.split_seat-requires

@@ -1,7 +1,6 @@
 use Rattle.std.proofs.Common.{ap, subst}
 use Rattle.mc_board.specs.declared.rule.Sight.{Sight}
-use Rattle.mc_board.specs.Histories.{AreInLine}
-use Rattle.mc_board.specs.Steps.{known_of}
+use Rattle.mc_board.specs.{Histories.AreInLine, Steps.known_of}
 use Rattle.mc_board.proofs.seen.Seen.meet.Goals as goal
 
 pub returns-clause-in_line : goal.returns-clause-in_line

@@ -1,6 +1,5 @@
 use Rattle.mc_store.specs.Passes.{next_who}
-use Rattle.mc_driver.proofs.CallLemmas.{crawled_kinds, crawled_ok, crawling_failed}
-use Rattle.mc_driver.proofs.MadeLemmas.{crawled_may}
+use Rattle.mc_driver.proofs.{CallLemmas.crawled_kinds, CallLemmas.crawled_ok, CallLemmas.crawling_failed, MadeLemmas.crawled_may}
 use Rattle.mc_driver.proofs.caller.CallerCalls.crawl.Goals as goal
 
 pub returns-clause-ok : goal.returns-clause-ok

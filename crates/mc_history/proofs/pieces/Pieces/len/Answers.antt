@@ -1,7 +1,6 @@
 use Rattle.std.proofs.Common.{length-append, arith}
 use Rattle.std.specs.Prelude.{Vec}
-use Rattle.std.specs.List.{flat_map}
-use Rattle.std.specs.declared.alloc.Global.{Global}
+use Rattle.std.specs.{List.flat_map, declared.alloc.Global.Global}
 use Rattle.mc_history.proofs.PieceLemmas.{length_of_full}
 use Rattle.mc_history.proofs.pieces.Pieces.len.Goals as goal
 

@@ -1,7 +1,6 @@
 use Rattle.std.proofs.Common.{◌≡◌, ◌+◌, ◌∷◌, ◌++◌, [], ap, length, length-append, arith}
 use Rattle.std.specs.Prelude.{Vec, vec_capacity}
-use Rattle.std.specs.List.{flat_map}
-use Rattle.std.specs.declared.alloc.Global.{Global}
+use Rattle.std.specs.{List.flat_map, declared.alloc.Global.Global}
 use Rattle.std.proofs.lemmas.List.Elements.{All-same, All-push}
 use Rattle.mc_history.specs.Pieces.{IsFull, IsAhead, IsSound}
 use Rattle.mc_history.proofs.PieceLemmas.{length_of_full, one_more_fits}

@@ -1,6 +1,5 @@
 use Rattle.std.proofs.Common.{◌≡◌, ◌≤◌, ◌++◌, length, take, drop}
-use Rattle.std.specs.List.{flat_map}
-use Rattle.std.specs.VecDeque.{deque_len}
+use Rattle.std.specs.{List.flat_map, VecDeque.deque_len}
 use Rattle.mc_proto.specs.Uncut.{passing}
 use Rattle.mc_proto.proofs.uncut.Uncut.pass.Given as goal
 

@@ -1,5 +1,4 @@
-use Rattle.mc_pull.specs.Question.{question_of}
-use Rattle.mc_pull.specs.Walker.{walker_of}
+use Rattle.mc_pull.specs.{Question.question_of, Walker.walker_of}
 use Rattle.mc_pull.proofs.LoneLemmas.{settle_walked, walked_both}
 use Rattle.mc_pull.proofs.lone.LoneGate.visit.Goals as goal
 

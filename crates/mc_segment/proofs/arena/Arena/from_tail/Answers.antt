@@ -2,11 +2,9 @@ use Rattle.std.proofs.Common.{◌≡◌, ◌-◌, ap, ◌∙◌, sym, None, leng
 use Rattle.std.specs.List.{slice_get}
 use Rattle.mc_rule.specs.Lists.{list_of}
 use Rattle.mc_segment.specs.declared.ends.Ends.{Ends}
-use Rattle.mc_segment.specs.Nodes.{before}
-use Rattle.mc_segment.specs.Arena.{part, code}
+use Rattle.mc_segment.specs.{Nodes.before, Arena.part, Arena.code}
 use Rattle.mc_segment.proofs.TailLemmas.{before_last, not_yet, missing, next_is, entry_is, node_here}
-use Rattle.mc_segment.proofs.PartLemmas.{mine}
-use Rattle.mc_segment.proofs.ArenaLemmas.{seen}
+use Rattle.mc_segment.proofs.{PartLemmas.mine, ArenaLemmas.seen}
 use Rattle.mc_segment.proofs.arena.Arena.from_tail.Goals as goal
 
 pub loop-init : goal.loop-init

@@ -1,7 +1,6 @@
 use Rattle.std.proofs.Common.{ap, ◌∙◌, arith, refl}
 use Rattle.mc_rule.specs.Lists.{count_of, found}
-use Rattle.mc_segment.specs.Arena.{Held, IsArena, all_bytes}
-use Rattle.mc_segment.specs.Slots.{slot}
+use Rattle.mc_segment.specs.{Arena.Held, Arena.IsArena, Arena.all_bytes, Slots.slot}
 use Rattle.mc_segment.proofs.ArenaLemmas.{seen, closed, whole, below, same_slots, grown}
 use Rattle.mc_segment.proofs.arena.Arena.grow.Goals as goal
 

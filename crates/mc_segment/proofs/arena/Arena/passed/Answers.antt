@@ -1,14 +1,11 @@
 use Rattle.std.proofs.Common.{◌≡◌, ◌<◌, ◌≤◌, ◌-◌, ◌++◌, ◌∷◌, [], ℕ, List, ap, ◌∙◌, sym, refl, None, length, take, reverse, arith}
 use Rattle.std.specs.Option.{option_copied}
 use Rattle.std.proofs.lemmas.List.{take_more_set, length-set}
-use Rattle.mc_rule.specs.Lists.{list_of}
-use Rattle.mc_rule.specs.Segment.{numbers_of}
+use Rattle.mc_rule.specs.{Lists.list_of, Segment.numbers_of}
 use Rattle.mc_segment.specs.declared.ends.Ends.{Ends}
-use Rattle.mc_segment.specs.Nodes.{before}
-use Rattle.mc_segment.specs.Arena.{part, code}
+use Rattle.mc_segment.specs.{Nodes.before, Arena.part, Arena.code}
 use Rattle.mc_segment.proofs.TailLemmas.{before_last, not_yet, missing, next_is, here, node_here, some_same, tail_number}
-use Rattle.mc_segment.proofs.PartLemmas.{mine}
-use Rattle.mc_segment.proofs.ArenaLemmas.{seen}
+use Rattle.mc_segment.proofs.{PartLemmas.mine, ArenaLemmas.seen}
 use Rattle.mc_segment.proofs.arena.Arena.passed.Goals as goal
 
 pub loop-i-init : goal.loop-i-init

@@ -1,6 +1,5 @@
 use Rattle.std.proofs.Common.{◌≡◌, ◌-◌, length, take, reverse, None}
-use Rattle.mc_rule.specs.Lists.{list_of}
-use Rattle.mc_rule.specs.Segment.{numbers_of}
+use Rattle.mc_rule.specs.{Lists.list_of, Segment.numbers_of}
 use Rattle.mc_segment.specs.Nodes.{before}
 use Rattle.mc_segment.proofs.arena.Arena.passed.Given as goal
 

@@ -1,14 +1,9 @@
 use Rattle.std.proofs.Common.{◌≡◌, ◌==◌, None, Some, Option, ap, ◌∙◌, sym, subst, arith}
 use Rattle.std.specs.Prelude.{if◌then◌else◌}
 use Rattle.mc_rule.specs.Lists.{count_of, linked}
-use Rattle.mc_segment.specs.declared.arena.Place.{Place}
-use Rattle.mc_segment.specs.declared.ends.Ends.{Ends}
-use Rattle.mc_segment.specs.declared.ends.Heads.{Heads}
-use Rattle.mc_segment.specs.Nodes.{node}
-use Rattle.mc_segment.specs.Slots.{slot, place_newer}
-use Rattle.mc_segment.specs.Arena.{Held, IsArena, ends_of, with_ends, pushed_ends}
-use Rattle.mc_segment.proofs.PartLemmas.{linked_count}
-use Rattle.mc_segment.proofs.ArenaLemmas.{seen, closed, whole, put_arena}
+use Rattle.mc_segment.specs.declared.{arena.Place.Place, ends.Ends.Ends, ends.Heads.Heads}
+use Rattle.mc_segment.specs.{Nodes.node, Slots.slot, Slots.place_newer, Arena.Held, Arena.IsArena, Arena.ends_of, Arena.with_ends, Arena.pushed_ends}
+use Rattle.mc_segment.proofs.{PartLemmas.linked_count, ArenaLemmas.seen, ArenaLemmas.closed, ArenaLemmas.whole, ArenaLemmas.put_arena}
 use Rattle.mc_segment.proofs.arena.Arena.put.Goals as goal
 
 put_is : (c : goal.After-set) → IsArena (slot c.fill.new.slots) c.self.inside.next c.set.new.self (linked c.args.seg c.args.entry c.args.self.now.lists)

@@ -1,6 +1,5 @@
 use Rattle.std.proofs.Common.{ap}
-use Rattle.mc_segment.specs.Arena.{Held}
-use Rattle.mc_segment.specs.Slots.{slot}
+use Rattle.mc_segment.specs.{Arena.Held, Slots.slot}
 use Rattle.mc_segment.proofs.ArenaLemmas.{seen, closed, whole, same_slots}
 use Rattle.mc_segment.proofs.arena.Arena.reserve.Goals as goal
 

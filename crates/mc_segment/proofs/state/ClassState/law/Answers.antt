@@ -1,7 +1,6 @@
 use Rattle.std.proofs.Common.{◌≤◌, subst}
 use Rattle.mc_rule.specs.Lists.{Lists, lists_of, times_in}
-use Rattle.mc_segment.proofs.StateLemmas.{seen_lists}
-use Rattle.mc_segment.proofs.FoundLemmas.{is_inside, segment_is}
+use Rattle.mc_segment.proofs.{StateLemmas.seen_lists, FoundLemmas.is_inside, FoundLemmas.segment_is}
 use Rattle.mc_segment.proofs.state.ClassState.law.Goals as goal
 
 pub returns-clause-inside : goal.returns-clause-inside

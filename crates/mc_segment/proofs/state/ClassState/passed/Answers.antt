@@ -1,9 +1,7 @@
 use Rattle.std.proofs.Common.{◌≡◌, List, ℕ, sym, subst}
 use Rattle.std.specs.Prelude.{IfSome}
-use Rattle.mc_rule.specs.Lists.{Lists, list_of, from_tail}
-use Rattle.mc_rule.specs.Segment.{numbers_behind}
-use Rattle.mc_segment.proofs.StateLemmas.{seen_lists}
-use Rattle.mc_segment.proofs.TailLemmas.{behind_read, from_head, past_tail, once_in}
+use Rattle.mc_rule.specs.{Lists.Lists, Lists.list_of, Lists.from_tail, Segment.numbers_behind}
+use Rattle.mc_segment.proofs.{StateLemmas.seen_lists, TailLemmas.behind_read, TailLemmas.from_head, TailLemmas.past_tail, TailLemmas.once_in}
 use Rattle.mc_segment.proofs.state.ClassState.passed.Goals as goal
 
 pub returns-clause-behind : goal.returns-clause-behind

@@ -1,8 +1,7 @@
 use Rattle.std.proofs.Common.{◌++◌, ◌∷◌, [], List, ap, ◌∙◌}
 use Rattle.mc_item.specs.declared.call_event.CallEvent.{CallEvent}
 use Rattle.mc_board.specs.Views.{OwnerView}
-use Rattle.mc_store.specs.Callers.{call_events}
-use Rattle.mc_store.specs.Passes.{CallerView}
+use Rattle.mc_store.specs.{Callers.call_events, Passes.CallerView}
 use Rattle.mc_store.proofs.CallerLemmas.{calls_more, only_calls}
 use Rattle.mc_store.proofs.caller.Caller.begin.Goals as goal
 

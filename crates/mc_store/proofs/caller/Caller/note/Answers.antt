@@ -1,11 +1,7 @@
 use Rattle.std.proofs.Common.{◌≡◌, ◌++◌, ◌∷◌, [], List, ap, sym, ◌∙◌}
-use Rattle.mc_item.specs.declared.call_event.CallEvent.{CallEvent}
-use Rattle.mc_item.specs.declared.event.Event.TheVariants.{Call}
-use Rattle.mc_board.specs.Histories.{with_seen}
-use Rattle.mc_board.specs.Views.{OwnerView}
-use Rattle.mc_store.specs.Callers.{answered_at, call_events, calls_told}
-use Rattle.mc_store.specs.Locked.{caller_place}
-use Rattle.mc_store.specs.Passes.{CallerView}
+use Rattle.mc_item.specs.declared.{call_event.CallEvent.CallEvent, event.Event.TheVariants.Call}
+use Rattle.mc_board.specs.{Histories.with_seen, Views.OwnerView}
+use Rattle.mc_store.specs.{Callers.answered_at, Callers.call_events, Callers.calls_told, Locked.caller_place, Passes.CallerView}
 use Rattle.mc_store.proofs.CallerLemmas.{called_more, called_told, only_called}
 use Rattle.mc_store.proofs.caller.Caller.note.Goals as goal
 

@@ -1,7 +1,5 @@
 use Rattle.std.proofs.Common.{subst, sym}
-use Rattle.mc_store.specs.Callers.{call_events}
-use Rattle.mc_store.specs.Locked.{caller_place}
-use Rattle.mc_store.specs.Passes.{CallerView, HasCalled}
+use Rattle.mc_store.specs.{Callers.call_events, Locked.caller_place, Passes.CallerView, Passes.HasCalled}
 use Rattle.mc_store.proofs.CallerLemmas.{called_told, told_begun}
 use Rattle.mc_store.proofs.caller.Caller.tell.Goals as goal
 

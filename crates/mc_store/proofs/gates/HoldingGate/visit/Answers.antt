@@ -1,19 +1,12 @@
 use Rattle.std.proofs.Common.{◌≡◌, ◌∷◌, ◌++◌, [], List, ◌∙◌, ap, refl, subst, sym}
 use Rattle.mc_item.specs.declared.config.Config.{Config}
-use Rattle.mc_board.specs.Histories.{Grows}
-use Rattle.mc_board.specs.Views.{SeenView}
-use Rattle.mc_store.specs.Locked.{HasBegun}
-use Rattle.mc_store.proofs.CallerLemmas.{asked_here, begun_sees}
+use Rattle.mc_board.specs.{Histories.Grows, Views.SeenView}
+use Rattle.mc_store.specs.{Locked.HasBegun, Looked.IsOfCall, Sides.StripeSide}
+use Rattle.mc_store.proofs.{CallerLemmas.asked_here, CallerLemmas.begun_sees, GateLemmas.grew_on}
 use Rattle.mc_stripe.specs.StripeState.{Stripe}
-use Rattle.mc_pull.specs.Lone.{StripeGrows}
-use Rattle.mc_pull.specs.Looks.{answer}
-use Rattle.mc_pull.specs.Question.{HasKeyOf, question_of}
-use Rattle.mc_pull.specs.Walker.{walker_of}
+use Rattle.mc_pull.specs.{Lone.StripeGrows, Looks.answer, Question.HasKeyOf, Question.question_of, Walker.walker_of}
 use Rattle.mc_pull.specs.declared.looking.Answer.{Answer}
 use Rattle.mc_segment.specs.ClassState.{ClassView}
-use Rattle.mc_store.specs.Looked.{IsOfCall}
-use Rattle.mc_store.specs.Sides.{StripeSide}
-use Rattle.mc_store.proofs.GateLemmas.{grew_on}
 use Rattle.mc_store.proofs.LookedLemmas.{known_at, looked_away, looked_both, looked_here, same_after}
 use Rattle.mc_store.proofs.MadeLemmas.{gains_judged, gains_none, walks_none, walks_on}
 use Rattle.mc_store.proofs.gates.HoldingGate.visit.Goals as goal

@@ -1,18 +1,12 @@
 use Rattle.std.proofs.Common.{◌≡◌, ◌∙◌, ◌++◌, ◌∷◌, [], ℕ, List, None, ap, refl, subst, sym}
 use Rattle.std.proofs.lemmas.List.{append-nil}
-use Rattle.mc_item.specs.declared.class_event.ClassEvent.{ClassEvent}
-use Rattle.mc_item.specs.declared.config.Config.{Config}
-use Rattle.mc_item.specs.declared.item.StripeNo.{StripeNo}
-use Rattle.mc_pull.specs.Looks.{IsJudgedIf, answer}
+use Rattle.mc_item.specs.declared.{class_event.ClassEvent.ClassEvent, config.Config.Config, item.StripeNo.StripeNo}
+use Rattle.mc_pull.specs.{Looks.IsJudgedIf, Looks.answer, Question.question_of}
 use Rattle.mc_pull.specs.declared.looking.Answer.{Answer}
-use Rattle.mc_pull.specs.Question.{question_of}
-use Rattle.mc_board.specs.Histories.{Grows}
-use Rattle.mc_board.specs.Views.{SeenView}
+use Rattle.mc_board.specs.{Histories.Grows, Views.SeenView}
 use Rattle.mc_segment.specs.ClassState.{ClassView}
-use Rattle.mc_store.specs.Locked.{HasBegun}
-use Rattle.mc_store.specs.Sides.{StripeSide}
-use Rattle.mc_store.proofs.CallerLemmas.{asked_here, begun_sees}
-use Rattle.mc_store.proofs.MadeLemmas.{gains_judged, gains_none, walks_on}
+use Rattle.mc_store.specs.{Locked.HasBegun, Sides.StripeSide}
+use Rattle.mc_store.proofs.{CallerLemmas.asked_here, CallerLemmas.begun_sees, MadeLemmas.gains_judged, MadeLemmas.gains_none, MadeLemmas.walks_on}
 use Rattle.mc_store.proofs.gates.TryingGate.visit.Goals as goal
 
 pub judge-requires-clause-begun : goal.judge-requires-clause-begun

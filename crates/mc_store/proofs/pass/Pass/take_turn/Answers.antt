@@ -1,6 +1,5 @@
 use Rattle.std.proofs.Common.{◌≡◌, ◌∷◌, [], ◌<◌, ◌+◌, ap, refl, subst, sym, arith, length}
-use Rattle.mc_store.specs.Callers.{call_events, turns_of}
-use Rattle.mc_store.specs.Passes.{CallerView}
+use Rattle.mc_store.specs.{Callers.call_events, Callers.turns_of, Passes.CallerView}
 use Rattle.mc_store.proofs.CallLemmas.{turn_taken}
 use Rattle.mc_store.proofs.pass.Pass.take_turn.Goals as goal
 

@@ -1,16 +1,9 @@
-use Rattle.std.proofs.Common.{◌≡◌, ◌∙◌, ◌++◌, ◌∷◌, ◌⊎◌, [], ℕ, List, Result, Ok, Err, ap, inr, subst, sym}
+use Rattle.std.proofs.Common.{◌≡◌, ◌∙◌, ◌⊎◌, ℕ, List, Result, Ok, Err, ap, inr, subst, sym}
 use Rattle.std.specs.Prelude.{IfOk, OnErr}
-use Rattle.mc_item.specs.Command.{key_of}
-use Rattle.mc_item.specs.Measure.{stripe_of}
-use Rattle.mc_item.specs.declared.config.Config.{Config}
-use Rattle.mc_item.specs.declared.fault.Fault.{Fault}
-use Rattle.mc_item.specs.declared.item.StripeNo.{StripeNo}
-use Rattle.mc_item.specs.declared.item.Who.{Who}
-use Rattle.mc_item.specs.declared.reply.Reply.{Reply}
+use Rattle.mc_item.specs.{Command.key_of, Measure.stripe_of}
+use Rattle.mc_item.specs.declared.{config.Config.Config, fault.Fault.Fault, item.StripeNo.StripeNo, item.Who.Who, reply.Reply.Reply}
 use Rattle.mc_board.specs.declared.rule.Sight.{Sight}
-use Rattle.mc_store.specs.Calls.{IsCutBy, IsRepliedBy}
-use Rattle.mc_store.specs.Passes.{PassView, next_who}
-use Rattle.mc_store.specs.Sides.{StripeSide}
+use Rattle.mc_store.specs.{Calls.IsCutBy, Calls.IsRepliedBy, Passes.PassView, Passes.next_who, Sides.StripeSide}
 use Rattle.mc_store.proofs.CallLemmas.{asked_now}
 use Rattle.mc_store.proofs.store.Store.command.Goals as goal
 

@@ -2,20 +2,14 @@ use Rattle.std.proofs.Common.{◌++◌, ◌∷◌, [], ◌≡◌, ◌+◌, ℕ, 
 use Rattle.std.proofs.Math.Seq.{take-length}
 use Rattle.std.proofs.lemmas.List.{take_more}
 use Rattle.mc_item.specs.Counts.{no_counts}
-use Rattle.mc_item.specs.declared.counts.Histogram.{Histogram}
-use Rattle.mc_item.specs.declared.item.Link.{Link}
-use Rattle.mc_item.specs.declared.item.Who.{Who}
+use Rattle.mc_item.specs.declared.{counts.Histogram.Histogram, item.Link.Link, item.Who.Who}
 use Rattle.mc_board.specs.Histories.{Grows, list_at}
 use Rattle.mc_crawl.specs.CrawlCount.{IsBalanced}
 use Rattle.mc_store.specs.Crawls.{IsCrawledBy, IsSnapshot, ShowsReclaims}
-use Rattle.mc_store.specs.Locked.{class_lock}
-use Rattle.mc_store.specs.Passes.{PassView}
-use Rattle.mc_store.specs.Sides.{class_told}
+use Rattle.mc_store.specs.{Locked.class_lock, Passes.PassView, Sides.class_told, Callers.crawling_of}
 use Rattle.mc_store.proofs.CrawledLemmas.{shows_both, shows_none, so_far_all, so_far_more, so_far_none}
-use Rattle.mc_store.proofs.PairLemmas.{grows_trans}
+use Rattle.mc_store.proofs.{PairLemmas.grows_trans, CallLemmas.on_err_always, CallLemmas.called_now}
 use Rattle.mc_store.proofs.store.Store.crawl.Goals as goal
-use Rattle.mc_store.proofs.CallLemmas.{on_err_always, called_now}
-use Rattle.mc_store.specs.Callers.{crawling_of}
 
 pub loop-i-init : goal.loop-i-init
 loop-i-init g c =

@@ -1,9 +1,7 @@
 use Rattle.std.proofs.Common.{◌≡◌, ◌+◌, ◌++◌, ◌∷◌, [], take}
 use Rattle.mc_board.specs.Histories.{Grows}
 use Rattle.mc_crawl.specs.CrawlCount.{IsBalanced}
-use Rattle.mc_store.specs.Callers.{crawling_of}
-use Rattle.mc_store.specs.Crawls.{IsSeenSound, ShowsReclaims}
-use Rattle.mc_store.specs.Passes.{next_who}
+use Rattle.mc_store.specs.{Callers.crawling_of, Crawls.IsSeenSound, Crawls.ShowsReclaims, Passes.next_who}
 use Rattle.mc_store.proofs.CrawledLemmas.{CountsSoFar}
 use Rattle.mc_store.proofs.store.Store.crawl.Given as goal
 

@@ -6,14 +6,10 @@ use Rattle.mc_crawl.specs.Crawl.{Reclaims}
 use Rattle.mc_segment.specs.ClassState.{ClassView}
 use Rattle.mc_pull.specs.Growth as classes
 use Rattle.mc_item.specs.declared.item.ClassNo.{ClassNo}
-use Rattle.mc_store.specs.Callers.{crawling_of}
-use Rattle.mc_store.specs.Crawls.{CountsLink, IsLinkCounted, ShowsReclaims}
-use Rattle.mc_store.specs.Finals.{IsBehindAt}
-use Rattle.mc_store.specs.Locked.{HasBegunAs, IsHeldClass, class_lock}
-use Rattle.mc_store.specs.Passes.{PassView, HasCalled, caller_of}
-use Rattle.mc_store.specs.Sides.{ClassSide, class_told}
-use Rattle.mc_store.proofs.CrawledLemmas.{link_counted, on_ok_more, shows_one}
-use Rattle.mc_store.proofs.GrownLemmas.{class_grew, fails_full, seen_sound}
+use Rattle.mc_store.specs.{Callers.crawling_of, Crawls.CountsLink, Crawls.IsLinkCounted, Crawls.ShowsReclaims, Finals.IsBehindAt, Locked.HasBegunAs}
+use Rattle.mc_store.specs.{Locked.IsHeldClass, Locked.class_lock, Passes.PassView, Passes.HasCalled, Passes.caller_of, Sides.ClassSide, Sides.class_told}
+use Rattle.mc_store.proofs.{CrawledLemmas.link_counted, CrawledLemmas.on_ok_more, CrawledLemmas.shows_one, GrownLemmas.class_grew, GrownLemmas.fails_full}
+use Rattle.mc_store.proofs.{GrownLemmas.seen_sound}
 use Rattle.mc_store.proofs.store.Store.crawl_link.Goals as goal
 
 pub returns-clause-reclaims : goal.returns-clause-reclaims

@@ -1,23 +1,16 @@
 use Rattle.std.proofs.Common.{◌≡◌, List, ap, ◌∙◌, inl, subst, sym, refl}
 use Rattle.std.specs.Prelude.{IfOk}
-use Rattle.mc_item.specs.declared.item.Who.{Who}
+use Rattle.mc_item.specs.declared.{item.Who.Who, item.ClassNo.ClassNo}
 use Rattle.mc_board.specs.Histories.{Grows, list_at}
 use Rattle.mc_board.specs.declared.rule.Sight.{Sight}
 use Rattle.mc_segment.specs.ClassState.{ClassView}
 use Rattle.mc_pull.specs.Growth as classes
-use Rattle.mc_pull.specs.Juggle.{IsJuggle}
-use Rattle.mc_pull.specs.Rounds.{rounds}
+use Rattle.mc_pull.specs.{Juggle.IsJuggle, Rounds.rounds}
 use Rattle.mc_pull.specs.declared.looking.Answer.{Answer}
-use Rattle.mc_store.specs.Calls.{IsJuggledBy}
-use Rattle.mc_store.specs.Finals.{IsBehindAt}
-use Rattle.mc_item.specs.declared.item.ClassNo.{ClassNo}
-use Rattle.mc_store.specs.Locked.{HasBegunAs, IsHeldClass}
+use Rattle.mc_store.specs.{Calls.IsJuggledBy, Finals.IsBehindAt, Locked.HasBegunAs, Locked.IsHeldClass, Sides.ClassSide, Sides.class_told, Callers.juggling_of}
 use Rattle.mc_store.specs.Passes.{PassView, HasCalled, caller_of}
-use Rattle.mc_store.specs.Sides.{ClassSide, class_told}
-use Rattle.mc_store.proofs.GrownLemmas.{fails_full, juggled_so}
+use Rattle.mc_store.proofs.{GrownLemmas.fails_full, GrownLemmas.juggled_so, CallLemmas.called_now}
 use Rattle.mc_store.proofs.store.Store.juggle.Goals as goal
-use Rattle.mc_store.proofs.CallLemmas.{called_now}
-use Rattle.mc_store.specs.Callers.{juggling_of}
 
 pub returns-clause-juggled : goal.returns-clause-juggled
 returns-clause-juggled g c =

@@ -1,7 +1,6 @@
 use Rattle.std.proofs.Common.{rules, arith, ◌≡◌, ◌≤◌, ◌+◌, ◌-◌, ◌∷◌, ◌++◌, [], ℕ, List, ap, length, subst, sym, ◌∙◌}
 use Rattle.std.proofs.lemmas.List.{length-append}
-use Rattle.mc_store.specs.Locked.{locks_for}
-use Rattle.mc_store.specs.Passes.{ArePasses, PassView, new_pass}
+use Rattle.mc_store.specs.{Locked.locks_for, Passes.ArePasses, Passes.PassView, Passes.new_pass}
 use Rattle.mc_store.proofs.PlaceLemmas.{passes_push}
 use Rattle.mc_store.proofs.store.Store.open.Goals as goal
 

@@ -1,7 +1,6 @@
 use Rattle.std.proofs.Common.{◌≡◌, ◌+◌, ◌-◌, length, min}
 use Rattle.std.specs.Prelude.{vec_len}
-use Rattle.mc_store.specs.Locked.{locks_for}
-use Rattle.mc_store.specs.Passes.{ArePasses}
+use Rattle.mc_store.specs.{Locked.locks_for, Passes.ArePasses}
 use Rattle.mc_store.proofs.store.Store.open.Given as goal
 
 abbrev pub invariant-loop-owner : goal.invariant-loop-owner

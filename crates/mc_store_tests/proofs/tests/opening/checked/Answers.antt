@@ -1,6 +1,5 @@
 use Rattle.std.proofs.Common.{◌≡◌, Option, Some, None, Result, Ok, Err, refl, ap, ◌∙◌, MatchOption}
-use Rattle.mc_item.specs.declared.config.Config.{Config}
-use Rattle.mc_item.specs.declared.config.ConfigFault.{ConfigFault}
+use Rattle.mc_item.specs.declared.{config.Config.Config, config.ConfigFault.ConfigFault}
 use Rattle.mc_item.specs.Config.{fault_of, IsSound}
 use Rattle.mc_store_tests.proofs.tests.opening.checked.Goals as goal
 

@@ -1,25 +1,12 @@
 use Rattle.std.proofs.Common.{ℕ, ◌≡◌, ◌<◌, length, ap, ◌∙◌, sym, refl, List, subst, arith, ◌++◌, ◌∷◌, []}
 use Rattle.std.specs.Prelude.{nat_eq, Option}
-use Rattle.std.specs.Cmp.Lexicographic.{pointwise}
-use Rattle.std.specs.HashMap.{get}
-use Rattle.mc_item.specs.Answer.{Row, row_of}
-use Rattle.mc_item.specs.Cache.{answer_of}
-use Rattle.mc_item.specs.Command.{key_of}
-use Rattle.mc_item.specs.Measure.{stripe_of}
-use Rattle.mc_item.specs.Stripe.{Fits, cache_of}
+use Rattle.std.specs.{Cmp.Lexicographic.pointwise, HashMap.get}
+use Rattle.mc_item.specs.{Answer.Row, Answer.row_of, Cache.answer_of, Command.key_of, Measure.stripe_of, Stripe.Fits, Stripe.cache_of}
 use Rattle.mc_item.specs.declared.answer.Need.TheVariants as needs
-use Rattle.mc_item.specs.declared.item.ClassNo.{ClassNo}
-use Rattle.mc_item.specs.declared.item.Item.{Item}
-use Rattle.mc_item.specs.declared.reply.Reply.{Reply}
-use Rattle.mc_item.specs.declared.reply.Room.{Room}
-use Rattle.mc_item.specs.declared.stripe_event.StripeEvent.{StripeEvent}
+use Rattle.mc_item.specs.declared.{item.ClassNo.ClassNo, item.Item.Item, reply.Reply.Reply, reply.Room.Room, stripe_event.StripeEvent.StripeEvent}
 use Rattle.mc_item.proofs.StripeLemmas.{versions_of-few}
-use Rattle.mc_stripe.specs.Shown.{did_of}
-use Rattle.mc_stripe.specs.StripeState.{Stripe, cache_now}
-use Rattle.mc_stripe.specs.Trying.{item_of, row_at}
-use Rattle.mc_stripe.specs.Wanting.{IsTaken, Uses}
-use Rattle.mc_stripe.proofs.PutLemmas.{taken_fits}
-use Rattle.mc_stripe.proofs.TryLemmas.{tried_kept, uses_at}
+use Rattle.mc_stripe.specs.{Shown.did_of, StripeState.Stripe, StripeState.cache_now, Trying.item_of, Trying.row_at, Wanting.IsTaken, Wanting.Uses}
+use Rattle.mc_stripe.proofs.{PutLemmas.taken_fits, TryLemmas.tried_kept, TryLemmas.uses_at}
 use Rattle.mc_stripe.proofs.state.StripeState.attempt.Goals as goal
 
 pub overflow_add-self : goal.overflow_add-self
