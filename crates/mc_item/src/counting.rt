@@ -120,6 +120,18 @@ impl Site {
         self.class_of(cost(key.bytes().len() as u64, digits as u64))
     }
 
+    // The class of a cost: the one that is known, and else it is sought.
+    #[inline(always)]
+    fn class_for(&self, known: Option<ClassNo>, cost: u64) -> Option<ClassNo>
+        requires { IfSome known (λ class. measure.class_of self.now.sizes cost ≡ Some class) }
+        ensures { result ≡ measure.class_of self.now.sizes cost }
+    {
+        match known {
+            Some(class) => Some(class),
+            None => self.class_of(cost),
+        }
+    }
+
     // What a new number needs.
     fn number_need(&self, key: &Key, item: &Item, counted: Option<u64>) -> Need
         ensures need { (n : ℕ) → result ≡ (answers.number_row self.now n key.now item.now counted).need }

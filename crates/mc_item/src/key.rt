@@ -1,5 +1,5 @@
 //! The names of items.
-ghost use Rattle.std.specs.Prelude.{◌≡◌, ◌∷◌, [], None, nat_eq, IfOk, IfErr, IfSome, MatchOption};
+ghost use Rattle.std.specs.Prelude.{◌≡◌, ◌∷◌, [], None, nat_eq, IfOk, IfErr, MatchOption};
 ghost use Rattle.std.specs.{Cmp.partial_equiv_from_equiv, Cmp.Lexicographic.pointwise, Cmp.Lexicographic.nat_list_eq_equiv, Cmp.Rules.hashing, List.list_all};
 ghost use Rattle.std.proofs.Common.{rules};
 ghost use Rattle.mc_item.specs.Key.{key_fault_of, IsKey, named_bytes};
@@ -58,7 +58,7 @@ impl Debug for Named {
 /// A key: 1 to 250 bytes, none of them 0, 10, 13 or 32. Contracts see it as its bytes.
 #[derive(Debug, Drop)]
 pub struct Key {
-    pub(crate) bytes: Named,
+    bytes: Named,
 }
 
 impl Model for Key {
@@ -151,19 +151,6 @@ impl Key {
             Named::Long(bytes) => Ok(Key {
                 bytes: Named::Long(Vec::from_slice(alloc, bytes.as_slice())?),
             }),
-        }
-    }
-
-    /// An equal key, where that takes no memory: of a key of at most 30 bytes.
-    #[inline(always)]
-    pub fn copy_short(&self) -> Option<Key>
-        ensures { IfSome result (λ key. key ≡ self.now) }
-    {
-        match &self.bytes {
-            Named::Short(bytes) => Some(Key {
-                bytes: Named::Short(bytes.copy()),
-            }),
-            Named::Long(_) => None,
         }
     }
 }

@@ -3,7 +3,6 @@
 #![tactic(auto)]
 
 mod answer;
-mod answering;
 mod call_event;
 mod class_event;
 mod command;
@@ -19,7 +18,6 @@ mod measure;
 mod numbers;
 mod reply;
 mod short;
-mod spare;
 mod storing;
 mod stripe_event;
 mod value;
@@ -41,7 +39,6 @@ pub use lists::{Entry, Passed, Seg};
 pub use measure::{class_of, cost, least_class, number_of, numeral_of, stripe_of};
 pub use numbers::{ClassSizes, Numbers};
 pub use reply::{Reply, Room};
-pub use spare::KeyBuffer;
-pub use storing::{Content, stores_over};
+pub use storing::Content;
 pub use stripe_event::{Cause, Cooled, Did, Lost, StripeEvent};
 pub use value::Value;

@@ -3,7 +3,7 @@ ghost use Rattle.std.specs.Prelude.{◌≡◌, ◌≤◌, length};
 
 use std::marker::Model;
 
-/// A list of numbers. Contracts see it as one. It is made from a `Vec` and gives it back without memory.
+/// A list of numbers. Contracts see it as one. It is made from a `Vec` without memory.
 #[derive(Drop)]
 pub struct Numbers {
     numbers: Vec<u64>,
@@ -23,14 +23,6 @@ impl Numbers {
         ensures { result ≡ numbers.items }
     {
         Numbers { numbers }
-    }
-
-    /// The numbers back.
-    pub fn into_vec(self) -> Vec<u64>
-        ensures { result.items ≡ self }
-    {
-        let Numbers { numbers } = self;
-        numbers
     }
 
     /// The numbers.

@@ -1,5 +1,4 @@
-//! Tests against values from outside: the table of commands, worked examples, and the limits of each rule.
-mod answers;
+//! Tests against values from outside: the parts of the table of commands, worked examples, and the limits of each rule.
 mod config;
 mod copies;
 mod keys;
@@ -26,27 +25,17 @@ pub const AT: Room = Room::At(Link {
     number: 9,
 });
 
-/// An item of the value `old`.
-pub(super) const OLD: There = Some((b"old", NO_MARKS));
-
 /// No place was found in class 1.
 pub const REFUSED: Room = Room::Refused {
     class: ClassNo(1),
     place: 4,
 };
 
-/// A `set` of the value `1` at the place of a new version.
-pub const STORED: &str =
-    "Stored; Renewed(Item { flags: 7, value: Value { bytes: [49] }, expiry: At(1010), cas: 22, link: Link { class: ClassNo(1), number: 9 }, marks: Marks { fetched: false, active: false } })";
-
 /// An `incr` of the value `9` at the place of a new version.
 pub const GROWN: &str =
     "Number(10); Renewed(Item { flags: 5, value: Value { bytes: [49, 48] }, expiry: Never, cas: 22, link: Link { class: ClassNo(1), number: 9 }, marks: Marks { fetched: false, active: false } })";
 
-/// The item that a command finds: its value and its marks.
-pub(super) type There = Option<(&'static [u8], Marks)>;
-
-/// A command, of the key `k` but where it says another.
+/// A command of the key `k`.
 #[derive(Clone, Copy)]
 pub(super) enum Asked {
     Get,
@@ -54,8 +43,6 @@ pub(super) enum Asked {
     Store(Verb, &'static [u8]),
     Huge(Verb),
     Incr(u64),
-    // An incr of a key of 55 bytes.
-    LongIncr(u64),
     Decr(u64),
     Touch(i64),
     Delete,
@@ -126,7 +113,6 @@ pub(super) fn command_of(rt: &impl Abort, alloc: Global, asked: Asked) -> Comman
         Asked::Store(verb, bytes) => store(rt, alloc, verb, bytes),
         Asked::Huge(verb) => huge(rt, alloc, verb),
         Asked::Incr(delta) => Command::Incr(key(rt, alloc, b"k"), delta),
-        Asked::LongIncr(delta) => Command::Incr(key(rt, alloc, &[b'x'; 55]), delta),
         Asked::Decr(delta) => Command::Decr(key(rt, alloc, b"k"), delta),
         Asked::Touch(exptime) => Command::Touch(key(rt, alloc, b"k"), exptime),
         Asked::Delete => Command::Delete(key(rt, alloc, b"k")),
@@ -145,13 +131,5 @@ pub(super) fn item(rt: &impl Abort, alloc: Global, bytes: &[u8], marks: Marks) -
             number: 3,
         },
         marks,
-    }
-}
-
-/// The item that is there, if one is.
-pub(super) fn found_of(rt: &impl Abort, alloc: Global, there: There) -> Option<Item> {
-    match there {
-        Some((bytes, marks)) => Some(item(rt, alloc, bytes, marks)),
-        None => None,
     }
 }

@@ -2,12 +2,14 @@
 ghost use Rattle.std.specs.Prelude.{◌<◌};
 ghost use Rattle.mc_item.specs.Config.{IsBounded};
 
+mod answers;
 mod calls;
 mod drawn_tries;
 mod histories;
 mod items;
 mod noted;
 mod plain;
+mod plain_answers;
 mod rows;
 mod sets;
 mod table;

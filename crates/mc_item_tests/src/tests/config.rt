@@ -57,8 +57,7 @@ fn usual_numbers(rt: HostRuntime) {
 fn usual_sizes_and_chunks(rt: HostRuntime) {
     let config = checked(&rt, rt.alloc());
     same_numbers(&rt, config.sizes.as_slice(), SIZES.as_slice());
-    let chunks = config.chunks.into_vec();
-    same_numbers(&rt, chunks.as_slice(), CHUNKS.as_slice());
+    same_numbers(&rt, config.chunks.as_slice(), CHUNKS.as_slice());
 }
 
 // Percents, a factor and the life in TEMP, callers, events, and the fault.

@@ -1,30 +1,8 @@
-//! Parts of the table of commands that can be called alone, each after five versions of stripe 1 of 4: the answer to a storage command, the answer to a count, a new version in an item's place, and a count in place.
-use crate::tests::{
-    AT, GROWN, NO_MARKS, OLD, REFUSED, STORED, There, found_of, item, key, same, same_bytes, site,
-    told, value,
-};
-use mc_item::{
-    ClassNo, Content, Expiry, Item, Key, Link, Marks, Room, Step, Value, Verb, stores_over,
-};
+//! Parts of the table of commands that can be called alone, each after five versions of stripe 1 of 4: the answer to a count, a new version in an item's place, and a count in place.
+use crate::tests::{AT, GROWN, NO_MARKS, REFUSED, item, key, same, same_bytes, site, told, value};
+use mc_item::{ClassNo, Content, Expiry, Item, Key, Link, Marks, Room, Step, Value};
 use std::alloc::Global;
 use std::process::Abort;
-
-const CLASS: Option<ClassNo> = Some(ClassNo(1));
-
-// The class of a storage command, its verb, what is there, its room, and its reply and change.
-type StoreRow = (Option<ClassNo>, Verb, There, Room, &'static str);
-
-static STORES: [StoreRow; 9] = [
-    (CLASS, Verb::Set, None, AT, STORED),
-    (CLASS, Verb::Set, OLD, REFUSED, "NoRoom; Goes"),
-    (None, Verb::Set, OLD, Room::Keep, "TooLarge; Goes"),
-    (None, Verb::Cas(6), OLD, Room::Keep, "TooLarge; Stays"),
-    (CLASS, Verb::Add, OLD, Room::Keep, "NotStored; Stays"),
-    (CLASS, Verb::Replace, OLD, AT, STORED),
-    (CLASS, Verb::Cas(6), None, Room::Keep, "NotFound; Stays"),
-    (CLASS, Verb::Cas(6), OLD, AT, STORED),
-    (CLASS, Verb::Cas(7), OLD, Room::Keep, "Exists; Stays"),
-];
 
 // What is stored: this value, with flags 7 and an expiry.
 fn content(value: &Value) -> Content<'_> {
@@ -33,38 +11,6 @@ fn content(value: &Value) -> Content<'_> {
         value,
         expiry: Expiry::At(1010),
     }
-}
-
-fn told_store(
-    rt: &impl Abort,
-    alloc: Global,
-    found: Option<&Item>,
-    value: &Value,
-    row: &StoreRow,
-) -> String {
-    let content = content(value);
-    let answer = site()
-        .store_answer(5, row.0, row.1, found, &content, row.3)
-        .expect(rt, "memory");
-    told(rt, alloc, &answer)
-}
-
-fn check_store(rt: &impl Abort, alloc: Global, row: &StoreRow, place: usize) {
-    let found = found_of(rt, alloc, row.2);
-    let value = value(rt, alloc, b"1");
-    let answer = told_store(rt, alloc, found.as_ref(), &value, row);
-    same(rt, answer.as_str(), row.4, place);
-}
-
-fn check_stores(rt: &impl Abort, alloc: Global, rows: &[StoreRow]) {
-    for (place, row) in rows.iter().enumerate() {
-        check_store(rt, alloc, row, place);
-    }
-}
-
-#[test]
-fn storage_answers_by_class_and_verb(rt: HostRuntime) {
-    check_stores(&rt, rt.alloc(), STORES.as_slice());
 }
 
 // A step, the value of the item that is there, the room, and the reply and change.
@@ -195,18 +141,4 @@ fn a_shared_value_is_not_counted_in_place(rt: HostRuntime) {
     let counted = told_in_place(&rt, alloc, &mut held, Step::Up(1));
     same(&rt, counted.as_str(), "None, [57, 32], 6", 0);
     same_bytes(&rt, copy.bytes(), b"9 ".as_slice(), 0);
-}
-
-static OVER: [(Verb, bool); 4] = [
-    (Verb::Set, true),
-    (Verb::Replace, true),
-    (Verb::Add, false),
-    (Verb::Cas(6), false),
-];
-
-#[test]
-fn only_set_and_replace_store_over_any_item(rt: HostRuntime) {
-    for (verb, wanted) in OVER.as_slice() {
-        assert_eq!(rt; stores_over(*verb), *wanted, "{verb:?}");
-    }
 }

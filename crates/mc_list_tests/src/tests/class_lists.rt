@@ -12,7 +12,7 @@ use super::rows::Sight::{
 use super::rows::{Row, Start, play};
 use mc_item::Expiry::{At, Never};
 use mc_item::Seg::{Cold, Hot, Temp, Warm};
-use mc_item::{ClassNo, Config, Key, KeyBuffer, Numbers};
+use mc_item::{ClassNo, Config, Numbers};
 use mc_segment::ClassState;
 use std::alloc::Global;
 use std::process::Abort;
@@ -199,21 +199,4 @@ static FULL: [Row; 5] = [
 #[test]
 fn a_full_history_refuses(rt: HostRuntime) -> Result<(), Fail> {
     play(&rt, rt.alloc(), of(1), FULL.as_slice())
-}
-
-// The key `a` in a wide buffer is the same key, and alone has a buffer to give back.
-fn asserts_buffers<R: Abort>(rt: &R, key: Key, copy: Key) {
-    let same = copy == key;
-    let buffers = (KeyBuffer::of(copy).is_some(), KeyBuffer::of(key).is_some());
-    assert!(rt; same);
-    assert!(rt; buffers == (true, false));
-}
-
-#[test]
-fn wide_buffers_come_back(rt: HostRuntime) -> Result<(), Fail> {
-    let buffer = KeyBuffer::new(rt.alloc())?;
-    let key = Key::of(rt.alloc(), b"a")?;
-    let copy = key.copy_into(buffer);
-    asserts_buffers(&rt, key, copy);
-    Ok(())
 }

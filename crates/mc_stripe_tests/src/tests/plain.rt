@@ -1,12 +1,13 @@
-//! The plain program of the table of commands, for stripe 1 of 4, beside which a stripe is held; and texts.
-ghost use Rattle.std.specs.Prelude.{◌≡◌, ◌≤◌, ◌^◌};
+//! The plain program of a command on stripe 1 of 4, beside which a stripe is held; and texts.
+ghost use Rattle.std.specs.Prelude.{◌≤◌, ◌^◌};
 
 use super::b;
 use super::noted::reply_in;
+use super::plain_answers::{answer, need};
 use mc_history::History;
 use mc_item::{
-    Answer, Change, ClassNo, ClassSizes, Command, Did, Expiry, Item, Marks, Need, Reply, Room,
-    Site, StripeEvent, Value, Who, cost,
+    Change, ClassNo, Command, Did, Expiry, Item, Marks, Need, Reply, Room, StripeEvent, Value, Who,
+    cost,
 };
 use mc_stripe::{Classes, Fate, Given, ShownStripe, StripeState};
 use std::alloc::Global;
@@ -137,39 +138,9 @@ fn version_count<R: Abort>(rt: &R, alloc: Global, events: &History<StripeEvent, 
     versions
 }
 
-// The site of stripe 1 of four, with the sizes 66 and 70.
-fn site() -> Site
-    ensures stripe { result.stripe ≡ 1 }
-    ensures stripes { result.stripes ≡ 4 }
-{
-    Site {
-        stripe: 1,
-        stripes: 4,
-        sizes: ClassSizes::of(&[66, 70]),
-    }
-}
-
-// The answer to a command after so many versions.
-fn answer<R: Abort>(
-    rt: &R,
-    alloc: Global,
-    versions: u64,
-    found: Option<&Item>,
-    command: &Command,
-    moment: u64,
-    room: Room,
-) -> Answer
-    requires few { versions ≤ 16 }
-    requires moment { moment ≤ 2 ^ 62 }
-{
-    site()
-        .answer(alloc, versions, found, command, moment, None, room)
-        .expect(rt, "an answer")
-}
-
 /// What a command needs on a stripe.
 pub(super) fn need_of(stripe: &StripeState, command: &Command) -> Need {
-    site().need(stripe.find(command.key()), command)
+    need(stripe.find(command.key()), command)
 }
 
 // The class of a key's item, where it is another than this.

@@ -46,8 +46,8 @@ pub(super) fn opened<R: Abort + RandomSource>(rt: &R, alloc: Global) -> StripeSt
     StripeState::new(alloc, StripeNo(1), &config, seed)
 }
 
-// How many events a stripe has.
-fn events(stripe: &StripeState) -> u64 {
+/// How many events a stripe has.
+pub(super) fn events(stripe: &StripeState) -> u64 {
     stripe.history().len() as u64
 }
 
@@ -74,8 +74,8 @@ fn other(class: u32, places: u64) -> Option<Other> {
     Some(Other { class, places })
 }
 
-// What the command of the event of this number is given.
-fn given_of(held: Held, number: u64) -> Given {
+/// What the command of the event of this number is given.
+pub(super) fn given_of(held: Held, number: u64) -> Given {
     match held {
         Held::Nothing => Given {
             home: None,

@@ -130,10 +130,10 @@ fn begun<R: Abort + RandomSource>(
     stripe
 }
 
-type Told = Result<Result<Done, Want>, Fault>;
+pub(super) type Told = Result<Result<Done, Want>, Fault>;
 
-// Ends the test where something else is wanted.
-fn check_want<R: Abort>(rt: &R, told: &Told, wanted: Want) {
+/// Ends the test where something else is wanted.
+pub(super) fn check_want<R: Abort>(rt: &R, told: &Told, wanted: Want) {
     match told {
         Ok(Err(want)) => assert_eq!(rt; *want, wanted),
         Ok(Ok(_)) | Err(_) => assert!(rt; false, "{wanted:?} should be wanted"),
