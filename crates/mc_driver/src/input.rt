@@ -5,7 +5,7 @@ ghost use Rattle.mc_proto.specs.Scripts.{AreScripts};
 
 use crate::memory::{Kept, Pieces};
 use mc_item::NoMemory;
-use mc_proto::{Limits, split_pieces};
+use mc_proto::{Limits, split_scripts};
 use std::alloc::Global;
 use std::collections::VecDeque;
 use std::sync::ledger::{Book, Ledger, Share};
@@ -23,7 +23,7 @@ pub(crate) fn sources_of(
     ensures { IfOk result (λ sources. AreScripts limits (flat_map (λ v. v.items) input.items) sources.items) }
 {
     let mut sources = Vec::new(alloc);
-    for script in split_pieces(alloc, input, limits)? {
+    for script in split_scripts(alloc, input, limits)? {
         sources.push(Pieces::new(script))?;
     }
     Ok(sources)

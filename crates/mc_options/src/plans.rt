@@ -141,18 +141,6 @@ fn with_sizes(alloc: Global, given: Config, sizes: Option<Vec<u64>>) -> Result<C
     Ok(config)
 }
 
-// The configuration with this many stripes, where a number is given.
-fn with_stripes(given: Config, stripes: Option<u32>) -> Config
-    ensures { result ≡ Rattle.mc_options.specs.Asked.with_stripes stripes given }
-{
-    let Some(stripes) = stripes else {
-        return given;
-    };
-    let mut config = given;
-    config.stripes = stripes;
-    config
-}
-
 // The configuration with this many chunks for every class, where a number is given.
 fn with_chunks(alloc: Global, given: Config, chunks: Option<u64>) -> Result<Config, NoMemory>
     ensures { IfOk result (λ config. config ≡ Rattle.mc_options.specs.Asked.with_chunks chunks given) }
@@ -166,41 +154,18 @@ fn with_chunks(alloc: Global, given: Config, chunks: Option<u64>) -> Result<Conf
     Ok(config)
 }
 
-// The configuration with this life in TEMP, where one is given.
-fn with_temp_ttl(given: Config, seconds: Option<u64>) -> Config
-    ensures { result ≡ Rattle.mc_options.specs.Asked.with_temp_ttl seconds given }
-{
-    let Some(seconds) = seconds else {
-        return given;
-    };
-    let mut config = given;
-    config.temp_ttl = seconds;
-    config
-}
-
-// The configuration with this limit of events, where one is given.
-fn with_events(given: Config, events: Option<u64>) -> Config
-    ensures { result ≡ Rattle.mc_options.specs.Asked.with_events events given }
-{
-    let Some(events) = events else {
-        return given;
-    };
-    let mut config = given;
-    config.max_events = events;
-    config
-}
-
 // The configuration that is asked for.
 fn config_of(alloc: Global, sizes: Option<Vec<u64>>, options: Options) -> Result<Config, NoMemory>
     ensures { IfOk result (λ config. config ≡ asked (option_map (λ v. v.items) sizes) options) }
 {
-    let sized = with_sizes(alloc, Config::usual(alloc, 3)?, sizes)?;
-    let striped = with_stripes(sized, options.stripes);
-    let mut config = with_chunks(alloc, striped, options.chunks)?;
+    let mut sized = with_sizes(alloc, Config::usual(alloc, 3)?, sizes)?;
+    sized.stripes = options.stripes.unwrap_or(sized.stripes);
+    let mut config = with_chunks(alloc, sized, options.chunks)?;
     config.temp = options.temp;
     config.keeps_events = false;
-    let config = with_temp_ttl(config, options.temp_ttl);
-    Ok(with_events(config, options.events))
+    config.temp_ttl = options.temp_ttl.unwrap_or(config.temp_ttl);
+    config.max_events = options.events.unwrap_or(config.max_events);
+    Ok(config)
 }
 
 // The plan of a configuration and of moments of upkeep, where the configuration is sound.

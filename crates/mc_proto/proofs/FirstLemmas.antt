@@ -1,6 +1,6 @@
 -- What a line asks for that stands first in a stream, however the stream goes on.
-use Rattle.std.proofs.Common.{◌≡◌, ◌++◌, ◌+◌, ◌<◌, ◌≤◌, ℕ, List, [], length, refl, ap, sym, ◌∙◌, arith, take, get_or, true, false, subst, length-append, append-nil}
-use Rattle.std.specs.Prelude.{Option, Some, None}
+use Rattle.std.proofs.Common.{◌≡◌, ◌++◌, ◌+◌, ◌<◌, ◌≤◌, ℕ, List, length, refl, ap, sym, ◌∙◌, arith, take, get_or, true, false, subst, length-append}
+use Rattle.std.specs.Prelude.{Option, None}
 use Rattle.std.proofs.lemmas.List.{take_all, take-append-le, get_or_append_left}
 use Rattle.mc_proto.specs.{Lines.Lacks, Table.says, Grammar.wanted, Grammar.IsFine}
 use Rattle.mc_proto.specs.Scripts.{AsksFirst, IsLast, IsPlain, LineAsks, says_next}
@@ -53,12 +53,7 @@ long_asked limits bytes more end le lack long = (
   (λ none. absurd (omega arith)),
 )
 
--- a stream that is these bytes alone
-pub asked_alone : (limits : Limits) (bytes : List ℕ) (o : Option First) (f : First) → LineAsks limits bytes o → o ≡ Some f → AsksFirst limits bytes f
-asked_alone limits bytes o f asks is =
-    let all : LineAsks limits bytes (Some f) = subst (LineAsks limits bytes) is asks in
-    subst (λ t. AsksFirst limits t f) (append-nil bytes) (all [])
-
+-- no line ends in a stream
 pub none_alone : (limits : Limits) (bytes : List ℕ) (o : Option First) → LineAsks limits bytes o → o ≡ None → IsLast limits bytes
 none_alone limits bytes o asks is =
     let none : LineAsks limits bytes None = subst (LineAsks limits bytes) is asks in

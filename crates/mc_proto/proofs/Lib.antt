@@ -9,6 +9,7 @@ mod QuickLemmas
 pub mod RestLemmas
 pub mod StreamLemmas
 pub mod SplitLemmas
+mod RowLemmas
 pub mod NextLemmas
 mod PlainLemmas
 mod FirstLemmas

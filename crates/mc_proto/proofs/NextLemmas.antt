@@ -1,17 +1,16 @@
 -- Bytes in which no % stands straight before an n, and that no script begins in them.
 use Rattle.std.proofs.Common.{◌≡◌, ◌++◌, ◌∷◌, [], ◌+◌, ◌-◌, ◌<◌, ◌==◌, ℕ, List, length, refl, sym, ◌∙◌, ap, take, drop, take-append-drop, get_or, Bool, true, false, subst, inl, inr, All, zero, suc, arith}
-use Rattle.std.specs.Prelude.{if◌then◌else◌, ◌⊎◌, ◌&&◌, nat_eq, nat_lt, codes, Option, Some, None}
-use Rattle.std.specs.{List.list_all, Option.option_map, Option.unwrap_or, Cmp.Lexicographic.pointwise}
+use Rattle.std.specs.Prelude.{if◌then◌else◌, ◌&&◌, nat_eq, nat_lt, codes}
+use Rattle.std.specs.{Cmp.Lexicographic.pointwise}
 use Rattle.std.proofs.lemmas.{Bool.eqb-true, List.Elements.All-nil, List.Elements.All-cons}
-use Rattle.mc_proto.specs.Kinds.{Kind, Value, value, fault_of}
-use Rattle.mc_proto.specs.Lines.{LacksNext, LacksNextBehind, is_after, AreTokens, is_key, is_word, tokens, no_cr}
-use Rattle.mc_proto.specs.Table.{Asks, End, Line, Nothing, Noreply, Keys, Row, bad, no_line, table, quiet_of, kinds_say, row_says, rows_say, tokens_say, says}
-use Rattle.mc_proto.specs.{Grammar.Spells, Grammar.Spelt, Scripts.IsOther, Scripts.AreScripts, Scripts.says_next}
-use Rattle.mc_proto.specs.declared.{request.Limits.Limits, request.LineFault.TheVariants.Format, request.LineFault.TheVariants.LineTooLong}
-use Rattle.mc_proto.specs.declared.{request.Request.Request, request.Request.TheVariants.Bad, request.Request.TheVariants.Next, state.Said.Said}
+use Rattle.mc_proto.specs.Lines.{LacksNext, LacksNextBehind, is_after, is_word}
+use Rattle.mc_proto.specs.Table.{table, says}
+use Rattle.mc_proto.specs.{Grammar.Spells, Grammar.Spelt, Scripts.IsLast, Scripts.IsOther, Scripts.says_next}
+use Rattle.mc_proto.specs.declared.{request.Limits.Limits, request.LineFault.TheVariants.LineTooLong}
+use Rattle.mc_proto.specs.declared.{request.Request.Request, request.Request.TheVariants.Bad, request.Request.TheVariants.Next}
 use Rattle.mc_proto.specs.declared.{state.Start.Start}
 use Rattle.mc_proto.specs.declared.state.Said.TheVariants as said
-use Rattle.mc_proto.proofs.{LineLemmas.tokens_make_line, SplitLemmas.asks_other, StreamLemmas.stream_reads}
+use Rattle.mc_proto.proofs.{RowLemmas.HoldsOfRows, RowLemmas.and, RowLemmas.line_holds, SplitLemmas.asks_other, StreamLemmas.stream_reads}
 
 next_loose : (after : Bool) (bs : List ℕ) → LacksNextBehind after bs → LacksNext bs
 next_loose after [] lack = tt
@@ -74,45 +73,6 @@ next_back u v lack = next_loose (is_after false u) v (next_behind false u v lack
 next_take : (n : ℕ) (bytes : List ℕ) → LacksNext bytes → LacksNext (take n bytes)
 next_take n bytes lack = next_front false (take n bytes) (drop n bytes) (subst LacksNext (sym (take-append-drop n bytes)) lack)
 
--- what a row asks begins no script, whatever the values of its tokens
-abbrev AsksOther : (kinds : List Kind) → (end : End) → Asks kinds end → Type 0
-AsksOther (kind ∷ kinds) end asks = (v : Value kind) → AsksOther kinds end (asks v)
-AsksOther [] Nothing asks = says_next asks ≡ false
-AsksOther [] Noreply asks = (quiet : Bool) → says_next (asks quiet) ≡ false
-AsksOther [] Keys asks = (keys : List (List ℕ)) → says_next (asks keys) ≡ false
-
--- what each row asks begins no script, unless its verb has a % straight before an n
-abbrev AskOthers : List Row → Type 0
-AskOthers [] = Unit {0}
-AskOthers (Line word kinds end asks ∷ rows) = (AsksOther kinds end asks ⊎ ((verb : List ℕ) → LacksNext verb → is_word verb word ≡ false)) × AskOthers rows
-
-either_other : (b : Bool) (x y : Said) → says_next x ≡ false → says_next y ≡ false → says_next (if b then x else y) ≡ false
-either_other true x y p q = p
-either_other false x y p q = q
-
-option_other : {V : Type 0} (o : Option V) (f : V → Said) (d : Said) → ((v : V) → says_next (f v) ≡ false) → says_next d ≡ false → says_next (unwrap_or (option_map f o) d) ≡ false
-option_other None f d p q = q
-option_other (Some v) f d p q = p v
-
-kinds_other : (limits : Limits) (quiet : Bool) (kinds : List Kind) (end : End) (asks : Asks kinds end) (args : List (List ℕ)) → AsksOther kinds end asks → says_next (kinds_say limits quiet kinds end asks args) ≡ false
-kinds_other limits quiet (kind ∷ kinds) end asks [] p = refl
-kinds_other limits quiet (kind ∷ kinds) end asks (token ∷ args) p =
-    option_other (value limits kind token) (λ v. kinds_say limits quiet kinds end (asks v) args) (bad (fault_of kind) quiet) (λ v. kinds_other limits quiet kinds end (asks v) args (p v)) refl
-kinds_other limits quiet [] Nothing asks args p = p
-kinds_other limits quiet [] Noreply asks args p = p quiet
-kinds_other limits quiet [] Keys asks args p = either_other (list_all is_key args) (asks args) (bad Format quiet) (p args) refl
-
-row_other : (limits : Limits) (kinds : List Kind) (end : End) (asks : Asks kinds end) (args : List (List ℕ)) → AsksOther kinds end asks → says_next (row_says limits kinds end asks args) ≡ false
-row_other limits kinds end asks args p = option_other (quiet_of kinds end args) (λ quiet. kinds_say limits quiet kinds end asks args) no_line (λ quiet. kinds_other limits quiet kinds end asks args p) refl
-
-rows_other : (limits : Limits) (rows : List Row) (verb : List ℕ) (args : List (List ℕ)) → AskOthers rows → LacksNext verb → says_next (rows_say limits rows verb args) ≡ false
-rows_other limits [] verb args p lack = refl
-rows_other limits (Line word kinds end asks ∷ rows) verb args (inl p, more) lack =
-    either_other (is_word verb word) (row_says limits kinds end asks args) (rows_say limits rows verb args) (row_other limits kinds end asks args p) (rows_other limits rows verb args more lack)
-rows_other limits (Line word kinds end asks ∷ rows) verb args (inr off, more) lack =
-    let not : is_word verb word ≡ false = off verb lack in
-    rw not (rows_other limits rows verb args more lack)
-
 begun_other : (s : Start) (b : Bool) → says_next (if b then said.Skip s else said.Block s) ≡ false
 begun_other s true = refl
 begun_other s false = refl
@@ -132,69 +92,29 @@ no_next [] lack = refl
 no_next (b ∷ []) lack = no_one (nat_eq b 37)
 no_next (b ∷ c ∷ bs) lack = no_both (nat_eq b 37) (nat_eq c 110) (pointwise nat_eq bs (codes "ext")) (λ p q. lack.1.0 p (eqb-true c 110 q))
 
-table_other : (limits : Limits) → AskOthers (table limits)
-table_other limits = (
-  inl (λ keys. refl),
-  (
-    inl (λ keys. refl),
-    (
-      inl (λ key flags e n quiet. begun_other _ (nat_lt limits.largest (64 + length key + n))),
-      (
-        inl (λ key flags e n quiet. begun_other _ (nat_lt limits.largest (64 + length key + n))),
-        (
-          inl (λ key flags e n quiet. begun_other _ (nat_lt limits.largest (64 + length key + n))),
-          (
-            inl (λ key flags e n unique quiet. begun_other _ (nat_lt limits.largest (64 + length key + n))),
-            (
-              inl (λ key delta quiet. refl),
-              (
-                inl (λ key delta quiet. refl),
-                (
-                  inl (λ key e quiet. refl),
-                  (
-                    inl (λ key quiet. refl),
-                    (
-                      inl (λ moment. refl),
-                      (
-                        inl (λ target. refl),
-                        (
-                          inl (λ target. refl),
-                          (
-                            inr no_next,
-                            (
-                              inl refl,
-                              tt,
-                            ),
-                          ),
-                        ),
-                      ),
-                    ),
-                  ),
-                ),
-              ),
-            ),
-          ),
-        ),
-      ),
-    ),
-  ),
-)
-
-tokens_other : (limits : Limits) (line : List ℕ) (ts : List (List ℕ)) → AreTokens line ts → LacksNext line → says_next (tokens_say limits ts) ≡ false
-tokens_other limits line [] made lack = refl
-tokens_other limits line (t ∷ ts) made lack =
-    let first = made.1 in
-    let whole : LacksNext (first.spaces ++ t ++ made.0) = subst (LacksNext) first.whole lack in
-    rows_other limits (table limits) t ts (table_other limits) (next_back first.spaces t (next_front false (first.spaces ++ t) made.0 whole))
-
-no_cr_lacks : (line : List ℕ) (b : Bool) → LacksNext line → LacksNext (if b then take (length line - 1) line else line)
-no_cr_lacks line true lack = next_take (length line - 1) line lack
-no_cr_lacks line false lack = lack
+-- what each row asks begins no script, unless its verb has a % straight before an n
+table_other : (limits : Limits) → HoldsOfRows (λ s. says_next s ≡ false) LacksNext (table limits)
+table_other limits =
+    and (inl (λ keys. refl))
+    (and (inl (λ keys. refl))
+    (and (inl (λ key flags e n quiet. begun_other _ (nat_lt limits.largest (64 + length key + n))))
+    (and (inl (λ key flags e n quiet. begun_other _ (nat_lt limits.largest (64 + length key + n))))
+    (and (inl (λ key flags e n quiet. begun_other _ (nat_lt limits.largest (64 + length key + n))))
+    (and (inl (λ key flags e n unique quiet. begun_other _ (nat_lt limits.largest (64 + length key + n))))
+    (and (inl (λ key delta quiet. refl))
+    (and (inl (λ key delta quiet. refl))
+    (and (inl (λ key e quiet. refl))
+    (and (inl (λ key quiet. refl))
+    (and (inl (λ moment. refl))
+    (and (inl (λ target. refl))
+    (and (inl (λ target. refl))
+    (and (inr no_next)
+    (and (inl refl)
+    tt))))))))))))))
 
 line_other : (limits : Limits) (line : List ℕ) → LacksNext line → says_next (says limits line) ≡ false
-unfolding says
-line_other limits line lack =
-    tokens_other limits (no_cr line) (tokens (no_cr line)) (tokens_make_line (no_cr line)) (no_cr_lacks line (get_or line (length line - 1) 0 == 13) lack)
+line_other limits =
+    line_holds (λ s. says_next s ≡ false) (λ kind quiet. refl) refl limits LacksNext next_take (λ spaces token rest blank some lack. next_back spaces token (next_front false (spaces ++ token) rest lack)) (table_other limits)
 
 spelling_other : (limits : Limits) (bytes : List ℕ) (r : Request) → Spells limits bytes r → LacksNext bytes → IsOther r
 spelling_other limits bytes r (inl p) lack =
@@ -209,7 +129,7 @@ spelt_others limits stream (r ∷ rs) rest s lack =
     All-cons IsOther r rs (spelling_other limits s.0 r s.3 (next_front false s.0 s.1 both)) (spelt_others limits s.1 rs rest s.5 (next_back s.0 s.1 both))
 
 -- a stream in which no % stands straight before an n is one script
-pub lacks_next : (limits : Limits) (stream : List ℕ) → LacksNext stream → AreScripts limits stream (stream ∷ [])
+pub lacks_next : (limits : Limits) (stream : List ℕ) → LacksNext stream → IsLast limits stream
 lacks_next limits stream lack =
     let r = stream_reads limits stream in
-    (refl, record { requests = r.0; rest = r.1; reads = r.2; others = spelt_others limits stream r.0 r.1 r.2.spelt lack })
+    record { requests = r.0; rest = r.1; reads = r.2; others = spelt_others limits stream r.0 r.1 r.2.spelt lack }

@@ -8,12 +8,11 @@ use Rattle.std.proofs.lemmas.List.Elements.{All-nil, All-head, All-tail, All-app
 use Rattle.mc_item.specs.declared.command.Command.TheVariants as commands
 use Rattle.mc_proto.specs.{Lines.Lacks, Table.says, Reader.After}
 use Rattle.mc_proto.specs.Grammar.{IsLine, Spells, Spelt, Reads, BeginsNone, closes, closed, wanted, asked, IsFine}
-use Rattle.mc_proto.specs.Scripts.{IsOther, IsWhole, IsLast, IsCut, AreScripts, ReadAlone, StandsFirst, is_next, says_next, with_next}
+use Rattle.mc_proto.specs.Scripts.{IsOther, IsWhole, IsLast, IsCut, AreScripts, ReadAlone, is_next, says_next, with_next}
 use Rattle.mc_proto.specs.declared.{request.Limits.Limits, request.LineFault.TheVariants.LineTooLong, request.LineFault.TheVariants.Chunk}
-use Rattle.mc_proto.specs.declared.{request.Request.Request, splitting.First.First, state.Said.Said, state.Start.Start, state.State.TheVariants.Line}
+use Rattle.mc_proto.specs.declared.{request.Request.Request, state.Said.Said, state.Start.Start, state.State.TheVariants.Line}
 use Rattle.mc_proto.specs.declared.{state.State.TheVariants.Closed}
 use Rattle.mc_proto.specs.declared.request.Request.TheVariants.{Get, One, Bad, At, Next, Juggle, Crawl, Quit}
-use Rattle.mc_proto.specs.declared.splitting.First.TheVariants as firsts
 use Rattle.mc_proto.specs.declared.state.Said.TheVariants as said
 use Rattle.mc_proto.proofs.{RestLemmas.after_reads, RestLemmas.in_line, RestLemmas.in_block, SpellingLemmas.begins_no_other, StreamLemmas.reading_on}
 use Rattle.mc_proto.proofs.TakingLemmas.{parts, spelt_on, spelt_push, closed_push, stored_open, too_long}
@@ -131,9 +130,6 @@ whole_on limits front back r w sp stays other = record {
   reads_on = closed_push w.requests r false w.reads_on stays;
 }
 
-pub whole_more : (limits : Limits) (bytes : List ℕ) (m n : ℕ) (r : Request) → IsWhole limits (take m bytes) → Spells limits (take n (drop m bytes)) r → closes r ≡ false → IsOther r → IsWhole limits (take (m + n) bytes)
-whole_more limits bytes m n r w sp stays other = rw (take-add m n bytes) (whole_on limits (take m bytes) (take n (drop m bytes)) r w sp stays other)
-
 -- requests, and others behind them
 spelt_both : (limits : Limits) (a b rest : List ℕ) (rs qs : List Request) → Spelt limits a rs [] → closed rs ≡ false → Spelt limits b qs rest → Spelt limits (a ++ b) (rs ++ qs) rest
 spelt_both limits a b rest [] qs p stays q = subst (λ (t : List ℕ). Spelt limits (t ++ b) qs rest) (sym p) q
@@ -157,24 +153,6 @@ last_on limits front back w last = record {
   };
   others = All-append IsOther w.requests last.requests w.others last.others;
 }
-
-pub last_behind : (limits : Limits) (bytes : List ℕ) (m : ℕ) → IsWhole limits (take m bytes) → IsLast limits (drop m bytes) → IsLast limits bytes
-last_behind limits bytes m w last = subst (IsLast limits) (take-append-drop m bytes) (last_on limits (take m bytes) (drop m bytes) w last)
-
-stands_at : (limits : Limits) (bytes back : List ℕ) (m : ℕ) (f g : First) → back ≡ drop m bytes → f ≡ g → StandsFirst limits back f → StandsFirst limits (drop m bytes) g
-stands_at limits bytes back m f g is told st = subst (λ (k : First). StandsFirst limits (drop m bytes) k) told (subst (λ (t : List ℕ). StandsFirst limits t f) is st)
-
--- what stands behind a whole script so far is a request with which it goes on
-pub goes_behind : (limits : Limits) (bytes back : List ℕ) (m n : ℕ) (f : First) → back ≡ drop m bytes → f ≡ firsts.More n → StandsFirst limits back f → m ≤ length bytes → IsWhole limits (take m bytes)
-    → (m + n ≤ length bytes) × IsWhole limits (take (m + n) bytes)
-goes_behind limits bytes back m n f is told st within w =
-    let here = stands_at limits bytes back m f (firsts.More n) is told st in
-    let fits : n ≤ length (drop m bytes) = here.1 in
-    (omega (arith, length-drop m bytes), whole_more limits bytes m n here.2.0 w here.2.1 here.2.2 here.2.3)
-
--- nothing stands there behind which a script could begin
-pub ends_behind : (limits : Limits) (bytes back : List ℕ) (m : ℕ) (f : First) → back ≡ drop m bytes → f ≡ firsts.Last → StandsFirst limits back f → IsWhole limits (take m bytes) → IsLast limits bytes
-ends_behind limits bytes back m f is told st w = last_behind limits bytes m w (stands_at limits bytes back m f firsts.Last is told st)
 
 -- the first script and what is behind its end are those of no other reading
 same_cut : (limits : Limits) (s t x y k l : List ℕ) (qs rs : List Request) → Spelt limits s qs [] → Spelt limits t rs [] → All IsOther qs → All IsOther rs → Spells limits k Next → Spells limits l Next

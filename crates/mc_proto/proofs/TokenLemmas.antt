@@ -165,9 +165,9 @@ tests true false least small o l s = rw l refl
 tests false all least small o l s = refl
 
 -- a text of few digits is a number below 2^64
-pub few_digits : (most : ℕ) (token : List ℕ) → length token ≤ most → most ≤ 19 → number_in token ≡ number most token
-few_digits most token least few =
+pub few_digits : (token : List ℕ) → length token ≤ 18 → number_in token ≡ number 18 token
+few_digits token few =
     let within : (all : list_all is_digit token ≡ true) → number_of token < 2 ^ 64 =
     λ all. let small = number_small token 0 0 all (omega arith) in omega (arith, pow_within (number_of token) (0 + length token) 19 small (omega arith)) in
-    tests (nat_lt 0 (length token)) (list_all is_digit token) (nat_le (length token) most) (nat_lt (number_of token) (2 ^ 64)) (Some (number_of token)) (le-leb (length token) most least)
+    tests (nat_lt 0 (length token)) (list_all is_digit token) (nat_le (length token) 18) (nat_lt (number_of token) (2 ^ 64)) (Some (number_of token)) (le-leb (length token) 18 few)
     (λ all. lt-ltb (number_of token) (2 ^ 64) (within all))

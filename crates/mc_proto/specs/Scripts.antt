@@ -1,7 +1,7 @@
 -- The scripts of an input: a line %next in the place of a command begins the next script (own).
-use Rattle.std.specs.Prelude.{◌≡◌, ◌<◌, ◌≤◌, ◌+◌, ◌⊎◌, List, [], ◌∷◌, ◌++◌, ℕ, Bool, true, false, Option, Some, None, All, length, take, drop}
+use Rattle.std.specs.Prelude.{◌≡◌, ◌<◌, ◌≤◌, ◌⊎◌, List, [], ◌∷◌, ◌++◌, ℕ, Bool, true, false, Option, Some, None, All, length, take}
 use Rattle.mc_proto.specs.{Lines.Lacks, Grammar.Spells, Grammar.Spelt, Grammar.Reads, Grammar.closes, Grammar.closed}
-use Rattle.mc_proto.specs.declared.{request.Limits.Limits, request.Request.Request, splitting.End.End, splitting.First.First, splitting.First.TheVariants.More}
+use Rattle.mc_proto.specs.declared.{request.Limits.Limits, request.Request.Request, splitting.First.First, splitting.First.TheVariants.More}
 use Rattle.mc_proto.specs.declared.{splitting.First.TheVariants.Begins, splitting.First.TheVariants.Last, state.Said.Said}
 use Rattle.mc_proto.specs.declared.request.Request.TheVariants.{Get, One, Bad, At, Next, Juggle, Crawl, Quit}
 use Rattle.mc_proto.specs.declared.state.Said.TheVariants as said
@@ -73,11 +73,6 @@ AsksFirst limits stream f = (first_len f ≤ length stream → StandsFirst limit
 abbrev pub LineAsks : Limits → List ℕ → Option First → Type 0
 LineAsks limits bytes None = Lacks 10 bytes × (length bytes ≤ 65536)
 LineAsks limits bytes (Some f) = (more : List ℕ) → AsksFirst limits (bytes ++ more) f
-
--- where the first script of a stream ends: behind so many bytes, before a line of so many bytes; or where the stream ends
-abbrev pub EndsFirst : Limits → List ℕ → Option End → Type 0
-EndsFirst limits stream None = IsLast limits stream
-EndsFirst limits stream (Some e) = (0 < e.line) × (e.script + e.line ≤ length stream) × IsWhole limits (take e.script stream) × Spells limits (take e.line (drop e.script stream)) Next
 
 -- whether a request begins the next script
 abbrev pub is_next : Request → Bool

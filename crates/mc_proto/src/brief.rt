@@ -31,7 +31,6 @@ pub fn quick_count(alloc: Global, limits: Limits, line: &[u8]) -> Result<Option<
     ensures value { IfOk result (λ found. IfSome found (λ s. s ≡ tokens_say limits (tokens line.now))) }
     ensures fine { IfOk result (λ found. IfSome found (λ s. IsFine limits s)) }
 {
-    let _limits = limits;
     let Some((up, rest)) = after_count(line) else {
         return Ok(None);
     };
@@ -68,7 +67,6 @@ pub fn quick_touch(alloc: Global, limits: Limits, line: &[u8]) -> Result<Option<
     ensures value { IfOk result (λ found. IfSome found (λ s. s ≡ tokens_say limits (tokens line.now))) }
     ensures fine { IfOk result (λ found. IfSome found (λ s. IsFine limits s)) }
 {
-    let _limits = limits;
     let Some(rest) = after_touch(line) else {
         return Ok(None);
     };
@@ -104,7 +102,6 @@ pub fn quick_delete(alloc: Global, limits: Limits, line: &[u8]) -> Result<Option
     ensures value { IfOk result (λ found. IfSome found (λ s. s ≡ tokens_say limits (tokens line.now))) }
     ensures fine { IfOk result (λ found. IfSome found (λ s. IsFine limits s)) }
 {
-    let _limits = limits;
     let Some(rest) = after_delete(line) else {
         return Ok(None);
     };

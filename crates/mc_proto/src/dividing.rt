@@ -56,10 +56,11 @@ fn pass_script(alloc: Global, limits: Limits, uncut: &mut Uncut) -> Result<Optio
     }
 }
 
-/// The scripts of an input that lies in pieces, as `split_scripts` cuts its bytes. A piece in which no script begins or
-/// ends moves to its script whole; of another one each script has a copy of its part. `NoMemory` is answered where a growth
-/// was refused.
-pub fn split_pieces(
+/// The scripts of an input that lies in pieces, as they would be read one after the other. A `%next` within a block is
+/// part of the block, and nothing behind a line that is too long begins a script. The lines between the scripts are part
+/// of none. A piece in which no script begins or ends moves to its script whole; of another one each script has a copy of
+/// its part. `NoMemory` is answered where a growth was refused.
+pub fn split_scripts(
     alloc: Global,
     input: VecDeque<Vec<u8>>,
     limits: Limits,

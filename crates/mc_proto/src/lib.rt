@@ -26,7 +26,7 @@ mod token;
 mod uncut;
 mod verb;
 
-pub use dividing::split_pieces;
+pub use dividing::split_scripts;
 pub use gathering::{LONG, ReplyText, TextPart};
 pub use laws::{
     a_line_is_its_tokens, after_is_reading, every_stream_reads, no_spelling_begins_another,
@@ -35,7 +35,6 @@ pub use laws::{
 pub use reader::Reader;
 pub use request::{Keys, Limits, LineFault, Request, Rest, Target};
 pub use sink::{Sink, SinkFault, write_reply, write_whole};
-pub use splitting::split_scripts;
 pub use text::{
     fault_text, histogram_text, moves_text, push_end, push_fault, push_histogram, push_moves,
     push_reply, push_value_head, push_value_tail, reply_text, value_text,

@@ -1,10 +1,10 @@
-//! Cuts an input into scripts, at each line `%next` that stands in the place of a command.
-ghost use Rattle.std.specs.Prelude.{◌≡◌, true, IfOk, map};
+//! What a line asks for: a request with which a script goes on, or a `%next` in the place of a command, which begins the
+//! next script.
+ghost use Rattle.std.specs.Prelude.{◌≡◌, true, IfOk};
 ghost use Rattle.mc_proto.specs.Grammar.{IsFine, wanted};
 ghost use Rattle.mc_proto.specs.Scripts as scripts;
 ghost use Rattle.mc_proto.specs.declared.request.Limits.{Limits};
 
-use crate::lacking::lacks_next;
 use crate::line::said_of;
 use crate::request::{Limits, Request};
 use crate::state::Said;
@@ -22,13 +22,6 @@ pub enum First {
     Begins(usize),
     /// Part of a request, nothing, or a line that is too long: the script ends with the stream.
     Last,
-}
-
-/// Where a script ends that isn't the last one: how many bytes it has, and the line behind it.
-#[derive(Drop)]
-pub struct End {
-    pub script: usize,
-    pub line: usize,
 }
 
 // Whether a line says that the next script begins.
@@ -94,62 +87,4 @@ pub(crate) fn line_first(
         return Ok(Some(First::Begins(count)));
     }
     Ok(Some(First::More(count)))
-}
-
-// What stands first. A line and its block are looked at alone.
-fn first_of(alloc: Global, limits: Limits, bytes: &[u8]) -> Result<First, NoMemory>
-    ensures { IfOk result (λ f. scripts.StandsFirst limits bytes.now f) }
-{
-    let Some(first) = line_first(alloc, limits, bytes)? else {
-        return Ok(First::Last);
-    };
-    if bytes.len() < first_len(&first) {
-        return Ok(First::Last);
-    }
-    Ok(first)
-}
-
-// Where the first script of a stream ends; none where it is the last.
-fn first_end(alloc: Global, limits: Limits, bytes: &[u8]) -> Result<Option<End>, NoMemory>
-    ensures { IfOk result (λ e. scripts.EndsFirst limits bytes.now e) }
-{
-    let mut script = 0;
-    loop {
-        match first_of(alloc, limits, bytes.split_at(script).1)? {
-            First::More(count) => script += count,
-            First::Begins(line) => return Ok(Some(End { script, line })),
-            First::Last => return Ok(None),
-        }
-    }
-}
-
-// The same; lines are looked at only where a `%` stands straight before an `n`.
-fn end_of_first(alloc: Global, limits: Limits, bytes: &[u8]) -> Result<Option<End>, NoMemory>
-    ensures { IfOk result (λ e. scripts.EndsFirst limits bytes.now e) }
-{
-    if lacks_next(false, bytes) {
-        return Ok(None);
-    }
-    first_end(alloc, limits, bytes)
-}
-
-/// The scripts of an input, as they would be read one after the other. A `%next` within a block is part of the block,
-/// and nothing behind a line that is too long begins a script. No byte is copied; the lines between the scripts are part
-/// of none. `NoMemory` is answered where a growth was refused.
-pub fn split_scripts<'a>(
-    alloc: Global,
-    bytes: &'a [u8],
-    limits: Limits,
-) -> Result<Vec<&'a [u8]>, NoMemory>
-    ensures { IfOk result (λ v. scripts.AreScripts limits bytes.now (map (λ s. s.now) v.items)) }
-{
-    let mut scripts = Vec::new(alloc);
-    let mut rest = bytes;
-    while let Some(end) = end_of_first(alloc, limits, rest)? {
-        let (script, behind) = rest.split_at(end.script);
-        scripts.push(script)?;
-        rest = behind.split_at(end.line).1;
-    }
-    scripts.push(rest)?;
-    Ok(scripts)
 }

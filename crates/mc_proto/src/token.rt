@@ -128,13 +128,12 @@ pub fn key_of(alloc: Global, token: &[u8]) -> Result<Option<Key>, NoMemory>
     }
 }
 
-// The number of a token of 1 to `most` digits.
-fn number(most: usize, token: &[u8]) -> Option<u64>
-    requires { most ≤ 19 }
-    ensures value { result ≡ lines.number most token.now }
-    ensures bound { IfSome result (λ n. n < 10 ^ most) }
+// The number of a token of 1 to 18 digits.
+fn number(token: &[u8]) -> Option<u64>
+    ensures value { result ≡ lines.number 18 token.now }
+    ensures bound { IfSome result (λ n. n < 10 ^ 18) }
 {
-    if token.len() > most {
+    if token.len() > 18 {
         return None;
     }
     number_of(token)
@@ -209,12 +208,12 @@ pub fn exptime(token: &[u8]) -> Option<i64>
         return None;
     }
     if token[0] == b'-' {
-        match number(18, &token[1..]) {
+        match number(&token[1..]) {
             Some(n) => Some(-(n as i64)),
             None => None,
         }
     } else {
-        match number(18, token) {
+        match number(token) {
             Some(n) => Some(n as i64),
             None => None,
         }

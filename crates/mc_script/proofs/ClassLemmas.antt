@@ -3,7 +3,7 @@ use Rattle.std.proofs.Common.{◌≡◌, ◌+◌, ◌-◌, ◌<◌, ℕ, zero, s
 use Rattle.std.proofs.lemmas.List.{map-append}
 use Rattle.mc_item.specs.declared.{fault.Fault.Fault, item.ClassNo.ClassNo}
 use Rattle.mc_proto.specs.Answers.{Answer}
-use Rattle.mc_script.specs.{Calls.Adds, Calls.Breaks, Calls.Makes, Script.classes_from}
+use Rattle.mc_script.specs.{Calls.Adds, Calls.Breaks, Calls.Makes, Calls.SumsUp, Script.classes_from}
 use Rattle.mc_script.specs.Exchanges.{Call, Exchange, IsOfKind, exchange}
 use Rattle.mc_script.proofs.CallLemmas.{breaks_first, breaks_later, makes_both, makes_one}
 
@@ -30,26 +30,27 @@ classes_from-split first n all below =
     ap (classes_from first) is ∙ classes_from-append first n (suc (all - (n + 1)))
 
 -- the call of one class more was made
-pub class_more : (call : ClassNo → Call) (first n : ℕ) (answers : List Answer) (answer : Answer) (caller caller' turn turn' turn'' moment : ℕ) (notes notes' notes'' : List Exchange → Type 0)
-    → Makes (map call (classes_from first n)) answers caller turn turn' moment notes notes' → caller' ≡ caller → IsOfKind (call (record { 0 = first + n })) answer
+pub class_more : {S : Type 0} (call : ClassNo → Call) (sum_of : List Answer → S) (first n : ℕ) (sums sums' : S) (answer : Answer) (caller caller' turn turn' turn'' moment : ℕ) (notes notes' notes'' : List Exchange → Type 0)
+    → (so_far : SumsUp call sum_of (classes_from first n) sums caller turn turn' moment notes notes') → sums' ≡ sum_of (so_far.answers ++ answer ∷ []) → caller' ≡ caller → IsOfKind (call (record { 0 = first + n })) answer
     → Adds notes' notes'' (exchange caller' turn' (call (record { 0 = first + n })) moment answer ∷ []) → turn'' ≡ turn' + 1
-    → Makes (map call (classes_from first (n + 1))) (answers ++ answer ∷ []) caller turn turn'' moment notes notes''
-class_more call first n answers answer caller caller' turn turn' turn'' moment notes notes' notes'' so_far same kind noted next =
+    → SumsUp call sum_of (classes_from first (n + 1)) sums' caller turn turn'' moment notes notes''
+class_more call sum_of first n sums sums' answer caller caller' turn turn' turn'' moment notes notes' notes'' so_far added same kind noted next =
+    let answers = so_far.answers in
     let one : Makes (call (record { 0 = first + n }) ∷ []) (answer ∷ []) caller' turn' turn'' moment notes' notes'' =
     makes_one (call (record { 0 = first + n })) answer caller' turn' turn'' moment notes' notes'' kind noted next in
-    let both = makes_both (map call (classes_from first n)) (call (record { 0 = first + n }) ∷ []) answers (answer ∷ []) caller caller' turn turn' turn'' moment notes notes' notes'' so_far same one in
+    let both = makes_both (map call (classes_from first n)) (call (record { 0 = first + n }) ∷ []) answers (answer ∷ []) caller caller' turn turn' turn'' moment notes notes' notes'' so_far.makes same one in
     let same_calls : map call (classes_from first n) ++ call (record { 0 = first + n }) ∷ [] ≡ map call (classes_from first (n + 1)) =
     sym (ap (map call) (classes_from-push first n) ∙ map-append call (classes_from first n) (record { 0 = first + n } ∷ [])) in
-    subst (λ (cs : List Call). Makes cs (answers ++ answer ∷ []) caller turn turn'' moment notes notes'') same_calls both
+    record { answers = answers ++ answer ∷ []; added = added; makes = subst (λ (cs : List Call). Makes cs (so_far.answers ++ answer ∷ []) caller turn turn'' moment notes notes'') same_calls both }
 
 -- the call of a class failed behind those of others
-pub class_fails : (call : ClassNo → Call) (first n all : ℕ) (fault : Fault) (answers : List Answer) (caller caller' turn turn' moment : ℕ) (notes notes' notes'' : List Exchange → Type 0)
-    → n < all → Makes (map call (classes_from first n)) answers caller turn turn' moment notes notes' → caller' ≡ caller → Adds notes' notes'' []
+pub class_fails : {S : Type 0} (call : ClassNo → Call) (sum_of : List Answer → S) (first n all : ℕ) (fault : Fault) (sums : S) (caller caller' turn turn' moment : ℕ) (notes notes' notes'' : List Exchange → Type 0)
+    → n < all → SumsUp call sum_of (classes_from first n) sums caller turn turn' moment notes notes' → caller' ≡ caller → Adds notes' notes'' []
     → Breaks fault (map call (classes_from first all)) caller turn moment notes notes''
-class_fails call first n all fault answers caller caller' turn turn' moment notes notes' notes'' below so_far same none =
+class_fails call sum_of first n all fault sums caller caller' turn turn' moment notes notes' notes'' below so_far same none =
     let here = call (record { 0 = first + n }) in
     let later = map call (classes_from (first + n + 1) (all - (n + 1))) in
-    let made = breaks_later fault (map call (classes_from first n)) (here ∷ []) later answers caller caller' turn turn' moment notes notes' notes'' so_far same
+    let made = breaks_later fault (map call (classes_from first n)) (here ∷ []) later so_far.answers caller caller' turn turn' moment notes notes' notes'' so_far.makes same
     (breaks_first fault here [] caller' turn' moment notes' notes'' none) in
     subst (λ (cs : List Call). Breaks fault cs caller turn moment notes notes'')
     (sym (ap (map call) (classes_from-split first n all below) ∙ map-append call (classes_from first n) (record { 0 = first + n } ∷ classes_from (first + n + 1) (all - (n + 1))))) made

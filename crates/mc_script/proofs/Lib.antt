@@ -1,8 +1,7 @@
 pub mod IterLemmas
 pub mod CallLemmas
 pub mod ClassLemmas
-pub mod JuggleLemmas
-pub mod HistogramLemmas
+pub mod SumLemmas
 pub mod ProgressLemmas
 pub mod PieceLemmas
 pub mod RunLemmas

@@ -1,12 +1,12 @@
 -- What is known of a caller's calls, and what a request does to it.
 use Rattle.std.specs.Prelude.{ℕ, ◌≡◌, ◌≤◌, ◌<◌, ◌+◌, Bool, List, [], ◌∷◌, ◌++◌, length, map, take}
 use Rattle.std.specs.List.{sum}
-use Rattle.mc_item.specs.declared.{command.Command.TheVariants.Get, fault.Fault.Fault, item.ClassNo.ClassNo, counts.Histogram.Histogram, counts.Moves.Moves}
+use Rattle.mc_item.specs.declared.{command.Command.TheVariants.Get, fault.Fault.Fault, item.ClassNo.ClassNo, counts.Histogram.Histogram}
 use Rattle.mc_item.specs.declared.{reply.Reply.Reply}
 use Rattle.mc_item.specs.declared.fault.Fault.TheVariants as faults
-use Rattle.mc_proto.specs.{Answers.Answer, Answers.Replied, Answers.counts_of, Answers.moves_of, Answers.text_of, Text.value_text}
+use Rattle.mc_proto.specs.{Answers.Answer, Answers.Replied, Answers.text_of, Text.value_text}
 use Rattle.mc_proto.specs.declared.{request.Limits.Limits, request.Request.Request}
-use Rattle.mc_script.specs.Exchanges.{AreAnswers, Asks, Call, Crawls, Exchange, Juggles, exchanges}
+use Rattle.mc_script.specs.Exchanges.{AreAnswers, Asks, Call, Exchange, exchanges}
 use Rattle.mc_script.specs.Script.{calls_of}
 
 -- what was known of some calls is now known of them and these
@@ -52,17 +52,11 @@ pub record AnswersKey (key : List ℕ) (with_cas : Bool) (caller turn turn' mome
 abbrev pub FailsKey : Fault → List ℕ → ℕ → ℕ → ℕ → (List Exchange → Type 0) → (List Exchange → Type 0) → Type 0
 FailsKey fault key caller turn moment notes notes' = Breaks fault (Asks (Get key) ∷ []) caller turn moment notes notes'
 
--- the maintainer worked on these classes, in order, and these are the sums of its moves
-pub record JugglesAll (classes : List ClassNo) (moves : Moves) (caller turn turn' moment : ℕ) (notes notes' : List Exchange → Type 0) : Type 0 where
+-- the maintainer or the crawler worked on these classes, in order, and this is the sum of its moves or histograms
+pub record SumsUp {S : Type 0} (call : ClassNo → Call) (sum_of : List Answer → S) (classes : List ClassNo) (sums : S) (caller turn turn' moment : ℕ) (notes notes' : List Exchange → Type 0) : Type 0 where
   pub answers : List Answer
-  pub sums : moves ≡ moves_of answers
-  pub makes : Makes (map Juggles classes) answers caller turn turn' moment notes notes'
-
--- the crawler worked on these classes, in order, and this is the sum of its histograms
-pub record CrawlsAll (classes : List ClassNo) (histogram : Histogram) (caller turn turn' moment : ℕ) (notes notes' : List Exchange → Type 0) : Type 0 where
-  pub answers : List Answer
-  pub sums : histogram ≡ counts_of answers
-  pub makes : Makes (map Crawls classes) answers caller turn turn' moment notes notes'
+  pub added : sums ≡ sum_of answers
+  pub makes : Makes (map call classes) answers caller turn turn' moment notes notes'
 
 -- each entry that was seen is counted as one kind
 abbrev pub AddsUp : Histogram → Type 0

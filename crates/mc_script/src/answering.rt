@@ -1,5 +1,5 @@
 //! One request: its calls are made, and its text is gathered.
-ghost use Rattle.std.specs.Prelude.{◌≡◌, ◌≤◌, ◌++◌, ◌^◌, [], ◌∷◌, OnErr, OnOk, IfErr, IsErrOf, if◌then◌else◌};
+ghost use Rattle.std.specs.Prelude.{◌≡◌, ◌≤◌, ◌++◌, ◌^◌, [], OnErr, OnOk, IfErr, IsErrOf, if◌then◌else◌};
 ghost use Rattle.mc_item.specs.declared.fault.Fault.TheVariants as faults;
 ghost use Rattle.mc_proto.specs.{Grammar.IsModerate, Text.fault_text, Text.reply_text};
 ghost use Rattle.mc_proto.specs.declared.request.Limits.{Limits};
@@ -44,57 +44,7 @@ fn answer_key<C: Calls>(
     Ok(())
 }
 
-// A get of a list of keys: each in order, and the end of its text.
-fn answer_keys<C: Calls>(
-    rt: &impl Wait,
-    calls: &mut C,
-    text: &mut ReplyText,
-    keys: Vec<Key>,
-    with_cas: bool,
-    moment: u64,
-) -> Result<(), Fault>
-    requires may { C.may_call calls.old }
-    requires early { moment ≤ 2 ^ 62 }
-    ensures may { OnOk result (C.may_call calls.new) }
-    ensures place { C.place calls.new ≡ C.place calls.old }
-    ensures caller { C.caller calls.new ≡ C.caller calls.old }
-    ensures ok { (limits : Limits) → OnOk result (Answers limits (requests.Get keys.items with_cas) (C.caller calls.old) (C.turn calls.old) (C.turn calls.new) moment (C.notes calls.old) (C.notes calls.new) text.old.items text.new.items) }
-    ensures err { (limits : Limits) → IfErr result (λ e. Fails e limits (requests.Get keys.items with_cas) (C.caller calls.old) (C.turn calls.old) moment (C.notes calls.old) (C.notes calls.new)) }
-    ensures front { Begins text.old.items text.new.items }
-    ensures full { IsErrOf result faults.HistoryFull → C.is_full calls.new }
-{
-    for key in keys {
-        answer_key(rt, calls, text, key, with_cas, moment)?;
-    }
-    text.push_end()?;
-    Ok(())
-}
-
-// A get of one key, and the end of its text.
-fn answer_lone_key<C: Calls>(
-    rt: &impl Wait,
-    calls: &mut C,
-    text: &mut ReplyText,
-    key: Key,
-    with_cas: bool,
-    moment: u64,
-) -> Result<(), Fault>
-    requires may { C.may_call calls.old }
-    requires early { moment ≤ 2 ^ 62 }
-    ensures may { OnOk result (C.may_call calls.new) }
-    ensures place { C.place calls.new ≡ C.place calls.old }
-    ensures caller { C.caller calls.new ≡ C.caller calls.old }
-    ensures ok { (limits : Limits) → OnOk result (Answers limits (requests.Get (key ∷ []) with_cas) (C.caller calls.old) (C.turn calls.old) (C.turn calls.new) moment (C.notes calls.old) (C.notes calls.new) text.old.items text.new.items) }
-    ensures err { (limits : Limits) → IfErr result (λ e. Fails e limits (requests.Get (key ∷ []) with_cas) (C.caller calls.old) (C.turn calls.old) moment (C.notes calls.old) (C.notes calls.new)) }
-    ensures front { Begins text.old.items text.new.items }
-    ensures full { IsErrOf result faults.HistoryFull → C.is_full calls.new }
-{
-    answer_key(rt, calls, text, key, with_cas, moment)?;
-    text.push_end()?;
-    Ok(())
-}
-
-// A get, of one key or of a list.
+// A get, of one key or of a list: each in order, and the end of its text.
 fn answer_get<C: Calls>(
     rt: &impl Wait,
     calls: &mut C,
@@ -114,9 +64,15 @@ fn answer_get<C: Calls>(
     ensures full { IsErrOf result faults.HistoryFull → C.is_full calls.new }
 {
     match keys.into_one() {
-        Ok(key) => answer_lone_key(rt, calls, text, key, with_cas, moment),
-        Err(keys) => answer_keys(rt, calls, text, keys, with_cas, moment),
+        Ok(key) => answer_key(rt, calls, text, key, with_cas, moment)?,
+        Err(keys) => {
+            for key in keys {
+                answer_key(rt, calls, text, key, with_cas, moment)?;
+            }
+        }
     }
+    text.push_end()?;
+    Ok(())
 }
 
 // A reply's text, unless it is quiet.

@@ -1,9 +1,9 @@
 //! The crawler's directive: it is one call for each class that it names, and the sum of their histograms is printed.
 ghost use Rattle.std.specs.Prelude.{◌≡◌, ◌+◌, ◌<◌, ◌≤◌, ◌^◌, ℕ, map, IfErr, IfOk, OnOk, IsErrOf};
 ghost use Rattle.mc_item.specs.declared.fault.Fault.TheVariants as faults;
-ghost use Rattle.mc_proto.specs.Grammar.{AreAmong};
+ghost use Rattle.mc_proto.specs.{Answers.counts_of, Grammar.AreAmong};
 ghost use Rattle.mc_proto.specs.declared.request.Request.TheVariants as requests;
-ghost use Rattle.mc_script.specs.Calls.{Answers, Begins, Breaks, Fails, CrawlsAll};
+ghost use Rattle.mc_script.specs.Calls.{Answers, Begins, Breaks, Fails, SumsUp};
 ghost use Rattle.mc_script.specs.{Exchanges.Crawls, Script.AllThere, Script.classes_from, Script.classes_of};
 
 use crate::calls::Calls;
@@ -26,7 +26,7 @@ fn crawl_from<C: Calls>(
     ensures may { OnOk result (C.may_call calls.new) }
     ensures place { C.place calls.new ≡ C.place calls.old }
     ensures caller { C.caller calls.new ≡ C.caller calls.old }
-    ensures ok { IfOk result (λ histogram. CrawlsAll (classes_from first count) histogram (C.caller calls.old) (C.turn calls.old) (C.turn calls.new) moment (C.notes calls.old) (C.notes calls.new)) }
+    ensures ok { IfOk result (λ histogram. SumsUp Crawls counts_of (classes_from first count) histogram (C.caller calls.old) (C.turn calls.old) (C.turn calls.new) moment (C.notes calls.old) (C.notes calls.new)) }
     ensures err { IfErr result (λ e. Breaks e (map Crawls (classes_from first count)) (C.caller calls.old) (C.turn calls.old) moment (C.notes calls.old) (C.notes calls.new)) }
     ensures full { IsErrOf result faults.HistoryFull → C.is_full calls.new }
 {
@@ -53,7 +53,7 @@ pub(crate) fn crawl_target<C: Calls>(
     ensures may { OnOk result (C.may_call calls.new) }
     ensures place { C.place calls.new ≡ C.place calls.old }
     ensures caller { C.caller calls.new ≡ C.caller calls.old }
-    ensures ok { IfOk result (λ histogram. CrawlsAll (classes_of limits target) histogram (C.caller calls.old) (C.turn calls.old) (C.turn calls.new) moment (C.notes calls.old) (C.notes calls.new)) }
+    ensures ok { IfOk result (λ histogram. SumsUp Crawls counts_of (classes_of limits target) histogram (C.caller calls.old) (C.turn calls.old) (C.turn calls.new) moment (C.notes calls.old) (C.notes calls.new)) }
     ensures err { IfErr result (λ e. Breaks e (map Crawls (classes_of limits target)) (C.caller calls.old) (C.turn calls.old) moment (C.notes calls.old) (C.notes calls.new)) }
     ensures full { IsErrOf result faults.HistoryFull → C.is_full calls.new }
 {

@@ -1,9 +1,9 @@
 //! The maintainer's directive: it is one call for each class that it names, and their sums are printed.
 ghost use Rattle.std.specs.Prelude.{◌≡◌, ◌+◌, ◌<◌, ◌≤◌, ◌^◌, ℕ, map, IfErr, IfOk, OnOk, IsErrOf};
 ghost use Rattle.mc_item.specs.declared.fault.Fault.TheVariants as faults;
-ghost use Rattle.mc_proto.specs.Grammar.{AreAmong};
+ghost use Rattle.mc_proto.specs.{Answers.moves_of, Grammar.AreAmong};
 ghost use Rattle.mc_proto.specs.declared.request.Request.TheVariants as requests;
-ghost use Rattle.mc_script.specs.Calls.{Answers, Begins, Breaks, Fails, JugglesAll};
+ghost use Rattle.mc_script.specs.Calls.{Answers, Begins, Breaks, Fails, SumsUp};
 ghost use Rattle.mc_script.specs.{Exchanges.Juggles, Script.AllThere, Script.classes_from, Script.classes_of};
 
 use crate::calls::Calls;
@@ -26,7 +26,7 @@ fn juggle_from<C: Calls>(
     ensures may { OnOk result (C.may_call calls.new) }
     ensures place { C.place calls.new ≡ C.place calls.old }
     ensures caller { C.caller calls.new ≡ C.caller calls.old }
-    ensures ok { IfOk result (λ moves. JugglesAll (classes_from first count) moves (C.caller calls.old) (C.turn calls.old) (C.turn calls.new) moment (C.notes calls.old) (C.notes calls.new)) }
+    ensures ok { IfOk result (λ moves. SumsUp Juggles moves_of (classes_from first count) moves (C.caller calls.old) (C.turn calls.old) (C.turn calls.new) moment (C.notes calls.old) (C.notes calls.new)) }
     ensures err { IfErr result (λ e. Breaks e (map Juggles (classes_from first count)) (C.caller calls.old) (C.turn calls.old) moment (C.notes calls.old) (C.notes calls.new)) }
     ensures full { IsErrOf result faults.HistoryFull → C.is_full calls.new }
 {
@@ -57,7 +57,7 @@ pub(crate) fn juggle_target<C: Calls>(
     ensures may { OnOk result (C.may_call calls.new) }
     ensures place { C.place calls.new ≡ C.place calls.old }
     ensures caller { C.caller calls.new ≡ C.caller calls.old }
-    ensures ok { IfOk result (λ moves. JugglesAll (classes_of limits target) moves (C.caller calls.old) (C.turn calls.old) (C.turn calls.new) moment (C.notes calls.old) (C.notes calls.new)) }
+    ensures ok { IfOk result (λ moves. SumsUp Juggles moves_of (classes_of limits target) moves (C.caller calls.old) (C.turn calls.old) (C.turn calls.new) moment (C.notes calls.old) (C.notes calls.new)) }
     ensures err { IfErr result (λ e. Breaks e (map Juggles (classes_of limits target)) (C.caller calls.old) (C.turn calls.old) moment (C.notes calls.old) (C.notes calls.new)) }
     ensures full { IsErrOf result faults.HistoryFull → C.is_full calls.new }
 {

@@ -10,11 +10,7 @@ use std::{env, io};
 
 // The words of the command line.
 fn words_of(rt: &HostRuntime) -> io::Result<Vec<String>> {
-    let mut words = Vec::new(rt.alloc());
-    for word in env::args(rt)? {
-        words.push(word)?;
-    }
-    Ok(words)
+    Ok(env::args(rt)?.collect(rt.alloc())?)
 }
 
 // The exit with this status, and a line on standard error; that it fails changes no status.

@@ -1,27 +1,12 @@
 //! Inputs and the scripts that they are cut into, each with a `|` behind it.
 use crate::tests::show::{limits, text};
-use mc_proto::{split_pieces, split_scripts};
+use mc_proto::split_scripts;
 use std::alloc::Global;
 use std::collections::VecDeque;
 use std::process::Abort;
 
 // A name, an input, and its scripts.
 type Case = (&'static str, &'static [u8], &'static [u8]);
-
-fn push_scripts(rt: &impl Abort, out: &mut Vec<u8>, scripts: &[&[u8]]) {
-    for script in scripts {
-        text(rt, out, *script);
-        text(rt, out, b"|".as_slice());
-    }
-}
-
-// The scripts of an input, each with a `|` behind it.
-fn split(rt: &impl Abort, alloc: Global, input: &[u8]) -> Vec<u8> {
-    let scripts = split_scripts(alloc, input, limits()).expect(rt, "memory");
-    let mut out = Vec::new(alloc);
-    push_scripts(rt, &mut out, scripts.as_slice());
-    out
-}
 
 fn push_piece(rt: &impl Abort, alloc: Global, pieces: &mut VecDeque<Vec<u8>>, piece: &[u8]) {
     let copy = Vec::from_slice(alloc, piece).expect(rt, "memory");
@@ -50,9 +35,9 @@ fn push_all(rt: &impl Abort, out: &mut Vec<u8>, scripts: &[VecDeque<Vec<u8>>]) {
     }
 }
 
-// The same of an input in pieces.
+// The scripts of an input in pieces, each with a `|` behind it.
 fn split_in(rt: &impl Abort, alloc: Global, input: VecDeque<Vec<u8>>) -> Vec<u8> {
-    let scripts = split_pieces(alloc, input, limits()).expect(rt, "memory");
+    let scripts = split_scripts(alloc, input, limits()).expect(rt, "memory");
     let mut out = Vec::new(alloc);
     push_all(rt, &mut out, scripts.as_slice());
     out
@@ -76,16 +61,9 @@ fn check_pieces(
     same(rt, seen.as_slice(), want, name, size);
 }
 
-// The input is whole.
-fn check_whole(rt: &impl Abort, alloc: Global, name: &str, input: &[u8], want: &[u8]) {
-    let seen = split(rt, alloc, input);
-    same(rt, seen.as_slice(), want, name, input.len());
-}
-
-// Each input is cut whole, in one piece, in pieces of a byte and in pieces of seven.
+// Each input is cut in pieces of a byte, in pieces of seven, and in one piece.
 fn compare(rt: &impl Abort, alloc: Global, cases: &[Case]) {
     for (name, input, want) in cases {
-        check_whole(rt, alloc, *name, *input, *want);
         check_pieces(rt, alloc, *name, *input, *want, 1);
         check_pieces(rt, alloc, *name, *input, *want, 7);
         check_pieces(rt, alloc, *name, *input, *want, 1_000);
@@ -209,24 +187,24 @@ fn long(rt: &impl Abort, alloc: Global, count: usize, after: &[u8]) -> Vec<u8> {
     input
 }
 
-// A line of so many bytes `a` with others behind it, whole and in pieces of 1,000 bytes.
-fn check_long(rt: &impl Abort, alloc: Global, count: usize, after: &[u8], want: &[u8]) {
+// A line of so many bytes `a` with others behind it, in pieces of so many bytes.
+fn check_long(
+    rt: &impl Abort,
+    alloc: Global,
+    count: usize,
+    after: &[u8],
+    want: &[u8],
+    size: usize,
+) {
     let input = long(rt, alloc, count, after);
     let wanted = long(rt, alloc, count, want);
-    check_whole(
-        rt,
-        alloc,
-        "a long line",
-        input.as_slice(),
-        wanted.as_slice(),
-    );
     check_pieces(
         rt,
         alloc,
         "a long line",
         input.as_slice(),
         wanted.as_slice(),
-        1_000,
+        size,
     );
 }
 
@@ -234,9 +212,11 @@ fn check_long(rt: &impl Abort, alloc: Global, count: usize, after: &[u8], want: 
 fn no_script_begins_behind_a_line_that_is_too_long(rt: HostRuntime) {
     let after = b"\n%next\nget a\n%next\n".as_slice();
     let one = b"\n%next\nget a\n%next\n|".as_slice();
-    check_long(&rt, rt.alloc(), 65_537, after, one);
     let three = b"\n|get a\n||".as_slice();
-    check_long(&rt, rt.alloc(), 65_536, after, three);
+    for size in [1_000, 100_000] {
+        check_long(&rt, rt.alloc(), 65_537, after, one, size);
+        check_long(&rt, rt.alloc(), 65_536, after, three, size);
+    }
 }
 
 static PIECES: [&[u8]; 6] = [

@@ -6,7 +6,7 @@ use Rattle.mc_proto.proofs.dividing.pass_script.Goals as goal
 pub returns-then-lacks_next-clause-line : goal.returns-then-lacks_next-clause-line
 returns-then-lacks_next-clause-line c =
     let coming = c.args.uncut.now.coming in
-    subst (λ t. IsLast c.args.limits (t ++ c.args.uncut.now.coming)) (sym c.requires) (lacks_next c.args.limits coming (c.lacks_next.ensures.lacks c.if-lacks_next.true)).1
+    subst (λ t. IsLast c.args.limits (t ++ c.args.uncut.now.coming)) (sym c.requires) (lacks_next c.args.limits coming (c.lacks_next.ensures.lacks c.if-lacks_next.true))
 
 pub returns-in-Last-clause-line : goal.returns-in-Last-clause-line
 returns-in-Last-clause-line c =

@@ -1,5 +1,6 @@
 use Rattle.std.proofs.Common.{◌≡◌, ◌≤◌, ◌*◌, length}
-use Rattle.mc_script.specs.{Calls.AddsUp, Calls.CrawlsAll, Script.classes_from}
+use Rattle.mc_proto.specs.Answers.{counts_of}
+use Rattle.mc_script.specs.{Calls.AddsUp, Calls.SumsUp, Exchanges.Crawls, Script.classes_from}
 use Rattle.mc_script.proofs.crawling.crawl_from.Given as goal
 
 -- the classes so far were crawled, and no sum is large
@@ -11,5 +12,5 @@ invariant-loop-i g l = record {
   seen : l.sum.seen ≤ l.i * 4294967296;
   minutes : length l.sum.minutes ≡ 60;
   kinds : AddsUp l.sum;
-  crawled : CrawlsAll (classes_from l.first l.i) l.sum (g.C.Calls.caller l.fn.calls) (g.C.Calls.turn l.fn.calls) (g.C.Calls.turn l.calls) l.moment (g.C.Calls.notes l.fn.calls) (g.C.Calls.notes l.calls);
+  crawled : SumsUp Crawls counts_of (classes_from l.first l.i) l.sum (g.C.Calls.caller l.fn.calls) (g.C.Calls.turn l.fn.calls) (g.C.Calls.turn l.calls) l.moment (g.C.Calls.notes l.fn.calls) (g.C.Calls.notes l.calls);
 }

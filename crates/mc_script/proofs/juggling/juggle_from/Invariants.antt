@@ -1,5 +1,6 @@
 use Rattle.std.proofs.Common.{◌≡◌, ◌≤◌, ◌*◌}
-use Rattle.mc_script.specs.{Calls.JugglesAll, Script.classes_from}
+use Rattle.mc_proto.specs.Answers.{moves_of}
+use Rattle.mc_script.specs.{Calls.SumsUp, Exchanges.Juggles, Script.classes_from}
 use Rattle.mc_script.proofs.juggling.juggle_from.Given as goal
 
 -- the classes so far were juggled, and no sum is large
@@ -10,5 +11,5 @@ invariant-loop-i g l = record {
   caller : g.C.Calls.caller l.calls ≡ g.C.Calls.caller l.fn.calls;
   reclaimed : l.sums.reclaimed ≤ l.i * 4294967295;
   moved : l.sums.moved ≤ l.i * 4294967295;
-  juggled : JugglesAll (classes_from l.first l.i) l.sums (g.C.Calls.caller l.fn.calls) (g.C.Calls.turn l.fn.calls) (g.C.Calls.turn l.calls) l.moment (g.C.Calls.notes l.fn.calls) (g.C.Calls.notes l.calls);
+  juggled : SumsUp Juggles moves_of (classes_from l.first l.i) l.sums (g.C.Calls.caller l.fn.calls) (g.C.Calls.turn l.fn.calls) (g.C.Calls.turn l.calls) l.moment (g.C.Calls.notes l.fn.calls) (g.C.Calls.notes l.calls);
 }

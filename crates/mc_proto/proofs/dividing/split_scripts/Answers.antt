@@ -2,7 +2,7 @@ use Rattle.std.proofs.Common.{◌∙◌, ap, subst, drop}
 use Rattle.std.specs.List.{flat_map}
 use Rattle.mc_proto.specs.{Scripts.IsLast, Uncut.PassesScript}
 use Rattle.mc_proto.proofs.DividingLemmas.{cut_last, cut_on}
-use Rattle.mc_proto.proofs.dividing.split_pieces.Goals as goal
+use Rattle.mc_proto.proofs.dividing.split_scripts.Goals as goal
 
 pub returns : goal.returns
 returns c =

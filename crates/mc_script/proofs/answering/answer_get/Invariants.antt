@@ -1,7 +1,7 @@
 use Rattle.std.proofs.Common.{◌≡◌}
 use Rattle.mc_script.specs.Calls.{Begins}
 use Rattle.mc_script.proofs.CallLemmas.{HasKeys}
-use Rattle.mc_script.proofs.answering.answer_keys.Given as goal
+use Rattle.mc_script.proofs.answering.answer_get.Given as goal
 
 -- the keys so far were answered
 abbrev pub invariant-loop-key : goal.invariant-loop-key

@@ -1,13 +1,33 @@
--- The crawler's directive, class by class, and the sums of histograms.
-use Rattle.std.proofs.Common.{◌≡◌, ◌+◌, ◌<◌, ◌^◌, ℕ, List, [], ◌∷◌, ◌++◌, refl, sym, ap, ◌∙◌, arith, length, map}
+-- The sums of moves, and of histograms.
+use Rattle.std.proofs.Common.{◌≡◌, ◌+◌, ◌<◌, ◌^◌, ℕ, List, [], ◌∷◌, ◌++◌, refl, sym, ap, ◌∙◌, arith, length}
 use Rattle.std.specs.List.{sum}
 use Rattle.std.proofs.lemmas.List.Sums.{sum_by-cons}
 use Rattle.mc_item.specs.Counts.{FitInPairs, FitsTogether, added, no_counts, sums}
-use Rattle.mc_item.specs.declared.{counts.Histogram.Histogram, fault.Fault.Fault}
-use Rattle.mc_proto.specs.Answers.{Answer, Counted, Moved, Replied, counts_of}
-use Rattle.mc_script.specs.Calls.{Adds, AddsUp, Breaks, CrawlsAll}
-use Rattle.mc_script.specs.{Exchanges.Crawls, Exchanges.Exchange, Exchanges.exchange, Script.classes_from}
-use Rattle.mc_script.proofs.ClassLemmas.{class_fails, class_more}
+use Rattle.mc_item.specs.declared.{counts.Histogram.Histogram, counts.Moves.Moves}
+use Rattle.mc_proto.specs.Answers.{Answer, Counted, Moved, Replied, counts_of, moves_of, moves_sum}
+use Rattle.mc_script.specs.Calls.{AddsUp}
+
+-- moves may be summed in any order
+moves_sum-assoc : (a b c : Moves) → moves_sum (moves_sum a b) c ≡ moves_sum a (moves_sum b c)
+moves_sum-assoc a b c =
+    let reclaimed : a.reclaimed + b.reclaimed + c.reclaimed ≡ a.reclaimed + (b.reclaimed + c.reclaimed) = omega arith in
+    let moved : a.moved + b.moved + c.moved ≡ a.moved + (b.moved + c.moved) = omega arith in
+    cc
+
+-- no moves are added behind
+moves_sum-none : (a : Moves) → moves_sum a (record { reclaimed = 0; moved = 0 }) ≡ moves_sum (record { reclaimed = 0; moved = 0 }) a
+moves_sum-none a =
+    let reclaimed : a.reclaimed + 0 ≡ 0 + a.reclaimed = omega arith in
+    let moved : a.moved + 0 ≡ 0 + a.moved = omega arith in
+    cc
+
+-- one answer more is added last
+pub moves_of-push : (answers : List Answer) (sums moves : Moves) → sums ≡ moves_of answers → moves_sum sums moves ≡ moves_of (answers ++ Moved moves ∷ [])
+moves_of-push [] sums moves is = rw is (sym (moves_sum-none moves))
+moves_of-push (Replied reply ∷ bs) sums moves is = moves_of-push bs sums moves is
+moves_of-push (Counted histogram ∷ bs) sums moves is = moves_of-push bs sums moves is
+moves_of-push (Moved first ∷ bs) sums moves is =
+    ap (λ s. moves_sum s moves) is ∙ moves_sum-assoc first (moves_of bs) moves ∙ ap (moves_sum first) (moves_of-push bs (moves_of bs) moves refl)
 
 -- lists may be summed place by place in any order
 sums-assoc : (a b c : List ℕ) → sums (sums a b) c ≡ sums a (sums b c)
@@ -54,11 +74,12 @@ added-comm a b =
     cc
 
 -- one answer more is added last
-counts_of-push : (answers : List Answer) (histogram : Histogram) → counts_of (answers ++ Counted histogram ∷ []) ≡ added (counts_of answers) histogram
-counts_of-push [] histogram = added-comm histogram no_counts
-counts_of-push (Replied reply ∷ bs) histogram = counts_of-push bs histogram
-counts_of-push (Moved moves ∷ bs) histogram = counts_of-push bs histogram
-counts_of-push (Counted first ∷ bs) histogram = ap (added first) (counts_of-push bs histogram) ∙ sym (added-assoc first (counts_of bs) histogram)
+pub counts_of-push : (answers : List Answer) (sum histogram : Histogram) → sum ≡ counts_of answers → added sum histogram ≡ counts_of (answers ++ Counted histogram ∷ [])
+counts_of-push [] sum histogram is = rw is (added-comm no_counts histogram)
+counts_of-push (Replied reply ∷ bs) sum histogram is = counts_of-push bs sum histogram is
+counts_of-push (Moved moves ∷ bs) sum histogram is = counts_of-push bs sum histogram is
+counts_of-push (Counted first ∷ bs) sum histogram is =
+    ap (λ s. added s histogram) is ∙ added-assoc first (counts_of bs) histogram ∙ ap (added first) (counts_of-push bs (counts_of bs) histogram refl)
 
 -- two lists of one length, summed place by place
 sum_sums : (xs ys : List ℕ) → length xs ≡ length ys → sum (sums xs ys) ≡ sum xs + sum ys
@@ -98,21 +119,3 @@ both_fit a b first second few = record {
   passed = omega arith;
   gone = omega arith;
 }
-
--- one class more
-pub crawled_more : (first n : ℕ) (sum histogram : Histogram) (caller caller' turn turn' turn'' moment : ℕ) (notes notes' notes'' : List Exchange → Type 0)
-    → CrawlsAll (classes_from first n) sum caller turn turn' moment notes notes' → caller' ≡ caller
-    → Adds notes' notes'' (exchange caller' turn' (Crawls (record { 0 = first + n })) moment (Counted histogram) ∷ []) → turn'' ≡ turn' + 1
-    → CrawlsAll (classes_from first (n + 1)) (added sum histogram) caller turn turn'' moment notes notes''
-crawled_more first n sum histogram caller caller' turn turn' turn'' moment notes notes' notes'' so_far same noted next = record {
-  answers = so_far.answers ++ Counted histogram ∷ [];
-  sums = ap (λ (s : Histogram). added s histogram) so_far.sums ∙ sym (counts_of-push so_far.answers histogram);
-  makes = class_more Crawls first n so_far.answers (Counted histogram) caller caller' turn turn' turn'' moment notes notes' notes'' so_far.makes same tt noted next;
-}
-
--- a class failed behind others
-pub crawled_fails : (first n all : ℕ) (fault : Fault) (sum : Histogram) (caller caller' turn turn' moment : ℕ) (notes notes' notes'' : List Exchange → Type 0)
-    → n < all → CrawlsAll (classes_from first n) sum caller turn turn' moment notes notes' → caller' ≡ caller → Adds notes' notes'' []
-    → Breaks fault (map Crawls (classes_from first all)) caller turn moment notes notes''
-crawled_fails first n all fault sum caller caller' turn turn' moment notes notes' notes'' below so_far same none =
-    class_fails Crawls first n all fault so_far.answers caller caller' turn turn' moment notes notes' notes'' below so_far.makes same none

@@ -1,7 +1,7 @@
 use Rattle.std.proofs.Common.{◌≡◌, ◌++◌, List, [], ℕ, length, map}
 use Rattle.std.specs.List.{flat_map}
 use Rattle.mc_proto.specs.Scripts.{AreScripts}
-use Rattle.mc_proto.proofs.dividing.split_pieces.Given as goal
+use Rattle.mc_proto.proofs.dividing.split_scripts.Given as goal
 
 -- the scripts so far, and those of what comes, are those of the input
 abbrev pub invariant-loop-uncut : goal.invariant-loop-uncut
