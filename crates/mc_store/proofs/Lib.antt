@@ -14,8 +14,6 @@ pub mod MeetLemmas
 pub mod RefusedLemmas
 pub mod SaidLemmas
 pub mod StepLemmas
-pub mod OneLemmas
-pub mod TwoLemmas
 pub mod EarnedLemmas
 pub mod UnderLemmas
 pub mod StillLemmas
@@ -28,6 +26,7 @@ pub mod CrawledLemmas
 pub mod CallLemmas
 pub mod SendLemmas
 pub mod TryingLemmas
+pub mod OpenedLemmas
 pub mod NeedLemmas
 pub mod EndLemmas
 pub mod HeldLemmas

@@ -1,5 +1,5 @@
 -- The classes that a command needs: each is one of the store, and behind a search it needs no other.
-use Rattle.std.proofs.Common.{◌≡◌, ◌≢◌, ◌≤◌, ◌+◌, ◌++◌, ◌&&◌, not, ℕ, List, refl, ap, sym, ◌∙◌, subst, length, arith, Bool, true, false}
+use Rattle.std.proofs.Common.{◌≡◌, ◌≢◌, ◌≤◌, ◌++◌, ◌&&◌, not, ℕ, List, refl, ap, sym, ◌∙◌, subst, length, arith, Bool, true, false}
 use Rattle.std.specs.Prelude.{◌==◌, Option, Some, None, IfSome, IsSomeAnd, nat_le, if◌then◌else◌, decimal}
 use Rattle.std.specs.Option.{option_map}
 use Rattle.std.proofs.lemmas.Bool.Decides.{nat_tests}

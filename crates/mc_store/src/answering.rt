@@ -204,14 +204,8 @@ pub(crate) fn answer_for<'a, N: Named>(
                 caller.tell_stripe(board, own);
                 answer_at_home(alloc, store, own, home, &mut none, caller, command, turn)
             }
-            Want::Burial(link) => {
+            Want::Burial(_) | Want::Classes(_) => {
                 drop(guard);
-                let want = Want::Burial(link);
-                answer_want(alloc, store, rt, own, caller, command, turn, want)
-            }
-            Want::Classes(wanted) => {
-                drop(guard);
-                let want = Want::Classes(wanted);
                 answer_want(alloc, store, rt, own, caller, command, turn, want)
             }
         },

@@ -4,11 +4,10 @@ ghost use Rattle.mc_item.specs.{Command.key_of, Measure.stripe_of};
 ghost use Rattle.mc_item.specs.declared.{call_event.CallEvent.CallEvent, fault.Fault.TheVariants.HistoryFull};
 ghost use Rattle.mc_board.specs.Histories.{Grows};
 ghost use Rattle.mc_evidence.specs.Setting.{IsClass};
-ghost use Rattle.mc_store.specs.{Callers.asked_for, Calls.IsCutBy, Calls.IsRepliedBy, Held.Ends, Held.IsCallOn, Locked.setting_of, Passes.next_who};
+ghost use Rattle.mc_store.specs.{Callers.asked_for, Calls.IsCutBy, Calls.IsRepliedBy, Held.IsCallOn, Locked.setting_of, Passes.next_who};
 ghost use Rattle.mc_store.specs.{Passes.caller_of, Serving.HasSeenShort};
 
 use crate::answering::{answer, answer_for};
-use crate::caller::Caller;
 use crate::locked::LockedStripe;
 use crate::named::Named;
 use crate::pass::Pass;
@@ -33,28 +32,8 @@ fn class_for(config: &Config, command: &Command) -> Option<ClassNo>
     }
 }
 
-// Makes a command on the stripe of its key, which is under its lock: a storage command whose new version has a class is tried on
-// that class at once, any other command on its stripe alone.
-fn command_under<N: Named>(
-    alloc: Global,
-    store: &Store<N>,
-    rt: &impl Wait,
-    own: &mut LockedStripe<N>,
-    caller: &mut Caller<N>,
-    command: &Command,
-    turn: Turn,
-) -> Result<Reply, Fault>
-    requires called { IsCallOn N.config own.old.stripe caller.old command.now turn }
-    ensures { Ends N.config own.old.stripe own.new caller.old caller.new command.now turn result }
-{
-    own.law();
-    match class_for(&store.config, command) {
-        Some(class) => answer_for(alloc, store, rt, own, caller, command, turn, class),
-        None => answer(alloc, store, rt, own, caller, command, turn),
-    }
-}
-
-// One command on the stripe of its key, which is under its lock, after all that a pass has seen; the pass is told of all.
+// One command on the stripe of its key, which is under its lock, after all that a pass has seen; the pass is told of all. A
+// storage command whose new version has a class is tried on that class at once, any other command on its stripe alone.
 fn command_seen<N: Named>(
     alloc: Global,
     store: &Store<N>,
@@ -75,7 +54,10 @@ fn command_seen<N: Named>(
     own.law();
     own.side.compare(&store.board, &mut pass.seen);
     let caller = &mut pass.caller;
-    let reply = command_under(alloc, store, rt, own, caller, command, turn);
+    let reply = match class_for(&store.config, command) {
+        Some(class) => answer_for(alloc, store, rt, own, caller, command, turn, class),
+        None => answer(alloc, store, rt, own, caller, command, turn),
+    };
     own.law();
     own.side.share(&store.board, &mut pass.seen);
     reply

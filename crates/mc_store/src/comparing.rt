@@ -1,5 +1,5 @@
 //! States of a closed store, held against tokens and against each other.
-ghost use Rattle.std.specs.Prelude.{◌≡◌, ◌<◌, ℕ, Some, length, slice_get};
+ghost use Rattle.std.specs.Prelude.{◌≡◌, ◌<◌, ℕ, Some, slice_get};
 ghost use Rattle.mc_evidence.specs.Sound.{IsSoundStore};
 ghost use Rattle.mc_board.specs.Histories.{HasSeen};
 ghost use Rattle.mc_store.specs.{Callers.calls_told, Locked.caller_place, Locked.setting_of};

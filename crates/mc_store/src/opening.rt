@@ -1,5 +1,5 @@
 //! How a store is made.
-ghost use Rattle.std.specs.Prelude.{◌≡◌, ◌≤◌, ◌<◌, ◌+◌, ◌-◌, ◌^◌, [], length, IfOk};
+ghost use Rattle.std.specs.Prelude.{◌≡◌, ◌≤◌, ◌<◌, ◌+◌, ◌-◌, ◌^◌, [], IfOk};
 ghost use Rattle.mc_item.specs.Config.{IsBounded, IsSound};
 ghost use Rattle.mc_board.specs.{Histories.blind, Views.locks_of, Views.AreOwners};
 ghost use Rattle.mc_store.specs.{Locked.histories_for, Locked.locks_for, Passes.ArePasses, Passes.new_pass};

@@ -33,17 +33,6 @@ returns-in-Room g c =
     (subst (λ (t : Stripe). Ends config t at.new.own c.args.caller.now at.new.caller command turn at.result) (ap (λ (x : StripeSide). x.stripe) c.tell_stripe.ensures.stripe)
     (subst (λ (x : CallerView). Ends config c.tell_stripe.new.stripe.stripe at.new.own x at.new.caller command turn at.result) (c.tell_stripe.ensures.same ∙ tried.1) at.ensures))
 
-pub returns-in-Burial : goal.returns-in-Burial
-returns-in-Burial g c =
-    let config = g.N.Named.config in
-    let command = c.args.command.now in
-    let turn = c.args.turn in
-    let mid = c.try_home.new.own.stripe in
-    let tried = rw c.in-Wants.is at c.in_ok-reply.ensures.tried in
-    let want = c.answer_want in
-    ends_same config command turn c.args.own.now.stripe mid c.try_home.ensures.site tried.0 want.new.own c.args.caller.now want.new.caller want.result
-    (subst (λ (x : CallerView). Ends config mid want.new.own x want.new.caller command turn want.result) tried.1 want.ensures)
-
 pub returns : goal.returns
 returns g c =
     let config = g.N.Named.config in
@@ -51,6 +40,6 @@ returns g c =
     let turn = c.args.turn in
     let mid = c.try_home.new.own.stripe in
     let tried = rw c.in-Wants.is at c.in_ok-reply.ensures.tried in
-    let want = c.answer_want-in-Classes in
+    let want = c.answer_want in
     ends_same config command turn c.args.own.now.stripe mid c.try_home.ensures.site tried.0 want.new.own c.args.caller.now want.new.caller want.result
     (subst (λ (x : CallerView). Ends config mid want.new.own x want.new.caller command turn want.result) tried.1 want.ensures)
