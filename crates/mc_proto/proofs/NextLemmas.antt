@@ -3,12 +3,10 @@ use Rattle.std.proofs.Common.{◌≡◌, ◌++◌, ◌∷◌, [], ◌+◌, ◌-�
 use Rattle.std.specs.Prelude.{if◌then◌else◌, ◌&&◌, nat_eq, nat_lt, codes}
 use Rattle.std.specs.{Cmp.Lexicographic.pointwise}
 use Rattle.std.proofs.lemmas.{Bool.eqb-true, List.Elements.All-nil, List.Elements.All-cons}
-use Rattle.mc_proto.specs.Lines.{LacksNext, LacksNextBehind, is_after, is_word}
-use Rattle.mc_proto.specs.Table.{table, says}
-use Rattle.mc_proto.specs.{Grammar.Spells, Grammar.Spelt, Scripts.IsLast, Scripts.IsOther, Scripts.says_next}
-use Rattle.mc_proto.specs.declared.{request.Limits.Limits, request.LineFault.TheVariants.LineTooLong}
-use Rattle.mc_proto.specs.declared.{request.Request.Request, request.Request.TheVariants.Bad, request.Request.TheVariants.Next}
-use Rattle.mc_proto.specs.declared.{state.Start.Start}
+use Rattle.mc_proto.specs.{Lines.LacksNext, Lines.LacksNextBehind, Lines.is_after, Lines.is_word, Table.table, Table.says, Grammar.Spells, Grammar.Spelt}
+use Rattle.mc_proto.specs.{Scripts.IsLast, Scripts.IsOther, Scripts.says_next}
+use Rattle.mc_proto.specs.declared.{request.Limits.Limits, request.LineFault.TheVariants.LineTooLong, request.Request.Request, request.Request.TheVariants.Bad}
+use Rattle.mc_proto.specs.declared.{request.Request.TheVariants.Next, state.Start.Start}
 use Rattle.mc_proto.specs.declared.state.Said.TheVariants as said
 use Rattle.mc_proto.proofs.{RowLemmas.HoldsOfRows, RowLemmas.and, RowLemmas.line_holds, SplitLemmas.asks_other, StreamLemmas.stream_reads}
 

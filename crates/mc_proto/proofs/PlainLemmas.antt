@@ -1,11 +1,9 @@
 -- Behind a line that begins as delete, get, incr or touch do, a script goes on at once.
 use Rattle.std.proofs.Common.{◌≡◌, ◌++◌, ◌∷◌, [], ◌+◌, ◌<◌, ◌≤◌, ℕ, List, length, refl, take, get_or, Bool, false, subst, inl, inr, zero, suc, arith}
 use Rattle.std.specs.Prelude.{nat_eq}
-use Rattle.mc_proto.specs.Kinds.{Kind, fault_of}
-use Rattle.mc_proto.specs.Kinds.{Delta, NewExptime, Key, Flags, Exptime, Bytes, CasNumber, Moment, Classes}
-use Rattle.mc_proto.specs.Lines.{AreSpaces, Lacks, is_word}
-use Rattle.mc_proto.specs.Table.{bad, table, says}
-use Rattle.mc_proto.specs.{Grammar.Spells, Grammar.closes, Grammar.wanted, Grammar.asked, Scripts.GoesOn, Scripts.IsOther, Scripts.IsPlain}
+use Rattle.mc_proto.specs.{Kinds.Kind, Kinds.fault_of, Kinds.Delta, Kinds.NewExptime, Kinds.Key, Kinds.Flags, Kinds.Exptime, Kinds.Bytes, Kinds.CasNumber}
+use Rattle.mc_proto.specs.{Kinds.Moment, Kinds.Classes, Lines.AreSpaces, Lines.Lacks, Lines.is_word, Table.bad, Table.table, Table.says, Grammar.Spells}
+use Rattle.mc_proto.specs.{Grammar.closes, Grammar.wanted, Grammar.asked, Scripts.GoesOn, Scripts.IsOther, Scripts.IsPlain}
 use Rattle.mc_proto.specs.declared.{request.Limits.Limits, request.Request.Request, state.Said.Said}
 use Rattle.mc_proto.specs.declared.state.Said.TheVariants as said
 use Rattle.mc_proto.proofs.{RowLemmas.HoldsOfRows, RowLemmas.and, RowLemmas.line_holds, SplitLemmas.spelt_first, SplitLemmas.other_is}

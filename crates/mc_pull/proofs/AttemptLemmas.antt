@@ -1,6 +1,6 @@
 -- One try of a command on the classes that it is lent: that it may be made there, and what it makes.
 use Rattle.std.proofs.Common.{◌≡◌, ◌<◌, ◌≤◌, ◌+◌, ◌^◌, ◌==◌, ◌&&◌, ℕ, List, [], ◌∷◌, ◌++◌, Bool, true, false, not, refl, sym, ap, ◌∙◌, subst, inl, inr, ◌⊎◌, length, append_assoc, append-nil, arith}
-use Rattle.std.specs.Prelude.{Option, Some, None, IfSome, IsSomeAnd, MatchOption, if◌then◌else◌, ◌||◌, nat_le, decimal, position, slice_get}
+use Rattle.std.specs.Prelude.{Option, Some, None, IfSome, IsSomeAnd, MatchOption, if◌then◌else◌, nat_le, decimal, position, slice_get}
 use Rattle.std.specs.{List.All, Option.option_map}
 use Rattle.std.proofs.lemmas.Bool.{false≢true, true≢false}
 use Rattle.mc_item.specs.Answer.{Row, fresh, row_of, store_row, let_go, grown_row, number_row, stepped, version_of}
@@ -355,30 +355,20 @@ module _ (s : Stripe) (vs : List ClassView) (command : Command) (turn : Turn) (g
       fate_lent (fates.Goes link) none held = other_lent given.other may.offered.other link held
       fate_lent (fates.Woken link) none held = other_lent given.other may.offered.other link held
 
+      no_wake : (b : Bool) (link : Link) (cost : ℕ) (expiry : Expiry) (old : Option Link) → (if b then fates.Woken link else fates.Untouched) ≡ fates.Renewed cost expiry old → ⊥
+      no_wake true link cost expiry old is = cc is
+      no_wake false link cost expiry old is = cc is
+
       not_renewed : (found : Option Item) (change : Change) → IsPlaced rooms.Keep change → (cost : ℕ) (expiry : Expiry) (old : Option Link) → fate_of (key_of command) found change ≡ fates.Renewed cost expiry old → ⊥
       not_renewed found changes.Stays at cost expiry old is = cc is
       not_renewed None changes.Goes at cost expiry old is = cc is
       not_renewed (Some item) changes.Goes at cost expiry old is = cc is
       not_renewed None (changes.Hit marks) at cost expiry old is = cc is
       not_renewed (Some item) (changes.Hit marks) at cost expiry old is = no_wake (marks.active && not item.marks.active) item.link cost expiry old is
-        where
-          no_wake : (b : Bool) (link : Link) (cost : ℕ) (expiry : Expiry) (old : Option Link) → (if b then fates.Woken link else fates.Untouched) ≡ fates.Renewed cost expiry old → ⊥
-          no_wake true link cost expiry old is = cc is
-          no_wake false link cost expiry old is = cc is
       not_renewed None (changes.Touched expiry_new marks) at cost expiry old is = cc is
       not_renewed (Some item) (changes.Touched expiry_new marks) at cost expiry old is = no_wake (marks.active && not item.marks.active) item.link cost expiry old is
-        where
-          no_wake : (b : Bool) (link : Link) (cost : ℕ) (expiry : Expiry) (old : Option Link) → (if b then fates.Woken link else fates.Untouched) ≡ fates.Renewed cost expiry old → ⊥
-          no_wake true link cost expiry old is = cc is
-          no_wake false link cost expiry old is = cc is
       not_renewed found (changes.Counted value cas) at cost expiry old is = cc is
       not_renewed found (changes.Renewed item) at cost expiry old is = cc at
-
-      row : Row
-      row = row_at s command turn.moment
-
-      found : Option Item
-      found = item_of s command
 
       abbrev Lent : Type 0
       Lent = AreLent vs room (fate_for s (call turn.who command turn.moment room))
@@ -413,22 +403,18 @@ module _ (s : Stripe) (vs : List ClassView) (command : Command) (turn : Turn) (g
       here_free v there = (gives (row_at s command turn.moment).need uses.taken v there).free
 
       -- the new version is small
+      small_woken : (b : Bool) (link : Link) → IsSmallFate (if b then fates.Woken link else fates.Untouched)
+      small_woken true link = tt
+      small_woken false link = tt
+
       small_by : (found : Option Item) (change : Change) → IsSomeAnd (changed found change) (λ item. cost_of (key_of command) item.value ≤ 2 ^ 20) → IsSmallFate (fate_of (key_of command) found change)
       small_by found changes.Stays small = tt
       small_by None changes.Goes small = tt
       small_by (Some item) changes.Goes small = tt
       small_by None (changes.Hit marks) small = tt
       small_by (Some item) (changes.Hit marks) small = small_woken (marks.active && not item.marks.active) item.link
-        where
-          small_woken : (b : Bool) (link : Link) → IsSmallFate (if b then fates.Woken link else fates.Untouched)
-          small_woken true link = tt
-          small_woken false link = tt
       small_by None (changes.Touched expiry marks) small = tt
       small_by (Some item) (changes.Touched expiry marks) small = small_woken (marks.active && not item.marks.active) item.link
-        where
-          small_woken : (b : Bool) (link : Link) → IsSmallFate (if b then fates.Woken link else fates.Untouched)
-          small_woken true link = tt
-          small_woken false link = tt
       small_by found (changes.Counted value cas) small = tt
       small_by found (changes.Renewed item) small = small
 
@@ -526,13 +512,3 @@ module _ (v : ClassView) (moment : ℕ) where
   pub warm_on : (s : Stripe) (command : Command) (room : Room) → is_warming (hit_part v (number_in v (key_of command) (woken_by s command moment))) ≡ true
       → is_warming (part_for v (key_of command) room (fate_of (key_of command) (item_of s command) ((row_at s command moment).answer room).change)) ≡ true
   warm_on s command room warm = warms_part s command moment v room (warm_alive s command warm) ∙ warm
-
-pub either_on : (a b c d : Bool) → (a ≡ true → c ≡ true) → (b ≡ true → d ≡ true) → (a || b) ≡ true → (c || (d || false)) ≡ true
-either_on true b c d first second on = rw (first refl) refl
-either_on false b true d first second on = refl
-either_on false b false d first second on = rw (second on) refl
-
--- what follows from each of two follows from either
-pub either_so : (P : Type 0) (a b : Bool) → (a ≡ true → P) → (b ≡ true → P) → (a || b) ≡ true → P
-either_so P true b first second on = first refl
-either_so P false b first second on = second on

@@ -2,7 +2,6 @@ pub mod OutcomeLemmas
 pub mod SightLemmas
 mod SettledLemmas
 mod KeepLemmas
-pub mod TailLemmas
 pub mod LengthLemmas
 pub mod GrowthLemmas
 pub mod WayLemmas
@@ -20,3 +19,4 @@ mod FarPartLemmas
 pub mod PerformedLemmas
 mod CostLemmas
 pub mod AttemptLemmas
+mod MadeLemmas

@@ -1,5 +1,5 @@
 -- What a command on its stripe and classes is known to make.
-use Rattle.std.proofs.Common.{ℕ, ◌≡◌, ◌+◌, ◌++◌, ◌&&◌, ◌∷◌, Bool, true, false, not, List, refl, sym, ap, ◌∙◌, subst, inl, inr}
+use Rattle.std.proofs.Common.{ℕ, ◌≡◌, ◌++◌, ◌&&◌, ◌∷◌, Bool, true, false, not, List, refl, sym, ap, ◌∙◌, subst, inl, inr}
 use Rattle.std.specs.Prelude.{Option, Some, None, if◌then◌else◌, IsSomeAnd, nat_eq, [], ◌||◌, ◌⊎◌}
 use Rattle.std.specs.Cmp.Lexicographic.{pointwise}
 use Rattle.std.proofs.lemmas.{Cmp.nat_list_eq_equiv, Bool.false≢true}
@@ -15,7 +15,7 @@ use Rattle.mc_stripe.specs.{Plan.fate_of, StripeState.Stripe, StripeState.cache_
 use Rattle.mc_pull.specs.declared.parts.Part.{Part}
 use Rattle.mc_pull.specs.declared.parts.Part.TheVariants as parts
 use Rattle.mc_pull.specs.Parts.{part_for, part_events, new_part, gone_part, is_warming, number_in, is_here}
-use Rattle.mc_pull.specs.{Perform.Call, Perform.item_before, Perform.answer_to, Performed.part_in, Performed.is_cooling, Settled.class_with}
+use Rattle.mc_pull.specs.{Perform.Call, Perform.item_before, Perform.answer_to, Settled.class_with}
 
 -- ---- a part that warms an entry is that of a hit that leaves the item ACTIVE
 pub not_new : (key : List ℕ) (cost : ℕ) (expiry : Expiry) (b : Bool) (o : Option ℕ) → is_warming (new_part key cost expiry b o) ≡ false
@@ -83,21 +83,13 @@ or_false : (b : Bool) → b ≡ (b || false)
 or_false true = refl
 or_false false = refl
 
-pub any_one : (s : Stripe) (c : Call) (v : ClassView) (part : Part) → part ≡ part_in s c v → is_warming part ≡ is_cooling s c (v ∷ [])
-any_one s c v part is = ap is_warming is ∙ or_false (is_warming (part_in s c v))
+-- one class moves an entry, or one of two does
+pub one_cools : {b c : Bool} → b ≡ c → b ≡ (c || false)
+one_cools {b} {c} is = is ∙ or_false c
 
-pub any_two : (s : Stripe) (c : Call) (v w : ClassView) (p q : Part) → p ≡ part_in s c v → q ≡ part_in s c w → (is_warming p || is_warming q) ≡ is_cooling s c (v ∷ w ∷ [])
-any_two s c v w p q is is2 =
-    ap (λ (x : Part). is_warming x || is_warming q) is ∙ ap (λ (b : Bool). is_warming (part_in s c v) || b) (ap is_warming is2 ∙ or_false (is_warming (part_in s c w)))
+pub two_cool : {a b c d : Bool} → a ≡ c → b ≡ d → (a || b) ≡ (c || (d || false))
+two_cool {a} {b} {c} {d} first second = ap (λ (x : Bool). x || b) first ∙ ap (λ (x : Bool). c || x) (second ∙ or_false d)
 
-either_on : (a b : Bool) → (a || b) ≡ true → (a ≡ true) ⊎ (b ≡ true)
+pub either_on : (a b : Bool) → (a || b) ≡ true → (a ≡ true) ⊎ (b ≡ true)
 either_on true b h = inl refl
 either_on false b h = inr h
-
-pub warms_either : (s : Stripe) (c : Call) (v w : ClassView) (p q : Part) → p ≡ part_in s c v → q ≡ part_in s c w → (is_warming p || is_warming q) ≡ true
-    → IsSomeAnd (changed (item_before s c) (answer_to s c).change) (λ item. item.marks.active ≡ true)
-warms_either s c v w p q is is2 on =
-    elim (either_on (is_warming p) (is_warming q) on) [
-      | inl h ↦ active_after v (key_of c.command) c.room (item_before s c) (answer_to s c).change (sym (ap is_warming is) ∙ h)
-      | inr h ↦ active_after w (key_of c.command) c.room (item_before s c) (answer_to s c).change (sym (ap is_warming is2) ∙ h)
-    ]

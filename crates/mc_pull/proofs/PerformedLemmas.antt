@@ -61,18 +61,18 @@ or_right : (a b : Bool) → b ≡ true → (a || b) ≡ true
 or_right true b h = refl
 or_right false b h = h
 
-cools_with : (s : Stripe) (c : Call) (vs : List ClassView) (v : ClassView) → IsOf v vs → is_warming (part_in s c v) ≡ true → is_cooling s c vs ≡ true
+pub cools_with : (s : Stripe) (c : Call) (vs : List ClassView) (v : ClassView) → IsOf v vs → is_warming (part_in s c v) ≡ true → is_cooling s c vs ≡ true
 cools_with s c [] v there on = absurd there
 cools_with s c (w ∷ ws) v (inl is) on = ap (λ (b : Bool). b || is_cooling s c ws) (subst (λ (x : ClassView). is_warming (part_in s c x) ≡ true) is on)
 cools_with s c (w ∷ ws) v (inr later) on = or_right (is_warming (part_in s c w)) (is_cooling s c ws) (cools_with s c ws v later on)
 
 -- one of the classes moves it
-record Moves (s : Stripe) (c : Call) (vs : List ClassView) : Type 0 where
+pub record Moves (s : Stripe) (c : Call) (vs : List ClassView) : Type 0 where
   pub class : ClassView
   pub there : IsOf class vs
   pub warms : is_warming (part_in s c class) ≡ true
 
-moves : (s : Stripe) (c : Call) (vs : List ClassView) → is_cooling s c vs ≡ true → Moves s c vs
+pub moves : (s : Stripe) (c : Call) (vs : List ClassView) → is_cooling s c vs ≡ true → Moves s c vs
 moves s c [] on = absurd (false≢true on)
 moves s c (v ∷ vs) on = by (is_warming (part_in s c v)) refl (moves s c vs) on
   where

@@ -2,7 +2,7 @@
 use Rattle.std.proofs.Common.{◌≡◌, ◌≢◌, ℕ, List, [], ◌∷◌, ◌++◌, sym, ap, ◌∙◌, subst}
 use Rattle.std.specs.Prelude.{Some}
 use Rattle.mc_item.specs.Measure.{stripe_of}
-use Rattle.mc_item.specs.declared.{answer.Site.Site, class_event.ClassEvent.ClassEvent, class_event.Refused.Refused, class_event.Surveyed.Surveyed}
+use Rattle.mc_item.specs.declared.{answer.Site.Site, class_event.ClassEvent.ClassEvent, class_event.Refused.Refused}
 use Rattle.mc_item.specs.declared.{item.ClassNo.ClassNo, item.StripeNo.StripeNo, lists.Entry.Entry, lists.Seg.Seg, stripe_event.StripeEvent.StripeEvent}
 use Rattle.mc_item.specs.declared.class_event.ClassEvent.TheVariants as entries
 use Rattle.mc_rule.specs.{Cited.IsSuited, Evidence.IsBacked, Lists.found, Lists.lists_of, Pairs.IsKeyOf, Places.Each, Segment.Rule}

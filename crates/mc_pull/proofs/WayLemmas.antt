@@ -6,7 +6,7 @@ use Rattle.mc_segment.specs.ClassState.{ClassView}
 use Rattle.mc_pull.specs.declared.{judge.Done.Done, judge.Mode.Mode, looking.Answer.Answer, looking.Judged.Judged, pulled.Pulled.Pulled}
 use Rattle.mc_pull.specs.declared.judge.Done.TheVariants as done
 use Rattle.mc_pull.specs.{Growth.Grows, Pulled.sum_of, Pulled.counts_after, Pulled.counts_if, Pulled.is_end_if}
-use Rattle.mc_pull.specs.Walk.{Pull, pull, Way, way, next_entry, events_at, is_going, step, run, IsAnswer, IsAlong, start_of, IsWalk, IsBeginning}
+use Rattle.mc_pull.specs.Walk.{Pull, pull, Way, way, next_entry, events_at, is_going, step, run, IsAnswer, IsAlong, start_of, IsWalk}
 use Rattle.mc_pull.proofs.{GrowthLemmas.grows_both, LengthLemmas.few_taken, LengthLemmas.answer_passes}
 
 pub run-push : (p : Pull) (w : Way) (xs : List Answer) (a : Answer) → run p w (xs ++ a ∷ []) ≡ step p (run p w xs) a
@@ -25,9 +25,6 @@ pub record OnWay (p : Pull) (old new : List Answer) (w : Way) : Type 0 where
   pub at : run p (start_of p) xs ≡ w
 
 module _ (p : Pull) (old : List Answer) where
-  pub begins : old ≡ old ++ [] → OnWay p old old (start_of p)
-  begins none = record { xs = []; answers = none; along = tt; at = refl }
-
   pub answered : (new later : List Answer) (w after : Way) (a : Answer) → OnWay p old new w → IsAnswer p w a → later ≡ new ++ a ∷ [] → step p w a ≡ after → OnWay p old later after
   answered new later w after a on here is next = record {
     xs = on.xs ++ a ∷ [];
@@ -47,9 +44,6 @@ module _ (p : Pull) (old : List Answer) where
       pulled_is = ap (λ (v : Way). v.pulled) (sym on.at);
     },
   )
-
-  pub broken : (new : List Answer) (w : Way) → OnWay p old new w → (xs : List Answer) × (new ≡ old ++ xs) × IsBeginning p xs w.history
-  broken new w on = (on.xs, on.answers, record { along = on.along; history_is = ap (λ (v : Way). v.history) (sym on.at) })
 
 -- ---- counts stay small
 counts_sum : (d : Done) (p : Pulled) → sum_of (counts_after d p) ≤ sum_of p + 1

@@ -1,17 +1,18 @@
 -- One try of a command on a stripe and the classes that it is lent (own).
-use Rattle.std.specs.Prelude.{ℕ, ◌≡◌, ◌<◌, ◌≤◌, ◌+◌, ◌^◌, ◌⊎◌, List, [], ◌∷◌, Option, Some, None, IfSome, IsSomeAnd, length, slice_get}
+use Rattle.std.specs.Prelude.{ℕ, ◌≡◌, ◌<◌, ◌≤◌, ◌+◌, ◌^◌, ◌⊎◌, true, List, [], ◌∷◌, Option, Some, None, IfSome, IsSomeAnd, length, slice_get}
 use Rattle.mc_item.specs.{Command.key_of, Measure.stripe_of}
 use Rattle.mc_item.specs.declared.class_event.ClassEvent.TheVariants as class_events
-use Rattle.mc_item.specs.declared.{command.Command.Command, config.Config.Config, reply.Reply.Reply, reply.Room.Room, item.Who.Who}
+use Rattle.mc_item.specs.declared.{command.Command.Command, config.Config.Config, item.Link.Link, reply.Reply.Reply, reply.Room.Room, item.Who.Who}
 use Rattle.mc_item.specs.declared.reply.Room.TheVariants as rooms
 use Rattle.mc_rule.specs.Lists.{count_of, links_of, lists_of}
-use Rattle.mc_segment.specs.ClassState.{ClassView, HasPlaces as ClassHasPlaces}
+use Rattle.mc_segment.specs.ClassState.{ClassView, HasPlaces as ClassHasPlaces, with_room}
 use Rattle.mc_stripe.specs.{StripeState.Stripe, Trying.item_of, Trying.row_at, Wanting.IsWanting, Wanting.Uses}
 use Rattle.mc_stripe.specs.declared.{fate.Fate.Fate, wanting.Given.Given, wanting.Home.Home, wanting.Other.Other, trying.Turn.Turn}
 use Rattle.mc_stripe.specs.declared.fate.Fate.TheVariants as fates
-use Rattle.mc_pull.specs.declared.attempting.Tried.{Tried}
+use Rattle.mc_pull.specs.declared.attempting.{Prepared.Prepared, Tried.Tried}
 use Rattle.mc_pull.specs.declared.attempting.Tried.TheVariants as tried
 use Rattle.mc_pull.specs.{Agreeing.AgreeNow, Agreeing.KeepsAgreements, Lent.AreDistinct, Lent.Each, Perform.MayPerform, Perform.answer_to, Perform.call}
+use Rattle.mc_pull.specs.Parts.{hit_part, is_here, is_warming, number_in, part_for, places_of}
 use Rattle.mc_pull.specs.{Performed.IsPerformed, Performed.IsUntouched, Sight.KeepsSights}
 
 -- a chunk is free
@@ -82,6 +83,23 @@ IsSmallFate (fates.Woken link) = Unit {0}
 abbrev pub HasRoomFor : Given → ClassView → Type 0
 HasRoomFor given v =
     IfSome given.home (λ h. h.class ≡ v.number → h.places ≤ v.room) × IfSome given.other (λ o. o.class ≡ v.number → o.places ≤ v.room)
+
+-- a class was made ready for its part of a command that would wake the item of this link: where it moves an entry there is room for
+-- that, and a place
+pub record IsReadyFor (v mid : ClassView) (command : Command) (woken : Option Link) (ready : Prepared) : Type 0 where
+  pub same : mid ≡ with_room v mid.room
+  pub kept : v.room ≤ mid.room
+  pub warms_is : ready.warms ≡ is_warming (hit_part v (number_in v (key_of command) woken))
+  pub room : ready.warms ≡ true → (0 < mid.room) × ClassHasPlaces mid 1
+  pub key_is : ready.key ≡ key_of command
+  pub copy : mid.keeps_events ≡ true → ready.copy ≡ Some ready.key
+
+-- a class may make its part of a command: a link of it has a chunk, and its events have places, which take no memory
+pub record MayMakePart (v : ClassView) (key : List ℕ) (room : Room) (fate : Fate) : Type 0 where
+  pub free : is_here v room ≡ true → HasFree v
+  pub small : is_here v room ≡ true → IsSmallFate fate
+  pub space : places_of (part_for v key room fate) ≤ v.room
+  pub place : ClassHasPlaces v (places_of (part_for v key room fate))
 
 -- a command was made in a room, of what it was given, as it may be made on these classes, and this is its reply
 pub record IsMadeOn (config : Config) (s s_new : Stripe) (command : Command) (turn : Turn) (given : Given) (vs ws : List ClassView) (reply : Reply) : Type 0 where

@@ -1,15 +1,16 @@
 //! One try of a command on its stripe and the classes that it is lent, which agree with the stripe. It is made, with its part in
 //! each class, or it wants something, and nothing happened. All growths come first: after a fault nothing of it
 //! stands. `HistoryFull` is answered only where a history lacks a place that the command needs in it.
-ghost use Rattle.std.specs.Prelude.{if◌then◌else◌, ◌≡◌, ◌≤◌, ◌<◌, ◌+◌, ◌∷◌, [], ◌||◌, true, Some, None, IfOk, OnErr, OnOk, IsErrOf, length};
+ghost use Rattle.std.specs.Prelude.{if◌then◌else◌, ◌≡◌, ◌≤◌, ◌<◌, ◌+◌, ◌∷◌, [], ◌||◌, true, Some, None, IfOk, IsSome, OnErr, OnOk, IsErrOf, length};
+ghost use Rattle.mc_item.specs.Command.{key_of};
 ghost use Rattle.mc_item.specs.declared.{config.Config.Config, fault.Fault.TheVariants.HistoryFull, item.Link.Link};
 ghost use Rattle.mc_item.specs.declared.reply.Room.TheVariants as rooms;
-ghost use Rattle.mc_segment.specs.ClassState.{HasPlaces, with_room};
+ghost use Rattle.mc_segment.specs.ClassState.{with_room};
 ghost use Rattle.mc_stripe.specs.StripeCalls.{KeepsSite};
-ghost use Rattle.mc_pull.specs.Attempt.{GivesHome, HasFree, HasRoomFor, IsNoted, IsReady, IsSmallFate, IsTriedBy, Leaves, MayTryOn, OffersHome, OffersOther};
+ghost use Rattle.mc_pull.specs.Attempt.{GivesHome, HasFree, HasRoomFor, IsNoted, IsReady, IsReadyFor, IsSmallFate, IsTriedBy, Leaves, MayMakePart, MayTryOn, OffersHome, OffersOther};
 ghost use Rattle.mc_pull.specs.Parts as words;
 ghost use Rattle.mc_pull.specs.{Parts.MayMake, Parts.part_for, Perform.call, Performed.IsUntouched, Performed.MayRefuseCall, Question.IsClassOf};
-ghost use Rattle.mc_pull.specs.{Question.IsStripeOf};
+ghost use Rattle.mc_pull.specs.{Question.IsStripeOf, Settled.class_with};
 
 use crate::certain::cool_if;
 use crate::making::make;
@@ -99,20 +100,12 @@ pub fn ready(class: &mut ClassState) -> Result<(), Fault>
     class.reserve(places)
 }
 
-// Makes room for the move of an entry whose item a hit would wake, where it lies in COLD. Whether it does.
-#[inline(always)]
-fn wake(class: &mut ClassState, key: &Key, woken: Option<Link>) -> Result<bool, Fault>
-    ensures warms { IfOk result (λ warms. warms ≡ words.is_warming (words.hit_part class.old (words.number_in class.old key.now woken))) }
-    ensures same { class.new ≡ with_room class.old class.new.room }
-    ensures room { IfOk result (λ warms. warms ≡ true → (0 < class.new.room) × HasPlaces class.new 1) }
-    ensures kept { class.old.room ≤ class.new.room }
-    ensures full { IsErrOf result HistoryFull → (words.is_warming (words.hit_part class.old (words.number_in class.old key.now woken)) ≡ true) × (class.old.max_events < length class.old.history + 1) }
-{
-    let warms = hit_part(class, number_in(class, key, woken)).is_warming();
-    if warms {
-        class.reserve(1)?;
-    }
-    Ok(warms)
+// A class that is ready for its part of a command: whether a hit moves an entry there, and the key, once more if events are kept.
+#[derive(Drop)]
+struct Prepared {
+    warms: bool,
+    key: Key,
+    copy: Option<Key>,
 }
 
 // A copy of a key, where one is wanted.
@@ -125,6 +118,27 @@ fn key_if(alloc: Global, key: &Key, wanted: bool) -> Result<Option<Key>, NoMemor
     } else {
         Ok(None)
     }
+}
+
+// Makes a class ready for a command that would wake the item of this link: room for the move of its entry, where it lies in COLD.
+#[inline(always)]
+fn wake(
+    alloc: Global,
+    class: &mut ClassState,
+    command: &Command,
+    woken: Option<Link>,
+) -> Result<Prepared, Fault>
+    ensures ready { IfOk result (IsReadyFor class.old class.new command.now woken) }
+    ensures same { class.new ≡ with_room class.old class.new.room }
+    ensures full { IsErrOf result HistoryFull → (words.is_warming (words.hit_part class.old (words.number_in class.old (key_of command.now) woken)) ≡ true) × (class.old.max_events < length class.old.history + 1) }
+{
+    let warms = hit_part(class, number_in(class, command.key(), woken)).is_warming();
+    if warms {
+        class.reserve(1)?;
+    }
+    let key = command.key().copy(alloc)?;
+    let copy = key_if(alloc, &key, class.keeps_events())?;
+    Ok(Prepared { warms, key, copy })
 }
 
 // The part of a class in a command that was made.
@@ -150,10 +164,27 @@ fn part_after(class: &ClassState, key: Key, room: Room, fate: Fate) -> Part
     }
 }
 
-// Makes room for a command's event and for the clearing of its item's mark, where that is cleared.
+// Makes a class's part of a command that was made.
 #[inline(always)]
-fn room_if(stripe: &mut StripeState, warms: bool) -> Result<(), Fault>
-    ensures ok { OnOk result (warms ≡ true → (2 ≤ stripe.new.room) × (length stripe.old.history + 2 ≤ stripe.old.limit)) }
+fn make_part(class: &mut ClassState, ready: Prepared, room: Room, fate: Fate, turn: Turn, at: u64)
+    requires may { MayMakePart class.old ready.key room fate }
+    requires copy { class.old.keeps_events ≡ true → ready.copy ≡ Some ready.key }
+    ensures { class.new ≡ class_with class.old (words.part_events class.old turn.who turn.moment at (part_for class.old ready.key room fate)) class.new.room }
+{
+    let part = part_after(class, ready.key, room, fate);
+    make(class, part, ready.copy, turn.who, turn.moment, at);
+}
+
+// The key of an item whose mark is cleared, as a hit that moves an entry does. Makes room for that event and the command's.
+#[inline(always)]
+fn cooled_key(
+    alloc: Global,
+    stripe: &mut StripeState,
+    command: &Command,
+    warms: bool,
+) -> Result<Option<Key>, Fault>
+    ensures key { IfOk result (λ key. key ≡ (if warms then Some (key_of command.now) else None)) }
+    ensures room { IfOk result (λ key. IsSome key → (2 ≤ stripe.new.room) × (length stripe.old.history + 2 ≤ stripe.old.limit)) }
     ensures same { stripe.new ≡ record stripe.old { room = stripe.new.room } }
     ensures full { IsErrOf result HistoryFull → (warms ≡ true) × (stripe.old.limit < length stripe.old.history + 2) }
 {
@@ -161,7 +192,7 @@ fn room_if(stripe: &mut StripeState, warms: bool) -> Result<(), Fault>
     if warms {
         stripe.reserve(2)?;
     }
-    Ok(())
+    Ok(key_if(alloc, command.key(), warms)?)
 }
 
 /// A command that is lent no class.
@@ -178,7 +209,7 @@ pub fn attempt_none(stripe: &mut StripeState, command: &Command, turn: Turn) -> 
         home: None,
         other: None,
     };
-    match stripe.attempt(command, turn, given)? {
+    match stripe.attempt(command, turn, &given)? {
         Ok(done) => Ok(Tried::Made(done.reply)),
         Err(want) => Ok(Tried::Wants(want)),
     }
@@ -203,23 +234,14 @@ pub fn attempt_one(
 {
     class.law();
     let at = stripe.history().len() as u64 + 1;
-    let warms = wake(class, command.key(), stripe.woken(command, turn.moment))?;
-    room_if(stripe, warms)?;
-    let cooled = key_if(alloc, command.key(), warms)?;
-    let key = command.key().copy(alloc)?;
-    let copy = key_if(alloc, command.key(), class.keeps_events())?;
-    match stripe.attempt(command, turn, given)? {
+    let woken = stripe.woken(command, turn.moment);
+    let ready = wake(alloc, class, command, woken)?;
+    let cooled = cooled_key(alloc, stripe, command, ready.warms)?;
+    match stripe.attempt(command, turn, &given)? {
         Err(want) => Ok(Tried::Wants(want)),
         Ok(done) => {
             let Done { reply, room, fate } = done;
-            make(
-                class,
-                part_after(class, key, room, fate),
-                copy,
-                turn.who,
-                turn.moment,
-                at,
-            );
+            make_part(class, ready, room, fate, turn, at);
             cool_if(stripe, turn.who, cooled);
             Ok(Tried::Made(reply))
         }
@@ -255,35 +277,15 @@ pub fn attempt_two(
     other.law();
     let at = stripe.history().len() as u64 + 1;
     let woken = stripe.woken(command, turn.moment);
-    let warms_home = wake(home, command.key(), woken)?;
-    let warms_other = wake(other, command.key(), woken)?;
-    let warms = is_either(warms_home, warms_other);
-    room_if(stripe, warms)?;
-    let cooled = key_if(alloc, command.key(), warms)?;
-    let name = command.key().copy(alloc)?;
-    let key = command.key().copy(alloc)?;
-    let first = key_if(alloc, command.key(), home.keeps_events())?;
-    let second = key_if(alloc, command.key(), other.keeps_events())?;
-    match stripe.attempt(command, turn, given)? {
+    let first = wake(alloc, home, command, woken)?;
+    let second = wake(alloc, other, command, woken)?;
+    let cooled = cooled_key(alloc, stripe, command, is_either(first.warms, second.warms))?;
+    match stripe.attempt(command, turn, &given)? {
         Err(want) => Ok(Tried::Wants(want)),
         Ok(done) => {
             let Done { reply, room, fate } = done;
-            make(
-                home,
-                part_after(home, key, room, fate),
-                first,
-                turn.who,
-                turn.moment,
-                at,
-            );
-            make(
-                other,
-                part_after(other, name, room, fate),
-                second,
-                turn.who,
-                turn.moment,
-                at,
-            );
+            make_part(home, first, room, fate, turn, at);
+            make_part(other, second, room, fate, turn, at);
             cool_if(stripe, turn.who, cooled);
             Ok(Tried::Made(reply))
         }

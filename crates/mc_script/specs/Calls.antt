@@ -1,13 +1,11 @@
 -- What is known of a caller's calls, and what a request does to it.
 use Rattle.std.specs.Prelude.{ℕ, ◌≡◌, ◌≤◌, ◌<◌, ◌+◌, Bool, List, [], ◌∷◌, ◌++◌, length, map, take}
 use Rattle.std.specs.List.{sum}
-use Rattle.mc_item.specs.declared.{command.Command.TheVariants.Get, fault.Fault.Fault, item.ClassNo.ClassNo, counts.Histogram.Histogram}
-use Rattle.mc_item.specs.declared.{reply.Reply.Reply}
+use Rattle.mc_item.specs.declared.{command.Command.TheVariants.Get, fault.Fault.Fault, item.ClassNo.ClassNo, counts.Histogram.Histogram, reply.Reply.Reply}
 use Rattle.mc_item.specs.declared.fault.Fault.TheVariants as faults
 use Rattle.mc_proto.specs.{Answers.Answer, Answers.Replied, Answers.text_of, Text.value_text}
 use Rattle.mc_proto.specs.declared.{request.Limits.Limits, request.Request.Request}
-use Rattle.mc_script.specs.Exchanges.{AreAnswers, Asks, Call, Exchange, exchanges}
-use Rattle.mc_script.specs.Script.{calls_of}
+use Rattle.mc_script.specs.{Exchanges.AreAnswers, Exchanges.Asks, Exchanges.Call, Exchanges.Exchange, Exchanges.exchanges, Script.calls_of}
 
 -- what was known of some calls is now known of them and these
 pub record Adds (old new : List Exchange → Type 0) (more : List Exchange) : Type 0 where

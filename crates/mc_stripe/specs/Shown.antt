@@ -14,8 +14,7 @@ abbrev pub event_of : ShownStripe → StripeEvent
 event_of (shown.Did who command moment reply room) = did_of who command.value moment reply.value room
 event_of (shown.Whole event) = event.value
 
--- the event of a command of which both command and reply were copied
-abbrev pub did_if : Who → Option Command → ℕ → Option Reply → Room → Option StripeEvent
-did_if who None moment reply room = None
-did_if who (Some command) moment None room = None
-did_if who (Some command) moment (Some reply) room = Some (did_of who command moment reply room)
+-- the event of a command of which the reply was copied
+abbrev pub did_if : Who → Command → ℕ → Option Reply → Room → Option StripeEvent
+did_if who command moment None room = None
+did_if who command moment (Some reply) room = Some (did_of who command moment reply room)

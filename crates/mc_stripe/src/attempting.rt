@@ -44,13 +44,13 @@ fn make(
     items: &mut HashMap<Key, Item, RandomState>,
     command: &Command,
     moment: u64,
-    given: Given,
+    given: &Given,
     keeps: bool,
 ) -> Result<Result<Made, Want>, NoMemory>
     requires cas { cas_of site.now versions < 2 ^ 64 }
     requires moment { moment ≤ 2 ^ 62 }
-    ensures made { IfOk result (λ t. IfOk t (Makes keeps given (get (pointwise nat_eq) items.old) (get (pointwise nat_eq) items.new) (key_of command.now) (row_of site.now versions (get (pointwise nat_eq) items.old (key_of command.now)) command.now moment) moment)) }
-    ensures wants { IfOk result (λ t. IfErr t (IsLeft given (get (pointwise nat_eq) items.old) (get (pointwise nat_eq) items.new) (key_of command.now) moment (row_of site.now versions (get (pointwise nat_eq) items.old (key_of command.now)) command.now moment))) }
+    ensures made { IfOk result (λ t. IfOk t (Makes keeps given.now (get (pointwise nat_eq) items.old) (get (pointwise nat_eq) items.new) (key_of command.now) (row_of site.now versions (get (pointwise nat_eq) items.old (key_of command.now)) command.now moment) moment)) }
+    ensures wants { IfOk result (λ t. IfErr t (IsLeft given.now (get (pointwise nat_eq) items.old) (get (pointwise nat_eq) items.new) (key_of command.now) moment (row_of site.now versions (get (pointwise nat_eq) items.old (key_of command.now)) command.now moment))) }
     ensures err { OnErr result (Stays (get (pointwise nat_eq) items.old) (get (pointwise nat_eq) items.new)) }
     ensures spare { spare items.old ≤ spare items.new + 1 }
 {
@@ -120,13 +120,13 @@ impl StripeState {
         &mut self,
         command: &Command,
         turn: Turn,
-        given: Given,
+        given: &Given,
     ) -> Result<Result<Done, Want>, Fault>
         requires stripe { measure.stripe_of (key_of command.now) self.old.site.stripes ≡ record { 0 = self.old.site.stripe } }
         requires moment { turn.moment ≤ 2 ^ 62 }
-        requires given { (class : TheClass) (room : TheRoom) → IsTaken given (needs.Fresh class) room → Fits (needs.Fresh class) room self.old.history }
-        ensures made { IfOk result (λ t. IfOk t (IsDone given self.old self.new turn.who command.now turn.moment)) }
-        ensures wants { IfOk result (λ t. IfErr t (IsOpen given self.old self.new command.now turn.moment)) }
+        requires given { (class : TheClass) (room : TheRoom) → IsTaken given.now (needs.Fresh class) room → Fits (needs.Fresh class) room self.old.history }
+        ensures made { IfOk result (λ t. IfOk t (IsDone given.now self.old self.new turn.who command.now turn.moment)) }
+        ensures wants { IfOk result (λ t. IfErr t (IsOpen given.now self.old self.new command.now turn.moment)) }
         ensures full { IsErrOf result faults.HistoryFull ↔ (self.old.limit ≤ length self.old.history) }
         ensures err { OnErr result (self.new.history ≡ self.old.history) }
         ensures site { KeepsSite self.old self.new }

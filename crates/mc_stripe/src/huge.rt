@@ -19,10 +19,10 @@ pub(crate) fn refuse_huge(
     key: &Key,
     verb: Verb,
     moment: u64,
-    given: Given,
+    given: &Given,
 ) -> Result<Made, Want>
-    ensures made { IfOk result (Makes true given (get (pointwise nat_eq) items.old) (get (pointwise nat_eq) items.new) key.now (huge_row verb) moment) }
-    ensures wants { IfErr result (IsLeft given (get (pointwise nat_eq) items.old) (get (pointwise nat_eq) items.new) key.now moment (huge_row verb)) }
+    ensures made { IfOk result (Makes true given.now (get (pointwise nat_eq) items.old) (get (pointwise nat_eq) items.new) key.now (huge_row verb) moment) }
+    ensures wants { IfErr result (IsLeft given.now (get (pointwise nat_eq) items.old) (get (pointwise nat_eq) items.new) key.now moment (huge_row verb)) }
     ensures spare { spare items.old ≤ spare items.new }
 {
     let Some(item) = items.get(key) else {

@@ -162,14 +162,14 @@ fn put_over(
     content: &Content<'_>,
     cost: u64,
     fresh: ClassNo,
-    given: Given,
+    given: &Given,
 ) -> Result<Result<Put, Want>, NoMemory>
     requires cas { cas_of site.now versions < 2 ^ 64 }
-    ensures uses { (key : List ℕ) (moment : ℕ) → cost ≡ cost_of key content.now.value.now → IsAlive (Some item.old) moment → IfOk result (λ t. IfOk t (λ put. Uses given key (Some item.old) moment (store_row (Some fresh) verb (Some item.old) (version_of site.now versions content.now.flags content.now.value.now content.now.expiry)) put.room put.fate)) }
+    ensures uses { (key : List ℕ) (moment : ℕ) → cost ≡ cost_of key content.now.value.now → IsAlive (Some item.old) moment → IfOk result (λ t. IfOk t (λ put. Uses given.now key (Some item.old) moment (store_row (Some fresh) verb (Some item.old) (version_of site.now versions content.now.flags content.now.value.now content.now.expiry)) put.room put.fate)) }
     ensures reply { IfOk result (λ t. IfOk t (λ put. reply_of put.answer ≡ ((store_row (Some fresh) verb (Some item.old) (version_of site.now versions content.now.flags content.now.value.now content.now.expiry)).answer put.room).reply)) }
     ensures item { (key : List ℕ) → cost ≡ cost_of key content.now.value.now → IfOk result (λ t. IfOk t (λ put. changed (Some item.old) ((store_row (Some fresh) verb (Some item.old) (version_of site.now versions content.now.flags content.now.value.now content.now.expiry)).answer put.room).change ≡ (if goes put.fate then None else Some item.new))) }
     ensures added { IfOk result (λ t. IfOk t (λ put. added put.answer ≡ versions_of ((store_row (Some fresh) verb (Some item.old) (version_of site.now versions content.now.flags content.now.value.now content.now.expiry)).answer put.room).change)) }
-    ensures wants { (key : List ℕ) (moment : ℕ) → cost ≡ cost_of key content.now.value.now → IsAlive (Some item.old) moment → IfOk result (λ t. IfErr t (IsWanting given key (Some item.old) moment (store_row (Some fresh) verb (Some item.old) (version_of site.now versions content.now.flags content.now.value.now content.now.expiry)))) }
+    ensures wants { (key : List ℕ) (moment : ℕ) → cost ≡ cost_of key content.now.value.now → IsAlive (Some item.old) moment → IfOk result (λ t. IfErr t (IsWanting given.now key (Some item.old) moment (store_row (Some fresh) verb (Some item.old) (version_of site.now versions content.now.flags content.now.value.now content.now.expiry)))) }
     ensures same { IfOk result (λ t. OnErr t (item.new ≡ item.old)) }
     ensures err { OnErr result (item.new ≡ item.old) }
 {
@@ -232,14 +232,14 @@ fn put_new(
     content: &Content<'_>,
     cost: u64,
     fresh: ClassNo,
-    given: Given,
+    given: &Given,
 ) -> Result<Result<Put, Want>, NoMemory>
     requires cas { cas_of site.now versions < 2 ^ 64 }
     requires cost { cost ≡ cost_of key.now content.now.value.now }
     requires absent { get (pointwise nat_eq) items.old key.now ≡ None }
-    ensures made { (moment : ℕ) → IfOk result (λ t. IfOk t (λ put. IsMade given (get (pointwise nat_eq) items.old) (get (pointwise nat_eq) items.new) key.now (store_row (Some fresh) verb (get (pointwise nat_eq) items.old key.now) (version_of site.now versions content.now.flags content.now.value.now content.now.expiry)) moment put.room (reply_of put.answer) put.fate)) }
+    ensures made { (moment : ℕ) → IfOk result (λ t. IfOk t (λ put. IsMade given.now (get (pointwise nat_eq) items.old) (get (pointwise nat_eq) items.new) key.now (store_row (Some fresh) verb (get (pointwise nat_eq) items.old key.now) (version_of site.now versions content.now.flags content.now.value.now content.now.expiry)) moment put.room (reply_of put.answer) put.fate)) }
     ensures added { IfOk result (λ t. IfOk t (λ put. added put.answer ≡ versions_of ((store_row (Some fresh) verb (get (pointwise nat_eq) items.old key.now) (version_of site.now versions content.now.flags content.now.value.now content.now.expiry)).answer put.room).change)) }
-    ensures wants { (moment : ℕ) → IfOk result (λ t. IfErr t (IsLeft given (get (pointwise nat_eq) items.old) (get (pointwise nat_eq) items.new) key.now moment (store_row (Some fresh) verb (get (pointwise nat_eq) items.old key.now) (version_of site.now versions content.now.flags content.now.value.now content.now.expiry)))) }
+    ensures wants { (moment : ℕ) → IfOk result (λ t. IfErr t (IsLeft given.now (get (pointwise nat_eq) items.old) (get (pointwise nat_eq) items.new) key.now moment (store_row (Some fresh) verb (get (pointwise nat_eq) items.old key.now) (version_of site.now versions content.now.flags content.now.value.now content.now.expiry)))) }
     ensures err { OnErr result (Stays (get (pointwise nat_eq) items.old) (get (pointwise nat_eq) items.new)) }
     ensures spare { spare items.old ≤ spare items.new + 1 }
 {
@@ -282,13 +282,13 @@ pub(crate) fn put_item(
     cost: u64,
     moment: u64,
     fresh: ClassNo,
-    given: Given,
+    given: &Given,
 ) -> Result<Result<Put, Want>, NoMemory>
     requires cas { cas_of site.now versions < 2 ^ 64 }
     requires cost { cost ≡ cost_of key.now content.now.value.now }
-    ensures made { IfOk result (λ t. IfOk t (λ put. IsMade given (get (pointwise nat_eq) items.old) (get (pointwise nat_eq) items.new) key.now (store_row (Some fresh) verb (get (pointwise nat_eq) items.old key.now) (version_of site.now versions content.now.flags content.now.value.now content.now.expiry)) moment put.room (reply_of put.answer) put.fate)) }
+    ensures made { IfOk result (λ t. IfOk t (λ put. IsMade given.now (get (pointwise nat_eq) items.old) (get (pointwise nat_eq) items.new) key.now (store_row (Some fresh) verb (get (pointwise nat_eq) items.old key.now) (version_of site.now versions content.now.flags content.now.value.now content.now.expiry)) moment put.room (reply_of put.answer) put.fate)) }
     ensures added { IfOk result (λ t. IfOk t (λ put. added put.answer ≡ versions_of ((store_row (Some fresh) verb (get (pointwise nat_eq) items.old key.now) (version_of site.now versions content.now.flags content.now.value.now content.now.expiry)).answer put.room).change)) }
-    ensures wants { IfOk result (λ t. IfErr t (IsLeft given (get (pointwise nat_eq) items.old) (get (pointwise nat_eq) items.new) key.now moment (store_row (Some fresh) verb (get (pointwise nat_eq) items.old key.now) (version_of site.now versions content.now.flags content.now.value.now content.now.expiry)))) }
+    ensures wants { IfOk result (λ t. IfErr t (IsLeft given.now (get (pointwise nat_eq) items.old) (get (pointwise nat_eq) items.new) key.now moment (store_row (Some fresh) verb (get (pointwise nat_eq) items.old key.now) (version_of site.now versions content.now.flags content.now.value.now content.now.expiry)))) }
     ensures err { OnErr result (Stays (get (pointwise nat_eq) items.old) (get (pointwise nat_eq) items.new)) }
     ensures spare { spare items.old ≤ spare items.new + 1 }
 {

@@ -46,26 +46,18 @@ pub(crate) fn copy_if(
 
 // The event of a command that was answered, of the copies that were made for it.
 #[inline(always)]
-fn did_if(
-    turn: Turn,
-    command: Option<Command>,
-    reply: Option<Reply>,
-    room: Room,
-) -> Option<StripeEvent>
+fn did_if(turn: Turn, command: Command, reply: Option<Reply>, room: Room) -> Option<StripeEvent>
     ensures { result ≡ words.did_if turn.who command turn.moment reply room }
 {
-    match command {
+    match reply {
         None => None,
-        Some(command) => match reply {
-            None => None,
-            Some(reply) => Some(StripeEvent::Did(Did {
-                who: turn.who,
-                command,
-                moment: turn.moment,
-                reply,
-                room,
-            })),
-        },
+        Some(reply) => Some(StripeEvent::Did(Did {
+            who: turn.who,
+            command,
+            moment: turn.moment,
+            reply,
+            room,
+        })),
     }
 }
 
@@ -94,7 +86,10 @@ pub(crate) fn push_answer(
         reply: Snapshot::of(&done.reply),
         room: done.room,
     };
-    history.push_reserved(&shown, did_if(turn, copy, noted, done.room));
+    match copy {
+        None => history.push_reserved(&shown, None),
+        Some(copy) => history.push_reserved(&shown, did_if(turn, copy, noted, done.room)),
+    }
 }
 
 /// An event is one more, at the end. There is room for it.

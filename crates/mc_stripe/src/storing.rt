@@ -36,11 +36,11 @@ pub(crate) fn store_item(
     verb: Verb,
     content: &Content<'_>,
     moment: u64,
-    given: Given,
+    given: &Given,
 ) -> Result<Result<Made, Want>, NoMemory>
     requires cas { cas_of site.now versions < 2 ^ 64 }
-    ensures made { IfOk result (λ t. IfOk t (Makes true given (get (pointwise nat_eq) items.old) (get (pointwise nat_eq) items.new) key.now (store_row (class_of site.now.sizes (cost_of key.now content.now.value.now)) verb (get (pointwise nat_eq) items.old key.now) (version_of site.now versions content.now.flags content.now.value.now content.now.expiry)) moment)) }
-    ensures wants { IfOk result (λ t. IfErr t (IsLeft given (get (pointwise nat_eq) items.old) (get (pointwise nat_eq) items.new) key.now moment (store_row (class_of site.now.sizes (cost_of key.now content.now.value.now)) verb (get (pointwise nat_eq) items.old key.now) (version_of site.now versions content.now.flags content.now.value.now content.now.expiry)))) }
+    ensures made { IfOk result (λ t. IfOk t (Makes true given.now (get (pointwise nat_eq) items.old) (get (pointwise nat_eq) items.new) key.now (store_row (class_of site.now.sizes (cost_of key.now content.now.value.now)) verb (get (pointwise nat_eq) items.old key.now) (version_of site.now versions content.now.flags content.now.value.now content.now.expiry)) moment)) }
+    ensures wants { IfOk result (λ t. IfErr t (IsLeft given.now (get (pointwise nat_eq) items.old) (get (pointwise nat_eq) items.new) key.now moment (store_row (class_of site.now.sizes (cost_of key.now content.now.value.now)) verb (get (pointwise nat_eq) items.old key.now) (version_of site.now versions content.now.flags content.now.value.now content.now.expiry)))) }
     ensures err { OnErr result (Stays (get (pointwise nat_eq) items.old) (get (pointwise nat_eq) items.new)) }
     ensures spare { spare items.old ≤ spare items.new + 1 }
 {

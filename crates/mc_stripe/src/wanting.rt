@@ -122,8 +122,8 @@ fn changes_at(class: ClassNo, room: Room, fate: Fate) -> u64
 impl Given {
     // The class of a new version, where it is held.
     #[inline(always)]
-    fn home_class(self) -> Option<ClassNo>
-        ensures { result ≡ wanted.home_class self }
+    fn home_class(&self) -> Option<ClassNo>
+        ensures { result ≡ wanted.home_class self.now }
     {
         match self.home {
             None => None,
@@ -133,8 +133,8 @@ impl Given {
 
     // The class of an item, where it is held.
     #[inline(always)]
-    fn other_class(self) -> Option<ClassNo>
-        ensures { result ≡ wanted.other_class self }
+    fn other_class(&self) -> Option<ClassNo>
+        ensures { result ≡ wanted.other_class self.now }
     {
         match self.other {
             None => None,
@@ -144,10 +144,10 @@ impl Given {
 
     // The room that the class of a new version gives, where all that are wanted are held.
     #[inline(always)]
-    pub(crate) fn room(self, fresh: ClassNo, old: Option<Link>) -> Result<Room, Want>
-        ensures covers { OnOk result (Covers self (record { home = Some fresh; other = class_beside fresh old })) }
-        ensures taken { IfOk result (IsTaken self (needs.Fresh fresh)) }
-        ensures lacks { IfErr result (wanted.IsLacking self (record { home = Some fresh; other = class_beside fresh old })) }
+    pub(crate) fn room(&self, fresh: ClassNo, old: Option<Link>) -> Result<Room, Want>
+        ensures covers { OnOk result (Covers self.now (record { home = Some fresh; other = class_beside fresh old })) }
+        ensures taken { IfOk result (IsTaken self.now (needs.Fresh fresh)) }
+        ensures lacks { IfErr result (wanted.IsLacking self.now (record { home = Some fresh; other = class_beside fresh old })) }
     {
         let other = beside(fresh, old);
         let lacks = Want::Classes(Classes {
@@ -168,9 +168,9 @@ impl Given {
 
     // The class of an item that goes or is woken is wanted, where it isn't held.
     #[inline(always)]
-    pub(crate) fn item(self, link: Link) -> Result<(), Want>
-        ensures covers { OnOk result (Covers self (record { home = None; other = Some link.class })) }
-        ensures lacks { IfErr result (λ want. (want ≡ wants.Classes (record { home = None; other = Some link.class })) × (Covers self (record { home = None; other = Some link.class }) → ⊥)) }
+    pub(crate) fn item(&self, link: Link) -> Result<(), Want>
+        ensures covers { OnOk result (Covers self.now (record { home = None; other = Some link.class })) }
+        ensures lacks { IfErr result (λ want. (want ≡ wants.Classes (record { home = None; other = Some link.class })) × (Covers self.now (record { home = None; other = Some link.class }) → ⊥)) }
     {
         let other = Some(link.class);
         if holds(self.other_class(), other) {
@@ -182,9 +182,9 @@ impl Given {
 
     // The class whose history has no place for what becomes of chunks.
     #[inline(always)]
-    pub(crate) fn crowded(self, room: Room, fate: Fate) -> Option<ClassNo>
-        ensures places { IfNone result (HasPlaces self room fate) }
-        ensures lacks { IfSome result (LacksPlace self room fate) }
+    pub(crate) fn crowded(&self, room: Room, fate: Fate) -> Option<ClassNo>
+        ensures places { IfNone result (HasPlaces self.now room fate) }
+        ensures lacks { IfSome result (LacksPlace self.now room fate) }
     {
         if let Some(home) = self.home {
             if home.places < changes_at(home.class, room, fate) {

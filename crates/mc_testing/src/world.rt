@@ -78,7 +78,7 @@ pub fn ask(world: &mut World, command: Command, moment: u64) -> Result<(), Fail>
         return Err(Fail::from("no such command may be made"));
     }
     let who = WHO;
-    match stripe.attempt(&command, Turn { who, moment }, given)? {
+    match stripe.attempt(&command, Turn { who, moment }, &given)? {
         Ok(_) => Ok(()),
         Err(_) => Err(Fail::from("the command wants more than it is given")),
     }

@@ -316,7 +316,9 @@ fn set<R: Abort>(
     };
     asserts_owned(rt, stripe, &command, 1000);
     assert!(rt; may_give(given, stripe.history()));
-    let told = stripe.attempt(&command, turn, given).expect(rt, "no fault");
+    let told = stripe
+        .attempt(&command, turn, &given)
+        .expect(rt, "no fault");
     assert!(rt; told.is_ok());
 }
 

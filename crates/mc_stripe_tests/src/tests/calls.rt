@@ -248,7 +248,7 @@ pub(super) fn cools_without_memory<R: Abort>(
     };
     stripe.reserve(2).expect(rt, "room");
     assert!(rt; stripe.owns(asked.key()));
-    let _told = stripe.attempt(&asked, turn, given).expect(rt, "a reply");
+    let _told = stripe.attempt(&asked, turn, &given).expect(rt, "a reply");
     asserts_active(rt, stripe, &key);
     cool_in_room(stripe, key)
 }

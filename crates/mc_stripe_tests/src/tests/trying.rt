@@ -204,7 +204,7 @@ pub(super) fn told_try<R: Abort>(
     let same = command_of(rt, alloc, asked);
     let plain = by_table(rt, alloc, stripe, who, same, moment, given);
     let before = texts_of(rt, alloc, stripe);
-    let told = stripe.attempt(&command, Turn { who, moment }, given);
+    let told = stripe.attempt(&command, Turn { who, moment }, &given);
     let now = texts_of(rt, alloc, stripe);
     check_try(rt, alloc, &before, &now, &plain, &told);
     told

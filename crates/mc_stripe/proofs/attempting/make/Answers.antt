@@ -12,7 +12,7 @@ returns-in-Store-clause-wants c =
     let items = get (pointwise nat_eq) c.args.items.now in
     let row = λ (e : Expiry). store_row (class_of c.args.site.now.sizes (cost_of s.key s.value)) s.verb (items s.key) (version_of c.args.site.now c.args.versions s.flags s.value e) in
     let dies : c.expiry_at.result ≡ expiry_of s.exptime c.args.moment = c.expiry_at.ensures in
-    let left = subst (λ (e : Expiry). IfOk c.store_item.result (λ t. IfErr t (IsLeft c.args.given items (get (pointwise nat_eq) c.store_item.new.items) s.key c.args.moment (row e))))
+    let left = subst (λ (e : Expiry). IfOk c.store_item.result (λ t. IfErr t (IsLeft c.args.given.now items (get (pointwise nat_eq) c.store_item.new.items) s.key c.args.moment (row e))))
     dies c.store_item.ensures.wants in
     rw s.is left
 

@@ -19,11 +19,11 @@ returns-in-Some-clause-wants c = λ moment alive.
     let need_is = c.count_need-need.ensures.need c.args.versions in
     record {
       alive = alive;
-      covers = number_covers c.args.given c.args.site.now c.args.versions c.args.key.now c.args.item.now (option_map (stepped c.args.step) (numeral_of c.args.item.now.value))
+      covers = number_covers c.args.given.now c.args.site.now c.args.versions c.args.key.now c.args.item.now (option_map (stepped c.args.step) (numeral_of c.args.item.now.value))
           (λ class fresh. c.in-Ok.ensures.covers class (need_is ∙ fresh));
       room = c.in-Ok.it.0;
-      taken = subst (λ (need : Need). IsTaken c.args.given need c.in-Ok.it.0) need_is c.in-Ok.ensures.room;
-      lacks = subst (λ (f : Fate). LacksPlace c.args.given c.in-Ok.it.0 f c.in-Some.class)
+      taken = subst (λ (need : Need). IsTaken c.args.given.now need c.in-Ok.it.0) need_is c.in-Ok.ensures.room;
+      lacks = subst (λ (f : Fate). LacksPlace c.args.given.now c.in-Ok.it.0 f c.in-Some.class)
           (c.fate_by_change-fate.ensures ∙ ap (fate_of c.args.key.now (Some c.args.item.now)) (ap (λ (a : Answer). a.change) c.in_ok-reply.ensures))
           c.in-Some.ensures.lacks;
     }
@@ -34,9 +34,9 @@ returns-clause-made c = λ moment alive.
     let need_is = c.count_need-need.ensures.need c.args.versions in
     record {
       alive = alive;
-      covers = number_covers c.args.given c.args.site.now c.args.versions c.args.key.now c.args.item.now (option_map (stepped c.args.step) (numeral_of c.args.item.now.value))
+      covers = number_covers c.args.given.now c.args.site.now c.args.versions c.args.key.now c.args.item.now (option_map (stepped c.args.step) (numeral_of c.args.item.now.value))
           (λ class fresh. c.in-Ok.ensures.covers class (need_is ∙ fresh));
-      taken = subst (λ (need : Need). IsTaken c.args.given need c.in-Ok.it.0) need_is c.in-Ok.ensures.room;
+      taken = subst (λ (need : Need). IsTaken c.args.given.now need c.in-Ok.it.0) need_is c.in-Ok.ensures.room;
       fate_is = c.fate_by_change-fate.ensures ∙ ap (fate_of c.args.key.now (Some c.args.item.now)) (ap (λ (a : Answer). a.change) c.in_ok-reply.ensures);
       places = c.in_default.ensures.places;
     }

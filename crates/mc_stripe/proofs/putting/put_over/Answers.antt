@@ -10,7 +10,7 @@ returns-in-Some-crowded-clause-wants c = λ key moment cost_is alive.
     let version = version_of c.args.site.now c.args.versions c.args.content.now.flags c.args.content.now.value.now c.args.content.now.expiry in
     let row = store_row (Some c.args.fresh) c.args.verb (Some c.args.item.now) version in
     let row_is = c.in_default.ensures.none c.args.fresh version in
-    taken_crowded c.args.given key (Some c.args.item.now) moment row c.args.fresh alive (ap (λ (r : Row). r.need) row_is) c.in-Ok.room c.in-Ok.ensures.covers c.in-Ok.ensures.taken c.fate_in-fate.result
+    taken_crowded c.args.given.now key (Some c.args.item.now) moment row c.args.fresh alive (ap (λ (r : Row). r.need) row_is) c.in-Ok.room c.in-Ok.ensures.covers c.in-Ok.ensures.taken c.fate_in-fate.result
     (c.fate_in-fate.ensures key c.args.content.now.value.now (Some c.args.item.now) c.args.fresh version cost_is refl (λ link. (refl, refl))
     ∙ ap (λ (r : Row). fate_of key (Some c.args.item.now) (r.answer c.in-Ok.room).change) (sym row_is))
     c.in-Some-crowded.class c.in-Some-crowded.ensures.lacks
@@ -20,7 +20,7 @@ returns-clause-uses c = λ key moment cost_is alive.
     let version = version_of c.args.site.now c.args.versions c.args.content.now.flags c.args.content.now.value.now c.args.content.now.expiry in
     let row = store_row (Some c.args.fresh) c.args.verb (Some c.args.item.now) version in
     let row_is = c.in_default.ensures.none c.args.fresh version in
-    taken_uses c.args.given key (Some c.args.item.now) moment row c.args.fresh alive (ap (λ (r : Row). r.need) row_is) c.in-Ok.room c.in-Ok.ensures.covers c.in-Ok.ensures.taken c.fate_in-fate.result
+    taken_uses c.args.given.now key (Some c.args.item.now) moment row c.args.fresh alive (ap (λ (r : Row). r.need) row_is) c.in-Ok.room c.in-Ok.ensures.covers c.in-Ok.ensures.taken c.fate_in-fate.result
     (c.fate_in-fate.ensures key c.args.content.now.value.now (Some c.args.item.now) c.args.fresh version cost_is refl (λ link. (refl, refl))
     ∙ ap (λ (r : Row). fate_of key (Some c.args.item.now) (r.answer c.in-Ok.room).change) (sym row_is))
     c.in_default-crowded.ensures.places

@@ -11,6 +11,6 @@ returns-in-Err-clause-wants c =
     let content = c.args.content.now in
     let items = get (pointwise nat_eq) c.args.items.now in
     let class_is : Some c.in-Some.fresh ≡ class_of c.args.site.now.sizes (cost_of c.args.key.now content.value.now) = cc in
-    subst (λ (o : Option ClassNo). IsLeft c.args.given items (get (pointwise nat_eq) c.put_item.new.items) c.args.key.now c.args.moment
+    subst (λ (o : Option ClassNo). IsLeft c.args.given.now items (get (pointwise nat_eq) c.put_item.new.items) c.args.key.now c.args.moment
     (store_row o c.args.verb (items c.args.key.now) (version_of c.args.site.now c.args.versions content.flags content.value.now content.expiry)) c.in-Err.want)
     class_is (rw c.in-Err.is at c.in_ok-put.ensures.wants)

@@ -27,12 +27,12 @@ invariant_of-self-2 c =
     let row = row_of site c.self.inside.versions (items key) command c.args.turn.moment in
     let back = sym c.self.view_is in
     let few : length before < c.self.inside.limit = omega (arith, rw c.if-is_full.false at c.is_full.ensures) in
-    let offers = subst (λ (x : Stripe). (class : ClassNo) (room : Room) → IsTaken c.args.given (needs.Fresh class) room → Fits (needs.Fresh class) room x.history) back c.requires.given in
-    tried_kept c.args.given site c.self.inside.limit c.self.inside.versions made.added before c.push_answer.new.history.items items items (get (pointwise nat_eq) c.make.new.items)
+    let offers = subst (λ (x : Stripe). (class : ClassNo) (room : Room) → IsTaken c.args.given.now (needs.Fresh class) room → Fits (needs.Fresh class) room x.history) back c.requires.given in
+    tried_kept c.args.given.now site c.self.inside.limit c.self.inside.versions made.added before c.push_answer.new.history.items items items (get (pointwise nat_eq) c.make.new.items)
     c.args.turn.who command key c.args.turn.moment row made.done.room made.done.reply made.done.fate
     c.self.invariant few (λ q. refl) refl
     (subst (λ (x : Stripe). stripe_of key x.site.stripes ≡ record { 0 = x.site.stripe }) back c.requires.stripe)
-    refl makes.made_is (taken_fits c.args.given row.need made.done.room before offers makes.made_is.uses.taken) makes.added
+    refl makes.made_is (taken_fits c.args.given.now row.need made.done.room before offers makes.made_is.uses.taken) makes.added
     (c.push_answer.ensures.items ∙ ap (λ (h : List StripeEvent). h ++ did_of c.args.turn.who command c.args.turn.moment made.done.reply made.done.room ∷ []) c.reserve.ensures.items)
 
 pub returns-clause-made : goal.returns-clause-made
@@ -57,7 +57,7 @@ returns-clause-made c =
       noted = subst (λ (s : Stripe). c.push_answer.new.history.items ≡ noted (answer_of s.site (cache_now s) command moment made.done.room).reply s.history) c.self.view_is
           (c.push_answer.ensures.items ∙ ap (noted made.done.reply) c.reserve.ensures.items ∙ ap (λ (r : Reply). noted r before) reply_is);
       reply_is = subst (λ (s : Stripe). made.done.reply ≡ ((row_at s command moment).answer made.done.room).reply) c.self.view_is reply_is;
-      uses = subst (λ (s : Stripe). Uses c.args.given key (item_of s command) moment (row_at s command moment) made.done.room made.done.fate) c.self.view_is
-          (uses_at c.args.given key key (items key) (cache.items key) moment row (row_of site cache.versions (cache.items key) command moment)
+      uses = subst (λ (s : Stripe). Uses c.args.given.now key (item_of s command) moment (row_at s command moment) made.done.room made.done.fate) c.self.view_is
+          (uses_at c.args.given.now key key (items key) (cache.items key) moment row (row_of site cache.versions (cache.items key) command moment)
           made.done.room made.done.fate refl item_is row_is makes.made_is.uses);
     }
