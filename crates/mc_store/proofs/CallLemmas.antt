@@ -1,76 +1,79 @@
 -- What a pass has seen of a stripe behind a call.
 use Rattle.std.proofs.Common.{◌≡◌, ◌<◌, ℕ, List, inl, inr, arith, Result, Ok, Err, refl, sym, ap, ◌∙◌, subst, ◌++◌, ◌∷◌, [], ◌≤◌, ◌+◌, length, length-append, ◌^◌, Some}
-use Rattle.std.specs.Prelude.{IfOk, OnErr}
+use Rattle.std.specs.Prelude.{IfOk, IsErrOf, OnErr}
 use mathlib.Core.List.{IsPrefix}
 use Rattle.atomic_table.specs.Seated.{TableId}
-use Rattle.mc_item.specs.declared.{answer.Site.Site, call_event.CallEvent.CallEvent, command.Command.Command, config.Config.Config, fault.Fault.Fault}
-use Rattle.mc_item.specs.declared.{item.Who.Who, reply.Reply.Reply, event.Event.Event, event.Event.TheVariants.Call}
+use Rattle.mc_item.specs.declared.{answer.Site.Site, call_event.CallEvent.CallEvent, command.Command.Command, config.Config.Config, fault.Fault.Fault, fault.Fault.TheVariants.HistoryFull}
+use Rattle.mc_item.specs.declared.{item.Who.Who, reply.Reply.Reply, event.Event.Event, event.Event.TheVariants.Call, stripe_event.Did.Did}
 use Rattle.mc_board.specs.Histories.{Grows, HasSeen, list_at}
 use Rattle.mc_board.specs.declared.rule.Sight.{Sight}
 use Rattle.mc_evidence.specs.{Locks.StripeKeeps, Seen.classes_seen}
 use Rattle.mc_evidence.proofs.{LockLemmas.stripe_sees_more, SeenLemmas.classes_grow}
 use Rattle.mc_stripe.specs.{StripeCalls.KeepsSite, StripeState.Stripe}
-use Rattle.mc_store.specs.{Commands.IsCut, Locked.IsLockedStripe, Locked.setting_of, Serving.HasSeenShort, Serving.IsShort, Sides.StripeSide, Sides.stripe_told}
-use Rattle.mc_store.specs.Calls.{IsCutBy, IsReplied, IsRepliedBy, IsSeenGrow}
+use Rattle.mc_stripe.specs.declared.trying.Turn.{Turn}
+use Rattle.mc_store.specs.{Held.Ends, Locked.IsLockedStripe, Locked.setting_of, Serving.HasSeenShort, Serving.IsShort, Sides.StripeSide, Sides.stripe_told}
+use Rattle.mc_store.specs.Calls.{IsCutBy, IsRepliedBy, IsSeenGrow}
 use Rattle.mc_store.proofs.{EarnedLemmas.told_sees, ShortLemmas.short_grows, ShortLemmas.short_stripe, ServedLemmas.map_length}
 use Rattle.mc_store.specs.Callers.{asked_for, answered_at, turns_of, calls_told, moment_of}
 use Rattle.mc_store.specs.Passes.{CallerView, PassView, HasAsked, HasCalled, caller_of, next_who}
 use Rattle.mc_item.specs.declared.call_event.CallEvent.TheVariants.{Answered, Asked, Crawled, Juggled}
 
-module _ (table : TableId) (config : Config) (old new : StripeSide) (before after : Sight) (old_kept : IsLockedStripe table config old) (new_kept : IsLockedStripe table config new) (site : KeepsSite old.stripe new.stripe)
-    (seen : HasSeen (stripe_told old.stripe.history) before old.lock) (told : list_at after.seen new.lock ≡ stripe_told new.stripe.history) (grows : Grows new.sight after) where
-  number_same : new.stripe.site.stripe ≡ old.stripe.site.stripe
-  number_same = ap (λ (t : Site). t.stripe) site.site
+-- what a command shares with its pass: how it was answered or broken off, by what the pass had seen before and has seen behind it; and
+-- that a full history was seen
+pub record IsShared (config : Config) (number : ℕ) (before after : Sight) (calls calls_new : List CallEvent) (who : Who) (command : Command) (moment : ℕ) (r : Result Reply Fault) : Type 0 where
+  pub replied : IfOk r (IsRepliedBy config number before after calls calls_new who command moment)
+  pub cut : OnErr r (IsCutBy config number before after calls calls_new who command moment)
+  pub full : IsErrOf r HistoryFull → HasSeenShort config after
 
-  pub seen_grow : IsSeenGrow config old.stripe.site.stripe before after old.stripe new.stripe
-  seen_grow = record {
-    made_with = old_kept.made_with;
-    number_is = refl;
-    site = site;
-    seen = subst (λ (k : ℕ). IsPrefix (list_at before.seen k) (stripe_told old.stripe.history)) old_kept.lock_is seen;
-    now = ap (λ (k : ℕ). list_at after.seen k) (sym (new_kept.lock_is ∙ number_same)) ∙ told;
-    sound = subst (λ (k : ℕ). StripeKeeps (setting_of config) k new.stripe.history (classes_seen config.stripes (list_at after.seen))) number_same
-        (stripe_sees_more (setting_of config) new.stripe.site.stripe new.stripe.history (classes_seen config.stripes (list_at new.sight.seen)) (classes_seen config.stripes (list_at after.seen))
-        (classes_grow config.stripes (list_at new.sight.seen) (list_at after.seen) grows.at) new_kept.keeps);
-  }
-
-  pub replied_by : (who : Who) (command : Command) (moment : ℕ) (calls calls_new : List CallEvent) (reply : Reply) → IsReplied config who command moment old.stripe new.stripe after (calls ++ asked_for command moment ∷ []) calls_new reply
-      → IsRepliedBy config old.stripe.site.stripe before after calls calls_new who command moment reply
-  replied_by who command moment calls calls_new reply replied = record { old = old.stripe; new = new.stripe; grew = seen_grow; replied = replied }
-
-  pub cut_by : (who : Who) (command : Command) (moment : ℕ) (calls calls_new : List CallEvent) → calls_new ≡ calls ++ asked_for command moment ∷ [] → IsCut config who command moment old.stripe new.stripe
-      → IsCutBy config old.stripe.site.stripe before after calls calls_new who command moment
-  cut_by who command moment calls calls_new noted cut = record { old = old.stripe; new = new.stripe; grew = seen_grow; cut = cut; noted = noted }
-
-  pub replied_by_ok : (who : Who) (command : Command) (moment : ℕ) (calls calls_new : List CallEvent) (r : Result Reply Fault) → IfOk r (IsReplied config who command moment old.stripe new.stripe after (calls ++ asked_for command moment ∷ []) calls_new)
-      → IfOk r (IsRepliedBy config old.stripe.site.stripe before after calls calls_new who command moment)
-  replied_by_ok who command moment calls calls_new (Ok reply) replied = replied_by who command moment calls calls_new reply replied
-  replied_by_ok who command moment calls calls_new (Err fault) replied = tt
-
-  pub cut_by_err : (who : Who) (command : Command) (moment : ℕ) (calls calls_new : List CallEvent) (r : Result Reply Fault) → OnErr r (calls_new ≡ calls ++ asked_for command moment ∷ []) → OnErr r (IsCut config who command moment old.stripe new.stripe)
-      → OnErr r (IsCutBy config old.stripe.site.stripe before after calls calls_new who command moment)
-  cut_by_err who command moment calls calls_new (Ok reply) noted cut = tt
-  cut_by_err who command moment calls calls_new (Err fault) noted cut = cut_by who command moment calls calls_new noted cut
+module _ {table : TableId} {config : Config} {number : ℕ} {old new : StripeSide} (before : Sight) {after : Sight} (old_kept : IsLockedStripe table config old) (new_kept : IsLockedStripe table config new)
+    (number_is : old.stripe.site.stripe ≡ number) (seen : HasSeen (stripe_told old.stripe.history) before old.lock) (told : list_at after.seen new.lock ≡ stripe_told new.stripe.history) (grows : Grows new.sight after) where
+  seen_grow : KeepsSite old.stripe new.stripe → IsSeenGrow config number before after old.stripe new.stripe
+  seen_grow site =
+      let number_new : new.stripe.site.stripe ≡ number = ap (λ (t : Site). t.stripe) site.site ∙ number_is in record {
+        made_with = old_kept.made_with;
+        number_is = number_is;
+        site = site;
+        seen = subst (λ (k : ℕ). IsPrefix (list_at before.seen k) (stripe_told old.stripe.history)) (old_kept.lock_is ∙ number_is) seen;
+        now = ap (λ (k : ℕ). list_at after.seen k) (sym (new_kept.lock_is ∙ number_new)) ∙ told;
+        sound = subst (λ (k : ℕ). StripeKeeps (setting_of config) k new.stripe.history (classes_seen config.stripes (list_at after.seen))) number_new
+            (stripe_sees_more (setting_of config) new.stripe.site.stripe new.stripe.history (classes_seen config.stripes (list_at new.sight.seen)) (classes_seen config.stripes (list_at after.seen))
+            (classes_grow config.stripes (list_at new.sight.seen) (list_at after.seen) grows.at) new_kept.keeps);
+      }
 
   -- where a history was short, it was seen so
-  pub short_shared : IsShort config new → HasSeenShort config after
+  short_shared : IsShort config new → HasSeenShort config after
   short_shared (inl short) =
       let below : new.stripe.site.stripe < config.stripes = new_kept.of in
       let lock : new.lock ≡ new.stripe.site.stripe = new_kept.lock_is in
       short_stripe config new.lock after new.stripe.history new.stripe.limit (omega (arith, below, lock)) new_kept.made_with.limit told short
   short_shared (inr was) = short_grows config new.sight after grows was
 
--- what was replied was so too by whoever has seen more
-pub replied_sees : (config : Config) (who : Who) (command : Command) (moment : ℕ) (s s_new : Stripe) (a b : Sight) (calls calls_new : List CallEvent) (r : Result Reply Fault) → Grows a b
-    → IfOk r (IsReplied config who command moment s s_new a calls calls_new) → IfOk r (IsReplied config who command moment s s_new b calls calls_new)
-replied_sees config who command moment s s_new a b calls calls_new (Ok reply) grows r = record {
-  place = r.place;
-  answered = r.answered;
-  reply_is = r.reply_is;
-  noted = r.noted;
-  earned = told_sees config s.site a b (record { who = who; command = command; moment = moment; reply = r.answered.reply; room = r.answered.room }) grows r.earned;
-}
-replied_sees config who command moment s s_new a b calls calls_new (Err fault) grows r = tt
+  -- a command that ended under the lock of its stripe is shared so with its pass
+  pub shared_by : {caller caller_new : CallerView} {command : Command} {turn : Turn} (r : Result Reply Fault) (calls : List CallEvent) → Ends config old.stripe new caller caller_new command turn r → caller.calls ≡ calls ++ asked_for command turn.moment ∷ []
+      → IsShared config number before after calls caller_new.calls turn.who command turn.moment r
+  shared_by {command = command} {turn = turn} (Ok reply) calls ends asked =
+      let was = ends.replied in
+      let did : Did = record { who = turn.who; command = command; moment = turn.moment; reply = was.answered.reply; room = was.answered.room } in record {
+        replied = record {
+          old = old.stripe;
+          new = new.stripe;
+          grew = seen_grow ends.site;
+          replied = record {
+            place = was.place;
+            answered = was.answered;
+            reply_is = was.reply_is;
+            noted = was.noted ∙ ap (λ (l : List CallEvent). l ++ answered_at old.stripe.site.stripe was.place ∷ []) asked;
+            earned = told_sees config old.stripe.site new.sight after did grows was.earned;
+          };
+        };
+        cut = tt;
+        full = λ e. absurd (cc e);
+      }
+  shared_by (Err fault) calls ends asked = record {
+    replied = tt;
+    cut = record { old = old.stripe; new = new.stripe; grew = seen_grow ends.site; cut = ends.cut; noted = ap (λ (v : CallerView). v.calls) ends.unnoted ∙ asked };
+    full = λ e. short_shared (ends.full e);
+  }
 
 -- what is told of each failure, in other words
 pub on_err_more : {X : Type 0} (r : Result X Fault) (P Q : Type 0) → (P → Q) → OnErr r P → OnErr r Q
@@ -86,16 +89,16 @@ turns_answered (Crawled w ∷ calls) stripe place = ap (λ (l : List CallEvent).
 turns_answered (Answered a ∷ calls) stripe place = turns_answered calls stripe place
 
 -- a command adds no turn to its caller's history once it was asked for, and at most its answer
-pub turns_kept : (config : Config) (who : Who) (command : Command) (moment : ℕ) (s s_new : Stripe) (sight : Sight) (caller caller_new : CallerView) (r : Result Reply Fault) → IfOk r (IsReplied config who command moment s s_new sight caller.calls caller_new.calls)
-    → OnErr r (caller_new ≡ caller) → (turns_of caller_new.calls ≡ turns_of caller.calls) × (length caller_new.calls ≤ length caller.calls + 1)
-turns_kept config who command moment s s_new sight caller caller_new (Ok reply) replied same =
-    let is = replied.noted in
-    let place = replied.place in
+pub turns_kept : {config : Config} {s : Stripe} {own_new : StripeSide} {caller caller_new : CallerView} {command : Command} {turn : Turn} (r : Result Reply Fault) → Ends config s own_new caller caller_new command turn r
+    → (turns_of caller_new.calls ≡ turns_of caller.calls) × (length caller_new.calls ≤ length caller.calls + 1)
+turns_kept {s = s} {caller = caller} {caller_new = caller_new} (Ok reply) ends =
+    let is = ends.replied.noted in
+    let place = ends.replied.place in
     let long = length-append caller.calls (answered_at s.site.stripe place ∷ []) in
     let all : length caller_new.calls ≡ length (caller.calls ++ answered_at s.site.stripe place ∷ []) = ap (λ (l : List CallEvent). length l) is in
     (ap turns_of is ∙ turns_answered caller.calls s.site.stripe place, omega (arith, all, long))
-turns_kept config who command moment s s_new sight caller caller_new (Err fault) replied same =
-    (ap (λ (v : CallerView). turns_of v.calls) same, omega (arith, ap (λ (v : CallerView). length v.calls) same))
+turns_kept (Err fault) ends =
+    (ap (λ (v : CallerView). turns_of v.calls) ends.unnoted, omega (arith, ap (λ (v : CallerView). length v.calls) ends.unnoted))
 
 turns_both : (xs ys : List CallEvent) → length (turns_of (xs ++ ys)) ≡ length (turns_of xs) + length (turns_of ys)
 turns_both [] ys = omega arith

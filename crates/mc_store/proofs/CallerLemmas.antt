@@ -66,7 +66,7 @@ called_told before after lock lock_is list told at only =
 -- ---- calls that stand in a history
 
 -- what always holds holds of what was answered
-on_ok_always : {T E P : Type 0} (r : Result T E) → P → OnOk r P
+pub on_ok_always : {T E P : Type 0} (r : Result T E) → P → OnOk r P
 on_ok_always (Ok x) p = p
 on_ok_always (Err e) p = tt
 

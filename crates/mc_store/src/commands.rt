@@ -1,14 +1,12 @@
 //! One command on a store, under the lock of its key's stripe.
-ghost use Rattle.std.specs.Prelude.{◌≡◌, ◌≤◌, ◌<◌, ◌⊎◌, ◌+◌, ◌++◌, ◌-◌, ◌^◌, IfOk, IfSome, OnOk, OnErr, IsErrOf, length, List, ◌∷◌, []};
+ghost use Rattle.std.specs.Prelude.{◌≡◌, ◌≤◌, ◌⊎◌, ◌+◌, ◌-◌, ◌^◌, IfOk, IfSome, OnOk, OnErr, IsErrOf, length};
 ghost use Rattle.mc_item.specs.{Command.key_of, Measure.stripe_of};
-ghost use Rattle.mc_item.specs.declared.{call_event.CallEvent.CallEvent, fault.Fault.TheVariants.HistoryFull};
+ghost use Rattle.mc_item.specs.declared.fault.Fault.TheVariants.{HistoryFull};
 ghost use Rattle.mc_board.specs.Histories.{Grows};
 ghost use Rattle.mc_evidence.specs.Setting.{IsClass};
-ghost use Rattle.mc_store.specs.{Callers.asked_for, Calls.IsCutBy, Calls.IsRepliedBy, Held.IsCallOn, Locked.setting_of, Passes.next_who};
-ghost use Rattle.mc_store.specs.{Passes.caller_of, Serving.HasSeenShort};
+ghost use Rattle.mc_store.specs.{Calls.IsCutBy, Calls.IsRepliedBy, Locked.setting_of, Passes.next_who, Serving.HasSeenShort};
 
 use crate::answering::{answer, answer_for};
-use crate::locked::LockedStripe;
 use crate::named::Named;
 use crate::pass::Pass;
 use crate::store::Store;
@@ -30,37 +28,6 @@ fn class_for(config: &Config, command: &Command) -> Option<ClassNo>
         }
         _ => None,
     }
-}
-
-// One command on the stripe of its key, which is under its lock, after all that a pass has seen; the pass is told of all. A
-// storage command whose new version has a class is tried on that class at once, any other command on its stripe alone.
-fn command_seen<N: Named>(
-    alloc: Global,
-    store: &Store<N>,
-    rt: &impl Wait,
-    own: &mut LockedStripe<N>,
-    pass: &mut Pass<N>,
-    turn: Turn,
-    command: &Command,
-) -> Result<Reply, Fault>
-    requires called { IsCallOn N.config own.old.stripe (caller_of pass.old) command.now turn }
-    requires room { length pass.old.calls < pass.old.turn + pass.old.turn }
-    ensures replied { (calls : List CallEvent) → pass.old.calls ≡ calls ++ asked_for command.now turn.moment ∷ [] → IfOk result (IsRepliedBy N.config own.old.stripe.site.stripe pass.old.sight pass.new.sight calls pass.new.calls turn.who command.now turn.moment) }
-    ensures cut { (calls : List CallEvent) → pass.old.calls ≡ calls ++ asked_for command.now turn.moment ∷ [] → OnErr result (IsCutBy N.config own.old.stripe.site.stripe pass.old.sight pass.new.sight calls pass.new.calls turn.who command.now turn.moment) }
-    ensures grows { Grows pass.old.sight pass.new.sight }
-    ensures same { pass.new ≡ record pass.old { calls = pass.new.calls; sight = pass.new.sight } }
-    ensures full { IsErrOf result HistoryFull → HasSeenShort N.config pass.new.sight }
-{
-    own.law();
-    own.side.compare(&store.board, &mut pass.seen);
-    let caller = &mut pass.caller;
-    let reply = match class_for(&store.config, command) {
-        Some(class) => answer_for(alloc, store, rt, own, caller, command, turn, class),
-        None => answer(alloc, store, rt, own, caller, command, turn),
-    };
-    own.law();
-    own.side.share(&store.board, &mut pass.seen);
-    reply
 }
 
 impl<N: Named> Store<N> {
@@ -93,8 +60,16 @@ impl<N: Named> Store<N> {
         let number = stripe_of(command.key(), self.config.stripes);
         let mut guard = self.lock_stripe(rt, number);
         let own = &mut *guard;
+        own.side.compare(&self.board, &mut pass.seen);
         let turn = Turn { who, moment };
-        let reply = command_seen(alloc, self, rt, own, pass, turn, &command);
+        let caller = &mut pass.caller;
+        // A storage command whose new version has a class is tried on that class at once, any other command on its stripe
+        // alone.
+        let reply = match class_for(&self.config, &command) {
+            Some(class) => answer_for(alloc, self, rt, own, caller, &command, turn, class),
+            None => answer(alloc, self, rt, own, caller, &command, turn),
+        };
+        own.side.share(&self.board, &mut pass.seen);
         drop(guard);
         drop(command);
         reply

@@ -1,13 +1,15 @@
 -- A storage command of which the class is known by its cost (own).
-use Rattle.std.specs.Prelude.{ℕ, Bool, true, false}
-use Rattle.mc_item.specs.Answer.{Row, let_go, plain}
+use Rattle.std.specs.Prelude.{ℕ, ◌≡◌, ◌==◌, Bool, true, false, List, if◌then◌else◌, Option, Some, None}
+use Rattle.mc_item.specs.{Answer.Row, Answer.let_go, Answer.plain, Cache.changed, Cache.versions_of, Measure.cost_of, Stripe.IsAlive}
 use Rattle.mc_item.specs.Answer as answers
 use Rattle.mc_item.specs.declared.answer.Change.TheVariants as changes
 use Rattle.mc_item.specs.declared.answer.Need.TheVariants as needs
-use Rattle.mc_item.specs.declared.{command.Verb.Verb, item.ClassNo.ClassNo, item.Item.Item, item.Link.Link, reply.Reply.Reply, reply.Room.Room}
+use Rattle.mc_item.specs.declared.{command.Verb.Verb, item.ClassNo.ClassNo, item.Expiry.Expiry, item.Item.Item, item.Link.Link, reply.Reply.Reply, reply.Room.Room}
+use Rattle.mc_item.specs.declared.command.Verb.TheVariants.{Set, Add, Replace, Cas}
 use Rattle.mc_item.specs.declared.reply.Reply.TheVariants as replies
 use Rattle.mc_item.specs.declared.reply.Room.TheVariants as rooms
-use Rattle.mc_stripe.specs.declared.{fate.Fate.Fate, putting.PutAnswer.PutAnswer}
+use Rattle.mc_stripe.specs.Wanting.{Uses}
+use Rattle.mc_stripe.specs.declared.{fate.Fate.Fate, putting.Found.Found, putting.Put.Put, putting.PutAnswer.PutAnswer, trying.Made.Made, wanting.Given.Given}
 use Rattle.mc_stripe.specs.declared.fate.Fate.TheVariants as fates
 use Rattle.mc_stripe.specs.declared.putting.PutAnswer.TheVariants as answered
 
@@ -26,6 +28,36 @@ storing_row class verb version = answers.fresh class replies.Stored version (ans
 -- that of one that is declined
 abbrev pub declined_row : PutAnswer → Row
 declined_row put = plain needs.Nothing (reply_of put) changes.Stays
+
+-- an item as a decision is told of it
+abbrev pub found_of : Option Item → Option Found
+found_of None = None
+found_of (Some item) = Some (record { link = item.link; cas = item.cas })
+
+-- the link of an item that was found
+abbrev pub link_in : Option Found → Option Link
+link_in None = None
+link_in (Some found) = Some found.link
+
+-- its cas number
+abbrev pub cas_in : Option Found → Option ℕ
+cas_in None = None
+cas_in (Some found) = Some found.cas
+
+-- what declines a storage command, by the cas number of the item that it finds
+abbrev pub decline_of : Verb → Option ℕ → Option PutAnswer
+decline_of Set cas = None
+decline_of Add None = None
+decline_of Add (Some cas) = Some answered.NotStored
+decline_of Replace None = Some answered.NotStored
+decline_of Replace (Some cas) = None
+decline_of (Cas unique) None = Some answered.NotFound
+decline_of (Cas unique) (Some cas) = if cas == unique then None else Some answered.Exists
+
+-- the row of a storage command by what declines it
+abbrev pub row_by : Option PutAnswer → ClassNo → Verb → (Link → Item) → Row
+row_by None class verb version = storing_row class verb version
+row_by (Some answer) class verb version = declined_row answer
 
 -- what a storage command is answered that stores, by its room
 abbrev pub answer_of_room : Room → PutAnswer
@@ -47,3 +79,26 @@ added answered.NotStored = 0
 added answered.Exists = 0
 added answered.NotFound = 0
 added answered.NoRoom = 0
+
+-- what a storage command leaves under its key: the new version in a link, none where the item goes, else the item as it was
+abbrev pub item_after : Room → Fate → (Link → Item) → Option Item → Option Item
+item_after (rooms.At link) fate version item = Some (version link)
+item_after (rooms.Refused class place) fate version item = if goes fate then None else item
+item_after rooms.Keep fate version item = if goes fate then None else item
+
+-- what a decision is told: the item that was found, which is alive, or that none was; and the cost and the expiry of each new version
+pub record IsTold (found : Option Found) (cost : ℕ) (expiry : Expiry) (key : List ℕ) (item : Option Item) (moment : ℕ) (version : Link → Item) : Type 0 where
+  pub alive : IsAlive item moment
+  pub found_is : found ≡ found_of item
+  pub version_is : (link : Link) → (cost ≡ cost_of key (version link).value) × (expiry ≡ (version link).expiry)
+
+-- a storage command of this row was decided
+pub record IsDecided (given : Given) (key : List ℕ) (item : Option Item) (moment : ℕ) (row : Row) (version : Link → Item) (put : Put) : Type 0 where
+  pub uses : Uses given key item moment row put.room put.fate
+  pub reply_is : reply_of put.answer ≡ (row.answer put.room).reply
+  pub added_is : added put.answer ≡ versions_of (row.answer put.room).change
+  pub item_is : changed item (row.answer put.room).change ≡ item_after put.room put.fate version item
+
+-- what a storage command made that was decided
+abbrev pub made_of : Put → Made
+made_of put = record { done = record { reply = reply_of put.answer; room = put.room; fate = put.fate }; noted = Some (reply_of put.answer); added = added put.answer }

@@ -15,13 +15,15 @@ use crate::deleting::delete_item;
 use crate::fate::wakes;
 use crate::getting::get_item;
 use crate::huge::refuse_huge;
+use crate::putting::put_item;
 use crate::shown::{copy_if, push_answer};
 use crate::state::{StripeState, is_full};
-use crate::storing::store_item;
 use crate::touching::touch_item;
 use crate::trying::{Done, Made, Turn};
 use crate::wanting::{Given, Want};
-use mc_item::{Command, Content, Expiry, Fault, Item, Key, Link, NoMemory, Site, Step, expiry_of};
+use mc_item::{
+    Command, Content, Expiry, Fault, Item, Key, Link, NoMemory, Site, Step, cost, expiry_of,
+};
 use std::alloc::Global;
 use std::collections::HashMap;
 use std::hash::RandomState;
@@ -68,9 +70,13 @@ fn make(
                 value,
                 expiry: expiry_at(exptime, moment),
             };
-            store_item(
-                alloc, site, versions, items, key, *verb, &content, moment, given,
-            )
+            let cost = cost(key.bytes().len() as u64, value.bytes().len() as u64);
+            match site.class_of(cost) {
+                None => Ok(refuse_huge(items, key, *verb, moment, given)),
+                Some(fresh) => put_item(
+                    alloc, site, versions, items, key, *verb, &content, cost, fresh, moment, given,
+                ),
+            }
         }
         Command::Huge { verb, key } => Ok(refuse_huge(items, key, *verb, moment, given)),
         Command::Incr(key, delta) => {

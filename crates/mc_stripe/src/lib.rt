@@ -12,7 +12,6 @@ mod huge;
 mod putting;
 mod shown;
 mod state;
-mod storing;
 mod touching;
 mod trying;
 mod wanting;

@@ -1,17 +1,16 @@
 //! Storage commands, from look-up to what becomes of the item.
-ghost use Rattle.std.specs.Prelude.{◌≡◌, ◌<◌, ◌≤◌, ◌+◌, ◌^◌, ℕ, List, true, false, IfOk, IfErr, IfSome, IfNone, OnOk, OnErr, nat_eq, if◌then◌else◌, Option, Some, None};
+ghost use Rattle.std.specs.Prelude.{◌≡◌, ◌<◌, ◌≤◌, ◌+◌, ◌^◌, ℕ, List, IfOk, IfErr, IfSome, OnErr, nat_eq, Option, Some, true};
 ghost use Rattle.std.specs.{Cmp.Lexicographic.pointwise, HashMap.get, HashMap.spare};
 ghost use Rattle.mc_item.specs.Answer as answers;
-ghost use Rattle.mc_item.specs.{Answer.cas_of, Answer.store_row, Answer.version_of, Measure.cost_of, Cache.changed, Cache.versions_of, Item.link_of_item};
-ghost use Rattle.mc_item.specs.{Stripe.IsAlive};
+ghost use Rattle.mc_item.specs.{Answer.cas_of, Answer.store_row, Answer.version_of, Item.link_of_item, Measure.cost_of};
 ghost use Rattle.mc_item.specs.declared.{item.ClassNo.ClassNo as TheClass, item.Item.Item as TheItem, item.Link.Link as TheLink};
-ghost use Rattle.mc_item.specs.declared.reply.Room.TheVariants as rooms;
-ghost use Rattle.mc_stripe.specs.{Plan.fate_of, Trying.IsLeft, Trying.IsMade, Trying.Stays, Wanting.IsGiven, Wanting.IsWanting, Wanting.Uses};
-ghost use Rattle.mc_stripe.specs.Putting.{added, declined_row, goes, answer_of_room, reply_of, storing_row};
-ghost use Rattle.mc_stripe.specs.declared.fate.Fate.TheVariants as fates;
+ghost use Rattle.mc_stripe.specs.{Plan.fate_of, Trying.IsLeft, Trying.Makes, Trying.Stays, Wanting.IsGiven, Wanting.IsWanting};
+ghost use Rattle.mc_stripe.specs.Putting as words;
+ghost use Rattle.mc_stripe.specs.Putting.{IsDecided, IsTold, answer_of_room, decline_of, goes, made_of, reply_of, storing_row};
 
 use crate::changing::remove;
 use crate::fate::Fate;
+use crate::trying::{Made, made_with};
 use crate::wanting::{Given, Want};
 use mc_item::{
     ClassNo, Content, Expiry, Item, Key, Link, Marks, NoMemory, Reply, Room, Site, Verb,
@@ -31,9 +30,9 @@ pub(crate) enum PutAnswer {
 }
 
 impl PutAnswer {
-    /// The reply.
+    // The reply.
     #[inline(always)]
-    pub(crate) fn reply(self) -> Reply
+    fn reply(self) -> Reply
         ensures { result ≡ reply_of self }
     {
         match self {
@@ -44,61 +43,97 @@ impl PutAnswer {
             PutAnswer::NoRoom => Reply::NoRoom,
         }
     }
-}
 
-// What a storage command did: its answer, the room that it took, and what became of chunks.
-#[derive(Clone, Copy, Debug)]
-pub(crate) struct Put {
-    pub(crate) answer: PutAnswer,
-    pub(crate) room: Room,
-    pub(crate) fate: Fate,
-}
-
-// What declines a storage command that finds an item.
-#[inline(always)]
-fn declines_over(verb: Verb, item: &Item) -> Option<PutAnswer>
-    ensures none { IfNone result ((class : TheClass) (version : TheLink → TheItem) → store_row (Some class) verb (Some item.now) version ≡ storing_row class verb version) }
-    ensures some { IfSome result (λ answer. (class : TheClass) (version : TheLink → TheItem) → store_row (Some class) verb (Some item.now) version ≡ declined_row answer) }
-    ensures idle { IfSome result (λ answer. added answer ≡ 0) }
-{
-    match verb {
-        Verb::Set => None,
-        Verb::Replace => None,
-        Verb::Add => Some(PutAnswer::NotStored),
-        Verb::Cas(unique) => {
-            if item.cas == unique {
-                None
-            } else {
-                Some(PutAnswer::Exists)
-            }
+    // How many versions it adds.
+    #[inline(always)]
+    fn added(self) -> u64
+        ensures { result ≡ words.added self }
+    {
+        match self {
+            PutAnswer::Stored => 1,
+            PutAnswer::NotStored | PutAnswer::Exists | PutAnswer::NotFound | PutAnswer::NoRoom => 0,
         }
     }
 }
 
-// What declines one that finds none.
-#[inline(always)]
-fn declines_new(verb: Verb) -> Option<PutAnswer>
-    ensures none { IfNone result ((class : TheClass) (version : TheLink → TheItem) → store_row (Some class) verb None version ≡ storing_row class verb version) }
-    ensures some { IfSome result (λ answer. (class : TheClass) (version : TheLink → TheItem) → store_row (Some class) verb None version ≡ declined_row answer) }
-    ensures idle { IfSome result (λ answer. added answer ≡ 0) }
-{
-    match verb {
-        Verb::Set => None,
-        Verb::Add => None,
-        Verb::Replace => Some(PutAnswer::NotStored),
-        Verb::Cas(_) => Some(PutAnswer::NotFound),
+// How a storage command was decided: its answer, the room that it takes, and what becomes of chunks.
+#[derive(Clone, Copy, Debug)]
+pub(crate) struct Put {
+    answer: PutAnswer,
+    room: Room,
+    fate: Fate,
+}
+
+impl Put {
+    // What the command made.
+    #[inline(always)]
+    fn made(self) -> Made
+        ensures { result ≡ made_of self }
+    {
+        let answer = self.answer;
+        made_with(
+            answer.reply(),
+            answer.reply(),
+            self.room,
+            self.fate,
+            answer.added(),
+        )
     }
 }
 
-// A command that touches nothing.
+// The item that a storage command finds: its link, and its cas number.
+#[derive(Clone, Copy, Debug)]
+pub(crate) struct Found {
+    link: Link,
+    cas: u64,
+}
+
+// The link of an item that was found.
 #[inline(always)]
-fn declined(answer: PutAnswer) -> Put
-    ensures { result ≡ record { answer = answer; room = rooms.Keep; fate = fates.Untouched } }
+fn link_in(found: Option<Found>) -> Option<Link>
+    ensures { result ≡ words.link_in found }
 {
-    Put {
-        answer,
-        room: Room::Keep,
-        fate: Fate::Untouched,
+    match found {
+        None => None,
+        Some(it) => Some(it.link),
+    }
+}
+
+// Its cas number.
+#[inline(always)]
+fn cas_in(found: Option<Found>) -> Option<u64>
+    ensures { result ≡ words.cas_in found }
+{
+    match found {
+        None => None,
+        Some(it) => Some(it.cas),
+    }
+}
+
+// What declines a storage command, by the cas number of the item that it finds.
+#[inline(always)]
+fn declines(verb: Verb, cas: Option<u64>) -> Option<PutAnswer>
+    ensures value { result ≡ decline_of verb cas }
+    ensures idle { IfSome result (λ answer. words.added answer ≡ 0) }
+{
+    match cas {
+        None => match verb {
+            Verb::Set => None,
+            Verb::Add => None,
+            Verb::Replace => Some(PutAnswer::NotStored),
+            Verb::Cas(_) => Some(PutAnswer::NotFound),
+        },
+        Some(cas) => match verb {
+            Verb::Set | Verb::Replace => None,
+            Verb::Add => Some(PutAnswer::NotStored),
+            Verb::Cas(unique) => {
+                if cas == unique {
+                    None
+                } else {
+                    Some(PutAnswer::Exists)
+                }
+            }
+        },
     }
 }
 
@@ -122,72 +157,13 @@ fn let_go(verb: Verb, old: Option<Link>) -> Fate
 #[inline(always)]
 fn fate_in(room: Room, verb: Verb, cost: u64, expiry: Expiry, old: Option<Link>) -> Fate
     requires { IsGiven room }
-    ensures { (key value : List ℕ) (found : Option TheItem) (class : TheClass) (version : TheLink → TheItem) → cost ≡ cost_of key value → old ≡ link_of_item found
-        → ((link : TheLink) → ((version link).value ≡ value) × ((version link).expiry ≡ expiry)) → result ≡ fate_of key found ((storing_row class verb version).answer room).change }
+    ensures { (key : List ℕ) (item : Option TheItem) (class : TheClass) (version : TheLink → TheItem) → old ≡ link_of_item item
+        → ((link : TheLink) → (cost ≡ cost_of key (version link).value) × (expiry ≡ (version link).expiry)) → result ≡ fate_of key item ((storing_row class verb version).answer room).change }
 {
     match room {
         Room::At(_) => Fate::Renewed { cost, expiry, old },
         Room::Refused { .. } | Room::Keep => let_go(verb, old),
     }
-}
-
-// An item is renewed where the room is a link.
-#[inline(always)]
-fn renew_in(
-    site: &Site,
-    versions: u64,
-    item: &mut Item,
-    content: &Content<'_>,
-    room: Room,
-) -> Result<(), NoMemory>
-    requires cas { cas_of site.now versions < 2 ^ 64 }
-    ensures there { OnOk result ((link : TheLink) → room ≡ rooms.At link → item.new ≡ version_of site.now versions content.now.flags content.now.value.now content.now.expiry link) }
-    ensures stays { OnOk result (((link : TheLink) → room ≡ rooms.At link → ⊥) → item.new ≡ item.old) }
-    ensures err { OnErr result (item.new ≡ item.old) }
-{
-    match room {
-        Room::At(link) => site.renew(versions, item, content, link),
-        Room::Refused { .. } => Ok(()),
-        Room::Keep => Ok(()),
-    }
-}
-
-// A storage command that finds an item that is alive.
-#[inline(always)]
-fn put_over(
-    site: &Site,
-    versions: u64,
-    item: &mut Item,
-    verb: Verb,
-    content: &Content<'_>,
-    cost: u64,
-    fresh: ClassNo,
-    given: &Given,
-) -> Result<Result<Put, Want>, NoMemory>
-    requires cas { cas_of site.now versions < 2 ^ 64 }
-    ensures uses { (key : List ℕ) (moment : ℕ) → cost ≡ cost_of key content.now.value.now → IsAlive (Some item.old) moment → IfOk result (λ t. IfOk t (λ put. Uses given.now key (Some item.old) moment (store_row (Some fresh) verb (Some item.old) (version_of site.now versions content.now.flags content.now.value.now content.now.expiry)) put.room put.fate)) }
-    ensures reply { IfOk result (λ t. IfOk t (λ put. reply_of put.answer ≡ ((store_row (Some fresh) verb (Some item.old) (version_of site.now versions content.now.flags content.now.value.now content.now.expiry)).answer put.room).reply)) }
-    ensures item { (key : List ℕ) → cost ≡ cost_of key content.now.value.now → IfOk result (λ t. IfOk t (λ put. changed (Some item.old) ((store_row (Some fresh) verb (Some item.old) (version_of site.now versions content.now.flags content.now.value.now content.now.expiry)).answer put.room).change ≡ (if goes put.fate then None else Some item.new))) }
-    ensures added { IfOk result (λ t. IfOk t (λ put. added put.answer ≡ versions_of ((store_row (Some fresh) verb (Some item.old) (version_of site.now versions content.now.flags content.now.value.now content.now.expiry)).answer put.room).change)) }
-    ensures wants { (key : List ℕ) (moment : ℕ) → cost ≡ cost_of key content.now.value.now → IsAlive (Some item.old) moment → IfOk result (λ t. IfErr t (IsWanting given.now key (Some item.old) moment (store_row (Some fresh) verb (Some item.old) (version_of site.now versions content.now.flags content.now.value.now content.now.expiry)))) }
-    ensures same { IfOk result (λ t. OnErr t (item.new ≡ item.old)) }
-    ensures err { OnErr result (item.new ≡ item.old) }
-{
-    if let Some(answer) = declines_over(verb, item) {
-        return Ok(Ok(declined(answer)));
-    }
-    let old = Some(item.link);
-    let room = match given.room(fresh, old) {
-        Ok(room) => room,
-        Err(want) => return Ok(Err(want)),
-    };
-    let fate = fate_in(room, verb, cost, content.expiry, old);
-    if let Some(class) = given.crowded(room, fate) {
-        return Ok(Err(Want::Place(class)));
-    }
-    renew_in(site, versions, item, content, room)?;
-    let answer = answer_in(room);
-    Ok(Ok(Put { answer, room, fate }))
 }
 
 // What a storage command is answered that stores, by its room.
@@ -199,6 +175,36 @@ fn answer_in(room: Room) -> PutAnswer
         Room::At(_) => PutAnswer::Stored,
         Room::Refused { .. } | Room::Keep => PutAnswer::NoRoom,
     }
+}
+
+// Decides a storage command by its verb, the item that it finds and the room that it is given.
+#[inline(always)]
+fn decide(
+    verb: Verb,
+    expiry: Expiry,
+    cost: u64,
+    fresh: ClassNo,
+    found: Option<Found>,
+    given: &Given,
+) -> Result<Put, Want>
+    ensures made { (key : List ℕ) (item : Option TheItem) (moment : ℕ) (version : TheLink → TheItem) → IsTold found cost expiry key item moment version → IfOk result (IsDecided given.now key item moment (store_row (Some fresh) verb item version) version) }
+    ensures wants { (key : List ℕ) (item : Option TheItem) (moment : ℕ) (version : TheLink → TheItem) → IsTold found cost expiry key item moment version → IfErr result (IsWanting given.now key item moment (store_row (Some fresh) verb item version)) }
+{
+    if let Some(answer) = declines(verb, cas_in(found)) {
+        return Ok(Put {
+            answer,
+            room: Room::Keep,
+            fate: Fate::Untouched,
+        });
+    }
+    let old = link_in(found);
+    let room = given.room(fresh, old)?;
+    let fate = fate_in(room, verb, cost, expiry, old);
+    if let Some(class) = given.crowded(room, fate) {
+        return Err(Want::Place(class));
+    }
+    let answer = answer_in(room);
+    Ok(Put { answer, room, fate })
 }
 
 // A new version, where no item stands.
@@ -220,56 +226,7 @@ fn new_item(site: &Site, versions: u64, content: &Content<'_>, link: Link) -> Re
     })
 }
 
-// A storage command that finds no item.
-#[inline(always)]
-fn put_new(
-    alloc: Global,
-    site: &Site,
-    versions: u64,
-    items: &mut HashMap<Key, Item, RandomState>,
-    key: &Key,
-    verb: Verb,
-    content: &Content<'_>,
-    cost: u64,
-    fresh: ClassNo,
-    given: &Given,
-) -> Result<Result<Put, Want>, NoMemory>
-    requires cas { cas_of site.now versions < 2 ^ 64 }
-    requires cost { cost ≡ cost_of key.now content.now.value.now }
-    requires absent { get (pointwise nat_eq) items.old key.now ≡ None }
-    ensures made { (moment : ℕ) → IfOk result (λ t. IfOk t (λ put. IsMade given.now (get (pointwise nat_eq) items.old) (get (pointwise nat_eq) items.new) key.now (store_row (Some fresh) verb (get (pointwise nat_eq) items.old key.now) (version_of site.now versions content.now.flags content.now.value.now content.now.expiry)) moment put.room (reply_of put.answer) put.fate)) }
-    ensures added { IfOk result (λ t. IfOk t (λ put. added put.answer ≡ versions_of ((store_row (Some fresh) verb (get (pointwise nat_eq) items.old key.now) (version_of site.now versions content.now.flags content.now.value.now content.now.expiry)).answer put.room).change)) }
-    ensures wants { (moment : ℕ) → IfOk result (λ t. IfErr t (IsLeft given.now (get (pointwise nat_eq) items.old) (get (pointwise nat_eq) items.new) key.now moment (store_row (Some fresh) verb (get (pointwise nat_eq) items.old key.now) (version_of site.now versions content.now.flags content.now.value.now content.now.expiry)))) }
-    ensures err { OnErr result (Stays (get (pointwise nat_eq) items.old) (get (pointwise nat_eq) items.new)) }
-    ensures spare { spare items.old ≤ spare items.new + 1 }
-{
-    if let Some(answer) = declines_new(verb) {
-        return Ok(Ok(declined(answer)));
-    }
-    let room = match given.room(fresh, None) {
-        Ok(room) => room,
-        Err(want) => return Ok(Err(want)),
-    };
-    let fate = fate_in(room, verb, cost, content.expiry, None);
-    if let Some(class) = given.crowded(room, fate) {
-        return Ok(Err(Want::Place(class)));
-    }
-    let answer = answer_in(room);
-    let put = Put { answer, room, fate };
-    match room {
-        Room::At(link) => {
-            items.reserve(1)?;
-            let name = key.copy(alloc)?;
-            let item = new_item(site, versions, content, link)?;
-            let _ = items.insert(name, item);
-            Ok(Ok(put))
-        }
-        Room::Refused { .. } => Ok(Ok(put)),
-        Room::Keep => Ok(Ok(put)),
-    }
-}
-
-// A storage command, by one look-up, and one more where a set lets its item go.
+/// A storage command, by one look-up, and one more where a set lets its item go.
 #[inline(always)]
 pub(crate) fn put_item(
     alloc: Global,
@@ -280,39 +237,52 @@ pub(crate) fn put_item(
     verb: Verb,
     content: &Content<'_>,
     cost: u64,
-    moment: u64,
     fresh: ClassNo,
+    moment: u64,
     given: &Given,
-) -> Result<Result<Put, Want>, NoMemory>
+) -> Result<Result<Made, Want>, NoMemory>
     requires cas { cas_of site.now versions < 2 ^ 64 }
     requires cost { cost ≡ cost_of key.now content.now.value.now }
-    ensures made { IfOk result (λ t. IfOk t (λ put. IsMade given.now (get (pointwise nat_eq) items.old) (get (pointwise nat_eq) items.new) key.now (store_row (Some fresh) verb (get (pointwise nat_eq) items.old key.now) (version_of site.now versions content.now.flags content.now.value.now content.now.expiry)) moment put.room (reply_of put.answer) put.fate)) }
-    ensures added { IfOk result (λ t. IfOk t (λ put. added put.answer ≡ versions_of ((store_row (Some fresh) verb (get (pointwise nat_eq) items.old key.now) (version_of site.now versions content.now.flags content.now.value.now content.now.expiry)).answer put.room).change)) }
+    ensures made { IfOk result (λ t. IfOk t (Makes true given.now (get (pointwise nat_eq) items.old) (get (pointwise nat_eq) items.new) key.now (store_row (Some fresh) verb (get (pointwise nat_eq) items.old key.now) (version_of site.now versions content.now.flags content.now.value.now content.now.expiry)) moment)) }
     ensures wants { IfOk result (λ t. IfErr t (IsLeft given.now (get (pointwise nat_eq) items.old) (get (pointwise nat_eq) items.new) key.now moment (store_row (Some fresh) verb (get (pointwise nat_eq) items.old key.now) (version_of site.now versions content.now.flags content.now.value.now content.now.expiry)))) }
     ensures err { OnErr result (Stays (get (pointwise nat_eq) items.old) (get (pointwise nat_eq) items.new)) }
     ensures spare { spare items.old ≤ spare items.new + 1 }
 {
     let Some(item) = items.get_mut(key) else {
-        return put_new(
-            alloc, site, versions, items, key, verb, content, cost, fresh, given,
-        );
+        let put = match decide(verb, content.expiry, cost, fresh, None, given) {
+            Ok(put) => put,
+            Err(want) => return Ok(Err(want)),
+        };
+        if let Room::At(link) = put.room {
+            items.reserve(1)?;
+            let name = key.copy(alloc)?;
+            let item = new_item(site, versions, content, link)?;
+            let _ = items.insert(name, item);
+        }
+        return Ok(Ok(put.made()));
     };
     if item.dead(moment) {
         return Ok(Err(Want::Burial(item.link)));
     }
-    let put = match put_over(site, versions, item, verb, content, cost, fresh, given)? {
+    let found = Found {
+        link: item.link,
+        cas: item.cas,
+    };
+    let put = match decide(verb, content.expiry, cost, fresh, Some(found), given) {
         Ok(put) => put,
         Err(want) => return Ok(Err(want)),
     };
-    if goes_by(put.fate) {
+    if let Room::At(link) = put.room {
+        site.renew(versions, item, content, link)?;
+    } else if goes_by(put.fate) {
         remove(items, key);
     }
-    Ok(Ok(put))
+    Ok(Ok(put.made()))
 }
 
 // Whether an item goes.
 #[inline(always)]
-pub(crate) fn goes_by(fate: Fate) -> bool
+fn goes_by(fate: Fate) -> bool
     ensures { result ≡ goes fate }
 {
     match fate {
