@@ -3,16 +3,16 @@ use Rattle.std.proofs.Common.{◌≡◌, ◌≢◌, ◌≤◌, ℕ, zero, suc, L
 use mathlib.Core.List.{IsPrefix}
 use Rattle.mc_item.specs.declared.event.Event.{Event}
 use Rattle.mc_board.specs.declared.rule.Sight.{Sight}
-use Rattle.mc_board.specs.Histories.{list_at, number_at, with_list, with_number, blind, with_seen, with_noted, Grows, IsBehind}
+use Rattle.mc_board.specs.Histories.{list_at, number_at, with_list_at, with_number, blind, with_seen, with_noted, Grows, IsBehind}
 use Rattle.mc_board.proofs.PrefixLemmas.{same_or_not, prefix_nil, prefix_self, prefix_trans}
 
-pub list_at_same : (lists : List (List Event)) (k : ℕ) (x : List Event) → list_at (with_list lists k x) k ≡ x
+pub list_at_same : (lists : List (List Event)) (k : ℕ) (x : List Event) → list_at (with_list_at lists k x) k ≡ x
 list_at_same [] zero x = refl
 list_at_same [] (suc k) x = list_at_same [] k x
 list_at_same (y ∷ ys) zero x = refl
 list_at_same (y ∷ ys) (suc k) x = list_at_same ys k x
 
-pub list_at_other : (lists : List (List Event)) (k j : ℕ) (x : List Event) → j ≢ k → list_at (with_list lists k x) j ≡ list_at lists j
+pub list_at_other : (lists : List (List Event)) (k j : ℕ) (x : List Event) → j ≢ k → list_at (with_list_at lists k x) j ≡ list_at lists j
 list_at_other [] zero zero x n = absurd (n refl)
 list_at_other [] zero (suc j) x n = refl
 list_at_other [] (suc k) zero x n = refl
@@ -58,17 +58,17 @@ pub IsBehind-with_seen : (h : ℕ → List Event) (s : Sight) (lock : ℕ) (xs :
 IsBehind-with_seen h s lock xs b is =
     record {
       seen = λ j. ⊎_elim
-          (λ (same : j ≡ lock). subst (λ (k : ℕ). IsPrefix (list_at (with_list s.seen lock xs) k) (h k)) (sym same) (subst (λ l. IsPrefix l (h lock)) (sym (list_at_same s.seen lock xs)) (subst (IsPrefix xs) is (prefix_self xs))))
+          (λ (same : j ≡ lock). subst (λ (k : ℕ). IsPrefix (list_at (with_list_at s.seen lock xs) k) (h k)) (sym same) (subst (λ l. IsPrefix l (h lock)) (sym (list_at_same s.seen lock xs)) (subst (IsPrefix xs) is (prefix_self xs))))
           (λ (apart : j ≢ lock). subst (λ l. IsPrefix l (h j)) (sym (list_at_other s.seen lock j xs apart)) (b.seen j))
           (same_or_not j lock);
       noted = b.noted;
     }
 
 -- one list of a lock that grows leaves all lists no shorter
-list_at_grows : (lists : List (List Event)) (lock : ℕ) (xs : List Event) → IsPrefix (list_at lists lock) xs → (j : ℕ) → IsPrefix (list_at lists j) (list_at (with_list lists lock xs) j)
+list_at_grows : (lists : List (List Event)) (lock : ℕ) (xs : List Event) → IsPrefix (list_at lists lock) xs → (j : ℕ) → IsPrefix (list_at lists j) (list_at (with_list_at lists lock xs) j)
 list_at_grows lists lock xs p j =
     ⊎_elim
-    (λ (same : j ≡ lock). subst (λ (k : ℕ). IsPrefix (list_at lists k) (list_at (with_list lists lock xs) k)) (sym same) (subst (IsPrefix (list_at lists lock)) (sym (list_at_same lists lock xs)) p))
+    (λ (same : j ≡ lock). subst (λ (k : ℕ). IsPrefix (list_at lists k) (list_at (with_list_at lists lock xs) k)) (sym same) (subst (IsPrefix (list_at lists lock)) (sym (list_at_same lists lock xs)) p))
     (λ (apart : j ≢ lock). subst (IsPrefix (list_at lists j)) (sym (list_at_other lists lock j xs apart)) (prefix_self (list_at lists j)))
     (same_or_not j lock)
 

@@ -34,8 +34,8 @@ Knows ledger seat (views.Seen known) = IsBehind ledger.history known.sight × Is
 Knows ledger seat views.Spent = Unit {0}
 
 -- the first word of each lock is the length of its history
-abbrev pub IsCounted : Ledger → Type 0
-IsCounted ledger =
+abbrev pub CountsHistories : Ledger → Type 0
+CountsHistories ledger =
     (lock : ℕ) → lock < locks_of ledger.counts
     → slice_index ledger.words (first_word ledger.counts lock) ≡ length (ledger.history lock)
 
@@ -45,6 +45,6 @@ pub record IsGrowing (counts : Counts) (words : List ℕ) (seats : List View) : 
   pub history : ℕ → List Event
   pub owner : ℕ → Option ℕ
   pub wide : length words ≡ words_of counts
-  pub counted : IsCounted (record { counts = counts; words = words; history = history; owner = owner })
+  pub counted : CountsHistories (record { counts = counts; words = words; history = history; owner = owner })
   pub known : (seat : ℕ) (v : View) → get_elem? seats seat ≡ some v
       → Knows (record { counts = counts; words = words; history = history; owner = owner }) seat v

@@ -14,11 +14,11 @@ abbrev pub number_at : List ℕ → ℕ → ℕ
 number_at numbers lock = slice_index_or numbers lock 0
 
 -- the lists with this one at the lock, those of all other locks as they were
-abbrev pub with_list : List (List Event) → ℕ → List Event → List (List Event)
-with_list [] zero list = list ∷ []
-with_list [] (suc lock) list = [] ∷ with_list [] lock list
-with_list (x ∷ xs) zero list = list ∷ xs
-with_list (x ∷ xs) (suc lock) list = x ∷ with_list xs lock list
+abbrev pub with_list_at : List (List Event) → ℕ → List Event → List (List Event)
+with_list_at [] zero list = list ∷ []
+with_list_at [] (suc lock) list = [] ∷ with_list_at [] lock list
+with_list_at (x ∷ xs) zero list = list ∷ xs
+with_list_at (x ∷ xs) (suc lock) list = x ∷ with_list_at xs lock list
 
 -- the numbers with this one at the lock, those of all other locks as they were
 abbrev pub with_number : List ℕ → ℕ → ℕ → List ℕ
@@ -33,7 +33,7 @@ blind = record { seen = []; noted = [] }
 
 -- the same, but that this list of the lock was seen
 abbrev pub with_seen : Sight → ℕ → List Event → Sight
-with_seen sight lock list = record { seen = with_list sight.seen lock list; noted = sight.noted }
+with_seen sight lock list = record { seen = with_list_at sight.seen lock list; noted = sight.noted }
 
 -- the same, but that this number was noted of the lock
 abbrev pub with_noted : Sight → ℕ → ℕ → Sight

@@ -6,7 +6,7 @@ use Rattle.mc_item.specs.Counts.{FitInPairs, FitsTogether, added, sums}
 use Rattle.mc_item.specs.declared.counts.Histogram.{Histogram}
 use Rattle.mc_crawl.specs.declared.kind.Kind.{Kind}
 use Rattle.mc_crawl.specs.declared.kind.Kind.TheVariants as kinds
-use Rattle.mc_crawl.specs.{CrawlCount.counted, CrawlCount.count_of, CrawlCount.IsBalanced, CrawlCount.MayCount, CrawlKind.IsCounted}
+use Rattle.mc_crawl.specs.{CrawlCount.counted_as, CrawlCount.count_of_kind, CrawlCount.IsBalanced, CrawlCount.MayCount, CrawlKind.IsCounted}
 
 sum_first : (x : ℕ) (xs : List ℕ) → sum (x ∷ xs) ≡ x + sum xs
 sum_first x xs = sum_by-cons (λ n. n) x xs
@@ -16,7 +16,7 @@ sum_raised : (ns : List ℕ) (i : ℕ) → i < length ns → sum (set ns i (get_
 sum_raised ns i h = omega (arith, sum_by-set (λ x. x) ns i (get_or ns i 0 + 1) 0 h)
 
 -- one link more, counted as one kind
-pub balanced_more : (k : Kind) (h : Histogram) → IsCounted k → length h.minutes ≡ 60 → IsBalanced h → IsBalanced (counted k h)
+pub balanced_more : (k : Kind) (h : Histogram) → IsCounted k → length h.minutes ≡ 60 → IsBalanced h → IsBalanced (counted_as k h)
 balanced_more kinds.Gone h is long balanced = omega arith
 balanced_more kinds.Passed h is long balanced = omega arith
 balanced_more kinds.Reclaimed h is long balanced = omega arith
@@ -45,7 +45,7 @@ pub balanced_sum : (a b : Histogram) → length a.minutes ≡ length b.minutes �
 balanced_sum a b long first second = omega (arith, sum_sums a.minutes b.minutes long)
 
 -- the sum counts each kind as often as both
-pub sum_counts : (k : Kind) (a b : Histogram) → length a.minutes ≡ length b.minutes → count_of k (added a b) ≡ count_of k a + count_of k b
+pub sum_counts : (k : Kind) (a b : Histogram) → length a.minutes ≡ length b.minutes → count_of_kind k (added a b) ≡ count_of_kind k a + count_of_kind k b
 sum_counts kinds.Gone a b long = refl
 sum_counts kinds.Passed a b long = refl
 sum_counts kinds.Reclaimed a b long = refl

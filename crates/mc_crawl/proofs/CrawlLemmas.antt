@@ -9,13 +9,13 @@ use Rattle.mc_segment.specs.{ClassState.ClassView, Entries.entry_of}
 use Rattle.mc_stripe.specs.StripeState.{cache_now}
 use Rattle.mc_pull.specs.declared.{judge.Done.Done, judge.Judge.TheVariants.Dead, looking.Answer.Answer, looking.Judged.Judged}
 use Rattle.mc_pull.specs.declared.judge.Done.TheVariants as done
-use Rattle.mc_pull.specs.{Growth.Grows, Judgement.done_by, Judgement.done_if, Judgement.done_with, Judgement.has_link, Looks.IsJudgedIf, Looks.answer}
-use Rattle.mc_pull.specs.{Looks.events_if, Settled.class_events, Settled.class_with}
+use Rattle.mc_pull.specs.{Growth.GainsEvents, Judgement.done_by, Judgement.done_if, Judgement.done_with, Judgement.has_link, Looks.IsJudgedIf, Looks.answer_by}
+use Rattle.mc_pull.specs.{Looks.events_if, Settled.done_class_events, Settled.class_with}
 use Rattle.mc_pull.proofs.GrowthLemmas.{grows_itself}
 use Rattle.mc_crawl.specs.declared.kind.Kind.{Kind}
 use Rattle.mc_crawl.specs.declared.kind.Kind.TheVariants as kinds
 use Rattle.mc_crawl.specs.Crawl.{AreReclaims, Crawl, IsCrawled, IsKindIf, IsLookIf, Reclaims, asked_by}
-use Rattle.mc_crawl.specs.{CrawlCount.counted, CrawlKind.kind_alive, CrawlKind.kind_done, CrawlKind.kind_if, CrawlKind.kind_told, CrawlKind.kind_with}
+use Rattle.mc_crawl.specs.{CrawlCount.counted_as, CrawlKind.kind_alive, CrawlKind.kind_done, CrawlKind.kind_if, CrawlKind.kind_answered, CrawlKind.kind_with}
 
 none_some : {A : Type 0} {x : A} → None ≡ Some x → ⊥
 none_some h = cc
@@ -35,7 +35,7 @@ by_entry : (q : Crawl) (c : ClassView) (cache : Cache) (o : Option Entry) (e : E
 by_entry q c cache None e is = absurd (none_some is)
 by_entry q c cache (Some e') e is = by_item c.number q.number q.moment c.rule (lists_of c.history) e' (cache.items e'.key)
 
-kind_by : (q : Crawl) (c : ClassView) (e : Entry) (stripe : _) (j : Option Judged) → entry_of q.number (lists_of c.history) ≡ Some e → IsJudgedIf q.config stripe c (asked_by q) j → IsKindIf q stripe c j (kind_told q.moment j)
+kind_by : (q : Crawl) (c : ClassView) (e : Entry) (stripe : _) (j : Option Judged) → entry_of q.number (lists_of c.history) ≡ Some e → IsJudgedIf q.config stripe c (asked_by q) j → IsKindIf q stripe c j (kind_answered q.moment j)
 kind_by q c e stripe None is judged = refl
 kind_by q c e stripe (Some j) is judged = record {
   judged = judged;
@@ -44,14 +44,14 @@ kind_by q c e stripe (Some j) is judged = record {
 
 -- an entry that was looked at was crawled
 pub looked : (q : Crawl) (c c_new : ClassView) (xs ys : List Answer) (e : Entry) (stripe : StripeNo) (j : Option Judged) → entry_of q.number (lists_of c.history) ≡ Some e
-    → stripe ≡ stripe_of e.key q.config.stripes → ys ≡ xs ++ answer stripe j ∷ [] → c_new ≡ class_with c (events_if c (asked_by q) j) c_new.room
-    → IsJudgedIf q.config stripe c (asked_by q) j → IsCrawled q c c_new xs ys (kind_told q.moment j)
+    → stripe ≡ stripe_of e.key q.config.stripes → ys ≡ xs ++ answer_by stripe j ∷ [] → c_new ≡ class_with c (events_if c (asked_by q) j) c_new.room
+    → IsJudgedIf q.config stripe c (asked_by q) j → IsCrawled q c c_new xs ys (kind_answered q.moment j)
 looked q c c_new xs ys e stripe j is place answers class judged =
     let there = subst (λ (s : StripeNo). IsJudgedIf q.config s c (asked_by q) j) place judged in
-    subst (IsLookIf q c c_new xs ys (kind_told q.moment j)) (sym is)
+    subst (IsLookIf q c c_new xs ys (kind_answered q.moment j)) (sym is)
     record {
       judged = j;
-      answers = subst (λ (s : StripeNo). ys ≡ xs ++ answer s j ∷ []) place answers;
+      answers = subst (λ (s : StripeNo). ys ≡ xs ++ answer_by s j ∷ []) place answers;
       class = class;
       kind_is = kind_by q c e (stripe_of e.key q.config.stripes) j is there;
     }
@@ -60,9 +60,9 @@ looked q c c_new xs ys e stripe j is place answers class judged =
 -- so many events, each a reclaim of this call and moment, as one of this kind is counted
 record Told (q : Crawl) (es : List ClassEvent) (k : Kind) : Type 0 where
   each : AreReclaims q.who q.moment es
-  count : (h : Histogram) → (counted k h).reclaimed ≡ h.reclaimed + length es
+  count : (h : Histogram) → (counted_as k h).reclaimed ≡ h.reclaimed + length es
 
-told_nothing : (q : Crawl) (k : Kind) → ((h : Histogram) → (counted k h).reclaimed ≡ h.reclaimed) → Told q [] k
+told_nothing : (q : Crawl) (k : Kind) → ((h : Histogram) → (counted_as k h).reclaimed ≡ h.reclaimed) → Told q [] k
 told_nothing q k same = record { each = tt; count = λ h. same h ∙ omega arith }
 
 told_left : (q : Crawl) (far : Bool) (minute : ℕ) → Told q [] (if far then kinds.HourPlus else kinds.Minute minute)
@@ -74,29 +74,29 @@ told_alive q Never = told_nothing q kinds.NoExpiry (λ h. refl)
 told_alive q (At end) = told_left q (nat_lt 3599 (end - q.moment)) ((end - q.moment) / 60)
 
 told_tests : (q : Crawl) (c : ClassView) (at : ℕ) (expiry : Expiry) (linked dead : Bool)
-    → Told q (class_events c (asked_by q) at (if linked then (if dead then done.Reclaimed else done.Alive expiry) else done.Stranger)) (if linked then (if dead then kinds.Reclaimed else kind_alive q.moment expiry) else kinds.Passed)
+    → Told q (done_class_events c (asked_by q) at (if linked then (if dead then done.Reclaimed else done.Alive expiry) else done.Stranger)) (if linked then (if dead then kinds.Reclaimed else kind_alive q.moment expiry) else kinds.Passed)
 told_tests q c at expiry true true = record { each = ((refl, refl), tt); count = λ h. refl }
 told_tests q c at expiry true false = told_alive q expiry
 told_tests q c at expiry false dead = told_nothing q kinds.Passed (λ h. refl)
 
 told_item : (q : Crawl) (c : ClassView) (at : ℕ) (rule : Rule) (l : Lists) (e : Entry) (o : Option Item)
-    → Told q (class_events c (asked_by q) at (done_if c.number q.number o (done_by rule l q.moment Dead e))) (kind_if c.number q.number q.moment o)
+    → Told q (done_class_events c (asked_by q) at (done_if c.number q.number o (done_by rule l q.moment Dead e))) (kind_if c.number q.number q.moment o)
 told_item q c at rule l e None = told_nothing q kinds.Passed (λ h. refl)
 told_item q c at rule l e (Some item) = told_tests q c at item.expiry (has_link c.number q.number item) (is_dead item q.moment)
 
-told_with : (q : Crawl) (c : ClassView) (at : ℕ) (cache : Cache) (o : Option Entry) → Told q (class_events c (asked_by q) at (done_with c cache (asked_by q) o)) (kind_with c.number cache q.number q.moment o)
+told_with : (q : Crawl) (c : ClassView) (at : ℕ) (cache : Cache) (o : Option Entry) → Told q (done_class_events c (asked_by q) at (done_with c cache (asked_by q) o)) (kind_with c.number cache q.number q.moment o)
 told_with q c at cache None = told_nothing q kinds.Gone (λ h. refl)
 told_with q c at cache (Some e) = told_item q c at c.rule (lists_of c.history) e (cache.items e.key)
 
 told_if : (q : Crawl) (c : ClassView) (stripe : StripeNo) (j : Option Judged) (k : Kind) → IsKindIf q stripe c j k → Told q (events_if c (asked_by q) j) k
 told_if q c stripe None k is = subst (Told q []) (sym is) (told_nothing q kinds.Passed (λ h. refl))
 told_if q c stripe (Some j) k is =
-    subst (Told q (class_events c (asked_by q) j.at j.done)) (sym is.kind_is)
-    (subst (λ (d : Done). Told q (class_events c (asked_by q) j.at d) (kind_with c.number (cache_now is.judged.stripe) q.number q.moment (entry_of q.number (lists_of c.history)))) (sym is.judged.done_is)
+    subst (Told q (done_class_events c (asked_by q) j.at j.done)) (sym is.kind_is)
+    (subst (λ (d : Done). Told q (done_class_events c (asked_by q) j.at d) (kind_with c.number (cache_now is.judged.stripe) q.number q.moment (entry_of q.number (lists_of c.history)))) (sym is.judged.done_is)
     (told_with q c j.at (cache_now is.judged.stripe) (entry_of q.number (lists_of c.history))))
 
 module _ (q : Crawl) (c c_new : ClassView) (xs ys : List Answer) (k : Kind) where
-  reclaims_if : (h : Histogram) (o : Option Entry) → IsLookIf q c c_new xs ys k o → Reclaims q.who q.moment c.history c_new.history h.reclaimed (counted k h).reclaimed
+  reclaims_if : (h : Histogram) (o : Option Entry) → IsLookIf q c c_new xs ys k o → Reclaims q.who q.moment c.history c_new.history h.reclaimed (counted_as k h).reclaimed
   reclaims_if h None gone =
       let told : Told q [] k = subst (Told q []) (sym gone.kind_is) (told_nothing q kinds.Gone (λ h. refl)) in
       record { events = []; each = tt; history_is = ap (λ (v : ClassView). v.history) gone.class ∙ sym (append-nil c.history); count = told.count h }
@@ -104,8 +104,8 @@ module _ (q : Crawl) (c c_new : ClassView) (xs ys : List Answer) (k : Kind) wher
       let told = told_if q c (stripe_of e.key q.config.stripes) look.judged k look.kind_is in
       record { events = events_if c (asked_by q) look.judged; each = told.each; history_is = ap (λ (v : ClassView). v.history) look.class; count = told.count h }
 
-  grows_if : (o : Option Entry) → IsLookIf q c c_new xs ys k o → Grows c c_new
-  grows_if None gone = subst (Grows c) (sym gone.class) (grows_itself c)
+  grows_if : (o : Option Entry) → IsLookIf q c c_new xs ys k o → GainsEvents c c_new
+  grows_if None gone = subst (GainsEvents c) (sym gone.class) (grows_itself c)
   grows_if (Some e) look =
       let more : c_new.history ≡ c.history ++ events_if c (asked_by q) look.judged = ap (λ (v : ClassView). v.history) look.class in
       record {
@@ -115,9 +115,9 @@ module _ (q : Crawl) (c c_new : ClassView) (xs ys : List Answer) (k : Kind) wher
       }
 
   -- the class has as many events more as were counted as reclaimed
-  pub crawled_reclaims : (h : Histogram) → IsCrawled q c c_new xs ys k → Reclaims q.who q.moment c.history c_new.history h.reclaimed (counted k h).reclaimed
+  pub crawled_reclaims : (h : Histogram) → IsCrawled q c c_new xs ys k → Reclaims q.who q.moment c.history c_new.history h.reclaimed (counted_as k h).reclaimed
   crawled_reclaims h crawled = reclaims_if h (entry_of q.number (lists_of c.history)) crawled
 
   -- the class has only grown
-  pub crawled_grows : IsCrawled q c c_new xs ys k → Grows c c_new
+  pub crawled_grows : IsCrawled q c c_new xs ys k → GainsEvents c c_new
   crawled_grows crawled = grows_if (entry_of q.number (lists_of c.history)) crawled

@@ -1,5 +1,5 @@
 pub mod SnapshotLemmas
-pub mod FewLemmas
+pub mod EntryCountLemmas
 pub mod CrawlLemmas
 pub mod CrawlCountLemmas
 pub mod CrawlKindLemmas

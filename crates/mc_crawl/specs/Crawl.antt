@@ -7,7 +7,7 @@ use Rattle.mc_rule.specs.Lists.{lists_of}
 use Rattle.mc_segment.specs.{ClassState.ClassView, Entries.entry_of}
 use Rattle.mc_stripe.specs.StripeState.{cache_now}
 use Rattle.mc_pull.specs.declared.{judge.Judge.TheVariants.Dead, looking.Answer.Answer, looking.Judged.Judged}
-use Rattle.mc_pull.specs.{Looks.IsJudged, Looks.answer, Looks.events_if, Question.Question, Question.question, Settled.class_with}
+use Rattle.mc_pull.specs.{Looks.IsJudged, Looks.answer_by, Looks.events_if, Question.Question, Question.question, Settled.class_with}
 use Rattle.mc_crawl.specs.declared.kind.Kind.{Kind}
 use Rattle.mc_crawl.specs.declared.kind.Kind.TheVariants as kinds
 use Rattle.mc_crawl.specs.CrawlKind.{kind_of}
@@ -40,7 +40,7 @@ IsKindIf q stripe c (Some j) k = IsKindBy q stripe c j k
 -- an entry was looked at: its key's stripe was asked for once, and the class has just the events of that answer more
 pub record IsLook (q : Crawl) (c c_new : ClassView) (xs ys : List Answer) (k : Kind) (e : Entry) : Type 0 where
   pub judged : Option Judged
-  pub answers : ys ≡ xs ++ answer (stripe_of e.key q.config.stripes) judged ∷ []
+  pub answers : ys ≡ xs ++ answer_by (stripe_of e.key q.config.stripes) judged ∷ []
   pub class : c_new ≡ class_with c (events_if c (asked_by q) judged) c_new.room
   pub kind_is : IsKindIf q (stripe_of e.key q.config.stripes) c judged k
 

@@ -6,13 +6,13 @@ use Rattle.mc_crawl.specs.declared.kind.Kind.{Kind}
 use Rattle.mc_crawl.specs.declared.kind.Kind.TheVariants as kinds
 
 -- the count of a kind
-abbrev pub count_of : Kind → Histogram → ℕ
-count_of kinds.Gone h = h.gone
-count_of kinds.Passed h = h.passed
-count_of kinds.Reclaimed h = h.reclaimed
-count_of kinds.NoExpiry h = h.no_expiry
-count_of kinds.HourPlus h = h.hour_plus
-count_of (kinds.Minute minute) h = slice_index h.minutes minute
+abbrev pub count_of_kind : Kind → Histogram → ℕ
+count_of_kind kinds.Gone h = h.gone
+count_of_kind kinds.Passed h = h.passed
+count_of_kind kinds.Reclaimed h = h.reclaimed
+count_of_kind kinds.NoExpiry h = h.no_expiry
+count_of_kind kinds.HourPlus h = h.hour_plus
+count_of_kind (kinds.Minute minute) h = slice_index h.minutes minute
 
 -- the histogram with another count of a kind
 abbrev pub with_count : Kind → ℕ → Histogram → Histogram
@@ -24,8 +24,8 @@ with_count kinds.HourPlus n h = record h { hour_plus = n }
 with_count (kinds.Minute minute) n h = record h { minutes = slice_set h.minutes minute n }
 
 -- the histogram once a link was seen, and counted as this kind
-abbrev pub counted : Kind → Histogram → Histogram
-counted k h = record (with_count k (count_of k h + 1) h) { seen = h.seen + 1 }
+abbrev pub counted_as : Kind → Histogram → Histogram
+counted_as k h = record (with_count k (count_of_kind k h + 1) h) { seen = h.seen + 1 }
 
 -- no count of a histogram passes 2^64 - 1 where one is added
 pub record MayCount (h : Histogram) : Type 0 where

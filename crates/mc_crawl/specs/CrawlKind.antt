@@ -51,9 +51,9 @@ kind_done moment done.Evicted = kinds.Passed
 kind_done moment done.Stayed = kinds.Passed
 
 -- the kind of an entry by a gate's answer: where the stripe was not had, it is passed
-abbrev pub kind_told : ℕ → Option Judged → Kind
-kind_told moment None = kinds.Passed
-kind_told moment (Some j) = kind_done moment j.done
+abbrev pub kind_answered : ℕ → Option Judged → Kind
+kind_answered moment None = kinds.Passed
+kind_answered moment (Some j) = kind_done moment j.done
 
 -- a kind that a histogram has a count for: its minute is one of an hour's
 abbrev pub IsCounted : Kind → Type 0

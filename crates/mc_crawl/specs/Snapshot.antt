@@ -6,12 +6,12 @@ use Rattle.mc_rule.specs.Lists.{list_of, lists_of}
 use Rattle.mc_segment.specs.ClassState.{ClassView}
 
 -- the link of an entry of a class
-abbrev pub link_of : ClassNo → Entry → Link
-link_of class e = record { class = class; number = e.number }
+abbrev pub link_of_entry : ClassNo → Entry → Link
+link_of_entry class e = record { class = class; number = e.number }
 
 -- the links of a list's entries, from its tail
 abbrev pub links_from_tail : ClassNo → List Entry → List Link
-links_from_tail class es = map (link_of class) (reverse es)
+links_from_tail class es = map (link_of_entry class) (reverse es)
 
 -- the links of a segment of a class, from its tail
 abbrev pub links_in : ClassView → Seg → List Link

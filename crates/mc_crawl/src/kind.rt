@@ -1,6 +1,6 @@
 //! What a crawl counts a link as.
 ghost use Rattle.std.specs.Prelude.{◌≡◌};
-ghost use Rattle.mc_crawl.specs.{CrawlCount.counted, CrawlCount.IsBalanced, CrawlCount.MayCount, CrawlKind.kind_told, CrawlKind.IsCounted};
+ghost use Rattle.mc_crawl.specs.{CrawlCount.counted_as, CrawlCount.IsBalanced, CrawlCount.MayCount, CrawlKind.kind_answered, CrawlKind.IsCounted};
 ghost use Rattle.mc_crawl.specs.CrawlKind as words;
 
 use mc_item::{Expiry, Histogram};
@@ -61,7 +61,7 @@ fn kind_done(done: Done, moment: u64) -> Kind
 
 // The kind of an entry, by what a gate has told.
 pub(crate) fn kind_of(judged: Option<Judged>, moment: u64) -> Kind
-    ensures value { result ≡ kind_told moment judged }
+    ensures value { result ≡ kind_answered moment judged }
     ensures counted { IsCounted result }
 {
     match judged {
@@ -74,7 +74,7 @@ pub(crate) fn kind_of(judged: Option<Judged>, moment: u64) -> Kind
 pub(crate) fn count(histogram: &mut Histogram, kind: Kind)
     requires may { MayCount histogram.old }
     requires counted { IsCounted kind }
-    ensures value { histogram.new ≡ counted kind histogram.old }
+    ensures value { histogram.new ≡ counted_as kind histogram.old }
     ensures balanced { IsBalanced histogram.old → IsBalanced histogram.new }
 {
     histogram.seen += 1;

@@ -2,7 +2,7 @@
 ghost use Rattle.std.specs.Prelude.{◌≡◌, ◌+◌, ◌*◌, ◌<◌, ◌≤◌, ◌^◌, ◌↔◌, ℕ, true, length};
 ghost use Rattle.mc_item.specs.{Counts.FitsTogether, Counts.added, Counts.no_counts, Item.is_dead};
 ghost use Rattle.mc_item.specs.declared.{counts.Histogram.Histogram, item.Item.Item};
-ghost use Rattle.mc_crawl.specs.CrawlCount.{counted, count_of, IsBalanced, MayCount};
+ghost use Rattle.mc_crawl.specs.CrawlCount.{counted_as, count_of_kind, IsBalanced, MayCount};
 ghost use Rattle.mc_crawl.specs.CrawlKind.{kind_left, kind_of_item, IsCounted};
 ghost use Rattle.mc_crawl.specs.declared.kind.Kind.{Kind};
 ghost use Rattle.mc_crawl.specs.declared.kind.Kind.TheVariants as kinds;
@@ -12,9 +12,9 @@ ghost use Rattle.mc_crawl.specs.declared.kind.Kind.TheVariants as kinds;
 /// what was seen, and the sum of two fits as soon as their sums of what was seen do.
 pub fn kinds_add_up()
     ensures none { IsBalanced no_counts }
-    ensures more { (k : Kind) (h : Histogram) → IsCounted k → length h.minutes ≡ 60 → IsBalanced h → IsBalanced (counted k h) }
+    ensures more { (k : Kind) (h : Histogram) → IsCounted k → length h.minutes ≡ 60 → IsBalanced h → IsBalanced (counted_as k h) }
     ensures sum { (a b : Histogram) → length a.minutes ≡ length b.minutes → IsBalanced a → IsBalanced b → IsBalanced (added a b) }
-    ensures each { (k : Kind) (a b : Histogram) → length a.minutes ≡ length b.minutes → count_of k (added a b) ≡ count_of k a + count_of k b }
+    ensures each { (k : Kind) (a b : Histogram) → length a.minutes ≡ length b.minutes → count_of_kind k (added a b) ≡ count_of_kind k a + count_of_kind k b }
     ensures few { (h : Histogram) → IsBalanced h → h.seen + 1 < 2 ^ 64 → MayCount h }
     ensures fits { (a b : Histogram) → IsBalanced a → IsBalanced b → a.seen + b.seen < 2 ^ 64 → FitsTogether a b }
 {}

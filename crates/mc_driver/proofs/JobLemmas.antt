@@ -8,10 +8,10 @@ use Rattle.mc_proto.specs.declared.request.Limits.{Limits}
 use Rattle.mc_script.specs.declared.{ends.Both.Both, outcome.Outcome.Outcome, upkeep.Keeper.Keeper, upkeep.Keeper.TheVariants.Maintainer}
 use Rattle.mc_script.specs.declared.{upkeep.Keeper.TheVariants.Crawler}
 use Rattle.mc_store.specs.Passes.{ArePasses, PassView, new_pass}
-use Rattle.mc_store.proofs.PlaceLemmas.{get_some}
+use Rattle.mc_store.proofs.NumberOrderLemmas.{get_some}
 use Rattle.mc_driver.specs.Jobs.{HasWorked, IsAtStart, ends_in, script_of, works_of}
 use Rattle.mc_driver.specs.declared.{jobs.Work.Work, jobs.Work.TheVariants.Script, jobs.Work.TheVariants.Upkeep}
-use Rattle.mc_driver.proofs.StandLemmas.{grow_nothing}
+use Rattle.mc_driver.proofs.StandingCallLemmas.{grow_nothing}
 
 module _ {S K : Type 0} (coming : S → List ℕ) (reads : S → ℕ) (taken : K → List ℕ) (writes : K → ℕ) (config : Config) (limits : Limits) (moments : List ℕ) where
   -- the caller of this number has worked: what it was to do and what it left, how that ended, and its pass behind it

@@ -10,10 +10,10 @@ use Rattle.mc_proto.specs.declared.request.Limits.{Limits}
 use Rattle.mc_script.specs.declared.outcome.Outcome.TheVariants as outcomes
 use Rattle.mc_store.specs.{Finals.AreClasses, Finals.AreStripes, Finals.FinalView, Passes.ArePasses, Passes.PassView}
 use Rattle.mc_driver.specs.{Called.IsCompared, Called.MadeNone, Jobs.HasWorked, Jobs.Works, Jobs.ends_in, Jobs.script_of, Jobs.works_of, Left.IsKeptUp}
-use Rattle.mc_driver.specs.{Left.IsLeft, Left.IsScriptLeft, Run.IsStore, Run.histories_left, Run.limits_of, Stand.AreItsCalls}
+use Rattle.mc_driver.specs.{Left.IsRunDone, Left.IsScriptLeft, Run.IsStore, Run.histories_left, Run.limits_of, Stand.AreItsCalls}
 use Rattle.mc_driver.specs.declared.{jobs.Work.Work, jobs.Work.TheVariants.Script, jobs.Work.TheVariants.Upkeep}
-use Rattle.mc_driver.proofs.{EndedLemmas.called_left, EndedLemmas.full_left, EndedLemmas.none_left, EndedLemmas.whole_left, EndedLemmas.works_left}
-use Rattle.mc_driver.proofs.{MadeLemmas.by_working}
+use Rattle.mc_driver.proofs.{ComparedPassLemmas.called_left, ComparedPassLemmas.full_left, ComparedPassLemmas.none_left, ComparedPassLemmas.whole_left, ComparedPassLemmas.works_left}
+use Rattle.mc_driver.proofs.{CalledEventLemmas.by_working}
 use Rattle.mc_driver.proofs.JobLemmas.{AreScripts, HasWorkedAt, crawler_at, ends_at, ends_many, maintainer_at, script_at, worked_at, works_many}
 
 -- nothing has no item
@@ -112,7 +112,7 @@ module _ {S K : Type 0} (coming : S → List ℕ) (reads : S → ℕ) (taken : K
 
     -- all of it
     pub is_left : (ends : List (S × K)) → ends ≡ ends_in after → config.callers ≡ length scripts + 2 → length ended ≡ length scripts + 2 → length after ≡ length scripts + 2 → IsStore config final
-        → IsLeft coming reads taken writes config moments scripts ends ended final
+        → IsRunDone coming reads taken writes config moments scripts ends ended final
     is_left ends is callers many long store =
         let next : suc (length scripts) ≡ length scripts + 1 = omega arith in
         let crawler : slice_get (works_of scripts) (length scripts + 1) ≡ Some (Upkeep Crawler) = subst (λ (n : ℕ). slice_get (works_of scripts) n ≡ Some (Upkeep Crawler)) next (crawler_at scripts) in
@@ -153,7 +153,7 @@ module _ {S K : Type 0} (coming : S → List ℕ) (reads : S → ℕ) (taken : K
       → AreStripes final.board config final.stripes → AreClasses final.board config final.classes → length done ≡ length jobs → ArePasses config.callers (map pass_of jobs) → map work_in jobs ≡ works_of scripts
       → ((i : ℕ) (d : X) → i < length jobs → HasWorked coming reads taken writes config (limits_of config) moments (pass_of (slice_index_or jobs i d)) (pass_of (slice_index_or done i d)) (outcome_of (slice_index_or done i d)) (work_in (slice_index_or jobs i d)) (work_in (slice_index_or done i d)))
       → ((k : ℕ) (p : PassView) → slice_get (map pass_of done) k ≡ Some p → IsCompared p final) → config.callers ≡ length scripts + 2 → IsStore config final
-      → IsLeft coming reads taken writes config moments scripts (ends_in (map work_in done)) (map outcome_of done) final
+      → IsRunDone coming reads taken writes config moments scripts (ends_in (map work_in done)) (map outcome_of done) final
   run_left {X = X} pass_of work_in outcome_of jobs done scripts final all all_classes same passes works each compared callers store =
       let passes' = subst (λ (n : ℕ). ArePasses n (map pass_of jobs)) callers passes in
       let many : length done ≡ length scripts + 2 = omega (arith, same, length-map jobs work_in, ap length works, works_many scripts) in

@@ -5,7 +5,7 @@ use Rattle.mc_item.specs.declared.stripe_event.StripeEvent.TheVariants as events
 use Rattle.mc_script.specs.Exchanges.{Exchange}
 use Rattle.mc_store.specs.{Callers.IsCalled, Callers.IsMomentOf, Callers.who_of, Passes.PassView, Sides.StripeSide}
 use Rattle.mc_store.specs.Finals.{AreItsOwn, FinalView, IsBehindClasses, IsBehindStripes}
-use Rattle.mc_driver.specs.{Caller.AreMadeButLast, Stand.Histories, Stand.Stands}
+use Rattle.mc_driver.specs.{Caller.AreMadeButLast, Stand.Histories, Stand.StandsAnywhere}
 
 -- an event that has a moment has this one; an item that was taken and a cleared mark have none
 abbrev pub IsAtMoment : StripeEvent → ℕ → Type 0
@@ -16,7 +16,7 @@ IsAtMoment (events.Cooled cooled) moment = Unit {0}
 -- an event has its call: one that stands in the histories, whose caller made it in the call's turn and at its moment
 pub record HasCall (config : Config) (histories : Histories) (event : StripeEvent) : Type 0 where
   pub call : Exchange
-  pub stands : Stands config histories call
+  pub stands : StandsAnywhere config histories call
   pub who_is : who_of event ≡ call.who
   pub moment_is : IsAtMoment event call.moment
 

@@ -7,9 +7,9 @@ use Rattle.mc_item.specs.declared.stripe_event.StripeEvent.TheVariants as events
 use Rattle.mc_board.specs.declared.rule.Sight.{Sight}
 use Rattle.mc_board.specs.Histories.{list_at}
 use Rattle.mc_evidence.specs.Seen.{classes_seen, stripes_seen}
-use Rattle.mc_script.specs.Exchanges.{Asks, Call, Crawls, Exchange, Juggles}
+use Rattle.mc_script.specs.Exchanges.{Asks, ScriptCall, Crawls, Exchange, Juggles}
 use Rattle.mc_store.specs.{Passes.PassView, Callers.asked_for, Callers.crawling_of, Callers.juggling_of, Callers.turns_of}
-use Rattle.mc_driver.specs.{Noted.exchange_of, Stand.Histories, Stand.IsPlaced, Stand.Stand, Stand.Stands, Stand.calls_at, Stand.nothing_seen}
+use Rattle.mc_driver.specs.{Noted.exchange_of, Stand.Histories, Stand.IsPlaced, Stand.Stand, Stand.StandsAnywhere, Stand.calls_at, Stand.nothing_seen}
 
 -- the histories of a store as far as a token has seen them
 abbrev pub histories_seen : Config → Sight → Histories
@@ -44,23 +44,23 @@ places_in number (calls.Crawled worked ∷ more) = places_in number more
 places_in number (calls.Answered answered ∷ more) = if nat_eq answered.stripe.0 number then answered.place ∷ places_in number more else places_in number more
 
 -- a call as its caller's history has it, with the moment that it was handed
-abbrev pub call_event_of : Call → ℕ → CallEvent
+abbrev pub call_event_of : ScriptCall → ℕ → CallEvent
 call_event_of (Asks command) moment = asked_for command moment
 call_event_of (Juggles class) moment = juggling_of class moment
 call_event_of (Crawls class) moment = crawling_of class moment
 
 -- a call of a caller's history was made to its end: as an exchange, of this turn and of its moment, it stands in these histories
-pub record IsMade (config : Config) (histories : Histories) (who : Who) (call : CallEvent) : Type 0 where
+pub record IsMadeCall (config : Config) (histories : Histories) (who : Who) (call : CallEvent) : Type 0 where
   pub exchange : Exchange
   pub placed : IsPlaced config exchange.call
-  pub stands : Stands config histories exchange
+  pub stands : StandsAnywhere config histories exchange
   pub who_is : exchange.who ≡ who
   pub call_is : call ≡ call_event_of exchange.call exchange.moment
 
 -- each of these calls of a caller but the last, which may have been broken off, was made to its end
 pub record AreMadeButLast (config : Config) (histories : Histories) (caller : ℕ) (calls : List CallEvent) : Type 0 where
   pub each : (turn : ℕ) (call : CallEvent) → slice_get (turns_of calls) turn ≡ Some call → turn + 1 < length (turns_of calls)
-      → IsMade config histories (record { caller = caller; turn = turn }) call
+      → IsMadeCall config histories (record { caller = caller; turn = turn }) call
 
 -- these calls, with their answers, stand in turn in what the caller's pass has seen, and of each stripe the caller's history
 -- has the places of just those that are the stripe's commands; of the calls in that history at most the last was broken off
@@ -73,7 +73,7 @@ pub record AreNoted (config : Config) (pass : PassView) (calls : List Exchange) 
 -- no call of the pass was broken off: all calls that its caller's history has were made to their end
 pub record AreMade (config : Config) (pass : PassView) : Type 0 where
   pub each : (turn : ℕ) (call : CallEvent) → slice_get (turns_of pass.calls) turn ≡ Some call
-      → IsMade config (histories_seen config pass.sight) (record { caller = pass.caller; turn = turn }) call
+      → IsMadeCall config (histories_seen config pass.sight) (record { caller = pass.caller; turn = turn }) call
 
 -- a pass may make a call: there are stripes, no call was broken off, and its caller's history has a call for each turn
 pub record MayCall (config : Config) (pass : PassView) : Type 0 where

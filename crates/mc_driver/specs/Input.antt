@@ -8,7 +8,7 @@ use Rattle.mc_script.specs.declared.{outcome.Outcome.Outcome, outcome.Outcome.Th
 use Rattle.mc_store.specs.Finals.{FinalView}
 use Rattle.mc_options.specs.Asked.{AreAsked, asked}
 use Rattle.mc_options.specs.Words as command_line
-use Rattle.mc_driver.specs.{Left.IsLeft, Run.IsAccepted, Run.IsRunnable, Run.limits_of, Run.with_callers}
+use Rattle.mc_driver.specs.{Left.IsRunDone, Run.IsAccepted, Run.IsRunnable, Run.limits_of, Run.with_callers}
 use Rattle.mc_driver.specs.declared.fault.RunFault.{RunFault}
 use Rattle.mc_driver.specs.declared.fault.RunFault.TheVariants as refusals
 use Rattle.mc_options.specs.declared.plans.Options.{Options}
@@ -24,7 +24,7 @@ ToAndFrom = List ℕ × Printed
 
 -- scripts in memory are run, with upkeep at these moments: each from its bytes to what it prints, and all on one store
 abbrev pub AreRun : Config → List ℕ → List ToAndFrom → List ToAndFrom → List Outcome → FinalView → Type 0
-AreRun = IsLeft (λ bytes. bytes) (λ bytes. 0) (λ printed. printed.bytes) (λ printed. printed.misses)
+AreRun = IsRunDone (λ bytes. bytes) (λ bytes. 0) (λ printed. printed.bytes) (λ printed. printed.misses)
 
 -- a run of an input, with upkeep at these moments: the scripts that it is cut into are run, each from its own bytes and with
 -- nothing printed, and what they print, one after the other, is this
@@ -44,7 +44,7 @@ IsUnrun refusals.Configuration config input = (scripts : List (List ℕ)) × cut
 IsUnrun refusals.NoMemory config input = Unit {0}
 
 -- an input is answered: it is run, every caller is done, and what its scripts print stands behind what the writer held
-pub record IsAnswered (config : Config) (moments input : List ℕ) (held holds : Option (List ℕ)) : Type 0 where
+pub record IsInputAnswered (config : Config) (moments input : List ℕ) (held holds : Option (List ℕ)) : Type 0 where
   pub printed : List ℕ
   pub ended : List Outcome
   pub final : FinalView
@@ -66,4 +66,4 @@ pub record AreHeeded (words : List Text) (coming : Option (List ℕ)) (holds : C
 
 -- the program does its work: all bytes that the reader has to give are answered as the words ask
 abbrev pub HasServed : List Text → Option (List ℕ) → Option (List ℕ) → Option (List ℕ) → Type 0
-HasServed words coming held holds = AreHeeded words coming (λ config moments input. IsAnswered config moments input held holds)
+HasServed words coming held holds = AreHeeded words coming (λ config moments input. IsInputAnswered config moments input held holds)

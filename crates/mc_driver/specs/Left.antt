@@ -25,7 +25,7 @@ module _ {S K : Type 0} (coming : S → List ℕ) (reads : S → ℕ) (taken : K
     pub counted : AreCounted outcome (reads ends.0) (reads left.0) (writes ends.1) (writes left.1)
 
   -- a run is done: scripts with upkeep at these moments, on a store of this configuration
-  pub record IsLeft (config : Config) (moments : List ℕ) (scripts ends : List (S × K)) (ended : List Outcome) (final : FinalView) : Type 0 where
+  pub record IsRunDone (config : Config) (moments : List ℕ) (scripts ends : List (S × K)) (ended : List Outcome) (final : FinalView) : Type 0 where
     pub each : (i : ℕ) (d : S × K) (outcome : Outcome) → i < length scripts
         → IsScriptLeft config (histories_left final) i (slice_index_or scripts i d) (slice_index_or ends i d) (slice_index_or ended i outcome)
     pub maintained : (outcome : Outcome) → IsKeptUp Maintainer config moments (length scripts) (slice_index_or ended (length scripts) outcome) (histories_left final)

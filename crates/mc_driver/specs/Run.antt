@@ -40,8 +40,8 @@ with_callers scripts config =
     }
 
 -- so many scripts may be run at once
-abbrev pub AreScripts : ℕ → Type 0
-AreScripts scripts = (1 ≤ scripts) × (scripts ≤ 62)
+abbrev pub CanRunAtOnce : ℕ → Type 0
+CanRunAtOnce scripts = (1 ≤ scripts) × (scripts ≤ 62)
 
 -- the configuration is sound
 abbrev pub IsRunnable : ℕ → Config → Type 0
@@ -49,12 +49,12 @@ IsRunnable scripts config = fault_of (with_callers scripts config) ≡ None
 
 -- so many scripts, and this configuration, may be run
 abbrev pub IsAccepted : ℕ → Config → Type 0
-IsAccepted scripts config = AreScripts scripts × IsRunnable scripts config
+IsAccepted scripts config = CanRunAtOnce scripts × IsRunnable scripts config
 
 -- why they are not: the number of scripts comes first, then the configuration, then memory
 abbrev pub IsRefused : RunFault → ℕ → Config → Type 0
-IsRefused refusals.Scripts scripts config = AreScripts scripts → ⊥
-IsRefused refusals.Configuration scripts config = AreScripts scripts × (IsRunnable scripts config → ⊥)
+IsRefused refusals.Scripts scripts config = CanRunAtOnce scripts → ⊥
+IsRefused refusals.Configuration scripts config = CanRunAtOnce scripts × (IsRunnable scripts config → ⊥)
 IsRefused refusals.NoMemory scripts config = IsAccepted scripts config
 
 -- how many callers make calls: one for each script, and with upkeep the maintainer and the crawler
@@ -70,7 +70,7 @@ pub record IsStripe (config : Config) (number : ℕ) (s : Stripe) : Type 0 where
   pub legal : IsLegal s.site s.history
 
 -- a class of this number of a configuration
-pub record IsClass (config : Config) (number : ClassNo) (c : ClassView) : Type 0 where
+pub record IsClassNumbered (config : Config) (number : ClassNo) (c : ClassView) : Type 0 where
   pub number_is : c.number ≡ number
   pub made_with : IsClassOf config c
 
@@ -84,7 +84,7 @@ pub record IsStore (config : Config) (final : FinalView) : Type 0 where
   pub count : length final.stripes ≡ config.stripes
   pub each : (number : ℕ) (s : StripeSide) → slice_get final.stripes number ≡ Some s → IsStripe config number s.stripe
   pub classes : length final.classes ≡ length config.sizes
-  pub each_class : (place : ℕ) (c : ClassSide) → slice_get final.classes place ≡ Some c → IsClass config (record { 0 = place + 1 }) c.class
+  pub each_class : (place : ℕ) (c : ClassSide) → slice_get final.classes place ≡ Some c → IsClassNumbered config (record { 0 = place + 1 }) c.class
   pub sound : IsSoundStore (setting_of config) (stripe_histories final.stripes) (class_histories final.classes)
   pub entries : AreExactlyEntries (setting_of config) (stripe_histories final.stripes) (class_histories final.classes)
 

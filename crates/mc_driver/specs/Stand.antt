@@ -8,7 +8,7 @@ use Rattle.mc_item.specs.declared.{class_event.ClassEvent.ClassEvent, command.Co
 use Rattle.mc_item.specs.declared.{stripe_event.StripeEvent.StripeEvent}
 use Rattle.mc_evidence.specs.{Locks.ClassKeeps, Locks.StripeKeeps, Setting.IsClass}
 use Rattle.mc_proto.specs.Answers.{Answer, Moved, Replied, Counted}
-use Rattle.mc_script.specs.Exchanges.{Asks, Call, Exchange, Juggles, Crawls}
+use Rattle.mc_script.specs.Exchanges.{Asks, ScriptCall, Exchange, Juggles, Crawls}
 use Rattle.mc_store.specs.Locked.{setting_of}
 use Rattle.mc_driver.specs.Noted.{NotesCommand, NotesJuggling, exchanges_in, NotesCrawling}
 
@@ -31,14 +31,14 @@ abbrev pub stripe_number : ℕ → Command → ℕ
 stripe_number stripes command = (stripe_of (key_of command) stripes).0
 
 -- a call's stripe or class is there
-abbrev pub IsPlaced : Config → Call → Type 0
+abbrev pub IsPlaced : Config → ScriptCall → Type 0
 IsPlaced config (Asks command) = stripe_number config.stripes command < config.stripes
 IsPlaced config (Juggles class) = IsClass (setting_of config) class
 IsPlaced config (Crawls class) = IsClass (setting_of config) class
 
 -- a call with its answer stands in the histories, behind what was seen of its own: a command in its stripe's, with the refusal
 -- that its answer cites in that one's class's, juggling and a crawl in their class's
-abbrev pub StandsAs : Config → Histories → Histories → Who → ℕ → Call → Answer → Type 0
+abbrev pub StandsAs : Config → Histories → Histories → Who → ℕ → ScriptCall → Answer → Type 0
 StandsAs config seen histories who moment (Asks command) (Replied reply) =
     let number = stripe_number config.stripes command in
     NotesCommand config number (seen.stripes number) (histories.stripes number) histories.classes who command moment reply
@@ -56,11 +56,11 @@ abbrev pub StandsBehind : Config → Histories → Histories → Exchange → Ty
 StandsBehind config seen histories call = StandsAs config seen histories call.who call.moment call.call call.answer
 
 -- it stands there at any place
-abbrev pub Stands : Config → Histories → Exchange → Type 0
-Stands config histories call = StandsBehind config nothing_seen histories call
+abbrev pub StandsAnywhere : Config → Histories → Exchange → Type 0
+StandsAnywhere config histories call = StandsBehind config nothing_seen histories call
 
 -- the others of these histories are evidence of the one that a call stands in: the partner of each of its events stands there
-abbrev pub HasEvidence : Config → Histories → Call → Type 0
+abbrev pub HasEvidence : Config → Histories → ScriptCall → Type 0
 HasEvidence config reached (Asks command) =
     let number = stripe_number config.stripes command in
     StripeKeeps (setting_of config) number (reached.stripes number) reached.classes
@@ -75,7 +75,7 @@ pub record StandsBetween (config : Config) (seen reached : Histories) (call : Ex
   pub evidence : HasEvidence config reached call.call
 
 -- a call stands first behind what was seen, and the later ones stand behind what its caller has reached by it
-pub record StandsFirst (config : Config) (seen : Histories) (call : Exchange) (later : Histories → Type 0) : Type 0 where
+pub record StandsNext (config : Config) (seen : Histories) (call : Exchange) (later : Histories → Type 0) : Type 0 where
   pub reached : Histories
   pub between : StandsBetween config seen reached call
   pub behind : later reached
@@ -83,10 +83,10 @@ pub record StandsFirst (config : Config) (seen : Histories) (call : Exchange) (l
 -- behind what was seen, these calls stand in the histories in turn: each behind all that its caller had seen in those before
 abbrev pub Stand : Config → Histories → Histories → List Exchange → Type 0
 Stand config seen histories [] = Grow config seen histories
-Stand config seen histories (call ∷ calls) = StandsFirst config seen call (λ reached. Stand config reached histories calls)
+Stand config seen histories (call ∷ calls) = StandsNext config seen call (λ reached. Stand config reached histories calls)
 
 -- whether a call is a command of this stripe, of so many
-abbrev pub is_command_at : ℕ → ℕ → Call → Bool
+abbrev pub is_command_at : ℕ → ℕ → ScriptCall → Bool
 is_command_at stripes number (Asks command) = nat_eq (stripe_number stripes command) number
 is_command_at stripes number (Juggles class) = false
 is_command_at stripes number (Crawls class) = false

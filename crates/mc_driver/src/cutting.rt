@@ -2,7 +2,7 @@
 ghost use Rattle.std.specs.Prelude.{◌≡◌, ◌≤◌, ◌^◌, IfErr, IfOk};
 ghost use Rattle.std.specs.List.{All, flat_map};
 ghost use Rattle.mc_item.specs.Config.{IsBounded};
-ghost use Rattle.mc_proto.specs.Gathered.{bytes_of};
+ghost use Rattle.mc_proto.specs.Gathered.{bytes_of_parts};
 ghost use Rattle.mc_driver.specs.Input.{IsRunOf, IsUnrun};
 
 use crate::fault::RunFault;
@@ -36,7 +36,7 @@ pub(crate) fn run_cut<'a, R: Threads + Wait + Sync, L: Ledger + Send + Sync>(
     requires bounded { IsBounded config }
     requires early { All (λ moment. moment ≤ 2 ^ 62) upkeep.now }
     ensures ok { IfOk result (λ run. IsRunOf config upkeep.now (flat_map (λ v. v.items) input.items)
-        (flat_map (λ end. bytes_of end.1.pieces.items) run.ends.items) run.outcomes.items run.ledger) }
+        (flat_map (λ end. bytes_of_parts end.1.pieces.items) run.ends.items) run.outcomes.items run.ledger) }
     ensures err { IfErr result (λ fault. IsUnrun fault config (flat_map (λ v. v.items) input.items)) }
 {
     let sources = sources_of(alloc, limits_for(&config), input)?;

@@ -1,7 +1,7 @@
 //! A source and a sink in memory.
 ghost use Rattle.std.specs.Prelude.{◌≡◌, ◌<◌, ◌+◌, ◌++◌, [], OnOk, OnErr, length};
 ghost use Rattle.std.specs.List.{flat_map};
-ghost use Rattle.mc_proto.specs.Gathered.{bytes_of};
+ghost use Rattle.mc_proto.specs.Gathered.{bytes_of_parts};
 
 use mc_item::NoMemory;
 use mc_proto::{ReplyText, Sink, SinkFault, TextPart};
@@ -51,7 +51,7 @@ const ROOM: usize = 81920;
 
 // Keeps a copy of some bytes behind the pieces.
 fn keep_copy(alloc: Global, pieces: &mut Vec<TextPart>, bytes: &[u8]) -> Result<(), NoMemory>
-    ensures ok { OnOk result (bytes_of pieces.new.items ≡ bytes_of pieces.old.items ++ bytes.now) }
+    ensures ok { OnOk result (bytes_of_parts pieces.new.items ≡ bytes_of_parts pieces.old.items ++ bytes.now) }
     ensures err { OnErr result (pieces.new.items ≡ pieces.old.items) }
 {
     let piece = Vec::from_slice(alloc, bytes)?;
@@ -105,7 +105,7 @@ impl<'a, R: Wait, L: Ledger> Kept<'a, R, L> {
 }
 
 impl<'a, R: Wait, L: Ledger> Sink for Kept<'a, R, L> {
-    ghost taken = { λ s. bytes_of s.pieces.items };
+    ghost taken = { λ s. bytes_of_parts s.pieces.items };
 
     ghost failures = { λ s. s.share.amount };
 

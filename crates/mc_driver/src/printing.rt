@@ -1,7 +1,7 @@
 //! Prints what scripts replied.
 ghost use Rattle.std.specs.Prelude.{OnOk};
 ghost use Rattle.std.specs.{List.flat_map, Io.KnownBytes.Appends};
-ghost use Rattle.mc_proto.specs.Gathered.{bytes_of};
+ghost use Rattle.mc_proto.specs.Gathered.{bytes_of_parts};
 
 use crate::memory::{Kept, Pieces};
 use mc_proto::TextPart;
@@ -11,7 +11,7 @@ use std::sync::ledger::Ledger;
 
 // Writes pieces one after the other.
 fn print_pieces<W: Write>(writer: &mut W, pieces: &[TextPart]) -> io::Result<()>
-    ensures { OnOk result (Appends (W.contents writer.old) (W.contents writer.new) (bytes_of pieces.now)) }
+    ensures { OnOk result (Appends (W.contents writer.old) (W.contents writer.new) (bytes_of_parts pieces.now)) }
 {
     for piece in pieces {
         writer.write_all(piece.bytes())?;
@@ -24,7 +24,7 @@ pub(crate) fn print_scripts<R: Wait, L: Ledger, W: Write>(
     writer: &mut W,
     ends: &[(Pieces, Kept<'_, R, L>)],
 ) -> io::Result<()>
-    ensures { OnOk result (Appends (W.contents writer.old) (W.contents writer.new) (flat_map (λ e. bytes_of e.1.pieces.items) ends.now)) }
+    ensures { OnOk result (Appends (W.contents writer.old) (W.contents writer.new) (flat_map (λ e. bytes_of_parts e.1.pieces.items) ends.now)) }
 {
     for end in ends {
         print_pieces(writer, end.1.pieces.as_slice())?;

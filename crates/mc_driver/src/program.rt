@@ -6,7 +6,7 @@ ghost use Rattle.clap.specs.Walk.{texts};
 ghost use Rattle.clap.specs.declared.error.kind.ErrorKind.TheVariants.{DisplayHelp, DisplayVersion, OutOfMemory};
 ghost use Rattle.mc_item.specs.Config.{IsSound};
 ghost use Rattle.mc_script.specs.declared.outcome.Outcome.TheVariants.{Done};
-ghost use Rattle.mc_driver.specs.Input.{HasServed, IsAnswered, IsUnrun};
+ghost use Rattle.mc_driver.specs.Input.{HasServed, IsInputAnswered, IsUnrun};
 ghost use Rattle.mc_driver.specs.Status.{AreForHelp, AreRefused, HasServedInPart, HasTooMany, IsAnsweredInPart, IsFirstFault, status_of};
 ghost use Rattle.mc_driver.specs.declared.fault.RunFault.TheVariants as unrun;
 ghost use Rattle.mc_options.specs.Words.{refusals};
@@ -145,7 +145,7 @@ fn run_input<R: Threads + Wait + Sync, L: Ledger + Send + Sync, W: Write, E: Wri
     requires some { 62 ≤ blank.parts }
     requires sound { IsSound plan.config }
     requires early { All (λ moment. moment ≤ 2 ^ 62) plan.upkeep }
-    ensures done { result ≡ 0 → IsAnswered plan.config plan.upkeep (flat_map (λ v. v.items) input.items) (W.contents writer.old) (W.contents writer.new) }
+    ensures done { result ≡ 0 → IsInputAnswered plan.config plan.upkeep (flat_map (λ v. v.items) input.items) (W.contents writer.old) (W.contents writer.new) }
     ensures broken { result ≡ 1 → Keeps (W.contents writer.old) (W.contents writer.new)
         ⊎ IsAnsweredInPart 1 plan.config plan.upkeep (flat_map (λ v. v.items) input.items) (W.contents writer.old) (W.contents writer.new) }
     ensures refused { result ≡ 2 → IsUnrun unrun.Scripts plan.config (flat_map (λ v. v.items) input.items) }

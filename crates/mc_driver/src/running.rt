@@ -8,7 +8,7 @@ ghost use Rattle.mc_script.specs.declared.{outcome.Outcome.Outcome, upkeep.Keepe
 ghost use Rattle.mc_script.specs.declared.outcome.Outcome.TheVariants as outcomes;
 ghost use Rattle.mc_store.specs.{Finals.AreStripes, Locked.histories_for, Passes.PassView};
 ghost use Rattle.mc_driver.specs.Called.{AreByCallers, AreWholeTurns, HasCalls, IsCompared};
-ghost use Rattle.mc_driver.specs.{Left.AreKeepersDone, Left.IsKeptUp, Left.IsLeft, Stand.AreItsCalls};
+ghost use Rattle.mc_driver.specs.{Left.AreKeepersDone, Left.IsKeptUp, Left.IsRunDone, Stand.AreItsCalls};
 ghost use Rattle.mc_driver.specs.Run.{HasFull, IsAccepted, IsRefused, IsStore, callers_at_work, histories_left, limits_of, with_callers};
 ghost use Rattle.mc_driver.specs.declared.fault.RunFault.TheVariants as faults;
 
@@ -114,7 +114,7 @@ fn run_named<N: Named + Send + Sync, S: Source + Send, K: Sink + Send, R: Thread
     requires seen { seen ≡ record { board = N.board.table; sight = blind } }
     requires callers { N.config.callers ≡ length scripts.items + 2 }
     requires early { All (λ moment. moment ≤ 2 ^ 62) upkeep.now }
-    ensures { IfOk result (λ run. IsLeft S.coming S.failures K.taken K.failures N.config upkeep.now scripts.items run.ends.items run.outcomes.items run.ledger) }
+    ensures { IfOk result (λ run. IsRunDone S.coming S.failures K.taken K.failures N.config upkeep.now scripts.items run.ends.items run.outcomes.items run.ledger) }
 {
     let limits = limits_for(&config);
     let threads = threads_for(scripts.len(), upkeep.len());

@@ -3,7 +3,7 @@ use Rattle.std.proofs.Common.{◌≡◌, ◌≤◌, ◌<◌, ◌^◌, ◌&&◌, 
 use Rattle.std.specs.Prelude.{if◌then◌else◌, nat_le, nat_lt, position}
 use Rattle.std.specs.{List.list_all, Option.option_map}
 use Rattle.std.proofs.lemmas.{Bool.false≢true, Bool.Decides.nat_tests, List.Quantifiers.position-Some}
-use Rattle.mc_item.specs.{Config.IsSound, Config.are_stripes, Config.are_sizes, Config.is_size, Config.is_rising, Measure.class_at}
+use Rattle.mc_item.specs.{Config.IsSound, Config.are_stripes, Config.are_sizes, Config.is_size, Config.is_rising, Measure.class_of_place}
 use Rattle.mc_item.specs.declared.{config.Config.Config, config.ConfigFault.ConfigFault, config.ConfigFault.TheVariants.Stripes}
 use Rattle.mc_item.specs.declared.{config.ConfigFault.TheVariants.Sizes, item.ClassNo.ClassNo}
 use Rattle.mc_evidence.specs.Small.{AreSmall}
@@ -35,7 +35,7 @@ small_sizes config none = record { most = λ cost class is. by cost class (posit
         let outer = both (nat_lt 0 (length config.sizes) && nat_le (length config.sizes) 63 && list_all is_size config.sizes) (is_rising config.sizes) second.0 in
         (both (nat_lt 0 (length config.sizes) && nat_le (length config.sizes) 63) (list_all is_size config.sizes) outer.0).1
 
-    by : (cost : ℕ) (class : ClassNo) (o : Option ℕ) → position (λ size. nat_le cost size) config.sizes ≡ o → option_map class_at o ≡ Some class → cost ≤ 2 ^ 20
+    by : (cost : ℕ) (class : ClassNo) (o : Option ℕ) → position (λ size. nat_le cost size) config.sizes ≡ o → option_map class_of_place o ≡ Some class → cost ≤ 2 ^ 20
     by cost class None at is = absurd (cc is)
     by cost class (Some place) at is =
         let there = position-Some (λ size. nat_le cost size) config.sizes place 0 at in

@@ -7,7 +7,7 @@ use Rattle.mc_item.specs.declared.item.Link.{Link}
 use Rattle.mc_item.specs.declared.stripe_event.StripeEvent.TheVariants as items
 use Rattle.mc_rule.proofs.TestLemmas.{none_some, some_same}
 use Rattle.mc_rule.specs.{Agreement.Agree, Lawful.IsLawfulHistoryByLists, Pairs.link_to}
-use Rattle.mc_evidence.proofs.AgreeLemmas.{agree_begins, agree_evicted, agree_links, agree_moved}
+use Rattle.mc_evidence.proofs.AgreementLemmas.{agree_begins, agree_evicted, agree_links, agree_moved}
 use Rattle.mc_evidence.specs.Example.{class_story, entry_of_set, first_class, forced, set_of, small_rule, small_site, stripe_story, turn}
 
 -- the three sets, with the eviction for the third

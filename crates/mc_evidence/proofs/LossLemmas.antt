@@ -10,9 +10,9 @@ use Rattle.mc_item.specs.declared.{stripe_event.Cooled.Cooled, stripe_event.Lost
 use Rattle.mc_item.specs.declared.class_event.ClassEvent.TheVariants as entries
 use Rattle.mc_item.specs.declared.stripe_event.StripeEvent.TheVariants as events
 use Rattle.mc_rule.proofs.{HistoryLemmas.lawful_at, HistoryLemmas.legal_at, TestLemmas.none_some, TestLemmas.some_same}
-use Rattle.mc_rule.specs.{Evidence.AreEvidence, Evidence.IsLossTold, Lawful.IsLawfulHistoryByLists, Lists.IsFull, Lists.lists_of, Pairs.item_after}
+use Rattle.mc_rule.specs.{Evidence.AreEvidence, Evidence.HasLossTrace, Lawful.IsLawfulHistoryByLists, Lists.IsFull, Lists.lists_of, Pairs.item_after}
 use Rattle.mc_rule.specs.{Pairs.link_to, Places.Has, Places.Stands, Segment.Rule}
-use Rattle.mc_evidence.proofs.{LegalLemmas.after_loss, LegalLemmas.by_key, LegalLemmas.holds_push, LockLemmas.between}
+use Rattle.mc_evidence.proofs.{LinkLifeLemmas.after_loss, LinkLifeLemmas.by_key, LinkLifeLemmas.holds_push, LockLemmas.between}
 use Rattle.mc_evidence.specs.Losses.{AreNoCommands, HadCause, IsSameItem, IsTaking, WasLost}
 
 -- the item of a key is this one but for its marks
@@ -109,7 +109,7 @@ module _ (site : Site) (rule : Rule) (chunks : ClassNo → ℕ) (classes : Class
   cause_of before lost item s there both lawful =
       by lost.cause refl (legal_at site stripe before (events.Lost lost) legal s) (both.told before (events.Lost lost) s item.link.number (same_link item (item_after site before lost.key) there))
     where
-      by : (cause : Cause) → lost.cause ≡ cause → MayLose (item_after site before lost.key) cause → IsLossTold site item.link.class (classes item.link.class) before lost cause → HadCause chunks classes item lost cause
+      by : (cause : Cause) → lost.cause ≡ cause → MayLose (item_after site before lost.key) cause → HasLossTrace site item.link.class (classes item.link.class) before lost cause → HadCause chunks classes item lost cause
       by (Expired moment) is may told = same_dead item moment (item_after site before lost.key) there may
       by (Taken class place) is may told =
           let of_class = same_class item class (item_after site before lost.key) there may in

@@ -9,15 +9,15 @@ use Rattle.mc_item.specs.declared.class_event.ClassEvent.TheVariants as entries
 use Rattle.mc_item.specs.declared.reply.Room.TheVariants as rooms
 use Rattle.mc_item.specs.declared.stripe_event.StripeEvent.TheVariants as items
 use Rattle.mc_rule.proofs.{HistoryLemmas.lawful_at, HistoryLemmas.lawful_before, HistoryLemmas.legal_at, HistoryLemmas.legal_before, OnceLemmas.numbered}
-use Rattle.mc_rule.proofs.{PlaceLemmas.stood_before, TestLemmas.none_some}
-use Rattle.mc_rule.specs.{Evidence.AreEvidence, Evidence.IsLossTold, Lawful.IsLawfulHistoryByLists, Lists.find, Lists.found, Lists.lists_of, Pairs.IsKeyOf}
+use Rattle.mc_rule.proofs.{EventPlaceLemmas.stood_before, TestLemmas.none_some}
+use Rattle.mc_rule.specs.{Evidence.AreEvidence, Evidence.HasLossTrace, Lawful.IsLawfulHistoryByLists, Lists.find, Lists.found, Lists.lists_of, Pairs.IsKeyOf}
 use Rattle.mc_rule.specs.{Pairs.LetsGo, Pairs.item_after, Pairs.link_to, Partners.TakesOut, Places.Has, Places.Stands, Segment.Rule}
-use Rattle.mc_evidence.proofs.HeldLemmas.{cost_at, held_at, held_link, link_held, same_link, same_some}
-use Rattle.mc_evidence.proofs.KeptLemmas.{IsLinkOf, found_by_kept, in_cold, kept, kept_by, kept_left, kept_linked, kept_once, linked_once, listed_by, was_linked}
-use Rattle.mc_evidence.proofs.LegalLemmas.{IsGiftOf, IsLossOf, held_once, holds, was_given, with_link}
-use Rattle.mc_evidence.proofs.TurnLemmas.{Turns, both_have}
-use Rattle.mc_evidence.proofs.KeptLemmas as classes
-use Rattle.mc_evidence.proofs.LegalLemmas as stripes
+use Rattle.mc_evidence.proofs.HeldItemLemmas.{cost_at, held_at, held_link, link_held, same_link, same_some}
+use Rattle.mc_evidence.proofs.EntryLifeLemmas.{IsLinkOf, found_by_kept, in_cold, kept, kept_by, kept_left, kept_linked, kept_once, linked_once, listed_by, was_linked}
+use Rattle.mc_evidence.proofs.LinkLifeLemmas.{IsGiftOf, IsLossOf, held_once, holds, was_given, with_link}
+use Rattle.mc_evidence.proofs.BeganLemmas.{Turns, both_have}
+use Rattle.mc_evidence.proofs.EntryLifeLemmas as classes
+use Rattle.mc_evidence.proofs.LinkLifeLemmas as stripes
 
 module _ (site : Site) (rule : Rule) (class : ClassNo) (chunks : ℕ) (stripe : List StripeEvent) (history : List ClassEvent)
     (legal : IsLegal site stripe) (lawful : IsLawfulHistoryByLists chunks rule history) (both : AreEvidence site rule class stripe history) where
@@ -124,7 +124,7 @@ module _ (site : Site) (rule : Rule) (class : ClassNo) (chunks : ℕ) (stripe : 
     ended t = by t.before t.e t.stands t.was (stripes.fall_at site key (link_to class n) cost stripe legal t)
       where
         lost_so : (before : List StripeEvent) (lost : Lost) (cause : Cause) → Stands stripe before (items.Lost lost) → Held before → lost.key ≡ key
-            → IsLossTold site class history before lost cause → Turns Kept NotKept history
+            → HasLossTrace site class history before lost cause → Turns Kept NotKept history
         lost_so before lost (Taken other place) s was is partner =
             let e = partner.1 in
             let number : e.number ≡ n = same_some class e.number n (sym partner.3.item ∙ subst (λ (k : List ℕ). link_of_item (item_after site before k) ≡ Some (link_to class n)) (sym is) (held_link key (item_after site before key) (link_to class n) cost was)) in

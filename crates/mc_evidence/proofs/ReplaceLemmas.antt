@@ -9,10 +9,10 @@ use Rattle.mc_item.specs.declared.class_event.ClassEvent.TheVariants as entries
 use Rattle.mc_item.specs.declared.reply.Room.TheVariants as rooms
 use Rattle.mc_item.specs.declared.stripe_event.StripeEvent.TheVariants as items
 use Rattle.mc_rule.proofs.{HistoryLemmas.lists_of-push, ListLemmas.nowhere, ListLemmas.other_stays, OnceLemmas.IsNumbered, OnceLemmas.numbered}
-use Rattle.mc_rule.proofs.{PlaceLemmas.last_stands, PlaceLemmas.still_stands, TestLemmas.none_some, TestLemmas.not_equal, TestLemmas.some_same}
+use Rattle.mc_rule.proofs.{EventPlaceLemmas.last_stands, EventPlaceLemmas.still_stands, TestLemmas.none_some, TestLemmas.not_equal, TestLemmas.some_same}
 use Rattle.mc_rule.specs.{Belonging.IsEntryOf, Lawful.IsLawfulByLists, Lawful.is_named, Lists.found, Lists.lists_of, Places.Has}
 use Rattle.mc_rule.specs.Pairs.{IsKeyOf, IsLinking, IsUnlinking, LetsGo, link_to}
-use Rattle.mc_evidence.proofs.EntryLemmas.{command_step, linking_step, unlinking_step}
+use Rattle.mc_evidence.proofs.LentStepLemmas.{command_step, linking_step, unlinking_step}
 use Rattle.mc_evidence.specs.{Locks.AreHeld, Locks.ClassKeeps, Locks.StripeKeeps, Setting.Setting, Setting.site_in}
 
 -- an entry stays while another number is linked

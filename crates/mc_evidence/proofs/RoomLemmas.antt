@@ -13,7 +13,7 @@ use Rattle.mc_item.specs.declared.reply.Reply.TheVariants as replies
 use Rattle.mc_item.specs.declared.reply.Room.TheVariants as rooms
 use Rattle.mc_item.specs.declared.stripe_event.StripeEvent.TheVariants as items
 use Rattle.mc_rule.specs.{Pairs.IsLinking, Pairs.item_after, Pairs.link_to, Segment.Rule, Segment.segment_for}
-use Rattle.mc_evidence.proofs.{LegalLemmas.with_link, RowLemmas.by_test}
+use Rattle.mc_evidence.proofs.{LinkLifeLemmas.with_link, RowLemmas.by_test}
 use Rattle.mc_evidence.specs.Made.{linked_for}
 
 -- a command that was given a chunk left an item, whose new entry is its partner

@@ -7,12 +7,12 @@ use Rattle.mc_item.specs.declared.{stripe_event.StripeEvent.StripeEvent}
 use Rattle.mc_item.specs.declared.class_event.ClassEvent.TheVariants as entries
 use Rattle.mc_rule.proofs.HistoryLemmas.{by_lists, lawful_at, lawful_before, legal_first}
 use Rattle.mc_rule.proofs.{ListLemmas.found_there, OnceLemmas.IsNumbered, OnceLemmas.numbered, TestLemmas.is_some_of}
-use Rattle.mc_rule.specs.{Belonging.HasEntry, Belonging.HasItem, Cited.IsSuited, Evidence.AreEvidence, Evidence.IsBacked, Evidence.IsTold, Pairs.item_after}
+use Rattle.mc_rule.specs.{Belonging.HasEntry, Belonging.HasItem, Cited.IsSuited, Evidence.AreEvidence, Evidence.IsBacked, Evidence.HasTrace, Pairs.item_after}
 use Rattle.mc_rule.specs.{Pairs.link_to, Places.Each, Places.Stands}
 use Rattle.mc_rule.specs.Lawful.{IsLawfulByLists, IsLawfulByListsFrom, IsLawfulFrom, IsLawfulHistoryByLists, SuitsItem, SuitsMove}
 use Rattle.mc_rule.specs.Lists.{Lists, find, found, list_of, lists_of, times_in}
-use Rattle.mc_evidence.proofs.{CitedLemmas.all_suited_later, ExactLemmas.entry_of_item, ExactLemmas.item_of_entry, GrowLemmas.all_backed_later}
-use Rattle.mc_evidence.proofs.{GrowLemmas.all_told_later, LossLemmas.lost_between, RowLemmas.held, SizedLemmas.link_sized}
+use Rattle.mc_evidence.proofs.{CitedItemLemmas.all_suited_later, ItemsAreEntriesLemmas.entry_of_item, ItemsAreEntriesLemmas.item_of_entry, EvidenceGrowthLemmas.all_backed_later}
+use Rattle.mc_evidence.proofs.{EvidenceGrowthLemmas.all_told_later, LossLemmas.lost_between, RowLemmas.held, SizedItemLemmas.link_sized}
 use Rattle.mc_evidence.specs.{Locks.ClassKeeps, Locks.HaveSeen, Locks.StripeKeeps, Losses.AreNoCommands, Losses.WasLost, Setting.IsClass, Setting.Setting}
 use Rattle.mc_evidence.specs.{Setting.site_in, Sound.IsSoundStore, Sound.cited_of}
 
@@ -74,7 +74,7 @@ locks_sound setting stripes classes seen seen_of some stripes_keep classes_keep 
   once = λ class is. (classes_keep class is).once;
   evidence = λ s class of is. record {
     told =
-        subst (λ (h : List ClassEvent). Each (IsTold (site_in setting s) setting.rule class h) (stripes s)) (saw s class of is).class.1
+        subst (λ (h : List ClassEvent). Each (HasTrace (site_in setting s) setting.rule class h) (stripes s)) (saw s class of is).class.1
         (all_told_later (site_in setting s) setting.rule class (seen s class) (saw s class of is).class.0 (stripes s) ((stripes_keep s of).told class is));
     backed =
         subst (λ (h : List StripeEvent). Each (IsBacked (site_in setting s) setting.rule class h) (classes class)) (saw s class of is).stripe.1

@@ -8,11 +8,11 @@ use Rattle.mc_item.specs.declared.{lists.Entry.Entry, lists.Seg.Seg, stripe_even
 use Rattle.mc_item.specs.declared.class_event.ClassEvent.TheVariants as entries
 use Rattle.mc_item.specs.declared.reply.Room.TheVariants as rooms
 use Rattle.mc_item.specs.declared.stripe_event.StripeEvent.TheVariants as items
-use Rattle.mc_rule.proofs.{PlaceLemmas.last_stands, PlaceLemmas.still_stands, TestLemmas.some_same}
+use Rattle.mc_rule.proofs.{EventPlaceLemmas.last_stands, EventPlaceLemmas.still_stands, TestLemmas.some_same}
 use Rattle.mc_rule.specs.{Belonging.Belong, Belonging.IsEntryOf, Evidence.AreEvidence, Evidence.IsBacked, Lists.found, Lists.lists_of, Segment.Rule}
 use Rattle.mc_rule.specs.Pairs.{ClearsMark, IsLinking, IsUnlinking}
-use Rattle.mc_evidence.proofs.GrowLemmas.{class_push, pair_push, still_has, stripe_push, triple_push}
-use Rattle.mc_evidence.proofs.TurnLemmas.{stays}
+use Rattle.mc_evidence.proofs.EvidenceGrowthLemmas.{class_push, pair_push, still_has, stripe_push, triple_push}
+use Rattle.mc_evidence.proofs.BeganLemmas.{stays}
 use Rattle.mc_evidence.specs.Made.{IsAlone, IsGivenNone, IsRefusedThere, LetsNoneGo, cooled_as, evicted_as, lost_at, lost_to, reclaimed_as}
 
 -- the key of an entry that is found is that of the one that was found

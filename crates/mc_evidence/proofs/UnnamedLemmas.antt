@@ -9,7 +9,7 @@ use Rattle.mc_item.specs.declared.class_event.ClassEvent.TheVariants as entries
 use Rattle.mc_item.specs.declared.reply.Room.TheVariants as rooms
 use Rattle.mc_item.specs.declared.stripe_event.StripeEvent.TheVariants as items
 use Rattle.mc_rule.proofs.{HistoryLemmas.stands_named, TestLemmas.itself}
-use Rattle.mc_rule.specs.{Evidence.IsTold, Lawful.is_named, Pairs.IsLinking, Pairs.link_to, Places.Each, Places.Has, Segment.Rule}
+use Rattle.mc_rule.specs.{Evidence.HasTrace, Lawful.is_named, Pairs.IsLinking, Pairs.link_to, Places.Each, Places.Has, Segment.Rule}
 
 module _ (site : Site) (rule : Rule) (class : ClassNo) (n : ℕ) (history : List ClassEvent) (fresh : is_named n history ≡ false) where
   linked_named : (before : List StripeEvent) (did : Did) → did.room ≡ rooms.At (link_to class n) → Has entries.Linked history (λ behind e. IsLinking site rule class before did e) → ⊥
@@ -22,7 +22,7 @@ module _ (site : Site) (rule : Rule) (class : ClassNo) (n : ℕ) (history : List
       let named = stands_named n history has.0 (entries.Linked e) has.2 (ap (λ (m : ℕ). m == n) same ∙ itself n) in
       false≢true (sym fresh ∙ named)
 
-  event_unnamed : (before : List StripeEvent) (e : StripeEvent) → IsTold site rule class history before e → link_named e ≢ Some (link_to class n)
+  event_unnamed : (before : List StripeEvent) (e : StripeEvent) → HasTrace site rule class history before e → link_named e ≢ Some (link_to class n)
   event_unnamed before (items.Did did) told is = linked_named before did (at did.room is) (told.linked n (at did.room is))
     where
       at : (room : Room) → link_of room ≡ Some (link_to class n) → room ≡ rooms.At (link_to class n)
@@ -32,14 +32,14 @@ module _ (site : Site) (rule : Rule) (class : ClassNo) (n : ℕ) (history : List
   event_unnamed before (items.Lost lost) told is = cc
   event_unnamed before (items.Cooled cooled) told is = cc
 
-  unnamed_from : (before es : List StripeEvent) → Each (IsTold site rule class history) (before ++ es) → IsUnnamed (link_to class n) es
+  unnamed_from : (before es : List StripeEvent) → Each (HasTrace site rule class history) (before ++ es) → IsUnnamed (link_to class n) es
   unnamed_from before [] told = tt
   unnamed_from before (e ∷ es) told = (
     event_unnamed before e (told before e (record { later = es; is = refl })),
-    unnamed_from (before ++ e ∷ []) es (subst (Each (IsTold site rule class history)) (sym (append_assoc before (e ∷ []) es)) told),
+    unnamed_from (before ++ e ∷ []) es (subst (Each (HasTrace site rule class history)) (sym (append_assoc before (e ∷ []) es)) told),
   )
 
 -- a new number is in no link of a stripe whose events the class tells
-pub next_unnamed : (site : Site) (rule : Rule) (class : ClassNo) (n : ℕ) (stripe : List StripeEvent) (history : List ClassEvent) → Each (IsTold site rule class history) stripe → is_named n history ≡ false
+pub next_unnamed : (site : Site) (rule : Rule) (class : ClassNo) (n : ℕ) (stripe : List StripeEvent) (history : List ClassEvent) → Each (HasTrace site rule class history) stripe → is_named n history ≡ false
     → IsUnnamed (link_to class n) stripe
 next_unnamed site rule class n stripe history told fresh = unnamed_from site rule class n history fresh [] stripe told

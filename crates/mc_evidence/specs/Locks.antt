@@ -3,13 +3,13 @@ use Rattle.std.specs.Prelude.{ℕ, ◌<◌, ◌≡◌, ◌++◌, ◌∷◌, [], 
 use mathlib.Core.List.{IsPrefix}
 use Rattle.mc_item.specs.Stripe.{IsLegal}
 use Rattle.mc_item.specs.declared.{class_event.ClassEvent.ClassEvent, item.ClassNo.ClassNo, stripe_event.StripeEvent.StripeEvent}
-use Rattle.mc_rule.specs.{Cited.IsSuited, Evidence.IsBacked, Evidence.IsTold, Lawful.IsLawfulHistoryByLists, Partners.ClearsOnce, Places.Each}
+use Rattle.mc_rule.specs.{Cited.IsSuited, Evidence.IsBacked, Evidence.HasTrace, Lawful.IsLawfulHistoryByLists, Partners.ClearsOnce, Places.Each}
 use Rattle.mc_evidence.specs.Setting.{IsClass, Setting, site_in}
 
 -- a stripe's lock: its history is legal, and each class, as far as it has seen it, tells its events
 pub record StripeKeeps (setting : Setting) (s : ℕ) (own : List StripeEvent) (seen : ClassNo → List ClassEvent) : Type 0 where
   pub legal : IsLegal (site_in setting s) own
-  pub told : (class : ClassNo) → IsClass setting class → Each (IsTold (site_in setting s) setting.rule class (seen class)) own
+  pub told : (class : ClassNo) → IsClass setting class → Each (HasTrace (site_in setting s) setting.rule class (seen class)) own
 
 -- a class's lock: its history is lawful as far as its lists tell, no mark is cleared twice, and each stripe, as far as it has
 -- seen it, backs its events and has the items that they cite
@@ -24,7 +24,7 @@ abbrev pub SeesMore : {K E : Type 0} → (K → List E) → (K → List E) → T
 SeesMore {K = K} seen more = (k : K) → IsPrefix (seen k) (more k)
 
 -- a stripe and a class that are lent together: each lock keeps what it keeps, and has seen a beginning of the other's history
-pub record AreLent (setting : Setting) (s : ℕ) (class : ClassNo) (stripe : List StripeEvent) (history : List ClassEvent) (seen : ClassNo → List ClassEvent) (seen_of : ℕ → List StripeEvent) : Type 0 where
+pub record AreLentTogether (setting : Setting) (s : ℕ) (class : ClassNo) (stripe : List StripeEvent) (history : List ClassEvent) (seen : ClassNo → List ClassEvent) (seen_of : ℕ → List StripeEvent) : Type 0 where
   pub of : s < setting.stripes
   pub is : IsClass setting class
   pub stripe_keeps : StripeKeeps setting s stripe seen

@@ -6,7 +6,7 @@ ghost use Rattle.mc_item.specs.declared.{stripe_event.Did.Did, stripe_event.Stri
 ghost use Rattle.mc_item.specs.declared.reply.Reply.TheVariants as replies;
 ghost use Rattle.mc_item.specs.declared.reply.Room.TheVariants as rooms;
 ghost use Rattle.mc_item.specs.declared.stripe_event.StripeEvent.TheVariants as items;
-ghost use Rattle.mc_rule.specs.{Evidence.IsTold, Lawful.is_named, Pairs.IsLinking, Pairs.LetsGo, Pairs.item_after, Pairs.link_to, Places.Each, Segment.Rule};
+ghost use Rattle.mc_rule.specs.{Evidence.HasTrace, Lawful.is_named, Pairs.IsLinking, Pairs.LetsGo, Pairs.item_after, Pairs.link_to, Places.Each, Segment.Rule};
 ghost use Rattle.mc_evidence.specs.{Made.linked_for, Small.AreSmall, Small.IsReader};
 
 /// A command that was given a chunk left an item, whose new entry is its partner.
@@ -31,7 +31,7 @@ pub fn a_new_item_is_small()
 /// A number that no event of a class names is in no link that a stripe has named, where the class tells its events.
 pub fn new_numbers_are_unnamed()
     ensures { (site : Site) (rule : Rule) (class : ClassNo) (n : ℕ) (stripe : List StripeEvent) (history : List ClassEvent)
-        → Each (IsTold site rule class history) stripe → is_named n history ≡ false → IsUnnamed (link_to class n) stripe }
+        → Each (HasTrace site rule class history) stripe → is_named n history ≡ false → IsUnnamed (link_to class n) stripe }
 {}
 
 /// A command that reads, or that finds no item, takes no link away.

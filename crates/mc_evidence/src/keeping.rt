@@ -6,7 +6,7 @@ ghost use Rattle.mc_item.specs.declared.{class_event.Unlinked.Unlinked, item.Cla
 ghost use Rattle.mc_item.specs.declared.{stripe_event.StripeEvent.StripeEvent};
 ghost use Rattle.mc_item.specs.declared.class_event.ClassEvent.TheVariants as entries;
 ghost use Rattle.mc_item.specs.declared.stripe_event.StripeEvent.TheVariants as items;
-ghost use Rattle.mc_rule.specs.{Belonging.Belong, Belonging.IsEntryOf, Evidence.AreEvidence, Evidence.IsTold, Segment.Rule};
+ghost use Rattle.mc_rule.specs.{Belonging.Belong, Belonging.IsEntryOf, Evidence.AreEvidence, Evidence.HasTrace, Segment.Rule};
 ghost use Rattle.mc_rule.specs.Pairs.{ClearsMark, IsLinking, IsUnlinking};
 ghost use Rattle.mc_evidence.specs.Made.{IsAlone, IsGivenNone, IsRefusedThere, LetsNoneGo, cooled_as, evicted_as, lost_at, lost_to, reclaimed_as};
 
@@ -54,5 +54,5 @@ pub fn events_of_the_class_alone_keep_evidence()
 /// A loss or a cooling of an item whose link is of another class.
 pub fn events_of_the_stripe_alone_keep_evidence()
     ensures { (site : Site) (rule : Rule) (class : ClassNo) (stripe : List StripeEvent) (history : List ClassEvent) → AreEvidence site rule class stripe history
-        → (e : StripeEvent) → IsTold site rule class history stripe e → AreEvidence site rule class (stripe ++ e ∷ []) history }
+        → (e : StripeEvent) → HasTrace site rule class history stripe e → AreEvidence site rule class (stripe ++ e ∷ []) history }
 {}

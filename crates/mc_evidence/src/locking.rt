@@ -13,7 +13,7 @@ ghost use Rattle.mc_item.specs.declared.stripe_event.StripeEvent.TheVariants as 
 ghost use Rattle.mc_rule.specs.{Belonging.Belong, Belonging.HasItem, Belonging.IsEntryOf, Evidence.AreEvidence, Lawful.IsLawfulByLists, Lawful.SuitsMove};
 ghost use Rattle.mc_rule.specs.{Lists.found, Lists.linked, Lists.lists_of, Lists.moved, Lists.unlinked, Places.Has};
 ghost use Rattle.mc_rule.specs.Pairs.{ClearsMark, IsKeyOf, IsLinking, IsRefusal, IsUnlinking, LetsGo, item_after};
-ghost use Rattle.mc_evidence.specs.Locks.{AreHeld, AreLent, ClassKeeps, KeepBoth, SeesMore, StripeKeeps};
+ghost use Rattle.mc_evidence.specs.Locks.{AreHeld, AreLentTogether, ClassKeeps, KeepBoth, SeesMore, StripeKeeps};
 ghost use Rattle.mc_evidence.specs.{Made.cooled_as, Made.evicted_as, Made.lost_at, Made.lost_to, Made.reclaimed_as, Setting.Setting, Setting.site_in};
 
 /// Without events each lock keeps what it keeps.
@@ -25,13 +25,13 @@ pub fn locks_begin()
 /// A stripe and a class that are lent together are evidence of each other.
 pub fn lent_states_are_evidence()
     ensures { (setting : Setting) (s : ℕ) (class : ClassNo) (stripe : List StripeEvent) (history : List ClassEvent) (seen : ClassNo → List ClassEvent) (seen_of : ℕ → List StripeEvent)
-        → AreLent setting s class stripe history seen seen_of → AreEvidence (site_in setting s) setting.rule class stripe history }
+        → AreLentTogether setting s class stripe history seen seen_of → AreEvidence (site_in setting s) setting.rule class stripe history }
 {}
 
 /// An entry of a class that is lent with its key's stripe is no stranger: the stripe's item has its link and its cost.
 pub fn a_judged_entry_is_no_stranger()
     ensures { (setting : Setting) (s : ℕ) (class : ClassNo) (stripe : List StripeEvent) (history : List ClassEvent) (seen : ClassNo → List ClassEvent) (seen_of : ℕ → List StripeEvent)
-        → AreLent setting s class stripe history seen seen_of
+        → AreLentTogether setting s class stripe history seen seen_of
         → (number : ℕ) (seg : Seg) (entry : Entry) → found number (lists_of history) ≡ Some (seg, entry) → IsKeyOf (site_in setting s) entry.key
         → HasItem (site_in setting s) class stripe number entry }
 {}

@@ -3,7 +3,7 @@ ghost use Rattle.std.specs.Prelude.{List, map, ℕ, ◌++◌, ◌≡◌};
 ghost use mathlib.Core.List.{IsPrefix};
 ghost use Rattle.mc_item.specs.declared.{answer.Site.Site, class_event.ClassEvent.ClassEvent, event.Event.Event, event.Event.TheVariants.Class};
 ghost use Rattle.mc_item.specs.declared.{event.Event.TheVariants.Stripe, item.ClassNo.ClassNo, stripe_event.Did.Did, stripe_event.StripeEvent.StripeEvent};
-ghost use Rattle.mc_rule.specs.{Cited.IsSuited, Evidence.IsBacked, Evidence.IsTold, Places.Each, Segment.Rule};
+ghost use Rattle.mc_rule.specs.{Cited.IsSuited, Evidence.IsBacked, Evidence.HasTrace, Places.Each, Segment.Rule};
 ghost use Rattle.mc_evidence.specs.{Locks.SeesMore, Locks.StripeKeeps, Refusals.WasTried, Setting.IsClass, Setting.Setting, Setting.site_in};
 ghost use Rattle.mc_evidence.specs.Seen.{class_events, classes_seen, stripe_events, stripes_seen};
 
@@ -12,7 +12,7 @@ ghost use Rattle.mc_evidence.specs.Seen.{class_events, classes_seen, stripe_even
 /// made at once.
 pub fn evidence_stays_as_more_is_seen()
     ensures told { (site : Site) (rule : Rule) (class : ClassNo) (seen more : List ClassEvent) (own : List StripeEvent)
-        → Each (IsTold site rule class seen) own → Each (IsTold site rule class (seen ++ more)) own }
+        → Each (HasTrace site rule class seen) own → Each (HasTrace site rule class (seen ++ more)) own }
     ensures backed { (site : Site) (rule : Rule) (class : ClassNo) (seen more : List StripeEvent) (own : List ClassEvent)
         → Each (IsBacked site rule class seen) own → Each (IsBacked site rule class (seen ++ more)) own }
     ensures suited { (site : Site) (class : ClassNo) (seen more : List StripeEvent) (own : List ClassEvent)
@@ -24,7 +24,7 @@ pub fn evidence_stays_as_more_is_seen()
 /// A pass that has seen no less than a stripe's lock has the partners of the stripe's events in its seen lists.
 pub fn a_pass_that_saw_it_has_the_partners()
     ensures { (setting : Setting) (s : ℕ) (own : List StripeEvent) (seen pass : ClassNo → List ClassEvent) → StripeKeeps setting s own seen → SeesMore seen pass
-        → (class : ClassNo) → IsClass setting class → Each (IsTold (site_in setting s) setting.rule class (pass class)) own }
+        → (class : ClassNo) → IsClass setting class → Each (HasTrace (site_in setting s) setting.rule class (pass class)) own }
 {}
 
 /// Where each list that a token has seen is a beginning of another's, so is each stripe's and each class's history in it;

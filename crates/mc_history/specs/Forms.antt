@@ -1,6 +1,6 @@
 -- A history is one of two forms.
 use Rattle.std.specs.Prelude.{true, false, ⊤, map}
-use Rattle.mc_history.specs.{Events.Events, Pieces.events_of, Pieces.room_of, Pieces.IsKept}
+use Rattle.mc_history.specs.{Events.Events, Pieces.events_of, Pieces.room_of, Pieces.ArePiecesKept}
 use Rattle.mc_history.specs.declared.{history.Form.Form, history.Form.TheVariants.Kept, history.Form.TheVariants.LetGo}
 
 -- what contracts see of either form
@@ -10,5 +10,5 @@ history_of event_of (LetGo events) = record { items = map event_of events.items;
 
 -- the pieces are sound, where there are any
 abbrev pub IsHeld : {E S : Type 0} → Form E S → Type 0
-IsHeld (Kept pieces) = IsKept pieces
+IsHeld (Kept pieces) = ArePiecesKept pieces
 IsHeld (LetGo _) = ⊤

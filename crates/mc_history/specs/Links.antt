@@ -1,6 +1,6 @@
 -- The list that stands in proofs alone, link by link.
 use Rattle.std.specs.Prelude.{List, [], ◌∷◌, ◌++◌}
-use Rattle.mc_history.specs.declared.{told.Link.Link, told.Link.TheVariants.First, told.Link.TheVariants.Behind}
+use Rattle.mc_history.specs.declared.{ghost_list.Link.Link, ghost_list.Link.TheVariants.First, ghost_list.Link.TheVariants.Behind}
 
 -- the events of a link, oldest first
 abbrev pub items_of : {E : Type 0} → Link E → List E

@@ -12,8 +12,8 @@ abbrev pub room_of : {E : Type 0} → Pieces E → ℕ
 room_of ps = vec_capacity ps.last - length ps.last.items + 4096 * length ps.ahead.items
 
 -- a full piece has 4,096 events
-abbrev pub IsFull : {E : Type 0} → Vec E Global → Type 0
-IsFull p = length p.items ≡ 4096
+abbrev pub IsFullPiece : {E : Type 0} → Vec E Global → Type 0
+IsFullPiece p = length p.items ≡ 4096
 
 -- a piece ahead has no event, and places for 4,096
 pub record IsAhead {E : Type 0} (p : Vec E Global) : Type 0 where
@@ -22,14 +22,14 @@ pub record IsAhead {E : Type 0} (p : Vec E Global) : Type 0 where
 
 -- pieces are sound: the last has no places or 4,096, those ahead find room behind the full ones, and all places together
 -- can be counted
-pub record IsSound {E : Type 0} (ps : Pieces E) : Type 0 where
-  pub full : All IsFull ps.full.items
+pub record ArePiecesSound {E : Type 0} (ps : Pieces E) : Type 0 where
+  pub full : All IsFullPiece ps.full.items
   pub last : 0 < vec_capacity ps.last → vec_capacity ps.last ≡ 4096
   pub ahead : All IsAhead ps.ahead.items
   pub behind : length ps.full.items + length ps.ahead.items ≤ vec_capacity ps.full
   pub places : 4096 * (length ps.full.items + length ps.ahead.items) + vec_capacity ps.last ≤ 2 ^ 63
 
 -- what a history keeps: its pieces are sound, and the last has a place left where there are pieces ahead
-pub record IsKept {E : Type 0} (ps : Pieces E) : Type 0 where
-  pub sound : IsSound ps
+pub record ArePiecesKept {E : Type 0} (ps : Pieces E) : Type 0 where
+  pub sound : ArePiecesSound ps
   pub place : 0 < length ps.ahead.items → length ps.last.items < vec_capacity ps.last

@@ -2,7 +2,7 @@
 ghost use Rattle.std.specs.Prelude.{◌≡◌, ◌+◌, ◌<◌, ◌≤◌, ◌∷◌, ◌++◌, [], false, length, OnOk, IsOk};
 ghost use Rattle.mc_history.specs.Events.{Events};
 
-use crate::told::Told;
+use crate::ghost_list::GhostList;
 use std::alloc::AllocError;
 use std::marker::Model;
 
@@ -12,7 +12,7 @@ const MOST_EVENTS: usize = 1 << 63;
 /// Events of which the machine keeps the number alone, and up to which number it has promised room.
 #[derive(Drop)]
 pub(crate) struct LetGo<E> {
-    told: Told<E>,
+    events: GhostList<E>,
     len: usize,
     end: usize,
 }
@@ -25,9 +25,9 @@ impl<E> Model for LetGo<E> {
 
     ghost coded = { events_code E.code };
 
-    ghost view = { λ l. record { items = l.told; room = l.end - l.len; kept = false } };
+    ghost view = { λ l. record { items = l.events; room = l.end - l.len; kept = false } };
 
-    ghost invariant = { λ l. (length l.told ≡ l.len) × (l.len ≤ l.end) × (l.end ≤ 2 ^ 63) };
+    ghost invariant = { λ l. (length l.events ≡ l.len) × (l.len ≤ l.end) × (l.end ≤ 2 ^ 63) };
 }
 
 impl<E: Drop> LetGo<E> {
@@ -36,7 +36,7 @@ impl<E: Drop> LetGo<E> {
         ensures { result ≡ record { items = []; room = 0; kept = false } }
     {
         LetGo {
-            told: Told::new(),
+            events: GhostList::new(),
             len: 0,
             end: 0,
         }
@@ -75,7 +75,7 @@ impl<E: Drop> LetGo<E> {
         ensures items { self.new ≡ record self.old { items = self.old.items ++ event.now ∷ []; room = self.new.room } }
         ensures room { self.old.room ≡ self.new.room + 1 }
     {
-        self.told.push(event);
+        self.events.push(event);
         self.len += 1;
     }
 }

@@ -4,6 +4,6 @@
 mod history;
 mod let_go;
 mod pieces;
-mod told;
+mod ghost_list;
 
 pub use history::{History, Shows};

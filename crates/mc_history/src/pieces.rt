@@ -1,7 +1,7 @@
 //! The pieces that a history lies in.
 ghost use Rattle.std.specs.Prelude.{◌≡◌, ◌+◌, ◌*◌, ◌^◌, ◌<◌, ◌≤◌, ◌∷◌, ◌++◌, [], length, vec_capacity, OnOk, IsOk};
 ghost use Rattle.std.specs.{Option.option_copied, List.slice_get};
-ghost use Rattle.mc_history.specs.Pieces.{events_of, room_of, IsSound, IsKept};
+ghost use Rattle.mc_history.specs.Pieces.{events_of, room_of, ArePiecesSound, ArePiecesKept};
 
 use std::alloc::{AllocError, Global};
 use std::mem;
@@ -35,7 +35,7 @@ fn item_at<T>(items: &[T], place: usize) -> Option<&T>
 impl<E: Drop> Pieces<E> {
     // No events, and room for none. It takes no memory.
     pub(crate) fn new(alloc: Global) -> Pieces<E>
-        ensures kept { IsKept result }
+        ensures kept { ArePiecesKept result }
         ensures events { events_of result ≡ [] }
         ensures room { room_of result ≡ 0 }
     {
@@ -49,7 +49,7 @@ impl<E: Drop> Pieces<E> {
     // How many events there are.
     #[inline(always)]
     pub(crate) fn len(&self) -> usize
-        requires kept { IsKept self.now }
+        requires kept { ArePiecesKept self.now }
         ensures value { result ≡ length (events_of self.now) }
         ensures places { result + room_of self.now ≤ 2 ^ 63 }
     {
@@ -58,7 +58,7 @@ impl<E: Drop> Pieces<E> {
 
     // The event at a place.
     pub(crate) fn get(&self, place: usize) -> Option<&E>
-        requires kept { IsKept self.now }
+        requires kept { ArePiecesKept self.now }
         ensures { option_copied result ≡ slice_get (events_of self.now) place }
     {
         match item_at(self.full.as_slice(), place / PIECE_LEN) {
@@ -77,7 +77,7 @@ impl<E: Drop> Pieces<E> {
 
     // How many more events need no memory.
     fn room(&self) -> usize
-        requires kept { IsKept self.now }
+        requires kept { ArePiecesKept self.now }
         ensures { result ≡ room_of self.now }
     {
         self.left() + PIECE_LEN * self.ahead.len()
@@ -86,8 +86,8 @@ impl<E: Drop> Pieces<E> {
     // Makes room for n more events, where the last piece has too little.
     #[inline(always)]
     pub(crate) fn reserve(&mut self, alloc: Global, n: usize) -> Result<(), AllocError>
-        requires kept { IsKept self.old }
-        ensures kept { IsKept self.new }
+        requires kept { ArePiecesKept self.old }
+        ensures kept { ArePiecesKept self.new }
         ensures events { events_of self.new ≡ events_of self.old }
         ensures ok { OnOk result (n ≤ room_of self.new) }
         ensures room { room_of self.old ≤ room_of self.new }
@@ -103,8 +103,8 @@ impl<E: Drop> Pieces<E> {
     #[cold]
     #[inline(never)]
     pub(crate) fn make_room(&mut self, alloc: Global, n: usize) -> Result<(), AllocError>
-        requires kept { IsKept self.old }
-        ensures kept { IsKept self.new }
+        requires kept { ArePiecesKept self.old }
+        ensures kept { ArePiecesKept self.new }
         ensures events { events_of self.new ≡ events_of self.old }
         ensures ok { OnOk result (n ≤ room_of self.new) }
         ensures room { room_of self.old ≤ room_of self.new }
@@ -121,9 +121,9 @@ impl<E: Drop> Pieces<E> {
 
     // Makes a piece ahead, and room for it among the full ones. Where the last has no place left, it becomes the last.
     fn make_piece(&mut self, alloc: Global) -> Result<(), AllocError>
-        requires kept { IsKept self.old }
+        requires kept { ArePiecesKept self.old }
         requires few { length (events_of self.old) + room_of self.old < 2 ^ 63 }
-        ensures kept { IsKept self.new }
+        ensures kept { ArePiecesKept self.new }
         ensures events { events_of self.new ≡ events_of self.old }
         ensures ok { OnOk result (room_of self.new ≡ room_of self.old + 4096) }
         ensures room { room_of self.old ≤ room_of self.new }
@@ -140,9 +140,9 @@ impl<E: Drop> Pieces<E> {
     // before the next one, which so goes straight to its place.
     #[inline(always)]
     pub(crate) fn push_reserved(&mut self, event: E)
-        requires kept { IsKept self.old }
+        requires kept { ArePiecesKept self.old }
         requires room { 0 < room_of self.old }
-        ensures kept { IsKept self.new }
+        ensures kept { ArePiecesKept self.new }
         ensures events { events_of self.new ≡ events_of self.old ++ event ∷ [] }
         ensures room { room_of self.old ≡ room_of self.new + 1 }
     {
@@ -153,8 +153,8 @@ impl<E: Drop> Pieces<E> {
     // Turns over where the last piece has no place left.
     #[inline(always)]
     fn turn_if_full(&mut self)
-        requires sound { IsSound self.old }
-        ensures kept { IsKept self.new }
+        requires sound { ArePiecesSound self.old }
+        ensures kept { ArePiecesKept self.new }
         ensures events { events_of self.new ≡ events_of self.old }
         ensures room { room_of self.new ≡ room_of self.old }
     {
@@ -167,9 +167,9 @@ impl<E: Drop> Pieces<E> {
     #[cold]
     #[inline(never)]
     fn turn_over(&mut self)
-        requires sound { IsSound self.old }
+        requires sound { ArePiecesSound self.old }
         requires full { length self.old.last.items ≡ vec_capacity self.old.last }
-        ensures kept { IsKept self.new }
+        ensures kept { ArePiecesKept self.new }
         ensures events { events_of self.new ≡ events_of self.old }
         ensures room { room_of self.new ≡ room_of self.old }
     {

@@ -9,17 +9,17 @@ abbrev pub cost_of : List ℕ → List ℕ → ℕ
 cost_of key value = 64 + length key + length value
 
 -- the class of a size's place among the sizes: they are numbered from 1
-abbrev pub class_at : ℕ → ClassNo
-class_at place = record { 0 = place + 1 }
+abbrev pub class_of_place : ℕ → ClassNo
+class_of_place place = record { 0 = place + 1 }
 
 -- a class of these sizes: from 1 to the number of sizes
-pub record IsClass (sizes : List ℕ) (class : ClassNo) : Type 0 where
+pub record IsClassAmong (sizes : List ℕ) (class : ClassNo) : Type 0 where
   pub first : 1 ≤ class.0
   pub last : class.0 ≤ length sizes
 
 -- a need whose chunk, where it is one, is of a class of these sizes
 abbrev pub IsNeedOf : List ℕ → Need → Type 0
-IsNeedOf sizes (Fresh class) = IsClass sizes class
+IsNeedOf sizes (Fresh class) = IsClassAmong sizes class
 IsNeedOf sizes Nothing = Unit {0}
 IsNeedOf sizes Same = Unit {0}
 IsNeedOf sizes TooLarge = Unit {0}
@@ -30,17 +30,17 @@ size_of sizes class = get_or sizes (class.0 - 1) 0
 
 -- the least class whose size is at least a cost: the size of each class below it is smaller
 pub record IsLeastClass (sizes : List ℕ) (cost : ℕ) (class : ClassNo) : Type 0 where
-  pub is_class : IsClass sizes class
+  pub is_class : IsClassAmong sizes class
   pub holds : cost ≤ size_of sizes class
-  pub least : (other : ClassNo) → IsClass sizes other → cost ≤ size_of sizes other → class.0 ≤ other.0
+  pub least : (other : ClassNo) → IsClassAmong sizes other → cost ≤ size_of sizes other → class.0 ≤ other.0
 
 -- no class has a size that is at least a cost
 abbrev pub IsTooLarge : List ℕ → ℕ → Type 0
-IsTooLarge sizes cost = (class : ClassNo) → IsClass sizes class → size_of sizes class < cost
+IsTooLarge sizes cost = (class : ClassNo) → IsClassAmong sizes class → size_of sizes class < cost
 
 -- the class of the first size that is at least the cost
 abbrev pub class_of : List ℕ → ℕ → Option ClassNo
-class_of sizes cost = option_map class_at (position (λ size. nat_le cost size) sizes)
+class_of sizes cost = option_map class_of_place (position (λ size. nat_le cost size) sizes)
 
 -- the hash FNV-1a with 32 bits: exclusive or with each byte, then times the prime
 abbrev pub fnv1a : List ℕ → ℕ

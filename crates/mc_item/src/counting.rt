@@ -4,7 +4,7 @@ ghost use Rattle.std.specs.Option.{option_copied, option_map};
 ghost use Rattle.mc_item.specs.Answer as answers;
 ghost use Rattle.mc_item.specs.Cache as caches;
 ghost use Rattle.mc_item.specs.Measure as measure;
-ghost use Rattle.mc_item.specs.Measure.{IsClass, IsNeedOf};
+ghost use Rattle.mc_item.specs.Measure.{IsClassAmong, IsNeedOf};
 ghost use Rattle.mc_item.specs.declared.item.Link.{Link};
 ghost use Rattle.mc_item.specs.declared.reply.Reply.TheVariants as replies;
 ghost use Rattle.mc_item.specs.declared.answer.Change.TheVariants as changes;
@@ -115,7 +115,7 @@ impl Site {
     fn class_of_digits(&self, key: &Key, digits: usize) -> Option<ClassNo>
         requires { digits ≤ 20 }
         ensures value { result ≡ measure.class_of self.now.sizes (64 + length key.now + digits) }
-        ensures bound { IfSome result (IsClass self.now.sizes) }
+        ensures bound { IfSome result (IsClassAmong self.now.sizes) }
     {
         self.class_of(cost(key.bytes().len() as u64, digits as u64))
     }

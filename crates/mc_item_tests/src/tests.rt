@@ -49,15 +49,15 @@ pub(super) enum Asked {
 }
 
 /// The reply and the change of an answer.
-pub(super) fn told(rt: &impl Abort, alloc: Global, answer: &Answer) -> String {
+pub(super) fn text_of(rt: &impl Abort, alloc: Global, answer: &Answer) -> String {
     let reply = &answer.reply;
     let change = &answer.change;
     format!(in alloc; "{reply:?}; {change:?}").expect(rt, "memory")
 }
 
 /// Ends the test where a row tells something else.
-pub(super) fn same(rt: &impl Abort, told: &str, wanted: &str, place: usize) {
-    assert_eq!(rt; told, wanted, "at row {place}");
+pub(super) fn same(rt: &impl Abort, got: &str, wanted: &str, place: usize) {
+    assert_eq!(rt; got, wanted, "at row {place}");
 }
 
 /// Ends the test where the bytes of a row are others.

@@ -6,7 +6,7 @@ use Rattle.std.proofs.lemmas.Bool.Decides.{nat_tests}
 use Rattle.mc_item.specs.Answer.{store_row, get_row, version_of, cas_of}
 use Rattle.mc_item.specs.Cache.{Cache, empty_cache, changed, after_change, after_command, answer_of, if_alive, visible_items}
 use Rattle.mc_item.specs.{Command.key_of, Item.has_come, Item.expiry_of, Measure.class_of, Measure.cost_of}
-use Rattle.mc_laws.specs.Events.{key_named, AreOfOthers}
+use Rattle.mc_laws.specs.Events.{key_named, AreOfOtherKeys}
 use Rattle.mc_item.specs.Stripe.{cache_after, cache_from, cache_of, IsLegalFrom, IsLegal, IsDead, cooled_change}
 use Rattle.mc_item.specs.declared.{answer.Change.Change, answer.Change.TheVariants.Goes, answer.Site.Site, command.Command.Command}
 use Rattle.mc_item.specs.declared.{command.Command.TheVariants.Get, command.Command.TheVariants.Store, command.Verb.TheVariants.Set, item.ClassNo.ClassNo}
@@ -72,7 +72,7 @@ after_elsewhere site cache (events.Cooled cooled) q apart =
     change_elsewhere cache cooled.key q (cooled_change (cache.items cooled.key)) apart
 
 -- so do events of other keys
-pub stays_meanwhile : (site : Site) (cache : Cache) (key : List ℕ) (es : List StripeEvent) → AreOfOthers key es → (cache_from site cache es).items key ≡ cache.items key
+pub stays_meanwhile : (site : Site) (cache : Cache) (key : List ℕ) (es : List StripeEvent) → AreOfOtherKeys key es → (cache_from site cache es).items key ≡ cache.items key
 stays_meanwhile site cache key [] others = refl
 stays_meanwhile site cache key (e ∷ es) others =
     stays_meanwhile site (cache_after site cache e) key es others.1 ∙ after_elsewhere site cache e key others.0
@@ -102,7 +102,7 @@ set_leaves (Some class) found version rooms.Keep stored = absurd cc
 
 -- a get that finds this item answers it
 pub read_back : (site : Site) (before between : List StripeEvent) (set got : Did) (key : List ℕ) (flags : ℕ) (exptime : ℤ) (value : List ℕ)
-    → set.command ≡ Store Set key flags exptime value → set.reply ≡ replies.Stored → AreOfOthers key between → got.command ≡ Get key
+    → set.command ≡ Store Set key flags exptime value → set.reply ≡ replies.Stored → AreOfOtherKeys key between → got.command ≡ Get key
     → IsLegal site (before ++ events.Did set ∷ (between ++ events.Did got ∷ []))
     → got.reply ≡ replies.Value flags value (cas_of site (cache_of site before).versions)
 read_back site before between set got key flags exptime value is_set stored others is_get legal =

@@ -1,6 +1,6 @@
 pub mod EventLemmas
 pub mod MarkLemmas
 pub mod NumeralLemmas
-pub mod SourceLemmas
-pub mod StepLemmas
+pub mod ValueSourceLemmas
+pub mod LegalStepLemmas
 pub mod VersionLemmas

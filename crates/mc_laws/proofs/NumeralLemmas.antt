@@ -20,7 +20,7 @@ use Rattle.mc_item.specs.declared.reply.Reply.TheVariants as replies
 use Rattle.mc_item.specs.declared.reply.Room.TheVariants as rooms
 use Rattle.mc_item.specs.declared.stripe_event.StripeEvent.TheVariants as events
 use Rattle.mc_laws.proofs.EventLemmas.{change_here, stays_meanwhile, legal_on}
-use Rattle.mc_laws.specs.Events.{AreOfOthers}
+use Rattle.mc_laws.specs.Events.{AreOfOtherKeys}
 
 -- ---- the digits of a number
 
@@ -202,7 +202,7 @@ decr_back site n key item room number delta spaces small value =
 pub down_again : (site : Site) (before between : List StripeEvent) (up down : Did) (key : List ℕ) (number delta told : ℕ)
     → IsSomeAnd ((cache_of site before).items key) (λ item. numeral_of item.value ≡ Some number)
     → number + delta < 2 ^ 64 → up.command ≡ Incr key delta → up.reply ≡ replies.Number told
-    → AreOfOthers key between → down.command ≡ Decr key delta
+    → AreOfOtherKeys key between → down.command ≡ Decr key delta
     → IsLegal site (before ++ events.Did up ∷ (between ++ events.Did down ∷ []))
     → (told ≡ number + delta) × (down.reply ≡ replies.Number number)
 down_again site before between up down key number delta told was small is_incr answered others is_decr legal =

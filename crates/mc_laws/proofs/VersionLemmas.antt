@@ -17,7 +17,7 @@ use Rattle.mc_item.specs.declared.reply.Reply.TheVariants as replies
 use Rattle.mc_item.specs.declared.reply.Room.TheVariants as rooms
 use Rattle.mc_item.specs.declared.stripe_event.StripeEvent.TheVariants as events
 use Rattle.mc_laws.proofs.EventLemmas.{legal_on}
-use Rattle.mc_laws.specs.{Events.key_named, Versions.Holds, Versions.HoldsThroughout, Versions.number_given, Versions.number_made}
+use Rattle.mc_laws.specs.{Events.key_named, Versions.HoldsItem, Versions.HoldsThroughout, Versions.number_given, Versions.number_made}
 
 -- ---- the numbers of a stripe's versions
 
@@ -192,7 +192,7 @@ numbers_rise site before between first second low high some is_low is_high =
 
 -- what an item under a change has, it had before, or its cas number is the next one
 change_keeps : (site : Site) (n : ℕ) (found : Option Item) (change : Change) (flags : ℕ) (value : List ℕ) (cas : ℕ) → GivesNext site n change
-    → Holds (changed found change) flags value cas → Holds found flags value cas ⊎ ((cas ≡ cas_of site n) × (versions_of change ≡ 1))
+    → HoldsItem (changed found change) flags value cas → HoldsItem found flags value cas ⊎ ((cas ≡ cas_of site n) × (versions_of change ≡ 1))
 change_keeps site n found Stays flags value cas next held = inl held
 change_keeps site n found Goes flags value cas next held = absurd held
 change_keeps site n None (Hit marks) flags value cas next held = absurd held
@@ -205,26 +205,26 @@ change_keeps site n found (Renewed item) flags value cas next held = inr (cc, re
 
 -- the same of any key, where one key's item changes: a new number is of that key
 key_keeps : (site : Site) (cache : Cache) (key : List ℕ) (change : Change) (q : List ℕ) (flags : ℕ) (value : List ℕ) (cas : ℕ)
-    → GivesNext site cache.versions change → Holds ((after_change cache key change).items q) flags value cas
-    → Holds (cache.items q) flags value cas
+    → GivesNext site cache.versions change → HoldsItem ((after_change cache key change).items q) flags value cas
+    → HoldsItem (cache.items q) flags value cas
     ⊎ ((cas ≡ cas_of site cache.versions) × ((after_change cache key change).versions ≡ cache.versions + 1) × (key ≡ q))
 key_keeps site cache key change q flags value cas next = by (pointwise nat_eq key q) refl
   where
-    by : (b : Bool) → pointwise nat_eq key q ≡ b → Holds (if b then changed (cache.items key) change else cache.items q) flags value cas
-        → Holds (cache.items q) flags value cas
+    by : (b : Bool) → pointwise nat_eq key q ≡ b → HoldsItem (if b then changed (cache.items key) change else cache.items q) flags value cas
+        → HoldsItem (cache.items q) flags value cas
         ⊎ ((cas ≡ cas_of site cache.versions) × ((after_change cache key change).versions ≡ cache.versions + 1) × (key ≡ q))
     by true is held =
         let same : key ≡ q = (bytes_decides key q).0 is in
         elim (change_keeps site cache.versions (cache.items key) change flags value cas next held) [
-          | inl old ↦ inl (subst (λ (k : List ℕ). Holds (cache.items k) flags value cas) same old)
+          | inl old ↦ inl (subst (λ (k : List ℕ). HoldsItem (cache.items k) flags value cas) same old)
           | inr new ↦ inr (new.0, ap (λ more. cache.versions + more) new.1, same)
         ]
     by false is held = inl held
 
 -- the same of an event
 event_keeps : (site : Site) (cache : Cache) (e : StripeEvent) (q : List ℕ) (flags : ℕ) (value : List ℕ) (cas : ℕ)
-    → Holds ((cache_after site cache e).items q) flags value cas
-    → Holds (cache.items q) flags value cas
+    → HoldsItem ((cache_after site cache e).items q) flags value cas
+    → HoldsItem (cache.items q) flags value cas
     ⊎ ((cas ≡ cas_of site cache.versions) × ((cache_after site cache e).versions ≡ cache.versions + 1) × (key_named e ≡ q))
 event_keeps site cache (events.Did did) q flags value cas =
     key_keeps site cache (key_of did.command) (answer_of site cache did.command did.moment did.room).change q flags value cas
@@ -235,7 +235,7 @@ event_keeps site cache (events.Cooled cooled) q flags value cas =
 
 -- an item whose number isn't new was there before the event
 held_before : (site : Site) (cache : Cache) (e : StripeEvent) (key : List ℕ) (flags : ℕ) (value : List ℕ) (cas : ℕ)
-    → cas < cas_of site cache.versions → Holds ((cache_after site cache e).items key) flags value cas → Holds (cache.items key) flags value cas
+    → cas < cas_of site cache.versions → HoldsItem ((cache_after site cache e).items key) flags value cas → HoldsItem (cache.items key) flags value cas
 held_before site cache e key flags value cas below held = elim (event_keeps site cache e key flags value cas held) [
   | inl old ↦ old
   | inr new ↦ absurd (omega (arith, new.0))
@@ -243,13 +243,13 @@ held_before site cache e key flags value cas below held = elim (event_keeps site
 
 -- what holds throughout holds at the start
 held_first : (site : Site) (cache : Cache) (es : List StripeEvent) (key : List ℕ) (flags : ℕ) (value : List ℕ) (cas : ℕ)
-    → HoldsThroughout site cache es key flags value cas → Holds (cache.items key) flags value cas
+    → HoldsThroughout site cache es key flags value cas → HoldsItem (cache.items key) flags value cas
 held_first site cache [] key flags value cas held = held
 held_first site cache (e ∷ es) key flags value cas held = held.0
 
 -- an item whose number isn't new was there throughout
 held_throughout : (site : Site) (cache : Cache) (es : List StripeEvent) (key : List ℕ) (flags : ℕ) (value : List ℕ) (cas : ℕ)
-    → cas < cas_of site cache.versions → Holds ((cache_from site cache es).items key) flags value cas → HoldsThroughout site cache es key flags value cas
+    → cas < cas_of site cache.versions → HoldsItem ((cache_from site cache es).items key) flags value cas → HoldsThroughout site cache es key flags value cas
 held_throughout site cache [] key flags value cas below held = held
 held_throughout site cache (e ∷ es) key flags value cas below held =
     let next = cache_after site cache e in
@@ -261,15 +261,15 @@ held_throughout site cache (e ∷ es) key flags value cas below held =
 
 -- the items of a cache have numbers of versions so far, and no two of them the same
 record IsNumbered (site : Site) (cache : Cache) : Type 0 where
-  below : (key : List ℕ) (flags : ℕ) (value : List ℕ) (cas : ℕ) → Holds (cache.items key) flags value cas → cas < cas_of site cache.versions
+  below : (key : List ℕ) (flags : ℕ) (value : List ℕ) (cas : ℕ) → HoldsItem (cache.items key) flags value cas → cas < cas_of site cache.versions
   apart : (key other : List ℕ) (flags other_flags : ℕ) (value other_value : List ℕ) (cas : ℕ)
-      → Holds (cache.items key) flags value cas → Holds (cache.items other) other_flags other_value cas → key ≡ other
+      → HoldsItem (cache.items key) flags value cas → HoldsItem (cache.items other) other_flags other_value cas → key ≡ other
 
 -- an event keeps it so
 numbered_after : (site : Site) (cache : Cache) (e : StripeEvent) → 0 < site.stripes → IsNumbered site cache → IsNumbered site (cache_after site cache e)
 numbered_after site cache e some numbered = record { below = low; apart = unlike }
   where
-    low : (key : List ℕ) (flags : ℕ) (value : List ℕ) (cas : ℕ) → Holds ((cache_after site cache e).items key) flags value cas
+    low : (key : List ℕ) (flags : ℕ) (value : List ℕ) (cas : ℕ) → HoldsItem ((cache_after site cache e).items key) flags value cas
         → cas < cas_of site (cache_after site cache e).versions
     low key flags value cas held = elim (event_keeps site cache e key flags value cas held) [
       | inl old ↦ omega (arith, numbered.below key flags value cas old, cas_grows site cache.versions (cache_after site cache e).versions (versions_grow site cache e))
@@ -277,7 +277,7 @@ numbered_after site cache e some numbered = record { below = low; apart = unlike
     ]
 
     unlike : (key other : List ℕ) (flags other_flags : ℕ) (value other_value : List ℕ) (cas : ℕ)
-        → Holds ((cache_after site cache e).items key) flags value cas → Holds ((cache_after site cache e).items other) other_flags other_value cas → key ≡ other
+        → HoldsItem ((cache_after site cache e).items key) flags value cas → HoldsItem ((cache_after site cache e).items other) other_flags other_value cas → key ≡ other
     unlike key other flags other_flags value other_value cas held other_held = elim (event_keeps site cache e key flags value cas held) [
       | inl old ↦ elim (event_keeps site cache e other other_flags other_value cas other_held) [
         | inl other_old ↦ numbered.apart key other flags other_flags value other_value cas old other_old
@@ -306,13 +306,13 @@ numbered_of site es some = numbered_from site empty_cache es some
 
 -- a get that answers a value found it
 value_found : (found : Option Item) (room : Room) (flags : ℕ) (value : List ℕ) (cas : ℕ)
-    → ((get_row found).answer room).reply ≡ replies.Value flags value cas → Holds found flags value cas
+    → ((get_row found).answer room).reply ≡ replies.Value flags value cas → HoldsItem found flags value cas
 value_found None room flags value cas is = absurd cc
 value_found (Some item) room flags value cas is = (cc, cc, cc)
 
 -- so did a get of a history
 read_found : (site : Site) (cache : Cache) (before : List StripeEvent) (read : Did) (key : List ℕ) (flags : ℕ) (value : List ℕ) (cas : ℕ)
-    → MayDo site cache before read → read.command ≡ Get key → read.reply ≡ replies.Value flags value cas → Holds (cache.items key) flags value cas
+    → MayDo site cache before read → read.command ≡ Get key → read.reply ≡ replies.Value flags value cas → HoldsItem (cache.items key) flags value cas
 read_found site cache before read key flags value cas may is_get is_value =
     value_found (cache.items key) read.room flags value cas
     (ap (λ (c : Command). (answer_of site cache c read.moment read.room).reply) (sym is_get) ∙ sym may.reply ∙ is_value)
@@ -342,13 +342,13 @@ swap_found site cache before swap key value flags unique exptime may is_cas is_s
     (ap (λ (c : Command). (answer_of site cache c swap.moment swap.room).reply) (sym is_cas) ∙ sym may.reply ∙ is_stored)
 
 -- an item with a number has some flags and some value
-held_of_number : (found : Option Item) (cas : ℕ) → IsSomeAnd found (λ item. item.cas ≡ cas) → (flags : ℕ) × (value : List ℕ) × Holds found flags value cas
+held_of_number : (found : Option Item) (cas : ℕ) → IsSomeAnd found (λ item. item.cas ≡ cas) → (flags : ℕ) × (value : List ℕ) × HoldsItem found flags value cas
 held_of_number None cas held = absurd held
 held_of_number (Some item) cas held = (item.flags, item.value, (refl, refl, held))
 
 -- a key's item has one value and one number of flags
-held_once : (found : Option Item) (flags other_flags : ℕ) (value other_value : List ℕ) (cas : ℕ) → Holds found flags value cas
-    → Holds found other_flags other_value cas → (other_flags ≡ flags) × (other_value ≡ value)
+held_once : (found : Option Item) (flags other_flags : ℕ) (value other_value : List ℕ) (cas : ℕ) → HoldsItem found flags value cas
+    → HoldsItem found other_flags other_value cas → (other_flags ≡ flags) × (other_value ≡ value)
 held_once None flags other_flags value other_value cas held other_held = absurd held
 held_once (Some item) flags other_flags value other_value cas held other_held = (cc, cc)
 
@@ -361,8 +361,8 @@ after_history site before between e key flags value cas held =
 
 -- of two items with one number, held before an event and at the end, the later one is the earlier one, which was held throughout
 held_again : (site : Site) (before between : List StripeEvent) (e : StripeEvent) (key other value other_value : List ℕ) (flags other_flags cas : ℕ)
-    → 0 < site.stripes → Holds ((cache_of site before).items key) flags value cas
-    → Holds ((cache_from site (cache_after site (cache_of site before) e) between).items other) other_flags other_value cas
+    → 0 < site.stripes → HoldsItem ((cache_of site before).items key) flags value cas
+    → HoldsItem ((cache_from site (cache_after site (cache_of site before) e) between).items other) other_flags other_value cas
     → (other ≡ key) × (other_flags ≡ flags) × (other_value ≡ value) × HoldsThroughout site (cache_of site (before ++ e ∷ [])) between key flags value cas
 held_again site before between e key other value other_value flags other_flags cas some held late_held =
     let early = cache_of site before in
@@ -371,7 +371,7 @@ held_again site before between e key other value other_value flags other_flags c
     held_throughout site early (e ∷ between) other other_flags other_value cas (numbered.below key flags value cas held) late_held in
     let same : other ≡ key = numbered.apart other key other_flags flags other_value value cas through.0 held in
     let alike = held_once (early.items key) flags other_flags value other_value cas held
-    (subst (λ (k : List ℕ). Holds (early.items k) other_flags other_value cas) same through.0) in
+    (subst (λ (k : List ℕ). HoldsItem (early.items k) other_flags other_value cas) same through.0) in
     (same, alike.0, alike.1, after_history site before between e key flags value cas (rw (same, alike.0, alike.1) at through.1))
 
 -- two gets that answer one number answered one version

@@ -11,9 +11,9 @@ key_named (events.Lost lost) = lost.key
 key_named (events.Cooled cooled) = cooled.key
 
 -- each of these events names another key
-abbrev pub AreOfOthers : List ℕ → List StripeEvent → Type 0
-AreOfOthers key [] = Unit {0}
-AreOfOthers key (e ∷ es) = (key_named e ≢ key) × AreOfOthers key es
+abbrev pub AreOfOtherKeys : List ℕ → List StripeEvent → Type 0
+AreOfOtherKeys key [] = Unit {0}
+AreOfOtherKeys key (e ∷ es) = (key_named e ≢ key) × AreOfOtherKeys key es
 
 -- no command among these events names the key; its item may be lost or cooled
 abbrev pub NoneAsks : List ℕ → List StripeEvent → Type 0

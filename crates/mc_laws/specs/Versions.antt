@@ -24,14 +24,14 @@ number_made site cache (events.Lost lost) = None
 number_made site cache (events.Cooled cooled) = None
 
 -- an item is there, with these flags, this value and this cas number
-abbrev pub Holds : Option Item → ℕ → List ℕ → ℕ → Type 0
-Holds found flags value cas = IsSomeAnd found (λ item. (item.flags ≡ flags) × (item.value ≡ value) × (item.cas ≡ cas))
+abbrev pub HoldsItem : Option Item → ℕ → List ℕ → ℕ → Type 0
+HoldsItem found flags value cas = IsSomeAnd found (λ item. (item.flags ≡ flags) × (item.value ≡ value) × (item.cas ≡ cas))
 
 -- a key holds one version from a cache on, before and after each of these events
 abbrev pub HoldsThroughout : Site → Cache → List StripeEvent → List ℕ → ℕ → List ℕ → ℕ → Type 0
-HoldsThroughout site cache [] key flags value cas = Holds (cache.items key) flags value cas
+HoldsThroughout site cache [] key flags value cas = HoldsItem (cache.items key) flags value cas
 HoldsThroughout site cache (e ∷ es) key flags value cas =
-    Holds (cache.items key) flags value cas × HoldsThroughout site (cache_after site cache e) es key flags value cas
+    HoldsItem (cache.items key) flags value cas × HoldsThroughout site (cache_after site cache e) es key flags value cas
 
 -- incr or decr, answered a number, wrote its digits, perhaps with spaces behind them, and kept the flags of the old item
 abbrev pub WroteNumber : Option Item → Reply → ℕ → List ℕ → Type 0

@@ -5,7 +5,7 @@ ghost use Rattle.mc_item.specs.declared.{answer.Site.Site, stripe_event.Did.Did,
 ghost use Rattle.mc_item.specs.declared.command.Command.TheVariants as commands;
 ghost use Rattle.mc_item.specs.declared.reply.Reply.TheVariants as replies;
 ghost use Rattle.mc_item.specs.declared.stripe_event.StripeEvent.TheVariants as events;
-ghost use Rattle.mc_laws.specs.Events.{AreOfOthers};
+ghost use Rattle.mc_laws.specs.Events.{AreOfOtherKeys};
 
 /// An incr of a number, answered a number and not passing 2^64, answers the sum; and after events of other keys
 /// alone a decr by the same delta answers the number that was there before.
@@ -14,7 +14,7 @@ pub fn incr_then_decr_gives_the_number_back()
         → IsSomeAnd ((cache_of site before).items key) (λ item. numeral_of item.value ≡ Some number)
         → number + delta < 2 ^ 64
         → up.command ≡ commands.Incr key delta → up.reply ≡ replies.Number told
-        → AreOfOthers key between → down.command ≡ commands.Decr key delta
+        → AreOfOtherKeys key between → down.command ≡ commands.Decr key delta
         → IsLegal site (before ++ events.Did up ∷ (between ++ events.Did down ∷ []))
         → (told ≡ number + delta) × (down.reply ≡ replies.Number number) }
 {}

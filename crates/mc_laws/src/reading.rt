@@ -7,7 +7,7 @@ ghost use Rattle.mc_item.specs.declared.command.Command.TheVariants as commands;
 ghost use Rattle.mc_item.specs.declared.command.Verb.TheVariants as verbs;
 ghost use Rattle.mc_item.specs.declared.reply.Reply.TheVariants as replies;
 ghost use Rattle.mc_item.specs.declared.stripe_event.StripeEvent.TheVariants as events;
-ghost use Rattle.mc_laws.specs.{Events.AreOfOthers, Versions.HoldsThroughout, Versions.Wrote};
+ghost use Rattle.mc_laws.specs.{Events.AreOfOtherKeys, Versions.HoldsThroughout, Versions.Wrote};
 
 /// A command on one key leaves every other key's item as it was.
 pub fn other_keys_stay()
@@ -20,7 +20,7 @@ pub fn other_keys_stay()
 pub fn set_is_read_back()
     ensures { (site : Site) (before between : List StripeEvent) (set got : Did) (key value : List ℕ) (flags : ℕ) (exptime : ℤ)
         → set.command ≡ commands.Store verbs.Set key flags exptime value → set.reply ≡ replies.Stored
-        → AreOfOthers key between → got.command ≡ commands.Get key
+        → AreOfOtherKeys key between → got.command ≡ commands.Get key
         → IsLegal site (before ++ events.Did set ∷ (between ++ events.Did got ∷ []))
         → got.reply ≡ replies.Value flags value (cas_of site (cache_of site before).versions) }
 {}

@@ -14,6 +14,6 @@ use std::process::Abort;
 const WHO: Who = Who { caller: 0, turn: 0 };
 
 // Ends the test where the row at a place tells something else.
-fn same<R: Abort>(rt: &R, told: &str, wanted: &str, place: usize) {
-    assert_eq!(rt; told, wanted, "at row {place}");
+fn same<R: Abort>(rt: &R, got: &str, wanted: &str, place: usize) {
+    assert_eq!(rt; got, wanted, "at row {place}");
 }

@@ -1,5 +1,5 @@
 pub mod PlanLemmas
 pub mod WordLemmas
 pub mod OptionLemmas
-pub mod PassLemmas
+pub mod OptionValueLemmas
 pub mod ReadingLemmas

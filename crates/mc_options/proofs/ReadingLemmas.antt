@@ -16,7 +16,7 @@ use Rattle.mc_options.specs.declared.{plans.Options.Options, plans.PlanFault.Pla
 use Rattle.mc_options.specs.declared.plans.PlanFault.TheVariants as plan_faults
 use Rattle.mc_options.specs.declared.words.WordsFault.TheVariants as words_faults
 use Rattle.mc_options.proofs.OptionLemmas.{chunks_option, events_option, is_free, rows_are, temp_option, temp_ttl_option}
-use Rattle.mc_options.proofs.PassLemmas.{option_passes, stripes_pass}
+use Rattle.mc_options.proofs.OptionValueLemmas.{option_passes, stripes_pass}
 
 -- std's numerals are read as these digits are
 reads_digits : IsNumeralModel (λ (digits : List ℕ). list_all is_digit digits ≡ true) (number_from 0)

@@ -6,7 +6,7 @@ use Rattle.mc_proto.specs.{Lines.Lacks, Grammar.Spells}
 use Rattle.mc_proto.specs.Scripts.{AreScripts, AsksFirst, IsLast, IsWhole, LineAsks, StandsFirst}
 use Rattle.mc_proto.specs.declared.{request.Limits.Limits, request.Request.TheVariants.Next, splitting.First.First}
 use Rattle.mc_proto.specs.declared.splitting.First.TheVariants as firsts
-use Rattle.mc_proto.proofs.{FirstLemmas.none_alone, SplitLemmas.whole_on}
+use Rattle.mc_proto.proofs.{FirstLineLemmas.none_alone, ScriptCutLemmas.whole_on}
 
 -- no line ends in what comes
 pub none_ahead : (limits : Limits) (coming front : List ℕ) (o : Option First) (more : List ℕ) → coming ≡ front ++ more → (Lacks 10 front → length front ≤ 65536 → more ≡ []) → LineAsks limits front o → o ≡ None → AsksFirst limits coming firsts.Last

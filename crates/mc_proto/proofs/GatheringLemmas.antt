@@ -2,7 +2,7 @@
 use Rattle.std.proofs.Common.{zero, suc, ◌≡◌, ◌∙◌, ◌≤◌, ◌<◌, ◌+◌, ◌-◌, ◌++◌, ◌∷◌, [], ℕ, List, length, take, drop, get_or, ap, sym, refl, arith, append_assoc, append-nil, take-append-drop}
 use Rattle.std.proofs.Math.Seq.{take-append_seam, take-append-add}
 use Rattle.std.proofs.lemmas.{List.take_more, Grind.flat_map-append}
-use Rattle.mc_proto.specs.{Gathered.bytes_of, Gathered.part_bytes, Text.IsBeginning}
+use Rattle.mc_proto.specs.{Gathered.bytes_of_parts, Gathered.part_bytes, Text.IsBeginning}
 use Rattle.mc_proto.specs.declared.{gathering.TextPart.TextPart, gathering.TextPart.TheVariants.Shared}
 
 -- of the first so many bytes, the first fewer
@@ -19,17 +19,17 @@ take_short (suc n) (b ∷ bs) = omega (arith, take_short n bs)
 
 -- a text that ends within a shared value
 pub cut_shared : (parts new : List TextPart) (last value all : List ℕ) (before count kept : ℕ) → new ≡ parts ++ Shared value (count - before) ∷ [] → last ≡ []
-    → length (bytes_of parts) ≡ before → before ≤ count → count < before + length (take kept value)
-    → take count (bytes_of parts ++ take kept value) ≡ take count all → bytes_of new ++ last ≡ take count all
+    → length (bytes_of_parts parts) ≡ before → before ≤ count → count < before + length (take kept value)
+    → take count (bytes_of_parts parts ++ take kept value) ≡ take count all → bytes_of_parts new ++ last ≡ take count all
 cut_shared parts new last value all before count kept is none many le within front =
-    ap (λ (ps : List TextPart). bytes_of ps ++ last) is
-    ∙ ap (λ (l : List ℕ). bytes_of (parts ++ Shared value (count - before) ∷ []) ++ l) none
-    ∙ append-nil (bytes_of (parts ++ Shared value (count - before) ∷ []))
+    ap (λ (ps : List TextPart). bytes_of_parts ps ++ last) is
+    ∙ ap (λ (l : List ℕ). bytes_of_parts (parts ++ Shared value (count - before) ∷ []) ++ l) none
+    ∙ append-nil (bytes_of_parts (parts ++ Shared value (count - before) ∷ []))
     ∙ flat_map-append part_bytes parts (Shared value (count - before) ∷ [])
-    ∙ ap (λ (t : List ℕ). bytes_of parts ++ t) (append-nil (take (count - before) value))
-    ∙ ap (λ (t : List ℕ). bytes_of parts ++ t) (sym (take_fewer (count - before) kept value (omega (arith, within, take_short kept value))))
-    ∙ sym (take-append-add (bytes_of parts) (take kept value) (count - before))
-    ∙ ap (λ (n : ℕ). take n (bytes_of parts ++ take kept value)) (omega (arith, many, le))
+    ∙ ap (λ (t : List ℕ). bytes_of_parts parts ++ t) (append-nil (take (count - before) value))
+    ∙ ap (λ (t : List ℕ). bytes_of_parts parts ++ t) (sym (take_fewer (count - before) kept value (omega (arith, within, take_short kept value))))
+    ∙ sym (take-append-add (bytes_of_parts parts) (take kept value) (count - before))
+    ∙ ap (λ (n : ℕ). take n (bytes_of_parts parts ++ take kept value)) (omega (arith, many, le))
     ∙ front
 
 -- a text that grew, and ends again where it did
@@ -59,11 +59,11 @@ begins_before old new front back whole begun is = (
 )
 
 -- the part at a place stands between those before it and those behind it
-pub among : (parts : List TextPart) (i : ℕ) (part : TextPart) → i < length parts → get_or parts i part ≡ part → bytes_of parts ≡ (bytes_of (take i parts) ++ part_bytes part) ++ bytes_of (drop (i + 1) parts)
+pub among : (parts : List TextPart) (i : ℕ) (part : TextPart) → i < length parts → get_or parts i part ≡ part → bytes_of_parts parts ≡ (bytes_of_parts (take i parts) ++ part_bytes part) ++ bytes_of_parts (drop (i + 1) parts)
 among parts i part within is =
-    ap (λ (ps : List TextPart). bytes_of ps) (sym (take-append-drop (i + 1) parts))
+    ap (λ (ps : List TextPart). bytes_of_parts ps) (sym (take-append-drop (i + 1) parts))
     ∙ flat_map-append part_bytes (take (i + 1) parts) (drop (i + 1) parts)
-    ∙ ap (λ (t : List ℕ). t ++ bytes_of (drop (i + 1) parts))
-    (ap (λ (ps : List TextPart). bytes_of ps) (take_more parts i part within ∙ ap (λ (p : TextPart). take i parts ++ p ∷ []) is)
+    ∙ ap (λ (t : List ℕ). t ++ bytes_of_parts (drop (i + 1) parts))
+    (ap (λ (ps : List TextPart). bytes_of_parts ps) (take_more parts i part within ∙ ap (λ (p : TextPart). take i parts ++ p ∷ []) is)
     ∙ flat_map-append part_bytes (take i parts) (part ∷ [])
-    ∙ ap (λ (t : List ℕ). bytes_of (take i parts) ++ t) (append-nil (part_bytes part)))
+    ∙ ap (λ (t : List ℕ). bytes_of_parts (take i parts) ++ t) (append-nil (part_bytes part)))

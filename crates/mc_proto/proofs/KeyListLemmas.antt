@@ -3,7 +3,7 @@ use Rattle.std.proofs.Common.{◌≡◌, ◌++◌, ◌∷◌, [], ◌+◌, ◌<�
 use Rattle.std.specs.Prelude.{Option, Some, None, if◌then◌else◌}
 use Rattle.std.specs.List.{list_all}
 use Rattle.std.proofs.lemmas.List.{take_more, at_drop_more, length-map}
-use Rattle.mc_proto.specs.{Lines.is_key, Lines.key_of, Table.bad, Table.row_says, Table.Keys}
+use Rattle.mc_proto.specs.{Lines.is_key, Lines.key_of_token, Table.bad, Table.row_says, Table.Keys}
 use Rattle.mc_proto.specs.declared.{request.Limits.Limits, request.Request.TheVariants.Get, state.Said.Said, state.Said.TheVariants.Whole}
 use Rattle.mc_proto.specs.declared.request.LineFault.TheVariants as faults
 
@@ -17,7 +17,7 @@ picked t k true is e = let same : k ≡ t = cc in (is, same)
 picked t k false is e = absurd (cc)
 
 -- a key is its token, which can be one
-pub key_some : (t k : List ℕ) → Some k ≡ key_of t → (is_key t ≡ true) × (k ≡ t)
+pub key_some : (t k : List ℕ) → Some k ≡ key_of_token t → (is_key t ≡ true) × (k ≡ t)
 key_some t k e = picked t k (is_key t) refl e
 
 unpicked : (t : List ℕ) (b : Bool) → is_key t ≡ b → None ≡ (if b then Some t else None) → is_key t ≡ false
@@ -25,7 +25,7 @@ unpicked t true is e = absurd (cc)
 unpicked t false is e = is
 
 -- where there is no key, the token can't be one
-pub key_none : (t : List ℕ) → None ≡ key_of t → is_key t ≡ false
+pub key_none : (t : List ℕ) → None ≡ key_of_token t → is_key t ≡ false
 key_none t e = unpicked t (is_key t) refl e
 
 tested : {A : Type 0} (f : A → List ℕ) (xs : List A) (i : ℕ) (d : A) → i < length xs → list_all is_key (drop i (map f xs)) ≡ list_all is_key (map f xs)
@@ -57,5 +57,5 @@ refused_keys limits with_cas [] l h = absurd (omega arith)
 refused_keys limits with_cas (k ∷ ks) l h = rw h refl
 
 -- the same where the key of a token was asked for and is none
-pub keys_stop : {A : Type 0} (f : A → List ℕ) (xs : List A) (i : ℕ) (d : A) (key : Option (List ℕ)) → key ≡ key_of (f (get_or xs i d)) → key ≡ None → i < length xs → list_all is_key (drop i (map f xs)) ≡ list_all is_key (map f xs) → list_all is_key (map f xs) ≡ false
+pub keys_stop : {A : Type 0} (f : A → List ℕ) (xs : List A) (i : ℕ) (d : A) (key : Option (List ℕ)) → key ≡ key_of_token (f (get_or xs i d)) → key ≡ None → i < length xs → list_all is_key (drop i (map f xs)) ≡ list_all is_key (map f xs) → list_all is_key (map f xs) ≡ false
 keys_stop f xs i d key is none l at = keys_end f xs i d l (key_none (f (get_or xs i d)) (sym none ∙ is)) at

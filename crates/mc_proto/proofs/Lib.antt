@@ -1,18 +1,18 @@
-pub mod CutLemmas
+pub mod ListCutLemmas
 pub mod SpellingLemmas
 pub mod TokenLemmas
 pub mod LineLemmas
 pub mod KeyListLemmas
-pub mod StorageLemmas
+pub mod CasLineLemmas
 pub mod TakingLemmas
-mod QuickLemmas
-pub mod RestLemmas
+mod OnePassLineLemmas
+pub mod KeptRestLemmas
 pub mod StreamLemmas
-pub mod SplitLemmas
-mod RowLemmas
-pub mod NextLemmas
-mod PlainLemmas
-mod FirstLemmas
+pub mod ScriptCutLemmas
+mod TableRowLemmas
+pub mod NextDirectiveLemmas
+mod PlainLineLemmas
+mod FirstLineLemmas
 mod UncutLemmas
 mod DividingLemmas
 pub mod TextLemmas

@@ -3,7 +3,7 @@ use Rattle.std.proofs.Common.{◌≡◌, ◌++◌, ◌∷◌, [], ◌<◌, ◌�
 use Rattle.std.proofs.lemmas.Bool.{eq-eqb, eqb-true, eqb-false}
 use Rattle.std.specs.Prelude.{if◌then◌else◌}
 use Rattle.mc_proto.specs.Lines.{Lacks, AreSpaces, BeginsWith, AreTokens, ended, tokens, tokens_from}
-use Rattle.mc_proto.proofs.{CutLemmas.lacks_both, TokenLemmas.run_on, TokenLemmas.end_run}
+use Rattle.mc_proto.proofs.{ListCutLemmas.lacks_both, TokenLemmas.run_on, TokenLemmas.end_run}
 
 -- one space more before the tokens
 space_before : (b : ℕ) (line : List ℕ) (ts : List (List ℕ)) → b ≡ 32 → AreTokens line ts → AreTokens (b ∷ line) ts

@@ -4,8 +4,8 @@ use Rattle.std.specs.Prelude.{if◌then◌else◌}
 use Rattle.std.proofs.Common.{inl, inr}
 use Rattle.mc_proto.specs.declared.{request.Limits.Limits, request.Request.Request}
 use Rattle.mc_proto.specs.Table.{says}
-use Rattle.mc_proto.specs.Grammar.{ByLine, ByLength, Spells, Spelt, Reads, BeginsNone, closes, closed, wanted, asked}
-use Rattle.mc_proto.proofs.CutLemmas.{same_line, past_line, same_front}
+use Rattle.mc_proto.specs.Grammar.{ByLine, ByLength, Spells, Spelt, Reads, BeginsNone, closes, closed, wanted, request_asked}
+use Rattle.mc_proto.proofs.ListCutLemmas.{same_line, past_line, same_front}
 
 two_lines : (limits : Limits) (a b x y : List ℕ) (q r : Request) → ByLine limits a q → ByLine limits b r → a ++ x ≡ b ++ y → (a ≡ b) × (x ≡ y) × (q ≡ r)
 two_lines limits a b x y q r p s e =
@@ -19,7 +19,7 @@ two_lines limits a b x y q r p s e =
     let says_same : says limits p.line ≡ says limits s.line = ap (says limits) line in (
       p.whole ∙ ap (λ (t : List ℕ). t ++ 10 ∷ p.block) line ∙ ap (λ (t : List ℕ). s.line ++ 10 ∷ t) block ∙ sym s.whole,
       blocks.1,
-      p.means ∙ ap (λ (t : _). asked t p.block) says_same ∙ ap (asked (says limits s.line)) block ∙ sym s.means,
+      p.means ∙ ap (λ (t : _). request_asked t p.block) says_same ∙ ap (request_asked (says limits s.line)) block ∙ sym s.means,
     )
 
 line_and_length : (limits : Limits) (a b x y : List ℕ) (q r : Request) → ByLine limits a q → ByLength b r → a ++ x ≡ b ++ y → ⊥

@@ -8,7 +8,7 @@ use Rattle.mc_proto.specs.declared.{request.Limits.Limits, request.LineFault.The
 use Rattle.mc_proto.specs.declared.{state.Said.Said, state.Start.Start, state.State.State}
 use Rattle.mc_proto.specs.declared.state.Said.TheVariants as said
 use Rattle.mc_proto.specs.declared.state.State.TheVariants.{Line, Block, Skip, Closed, Failed}
-use Rattle.mc_proto.proofs.{SpellingLemmas.begins_no_other, RestLemmas.after_reads}
+use Rattle.mc_proto.proofs.{SpellingLemmas.begins_no_other, KeptRestLemmas.after_reads}
 use Rattle.mc_proto.proofs.TakingLemmas.{too_long, line_more, line_asks, line_blocks, line_skips, block_more, block_done, skip_more, skip_done, stays_closed}
 
 -- where a reader would stand after some bytes, whatever it is

@@ -8,12 +8,12 @@ use Rattle.mc_proto.specs.{Lines.Lacks, Table.says}
 use Rattle.mc_proto.specs.declared.{request.Limits.Limits, state.Start.Start, request.LineFault.TheVariants.LineTooLong, request.LineFault.TheVariants.Chunk}
 use Rattle.mc_proto.specs.declared.{request.Request.Request, request.Request.TheVariants.Bad, request.Request.TheVariants.One, state.Said.Said}
 use Rattle.mc_proto.specs.declared.{state.State.State}
-use Rattle.mc_proto.specs.Grammar.{IsLine, Spells, Spelt, closes, closed, wanted, asked, stored, skipped, IsFine}
-use Rattle.mc_proto.specs.Reader.{Stands, After, is_closed, state_after, request_after, Kept, kept}
+use Rattle.mc_proto.specs.Grammar.{IsLine, Spells, Spelt, closes, closed, wanted, request_asked, stored, skipped, IsFine}
+use Rattle.mc_proto.specs.Reader.{StandsForRest, After, is_closed, state_after, request_after, Kept, kept}
 use Rattle.mc_item.specs.declared.command.Command.TheVariants as commands
 use Rattle.mc_proto.specs.declared.state.Said.TheVariants as said
 use Rattle.mc_proto.specs.declared.state.State.TheVariants.{Line, Block, Skip, Closed}
-use Rattle.mc_proto.proofs.CutLemmas.{lacks_both, lacks_front}
+use Rattle.mc_proto.proofs.ListCutLemmas.{lacks_both, lacks_front}
 
 pub spelt_on : (limits : Limits) (stream : List ℕ) (rs : List Request) (rest p : List ℕ) → Spelt limits stream rs rest → Spelt limits (stream ++ p) rs (rest ++ p)
 spelt_on limits stream [] rest p e = ap (λ (t : List ℕ). t ++ p) e
@@ -39,14 +39,14 @@ closed_push (q ∷ rs) r b c is =
     rw off (closed_push rs r b two.1 is)
 
 -- no request more
-pub goes : (limits : Limits) (state next : State) (u v stream p : List ℕ) (rs : List Request) → (a : After limits state u stream rs) → Stands limits next v (a.rest ++ p) → is_closed state ≡ is_closed next
+pub goes : (limits : Limits) (state next : State) (u v stream p : List ℕ) (rs : List Request) → (a : After limits state u stream rs) → StandsForRest limits next v (a.rest ++ p) → is_closed state ≡ is_closed next
     → After limits next v (stream ++ p) rs
 goes limits state next u v stream p rs a st cl =
     record { rest = a.rest ++ p; spelt = spelt_on limits stream rs a.rest p a.spelt; stands = st; closed_is = a.closed_is ∙ cl }
 
 -- one request more
 pub answers : (limits : Limits) (state next : State) (u v stream p : List ℕ) (rs : List Request) (r : Request) (bytes more : List ℕ) → (a : After limits state u stream rs) → is_closed state ≡ false
-    → a.rest ++ p ≡ bytes ++ more → Spells limits bytes r → Stands limits next v more → closes r ≡ is_closed next → After limits next v (stream ++ p) (rs ++ r ∷ [])
+    → a.rest ++ p ≡ bytes ++ more → Spells limits bytes r → StandsForRest limits next v more → closes r ≡ is_closed next → After limits next v (stream ++ p) (rs ++ r ∷ [])
 answers limits state next u v stream p rs r bytes more a op is sp st cl =
     record {
       rest = more;
@@ -96,11 +96,11 @@ is_line u piece end lu l lack short = record { one = lacks_both 10 u (take end p
 
 -- a line that is a request, which may close the reader
 pub line_asks : (limits : Limits) (next : State) (u stream piece : List ℕ) (rs : List Request) (end : ℕ) (r : Request) → After limits Line u stream rs → end < length piece → get_or piece end 0 ≡ 10 → Lacks 10 (take end piece) → length u + end ≤ 65536
-    → said.Whole r ≡ says limits (u ++ take end piece) → Stands limits next [] [] → closes r ≡ is_closed next → After limits next [] (stream ++ take (end + 1) piece) (rs ++ r ∷ [])
+    → said.Whole r ≡ says limits (u ++ take end piece) → StandsForRest limits next [] [] → closes r ≡ is_closed next → After limits next [] (stream ++ take (end + 1) piece) (rs ++ r ∷ [])
 line_asks limits next u stream piece rs end r a l lf lack short is st fine =
     answers limits Line next u [] stream (take (end + 1) piece) rs r ((u ++ take end piece) ++ 10 ∷ []) [] a refl
     (line_whole a.rest u piece end a.stands.0 l lf ∙ sym (append-nil ((u ++ take end piece) ++ 10 ∷ [])))
-    (inl (record { line = u ++ take end piece; block = []; whole = refl; is_line = is_line u piece end a.stands.1 l lack short; long = ap wanted is; means = ap (λ (s : Said). asked s []) is }))
+    (inl (record { line = u ++ take end piece; block = []; whole = refl; is_line = is_line u piece end a.stands.1 l lack short; long = ap wanted is; means = ap (λ (s : Said). request_asked s []) is }))
     st fine
 
 pub line_blocks : (limits : Limits) (u stream piece : List ℕ) (rs : List Request) (end : ℕ) (s : Start) → After limits Line u stream rs → end < length piece → get_or piece end 0 ≡ 10 → Lacks 10 (take end piece) → length u + end ≤ 65536
@@ -148,7 +148,7 @@ block_done limits u v block stream piece rs s n a le long none =
       whole = refl;
       is_line = st.2;
       long = length-append block (take n piece) ∙ ap (λ (k : ℕ). length block + k) (length-take-le n piece le) ∙ long ∙ ap wanted (sym st.3);
-      means = ap (λ (x : Said). asked x (block ++ take n piece)) (sym st.3);
+      means = ap (λ (x : Said). request_asked x (block ++ take n piece)) (sym st.3);
     }))
     (refl, tt, omega arith) (stored_open s (block ++ take n piece) (pointwise nat_eq (drop s.count (block ++ take n piece)) (13 ∷ 10 ∷ []))))
 
@@ -194,13 +194,13 @@ skip_done limits u v stream piece rs s left a le none =
       whole = refl;
       is_line = st.3;
       long = length-append st.1 (take left piece) ∙ ap (λ (k : ℕ). length st.1 + k) (length-take-le left piece le) ∙ st.5 ∙ ap wanted (sym st.4);
-      means = ap (λ (x : Said). asked x (st.1 ++ take left piece)) (sym st.4);
+      means = ap (λ (x : Said). request_asked x (st.1 ++ take left piece)) (sym st.4);
     }))
     (refl, tt, omega arith) refl)
 
 pub stays_closed : (limits : Limits) (state : State) (u v stream p : List ℕ) (rs : List Request) → state ≡ Closed → After limits state u stream rs → After limits state v (stream ++ p) rs
 stays_closed limits state u v stream p rs is a =
-    goes limits state state u v stream p rs a (subst (λ (k : State). Stands limits k v (a.rest ++ p)) (sym is) tt) refl
+    goes limits state state u v stream p rs a (subst (λ (k : State). StandsForRest limits k v (a.rest ++ p)) (sym is) tt) refl
 
 -- a closed reader, as its contract sees it
 pub seen_closed : (now : Kept) (limits : Limits) (state : State) (u : List ℕ) → kept limits state u ≡ now → state ≡ Closed → now.state ≡ Closed

@@ -8,7 +8,7 @@ use Rattle.std.specs.List.{list_all}
 use Rattle.mc_item.specs.{Key.is_key_byte, Measure.is_digit, Measure.number_from, Measure.number_of, Measure.number_in}
 use Rattle.mc_item.specs.declared.key.KeyFault.TheVariants.{Empty, TooLong, BadByte}
 use Rattle.mc_proto.specs.Lines.{Lacks, tokens, tokens_from, is_key, number, exptime}
-use Rattle.mc_proto.proofs.CutLemmas.{lacks_both}
+use Rattle.mc_proto.proofs.ListCutLemmas.{lacks_both}
 
 pub lacks_more : (b : ℕ) (xs : List ℕ) (i : ℕ) → i < length xs → Lacks b (take i xs) → (get_or xs i 0 ≡ b → ⊥) → Lacks b (take (i + 1) xs)
 lacks_more b xs i l h not = rw (take_more xs i 0 l) (lacks_both b (take i xs) (get_or xs i 0 ∷ []) h (not, tt))

@@ -9,8 +9,8 @@ part_bytes (Own bytes) = bytes.items
 part_bytes (Shared value count) = take count value
 
 -- the bytes of parts, one after the other
-abbrev pub bytes_of : List TextPart → List ℕ
-bytes_of parts = flat_map part_bytes parts
+abbrev pub bytes_of_parts : List TextPart → List ℕ
+bytes_of_parts parts = flat_map part_bytes parts
 
 -- a text as contracts see it: its bytes
 pub record Gathered : Type 0 where
@@ -18,4 +18,4 @@ pub record Gathered : Type 0 where
 
 -- the text that is these parts, and these bytes behind them
 abbrev pub gathered : List TextPart → List ℕ → Gathered
-gathered parts last = record { items = bytes_of parts ++ last }
+gathered parts last = record { items = bytes_of_parts parts ++ last }

@@ -27,10 +27,10 @@ abbrev pub skipped : Start → Request
 skipped s = One (commands.Huge s.verb s.key) s.quiet
 
 -- the request of a line and its block
-abbrev pub asked : Said → List ℕ → Request
-asked (Whole r) block = r
-asked (Block s) block = stored s block
-asked (Skip s) block = skipped s
+abbrev pub request_asked : Said → List ℕ → Request
+request_asked (Whole r) block = r
+request_asked (Block s) block = stored s block
+request_asked (Skip s) block = skipped s
 
 -- a line, of which the LF is no part: at most 65,536 bytes (own)
 pub record IsLine (line : List ℕ) : Type 0 where
@@ -44,7 +44,7 @@ pub record ByLine (limits : Limits) (bytes : List ℕ) (r : Request) : Type 0 wh
   pub whole : bytes ≡ line ++ 10 ∷ block
   pub is_line : IsLine line
   pub long : length block ≡ wanted (says limits line)
-  pub means : r ≡ asked (says limits line) block
+  pub means : r ≡ request_asked (says limits line) block
 
 -- a line that is too long is spelt by 65,537 bytes without an LF; it isn't quiet (own)
 pub record ByLength (bytes : List ℕ) (r : Request) : Type 0 where

@@ -69,8 +69,8 @@ abbrev pub is_key : List ℕ → Bool
 is_key token = is_none (key_fault_of token)
 
 -- the key that a token is, if it can be one
-abbrev pub key_of : List ℕ → Option (List ℕ)
-key_of token = if is_key token then Some token else None
+abbrev pub key_of_token : List ℕ → Option (List ℕ)
+key_of_token token = if is_key token then Some token else None
 
 -- the number of a token of 1 to so many digits
 abbrev pub number : ℕ → List ℕ → Option ℕ

@@ -19,14 +19,14 @@ kept limits state unread = record { limits = limits; state = state; unread = unr
 
 -- a reader stands for the rest of its stream: part of a line; a line and part of its block; a line and a block of
 -- which so many bytes are to come. A closed one stands for any rest, and one without memory for none
-abbrev pub Stands : Limits → State → List ℕ → List ℕ → Type 0
-Stands limits Line unread rest = (rest ≡ unread) × Lacks 10 unread × (length unread < 65537)
-Stands limits (Block s block) unread rest =
+abbrev pub StandsForRest : Limits → State → List ℕ → List ℕ → Type 0
+StandsForRest limits Line unread rest = (rest ≡ unread) × Lacks 10 unread × (length unread < 65537)
+StandsForRest limits (Block s block) unread rest =
     (line : List ℕ) × (rest ≡ line ++ 10 ∷ block) × IsLine line × (says limits line ≡ said.Block s) × (length block < s.count + 2)
-Stands limits (Skip s left) unread rest =
+StandsForRest limits (Skip s left) unread rest =
     (line block : List ℕ) × (rest ≡ line ++ 10 ∷ block) × IsLine line × (says limits line ≡ said.Skip s) × (length block + left ≡ s.count + 2) × (0 < left)
-Stands limits Closed unread rest = Unit {0}
-Stands limits Failed unread rest = ⊥
+StandsForRest limits Closed unread rest = Unit {0}
+StandsForRest limits Failed unread rest = ⊥
 
 -- whether a reader reads nothing more
 abbrev pub is_closed : State → Bool
@@ -40,7 +40,7 @@ is_closed Failed = false
 pub record After (limits : Limits) (state : State) (unread : List ℕ) (stream : List ℕ) (requests : List Request) : Type 0 where
   pub rest : List ℕ
   pub spelt : Spelt limits stream requests rest
-  pub stands : Stands limits state unread rest
+  pub stands : StandsForRest limits state unread rest
   pub closed_is : closed requests ≡ is_closed state
 
 -- where a reader stands after a line that says this
@@ -56,12 +56,12 @@ request_after (said.Block s) = None
 request_after (said.Skip s) = None
 
 -- the bounds of what a reader keeps; a closed one keeps nothing
-abbrev pub IsSound : State → List ℕ → Type 0
-IsSound Line unread = length unread < 65537
-IsSound (Block s block) unread = (unread ≡ []) × (length block < s.count + 2) × (s.count ≤ 2147483645)
-IsSound (Skip s left) unread = (unread ≡ []) × (0 < left) × (left < 2147483648)
-IsSound Closed unread = unread ≡ []
-IsSound Failed unread = Unit {0}
+abbrev pub IsSoundReader : State → List ℕ → Type 0
+IsSoundReader Line unread = length unread < 65537
+IsSoundReader (Block s block) unread = (unread ≡ []) × (length block < s.count + 2) × (s.count ≤ 2147483645)
+IsSoundReader (Skip s left) unread = (unread ≡ []) × (0 < left) × (left < 2147483648)
+IsSoundReader Closed unread = unread ≡ []
+IsSoundReader Failed unread = Unit {0}
 
 -- what part of a line is called
 abbrev pub line_rest : List ℕ → Rest

@@ -25,7 +25,7 @@ pub record IsLast (limits : Limits) (stream : List ℕ) : Type 0 where
   pub others : All IsOther requests
 
 -- a stream is a whole script, a line that begins the next one, and the rest
-pub record IsCut (limits : Limits) (stream script rest : List ℕ) : Type 0 where
+pub record IsCutAtNext (limits : Limits) (stream script rest : List ℕ) : Type 0 where
   pub line : List ℕ
   pub is : stream ≡ script ++ (line ++ rest)
   pub whole : IsWhole limits script
@@ -35,7 +35,7 @@ pub record IsCut (limits : Limits) (stream script rest : List ℕ) : Type 0 wher
 abbrev pub AreScripts : Limits → List ℕ → List (List ℕ) → Type 0
 AreScripts limits stream [] = ⊥
 AreScripts limits stream (script ∷ []) = (script ≡ stream) × IsLast limits stream
-AreScripts limits stream (script ∷ next ∷ more) = (rest : List ℕ) × IsCut limits stream script rest × AreScripts limits rest (next ∷ more)
+AreScripts limits stream (script ∷ next ∷ more) = (rest : List ℕ) × IsCutAtNext limits stream script rest × AreScripts limits rest (next ∷ more)
 
 -- the requests of scripts, with one that begins the next script between those of each two
 abbrev pub with_next : List (List Request) → List Request

@@ -4,7 +4,7 @@ use Rattle.std.specs.{List.list_all, Option.option_map, Option.unwrap_or}
 use Rattle.mc_item.specs.declared.{command.Command.Command, command.Verb.Verb}
 use Rattle.mc_item.specs.declared.command.Command.TheVariants.{Incr, Decr, Touch, Delete}
 use Rattle.mc_item.specs.declared.command.Verb.TheVariants.{Set, Add, Replace, Cas}
-use Rattle.mc_proto.specs.Kinds.{Kind, Value, value, fault_of}
+use Rattle.mc_proto.specs.Kinds.{Kind, Value, value, fault_of_kind}
 use Rattle.mc_proto.specs.Kinds.{Key, Flags, Exptime, Bytes, CasNumber, Delta, NewExptime, Moment, Classes}
 use Rattle.mc_proto.specs.Lines.{is_key, is_word, tokens, no_cr}
 use Rattle.mc_proto.specs.declared.{request.Limits.Limits, request.LineFault.LineFault, request.LineFault.TheVariants.Error}
@@ -26,8 +26,8 @@ Asks [] Noreply = Bool → Said
 Asks [] Keys = List (List ℕ) → Said
 
 -- a row of the table: a verb, the kinds of the tokens that are due behind it, the end of its line, and what it asks for
-pub data Row : Type 0 where
-  Line : List ℕ → (kinds : List Kind) → (end : End) → Asks kinds end → Row
+pub data LineRow : Type 0 where
+  Line : List ℕ → (kinds : List Kind) → (end : End) → Asks kinds end → LineRow
 
 -- a line that is refused
 abbrev pub bad : LineFault → Bool → Said
@@ -55,7 +55,7 @@ abbrev pub count : Bool → List ℕ → ℕ → Bool → Said
 count up key delta quiet = one quiet (if up then Incr key delta else Decr key delta)
 
 -- the table: verbs are lower case
-abbrev pub table : Limits → List Row
+abbrev pub table : Limits → List LineRow
 table limits =
     Line (codes "get") [] Keys (λ keys. Whole (Get keys false))
     ∷ Line (codes "gets") [] Keys (λ keys. Whole (Get keys true))
@@ -88,7 +88,7 @@ quiet_of [] end (token ∷ args) = None
 abbrev pub kinds_say : Limits → Bool → (kinds : List Kind) → (end : End) → Asks kinds end → List (List ℕ) → Said
 kinds_say limits quiet (kind ∷ kinds) end asks [] = no_line
 kinds_say limits quiet (kind ∷ kinds) end asks (token ∷ args) =
-    unwrap_or (option_map (λ v. kinds_say limits quiet kinds end (asks v) args) (value limits kind token)) (bad (fault_of kind) quiet)
+    unwrap_or (option_map (λ v. kinds_say limits quiet kinds end (asks v) args) (value limits kind token)) (bad (fault_of_kind kind) quiet)
 kinds_say limits quiet [] Nothing asks args = asks
 kinds_say limits quiet [] Noreply asks args = asks quiet
 kinds_say limits quiet [] Keys asks args = if list_all is_key args then asks args else bad Format quiet
@@ -98,7 +98,7 @@ abbrev pub row_says : Limits → (kinds : List Kind) → (end : End) → Asks ki
 row_says limits kinds end asks args = unwrap_or (option_map (λ quiet. kinds_say limits quiet kinds end asks args) (quiet_of kinds end args)) no_line
 
 -- what a verb and the tokens behind it say by these rows
-abbrev pub rows_say : Limits → List Row → List ℕ → List (List ℕ) → Said
+abbrev pub rows_say : Limits → List LineRow → List ℕ → List (List ℕ) → Said
 rows_say limits [] verb args = no_line
 rows_say limits (Line word kinds end asks ∷ rows) verb args = if is_word verb word then row_says limits kinds end asks args else rows_say limits rows verb args
 

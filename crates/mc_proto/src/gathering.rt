@@ -1,7 +1,7 @@
 //! Texts as they are gathered: bytes, and long values that stay where they are.
 ghost use Rattle.std.specs.Prelude.{◌≡◌, ◌<◌, ◌≤◌, ◌+◌, ◌-◌, ◌^◌, ◌++◌, ◌∷◌, [], ℕ, List, IfOk, OnOk, OnErr, length, take, vec_len, vec_capacity};
 ghost use Rattle.std.specs.List.{flat_map};
-ghost use Rattle.mc_proto.specs.Gathered.{bytes_of, part_bytes};
+ghost use Rattle.mc_proto.specs.Gathered.{bytes_of_parts, part_bytes};
 ghost use Rattle.mc_item.specs.declared.reply.Reply.TheVariants as replies;
 ghost use Rattle.mc_proto.specs.Text as texts;
 
@@ -64,23 +64,23 @@ pub struct ReplyText {
 
 impl Model for ReplyText {
     ghost use Rattle.std.specs.Prelude.{◌≡◌, ◌≤◌, ◌^◌, length};
-    ghost use Rattle.mc_proto.specs.Gathered.{Gathered, bytes_of, gathered};
+    ghost use Rattle.mc_proto.specs.Gathered.{Gathered, bytes_of_parts, gathered};
 
     ghost Value = { Gathered };
 
     ghost view = { λ t. gathered t.parts.items t.last.items };
 
-    ghost invariant = { λ t. (length (bytes_of t.parts.items) ≡ t.before) × (t.before ≤ 2 ^ 62) };
+    ghost invariant = { λ t. (length (bytes_of_parts t.parts.items) ≡ t.before) × (t.before ≤ 2 ^ 62) };
 }
 
 // The part in which the byte at a place is, and how many bytes stand before that part; it and those behind it are taken out.
 fn part_at(parts: &mut Vec<TextPart>, bytes: usize, place: usize) -> (TextPart, usize)
-    requires many { length (bytes_of parts.old.items) ≡ bytes }
+    requires many { length (bytes_of_parts parts.old.items) ≡ bytes }
     requires place { place < bytes }
-    ensures before { length (bytes_of parts.new.items) ≡ result.1 }
+    ensures before { length (bytes_of_parts parts.new.items) ≡ result.1 }
     ensures behind { result.1 ≤ place }
     ensures within { place < result.1 + length (part_bytes result.0) }
-    ensures front { take place (bytes_of parts.new.items ++ part_bytes result.0) ≡ take place (bytes_of parts.old.items) }
+    ensures front { take place (bytes_of_parts parts.new.items ++ part_bytes result.0) ≡ take place (bytes_of_parts parts.old.items) }
     ensures room { vec_len parts.new < vec_capacity parts.new }
 {
     let mut before = bytes;
@@ -97,11 +97,11 @@ fn part_at(parts: &mut Vec<TextPart>, bytes: usize, place: usize) -> (TextPart, 
 #[cold]
 #[inline(never)]
 fn cut_parts(parts: &mut Vec<TextPart>, last: &mut Vec<u8>, bytes: usize, count: usize) -> usize
-    requires many { length (bytes_of parts.old.items) ≡ bytes }
+    requires many { length (bytes_of_parts parts.old.items) ≡ bytes }
     requires fewer { count < bytes }
-    ensures before { length (bytes_of parts.new.items) ≡ result }
+    ensures before { length (bytes_of_parts parts.new.items) ≡ result }
     ensures fewer { result ≤ bytes }
-    ensures items { bytes_of parts.new.items ++ last.new.items ≡ take count (bytes_of parts.old.items) }
+    ensures items { bytes_of_parts parts.new.items ++ last.new.items ≡ take count (bytes_of_parts parts.old.items) }
 {
     let (part, before) = part_at(parts, bytes, count);
     match part {
@@ -120,7 +120,7 @@ fn cut_parts(parts: &mut Vec<TextPart>, last: &mut Vec<u8>, bytes: usize, count:
 
 // Adds copies of parts behind other bytes, or, where there is no memory, leaves them as they were.
 fn copy_parts(bytes: &mut Vec<u8>, parts: &[TextPart]) -> Result<(), NoMemory>
-    ensures ok { OnOk result (bytes.new.items ≡ bytes.old.items ++ bytes_of parts.now) }
+    ensures ok { OnOk result (bytes.new.items ≡ bytes.old.items ++ bytes_of_parts parts.now) }
     ensures err { OnErr result (bytes.new.items ≡ bytes.old.items) }
 {
     let before = bytes.len();
@@ -288,8 +288,8 @@ impl ReplyText {
     /// Moves the whole text behind other parts, without a copy, and leaves an empty one: with so much room, or with little
     /// where values were shared, since more such may come. After an `Err` nothing has moved.
     pub fn move_behind(&mut self, parts: &mut Vec<TextPart>, room: usize) -> Result<(), NoMemory>
-        ensures ok { OnOk result ((bytes_of parts.new.items ≡ bytes_of parts.old.items ++ self.old.items) × (self.new.items ≡ [])) }
-        ensures err { OnErr result ((bytes_of parts.new.items ≡ bytes_of parts.old.items) × (self.new.items ≡ self.old.items)) }
+        ensures ok { OnOk result ((bytes_of_parts parts.new.items ≡ bytes_of_parts parts.old.items ++ self.old.items) × (self.new.items ≡ [])) }
+        ensures err { OnErr result ((bytes_of_parts parts.new.items ≡ bytes_of_parts parts.old.items) × (self.new.items ≡ self.old.items)) }
     {
         let room = if self.parts.is_empty() { room } else { BEHIND };
         let empty = Vec::with_capacity(*self.last.allocator(), room)?;
@@ -302,7 +302,7 @@ impl ReplyText {
 
     /// The text as it lies in memory: its parts, and the bytes behind them.
     pub fn lying(&self) -> (&[TextPart], &[u8])
-        ensures { bytes_of result.0.now ++ result.1.now ≡ self.now.items }
+        ensures { bytes_of_parts result.0.now ++ result.1.now ≡ self.now.items }
     {
         (self.parts.as_slice(), self.last.as_slice())
     }

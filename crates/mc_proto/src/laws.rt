@@ -1,6 +1,6 @@
 //! Laws of the grammar: a line is its tokens, how a stream reads depends on its bytes alone, and each stream reads in one way.
 ghost use Rattle.std.specs.Prelude.{◌≡◌, ◌++◌, ℕ, List};
-ghost use Rattle.mc_proto.specs.{Grammar.Spells, Grammar.Spelt, Grammar.Reads, Lines.AreTokens, Lines.tokens, Reader.After, Reader.Stands, Scripts.AreScripts};
+ghost use Rattle.mc_proto.specs.{Grammar.Spells, Grammar.Spelt, Grammar.Reads, Lines.AreTokens, Lines.tokens, Reader.After, Reader.StandsForRest, Scripts.AreScripts};
 ghost use Rattle.mc_proto.specs.{Scripts.ReadAlone, Scripts.with_next};
 ghost use Rattle.mc_proto.specs.declared.{request.Limits.Limits, request.Request.Request, state.State.State};
 
@@ -27,7 +27,7 @@ pub fn every_stream_reads()
 
 /// Where a reader stands, the stream so far reads as the requests so far, and the rest is what the reader keeps.
 pub fn after_is_reading()
-    ensures { (limits : Limits) (state : State) (unread stream : List ℕ) (requests : List Request) → After limits state unread stream requests → ((rest : List ℕ) × Reads limits stream requests rest × Stands limits state unread rest) }
+    ensures { (limits : Limits) (state : State) (unread stream : List ℕ) (requests : List Request) → After limits state unread stream requests → ((rest : List ℕ) × Reads limits stream requests rest × StandsForRest limits state unread rest) }
 {}
 
 /// The requests of a longer stream begin with those of a shorter one.

@@ -1,6 +1,6 @@
 //! Reads requests from pieces of bytes that are cut anywhere.
 ghost use Rattle.std.specs.Prelude.{◌≡◌, ◌++◌, [], ◌<◌, ℕ, List, All, IfOk, OnOk, OnErr, IsErr, IsOk};
-ghost use Rattle.mc_proto.specs.{Grammar.IsModerate, Grammar.Reads, Grammar.closed, Reader.After, Reader.IsSound, Reader.rest_name};
+ghost use Rattle.mc_proto.specs.{Grammar.IsModerate, Grammar.Reads, Grammar.closed, Reader.After, Reader.IsSoundReader, Reader.rest_name};
 ghost use Rattle.mc_proto.specs.declared.{request.Request.Request, state.State.State, state.State.TheVariants.Line, state.State.TheVariants.Failed};
 ghost use Rattle.mc_proto.specs.declared.{state.State.TheVariants.Closed};
 
@@ -26,8 +26,8 @@ fn read_piece<P: Piece>(
     line: &mut BytesMut,
     piece: P,
 ) -> Result<Vec<Request>, NoMemory>
-    requires sound { IsSound state.old line.old.items }
-    ensures sound { OnOk result (IsSound state.new line.new.items) }
+    requires sound { IsSoundReader state.old line.old.items }
+    ensures sound { OnOk result (IsSoundReader state.new line.new.items) }
     ensures moderate { IfOk result (λ v. All (IsModerate limits) v.items) }
     ensures reads { IfOk result (λ v. (stream : List ℕ) (requests : List Request) → After limits state.old line.old.items stream requests
         → After limits state.new line.new.items (stream ++ P.unread piece) (requests ++ v.items)) }
@@ -52,13 +52,13 @@ pub struct Reader {
 }
 
 impl Model for Reader {
-    ghost use Rattle.mc_proto.specs.Reader.{Kept, kept, IsSound};
+    ghost use Rattle.mc_proto.specs.Reader.{Kept, kept, IsSoundReader};
 
     ghost Value = { Kept };
 
     ghost view = { λ r. kept r.limits r.state r.line.items };
 
-    ghost invariant = { λ r. IsSound r.state r.line.items };
+    ghost invariant = { λ r. IsSoundReader r.state r.line.items };
 }
 
 impl Reader {

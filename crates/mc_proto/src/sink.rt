@@ -1,6 +1,6 @@
 //! Where the texts of replies go.
 ghost use Rattle.std.specs.Prelude.{[], ◌≡◌, ◌++◌, ◌<◌, ◌≤◌, ℕ, List, IfOk, OnOk, OnErr, length, take};
-ghost use Rattle.mc_proto.specs.{Gathered.bytes_of, Text.IsBeginning};
+ghost use Rattle.mc_proto.specs.{Gathered.bytes_of_parts, Text.IsBeginning};
 
 use crate::gathering::{ReplyText, TextPart};
 
@@ -47,9 +47,9 @@ pub fn write_whole<K: Sink>(sink: &mut K, text: &mut ReplyText) -> Result<(), Si
 
 // Writes the parts of a text one after the other. After a fault a beginning of them is written, and nothing else.
 fn write_parts<K: Sink>(sink: &mut K, parts: &[TextPart]) -> Result<(), SinkFault>
-    ensures ok { OnOk result (K.taken sink.new ≡ K.taken sink.old ++ bytes_of parts.now) }
+    ensures ok { OnOk result (K.taken sink.new ≡ K.taken sink.old ++ bytes_of_parts parts.now) }
     ensures fine { OnOk result (K.failures sink.new ≡ K.failures sink.old) }
-    ensures err { OnErr result ((K.failures sink.old < K.failures sink.new) × IsBeginning (K.taken sink.old) (K.taken sink.new) (bytes_of parts.now)) }
+    ensures err { OnErr result ((K.failures sink.old < K.failures sink.new) × IsBeginning (K.taken sink.old) (K.taken sink.new) (bytes_of_parts parts.now)) }
     ensures count { K.failures sink.old ≤ K.failures sink.new }
 {
     for part in parts {

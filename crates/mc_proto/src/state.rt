@@ -27,11 +27,11 @@ pub enum Said {
 
 /// The bytes of a block that came so far. Contracts see them as a list.
 #[derive(Drop)]
-pub struct Part {
+pub struct PartialBlock {
     pub(crate) bytes: Vec<u8>,
 }
 
-impl Model for Part {
+impl Model for PartialBlock {
     ghost use Rattle.std.specs.Prelude.{List, ℕ};
 
     ghost Value = { List ℕ };
@@ -45,7 +45,7 @@ pub enum State {
     /// Part of a line, which stands beside this.
     Line,
     /// A storage line, and these bytes of its block.
-    Block(Start, Part),
+    Block(Start, PartialBlock),
     /// A storage line, and of its block all but so many bytes.
     Skip(Start, u64),
     /// A line that was too long: nothing is read any more.

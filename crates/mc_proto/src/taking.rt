@@ -2,7 +2,7 @@
 ghost use Rattle.std.specs.Prelude.{◌≡◌, ◌++◌, [], ◌+◌, ◌-◌, ◌<◌, ◌≤◌, ◌∷◌, ℕ, List, IfOk, OnOk, All, length, take, drop, nat_eq};
 ghost use Rattle.std.specs.Cmp.Lexicographic.{pointwise};
 ghost use Rattle.mc_item.specs.declared.command.Command.TheVariants as commands;
-ghost use Rattle.mc_proto.specs.{Grammar.stored, Grammar.skipped, Grammar.IsFine, Grammar.IsModerate, Table.says, Reader.After, Reader.IsSound};
+ghost use Rattle.mc_proto.specs.{Grammar.stored, Grammar.skipped, Grammar.IsFine, Grammar.IsModerate, Table.says, Reader.After, Reader.IsSoundReader};
 ghost use Rattle.mc_proto.specs.declared.{request.Limits.Limits, request.LineFault.TheVariants.Chunk, request.Request.Request, request.Request.TheVariants.Bad};
 ghost use Rattle.mc_proto.specs.declared.{request.Request.TheVariants.One, state.State.State, state.State.TheVariants.Line};
 
@@ -10,7 +10,7 @@ use crate::line::said_of;
 use crate::piece::Piece;
 use crate::quick::lone_get;
 use crate::request::{Keys, Limits, LineFault, Request};
-use crate::state::{Part, Said, Start, State};
+use crate::state::{PartialBlock, Said, Start, State};
 use crate::token::line_end;
 use bytes::BytesMut;
 use mc_item::{Command, NoMemory, Value};
@@ -145,7 +145,7 @@ fn take_begun<P: Piece>(
     requires within { (0 < begin) × (begin ≤ length (P.unread piece.now)) }
     requires count { start.count ≤ 2147483645 }
     ensures taken { IfOk result (λ n. (0 < n) × (n ≤ length (P.unread piece.now))) }
-    ensures sound { OnOk result (IsSound state.new []) }
+    ensures sound { OnOk result (IsSoundReader state.new []) }
     ensures moderate { (limits : Limits) → OnOk result (All (IsModerate limits) requests.old.items → All (IsModerate limits) requests.new.items) }
     ensures reads { IfOk result (λ n. (limits : Limits) (stream : List ℕ) (before : List Request) → After limits (State.Block start []) [] (stream ++ take begin (P.unread piece.now)) (before ++ requests.old.items)
         → After limits state.new [] (stream ++ take n (P.unread piece.now)) (before ++ requests.new.items)) }
@@ -155,7 +155,7 @@ fn take_begun<P: Piece>(
     if all.len() - begin < wanted {
         let mut bytes = Vec::with_capacity(alloc, wanted)?;
         bytes.extend_from_slice(all.split_at(begin).1)?;
-        *state = State::Block(start, Part { bytes });
+        *state = State::Block(start, PartialBlock { bytes });
         return Ok(all.len());
     }
     requests.push(stored_in(alloc, start, piece, begin)?)?;
@@ -173,9 +173,9 @@ fn take_line<P: Piece>(
 ) -> Result<usize, NoMemory>
     requires some { 0 < length (P.unread piece.now) }
     requires line { state.old ≡ Line }
-    requires sound { IsSound Line line.old.items }
+    requires sound { IsSoundReader Line line.old.items }
     ensures taken { IfOk result (λ n. (0 < n) × (n ≤ length (P.unread piece.now))) }
-    ensures sound { OnOk result (IsSound state.new line.new.items) }
+    ensures sound { OnOk result (IsSoundReader state.new line.new.items) }
     ensures moderate { OnOk result (All (IsModerate limits) requests.old.items → All (IsModerate limits) requests.new.items) }
     ensures reads { IfOk result (λ n. (stream : List ℕ) (before : List Request) → After limits Line line.old.items stream (before ++ requests.old.items)
         → After limits state.new line.new.items (stream ++ take n (P.unread piece.now)) (before ++ requests.new.items)) }
@@ -225,23 +225,23 @@ fn take_block(
     state: &mut State,
     requests: &mut Vec<Request>,
     start: Start,
-    part: Part,
+    part: PartialBlock,
     piece: &[u8],
 ) -> Result<usize, NoMemory>
     requires some { 0 < length piece.now }
     requires line { state.old ≡ Line }
-    requires sound { IsSound (State.Block start part) [] }
+    requires sound { IsSoundReader (State.Block start part) [] }
     ensures taken { IfOk result (λ n. (0 < n) × (n ≤ length piece.now)) }
-    ensures sound { OnOk result (IsSound state.new []) }
+    ensures sound { OnOk result (IsSoundReader state.new []) }
     ensures moderate { (limits : Limits) → OnOk result (All (IsModerate limits) requests.old.items → All (IsModerate limits) requests.new.items) }
     ensures reads { IfOk result (λ n. (limits : Limits) (stream : List ℕ) (before : List Request) → After limits (State.Block start part) [] stream (before ++ requests.old.items)
         → After limits state.new [] (stream ++ take n piece.now) (before ++ requests.new.items)) }
 {
-    let Part { mut bytes } = part;
+    let PartialBlock { mut bytes } = part;
     let wanted = start.count as usize + 2 - bytes.len();
     if piece.len() < wanted {
         bytes.extend_from_slice(piece)?;
-        *state = State::Block(start, Part { bytes });
+        *state = State::Block(start, PartialBlock { bytes });
         return Ok(piece.len());
     }
     bytes.extend_from_slice(piece.split_at(wanted).0)?;
@@ -259,9 +259,9 @@ fn take_skipped(
 ) -> Result<usize, NoMemory>
     requires some { 0 < length piece.now }
     requires line { state.old ≡ Line }
-    requires sound { IsSound (State.Skip start left) [] }
+    requires sound { IsSoundReader (State.Skip start left) [] }
     ensures taken { IfOk result (λ n. (0 < n) × (n ≤ length piece.now)) }
-    ensures sound { OnOk result (IsSound state.new []) }
+    ensures sound { OnOk result (IsSoundReader state.new []) }
     ensures moderate { (limits : Limits) → OnOk result (All (IsModerate limits) requests.old.items → All (IsModerate limits) requests.new.items) }
     ensures reads { IfOk result (λ n. (limits : Limits) (stream : List ℕ) (before : List Request) → After limits (State.Skip start left) [] stream (before ++ requests.old.items)
         → After limits state.new [] (stream ++ take n piece.now) (before ++ requests.new.items)) }
@@ -292,9 +292,9 @@ pub fn take_part<P: Piece>(
     piece: &P,
 ) -> Result<usize, NoMemory>
     requires some { 0 < length (P.unread piece.now) }
-    requires sound { IsSound state.old line.old.items }
+    requires sound { IsSoundReader state.old line.old.items }
     ensures taken { IfOk result (λ n. (0 < n) × (n ≤ length (P.unread piece.now))) }
-    ensures sound { OnOk result (IsSound state.new line.new.items) }
+    ensures sound { OnOk result (IsSoundReader state.new line.new.items) }
     ensures moderate { OnOk result (All (IsModerate limits) requests.old.items → All (IsModerate limits) requests.new.items) }
     ensures reads { IfOk result (λ n. (stream : List ℕ) (before : List Request) → After limits state.old line.old.items stream (before ++ requests.old.items)
         → After limits state.new line.new.items (stream ++ take n (P.unread piece.now)) (before ++ requests.new.items)) }

@@ -15,10 +15,10 @@ use Rattle.mc_item.specs.declared.answer.Need.TheVariants as needs
 use Rattle.mc_item.specs.declared.class_event.ClassEvent.TheVariants as class_events
 use Rattle.mc_item.specs.declared.command.Command.TheVariants.{Get, Store, Huge, Incr, Decr, Touch, Delete}
 use Rattle.mc_item.specs.declared.reply.Room.TheVariants as rooms
-use Rattle.mc_rule.specs.{Lawful.is_named, Lists.links_of, Lists.lists_of, Lists.segment_of, Pairs.link_to}
+use Rattle.mc_rule.specs.{Lawful.is_named, Lists.entries_linked, Lists.lists_of, Lists.segment_of, Pairs.link_to}
 use Rattle.mc_rule.proofs.TestLemmas.{by_eq}
 use Rattle.mc_evidence.specs.Small.{AreSmall}
-use Rattle.mc_evidence.proofs.{RowLemmas.by_test, SmallLemmas.small_item, UnnamedLemmas.next_unnamed}
+use Rattle.mc_evidence.proofs.{RowLemmas.by_test, SmallItemLemmas.small_item, UnnamedLemmas.next_unnamed}
 use Rattle.mc_segment.specs.{ClassState.ClassView, ClassState.HasPlaces, ClassState.with_room, Entries.entry_of}
 use Rattle.mc_pull.specs.declared.parts.Part.{Part}
 use Rattle.mc_pull.specs.declared.parts.Part.TheVariants as parts
@@ -27,12 +27,12 @@ use Rattle.mc_stripe.specs.Wanting.{Covers, Holds, IsGiven, IsTaken, Uses, chang
 use Rattle.mc_stripe.specs.Wanting as wanting
 use Rattle.mc_stripe.specs.declared.{fate.Fate.Fate, wanting.Given.Given, wanting.Home.Home, wanting.Other.Other, trying.Turn.Turn}
 use Rattle.mc_stripe.specs.declared.fate.Fate.TheVariants as fates
-use Rattle.mc_pull.specs.{Agreeing.AgreeNow, Lent.Each, Lent.IsLent, Lent.IsLentIf, Perform.AreLent, Perform.GivesRoom, Perform.MayAnswer, Perform.MayPerform}
+use Rattle.mc_pull.specs.{Agreeing.AgreeNow, Lent.OfEachClass, Lent.IsLent, Lent.IsLentIf, Perform.AreLent, Perform.GivesRoom, Perform.MayAnswer, Perform.MayPerform}
 use Rattle.mc_pull.specs.{Perform.call, Perform.fate_for, Performed.cooled_if, Settled.cooled_event, Question.IsClassOf, Question.IsStripeOf}
 use Rattle.mc_pull.specs.Attempt.{GivesHome, HasFree, HasRoomFor, IsAny, IsSmallFate, MayTryOn, OffersHome, OffersOther}
-use Rattle.mc_pull.specs.Parts.{gone_part, hit_part, is_cold, is_for, is_here, is_warming, new_part, number_in, part_for, places_of}
-use Rattle.mc_pull.proofs.{CallLemmas.after_is, CallLemmas.did, CallLemmas.may_do, PerformLemmas.not_gone, PerformLemmas.not_new, PerformedLemmas.IsOf}
-use Rattle.mc_pull.proofs.{PerformedLemmas.each_at, PerformedLemmas.one_class, PlacedLemmas.IsPlaced, PlacedLemmas.row_places, CostLemmas.small_at}
+use Rattle.mc_pull.specs.Parts.{gone_part, hit_part, is_cold, is_for, is_here, is_warming, new_part, entry_number, part_for, places_of}
+use Rattle.mc_pull.proofs.{CallItemLemmas.after_is, CallItemLemmas.did, CallItemLemmas.may_do, PerformLemmas.not_gone, PerformLemmas.not_new, PerformedLemmas.IsOf}
+use Rattle.mc_pull.proofs.{PerformedLemmas.each_at, PerformedLemmas.one_class, NewVersionLemmas.IsPlaced, NewVersionLemmas.row_places, CostLemmas.small_at}
 
 -- ---- one of some classes
 record Picked (P : ClassView → Type 0) (vs : List ClassView) : Type 0 where
@@ -45,7 +45,7 @@ picked P [] any = absurd any
 picked P (v ∷ vs) (inl is) = record { class = v; there = inl refl; is = is }
 picked P (v ∷ vs) (inr later) = let p = picked P vs later in record { class = p.class; there = inr p.there; is = p.is }
 
-each_by : (P : ClassView → Type 0) (vs : List ClassView) → ((v : ClassView) → IsOf v vs → P v) → Each P vs
+each_by : (P : ClassView → Type 0) (vs : List ClassView) → ((v : ClassView) → IsOf v vs → P v) → OfEachClass P vs
 each_by P [] by = tt
 each_by P (v ∷ vs) by = (by v (inl refl), each_by P vs (λ x there. by x (inr there)))
 
@@ -103,9 +103,9 @@ module _ (v : ClassView) (key : List ℕ) (room : Room) where
   cold_of_none : (found : Option Item) (change : Change) → IsNoHit change → is_warming (part_for v key room (fate_of key found change)) ≡ false
   cold_of_none found changes.Stays none = refl
   cold_of_none None changes.Goes none = refl
-  cold_of_none (Some old) changes.Goes none = not_gone (number_in v key (Some old.link))
+  cold_of_none (Some old) changes.Goes none = not_gone (entry_number v key (Some old.link))
   cold_of_none found (changes.Counted value cas) none = refl
-  cold_of_none found (changes.Renewed item) none = not_new key _ _ (is_here v room) (number_in v key (link_of_item found))
+  cold_of_none found (changes.Renewed item) none = not_new key _ _ (is_here v room) (entry_number v key (link_of_item found))
   cold_of_none found (changes.Hit marks) none = absurd none
   cold_of_none found (changes.Touched expiry marks) none = absurd none
 
@@ -113,7 +113,7 @@ module _ (v : ClassView) (key : List ℕ) (room : Room) where
   cold_row found row none = cold_of_none found (row.answer room).change none
 
   abbrev warms_at : Option Link → Bool
-  warms_at link = is_warming (hit_part v (number_in v key link))
+  warms_at link = is_warming (hit_part v (entry_number v key link))
 
   hit_same : (b : Bool) (link : Link) → is_warming (part_for v key room (if b then fates.Woken link else fates.Untouched)) ≡ warms_at (if b then Some link else None)
   hit_same true link = refl
@@ -127,17 +127,17 @@ module _ (v : ClassView) (key : List ℕ) (room : Room) where
 
 -- what a hit wakes is what a part of its command moves
 pub warms_part : (s : Stripe) (command : Command) (moment : ℕ) (v : ClassView) (room : Room) → IsAlive (item_of s command) moment
-    → is_warming (part_for v (key_of command) room (fate_of (key_of command) (item_of s command) ((row_at s command moment).answer room).change)) ≡ is_warming (hit_part v (number_in v (key_of command) (woken_by s command moment)))
+    → is_warming (part_for v (key_of command) room (fate_of (key_of command) (item_of s command) ((row_at s command moment).answer room).change)) ≡ is_warming (hit_part v (entry_number v (key_of command) (woken_by s command moment)))
 warms_part s (Get key) moment v room alive = by (item_of s (Get key)) alive
   where
     by : (found : Option Item) → IsAlive found moment
-        → is_warming (part_for v key room (fate_of key found ((row_of s.site (cache_now s).versions found (Get key) moment).answer room).change)) ≡ is_warming (hit_part v (number_in v key (woken_link found moment)))
+        → is_warming (part_for v key room (fate_of key found ((row_of s.site (cache_now s).versions found (Get key) moment).answer room).change)) ≡ is_warming (hit_part v (entry_number v key (woken_link found moment)))
     by None alive = refl
     by (Some item) alive = hit_alive v key room item moment alive
 warms_part s (Touch key exptime) moment v room alive = by (item_of s (Touch key exptime)) alive
   where
     by : (found : Option Item) → IsAlive found moment
-        → is_warming (part_for v key room (fate_of key found ((row_of s.site (cache_now s).versions found (Touch key exptime) moment).answer room).change)) ≡ is_warming (hit_part v (number_in v key (woken_link found moment)))
+        → is_warming (part_for v key room (fate_of key found ((row_of s.site (cache_now s).versions found (Touch key exptime) moment).answer room).change)) ≡ is_warming (hit_part v (entry_number v key (woken_link found moment)))
     by None alive = refl
     by (Some item) alive = hit_alive v key room item moment alive
 warms_part s (Store verb key flags exptime value) moment v room alive =
@@ -159,7 +159,7 @@ warms_part s (Delete key) moment v room alive = by (item_of s (Delete key))
   where
     by : (found : Option Item) → is_warming (part_for v key room (fate_of key found ((row_of s.site (cache_now s).versions found (Delete key) moment).answer room).change)) ≡ false
     by None = refl
-    by (Some item) = not_gone (number_in v key (Some item.link))
+    by (Some item) = not_gone (entry_number v key (Some item.link))
 
 -- ---- how many events a part has
 module _ (key : List ℕ) (cost n : ℕ) (expiry : Expiry) where
@@ -210,14 +210,14 @@ module _ (v : ClassView) (key : List ℕ) where
   part_few room fates.Untouched cold = omega arith
   part_few room (fates.Renewed cost expiry old) cold = few_renewed cost expiry room old
   part_few room (fates.Goes link) cold = few_gone link.number (link.class.0 == v.number.0) (is_for key (entry_of link.number (lists_of v.history)))
-  part_few room (fates.Woken link) cold = cold_hit v (number_in v key (Some link)) cold
+  part_few room (fates.Woken link) cold = cold_hit v (entry_number v key (Some link)) cold
 
   -- one that moves an entry has one
   pub part_one : (room : Room) (fate : Fate) → is_warming (part_for v key room fate) ≡ true → places_of (part_for v key room fate) ≤ 1
   part_one room fates.Untouched warm = absurd (false≢true warm)
-  part_one room (fates.Renewed cost expiry old) warm = absurd (false≢true (sym (not_new key cost expiry (is_here v room) (number_in v key old)) ∙ warm))
-  part_one room (fates.Goes link) warm = absurd (false≢true (sym (not_gone (number_in v key (Some link))) ∙ warm))
-  part_one room (fates.Woken link) warm = few_hit v (number_in v key (Some link))
+  part_one room (fates.Renewed cost expiry old) warm = absurd (false≢true (sym (not_new key cost expiry (is_here v room) (entry_number v key old)) ∙ warm))
+  part_one room (fates.Goes link) warm = absurd (false≢true (sym (not_gone (entry_number v key (Some link))) ∙ warm))
+  part_one room (fates.Woken link) warm = few_hit v (entry_number v key (Some link))
 
 -- ---- a command that may be tried on these classes
 module _ (s : Stripe) (vs : List ClassView) (command : Command) (turn : Turn) (given : Given) (may : MayTryOn s vs command turn given) where
@@ -251,14 +251,14 @@ module _ (s : Stripe) (vs : List ClassView) (command : Command) (turn : Turn) (g
         gives = subst (GivesHome at.3.class may.refused turn.who) at.2.1 at.3.offers.room;
       }
 
-  module _ (fresh_at : (v : ClassView) → IsOf v vs → (q : ℕ) → links_of v.history ≤ q → is_named q v.history ≡ false) where
+  module _ (fresh_at : (v : ClassView) → IsOf v vs → (q : ℕ) → entries_linked v.history ≤ q → is_named q v.history ≡ false) where
     fits_room : (class : ClassNo) (room : Room) → IsGiven room → Taken class room → Fits (needs.Fresh class) room s.history
     fits_room class (rooms.At link) given t =
-        let link_is : link ≡ link_to t.from.number (links_of t.from.history) = t.gives.0 in
+        let link_is : link ≡ link_to t.from.number (entries_linked t.from.history) = t.gives.0 in
         let met : AgreeNow t.from s = each_at (λ v. AgreeNow v s) vs may.met t.from t.there in (
           ap (λ (l : Link). l.class) link_is ∙ t.number_is,
           subst (λ (l : Link). IsUnnamed l s.history) (sym link_is)
-              (next_unnamed s.site t.from.rule t.from.number (links_of t.from.history) s.history t.from.history met.evidence.told (fresh_at t.from t.there (links_of t.from.history) (omega arith))),
+              (next_unnamed s.site t.from.rule t.from.number (entries_linked t.from.history) s.history t.from.history met.evidence.told (fresh_at t.from t.there (entries_linked t.from.history) (omega arith))),
         )
     fits_room class (rooms.Refused of place) given t = t.gives.0 ∙ t.number_is
     fits_room class rooms.Keep given t = absurd given
@@ -289,7 +289,7 @@ module _ (s : Stripe) (vs : List ClassView) (command : Command) (turn : Turn) (g
           let number : link.class ≡ t.from.number = ap (λ (l : Link). l.class) t.gives.0 in
           record {
             free = λ here. subst HasFree (same_class t.from v t.there there (sym number ∙ here_number v link here)) t.gives.1;
-            named = λ same. ap (λ (l : Link). l.number) t.gives.0 ∙ ap (λ (x : ClassView). links_of x.history) (same_class t.from v t.there there (sym number ∙ same));
+            named = λ same. ap (λ (l : Link). l.number) t.gives.0 ∙ ap (λ (x : ClassView). entries_linked x.history) (same_class t.from v t.there there (sym number ∙ same));
           }
       gives_taken class (rooms.Refused of place) t v there = record {
         free = λ here. absurd (false≢true here);
@@ -388,7 +388,7 @@ module _ (s : Stripe) (vs : List ClassView) (command : Command) (turn : Turn) (g
       lent_need needs.TooLarge taken covers = kept_lent taken covers.1
 
       -- the command may be made
-      pub may_perform : (config : Config) → IsStripeOf config s → Each (IsClassOf config) vs → MayPerform config s (call turn.who command turn.moment room) vs
+      pub may_perform : (config : Config) → IsStripeOf config s → OfEachClass (IsClassOf config) vs → MayPerform config s (call turn.who command turn.moment room) vs
       may_perform config made_with classes = record {
         answer = may_answer;
         made_with = made_with;
@@ -491,15 +491,15 @@ warm_places (parts.Unlinks number) warm = absurd (false≢true warm)
 warm_places (parts.Warms number) warm = refl
 
 module _ (v : ClassView) (moment : ℕ) where
-  alive_if : (key : List ℕ) (item : Item) (link : Option Link) (b : Bool) → is_dead item moment ≡ b → is_warming (hit_part v (number_in v key (if b then None else link))) ≡ true → is_dead item moment ≡ false
+  alive_if : (key : List ℕ) (item : Item) (link : Option Link) (b : Bool) → is_dead item moment ≡ b → is_warming (hit_part v (entry_number v key (if b then None else link))) ≡ true → is_dead item moment ≡ false
   alive_if key item link true is warm = absurd (false≢true warm)
   alive_if key item link false is warm = is
 
-  alive_woken : (key : List ℕ) (found : Option Item) → is_warming (hit_part v (number_in v key (woken_link found moment))) ≡ true → IsAlive found moment
+  alive_woken : (key : List ℕ) (found : Option Item) → is_warming (hit_part v (entry_number v key (woken_link found moment))) ≡ true → IsAlive found moment
   alive_woken key None warm = tt
   alive_woken key (Some item) warm = alive_if key item (if (hit_marks item.marks).active && not item.marks.active then Some item.link else None) (is_dead item moment) refl warm
 
-  pub warm_alive : (s : Stripe) (command : Command) → is_warming (hit_part v (number_in v (key_of command) (woken_by s command moment))) ≡ true → IsAlive (item_of s command) moment
+  pub warm_alive : (s : Stripe) (command : Command) → is_warming (hit_part v (entry_number v (key_of command) (woken_by s command moment))) ≡ true → IsAlive (item_of s command) moment
   warm_alive s (Get key) warm = alive_woken key (item_of s (Get key)) warm
   warm_alive s (Touch key exptime) warm = alive_woken key (item_of s (Touch key exptime)) warm
   warm_alive s (Store verb key flags exptime value) warm = absurd (false≢true warm)
@@ -509,6 +509,6 @@ module _ (v : ClassView) (moment : ℕ) where
   warm_alive s (Delete key) warm = absurd (false≢true warm)
 
   -- so it is the part of the command
-  pub warm_on : (s : Stripe) (command : Command) (room : Room) → is_warming (hit_part v (number_in v (key_of command) (woken_by s command moment))) ≡ true
+  pub warm_on : (s : Stripe) (command : Command) (room : Room) → is_warming (hit_part v (entry_number v (key_of command) (woken_by s command moment))) ≡ true
       → is_warming (part_for v (key_of command) room (fate_of (key_of command) (item_of s command) ((row_at s command moment).answer room).change)) ≡ true
   warm_on s command room warm = warms_part s command moment v room (warm_alive s command warm) ∙ warm

@@ -10,11 +10,11 @@ use Rattle.mc_item.specs.declared.answer.Change.TheVariants as changes
 use Rattle.mc_item.specs.declared.class_event.ClassEvent.TheVariants as entries
 use Rattle.mc_item.specs.declared.class_event.Why.TheVariants as whys
 use Rattle.mc_item.specs.declared.reply.Room.TheVariants as rooms
-use Rattle.mc_rule.specs.{Agreement.Agree, Belonging.Belong, Lawful.IsLawfulHistoryByLists, Lawful.SuitsMove, Lists.lists_of, Lists.links_of, Lists.segment_of}
+use Rattle.mc_rule.specs.{Agreement.Agree, Belonging.Belong, Lawful.IsLawfulHistoryByLists, Lawful.SuitsMove, Lists.lists_of, Lists.entries_linked, Lists.segment_of}
 use Rattle.mc_rule.specs.{Pairs.IsLinking, Pairs.IsUnlinking, Pairs.item_after, Pairs.link_to}
 use Rattle.mc_rule.proofs.TestLemmas.{none_some, some_same}
 use Rattle.mc_evidence.specs.Made.{IsGivenNone, IsRefusedThere, LetsNoneGo, cooled_as, linked_for}
-use Rattle.mc_evidence.proofs.AgreeLemmas.{agree_cooled, agree_links, agree_neither, agree_replaces, agree_unlinks}
+use Rattle.mc_evidence.proofs.AgreementLemmas.{agree_cooled, agree_links, agree_neither, agree_replaces, agree_unlinks}
 use Rattle.mc_evidence.proofs.{RoomLemmas.new_entry, RowLemmas.IsNoChunk}
 use Rattle.mc_segment.specs.ClassState.{ClassView}
 use Rattle.mc_stripe.specs.declared.fate.Fate.TheVariants as fates
@@ -22,10 +22,10 @@ use Rattle.mc_stripe.specs.{Plan.fate_of, Plan.gone_fate, Plan.hit_fate, StripeS
 use Rattle.mc_pull.specs.declared.parts.Part.{Part}
 use Rattle.mc_pull.specs.declared.parts.Part.TheVariants as parts
 use Rattle.mc_pull.specs.{Agreeing.HasRefusal, Performed.did_event, Performed.events_in, Performed.part_in}
-use Rattle.mc_pull.specs.Parts.{gone_part, hit_part, is_cold, is_here, is_warming, new_part, number_in, part_events, part_for}
+use Rattle.mc_pull.specs.Parts.{gone_part, hit_part, is_cold, is_here, is_warming, new_part, entry_number, part_events, part_for}
 use Rattle.mc_pull.specs.Perform.{Call, MayAnswer, IsRoomOf, answer_to, item_before}
-use Rattle.mc_pull.proofs.CallLemmas.{AgreesWith, Finds, KeepsLink, after_is, entry, entry_stays, finds, kept_link, did, given_none, goes, key, may_do, not_held, noted, placed, refused_there, spared_if_apart, spared_if_kept, still_agrees}
-use Rattle.mc_pull.proofs.{PlacedLemmas.IsPlaced, PerformLemmas.active_after}
+use Rattle.mc_pull.proofs.CallItemLemmas.{AgreesWith, Finds, KeepsLink, after_is, entry, entry_stays, finds, kept_link, did, given_none, goes, key, may_do, not_held, noted, placed, refused_there, spared_if_apart, spared_if_kept, still_agrees}
+use Rattle.mc_pull.proofs.{NewVersionLemmas.IsPlaced, PerformLemmas.active_after}
 
 module _ (s : Stripe) (c : Call) (legal : IsLegal s.site s.history) (may : MayAnswer s c) where
   module _ (v : ClassView) (lawful : IsLawfulHistoryByLists v.chunks v.rule v.history) (agree : Agree s.site v.rule v.number s.history v.history) where
@@ -99,7 +99,7 @@ module _ (s : Stripe) (c : Call) (legal : IsLegal s.site s.history) (may : MayAn
           → link_of_item (changed (item_before s c) change) ≡ link_of_item (item_before s c) → Made (part_by change)
       stays_by change change_is none is same = none_comes change change_is is (given_none s c legal may v.number v.history none) (spared_if_kept s c legal may v.number v.history (kept change change_is same)) refused
 
-      gone_is : (o : Option Item) → part_for v (key s c) c.room (gone_fate o) ≡ gone_part (number_in v (key s c) (link_of_item o))
+      gone_is : (o : Option Item) → part_for v (key s c) c.room (gone_fate o) ≡ gone_part (entry_number v (key s c) (link_of_item o))
       gone_is None = refl
       gone_is (Some item) = refl
 
@@ -118,18 +118,18 @@ module _ (s : Stripe) (c : Call) (legal : IsLegal s.site s.history) (may : MayAn
       cold_by m had true = inr (m, had, refl)
       cold_by m had false = inl refl
 
-      hit_entry : HitIs (hit_part v (number_in v (key s c) (link_of_item (item_before s c))))
+      hit_entry : HitIs (hit_part v (entry_number v (key s c) (link_of_item (item_before s c))))
       hit_entry =
-          elim (finds s c legal may v lawful agree) as (λ (t : Finds s c legal may v lawful agree (link_of_item (item_before s c))). HitIs (hit_part v (number_in v (key s c) (link_of_item (item_before s c))))) [
+          elim (finds s c legal may v lawful agree) as (λ (t : Finds s c legal may v lawful agree (link_of_item (item_before s c))). HitIs (hit_part v (entry_number v (key s c) (link_of_item (item_before s c))))) [
             | inl has ↦ subst (λ (o : Option ℕ). HitIs (hit_part v o)) (sym has.2) (cold_by has.0 has.1 (is_cold (segment_of has.0 (lists_of v.history))))
             | inr lacks ↦ inl (ap (hit_part v) lacks.1)
           ]
 
-      woken_by : (b : Bool) (link : Link) → HitIs (hit_part v (number_in v (key s c) (Some link))) → HitIs (part_for v (key s c) c.room (if b then fates.Woken link else fates.Untouched))
+      woken_by : (b : Bool) (link : Link) → HitIs (hit_part v (entry_number v (key s c) (Some link))) → HitIs (part_for v (key s c) c.room (if b then fates.Woken link else fates.Untouched))
       woken_by true link h = h
       woken_by false link h = inl refl
 
-      hit_by : (active : Bool) (o : Option Item) → HitIs (hit_part v (number_in v (key s c) (link_of_item o))) → HitIs (part_for v (key s c) c.room (hit_fate active o))
+      hit_by : (active : Bool) (o : Option Item) → HitIs (hit_part v (entry_number v (key s c) (link_of_item o))) → HitIs (part_for v (key s c) c.room (hit_fate active o))
       hit_by active None h = inl refl
       hit_by active (Some item) h = woken_by (active && not item.marks.active) item.link h
 
@@ -147,22 +147,22 @@ module _ (s : Stripe) (c : Call) (legal : IsLegal s.site s.history) (may : MayAn
         replaced m had is = not_held s c legal may (link_to v.number m) (room ∙ ap rooms.At (some_same _ _ is)) had
 
         -- the part, where the new link is of the class or isn't, and the old one's number is found or isn't
-        renewed_is : (here : Bool) (o : Option ℕ) → is_here v c.room ≡ here → number_in v (key s c) (link_of_item (item_before s c)) ≡ o → part_by (changes.Renewed item) ≡ new_part (key s c) (cost_of (key s c) item.value) item.expiry here o
+        renewed_is : (here : Bool) (o : Option ℕ) → is_here v c.room ≡ here → entry_number v (key s c) (link_of_item (item_before s c)) ≡ o → part_by (changes.Renewed item) ≡ new_part (key s c) (cost_of (key s c) item.value) item.expiry here o
         renewed_is here o here_is old_is =
-            ap (λ (b : Bool). new_part (key s c) (cost_of (key s c) item.value) item.expiry b (number_in v (key s c) (link_of_item (item_before s c)))) here_is
+            ap (λ (b : Bool). new_part (key s c) (cost_of (key s c) item.value) item.expiry b (entry_number v (key s c) (link_of_item (item_before s c)))) here_is
             ∙ ap (new_part (key s c) (cost_of (key s c) item.value) item.expiry here) old_is
 
         module _ (here_is : is_here v c.room ≡ true) (class_is : item.link.class ≡ v.number) where
           abbrev linked : Linked
-          linked = linked_for v.rule (links_of v.history) (did s c) item
+          linked = linked_for v.rule (entries_linked v.history) (did s c) item
 
-          link_is : item.link ≡ link_to v.number (links_of v.history)
+          link_is : item.link ≡ link_to v.number (entries_linked v.history)
           link_is = ap (λ (n : ClassNo). link_to n item.link.number) class_is ∙ ap (link_to v.number) (subst (λ (r : Room). IsRoomOf c.who r v) room named class_is)
 
           linking : IsLinking s.site v.rule v.number s.history (did s c) linked
-          linking = subst (λ (o : Option Item). IsSomeAnd o (λ i. IsLinking s.site v.rule v.number s.history (did s c) (linked_for v.rule (links_of v.history) (did s c) i)))
+          linking = subst (λ (o : Option Item). IsSomeAnd o (λ i. IsLinking s.site v.rule v.number s.history (did s c) (linked_for v.rule (entries_linked v.history) (did s c) i)))
               (after_is s c legal may ∙ ap (changed (item_before s c)) change_is)
-              (new_entry s.site v.rule v.number (links_of v.history) s.history (did s c) (may_do s c legal may) (room ∙ ap rooms.At link_is))
+              (new_entry s.site v.rule v.number (entries_linked v.history) s.history (did s c) (may_do s c legal may) (room ∙ ap rooms.At link_is))
 
           comes : Made (part_by (changes.Renewed item))
           comes =
@@ -170,7 +170,7 @@ module _ (s : Stripe) (c : Call) (legal : IsLegal s.site s.history) (may : MayAn
                 | inl has ↦
                     let m = has.0 in
                     let gone : Unlinked = record { who = c.who; number = m } in
-                    let apart : links_of v.history ≢ m = λ is. replaced m has.1 (ap (λ (l : Link). Some l) (link_is ∙ ap (link_to v.number) is)) in
+                    let apart : entries_linked v.history ≢ m = λ is. replaced m has.1 (ap (λ (l : Link). Some l) (link_is ∙ ap (link_to v.number) is)) in
                     let both = agree_replaces s.site v.rule v.number s.history v.history agree (did s c) linked gone linking (unlinking (changes.Renewed item) change_is m has.1 (replaced m has.1))
                     (entry_stays s c legal may v lawful agree m linked apart (entry s c legal may v lawful agree m has.1)) in
                     quiet (changes.Renewed item) change_is (parts.Renews (key s c) (cost_of (key s c) item.value) item.expiry m) (renewed_is true (Some m) here_is has.2) refl

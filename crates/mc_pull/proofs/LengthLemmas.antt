@@ -9,7 +9,7 @@ use Rattle.mc_rule.specs.Lists.{Lists, list_of, with_list, find, without, linked
 use Rattle.mc_pull.specs.declared.{judge.Done.Done, judge.Judge.Judge, judge.Judge.TheVariants.Walk, judge.Judge.TheVariants.Dead, looking.Judged.Judged}
 use Rattle.mc_pull.specs.declared.{pulled.Pulled.Pulled}
 use Rattle.mc_pull.specs.declared.judge.Done.TheVariants as done
-use Rattle.mc_pull.specs.{Pulled.counts_after, Pulled.counts_if, Question.Question, Settled.class_events, Settled.warm_events, Settled.cold_events}
+use Rattle.mc_pull.specs.{Pulled.counts_after, Pulled.counts_if, Question.Question, Settled.done_class_events, Settled.warm_events, Settled.cold_events}
 use Rattle.mc_pull.specs.Walk.{Pull, Way, class_at, question_at, events_at}
 
 one_more : (n : ℕ) → n ≤ suc n
@@ -103,7 +103,7 @@ cold_passes : (c : ClassView) (q : Question) (at : ℕ) (judge : Judge) (p : Pul
 cold_passes c q at (Walk s mode passed) p = omega arith
 cold_passes c q at Dead p = omega arith
 
-done_passes : (c : ClassView) (q : Question) (at : ℕ) (d : Done) (p : Pulled) → (counts_after d p).passed + length (class_events c q at d) ≤ p.passed + 1
+done_passes : (c : ClassView) (q : Question) (at : ℕ) (d : Done) (p : Pulled) → (counts_after d p).passed + length (done_class_events c q at d) ≤ p.passed + 1
 done_passes c q at done.Reclaimed p = omega arith
 done_passes c q at done.ToWarm p = warm_passes q at q.judge p
 done_passes c q at done.WithinWarm p = warm_passes q at q.judge p

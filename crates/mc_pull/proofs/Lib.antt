@@ -1,22 +1,22 @@
 pub mod OutcomeLemmas
-pub mod SightLemmas
+pub mod OtherSightLemmas
 mod SettledLemmas
-mod KeepLemmas
+mod JudgementKeepsLemmas
 pub mod LengthLemmas
 pub mod GrowthLemmas
-pub mod WayLemmas
+pub mod WalkAnswerLemmas
 pub mod RoundLemmas
-pub mod TriedLemmas
-pub mod KnownLemmas
-pub mod LoneLemmas
+pub mod SearchTriedLemmas
+pub mod NoStrangerLemmas
+pub mod OneStripeGateLemmas
 pub mod EventsLemmas
-mod PartLemmas
+mod ListedEntryLemmas
 mod PerformLemmas
-mod PlacedLemmas
-mod CallLemmas
+mod NewVersionLemmas
+mod CallItemLemmas
 mod ClassPartLemmas
-mod FarPartLemmas
+mod OtherStripeLemmas
 pub mod PerformedLemmas
 mod CostLemmas
 pub mod AttemptLemmas
-mod MadeLemmas
+mod TriedCommandLemmas

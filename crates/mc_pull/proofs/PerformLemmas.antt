@@ -14,7 +14,7 @@ use Rattle.mc_stripe.specs.declared.fate.Fate.TheVariants as fates
 use Rattle.mc_stripe.specs.{Plan.fate_of, StripeState.Stripe, StripeState.cache_now}
 use Rattle.mc_pull.specs.declared.parts.Part.{Part}
 use Rattle.mc_pull.specs.declared.parts.Part.TheVariants as parts
-use Rattle.mc_pull.specs.Parts.{part_for, part_events, new_part, gone_part, is_warming, number_in, is_here}
+use Rattle.mc_pull.specs.Parts.{part_for, part_events, new_part, gone_part, is_warming, entry_number, is_here}
 use Rattle.mc_pull.specs.{Perform.Call, Perform.item_before, Perform.answer_to, Settled.class_with}
 
 -- ---- a part that warms an entry is that of a hit that leaves the item ACTIVE
@@ -34,9 +34,9 @@ active_if false b v key room link h = absurd (false≢true h)
 
 pub active_after : (v : ClassView) (key : List ℕ) (room : Room) (found : Option Item) (change : Change) → is_warming (part_for v key room (fate_of key found change)) ≡ true
     → IsSomeAnd (changed found change) (λ item. item.marks.active ≡ true)
-active_after v key room found (changes.Renewed item) h = absurd (false≢true (sym (not_new key _ _ (is_here v room) (number_in v key _)) ∙ h))
+active_after v key room found (changes.Renewed item) h = absurd (false≢true (sym (not_new key _ _ (is_here v room) (entry_number v key _)) ∙ h))
 active_after v key room None changes.Goes h = absurd (false≢true h)
-active_after v key room (Some old) changes.Goes h = absurd (false≢true (sym (not_gone (number_in v key (Some old.link))) ∙ h))
+active_after v key room (Some old) changes.Goes h = absurd (false≢true (sym (not_gone (entry_number v key (Some old.link))) ∙ h))
 active_after v key room None (changes.Hit marks) h = absurd (false≢true h)
 active_after v key room (Some old) (changes.Hit marks) h = active_if marks.active old.marks.active v key room old.link h
 active_after v key room None (changes.Touched expiry marks) h = absurd (false≢true h)

@@ -6,29 +6,29 @@ use Rattle.mc_item.specs.{Cache.changed, Cache.counted, Cache.marked, Cache.touc
 use Rattle.mc_item.specs.declared.{answer.Change.Change, answer.Site.Site, class_event.ClassEvent.ClassEvent, config.Config.Config, item.ClassNo.ClassNo}
 use Rattle.mc_item.specs.declared.{item.Item.Item, item.Link.Link, reply.Room.Room, stripe_event.StripeEvent.StripeEvent}
 use Rattle.mc_item.specs.declared.answer.Change.TheVariants as changes
-use Rattle.mc_rule.specs.{Agreement.Agree, Cited.IsSuited, Evidence.IsBacked, Evidence.IsTold, Lawful.IsLawfulHistoryByLists, Lists.lists_of, Pairs.item_after}
+use Rattle.mc_rule.specs.{Agreement.Agree, Cited.IsSuited, Evidence.IsBacked, Evidence.HasTrace, Lawful.IsLawfulHistoryByLists, Lists.lists_of, Pairs.item_after}
 use Rattle.mc_rule.specs.{Pairs.link_to, Places.Each as EachEvent, Segment.Rule}
 use Rattle.mc_rule.proofs.TestLemmas.{by_eq, none_some, some_same}
 use Rattle.mc_evidence.specs.Made.{IsGivenNone, LetsNoneGo}
-use Rattle.mc_evidence.proofs.AgreeLemmas.{agree_neither}
+use Rattle.mc_evidence.proofs.AgreementLemmas.{agree_neither}
 use Rattle.mc_segment.specs.{ClassState.ClassView, Entries.entry_of}
 use Rattle.mc_stripe.specs.{Plan.fate_of, Plan.gone_fate, StripeCalls.KeepsSite, StripeState.Stripe}
 use Rattle.mc_stripe.specs.declared.fate.Fate.TheVariants as fates
-use Rattle.mc_pull.specs.{Agreeing.AgreeNow, Agreeing.HasRefusal, Agreeing.IsApart, Agreeing.KeepsAgreements, Lent.AreDistinct, Lent.Each, Lent.EachPair}
+use Rattle.mc_pull.specs.{Agreeing.AgreeNow, Agreeing.HasRefusal, Agreeing.IsApart, Agreeing.KeepsAgreements, Lent.AreDistinct, Lent.OfEachClass, Lent.EachPair}
 use Rattle.mc_pull.specs.{Lent.IsLent, Lent.IsLentIf, Sight.BacksStill, Sight.KeepsSights, Sight.SuitsStill}
-use Rattle.mc_pull.specs.Parts.{hit_part, is_for, is_here, is_warming, number_in, part_for}
+use Rattle.mc_pull.specs.Parts.{hit_part, is_for, is_here, is_warming, entry_number, part_for}
 use Rattle.mc_pull.specs.Perform.{AreLent, Call, GivesRoom, MayPerform, answer_to, item_before}
-use Rattle.mc_pull.specs.Performed.{GainsPart, IsPerformed, IsUntouched, Stays, events_in, events_on_stripe, is_cooling, part_in}
-use Rattle.mc_pull.proofs.CallLemmas.{AgreesWith, after_is, did, given_none, kept_link, key, neither_told, noted, placed, refused_there, spared_if_apart, spared_if_kept, still_agrees, still_told}
-use Rattle.mc_pull.proofs.{ClassPartLemmas.part_agrees, FarPartLemmas.IsNumbered, FarPartLemmas.part_far, PerformLemmas.not_gone, PerformLemmas.not_new}
-use Rattle.mc_pull.proofs.{PlacedLemmas.IsPlaced, SightLemmas.backed_on, SightLemmas.suited_on}
+use Rattle.mc_pull.specs.Performed.{GainsPart, IsPerformed, IsUntouched, ClassStays, events_in, events_on_stripe, is_cooling, part_in}
+use Rattle.mc_pull.proofs.CallItemLemmas.{AgreesWith, after_is, did, given_none, kept_link, key, neither_told, noted, placed, refused_there, spared_if_apart, spared_if_kept, still_agrees, still_told}
+use Rattle.mc_pull.proofs.{ClassPartLemmas.part_agrees, OtherStripeLemmas.IsNumbered, OtherStripeLemmas.part_far, PerformLemmas.not_gone, PerformLemmas.not_new}
+use Rattle.mc_pull.proofs.{NewVersionLemmas.IsPlaced, OtherSightLemmas.backed_on, OtherSightLemmas.suited_on}
 
 -- ---- the classes of a list
 abbrev pub IsOf : ClassView → List ClassView → Type 0
 IsOf v [] = ⊥
 IsOf v (w ∷ ws) = (v ≡ w) ⊎ IsOf v ws
 
-pub each_at : (P : ClassView → Type 0) (vs : List ClassView) → Each P vs → (v : ClassView) → IsOf v vs → P v
+pub each_at : (P : ClassView → Type 0) (vs : List ClassView) → OfEachClass P vs → (v : ClassView) → IsOf v vs → P v
 each_at P [] all v there = absurd there
 each_at P (w ∷ ws) all v (inl is) = subst P (sym is) all.0
 each_at P (w ∷ ws) all v (inr later) = each_at P ws all.1 v later
@@ -86,7 +86,7 @@ record IsMoved (n : ClassNo) (found : Option Item) (change : Change) : Type 0 wh
   pub keeps : link_of_item (changed found change) ≡ link_of_item found
 
 module _ (v : ClassView) (key : List ℕ) (room : Room) where
-  of_class : (link : Link) → is_warming (hit_part v (number_in v key (Some link))) ≡ true → link.class ≡ v.number
+  of_class : (link : Link) → is_warming (hit_part v (entry_number v key (Some link))) ≡ true → link.class ≡ v.number
   of_class link =
       by_eq link.class.0 v.number.0 (λ b. is_warming (hit_part v (if b && is_for key (entry_of link.number (lists_of v.history)) then Some link.number else None)) ≡ true → link.class ≡ v.number)
       (λ same on. ap (λ (n : ℕ). record { 0 = n }) same) (λ apart on. absurd (false≢true on))
@@ -103,9 +103,9 @@ module _ (v : ClassView) (key : List ℕ) (room : Room) where
   }
 
   is_moved : (found : Option Item) (change : Change) → is_warming (part_for v key room (fate_of key found change)) ≡ true → IsMoved v.number found change
-  is_moved found (changes.Renewed item) on = absurd (false≢true (sym (not_new key _ _ (is_here v room) (number_in v key _)) ∙ on))
+  is_moved found (changes.Renewed item) on = absurd (false≢true (sym (not_new key _ _ (is_here v room) (entry_number v key _)) ∙ on))
   is_moved None changes.Goes on = absurd (false≢true on)
-  is_moved (Some old) changes.Goes on = absurd (false≢true (sym (not_gone (number_in v key (Some old.link))) ∙ on))
+  is_moved (Some old) changes.Goes on = absurd (false≢true (sym (not_gone (entry_number v key (Some old.link))) ∙ on))
   is_moved None (changes.Hit marks) on = absurd (false≢true on)
   is_moved (Some old) (changes.Hit marks) on = hit_moved old marks.active (changes.Hit marks) on refl
   is_moved None (changes.Touched expiry marks) on = absurd (false≢true on)
@@ -173,8 +173,8 @@ module _ (config : Config) (s : Stripe) (c : Call) (vs : List ClassView) (may : 
         still_agrees s c rule other history
         (agree_neither s.site rule other s.history history agree (did s c) other_spared.0 other_spared.1 (refused_there s c legal may.answer other history refusal)) (is_cooling s c vs) other_stays
 
-    other_told : (rule : Rule) → HasRefusal c.who c.room other history → EachEvent (IsTold s.site rule other history) s.history
-        → EachEvent (IsTold s.site rule other history) (s.history ++ events_on_stripe s c (is_cooling s c vs))
+    other_told : (rule : Rule) → HasRefusal c.who c.room other history → EachEvent (HasTrace s.site rule other history) s.history
+        → EachEvent (HasTrace s.site rule other history) (s.history ++ events_on_stripe s c (is_cooling s c vs))
     other_told rule refusal each =
         still_told s c rule other history
         (neither_told s c rule other history other_spared.0 other_spared.1 (refused_there s c legal may.answer other history refusal) each) (is_cooling s c vs) other_stays
@@ -187,7 +187,7 @@ module _ (config : Config) (s s_new : Stripe) (c : Call) (vs ws : List ClassView
       subst (λ (t : Site). Agree t rule n s_new.history history) (sym site.site) (subst (λ (x : List StripeEvent). Agree s.site rule n x history) (sym is) agree)
 
   -- a call that was made
-  pub performed_kept : MayPerform config s c vs → IsLegal s.site s.history → Each (λ v. IsLawfulHistoryByLists v.chunks v.rule v.history) vs → IsPerformed s s_new c vs ws → KeepsAgreements c s s_new vs ws
+  pub performed_kept : MayPerform config s c vs → IsLegal s.site s.history → OfEachClass (λ v. IsLawfulHistoryByLists v.chunks v.rule v.history) vs → IsPerformed s s_new c vs ws → KeepsAgreements c s s_new vs ws
   performed_kept may legal lawful made = record {
     own = pairs_at (GainsPart s c) (λ v w. AgreeNow v s → AgreeNow w s_new) vs ws made.classes (λ v w there gains agree.
         subst (λ (x : ClassView). AgreeNow x s_new) (sym gains)
@@ -200,16 +200,16 @@ module _ (config : Config) (s s_new : Stripe) (c : Call) (vs ws : List ClassView
   -- a call that made nothing
   pub untouched_kept : IsUntouched s s_new vs ws → KeepsAgreements c s s_new vs ws
   untouched_kept same = record {
-    own = pairs_at Stays (λ v w. AgreeNow v s → AgreeNow w s_new) vs ws same.classes (λ v w there stays agree.
+    own = pairs_at ClassStays (λ v w. AgreeNow v s → AgreeNow w s_new) vs ws same.classes (λ v w there stays agree.
         subst (λ (x : ClassView). AgreeNow x s_new) (sym stays) (moved_to v.rule v.number s.history v.history same.stripe agree));
     others = λ other rule history apart refusal agree. subst (λ (x : List StripeEvent). Agree s.site rule other x history) (sym same.stripe) agree;
   }
 
   -- what is seen elsewhere of a call that was made
-  pub performed_seen : MayPerform config s c vs → IsLegal s.site s.history → Each IsNumbered vs → IsPerformed s s_new c vs ws → KeepsSights c s s_new vs ws
+  pub performed_seen : MayPerform config s c vs → IsLegal s.site s.history → OfEachClass IsNumbered vs → IsPerformed s s_new c vs ws → KeepsSights c s s_new vs ws
   performed_seen may legal numbered made = record {
     told = λ other rule seen apart refusal each.
-        subst (EachEvent (IsTold s.site rule other seen)) (sym made.stripe) (other_told config s c vs may legal other apart seen rule refusal each);
+        subst (EachEvent (HasTrace s.site rule other seen)) (sym made.stripe) (other_told config s c vs may legal other apart seen rule refusal each);
     backed = pairs_at (GainsPart s c) (BacksStill s.site) vs ws made.classes (λ v w there gains other seen same apart each.
         subst (EachEvent (IsBacked other v.rule v.number seen)) (sym (ap (λ (x : ClassView). x.history) gains))
         (part_far s c may.answer v (each_at IsNumbered vs numbered v there) other same apart (EachEvent (IsBacked other v.rule v.number seen)) each
@@ -223,9 +223,9 @@ module _ (config : Config) (s s_new : Stripe) (c : Call) (vs ws : List ClassView
   -- what is seen elsewhere of a call that made nothing
   pub untouched_seen : IsUntouched s s_new vs ws → KeepsSights c s s_new vs ws
   untouched_seen same = record {
-    told = λ other rule seen apart refusal each. subst (EachEvent (IsTold s.site rule other seen)) (sym same.stripe) each;
-    backed = pairs_at Stays (BacksStill s.site) vs ws same.classes (λ v w there stays other seen equal apart each.
+    told = λ other rule seen apart refusal each. subst (EachEvent (HasTrace s.site rule other seen)) (sym same.stripe) each;
+    backed = pairs_at ClassStays (BacksStill s.site) vs ws same.classes (λ v w there stays other seen equal apart each.
         subst (λ (x : ClassView). EachEvent (IsBacked other v.rule v.number seen) x.history) (sym stays) each);
-    suited = pairs_at Stays (SuitsStill s.site) vs ws same.classes (λ v w there stays other seen equal apart each.
+    suited = pairs_at ClassStays (SuitsStill s.site) vs ws same.classes (λ v w there stays other seen equal apart each.
         subst (λ (x : ClassView). EachEvent (IsSuited other v.number seen) x.history) (sym stays) each);
   }

@@ -8,19 +8,19 @@ use Rattle.mc_item.specs.declared.{answer.Site.Site, class_event.ClassEvent.Clas
 use Rattle.mc_item.specs.declared.{item.Link.Link, lists.Entry.Entry, lists.Seg.Seg, lists.Seg.TheVariants.Warm, lists.Seg.TheVariants.Cold}
 use Rattle.mc_item.specs.declared.{stripe_event.StripeEvent.StripeEvent}
 use Rattle.mc_item.specs.declared.class_event.Why.TheVariants as whys
-use Rattle.mc_rule.specs.{Agreement.Agree, Belonging.Belong, Evidence.IsTold, Lawful.IsLawfulHistoryByLists, Lawful.SuitsMove, Lists.found, Lists.lists_of}
+use Rattle.mc_rule.specs.{Agreement.Agree, Belonging.Belong, Evidence.HasTrace, Lawful.IsLawfulHistoryByLists, Lawful.SuitsMove, Lists.found, Lists.lists_of}
 use Rattle.mc_rule.specs.{Pairs.link_to, Pairs.item_after, Pairs.ClearsMark, Pairs.IsKeyOf, Segment.Rule}
 use Rattle.mc_evidence.specs.Made.{IsOfOthers, lost_to, lost_at, cooled_as}
-use Rattle.mc_evidence.proofs.{AgreeLemmas.agree_evicted, AgreeLemmas.agree_reclaimed, AgreeLemmas.agree_cooled, AgreeLemmas.agree_moved, RowLemmas.held}
-use Rattle.mc_evidence.proofs.{SizedLemmas.key_of_stripe}
+use Rattle.mc_evidence.proofs.{AgreementLemmas.agree_evicted, AgreementLemmas.agree_reclaimed, AgreementLemmas.agree_cooled, AgreementLemmas.agree_moved, RowLemmas.held}
+use Rattle.mc_evidence.proofs.{SizedItemLemmas.key_of_stripe}
 use Rattle.mc_segment.specs.{ClassCalls.evicted_event, ClassCalls.reclaimed_event, ClassCalls.shifted_event, ClassState.ClassView, Entries.entry_of}
 use Rattle.mc_pull.specs.declared.{judge.Done.Done, judge.Judge.Judge, judge.Judge.TheVariants.Walk, judge.Judge.TheVariants.Dead, judge.Mode.Mode}
 use Rattle.mc_pull.specs.declared.{judge.Mode.TheVariants.Plain, judge.Mode.TheVariants.Evict, judge.Mode.TheVariants.Force}
 use Rattle.mc_pull.specs.declared.judge.Done.TheVariants as done
 use Rattle.mc_pull.specs.Judgement.{done_of, done_with, done_if, done_by, has_link}
 use Rattle.mc_pull.specs.{Outcome.cold_why, Outcome.is_due, Outcome.is_over, Question.Question}
-use Rattle.mc_pull.specs.Settled.{class_events, stripe_events, events_with, passed_of, warm_events, cold_events}
-use Rattle.mc_pull.proofs.{OutcomeLemmas.Means, OutcomeLemmas.outcome_means, SightLemmas.IsElsewhere, SightLemmas.entry_of_others, SightLemmas.of_one_stripe}
+use Rattle.mc_pull.specs.Settled.{done_class_events, done_stripe_events, events_with, passed_of, warm_events, cold_events}
+use Rattle.mc_pull.proofs.{OutcomeLemmas.Means, OutcomeLemmas.outcome_means, OtherSightLemmas.IsElsewhere, OtherSightLemmas.entry_of_others, OtherSightLemmas.of_one_stripe}
 
 some_same : {A : Type 0} (a b : A) → Some a ≡ Some b → a ≡ b
 some_same a b h = cc
@@ -67,7 +67,7 @@ why_suits rule c s Force moment item passive alive = (passive, alive)
 module _ (site : Site) (c : ClassView) (stripe : List StripeEvent) (q : Question) (legal : IsLegal site stripe) where
   -- the histories agree once this was done with an entry
   abbrev AgreesOn : Option Entry → Done → Type 0
-  AgreesOn o d = Agree site c.rule c.number (stripe ++ events_with c q o d) (c.history ++ class_events c q (length stripe) d)
+  AgreesOn o d = Agree site c.rule c.number (stripe ++ events_with c q o d) (c.history ++ done_class_events c q (length stripe) d)
 
   module _ (lawful : IsLawfulHistoryByLists c.chunks c.rule c.history) (agree : Agree site c.rule c.number stripe c.history) where
     unchanged : Agree site c.rule c.number (stripe ++ []) (c.history ++ [])
@@ -174,12 +174,12 @@ module _ (site : Site) (c : ClassView) (stripe : List StripeEvent) (q : Question
     entry_agrees (Some (seg, e)) there d is = item_of seg e there (item_after site stripe e.key) refl d is
 
     -- what was done with the entry of a question keeps its class and its stripe in agreement
-    pub settled_agrees : (d : Done) → done_of c (cache_of site stripe) q ≡ d → Agree site c.rule c.number (stripe ++ stripe_events c q d) (c.history ++ class_events c q (length stripe) d)
+    pub settled_agrees : (d : Done) → done_of c (cache_of site stripe) q ≡ d → Agree site c.rule c.number (stripe ++ done_stripe_events c q d) (c.history ++ done_class_events c q (length stripe) d)
     settled_agrees d is = entry_agrees (found q.number (lists_of c.history)) refl d is
 
   -- ---- the other classes: what holds after the events that are told there, holds
   module _ (other : ClassNo) (apart : other ≢ c.number) (rule : Rule) (seen : List ClassEvent) (P : List StripeEvent → Type 0) (now : P stripe)
-      (push : (e : StripeEvent) → IsTold site rule other seen stripe e → P (stripe ++ e ∷ [])) where
+      (push : (e : StripeEvent) → HasTrace site rule other seen stripe e → P (stripe ++ e ∷ [])) where
     told_nothing : (key : List ℕ) → link_of_item (item_after site stripe key) ≡ Some (link_to c.number q.number) → (number : ℕ)
         → link_of_item (item_after site stripe key) ≡ Some (link_to other number) → ⊥
     told_nothing key has number is =
@@ -218,7 +218,7 @@ module _ (site : Site) (c : ClassView) (stripe : List StripeEvent) (q : Question
     entry_spared (Some e) d is = key_spared e (item_after site stripe e.key) refl d is
 
     -- what each other class tells nothing of stays so
-    pub settled_spares : (d : Done) → done_of c (cache_of site stripe) q ≡ d → P (stripe ++ stripe_events c q d)
+    pub settled_spares : (d : Done) → done_of c (cache_of site stripe) q ≡ d → P (stripe ++ done_stripe_events c q d)
     settled_spares d is = entry_spared (entry_of q.number (lists_of c.history)) d is
 
   -- ---- the other stripes: what holds after the events that are for none of their entries, holds
@@ -236,7 +236,7 @@ module _ (site : Site) (c : ClassView) (stripe : List StripeEvent) (q : Question
       cold_far (Walk s mode passed) = push (shifted_event q.who q.number Cold (cold_why c.rule (lists_of c.history) s mode) q.moment passed at s) away
       cold_far Dead = unmoved
 
-      item_far : (d : Done) → P (c.history ++ class_events c q at d)
+      item_far : (d : Done) → P (c.history ++ done_class_events c q at d)
       item_far done.Reclaimed = push (reclaimed_event q.who q.number q.moment at) away
       item_far done.ToWarm = warm_far q.judge
       item_far done.WithinWarm = warm_far q.judge
@@ -247,17 +247,17 @@ module _ (site : Site) (c : ClassView) (stripe : List StripeEvent) (q : Question
       item_far done.Stranger = unmoved
 
     key_far : (seg : Seg) (e : Entry) → found q.number (lists_of c.history) ≡ Some (seg, e) → (o : Option Item) → item_after site stripe e.key ≡ o
-        → (d : Done) → done_if c.number q.number o (done_by c.rule (lists_of c.history) q.moment q.judge e) ≡ d → P (c.history ++ class_events c q at d)
-    key_far seg e there None under d is = subst (λ (x : Done). P (c.history ++ class_events c q at x)) is unmoved
+        → (d : Done) → done_if c.number q.number o (done_by c.rule (lists_of c.history) q.moment q.judge e) ≡ d → P (c.history ++ done_class_events c q at d)
+    key_far seg e there None under d is = subst (λ (x : Done). P (c.history ++ done_class_events c q at x)) is unmoved
     key_far seg e there (Some item) under d is =
         let of = key_of_stripe site stripe e.key item.link (cost_of e.key item.value) legal (ap (held e.key) under) in
         item_far (entry_of_others other c.history q.number seg e there (of_one_stripe site other same apart e.key of)) d
 
     entry_far : (o : Option (Seg × Entry)) → found q.number (lists_of c.history) ≡ o → (d : Done)
-        → done_with c (cache_of site stripe) q (option_map (λ (p : Seg × Entry). p.1) o) ≡ d → P (c.history ++ class_events c q at d)
-    entry_far None there d is = subst (λ (x : Done). P (c.history ++ class_events c q at x)) is unmoved
+        → done_with c (cache_of site stripe) q (option_map (λ (p : Seg × Entry). p.1) o) ≡ d → P (c.history ++ done_class_events c q at d)
+    entry_far None there d is = subst (λ (x : Done). P (c.history ++ done_class_events c q at x)) is unmoved
     entry_far (Some (seg, e)) there d is = key_far seg e there (item_after site stripe e.key) refl d is
 
     -- what each other stripe is asked nothing for stays so
-    pub settled_far : (d : Done) → done_of c (cache_of site stripe) q ≡ d → P (c.history ++ class_events c q at d)
+    pub settled_far : (d : Done) → done_of c (cache_of site stripe) q ≡ d → P (c.history ++ done_class_events c q at d)
     settled_far d is = entry_far (found q.number (lists_of c.history)) refl d is

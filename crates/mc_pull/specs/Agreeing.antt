@@ -6,7 +6,7 @@ use Rattle.mc_item.specs.declared.reply.Room.TheVariants as rooms
 use Rattle.mc_rule.specs.{Agreement.Agree, Segment.Rule}
 use Rattle.mc_segment.specs.ClassState.{ClassView}
 use Rattle.mc_stripe.specs.StripeState.{Stripe}
-use Rattle.mc_pull.specs.{Lent.Each, Lent.EachPair, Perform.Call}
+use Rattle.mc_pull.specs.{Lent.OfEachClass, Lent.EachPair, Perform.Call}
 
 -- the histories of a class and of a stripe agree
 abbrev pub AgreeNow : ClassView → Stripe → Type 0
@@ -24,7 +24,7 @@ HasRefusal who room class history =
 
 -- a number is that of none of these classes
 abbrev pub IsApart : ClassNo → List ClassView → Type 0
-IsApart number vs = Each (λ v. number ≢ v.number) vs
+IsApart number vs = OfEachClass (λ v. number ≢ v.number) vs
 
 -- the histories agree still after a call: that of each lent class with the stripe's, and that of each other class, which
 -- gained nothing and has the refusal that the call's room may name

@@ -4,15 +4,15 @@ use Rattle.mc_item.specs.{Command.key_of, Measure.stripe_of}
 use Rattle.mc_item.specs.declared.class_event.ClassEvent.TheVariants as class_events
 use Rattle.mc_item.specs.declared.{command.Command.Command, config.Config.Config, item.Link.Link, reply.Reply.Reply, reply.Room.Room, item.Who.Who}
 use Rattle.mc_item.specs.declared.reply.Room.TheVariants as rooms
-use Rattle.mc_rule.specs.Lists.{count_of, links_of, lists_of}
+use Rattle.mc_rule.specs.Lists.{count_of, entries_linked, lists_of}
 use Rattle.mc_segment.specs.ClassState.{ClassView, HasPlaces as ClassHasPlaces, with_room}
 use Rattle.mc_stripe.specs.{StripeState.Stripe, Trying.item_of, Trying.row_at, Wanting.IsWanting, Wanting.Uses}
 use Rattle.mc_stripe.specs.declared.{fate.Fate.Fate, wanting.Given.Given, wanting.Home.Home, wanting.Other.Other, trying.Turn.Turn}
 use Rattle.mc_stripe.specs.declared.fate.Fate.TheVariants as fates
 use Rattle.mc_pull.specs.declared.attempting.{Prepared.Prepared, Tried.Tried}
 use Rattle.mc_pull.specs.declared.attempting.Tried.TheVariants as tried
-use Rattle.mc_pull.specs.{Agreeing.AgreeNow, Agreeing.KeepsAgreements, Lent.AreDistinct, Lent.Each, Perform.MayPerform, Perform.answer_to, Perform.call}
-use Rattle.mc_pull.specs.Parts.{hit_part, is_here, is_warming, number_in, part_for, places_of}
+use Rattle.mc_pull.specs.{Agreeing.AgreeNow, Agreeing.KeepsAgreements, Lent.AreDistinct, Lent.OfEachClass, Perform.MayPerform, Perform.answer_to, Perform.call}
+use Rattle.mc_pull.specs.Parts.{hit_part, is_here, is_warming, entry_number, part_for, places_of}
 use Rattle.mc_pull.specs.{Performed.IsPerformed, Performed.IsUntouched, Sight.KeepsSights}
 
 -- a chunk is free
@@ -21,13 +21,13 @@ HasFree v = count_of (lists_of v.history) < v.chunks
 
 -- the room that a class gives: its next link where a chunk is free; else the refusal that it noted for this call, where it did
 abbrev pub GivesHome : ClassView → Option ℕ → Who → Room → Type 0
-GivesHome v refused who (rooms.At link) = (link ≡ record { class = v.number; number = links_of v.history }) × HasFree v
+GivesHome v refused who (rooms.At link) = (link ≡ record { class = v.number; number = entries_linked v.history }) × HasFree v
 GivesHome v refused who (rooms.Refused class place) =
     (class ≡ v.number) × (refused ≡ Some place) × (slice_get v.history place ≡ Some (class_events.Refused (record { who = who })))
 GivesHome v refused who rooms.Keep = (refused ≡ None) × (HasFree v → ⊥)
 
 -- so many events more have places in a class's history: at most this many, and fewer only where there are no more
-pub record Leaves (most : ℕ) (v : ClassView) (places : ℕ) : Type 0 where
+pub record LeavesPlaces (most : ℕ) (v : ClassView) (places : ℕ) : Type 0 where
   pub fits : ClassHasPlaces v places
   pub few : places ≤ most
   pub all : places < most → v.max_events ≤ length v.history + places
@@ -36,12 +36,12 @@ pub record Leaves (most : ℕ) (v : ClassView) (places : ℕ) : Type 0 where
 pub record OffersHome (v : ClassView) (refused : Option ℕ) (who : Who) (home : Home) : Type 0 where
   pub class_is : home.class ≡ v.number
   pub room : GivesHome v refused who home.room
-  pub places : Leaves 2 v home.places
+  pub places : LeavesPlaces 2 v home.places
 
 -- what the class of an item offers
 pub record OffersOther (v : ClassView) (other : Other) : Type 0 where
   pub class_is : other.class ≡ v.number
-  pub places : Leaves 1 v other.places
+  pub places : LeavesPlaces 1 v other.places
 
 -- one of these classes is such
 abbrev pub IsAny : (ClassView → Type 0) → List ClassView → Type 0
@@ -52,7 +52,7 @@ IsAny P (v ∷ vs) = P v ⊎ IsAny P vs
 pub record IsOffered (given : Given) (refused : Option ℕ) (who : Who) (vs : List ClassView) : Type 0 where
   pub home : IfSome given.home (λ h. IsAny (λ v. OffersHome v refused who h) vs)
   pub other : IfSome given.other (λ o. IsAny (λ v. OffersOther v o) vs)
-  pub each : Each (λ v. IsSomeAnd given.home (OffersHome v refused who) ⊎ IsSomeAnd given.other (OffersOther v)) vs
+  pub each : OfEachClass (λ v. IsSomeAnd given.home (OffersHome v refused who) ⊎ IsSomeAnd given.other (OffersOther v)) vs
 
 -- where the class of a new version noted for a call that no chunk was found, that event stands in its history
 abbrev pub IsNoted : Option ℕ → Who → ClassView → Type 0
@@ -68,7 +68,7 @@ pub record MayTryOn (s : Stripe) (vs : List ClassView) (command : Command) (turn
   pub stripe : stripe_of (key_of command) s.site.stripes ≡ record { 0 = s.site.stripe }
   pub moment : turn.moment ≤ 2 ^ 62
   pub distinct : AreDistinct vs
-  pub met : Each (λ v. AgreeNow v s) vs
+  pub met : OfEachClass (λ v. AgreeNow v s) vs
   pub refused : Option ℕ
   pub offered : IsOffered given refused turn.who vs
 
@@ -89,7 +89,7 @@ HasRoomFor given v =
 pub record IsReadyFor (v mid : ClassView) (command : Command) (woken : Option Link) (ready : Prepared) : Type 0 where
   pub same : mid ≡ with_room v mid.room
   pub kept : v.room ≤ mid.room
-  pub warms_is : ready.warms ≡ is_warming (hit_part v (number_in v (key_of command) woken))
+  pub warms_is : ready.warms ≡ is_warming (hit_part v (entry_number v (key_of command) woken))
   pub room : ready.warms ≡ true → (0 < mid.room) × ClassHasPlaces mid 1
   pub key_is : ready.key ≡ key_of command
   pub copy : mid.keeps_events ≡ true → ready.copy ≡ Some ready.key

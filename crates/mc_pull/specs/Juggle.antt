@@ -70,8 +70,8 @@ pub record Adds (Step : JuggleStep) (did : Bool) (a : Juggling) (xs : List Answe
   pub count : b.pulled ≡ plus a.pulled sum
 
 -- the end of steps: after 500, or with one that did nothing
-abbrev pub Ends : JuggleStep → ℕ → Juggling → List Answer → Juggling → Type 0
-Ends Step times a xs b = ((times ≡ 500) × (xs ≡ []) × (b ≡ a)) ⊎ ((times < 500) × Adds Step false a xs b)
+abbrev pub EndsSteps : JuggleStep → ℕ → Juggling → List Answer → Juggling → Type 0
+EndsSteps Step times a xs b = ((times ≡ 500) × (xs ≡ []) × (b ≡ a)) ⊎ ((times < 500) × Adds Step false a xs b)
 
 -- at most 500 steps, until one did nothing
 pub record IsJuggled (Step : JuggleStep) (a : Juggling) (xs : List Answer) (b : Juggling) : Type 0 where
@@ -80,7 +80,7 @@ pub record IsJuggled (Step : JuggleStep) (a : Juggling) (xs : List Answer) (b : 
   pub most : List Answer
   pub last : List Answer
   pub each : Repeats (Adds Step true) times a most between
-  pub end : Ends Step times between last b
+  pub end : EndsSteps Step times between last b
   pub answers : xs ≡ most ++ last
 
 -- TEMP's part of juggling: where TEMP is in use, a survey and at most 500 walks; else nothing

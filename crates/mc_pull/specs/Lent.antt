@@ -4,9 +4,9 @@ use Rattle.mc_item.specs.declared.item.Link.{Link}
 use Rattle.mc_segment.specs.ClassState.{ClassView}
 
 -- a fact holds of each class
-abbrev pub Each : (ClassView → Type 0) → List ClassView → Type 0
-Each P [] = Unit {0}
-Each P (v ∷ vs) = P v × Each P vs
+abbrev pub OfEachClass : (ClassView → Type 0) → List ClassView → Type 0
+OfEachClass P [] = Unit {0}
+OfEachClass P (v ∷ vs) = P v × OfEachClass P vs
 
 -- a relation holds of each class as it was and as it is
 abbrev pub EachPair : (ClassView → ClassView → Type 0) → List ClassView → List ClassView → Type 0
@@ -18,7 +18,7 @@ EachPair R (v ∷ vs) [] = ⊥
 -- no two have one number
 abbrev pub AreDistinct : List ClassView → Type 0
 AreDistinct [] = Unit {0}
-AreDistinct (v ∷ vs) = Each (λ w. v.number ≢ w.number) vs × AreDistinct vs
+AreDistinct (v ∷ vs) = OfEachClass (λ w. v.number ≢ w.number) vs × AreDistinct vs
 
 -- the class of a link is lent
 abbrev pub IsLent : List ClassView → Link → Type 0

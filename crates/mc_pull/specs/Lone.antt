@@ -18,15 +18,15 @@ IsCauseOf w (Expired moment) = moment ≡ w.moment
 IsCauseOf w (Taken class place) = class ≡ w.class
 
 -- an event of a stripe that a walker made: an item went, or its mark was cleared
-abbrev pub IsMadeBy : Walker → StripeEvent → Type 0
-IsMadeBy w (events.Did did) = ⊥
-IsMadeBy w (events.Lost lost) = (lost.who ≡ w.who) × IsCauseOf w lost.cause
-IsMadeBy w (events.Cooled cooled) = cooled.who ≡ w.who
+abbrev pub IsWalkersEvent : Walker → StripeEvent → Type 0
+IsWalkersEvent w (events.Did did) = ⊥
+IsWalkersEvent w (events.Lost lost) = (lost.who ≡ w.who) × IsCauseOf w lost.cause
+IsWalkersEvent w (events.Cooled cooled) = cooled.who ≡ w.who
 
 -- each of these events is one that a walker made
 abbrev pub AreMadeBy : Walker → List StripeEvent → Type 0
 AreMadeBy w [] = Unit {0}
-AreMadeBy w (e ∷ es) = IsMadeBy w e × AreMadeBy w es
+AreMadeBy w (e ∷ es) = IsWalkersEvent w e × AreMadeBy w es
 
 -- a stripe has more events of a walker at the end of its history, and is the same in all else but its room
 pub record StripeGrows (w : Walker) (old new : Stripe) : Type 0 where

@@ -5,20 +5,20 @@ use Rattle.mc_item.specs.Stripe.{IsLegal}
 use Rattle.mc_segment.specs.ClassState.{ClassView}
 use Rattle.mc_stripe.specs.StripeState.{Stripe, cache_now}
 use Rattle.mc_pull.specs.declared.{judge.Done.Done, looking.Answer.Answer, looking.Judged.Judged}
-use Rattle.mc_pull.specs.{Judgement.done_of, Question.Question, Question.IsStripeOf, Settled.class_events}
+use Rattle.mc_pull.specs.{Judgement.done_of, Question.Question, Question.IsStripeOf, Settled.done_class_events}
 
 -- what was done, with a stripe that had so many events
 abbrev pub judgement : Done → ℕ → Judged
 judgement made at = record { done = made; at = at }
 
 -- an answer by its parts
-abbrev pub answer : StripeNo → Option Judged → Answer
-answer stripe judged = record { stripe = stripe; judged = judged }
+abbrev pub answer_by : StripeNo → Option Judged → Answer
+answer_by stripe judged = record { stripe = stripe; judged = judged }
 
 -- the events of the class after an answer: none where the stripe was not had
 abbrev pub events_if : ClassView → Question → Option Judged → List ClassEvent
 events_if c q None = []
-events_if c q (Some j) = class_events c q j.at j.done
+events_if c q (Some j) = done_class_events c q j.at j.done
 
 -- what was done is what a state of this stripe tells: one with so many events, made with this configuration
 pub record IsJudged (config : Config) (number : StripeNo) (c : ClassView) (q : Question) (j : Judged) : Type 0 where

@@ -19,9 +19,9 @@ is_for key None = false
 is_for key (Some e) = pointwise nat_eq e.key key
 
 -- the number of a link of this class, where the class has an entry of that number and this key
-abbrev pub number_in : ClassView → List ℕ → Option Link → Option ℕ
-number_in c key None = None
-number_in c key (Some link) = if link.class.0 == c.number.0 && is_for key (entry_of link.number (lists_of c.history)) then Some link.number else None
+abbrev pub entry_number : ClassView → List ℕ → Option Link → Option ℕ
+entry_number c key None = None
+entry_number c key (Some link) = if link.class.0 == c.number.0 && is_for key (entry_of link.number (lists_of c.history)) then Some link.number else None
 
 -- a room is a link of this class
 abbrev pub is_here : ClassView → Room → Bool
@@ -57,9 +57,9 @@ hit_part c (Some number) = if is_cold (segment_of number (lists_of c.history)) t
 -- a class's part of a command of this key, by the room that it is given and what becomes of chunks
 abbrev pub part_for : ClassView → List ℕ → Room → Fate → Part
 part_for c key room fates.Untouched = parts.Nothing
-part_for c key room (fates.Renewed cost expiry old) = new_part key cost expiry (is_here c room) (number_in c key old)
-part_for c key room (fates.Goes link) = gone_part (number_in c key (Some link))
-part_for c key room (fates.Woken link) = hit_part c (number_in c key (Some link))
+part_for c key room (fates.Renewed cost expiry old) = new_part key cost expiry (is_here c room) (entry_number c key old)
+part_for c key room (fates.Goes link) = gone_part (entry_number c key (Some link))
+part_for c key room (fates.Woken link) = hit_part c (entry_number c key (Some link))
 
 -- the events of a part, the new entry first, where the key's stripe has `at` events once it has the command's
 abbrev pub part_events : ClassView → Who → ℕ → ℕ → Part → List ClassEvent

@@ -4,12 +4,12 @@ use Rattle.mc_item.specs.declared.{answer.Answer.Answer, command.Command.Command
 use Rattle.mc_item.specs.declared.class_event.ClassEvent.TheVariants as class_events
 use Rattle.mc_item.specs.declared.reply.Room.TheVariants as rooms
 use Rattle.mc_item.specs.{Answer.row_of, Cache.answer_of, Command.key_of, Measure.stripe_of, Stripe.Fits, Stripe.IsAlive, Stripe.link_of}
-use Rattle.mc_rule.specs.Lists.{lists_of, links_of, count_of}
+use Rattle.mc_rule.specs.Lists.{lists_of, entries_linked, count_of}
 use Rattle.mc_segment.specs.ClassState.{ClassView}
 use Rattle.mc_stripe.specs.declared.fate.Fate.{Fate}
 use Rattle.mc_stripe.specs.declared.fate.Fate.TheVariants as fates
 use Rattle.mc_stripe.specs.{Plan.fate_of, StripeState.Stripe, StripeState.cache_now}
-use Rattle.mc_pull.specs.{Lent.AreDistinct, Lent.Each, Lent.IsLent, Lent.IsLentIf, Parts.is_here, Question.IsClassOf, Question.IsStripeOf}
+use Rattle.mc_pull.specs.{Lent.AreDistinct, Lent.OfEachClass, Lent.IsLent, Lent.IsLentIf, Parts.is_here, Question.IsClassOf, Question.IsStripeOf}
 
 -- a call: who makes it, the command, its moment and the room that it is given
 pub record Call : Type 0 where
@@ -36,7 +36,7 @@ fate_for s c = fate_of (key_of c.command) (item_before s c) (answer_to s c).chan
 
 -- the room names the class as it is: a link of it has its next number, and a refusal is an event of this caller's call
 abbrev pub IsRoomOf : Who → Room → ClassView → Type 0
-IsRoomOf who (rooms.At link) v = link.class ≡ v.number → link.number ≡ links_of v.history
+IsRoomOf who (rooms.At link) v = link.class ≡ v.number → link.number ≡ entries_linked v.history
 IsRoomOf who (rooms.Refused class place) v = class ≡ v.number → slice_get v.history place ≡ Some (class_events.Refused (record { who = who }))
 IsRoomOf who rooms.Keep v = Unit {0}
 
@@ -64,7 +64,7 @@ pub record MayAnswer (s : Stripe) (c : Call) : Type 0 where
 pub record MayPerform (config : Config) (s : Stripe) (c : Call) (vs : List ClassView) : Type 0 where
   pub answer : MayAnswer s c
   pub made_with : IsStripeOf config s
-  pub classes : Each (IsClassOf config) vs
+  pub classes : OfEachClass (IsClassOf config) vs
   pub distinct : AreDistinct vs
-  pub rooms : Each (GivesRoom c.who c.room) vs
+  pub rooms : OfEachClass (GivesRoom c.who c.room) vs
   pub lent : AreLent vs c.room (fate_for s c)

@@ -46,8 +46,8 @@ abbrev pub GainsPart : Stripe → Call → ClassView → ClassView → Type 0
 GainsPart s c v w = w ≡ class_with v (events_in s c v) w.room
 
 -- a class is as it was but for its room
-abbrev pub Stays : ClassView → ClassView → Type 0
-Stays v w = w ≡ with_room v w.room
+abbrev pub ClassStays : ClassView → ClassView → Type 0
+ClassStays v w = w ≡ with_room v w.room
 
 -- a command was made: just its events stand at the ends of all histories
 pub record IsPerformed (s s_new : Stripe) (c : Call) (vs ws : List ClassView) : Type 0 where
@@ -57,7 +57,7 @@ pub record IsPerformed (s s_new : Stripe) (c : Call) (vs ws : List ClassView) : 
 -- nothing was made
 pub record IsUntouched (s s_new : Stripe) (vs ws : List ClassView) : Type 0 where
   pub stripe : s_new.history ≡ s.history
-  pub classes : EachPair Stays vs ws
+  pub classes : EachPair ClassStays vs ws
 
 -- the stripe has no place for just the command's events
 abbrev pub IsStripeFull : Stripe → Bool → Type 0

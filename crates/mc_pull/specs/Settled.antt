@@ -36,15 +36,15 @@ cold_events c q at (Walk s mode passed) = shifted_event q.who q.number Cold (col
 cold_events c q at Dead = []
 
 -- the events of the class where this is done, and the entry's stripe has `at` events
-abbrev pub class_events : ClassView → Question → ℕ → Done → List ClassEvent
-class_events c q at done.Reclaimed = reclaimed_event q.who q.number q.moment at ∷ []
-class_events c q at done.ToWarm = warm_events q at q.judge
-class_events c q at done.WithinWarm = warm_events q at q.judge
-class_events c q at done.ToCold = cold_events c q at q.judge
-class_events c q at done.Evicted = evicted_event q.who q.number (passed_of q.judge) at ∷ []
-class_events c q at done.Stayed = []
-class_events c q at (done.Alive expiry) = []
-class_events c q at done.Stranger = []
+abbrev pub done_class_events : ClassView → Question → ℕ → Done → List ClassEvent
+done_class_events c q at done.Reclaimed = reclaimed_event q.who q.number q.moment at ∷ []
+done_class_events c q at done.ToWarm = warm_events q at q.judge
+done_class_events c q at done.WithinWarm = warm_events q at q.judge
+done_class_events c q at done.ToCold = cold_events c q at q.judge
+done_class_events c q at done.Evicted = evicted_event q.who q.number (passed_of q.judge) at ∷ []
+done_class_events c q at done.Stayed = []
+done_class_events c q at (done.Alive expiry) = []
+done_class_events c q at done.Stranger = []
 
 -- the events of the stripe where this is done with an entry of this key: each is the partner of the class's event
 abbrev pub events_on : ClassView → Question → List ℕ → Done → List StripeEvent
@@ -63,8 +63,8 @@ events_with c q None d = []
 events_with c q (Some e) d = events_on c q e.key d
 
 -- the events of the stripe where this is done with the entry that a question names
-abbrev pub stripe_events : ClassView → Question → Done → List StripeEvent
-stripe_events c q d = events_with c q (entry_of q.number (lists_of c.history)) d
+abbrev pub done_stripe_events : ClassView → Question → Done → List StripeEvent
+done_stripe_events c q d = events_with c q (entry_of q.number (lists_of c.history)) d
 
 -- the class with these events more, and this room
 abbrev pub class_with : ClassView → List ClassEvent → ℕ → ClassView
@@ -72,5 +72,5 @@ class_with c es room = record c { history = c.history ++ es; room = room }
 
 -- the events of what was done with an entry stand at the ends of both histories, and nothing else does
 pub record IsSettled (c c_new : ClassView) (s s_new : Stripe) (q : Question) (d : Done) : Type 0 where
-  pub class : c_new ≡ class_with c (class_events c q (length s.history) d) c_new.room
-  pub stripe : s_new.history ≡ s.history ++ stripe_events c q d
+  pub class : c_new ≡ class_with c (done_class_events c q (length s.history) d) c_new.room
+  pub stripe : s_new.history ≡ s.history ++ done_stripe_events c q d

@@ -2,14 +2,14 @@
 -- before, and what is seen of any other stripe backs the class's events and has the items that they cite.
 use Rattle.std.specs.Prelude.{◌≡◌, ◌≢◌, List}
 use Rattle.mc_item.specs.declared.{answer.Site.Site, class_event.ClassEvent.ClassEvent, item.ClassNo.ClassNo, stripe_event.StripeEvent.StripeEvent}
-use Rattle.mc_rule.specs.{Cited.IsSuited, Evidence.IsBacked, Evidence.IsTold, Places.Each, Segment.Rule}
+use Rattle.mc_rule.specs.{Cited.IsSuited, Evidence.IsBacked, Evidence.HasTrace, Places.Each, Segment.Rule}
 use Rattle.mc_segment.specs.ClassState.{ClassView}
 use Rattle.mc_stripe.specs.StripeState.{Stripe}
 use Rattle.mc_pull.specs.{Agreeing.HasRefusal, Agreeing.IsApart, Lent.EachPair, Perform.Call}
 
 -- what is seen of a class tells all events of a stripe still
 abbrev pub TellsStill : Stripe → Stripe → Rule → ClassNo → List ClassEvent → Type 0
-TellsStill s s_new rule class seen = Each (IsTold s.site rule class seen) s.history → Each (IsTold s.site rule class seen) s_new.history
+TellsStill s s_new rule class seen = Each (HasTrace s.site rule class seen) s.history → Each (HasTrace s.site rule class seen) s_new.history
 
 -- what is seen of any stripe but this one backs all events of a class still
 abbrev pub BacksStill : Site → ClassView → ClassView → Type 0

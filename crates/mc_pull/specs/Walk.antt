@@ -97,6 +97,6 @@ pub record IsWalk (p : Pull) (xs : List Answer) (history : List ClassEvent) (pul
   pub pulled_is : pulled ≡ (run p (start_of p) xs).pulled
 
 -- a walk that was broken off after these answers leaves this history
-pub record IsBeginning (p : Pull) (xs : List Answer) (history : List ClassEvent) : Type 0 where
+pub record IsBrokenWalk (p : Pull) (xs : List Answer) (history : List ClassEvent) : Type 0 where
   pub along : IsAlong p (start_of p) xs
   pub history_is : history ≡ (run p (start_of p) xs).history

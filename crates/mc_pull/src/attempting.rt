@@ -7,7 +7,7 @@ ghost use Rattle.mc_item.specs.declared.{config.Config.Config, fault.Fault.TheVa
 ghost use Rattle.mc_item.specs.declared.reply.Room.TheVariants as rooms;
 ghost use Rattle.mc_segment.specs.ClassState.{with_room};
 ghost use Rattle.mc_stripe.specs.StripeCalls.{KeepsSite};
-ghost use Rattle.mc_pull.specs.Attempt.{GivesHome, HasFree, HasRoomFor, IsNoted, IsReady, IsReadyFor, IsSmallFate, IsTriedBy, Leaves, MayMakePart, MayTryOn, OffersHome, OffersOther};
+ghost use Rattle.mc_pull.specs.Attempt.{GivesHome, HasFree, HasRoomFor, IsNoted, IsReady, IsReadyFor, IsSmallFate, IsTriedBy, LeavesPlaces, MayMakePart, MayTryOn, OffersHome, OffersOther};
 ghost use Rattle.mc_pull.specs.Parts as words;
 ghost use Rattle.mc_pull.specs.{Parts.MayMake, Parts.part_for, Perform.call, Performed.IsUntouched, Performed.MayRefuseCall, Question.IsClassOf};
 ghost use Rattle.mc_pull.specs.{Question.IsStripeOf, Settled.class_with};
@@ -31,7 +31,7 @@ pub enum Tried {
 #[inline(always)]
 fn places(class: &ClassState, most: usize) -> usize
     requires { (0 < most) × (most ≤ 2) }
-    ensures { Leaves most class.now result }
+    ensures { LeavesPlaces most class.now result }
 {
     class.law();
     if class.has_places(most) {

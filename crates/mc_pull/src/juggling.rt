@@ -3,7 +3,7 @@ ghost use Rattle.std.specs.Prelude.{◌≡◌, ◌≤◌, ◌+◌, ◌++◌, ◌
 ghost use Rattle.mc_item.specs.declared.{config.Config.Config, lists.Seg.TheVariants.Temp};
 ghost use Rattle.mc_segment.specs.{ClassCalls.surveyed_event, ClassState.with_room};
 ghost use Rattle.mc_pull.specs.declared.{judge.Mode.TheVariants.Plain, looking.Answer.Answer};
-ghost use Rattle.mc_pull.specs.{Growth.Grows, Growth.Kept, Pulled.none_pulled, Pulled.sum_of, Question.IsClassOf, Question.IsSurveyIn, Refusal.MayFailAlone};
+ghost use Rattle.mc_pull.specs.{Growth.GainsEvents, Growth.KeepsSince, Pulled.none_pulled, Pulled.sum_of, Question.IsClassOf, Question.IsSurveyIn, Refusal.MayFailAlone};
 ghost use Rattle.mc_pull.specs.{Rounds.rounds, Rounds.Walks, Settled.class_with, Walker.walker_of};
 ghost use Rattle.mc_pull.specs.Juggle.{juggling, survey_at, history_surveyed, KeepsSurveys, OutlastsSurveys, PullsWarm, IsJuggleRound, IsJuggled, JugglesTemp, JugglesRounds, IsJuggle};
 
@@ -34,11 +34,11 @@ fn pull_warm<G: Gate>(
     requires gate { G.serves gate.old config.now class.old }
     ensures walk { IfOk result (λ pulled. (xs : List Answer) × (G.answers gate.new ≡ G.answers gate.old ++ xs) × PullsWarm (rounds class.old who moment config.now) survey did class.old.history xs class.new.history pulled) }
     ensures few { IfOk result (λ pulled. sum_of pulled ≤ 5) }
-    ensures grows { Grows class.old class.new }
+    ensures grows { GainsEvents class.old class.new }
     ensures fault { IfErr result (G.faults gate.new class.new) }
     ensures holds { G.references gate.new ≡ G.references gate.old }
     ensures serves { G.serves gate.new config.now class.new }
-    ensures kept { Kept (G.keeps (walker_of class.old who moment)) gate.old class.old.history gate.new class.new.history }
+    ensures kept { KeepsSince (G.keeps (walker_of class.old who moment)) gate.old class.old.history gate.new class.new.history }
 {
     if did {
         return Ok(Pulled::none());
@@ -62,11 +62,11 @@ fn juggle_round<G: Gate>(
     requires gate { G.serves gate.old config.now class.old }
     ensures round { IfOk result (λ sum. (xs : List Answer) × (G.answers gate.new ≡ G.answers gate.old ++ xs) × IsJuggleRound (rounds class.old who moment config.now) survey class.old.history xs class.new.history sum) }
     ensures few { IfOk result (λ sum. sum_of sum ≤ 15) }
-    ensures grows { Grows class.old class.new }
+    ensures grows { GainsEvents class.old class.new }
     ensures fault { IfErr result (G.faults gate.new class.new) }
     ensures holds { G.references gate.new ≡ G.references gate.old }
     ensures serves { G.serves gate.new config.now class.new }
-    ensures kept { Kept (G.keeps (walker_of class.old who moment)) gate.old class.old.history gate.new class.new.history }
+    ensures kept { KeepsSince (G.keeps (walker_of class.old who moment)) gate.old class.old.history gate.new class.new.history }
 {
     let mode = Mode::Plain(survey);
     let hot = pull_tail(alloc, class, Seg::Hot, mode, who, moment, config, gate)?;
@@ -93,11 +93,11 @@ fn juggle_rounds<G: Gate>(
     requires gate { G.serves gate.old config.now class.old }
     ensures juggled { IfOk result (λ sum. (xs : List Answer) × (G.answers gate.new ≡ G.answers gate.old ++ xs) × IsJuggled (IsJuggleRound (rounds class.old who moment config.now) survey) (juggling class.old.history total) xs (juggling class.new.history sum)) }
     ensures few { IfOk result (λ sum. sum_of sum ≤ 10000) }
-    ensures grows { Grows class.old class.new }
+    ensures grows { GainsEvents class.old class.new }
     ensures fault { IfErr result (G.faults gate.new class.new) }
     ensures holds { G.references gate.new ≡ G.references gate.old }
     ensures serves { G.serves gate.new config.now class.new }
-    ensures kept { Kept (G.keeps (walker_of class.old who moment)) gate.old class.old.history gate.new class.new.history }
+    ensures kept { KeepsSince (G.keeps (walker_of class.old who moment)) gate.old class.old.history gate.new class.new.history }
 {
     let mut sum = total;
     let mut left: u64 = MOST_ROUNDS;
@@ -127,11 +127,11 @@ fn temp_rounds<G: Gate>(
     requires gate { G.serves gate.old config.now class.old }
     ensures juggled { IfOk result (λ sum. (xs : List Answer) × (G.answers gate.new ≡ G.answers gate.old ++ xs) × IsJuggled (Walks (rounds class.old who moment config.now) Temp (Plain survey)) (juggling class.old.history none_pulled) xs (juggling class.new.history sum)) }
     ensures few { IfOk result (λ sum. sum_of sum ≤ 2500) }
-    ensures grows { Grows class.old class.new }
+    ensures grows { GainsEvents class.old class.new }
     ensures fault { IfErr result (G.faults gate.new class.new) }
     ensures holds { G.references gate.new ≡ G.references gate.old }
     ensures serves { G.serves gate.new config.now class.new }
-    ensures kept { Kept (G.keeps (walker_of class.old who moment)) gate.old class.old.history gate.new class.new.history }
+    ensures kept { KeepsSince (G.keeps (walker_of class.old who moment)) gate.old class.old.history gate.new class.new.history }
 {
     let mut sum = Pulled::none();
     let mut left: u64 = MOST_ROUNDS;
@@ -155,7 +155,7 @@ fn survey_class(class: &mut ClassState, who: Who, moment: u64) -> Result<Survey,
     ensures event { OnOk result (class.new ≡ class_with class.old (surveyed_event class.old who moment ∷ []) class.new.room) }
     ensures err { OnErr result (class.new ≡ with_room class.old class.new.room) }
     ensures fault { IfErr result (MayFailAlone class.new) }
-    ensures grows { Grows class.old class.new }
+    ensures grows { GainsEvents class.old class.new }
 {
     class.survey(who, moment)
 }
@@ -175,11 +175,11 @@ fn juggle_temp<G: Gate>(
     requires outlasts { OutlastsSurveys G.serves }
     ensures temp { IfOk result (λ sum. (xs : List Answer) × (G.answers gate.new ≡ G.answers gate.old ++ xs) × JugglesTemp (rounds class.old who moment config.now) config.now.temp class.old.history xs (juggling class.new.history sum)) }
     ensures few { IfOk result (λ sum. sum_of sum ≤ 2500) }
-    ensures grows { Grows class.old class.new }
+    ensures grows { GainsEvents class.old class.new }
     ensures fault { IfErr result (λ fault. G.faults gate.new class.new fault ⊎ MayFailAlone class.new fault) }
     ensures holds { G.references gate.new ≡ G.references gate.old }
     ensures serves { G.serves gate.new config.now class.new }
-    ensures kept { Kept (G.keeps (walker_of class.old who moment)) gate.old class.old.history gate.new class.new.history }
+    ensures kept { KeepsSince (G.keeps (walker_of class.old who moment)) gate.old class.old.history gate.new class.new.history }
 {
     if !config.temp {
         return Ok(Pulled::none());
@@ -205,11 +205,11 @@ fn juggle_rest<G: Gate>(
     requires outlasts { OutlastsSurveys G.serves }
     ensures rest { IfOk result (λ sum. (xs : List Answer) × (G.answers gate.new ≡ G.answers gate.old ++ xs) × JugglesRounds (rounds class.old who moment config.now) (juggling class.old.history total) xs (juggling class.new.history sum)) }
     ensures few { IfOk result (λ sum. sum_of sum ≤ 10000) }
-    ensures grows { Grows class.old class.new }
+    ensures grows { GainsEvents class.old class.new }
     ensures fault { IfErr result (λ fault. G.faults gate.new class.new fault ⊎ MayFailAlone class.new fault) }
     ensures holds { G.references gate.new ≡ G.references gate.old }
     ensures serves { G.serves gate.new config.now class.new }
-    ensures kept { Kept (G.keeps (walker_of class.old who moment)) gate.old class.old.history gate.new class.new.history }
+    ensures kept { KeepsSince (G.keeps (walker_of class.old who moment)) gate.old class.old.history gate.new class.new.history }
 {
     let survey = survey_class(class, who, moment)?;
     juggle_rounds(alloc, class, survey, total, who, moment, config, gate)
@@ -234,11 +234,11 @@ pub fn juggle<G: Gate>(
     requires outlasts { OutlastsSurveys G.serves }
     ensures juggle { IfOk result (λ moves. (xs : List Answer) × (G.answers gate.new ≡ G.answers gate.old ++ xs) × IsJuggle (rounds class.old who moment config.now) class.old.history xs class.new.history moves) }
     ensures few { IfOk result (λ moves. moves.reclaimed + moves.moved ≤ 10000) }
-    ensures grows { Grows class.old class.new }
+    ensures grows { GainsEvents class.old class.new }
     ensures fault { IfErr result (λ fault. G.faults gate.new class.new fault ⊎ MayFailAlone class.new fault) }
     ensures holds { G.references gate.new ≡ G.references gate.old }
     ensures serves { G.serves gate.new config.now class.new }
-    ensures kept { Kept (G.keeps (walker_of class.old who moment)) gate.old class.old.history gate.new class.new.history }
+    ensures kept { KeepsSince (G.keeps (walker_of class.old who moment)) gate.old class.old.history gate.new class.new.history }
 {
     let before = juggle_temp(alloc, class, who, moment, config, gate)?;
     let sum = juggle_rest(alloc, class, before, who, moment, config, gate)?;

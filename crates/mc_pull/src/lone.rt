@@ -1,6 +1,6 @@
 //! A gate that is lent one stripe, and has no other.
 ghost use Rattle.std.specs.Prelude.{◌≡◌, ◌≤◌, ◌+◌, ◌++◌, List, IfOk, IfErr};
-ghost use Rattle.mc_pull.specs.{Growth.Grows, Juggle.IsJuggle, Lone.Serves, Lone.Walked, Question.IsClassOf, Refusal.MayFail, Rounds.rounds, Rounds.IsRoom};
+ghost use Rattle.mc_pull.specs.{Growth.GainsEvents, Juggle.IsJuggle, Lone.Serves, Lone.Walked, Question.IsClassOf, Refusal.MayFail, Rounds.rounds, Rounds.IsRoom};
 ghost use Rattle.mc_pull.specs.{Walker.walker_of};
 ghost use Rattle.mc_pull.specs.declared.looking.Answer.{Answer};
 
@@ -68,7 +68,7 @@ impl<'a> Lone<'a> {
         requires gate { Serves self.old.number.0 self.old.stripe.now config.now }
         ensures room { IfOk result (λ found. (xs : List Answer) × (self.new.answers.now.items ≡ self.old.answers.now.items ++ xs) × IsRoom (rounds class.old who moment config.now) class.old.history xs class.new.history found) }
         ensures fault { IfErr result (MayFail class.new self.new.stripe.now) }
-        ensures grows { Grows class.old class.new }
+        ensures grows { GainsEvents class.old class.new }
         ensures same_reference { self.new.stripe.ghost_name ≡ self.old.stripe.ghost_name }
         ensures walked { Walked (walker_of class.old who moment) self.old.stripe.now class.old.history self.new.stripe.now class.new.history }
         ensures serves { Serves self.new.number.0 self.new.stripe.now config.now }
@@ -90,7 +90,7 @@ impl<'a> Lone<'a> {
         ensures juggle { IfOk result (λ moves. (xs : List Answer) × (self.new.answers.now.items ≡ self.old.answers.now.items ++ xs) × IsJuggle (rounds class.old who moment config.now) class.old.history xs class.new.history moves) }
         ensures few { IfOk result (λ moves. moves.reclaimed + moves.moved ≤ 10000) }
         ensures fault { IfErr result (MayFail class.new self.new.stripe.now) }
-        ensures grows { Grows class.old class.new }
+        ensures grows { GainsEvents class.old class.new }
         ensures same_reference { self.new.stripe.ghost_name ≡ self.old.stripe.ghost_name }
         ensures walked { Walked (walker_of class.old who moment) self.old.stripe.now class.old.history self.new.stripe.now class.new.history }
         ensures serves { Serves self.new.number.0 self.new.stripe.now config.now }

@@ -3,7 +3,7 @@ ghost use Rattle.std.specs.Prelude.{◌≡◌, ◌++◌, ◌∷◌, [], List, So
 ghost use Rattle.mc_item.specs.declared.{item.StripeNo.StripeNo, class_event.ClassEvent.ClassEvent};
 ghost use Rattle.mc_segment.specs.ClassState.{with_room};
 ghost use Rattle.mc_stripe.specs.{StripeState.cache_now, StripeCalls.KeepsSite};
-ghost use Rattle.mc_pull.specs.{Agreeing.KeepsAgreement, Judgement.done_of, Looks.answer, Looks.judgement, Looks.events_if, Looks.IsJudged, Looks.IsJudgedIf};
+ghost use Rattle.mc_pull.specs.{Agreeing.KeepsAgreement, Judgement.done_of, Looks.answer_by, Looks.judgement, Looks.events_if, Looks.IsJudged, Looks.IsJudgedIf};
 ghost use Rattle.mc_pull.specs.{Refusal.MayFail, Refusal.MayRefuseFor, Settled.class_with, Settled.IsSettled, Sight.KeepsSight, Walker.walker_of};
 ghost use Rattle.mc_pull.specs.Question.{question, question_of, HasKeyOf, IsAsked, IsClassOf, MayJudge};
 
@@ -126,7 +126,7 @@ pub trait Gate {
         requires once { look.old.judged ≡ None }
         ensures same_reference { look.new.class.ghost_name ≡ look.old.class.ghost_name }
         ensures holds { references self.new ≡ references self.old }
-        ensures answer { IfOk result (λ had. (is_some look.new.judged ≡ had) × (answers self.new ≡ answers self.old ++ answer stripe look.new.judged ∷ [])) }
+        ensures answer { IfOk result (λ had. (is_some look.new.judged ≡ had) × (answers self.new ≡ answers self.old ++ answer_by stripe look.new.judged ∷ [])) }
         ensures class { OnOk result (look.new.class.now ≡ class_with look.old.class.now (events_if look.old.class.now (question_of look.old.ask) look.new.judged) look.new.class.now.room) }
         ensures judged { OnOk result (IsJudgedIf look.old.ask.config.now stripe look.old.class.now (question_of look.old.ask) look.new.judged) }
         ensures err { OnErr result ((look.new.class.now ≡ with_room look.old.class.now look.new.class.now.room) × (answers self.new ≡ answers self.old)) }

@@ -2,10 +2,10 @@
 ghost use Rattle.std.specs.Prelude.{◌≡◌, ◌<◌, ◌≤◌, ◌++◌, ◌∷◌, [], List, true, false, length, take, reverse, IfOk, IfErr, OnErr};
 ghost use Rattle.mc_rule.specs.{Lists.lists_of, Lists.list_of, Lists.count_of, Segment.numbers_of};
 ghost use Rattle.mc_segment.specs.ClassState.{with_room};
-ghost use Rattle.mc_pull.specs.{Growth.Grows, Growth.Kept, Looks.answer, Looks.events_if, Looks.IsJudgedIf, Pulled.sum_of, Question.question};
+ghost use Rattle.mc_pull.specs.{Growth.GainsEvents, Growth.KeepsSince, Looks.answer_by, Looks.events_if, Looks.IsJudgedIf, Pulled.sum_of, Question.question};
 ghost use Rattle.mc_pull.specs.{Question.HasKeyOf, Question.IsClassOf, Question.MayJudge, Question.MayWalk, Settled.class_with, Walker.walker_of};
 ghost use Rattle.mc_pull.specs.Walk as words;
-ghost use Rattle.mc_pull.specs.Walk.{pull, way, step, IsAnswer, IsWalk, IsBeginning};
+ghost use Rattle.mc_pull.specs.Walk.{pull, way, step, IsAnswer, IsWalk, IsBrokenWalk};
 ghost use Rattle.mc_pull.specs.declared.looking.Answer.{Answer};
 
 use crate::judge::{Judge, Mode};
@@ -59,14 +59,14 @@ fn look_at<G: Gate>(
     requires judge { MayJudge class.old (question who number judge.now moment) }
     requires key { HasKeyOf stripe config.now class.old (question who number judge.now moment) }
     requires gate { G.serves gate.old config.now class.old }
-    ensures answer { IfOk result (λ judged. G.answers gate.new ≡ G.answers gate.old ++ answer stripe judged ∷ []) }
+    ensures answer { IfOk result (λ judged. G.answers gate.new ≡ G.answers gate.old ++ answer_by stripe judged ∷ []) }
     ensures class { IfOk result (λ judged. class.new ≡ class_with class.old (events_if class.old (question who number judge.now moment) judged) class.new.room) }
     ensures judged { IfOk result (λ judged. IsJudgedIf config.now stripe class.old (question who number judge.now moment) judged) }
     ensures err { OnErr result ((class.new ≡ with_room class.old class.new.room) × (G.answers gate.new ≡ G.answers gate.old)) }
     ensures fault { IfErr result (G.faults gate.new class.new) }
     ensures holds { G.references gate.new ≡ G.references gate.old }
     ensures serves { G.serves gate.new config.now class.new }
-    ensures kept { Kept (G.keeps (walker_of class.old who moment)) gate.old class.old.history gate.new class.new.history }
+    ensures kept { KeepsSince (G.keeps (walker_of class.old who moment)) gate.old class.old.history gate.new class.new.history }
 {
     let mut look = Look::new(alloc, class, who, number, judge, moment, config);
     gate.visit(stripe, &mut look)?;
@@ -96,12 +96,12 @@ fn look_next<G: Gate>(
     requires gate { G.serves gate.old config.now class.old }
     ensures answer { IfOk result (λ a. IsAnswer (pull class.old seg mode who moment config.now) (way class.old.history left pulled false) a × (G.answers gate.new ≡ G.answers gate.old ++ a ∷ [])) }
     ensures class { IfOk result (λ a. class.new.history ≡ (step (pull class.old seg mode who moment config.now) (way class.old.history left pulled false) a).history) }
-    ensures grows { Grows class.old class.new }
+    ensures grows { GainsEvents class.old class.new }
     ensures err { OnErr result ((class.new.history ≡ class.old.history) × (G.answers gate.new ≡ G.answers gate.old)) }
     ensures fault { IfErr result (G.faults gate.new class.new) }
     ensures holds { G.references gate.new ≡ G.references gate.old }
     ensures serves { G.serves gate.new config.now class.new }
-    ensures kept { Kept (G.keeps (walker_of class.old who moment)) gate.old class.old.history gate.new class.new.history }
+    ensures kept { KeepsSince (G.keeps (walker_of class.old who moment)) gate.old class.old.history gate.new class.new.history }
 {
     let _left = left;
     let entry = class.from_tail(seg, pulled.passed).unwrap();
@@ -137,13 +137,13 @@ pub fn pull_tail<G: Gate>(
     requires config { IsClassOf config.now class.old }
     requires gate { G.serves gate.old config.now class.old }
     ensures walk { IfOk result (λ pulled. (xs : List Answer) × (G.answers gate.new ≡ G.answers gate.old ++ xs) × IsWalk (pull class.old seg mode who moment config.now) xs class.new.history pulled) }
-    ensures err { OnErr result ((xs : List Answer) × (G.answers gate.new ≡ G.answers gate.old ++ xs) × IsBeginning (pull class.old seg mode who moment config.now) xs class.new.history) }
-    ensures grows { Grows class.old class.new }
+    ensures err { OnErr result ((xs : List Answer) × (G.answers gate.new ≡ G.answers gate.old ++ xs) × IsBrokenWalk (pull class.old seg mode who moment config.now) xs class.new.history) }
+    ensures grows { GainsEvents class.old class.new }
     ensures few { IfOk result (λ pulled. sum_of pulled ≤ 5) }
     ensures fault { IfErr result (G.faults gate.new class.new) }
     ensures holds { G.references gate.new ≡ G.references gate.old }
     ensures serves { G.serves gate.new config.now class.new }
-    ensures kept { Kept (G.keeps (walker_of class.old who moment)) gate.old class.old.history gate.new class.new.history }
+    ensures kept { KeepsSince (G.keeps (walker_of class.old who moment)) gate.old class.old.history gate.new class.new.history }
 {
     let mut left = class.len(seg).min(MOST_LOOKS);
     let mut pulled = Pulled::none();

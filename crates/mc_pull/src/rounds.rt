@@ -1,6 +1,6 @@
 //! Rounds of walks that make room in a full class.
 ghost use Rattle.std.specs.Prelude.{◌≡◌, ◌++◌, List, false, IfOk, IfErr};
-ghost use Rattle.mc_pull.specs.{Growth.Grows, Growth.Kept, Question.IsClassOf, Rounds.rounds, Rounds.IsRoomRound, Rounds.IsRoom, Walker.walker_of};
+ghost use Rattle.mc_pull.specs.{Growth.GainsEvents, Growth.KeepsSince, Question.IsClassOf, Rounds.rounds, Rounds.IsRoomRound, Rounds.IsRoom, Walker.walker_of};
 ghost use Rattle.mc_pull.specs.Rounds as words;
 ghost use Rattle.mc_pull.specs.declared.looking.Answer.{Answer};
 
@@ -34,11 +34,11 @@ fn room_round<G: Gate>(
     requires config { IsClassOf config.now class.old }
     requires gate { G.serves gate.old config.now class.old }
     ensures round { IfOk result (λ _. (xs : List Answer) × (G.answers gate.new ≡ G.answers gate.old ++ xs) × IsRoomRound (rounds class.old who moment config.now) class.old.history xs class.new.history) }
-    ensures grows { Grows class.old class.new }
+    ensures grows { GainsEvents class.old class.new }
     ensures fault { IfErr result (G.faults gate.new class.new) }
     ensures holds { G.references gate.new ≡ G.references gate.old }
     ensures serves { G.serves gate.new config.now class.new }
-    ensures kept { Kept (G.keeps (walker_of class.old who moment)) gate.old class.old.history gate.new class.new.history }
+    ensures kept { KeepsSince (G.keeps (walker_of class.old who moment)) gate.old class.old.history gate.new class.new.history }
 {
     let pulled = pull_tail(
         alloc,
@@ -80,11 +80,11 @@ pub fn make_room<G: Gate>(
     requires config { IsClassOf config.now class.old }
     requires gate { G.serves gate.old config.now class.old }
     ensures room { IfOk result (λ found. (xs : List Answer) × (G.answers gate.new ≡ G.answers gate.old ++ xs) × IsRoom (rounds class.old who moment config.now) class.old.history xs class.new.history found) }
-    ensures grows { Grows class.old class.new }
+    ensures grows { GainsEvents class.old class.new }
     ensures fault { IfErr result (G.faults gate.new class.new) }
     ensures holds { G.references gate.new ≡ G.references gate.old }
     ensures serves { G.serves gate.new config.now class.new }
-    ensures kept { Kept (G.keeps (walker_of class.old who moment)) gate.old class.old.history gate.new class.new.history }
+    ensures kept { KeepsSince (G.keeps (walker_of class.old who moment)) gate.old class.old.history gate.new class.new.history }
 {
     let mut left: u64 = MOST_ROUNDS;
     'rounds: while left > 0 {

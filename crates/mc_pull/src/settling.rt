@@ -3,7 +3,7 @@ ghost use Rattle.std.specs.Prelude.{◌≡◌, ◌<◌, ◌⊎◌, length, IfOk,
 ghost use Rattle.mc_rule.specs.{Segment.rule_of, Lawful.IsListed, Lists.lists_of};
 ghost use Rattle.mc_segment.specs.{ClassState.with_room, ClassState.HasPlaces, ClassState.MayRefuse, Entries.entry_of};
 ghost use Rattle.mc_stripe.specs.{StripeState.cache_now, StripeCalls.KeepsSite};
-ghost use Rattle.mc_pull.specs.{Agreeing.KeepsAgreement, Judgement.done_of, Settled.class_events, Settled.class_with, Settled.IsSettled, Sight.KeepsSight};
+ghost use Rattle.mc_pull.specs.{Agreeing.KeepsAgreement, Judgement.done_of, Settled.done_class_events, Settled.class_with, Settled.IsSettled, Sight.KeepsSight};
 ghost use Rattle.mc_pull.specs.Question.{question, question_of, IsAsked, IsClassOf, IsStripeOf, MayJudge};
 ghost use Rattle.mc_pull.specs.Refusal.{HavePlaces, MayFail, MayRefuseBoth, MayRefuseFor};
 ghost use Rattle.mc_pull.specs.Settled as words;
@@ -165,7 +165,7 @@ fn settle_cold(
     requires judge { ask.now.judge.now ≡ judges.Walk seg mode passed.now }
     requires asked { IsAsked class.old stripe.now ask.now }
     requires done { done_of class.old (cache_now stripe.now) (question_of ask.now) ≡ done.ToCold }
-    ensures ok { OnOk result (class.new ≡ class_with class.old (class_events class.old (question_of ask.now) (length stripe.now.history) done.ToCold) class.new.room) }
+    ensures ok { OnOk result (class.new ≡ class_with class.old (done_class_events class.old (question_of ask.now) (length stripe.now.history) done.ToCold) class.new.room) }
     ensures err { OnErr result (class.new ≡ with_room class.old class.new.room) }
     ensures refusal { MatchResult result (λ _. HasPlaces class.old 1) (MayRefuse class.old 1) }
 {

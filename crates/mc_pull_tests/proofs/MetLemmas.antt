@@ -7,15 +7,15 @@ use Rattle.mc_item.specs.declared.{fault.Fault.Fault, item.ClassNo.ClassNo, item
 use Rattle.mc_item.specs.declared.answer.Need.TheVariants as needs
 use Rattle.mc_item.specs.declared.reply.Room.TheVariants as rooms
 use Rattle.mc_rule.specs.{Agreement.Agree, Segment.Rule, Segment.rule_of}
-use Rattle.mc_evidence.proofs.AgreeLemmas.{agree_begins, agree_refused}
+use Rattle.mc_evidence.proofs.AgreementLemmas.{agree_begins, agree_refused}
 use Rattle.mc_segment.specs.{ClassCalls.Makes, ClassCalls.refused_event, ClassState.ClassView, ClassState.appended, ClassState.opened, ClassState.with_room}
 use Rattle.mc_stripe.specs.{StripeCalls.KeepsSite, StripeState.Stripe, Trying.row_at, Wanting.IsTaken}
 use Rattle.mc_stripe.specs.declared.{trying.Turn.Turn, wanting.Given.Given, wanting.Home.Home}
 use Rattle.mc_pull.specs.declared.{attempting.Tried.Tried, judge.Done.Done}
 use Rattle.mc_pull.specs.declared.attempting.Tried.TheVariants as tried
-use Rattle.mc_pull.specs.{Agreeing.AgreeNow, Agreeing.IsApart, Agreeing.KeepsAgreement, Lent.EachPair, Growth.Grows, Lone.Serves, Lone.Walked, Walker.walker_of}
-use Rattle.mc_pull.specs.{Performed.GainsPart, Performed.IsUntouched, Performed.Stays, Performed.events_in, Perform.Call, Perform.call, Question.IsClassOf}
-use Rattle.mc_pull.specs.{Question.Question, Settled.IsSettled, Settled.class_events}
+use Rattle.mc_pull.specs.{Agreeing.AgreeNow, Agreeing.IsApart, Agreeing.KeepsAgreement, Lent.EachPair, Growth.GainsEvents, Lone.Serves, Lone.Walked, Walker.walker_of}
+use Rattle.mc_pull.specs.{Performed.GainsPart, Performed.IsUntouched, Performed.ClassStays, Performed.events_in, Perform.Call, Perform.call, Question.IsClassOf}
+use Rattle.mc_pull.specs.{Question.Question, Settled.IsSettled, Settled.done_class_events}
 use Rattle.mc_pull.specs.Attempt.{GivesHome, IsAny, IsOffered, IsTriedBy, OffersHome}
 use Rattle.mc_pull_tests.specs.Met.{AreMet}
 
@@ -32,7 +32,7 @@ like_with : (v w : ClassView) (h : List ClassEvent) → w ≡ record v { history
 like_with v w h is = is ∙ ap (λ (x : List ClassEvent). record v { history = x; room = w.room }) (sym (ap (λ (x : ClassView). x.history) is))
 
 -- a class that only its room has changed of agrees with a stripe of the same history and site
-stays_agreed : (v w : ClassView) (s s_new : Stripe) → Stays v w → s_new.history ≡ s.history → s_new.site ≡ s.site → AgreeNow v s → AgreeNow w s_new
+stays_agreed : (v w : ClassView) (s s_new : Stripe) → ClassStays v w → s_new.history ≡ s.history → s_new.site ≡ s.site → AgreeNow v s → AgreeNow w s_new
 stays_agreed v w s s_new stays history site agree =
     subst (λ (x : ClassView). AgreeNow x s_new) (sym stays)
     (subst (λ (t : Site). Agree t v.rule v.number s_new.history v.history) (sym site) (subst (λ (h : List StripeEvent). Agree s.site v.rule v.number h v.history) (sym history) agree))
@@ -62,13 +62,13 @@ gains_like s c [] (w ∷ ws) gains = absurd gains
 gains_like s c (v ∷ vs) [] gains = absurd gains
 gains_like s c (v ∷ vs) (w ∷ ws) gains = (like_with v w (v.history ++ events_in s c v) gains.0, gains_like s c vs ws gains.1)
 
-stays_like : (vs ws : List ClassView) → EachPair Stays vs ws → EachPair IsLike vs ws
+stays_like : (vs ws : List ClassView) → EachPair ClassStays vs ws → EachPair IsLike vs ws
 stays_like [] [] stays = tt
 stays_like [] (w ∷ ws) stays = absurd stays
 stays_like (v ∷ vs) [] stays = absurd stays
 stays_like (v ∷ vs) (w ∷ ws) stays = (like_with v w v.history stays.0, stays_like vs ws stays.1)
 
-stays_own : (s s_new : Stripe) → s_new.history ≡ s.history → s_new.site ≡ s.site → (vs ws : List ClassView) → EachPair Stays vs ws → EachPair (λ v w. AgreeNow v s → AgreeNow w s_new) vs ws
+stays_own : (s s_new : Stripe) → s_new.history ≡ s.history → s_new.site ≡ s.site → (vs ws : List ClassView) → EachPair ClassStays vs ws → EachPair (λ v w. AgreeNow v s → AgreeNow w s_new) vs ws
 stays_own s s_new history site [] [] stays = tt
 stays_own s s_new history site [] (w ∷ ws) stays = absurd stays
 stays_own s s_new history site (v ∷ vs) [] stays = absurd stays
@@ -166,7 +166,7 @@ module _ (config : Config) (s s_new : Stripe) (v w : ClassView) (met : AreMet co
 
 -- ---- other steps
 -- only the rooms of the classes have changed
-pub met_rooms : (config : Config) (s : Stripe) (v v_new w w_new : ClassView) → Stays v v_new → Stays w w_new → AreMet config s v w → AreMet config s v_new w_new
+pub met_rooms : (config : Config) (s : Stripe) (v v_new w w_new : ClassView) → ClassStays v v_new → ClassStays w w_new → AreMet config s v w → AreMet config s v_new w_new
 met_rooms config s v v_new w w_new first second met =
     subst (λ (x : ClassView). AreMet config s x w_new) (sym first)
     (subst (λ (y : ClassView). AreMet config s (with_room v v_new.room) y) (sym second) (record {
@@ -195,13 +195,13 @@ pub met_settled : (config : Config) (s s_new : Stripe) (v v_new w : ClassView) (
 met_settled config s s_new v v_new w q d site settled agreement met =
     met_one config s s_new v w met v_new (record {
       site = site;
-      like = (like_with v v_new (v.history ++ class_events v q (length s.history) d) settled.class, tt);
+      like = (like_with v v_new (v.history ++ done_class_events v q (length s.history) d) settled.class, tt);
       own = (agreement.own, tt);
       others = λ other rule history apart agree. agreement.others other rule history apart.0 agree;
     })
 
 -- the first class was walked along
-pub met_walked : (config : Config) (s s_new : Stripe) (v v_new w : ClassView) (who : Who) (moment : ℕ) → Grows v v_new → Walked (walker_of v who moment) s v.history s_new v_new.history
+pub met_walked : (config : Config) (s s_new : Stripe) (v v_new w : ClassView) (who : Who) (moment : ℕ) → GainsEvents v v_new → Walked (walker_of v who moment) s v.history s_new v_new.history
     → AreMet config s v w → AreMet config s_new v_new w
 met_walked config s s_new v v_new w who moment grows walked met =
     met_one config s s_new v w met v_new (record {

@@ -1,5 +1,5 @@
 pub mod TestLemmas
-pub mod PlaceLemmas
+pub mod EventPlaceLemmas
 pub mod ListLemmas
 pub mod HistoryLemmas
 pub mod OnceLemmas

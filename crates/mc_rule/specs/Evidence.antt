@@ -12,22 +12,22 @@ use Rattle.mc_rule.specs.Pairs.{ClearsMark, IsCooling, IsEviction, IsKeyOf, IsLi
 
 -- a stripe's command, told to a class: a chunk of the class that it was given was linked, a link of the class that it took
 -- away was unlinked, and a refusal of the class that it names stands there
-pub record IsCommandTold (site : Site) (rule : Rule) (class : ClassNo) (seen : List ClassEvent) (before : List StripeEvent) (did : Did) : Type 0 where
+pub record HasCommandTrace (site : Site) (rule : Rule) (class : ClassNo) (seen : List ClassEvent) (before : List StripeEvent) (did : Did) : Type 0 where
   pub linked : (number : ℕ) → did.room ≡ rooms.At (link_to class number) → Has entries.Linked seen (λ behind e. IsLinking site rule class before did e)
   pub unlinked : (number : ℕ) → LetsGo site before did (link_to class number) → Has entries.Unlinked seen (λ behind e. IsUnlinking site class before did e)
   pub refused : (place : ℕ) → did.room ≡ rooms.Refused class place → Has entries.Refused seen (λ behind e. IsRefusal class did behind e)
 
 -- a loss by its cause, told to the class of the lost link: a taken chunk was evicted, a dead item's was reclaimed
-abbrev pub IsLossTold : Site → ClassNo → List ClassEvent → List StripeEvent → Lost → Cause → Type 0
-IsLossTold site class seen before lost (Taken other place) = Has entries.Evicted seen (λ behind e. IsEviction site class before lost behind e)
-IsLossTold site class seen before lost (Expired moment) = Has entries.Reclaimed seen (λ behind e. IsReclaiming site class before lost e)
+abbrev pub HasLossTrace : Site → ClassNo → List ClassEvent → List StripeEvent → Lost → Cause → Type 0
+HasLossTrace site class seen before lost (Taken other place) = Has entries.Evicted seen (λ behind e. IsEviction site class before lost behind e)
+HasLossTrace site class seen before lost (Expired moment) = Has entries.Reclaimed seen (λ behind e. IsReclaiming site class before lost e)
 
 -- what a stripe's event has to find in a class's history, as it is seen
-abbrev pub IsTold : Site → Rule → ClassNo → List ClassEvent → List StripeEvent → StripeEvent → Type 0
-IsTold site rule class seen before (items.Did did) = IsCommandTold site rule class seen before did
-IsTold site rule class seen before (items.Lost lost) =
-    (number : ℕ) → link_of_item (item_after site before lost.key) ≡ Some (link_to class number) → IsLossTold site class seen before lost lost.cause
-IsTold site rule class seen before (items.Cooled cooled) =
+abbrev pub HasTrace : Site → Rule → ClassNo → List ClassEvent → List StripeEvent → StripeEvent → Type 0
+HasTrace site rule class seen before (items.Did did) = HasCommandTrace site rule class seen before did
+HasTrace site rule class seen before (items.Lost lost) =
+    (number : ℕ) → link_of_item (item_after site before lost.key) ≡ Some (link_to class number) → HasLossTrace site class seen before lost lost.cause
+HasTrace site rule class seen before (items.Cooled cooled) =
     (number : ℕ) → link_of_item (item_after site before cooled.key) ≡ Some (link_to class number)
     → Has entries.Shifted seen (λ behind e. IsCooling site class before cooled e)
 
@@ -51,5 +51,5 @@ IsBacked site rule class seen behind (entries.Refused e) = Unit {0}
 
 -- a stripe's history and a class's are evidence of each other
 pub record AreEvidence (site : Site) (rule : Rule) (class : ClassNo) (stripe : List StripeEvent) (history : List ClassEvent) : Type 0 where
-  pub told : Each (IsTold site rule class history) stripe
+  pub told : Each (HasTrace site rule class history) stripe
   pub backed : Each (IsBacked site rule class stripe) history

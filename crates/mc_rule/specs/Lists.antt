@@ -134,16 +134,16 @@ abbrev pub times_in : ℕ → Lists → ℕ
 times_in n l = times n l.hot + times n l.warm + times n l.cold + times n l.temp
 
 -- how many entries an event links
-abbrev pub links_in : ClassEvent → ℕ
-links_in (events.Linked e) = 1
-links_in (events.Unlinked e) = 0
-links_in (events.Shifted e) = 0
-links_in (events.Evicted e) = 0
-links_in (events.Reclaimed e) = 0
-links_in (events.Surveyed e) = 0
-links_in (events.Refused e) = 0
+abbrev pub entries_linked_by : ClassEvent → ℕ
+entries_linked_by (events.Linked e) = 1
+entries_linked_by (events.Unlinked e) = 0
+entries_linked_by (events.Shifted e) = 0
+entries_linked_by (events.Evicted e) = 0
+entries_linked_by (events.Reclaimed e) = 0
+entries_linked_by (events.Surveyed e) = 0
+entries_linked_by (events.Refused e) = 0
 
 -- how many entries were linked: the number of the next one, as they are numbered from 0
-abbrev pub links_of : List ClassEvent → ℕ
-links_of [] = 0
-links_of (e ∷ es) = links_in e + links_of es
+abbrev pub entries_linked : List ClassEvent → ℕ
+entries_linked [] = 0
+entries_linked (e ∷ es) = entries_linked_by e + entries_linked es

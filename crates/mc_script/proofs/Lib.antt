@@ -1,8 +1,8 @@
 pub mod IterLemmas
-pub mod CallLemmas
-pub mod ClassLemmas
+pub mod MadeCallLemmas
+pub mod DirectiveCallLemmas
 pub mod SumLemmas
 pub mod ProgressLemmas
-pub mod PieceLemmas
-pub mod RunLemmas
+pub mod ScriptPieceLemmas
+pub mod ScriptRunLemmas
 pub mod UpkeepLemmas

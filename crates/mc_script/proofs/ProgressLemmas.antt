@@ -6,11 +6,11 @@ use Rattle.mc_proto.specs.{Answers.Answer, Answers.text_of, Grammar.IsModerate, 
 use Rattle.mc_proto.specs.declared.{request.Limits.Limits, request.Request.Request}
 use Rattle.mc_script.specs.{Calls.Answers, Calls.Fails, Run.NoneEnds, Run.first_moment, Exchanges.Exchange, Exchanges.exchanges}
 use Rattle.mc_script.specs.Progress.{AreModerate, Goes, HasAnswered, HasFailed, HasTorn, Went}
-use Rattle.mc_script.specs.Script.{Answered, AreWhole, IsWhole, all_exchanges, answered, calls_of, ends, moment_after, moment_behind, requests_of, texts_of, turn_behind}
+use Rattle.mc_script.specs.Script.{Answered, AreWhole, IsAnsweredWhole, all_exchanges, answered, calls_of, ends, moment_after, moment_behind, requests_of, texts_of, turn_behind}
 use Rattle.mc_script.specs.declared.scripting.Progress.TheVariants as progress
 
 -- one request more has its replies too
-AreWhole-push : (limits : Limits) (all : List Answered) (a : Answered) → AreWhole limits all → IsWhole limits a → AreWhole limits (all ++ a ∷ [])
+AreWhole-push : (limits : Limits) (all : List Answered) (a : Answered) → AreWhole limits all → IsAnsweredWhole limits a → AreWhole limits (all ++ a ∷ [])
 AreWhole-push limits [] a before one = (one, tt)
 AreWhole-push limits (x ∷ more) a before one = (before.0, AreWhole-push limits more a before.1 one)
 

@@ -11,7 +11,7 @@ use Rattle.mc_script.specs.{Calls.Answers, Calls.Fails, Exchanges.Exchange, Prog
 use Rattle.mc_script.specs.Script.{Answered, answered, calls_of, ends, moment_after, requests_of, turn_behind}
 use Rattle.mc_script.specs.Upkeep.{HasBrokenOff, HasKeptUp, WorksAll, directive_of, many_calls, work_of}
 use Rattle.mc_script.specs.declared.{upkeep.Keeper.Keeper, upkeep.Keeper.TheVariants.Maintainer, upkeep.Keeper.TheVariants.Crawler}
-use Rattle.mc_script.proofs.{CallLemmas.makes_none, ProgressLemmas.answered_more, ProgressLemmas.failed, ProgressLemmas.requests_of-append}
+use Rattle.mc_script.proofs.{MadeCallLemmas.makes_none, ProgressLemmas.answered_more, ProgressLemmas.failed, ProgressLemmas.requests_of-append}
 
 -- the work at these moments was done so far; the texts that a script would print are gathered nowhere
 pub record HasKept (limits : Limits) (keeper : Keeper) (moments : List ℕ) (notes : List Exchange → Type 0) (caller turn : ℕ) : Type 0 where

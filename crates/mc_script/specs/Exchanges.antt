@@ -4,13 +4,13 @@ use Rattle.mc_item.specs.declared.{command.Command.Command, item.ClassNo.ClassNo
 use Rattle.mc_proto.specs.Answers.{Answer, Counted, Replied, Moved}
 
 -- a call: a command, or the maintainer's or the crawler's work on a slab class
-pub data Call : Type 0 where
-  Asks : Command → Call
-  Juggles : ClassNo → Call
-  Crawls : ClassNo → Call
+pub data ScriptCall : Type 0 where
+  Asks : Command → ScriptCall
+  Juggles : ClassNo → ScriptCall
+  Crawls : ClassNo → ScriptCall
 
 -- an answer is of its call's kind: a command is replied to, the maintainer's work moves, and the crawler's counts
-abbrev pub IsOfKind : Call → Answer → Type 0
+abbrev pub IsOfKind : ScriptCall → Answer → Type 0
 IsOfKind (Asks command) (Replied reply) = Unit {0}
 IsOfKind (Juggles class) (Moved moves) = Unit {0}
 IsOfKind (Crawls class) (Counted histogram) = Unit {0}
@@ -22,7 +22,7 @@ IsOfKind (Crawls class) (Replied reply) = ⊥
 IsOfKind (Crawls class) (Moved moves) = ⊥
 
 -- these are answers to the first of these calls, each of its call's kind
-abbrev pub AreAnswers : List Call → List Answer → Type 0
+abbrev pub AreAnswers : List ScriptCall → List Answer → Type 0
 AreAnswers calls [] = Unit {0}
 AreAnswers [] (answer ∷ answers) = ⊥
 AreAnswers (call ∷ calls) (answer ∷ answers) = IsOfKind call answer × AreAnswers calls answers
@@ -30,17 +30,17 @@ AreAnswers (call ∷ calls) (answer ∷ answers) = IsOfKind call answer × AreAn
 -- an exchange, a call with its answer: who made it, the call and its moment, and the answer
 pub record Exchange : Type 0 where
   pub who : Who
-  pub call : Call
+  pub call : ScriptCall
   pub moment : ℕ
   pub answer : Answer
 
 -- the exchange of a caller's turn
-abbrev pub exchange : ℕ → ℕ → Call → ℕ → Answer → Exchange
+abbrev pub exchange : ℕ → ℕ → ScriptCall → ℕ → Answer → Exchange
 exchange caller turn call moment answer =
     record { who = record { caller = caller; turn = turn }; call = call; moment = moment; answer = answer }
 
 -- the exchanges of these calls with their answers, as far as there are answers, from a turn on: turns rise by one with each call
-abbrev pub exchanges : ℕ → ℕ → ℕ → List Call → List Answer → List Exchange
+abbrev pub exchanges : ℕ → ℕ → ℕ → List ScriptCall → List Answer → List Exchange
 exchanges caller turn moment (call ∷ calls) (answer ∷ answers) = exchange caller turn call moment answer ∷ exchanges caller (turn + 1) moment calls answers
 exchanges caller turn moment [] answers = []
 exchanges caller turn moment (call ∷ calls) [] = []

@@ -54,12 +54,12 @@ AreModerate limits [] = Unit {0}
 AreModerate limits (r ∷ rs) = IsModerate limits r × AreModerate limits rs
 
 -- how far requests were answered: all, up to one that ends the script, or up to one that failed
-abbrev pub IsAt : Progress → Limits → List Request → List Answered → List ℕ → List ℕ → List ℕ → (List Exchange → Type 0) → ℕ → ℕ → ℕ → Type 0
-IsAt More limits back answered start taken text notes caller turn moment = (back ≡ []) × HasAnswered limits answered start taken text notes caller turn moment
-IsAt Ended limits back answered start taken text notes caller turn moment = EndsHere back × HasAnswered limits answered start taken text notes caller turn moment
-IsAt Memory limits back answered start taken text notes caller turn moment = FailsHere faults.NoMemory limits back answered start taken text notes caller
-IsAt Full limits back answered start taken text notes caller turn moment = FailsHere faults.HistoryFull limits back answered start taken text notes caller
-IsAt Output limits back answered start taken text notes caller turn moment = HasTorn limits answered start taken notes caller
+abbrev pub IsProgress : Progress → Limits → List Request → List Answered → List ℕ → List ℕ → List ℕ → (List Exchange → Type 0) → ℕ → ℕ → ℕ → Type 0
+IsProgress More limits back answered start taken text notes caller turn moment = (back ≡ []) × HasAnswered limits answered start taken text notes caller turn moment
+IsProgress Ended limits back answered start taken text notes caller turn moment = EndsHere back × HasAnswered limits answered start taken text notes caller turn moment
+IsProgress Memory limits back answered start taken text notes caller turn moment = FailsHere faults.NoMemory limits back answered start taken text notes caller
+IsProgress Full limits back answered start taken text notes caller turn moment = FailsHere faults.HistoryFull limits back answered start taken text notes caller
+IsProgress Output limits back answered start taken text notes caller turn moment = HasTorn limits answered start taken notes caller
 
 -- some of the requests, the first ones, were answered behind those that were before
 pub record Goes (progress : Progress) (limits : Limits) (requests : List Request) (before : List Answered) (start taken text : List ℕ) (notes : List Exchange → Type 0) (caller turn moment : ℕ) : Type 0 where
@@ -69,7 +69,7 @@ pub record Goes (progress : Progress) (limits : Limits) (requests : List Request
   pub split : requests ≡ front ++ back
   pub own : NoneEnds front
   pub asked : requests_of added ≡ front
-  pub state : IsAt progress limits back (before ++ added) start taken text notes caller turn moment
+  pub state : IsProgress progress limits back (before ++ added) start taken text notes caller turn moment
 
 -- so far these requests were answered behind those before
 pub record Went (limits : Limits) (yielded : List Request) (before : List Answered) (start taken text : List ℕ) (notes : List Exchange → Type 0) (caller turn moment : ℕ) : Type 0 where
@@ -100,7 +100,7 @@ pub record HasCome (limits : Limits) (bytes left : List ℕ) (done : List Answer
   pub asked : requests_of done ≡ requests
 
 -- a piece was answered whole, and its texts are out
-pub record GoesOn (limits : Limits) (start taken text : List ℕ) (notes : List Exchange → Type 0) (caller turn moment : ℕ) (done : List Answered) (added : List Request) : Type 0 where
+pub record AnswersWhole (limits : Limits) (start taken text : List ℕ) (notes : List Exchange → Type 0) (caller turn moment : ℕ) (done : List Answered) (added : List Request) : Type 0 where
   pub own : NoneEnds added
   pub out : text ≡ []
   pub now : List Answered
@@ -109,7 +109,7 @@ pub record GoesOn (limits : Limits) (start taken text : List ℕ) (notes : List 
 
 -- what a piece leaves: the script goes on, or ends here
 abbrev pub LeavesPiece : Option Outcome → Limits → List ℕ → List ℕ → List ℕ → List ℕ → List ℕ → (List Exchange → Type 0) → ℕ → ℕ → ℕ → List Answered → List Request → Type 0
-LeavesPiece None limits bytes left start taken text notes caller turn moment done added = GoesOn limits start taken text notes caller turn moment done added
+LeavesPiece None limits bytes left start taken text notes caller turn moment done added = AnswersWhole limits start taken text notes caller turn moment done added
 LeavesPiece (Some outcome) limits bytes left start taken text notes caller turn moment done added = Leaves outcome limits bytes left start taken notes caller
 
 -- the sink failed just where that ended the requests

@@ -6,7 +6,7 @@ use Rattle.mc_item.specs.declared.fault.Fault.TheVariants as faults
 use Rattle.mc_proto.specs.Answers.{Answer}
 use Rattle.mc_proto.specs.declared.{request.Limits.Limits, request.Request.Request, request.Target.TheVariants.All}
 use Rattle.mc_proto.specs.declared.request.Request.TheVariants as requests
-use Rattle.mc_script.specs.{Calls.IsPart, Calls.Makes, Exchanges.AreAnswers, Exchanges.Exchange, Exchanges.exchanges, Run.first_moment}
+use Rattle.mc_script.specs.{Calls.IsPart, Calls.MakesCalls, Exchanges.AreAnswers, Exchanges.Exchange, Exchanges.exchanges, Run.first_moment}
 use Rattle.mc_script.specs.Script.{Answered, AreWhole, all_exchanges, calls_of, moment_behind, requests_of, turn_behind}
 use Rattle.mc_script.specs.declared.{outcome.Outcome.Outcome, upkeep.Keeper.Keeper, upkeep.Keeper.TheVariants.Maintainer, upkeep.Keeper.TheVariants.Crawler}
 use Rattle.mc_script.specs.declared.outcome.Outcome.TheVariants.{Done, Memory, HistoryFull, Input, Output}
@@ -28,7 +28,7 @@ many_calls limits keeper moments = length (flat_map (calls_of limits) (work_of k
 -- a keeper's work at one moment was done: its calls were made
 pub record WorksAll (limits : Limits) (keeper : Keeper) (caller turn turn' moment : ℕ) (notes notes' : List Exchange → Type 0) : Type 0 where
   pub answers : List Answer
-  pub makes : Makes (calls_of limits (directive_of keeper)) answers caller turn turn' moment notes notes'
+  pub makes : MakesCalls (calls_of limits (directive_of keeper)) answers caller turn turn' moment notes notes'
 
 -- all of this work was done: just its calls were made
 pub record HasKeptUp (limits : Limits) (work : List Request) (notes : List Exchange → Type 0) (caller : ℕ) : Type 0 where

@@ -3,7 +3,7 @@ ghost use Rattle.std.specs.Prelude.{◌≡◌, ◌≤◌, ◌<◌, ◌+◌, ◌^
 ghost use Rattle.mc_item.specs.declared.fault.Fault.TheVariants as faults;
 ghost use Rattle.mc_item.specs.declared.item.ClassNo.{ClassNo};
 ghost use Rattle.mc_proto.specs.Answers.{Counted, Moved, Replied};
-ghost use Rattle.mc_script.specs.{Calls.Adds, Calls.AddsUp, Exchanges.Asks, Exchanges.Crawls, Exchanges.Exchange, Exchanges.Juggles, Exchanges.exchange};
+ghost use Rattle.mc_script.specs.{Calls.AddsCalls, Calls.AddsUp, Exchanges.Asks, Exchanges.Crawls, Exchanges.Exchange, Exchanges.Juggles, Exchanges.exchange};
 
 use mc_item::{ClassNo, Command, Fault, Histogram, Moves, Reply};
 use std::sync::Wait;
@@ -36,8 +36,8 @@ pub trait Calls: Drop {
         ensures place { place self.new ≡ place self.old }
         ensures caller { caller self.new ≡ caller self.old }
         ensures turn { OnOk result (turn self.new ≡ turn self.old + 1) }
-        ensures ok { IfOk result (λ reply. Adds (notes self.old) (notes self.new) (exchange (caller self.old) (turn self.old) (Asks command) moment (Replied reply) ∷ [])) }
-        ensures err { OnErr result (Adds (notes self.old) (notes self.new) []) }
+        ensures ok { IfOk result (λ reply. AddsCalls (notes self.old) (notes self.new) (exchange (caller self.old) (turn self.old) (Asks command) moment (Replied reply) ∷ [])) }
+        ensures err { OnErr result (AddsCalls (notes self.old) (notes self.new) []) }
         ensures full { IsErrOf result faults.HistoryFull → is_full self.new };
 
     /// Makes one call of the maintainer's work on a slab class at a moment: how many entries were reclaimed and moved.
@@ -49,9 +49,9 @@ pub trait Calls: Drop {
         ensures place { place self.new ≡ place self.old }
         ensures caller { caller self.new ≡ caller self.old }
         ensures turn { OnOk result (turn self.new ≡ turn self.old + 1) }
-        ensures ok { IfOk result (λ moves. Adds (notes self.old) (notes self.new) (exchange (caller self.old) (turn self.old) (Juggles class) moment (Moved moves) ∷ [])) }
+        ensures ok { IfOk result (λ moves. AddsCalls (notes self.old) (notes self.new) (exchange (caller self.old) (turn self.old) (Juggles class) moment (Moved moves) ∷ [])) }
         ensures small { IfOk result (λ moves. (moves.reclaimed < 2 ^ 32) × (moves.moved < 2 ^ 32)) }
-        ensures err { OnErr result (Adds (notes self.old) (notes self.new) []) }
+        ensures err { OnErr result (AddsCalls (notes self.old) (notes self.new) []) }
         ensures full { IsErrOf result faults.HistoryFull → is_full self.new };
 
     /// Makes one call of the crawler's work on a slab class at a moment: how many entries were seen, and how many of each
@@ -64,9 +64,9 @@ pub trait Calls: Drop {
         ensures place { place self.new ≡ place self.old }
         ensures caller { caller self.new ≡ caller self.old }
         ensures turn { OnOk result (turn self.new ≡ turn self.old + 1) }
-        ensures ok { IfOk result (λ histogram. Adds (notes self.old) (notes self.new) (exchange (caller self.old) (turn self.old) (Crawls class) moment (Counted histogram) ∷ [])) }
+        ensures ok { IfOk result (λ histogram. AddsCalls (notes self.old) (notes self.new) (exchange (caller self.old) (turn self.old) (Crawls class) moment (Counted histogram) ∷ [])) }
         ensures small { IfOk result (λ histogram. histogram.seen ≤ 2 ^ 32) }
         ensures kinds { IfOk result AddsUp }
-        ensures err { OnErr result (Adds (notes self.old) (notes self.new) []) }
+        ensures err { OnErr result (AddsCalls (notes self.old) (notes self.new) []) }
         ensures full { IsErrOf result faults.HistoryFull → is_full self.new };
 }

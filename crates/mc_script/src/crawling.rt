@@ -4,7 +4,7 @@ ghost use Rattle.mc_item.specs.declared.fault.Fault.TheVariants as faults;
 ghost use Rattle.mc_proto.specs.{Answers.counts_of, Grammar.AreAmong};
 ghost use Rattle.mc_proto.specs.declared.request.Request.TheVariants as requests;
 ghost use Rattle.mc_script.specs.Calls.{Answers, Begins, Breaks, Fails, SumsUp};
-ghost use Rattle.mc_script.specs.{Exchanges.Crawls, Script.AllThere, Script.classes_from, Script.classes_of};
+ghost use Rattle.mc_script.specs.{Exchanges.Crawls, Script.AllThere, Script.classes_from, Script.classes_named};
 
 use crate::calls::Calls;
 use mc_item::{ClassNo, Fault, Histogram};
@@ -53,8 +53,8 @@ pub(crate) fn crawl_target<C: Calls>(
     ensures may { OnOk result (C.may_call calls.new) }
     ensures place { C.place calls.new ≡ C.place calls.old }
     ensures caller { C.caller calls.new ≡ C.caller calls.old }
-    ensures ok { IfOk result (λ histogram. SumsUp Crawls counts_of (classes_of limits target) histogram (C.caller calls.old) (C.turn calls.old) (C.turn calls.new) moment (C.notes calls.old) (C.notes calls.new)) }
-    ensures err { IfErr result (λ e. Breaks e (map Crawls (classes_of limits target)) (C.caller calls.old) (C.turn calls.old) moment (C.notes calls.old) (C.notes calls.new)) }
+    ensures ok { IfOk result (λ histogram. SumsUp Crawls counts_of (classes_named limits target) histogram (C.caller calls.old) (C.turn calls.old) (C.turn calls.new) moment (C.notes calls.old) (C.notes calls.new)) }
+    ensures err { IfErr result (λ e. Breaks e (map Crawls (classes_named limits target)) (C.caller calls.old) (C.turn calls.old) moment (C.notes calls.old) (C.notes calls.new)) }
     ensures full { IsErrOf result faults.HistoryFull → C.is_full calls.new }
 {
     match target {

@@ -24,8 +24,8 @@ struct Row {
 // More calls than any script here makes.
 const ALL: u64 = 99;
 
-fn same<R: Abort, T: PartialEq + Debug>(rt: &R, told: &[T], wanted: &[T], script: &str) {
-    assert_eq!(rt; told, wanted, "at {script}");
+fn same<R: Abort, T: PartialEq + Debug>(rt: &R, got: &[T], wanted: &[T], script: &str) {
+    assert_eq!(rt; got, wanted, "at {script}");
 }
 
 // Ends the test if a script did something else.

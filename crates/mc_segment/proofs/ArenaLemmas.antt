@@ -6,22 +6,22 @@ use Rattle.std.proofs.Common.{inl, inr}
 use Rattle.mc_item.specs.declared.{lists.Entry.Entry, lists.Seg.Seg, lists.Seg.TheVariants.Hot, lists.Seg.TheVariants.Warm, lists.Seg.TheVariants.Cold}
 use Rattle.mc_item.specs.declared.{lists.Seg.TheVariants.Temp}
 use Rattle.mc_rule.specs.Lists.{found, found_in, count_of, Lists, list_of, with_list, linked, unlinked, find, without, times, times_in}
-use Rattle.mc_segment.specs.declared.{arena.Node.Node, arena.Place.Place, ends.Ends.Ends, ends.Heads.Heads}
-use Rattle.mc_segment.specs.{Links.with_newer, Links.with_older, Links.points_to, Links.apply_newer, Links.apply_older, Nodes.node, Nodes.node_at, Nodes.lacks}
+use Rattle.mc_segment.specs.declared.{arena.Node.Node, arena.Listed.Listed, ends.Ends.Ends, ends.Heads.Heads}
+use Rattle.mc_segment.specs.{Neighbours.with_newer, Neighbours.with_older, Neighbours.points_to, Neighbours.apply_newer, Neighbours.apply_older, Nodes.node, Nodes.node_at, Nodes.lacks}
 use Rattle.std.specs.HashMap.{spare}
 use Rattle.mc_segment.specs.Slots.{Slots, slot, renewed, reolded, place_newer, place_older}
-use Rattle.mc_segment.specs.Arena.{Held, held, all_bytes, code, part, nodes_of, ends_of, with_ends, pushed_ends, taken_ends, lists_in, IsPart, IsArena}
+use Rattle.mc_segment.specs.Arena.{Held, held, all_bytes, code, part, nodes_of, ends_of, with_ends, pushed_ends, taken_ends, lists_in, AreNodesOf, IsArena}
 use Rattle.mc_segment.proofs.ChainLemmas.{by_eq, not_equal, some_none, walk_is, chain_cong, push_chain, take_chain, absent, node_entry, lacks_absent, first_lacked, names_lacked, cost_le, taken_length}
-use Rattle.mc_segment.proofs.PartLemmas.{entry_of, named, four, own_part, other_part, part_newer, part_relinked, still, quiet, untouched, with_count, with_bytes, numbered, one_if, at_most, times_at}
+use Rattle.mc_segment.proofs.OneListLemmas.{entry_of, named, four, own_part, other_part, part_newer, part_relinked, still, quiet, untouched, with_count, with_bytes, numbered, one_if, at_most, times_at}
 
-pub whole : (f : ℕ → Option Place) (next : ℕ) (h : Heads) (l : Lists) → IsArena f next h l → lists_in f h ≡ l
+pub whole : (f : ℕ → Option Listed) (next : ℕ) (h : Heads) (l : Lists) → IsArena f next h l → lists_in f h ≡ l
 whole f next h l a = four
     (walk_is _ _ _ _ _ _ (a.parts Hot))
     (walk_is _ _ _ _ _ _ (a.parts Warm))
     (walk_is _ _ _ _ _ _ (a.parts Cold))
     (walk_is _ _ _ _ _ _ (a.parts Temp))
 
-pub closed : (f : ℕ → Option Place) (next : ℕ) (h : Heads) (l : Lists) → IsArena f next h l → IsArena f next h (lists_in f h)
+pub closed : (f : ℕ → Option Listed) (next : ℕ) (h : Heads) (l : Lists) → IsArena f next h l → IsArena f next h (lists_in f h)
 closed f next h l a =
     let P : Lists → Type 0 = λ x. IsArena f next h x in
     subst P (sym (whole f next h l a)) a
@@ -32,7 +32,7 @@ seen slots next h v is a =
     let P : Held → Type 0 = λ x. IsArena (slot slots) next h x.lists in
     subst P is a
 
-found_pure : (o : Option Place) → found_in Hot (entry_of (part 0 o)) (found_in Warm (entry_of (part 1 o)) (found_in Cold (entry_of (part 2 o)) (found_in Temp (entry_of (part 3 o)) None))) ≡ named o
+found_pure : (o : Option Listed) → found_in Hot (entry_of (part 0 o)) (found_in Warm (entry_of (part 1 o)) (found_in Cold (entry_of (part 2 o)) (found_in Temp (entry_of (part 3 o)) None))) ≡ named o
 found_pure None = refl
 found_pure (Some p) =
     let x = p.node in
@@ -43,13 +43,13 @@ by_found : {a b c d x y z w : Option Entry} → a ≡ x → b ≡ y → c ≡ z 
 by_found p q r s = cc
 
 -- the four lists after a step on one of them
-pub replaced : (f g : ℕ → Option Place) (h : Heads) (l : Lists) (s : Seg) (e : Ends) (es : List Entry) → ((t : Seg) → IsPart (nodes_of f (code t)) (ends_of h t) (list_of l t))
-    → IsPart (nodes_of g (code s)) e es
+pub replaced : (f g : ℕ → Option Listed) (h : Heads) (l : Lists) (s : Seg) (e : Ends) (es : List Entry) → ((t : Seg) → AreNodesOf (nodes_of f (code t)) (ends_of h t) (list_of l t))
+    → AreNodesOf (nodes_of g (code s)) e es
     → ((t : Seg) → (code s == code t) ≡ false → (q : ℕ) → nodes_of g (code t) q ≡ nodes_of f (code t) q)
-    → (t : Seg) → IsPart (nodes_of g (code t)) (ends_of (with_ends h s e) t) (list_of (with_list l s es) t)
+    → (t : Seg) → AreNodesOf (nodes_of g (code t)) (ends_of (with_ends h s e) t) (list_of (with_list l s es) t)
 replaced f g h l s e es a new other =
-    let keep : (t : Seg) → (code s == code t) ≡ false → IsPart (nodes_of g (code t)) (ends_of h t) (list_of l t) = λ t away. chain_cong _ _ _ _ _ _ _ (other t away) (a t) in
-    (elim s as (λ (s : Seg). IsPart (nodes_of g (code s)) e es → ((t : Seg) → (code s == code t) ≡ false → IsPart (nodes_of g (code t)) (ends_of h t) (list_of l t)) → (t : Seg) → IsPart (nodes_of g (code t)) (ends_of (with_ends h s e) t) (list_of (with_list l s es) t)) [
+    let keep : (t : Seg) → (code s == code t) ≡ false → AreNodesOf (nodes_of g (code t)) (ends_of h t) (list_of l t) = λ t away. chain_cong _ _ _ _ _ _ _ (other t away) (a t) in
+    (elim s as (λ (s : Seg). AreNodesOf (nodes_of g (code s)) e es → ((t : Seg) → (code s == code t) ≡ false → AreNodesOf (nodes_of g (code t)) (ends_of h t) (list_of l t)) → (t : Seg) → AreNodesOf (nodes_of g (code t)) (ends_of (with_ends h s e) t) (list_of (with_list l s es) t)) [
       | Hot ↦ λ n k. elim [ Hot ↦ n | Warm ↦ k Warm refl | Cold ↦ k Cold refl | Temp ↦ k Temp refl ]
       | Warm ↦ λ n k. elim [ Hot ↦ k Hot refl | Warm ↦ n | Cold ↦ k Cold refl | Temp ↦ k Temp refl ]
       | Cold ↦ λ n k. elim [ Hot ↦ k Hot refl | Warm ↦ k Warm refl | Cold ↦ n | Temp ↦ k Temp refl ]
@@ -62,7 +62,7 @@ unlinked_one l n Warm k = four (sym (k Hot refl)) refl (sym (k Cold refl)) (sym 
 unlinked_one l n Cold k = four (sym (k Hot refl)) (sym (k Warm refl)) refl (sym (k Temp refl))
 unlinked_one l n Temp k = four (sym (k Hot refl)) (sym (k Warm refl)) (sym (k Cold refl)) refl
 
-module _ (f : ℕ → Option Place) (next : ℕ) (h : Heads) (l : Lists) (a : IsArena f next h l) where
+module _ (f : ℕ → Option Listed) (next : ℕ) (h : Heads) (l : Lists) (a : IsArena f next h l) where
   find_is : (n : ℕ) (s : Seg) → find n (list_of l s) ≡ entry_of (part (code s) (f n))
   find_is n s = sym (node_entry None (list_of l s) n) ∙ ap entry_of (sym ((a.parts s).nodes n))
 
@@ -72,7 +72,7 @@ module _ (f : ℕ → Option Place) (next : ℕ) (h : Heads) (l : Lists) (a : Is
   -- a number that is in no list has an empty slot
   pub slot_none : (n : ℕ) → found n l ≡ None → f n ≡ None
   slot_none n none =
-      (elim (f n) as (λ (o : Option Place). named o ≡ None → o ≡ None) [ None ↦ λ _. refl | Some p ↦ λ k. absurd (some_none (sym k)) ]) (sym (found_is n) ∙ none)
+      (elim (f n) as (λ (o : Option Listed). named o ≡ None → o ≡ None) [ None ↦ λ _. refl | Some p ↦ λ k. absurd (some_none (sym k)) ]) (sym (found_is n) ∙ none)
 
   missing_here : (s : Seg) (q : ℕ) → part (code s) (f q) ≡ None → lacks q (list_of l s) ≡ true
   missing_here s q none = lacks_absent q (list_of l s) (absent _ _ _ _ _ _ q (a.parts s) none).0
@@ -88,17 +88,17 @@ module _ (f : ℕ → Option Place) (next : ℕ) (h : Heads) (l : Lists) (a : Is
   below q past = found_is q ∙ ap named (a.later q past)
 
   -- a number that has a place is below the next
-  pub slot_below : (q : ℕ) (p : Place) → f q ≡ Some p → q < next
+  pub slot_below : (q : ℕ) (p : Listed) → f q ≡ Some p → q < next
   slot_below q p is =
       elim (cases_lt q next) [ inl less ↦ less | inr past ↦ absurd (some_none (sym (a.later q past) ∙ is)) ]
 
   -- an entry is put at a head
-  pub put_arena : (g : ℕ → Option Place) (s : Seg) (e : Entry) → found e.number l ≡ None → e.number < next → count_of l < next → all_bytes l + e.cost ≤ 2 ^ 20 * next
+  pub put_arena : (g : ℕ → Option Listed) (s : Seg) (e : Entry) → found e.number l ≡ None → e.number < next → count_of l < next → all_bytes l + e.cost ≤ 2 ^ 20 * next
       → ((q : ℕ) → g q ≡ (if e.number == q then Some (record { seg = s; node = node e None (ends_of h s).newest }) else place_newer (ends_of h s).newest (Some e.number) q (f q)))
       → IsArena g next (with_ends h s (pushed_ends (ends_of h s) e.number e.cost)) (linked s e l)
   put_arena g s e none within free fits new =
       let ends = ends_of h s in
-      let p : Place = record { seg = s; node = node e None ends.newest } in
+      let p : Listed = record { seg = s; node = node e None ends.newest } in
       let empty = slot_none e.number none in
       let at : (k q : ℕ) → nodes_of g k q ≡ (if e.number == q then part k (Some p) else apply_newer ends.newest (Some e.number) q (part k (f q))) = λ k q.
       ap (part k) (new q) ∙ (elim (e.number == q) as (λ (b : Bool). part k (if b then Some p else place_newer ends.newest (Some e.number) q (f q)) ≡ (if b then part k (Some p) else apply_newer ends.newest (Some e.number) q (part k (f q)))) [ true ↦ refl | false ↦ part_newer k ends.newest (Some e.number) q (f q) ]) in
@@ -118,7 +118,7 @@ module _ (f : ℕ → Option Place) (next : ℕ) (h : Heads) (l : Lists) (a : Is
       }
 
   -- places that are alike
-  pub same_slots : (g : ℕ → Option Place) → ((q : ℕ) → g q ≡ f q) → IsArena g next h l
+  pub same_slots : (g : ℕ → Option Listed) → ((q : ℕ) → g q ≡ f q) → IsArena g next h l
   same_slots g same = record {
     parts = λ s. chain_cong _ _ _ _ _ _ _ (λ q. ap (part (code s)) (same q)) (a.parts s);
     later = λ q past. same q ∙ a.later q past;
@@ -143,7 +143,7 @@ module _ (f : ℕ → Option Place) (next : ℕ) (h : Heads) (l : Lists) (a : Is
       four (kept Hot) (kept Warm) (kept Cold) (kept Temp)
 
   -- the entry of a number is taken out
-  module _ (m : ℕ) (p : Place) (is : f m ≡ Some p) where
+  module _ (m : ℕ) (p : Listed) (is : f m ≡ Some p) where
     own : nodes_of f (code p.seg) m ≡ Some p.node
     own = own_part (f m) p is
 
@@ -177,7 +177,7 @@ module _ (f : ℕ → Option Place) (next : ℕ) (h : Heads) (l : Lists) (a : Is
         let P : Lists → Type 0 = λ x. (count_of x + 1 ≡ count_of l) × (all_bytes x + p.node.entry.cost ≡ all_bytes l) in
         subst P unlinked_is (omega (arith, size, n), omega (arith, size, b))
 
-    pub take_arena : (g : ℕ → Option Place)
+    pub take_arena : (g : ℕ → Option Listed)
         → ((q : ℕ) → g q ≡ place_newer p.node.older p.node.newer q (place_older p.node.newer p.node.older q (if m == q then None else f q)))
         → IsArena g next (with_ends h p.seg (taken_ends (ends_of h p.seg) p.node.newer p.node.older p.node.entry.cost)) (unlinked m l)
     take_arena g new =
@@ -188,14 +188,14 @@ module _ (f : ℕ → Option Place) (next : ℕ) (h : Heads) (l : Lists) (a : Is
         ∙ ap (λ (o : Option Node). apply_newer x.older x.newer q (apply_older x.newer x.older q o)) (elim (m == q) as (λ (b : Bool). part k (if b then None else f q) ≡ (if b then None else part k (f q))) [ true ↦ refl | false ↦ refl ])) in
         let far : (q : ℕ) → part (code s) (f q) ≡ None → (points_to q x.newer ≡ false) × (points_to q x.older ≡ false) = λ q miss. names_lacked None (list_of l s) m q x here refl (missing_here s q miss) in
         let sums = taken_sums in
-        let P : Lists → Type 0 = λ v. (t : Seg) → IsPart (nodes_of g (code t)) (ends_of (with_ends h s (taken_ends (ends_of h s) x.newer x.older x.entry.cost)) t) (list_of v t) in
+        let P : Lists → Type 0 = λ v. (t : Seg) → AreNodesOf (nodes_of g (code t)) (ends_of (with_ends h s (taken_ends (ends_of h s) x.newer x.older x.entry.cost)) t) (list_of v t) in
         record {
           parts = subst P unlinked_is (replaced f g h l s _ (without m (list_of l s)) a.parts
               (take_chain (nodes_of f (code s)) (nodes_of g (code s)) _ _ _ _ (list_of l s) m x (a.parts s) own (at (code s)))
               (λ t away q. at (code t) q ∙ by_eq m q (λ b. apply_newer x.older x.newer q (apply_older x.newer x.older q (if b then None else part (code t) (f q))) ≡ part (code t) (f q))
               (λ same. ap (apply_newer x.older x.newer q) (still (points_to q x.newer) (with_older x.older)) ∙ (still (points_to q x.older) (with_newer x.newer) ∙ sym (ap (λ (n : ℕ). part (code t) (f n)) (sym same) ∙ apart t away)))
               (λ other. ap (apply_newer x.older x.newer q) (untouched (code s) (code t) (points_to q x.newer) (with_older x.older) (f q) away (λ miss. (far q miss).0)) ∙ untouched (code s) (code t) (points_to q x.older) (with_newer x.newer) (f q) away (λ miss. (far q miss).1))));
-          later = λ q past. new q ∙ (ap (λ (o : Option Place). place_newer x.older x.newer q (place_older x.newer x.older q o)) (elim (m == q) as (λ (b : Bool). (if b then None else f q) ≡ None) [ true ↦ refl | false ↦ a.later q past ])
+          later = λ q past. new q ∙ (ap (λ (o : Option Listed). place_newer x.older x.newer q (place_older x.newer x.older q o)) (elim (m == q) as (λ (b : Bool). (if b then None else f q) ≡ None) [ true ↦ refl | false ↦ a.later q past ])
               ∙ (ap (place_newer x.older x.newer q) (quiet (points_to q x.newer) (reolded x.older)) ∙ quiet (points_to q x.older) (renewed x.newer)));
           count = omega (arith, sums, a.count);
           bytes = omega (arith, sums, a.bytes);

@@ -7,7 +7,7 @@ use Rattle.std.proofs.lemmas.{Bool.Decides.eqb_tells, Bool.false≢true, Bool.eq
 use Rattle.mc_item.specs.declared.lists.Entry.{Entry}
 use Rattle.mc_rule.specs.Lists.{find, without, cost_sum}
 use Rattle.mc_segment.specs.declared.arena.Node.{Node}
-use Rattle.mc_segment.specs.Links.{with_newer, with_older, points_to, apply_older, apply_newer, end_of}
+use Rattle.mc_segment.specs.Neighbours.{with_newer, with_older, points_to, apply_older, apply_newer, end_of}
 use Rattle.mc_segment.specs.Nodes.{node, first_number, last_from, node_at, lacks, distinct, walk, walked, IsChain}
 
 abbrev pub lacks_name : Option ℕ → List Entry → Bool

@@ -1,7 +1,7 @@
 pub mod ChainLemmas
 pub mod TailLemmas
-pub mod PartLemmas
+pub mod OneListLemmas
 pub mod ArenaLemmas
 pub mod SlotLemmas
 pub mod StateLemmas
-pub mod FoundLemmas
+pub mod ListOfNumberLemmas

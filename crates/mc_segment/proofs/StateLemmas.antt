@@ -6,7 +6,7 @@ use Rattle.mc_item.specs.declared.{class_event.ClassEvent.ClassEvent, config.Con
 use Rattle.mc_item.specs.declared.class_event.ClassEvent.TheVariants as events
 use Rattle.mc_item.specs.declared.config.ConfigFault.TheVariants.{Stripes, Sizes, Chunks, Percent, Factor, Callers, Events}
 use Rattle.mc_item.specs.Config.{fault_of, are_stripes, are_sizes, are_chunks, are_percents, are_factors, are_callers, are_events}
-use Rattle.mc_rule.specs.Lists.{Lists, no_lists, lists_from, lists_of, lists_after, links_in, links_of}
+use Rattle.mc_rule.specs.Lists.{Lists, no_lists, lists_from, lists_of, lists_after, entries_linked_by, entries_linked}
 use Rattle.mc_rule.specs.{Segment.Rule, Lawful.names, Lawful.is_named, Lawful.IsLawfulByLists, Lawful.IsLawfulByListsFrom}
 use Rattle.mc_segment.specs.{Arena.Held, ClassState.ClassView, ClassState.class_view, ClassState.HasPlaces, ClassState.IsReplay}
 use Rattle.mc_segment.proofs.ChainLemmas.{not_equal}
@@ -16,11 +16,11 @@ pub lists_from-push : (l : Lists) (es : List ClassEvent) (e : ClassEvent) → li
 lists_from-push l [] e = refl
 lists_from-push l (x ∷ es) e = lists_from-push (lists_after l x) es e
 
-pub links_of-push : (es : List ClassEvent) (e : ClassEvent) → links_of (es ++ e ∷ []) ≡ links_of es + links_in e
+pub links_of-push : (es : List ClassEvent) (e : ClassEvent) → entries_linked (es ++ e ∷ []) ≡ entries_linked es + entries_linked_by e
 links_of-push [] e = omega arith
 links_of-push (x ∷ es) e = let later = links_of-push es e in omega arith
 
-links_in-le : (e : ClassEvent) → links_in e ≤ 1
+links_in-le : (e : ClassEvent) → entries_linked_by e ≤ 1
 links_in-le (events.Linked e) = omega arith
 links_in-le (events.Unlinked e) = omega arith
 links_in-le (events.Shifted e) = omega arith
@@ -35,7 +35,7 @@ last_is [] e = refl
 last_is (x ∷ es) e = last_is es e
 
 -- no more entries were linked than events were made
-pub links_of-le : (es : List ClassEvent) → links_of es ≤ length es
+pub links_of-le : (es : List ClassEvent) → entries_linked es ≤ length es
 links_of-le [] = omega arith
 links_of-le (x ∷ es) = let later = links_of-le es in let one = links_in-le x in omega arith
 
@@ -62,11 +62,11 @@ IsLawfulByListsFrom-push chunks rule before (x ∷ es) e each may =
 
 -- what a class keeps is kept by a lawful event
 kept : (h later : Held) (chunks max_events : ℕ) (rule : Rule) (old : List ClassEvent) (e : ClassEvent) → IsReplay h chunks max_events rule old
-    → later.lists ≡ lists_after (lists_of old) e → later.next ≡ h.next + links_in e → length old + 1 ≤ max_events
+    → later.lists ≡ lists_after (lists_of old) e → later.next ≡ h.next + entries_linked_by e → length old + 1 ≤ max_events
     → ((q : ℕ) → later.next ≤ q → names q e ≡ false) → IsLawfulByLists chunks rule old e → IsReplay later chunks max_events rule (old ++ e ∷ [])
 kept h later chunks max_events rule old e r lists next place fresh may =
     let grown : length (old ++ e ∷ []) ≡ length old + 1 = length-append old (e ∷ []) in
-    let step : links_of (old ++ e ∷ []) ≡ links_of old + links_in e = links_of-push old e in
+    let step : entries_linked (old ++ e ∷ []) ≡ entries_linked old + entries_linked_by e = links_of-push old e in
     let was = r.next_is in record {
       lists_is = lists ∙ sym (lists_from-push no_lists old e);
       next_is = omega (arith, next, was, step);
@@ -82,13 +82,13 @@ module _ (h : Held) (number : ClassNo) (chunks max_events : ℕ) (keeps_events :
   pub seen_lists : h.lists ≡ lists_of v.history
   seen_lists = r.lists_is ∙ ap (λ (x : ClassView). lists_of x.history) is
 
-  pub seen_next : h.next ≡ links_of v.history
-  seen_next = r.next_is ∙ ap (λ (x : ClassView). links_of x.history) is
+  pub seen_next : h.next ≡ entries_linked v.history
+  seen_next = r.next_is ∙ ap (λ (x : ClassView). entries_linked x.history) is
 
   pub seen_fresh : (q : ℕ) → h.next ≤ q → is_named q v.history ≡ false
   seen_fresh q below = sym (ap (λ (x : ClassView). is_named q x.history) is) ∙ r.fresh q below
 
-  pub keeps : (later : Held) (now : List ClassEvent) (e : ClassEvent) → now ≡ old ++ e ∷ [] → later.lists ≡ lists_after (lists_of v.history) e → later.next ≡ h.next + links_in e → HasPlaces v 1
+  pub keeps : (later : Held) (now : List ClassEvent) (e : ClassEvent) → now ≡ old ++ e ∷ [] → later.lists ≡ lists_after (lists_of v.history) e → later.next ≡ h.next + entries_linked_by e → HasPlaces v 1
       → ((q : ℕ) → later.next ≤ q → names q e ≡ false) → IsLawfulByLists v.chunks v.rule v.history e → IsReplay later chunks max_events rule now
   keeps later now e more lists next place fresh may =
       let P : List ClassEvent → Type 0 = λ es. IsReplay later chunks max_events rule es in

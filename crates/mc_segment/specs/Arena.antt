@@ -3,18 +3,18 @@ use Rattle.std.specs.Prelude.{ℕ, ◌≡◌, ◌==◌, ◌+◌, ◌-◌, ◌*�
 use Rattle.mc_item.specs.declared.{lists.Entry.Entry, lists.Seg.Seg}
 use Rattle.mc_item.specs.declared.lists.Seg.TheVariants.{Hot, Warm, Cold, Temp}
 use Rattle.mc_rule.specs.Lists.{Lists, list_of, cost_sum, count_of}
-use Rattle.mc_segment.specs.declared.{arena.Node.Node, arena.Place.Place, ends.Ends.Ends, ends.Heads.Heads}
-use Rattle.mc_segment.specs.{Nodes.walk, Nodes.IsChain, Links.end_of, Slots.is_among}
+use Rattle.mc_segment.specs.declared.{arena.Node.Node, arena.Listed.Listed, ends.Ends.Ends, ends.Heads.Heads}
+use Rattle.mc_segment.specs.{Nodes.walk, Nodes.IsChain, Neighbours.end_of, Slots.is_among}
 
 -- an arena as contracts see it: its lists, the next number, how many more entries it takes without memory, and its slots
 pub record Held : Type 0 where
   pub lists : Lists
   pub next : ℕ
   pub room : ℕ
-  pub slots : List (ℕ × Option Place)
+  pub slots : List (ℕ × Option Listed)
 
 -- an arena by its parts
-abbrev pub held : Lists → ℕ → ℕ → List (ℕ × Option Place) → Held
+abbrev pub held : Lists → ℕ → ℕ → List (ℕ × Option Listed) → Held
 held lists next room slots = record { lists = lists; next = next; room = room; slots = slots }
 
 -- the number has a slot in memory
@@ -33,12 +33,12 @@ code Cold = 2
 code Temp = 3
 
 -- the node of a slot, where it is in the list of this code
-abbrev pub part : ℕ → Option Place → Option Node
+abbrev pub part : ℕ → Option Listed → Option Node
 part k None = None
 part k (Some p) = if code p.seg == k then Some p.node else None
 
 -- the nodes of the list of this code, by their numbers
-abbrev pub nodes_of : (ℕ → Option Place) → ℕ → ℕ → Option Node
+abbrev pub nodes_of : (ℕ → Option Listed) → ℕ → ℕ → Option Node
 nodes_of f k q = part k (f q)
 
 -- the ends of a segment's list
@@ -64,20 +64,20 @@ abbrev pub taken_ends : Ends → Option ℕ → Option ℕ → ℕ → Ends
 taken_ends x newer older cost = record { newest = end_of newer older x.newest; oldest = end_of older newer x.oldest; count = x.count - 1; bytes = x.bytes - cost }
 
 -- the entries that are met from the newest on
-abbrev pub walk_in : (ℕ → Option Place) → ℕ → Ends → List Entry
+abbrev pub walk_in : (ℕ → Option Listed) → ℕ → Ends → List Entry
 walk_in f k e = walk (nodes_of f k) e.count e.newest
 
 -- the four lists that the places and the ends stand for
-abbrev pub lists_in : (ℕ → Option Place) → Heads → Lists
+abbrev pub lists_in : (ℕ → Option Listed) → Heads → Lists
 lists_in f h = record { hot = walk_in f 0 h.hot; warm = walk_in f 1 h.warm; cold = walk_in f 2 h.cold; temp = walk_in f 3 h.temp }
 
 -- the nodes and the ends of a list stand for these entries
-abbrev pub IsPart : (ℕ → Option Node) → Ends → List Entry → Type 0
-IsPart f e es = IsChain f e.newest e.oldest e.count e.bytes es
+abbrev pub AreNodesOf : (ℕ → Option Node) → Ends → List Entry → Type 0
+AreNodesOf f e es = IsChain f e.newest e.oldest e.count e.bytes es
 
 -- each list is a chain over its part of the places, and no number from the next one on has a place
-pub record IsArena (f : ℕ → Option Place) (next : ℕ) (h : Heads) (l : Lists) : Type 0 where
-  pub parts : (s : Seg) → IsPart (nodes_of f (code s)) (ends_of h s) (list_of l s)
+pub record IsArena (f : ℕ → Option Listed) (next : ℕ) (h : Heads) (l : Lists) : Type 0 where
+  pub parts : (s : Seg) → AreNodesOf (nodes_of f (code s)) (ends_of h s) (list_of l s)
   pub later : (q : ℕ) → next ≤ q → f q ≡ None
   pub count : count_of l ≤ next
   pub bytes : all_bytes l ≤ 2 ^ 20 * next

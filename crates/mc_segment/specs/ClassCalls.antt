@@ -2,14 +2,14 @@
 use Rattle.std.specs.Prelude.{ℕ, ◌≡◌, ◌≤◌, List, Result, MatchResult, length}
 use Rattle.mc_item.specs.declared.{class_event.ClassEvent.ClassEvent, class_event.Why.Why, fault.Fault.Fault, item.Expiry.Expiry, item.Who.Who, lists.Seg.Seg}
 use Rattle.mc_item.specs.declared.class_event.ClassEvent.TheVariants as events
-use Rattle.mc_rule.specs.{Lists.lists_of, Lists.links_of, Lawful.IsLawfulByLists, Segment.segment_for, Segment.total_of, Segment.cold_age_of}
+use Rattle.mc_rule.specs.{Lists.lists_of, Lists.entries_linked, Lawful.IsLawfulByLists, Segment.segment_for, Segment.total_of, Segment.cold_age_of}
 use Rattle.mc_segment.specs.declared.surveying.Survey.{Survey}
 use Rattle.mc_segment.specs.ClassState.{ClassView, appended, with_room, HasPlaces, MayRefuse}
 
 -- a new entry, with the next number, at the head of the segment that the rule names
 abbrev pub linked_event : ClassView → Who → List ℕ → ℕ → ℕ → Expiry → ClassEvent
 linked_event c who key cost moment expiry =
-    events.Linked (record { who = who; number = links_of c.history; key = key; cost = cost; seg = segment_for c.rule moment expiry; moment = moment })
+    events.Linked (record { who = who; number = entries_linked c.history; key = key; cost = cost; seg = segment_for c.rule moment expiry; moment = moment })
 
 -- an entry that goes with its item
 abbrev pub unlinked_event : Who → ℕ → ClassEvent

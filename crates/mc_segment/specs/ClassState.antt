@@ -2,7 +2,7 @@
 use Rattle.std.specs.Prelude.{ℕ, ◌≡◌, ◌+◌, ◌-◌, ◌^◌, ◌<◌, ◌≤◌, Bool, false, List, [], ◌∷◌, ◌++◌, length, slice_index}
 use Rattle.mc_item.specs.declared.{class_event.ClassEvent.ClassEvent, config.Config.Config, fault.Fault.Fault, fault.Fault.TheVariants.NoMemory}
 use Rattle.mc_item.specs.declared.{fault.Fault.TheVariants.HistoryFull, item.ClassNo.ClassNo}
-use Rattle.mc_rule.specs.{Lists.lists_of, Lists.links_of, Segment.Rule, Segment.rule_of, Lawful.is_named, Lawful.IsLawfulHistoryByLists}
+use Rattle.mc_rule.specs.{Lists.lists_of, Lists.entries_linked, Segment.Rule, Segment.rule_of, Lawful.is_named, Lawful.IsLawfulHistoryByLists}
 use Rattle.mc_segment.specs.Arena.{Held}
 
 -- a class: its number, its limit of chunks and of events, whether events are kept in memory, the numbers of its rule, all
@@ -55,7 +55,7 @@ MayRefuse c n NoMemory = HasPlaces c n × (c.room < n)
 -- what a class keeps: its lists are those of its history, which is lawful as far as they tell
 pub record IsReplay (h : Held) (chunks max_events : ℕ) (rule : Rule) (history : List ClassEvent) : Type 0 where
   pub lists_is : h.lists ≡ lists_of history
-  pub next_is : h.next ≡ links_of history
+  pub next_is : h.next ≡ entries_linked history
   pub places : length history ≤ max_events
   pub limit : max_events ≤ 2 ^ 32
   pub fresh : (q : ℕ) → h.next ≤ q → is_named q history ≡ false

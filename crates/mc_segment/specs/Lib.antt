@@ -1,5 +1,5 @@
 pub mod Entries
-pub mod Links
+pub mod Neighbours
 pub mod Nodes
 pub mod Slots
 pub mod Arena

@@ -2,24 +2,24 @@
 use Rattle.std.specs.{Map.lookup, Option.option_map, declared.hash.BuildHasherDefault.BuildHasherDefault, declared.hash.FoldHasher.FoldHasher}
 use Rattle.std.specs.Prelude.{ℕ, ◌≡◌, List, Bool, Option, Some, None, if◌then◌else◌, is_some, nat_eq}
 use Rattle.std.specs.HashMap.{HashMap, get, spare}
-use Rattle.mc_segment.specs.declared.arena.Place.{Place}
-use Rattle.mc_segment.specs.Links.{with_newer, with_older, points_to}
+use Rattle.mc_segment.specs.declared.arena.Listed.{Listed}
+use Rattle.mc_segment.specs.Neighbours.{with_newer, with_older, points_to}
 
 -- the slots, as memory holds them; one is empty while its entry goes from a list to another
 abbrev pub Slots : Type 0
-Slots = HashMap ℕ (Option Place) (BuildHasherDefault FoldHasher)
+Slots = HashMap ℕ (Option Listed) (BuildHasherDefault FoldHasher)
 
 -- the place in a slot that may not be there
-abbrev pub joined : Option (Option Place) → Option Place
-joined None = None
-joined (Some o) = o
+abbrev pub flattened : Option (Option Listed) → Option Listed
+flattened None = None
+flattened (Some o) = o
 
 -- the place of a number
-abbrev pub slot : Slots → ℕ → Option Place
-slot slots q = joined (get nat_eq slots q)
+abbrev pub slot : Slots → ℕ → Option Listed
+slot slots q = flattened (get nat_eq slots q)
 
 -- whether a number has a slot among these
-abbrev pub is_among : List (ℕ × Option Place) → ℕ → Bool
+abbrev pub is_among : List (ℕ × Option Listed) → ℕ → Bool
 is_among entries q = is_some (lookup (nat_eq q) entries)
 
 -- whether a number has a slot
@@ -27,19 +27,19 @@ abbrev pub has_slot : Slots → ℕ → Bool
 has_slot slots q = is_among slots.entries q
 
 -- a place whose node has another number before it
-abbrev pub renewed : Option ℕ → Place → Place
+abbrev pub renewed : Option ℕ → Listed → Listed
 renewed to p = record p { node = with_newer to p.node }
 
 -- a place whose node has another number behind it
-abbrev pub reolded : Option ℕ → Place → Place
+abbrev pub reolded : Option ℕ → Listed → Listed
 reolded to p = record p { node = with_older to p.node }
 
 -- the place at a number, once the node at `at` was told the number behind it
-abbrev pub place_older : Option ℕ → Option ℕ → ℕ → Option Place → Option Place
+abbrev pub place_older : Option ℕ → Option ℕ → ℕ → Option Listed → Option Listed
 place_older at to q o = if points_to q at then option_map (reolded to) o else o
 
 -- the place at a number, once the node at `at` was told the number before it
-abbrev pub place_newer : Option ℕ → Option ℕ → ℕ → Option Place → Option Place
+abbrev pub place_newer : Option ℕ → Option ℕ → ℕ → Option Listed → Option Listed
 place_newer at to q o = if points_to q at then option_map (renewed to) o else o
 
 -- the same numbers have a slot, and as many more can have one without memory

@@ -20,7 +20,7 @@ pub struct Node {
 
 /// A node, and the list that it is in.
 #[derive(Drop)]
-pub struct Place {
+pub struct Listed {
     pub seg: Seg,
     pub node: Node,
 }
@@ -165,7 +165,7 @@ impl Arena {
             newer: None,
             older,
         };
-        fill(&mut self.slots, number, Place { seg, node }, is_new);
+        fill(&mut self.slots, number, Listed { seg, node }, is_new);
         self.heads.set(seg, ends.pushed(number, cost));
     }
 
@@ -199,7 +199,7 @@ impl Arena {
         ensures room { self.old.room ≤ self.new.room }
     {
         let place = empty(&mut self.slots, number, keeps)?;
-        let Place { seg, node } = place;
+        let Listed { seg, node } = place;
         let Node {
             entry,
             newer,

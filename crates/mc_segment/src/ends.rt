@@ -1,6 +1,6 @@
 //! The ends of the four lists.
 ghost use Rattle.std.specs.Prelude.{◌≡◌, ◌+◌, ◌<◌, ◌≤◌, ◌^◌};
-ghost use Rattle.mc_segment.specs.{Links.end_of, Arena.ends_of, Arena.with_ends, Arena.pushed_ends, Arena.taken_ends};
+ghost use Rattle.mc_segment.specs.{Neighbours.end_of, Arena.ends_of, Arena.with_ends, Arena.pushed_ends, Arena.taken_ends};
 
 use mc_item::Seg;
 

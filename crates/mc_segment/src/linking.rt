@@ -1,6 +1,6 @@
 //! New entries.
 ghost use Rattle.std.specs.Prelude.{◌≡◌, ◌<◌, ◌≤◌, ◌+◌, ◌^◌, Some, true, IfOk, OnOk, OnErr};
-ghost use Rattle.mc_rule.specs.Lists.{lists_of, links_of, count_of};
+ghost use Rattle.mc_rule.specs.Lists.{lists_of, entries_linked, count_of};
 ghost use Rattle.mc_rule.specs.Segment as rules;
 ghost use Rattle.mc_segment.specs.{ClassState.HasPlaces, ClassCalls.linked_event, ClassCalls.Makes, ClassCalls.Stays, ClassCalls.MayEnd};
 
@@ -40,7 +40,7 @@ impl ClassState {
         requires free { count_of (lists_of self.old.history) < self.old.chunks }
         requires cost { cost ≤ 2 ^ 20 }
         requires copy { self.old.keeps_events ≡ true → copy ≡ Some key }
-        ensures number { IfOk result (λ number. number ≡ links_of self.old.history) }
+        ensures number { IfOk result (λ number. number ≡ entries_linked self.old.history) }
         ensures ok { OnOk result (Makes self.old self.new (linked_event self.old who key cost moment expiry)) }
         ensures err { OnErr result (Stays self.old self.new) }
         ensures refusal { MayEnd self.old result }
@@ -65,7 +65,7 @@ impl ClassState {
         requires free { count_of (lists_of self.old.history) < self.old.chunks }
         requires cost { cost ≤ 2 ^ 20 }
         requires copy { self.old.keeps_events ≡ true → copy ≡ Some key }
-        ensures number { result ≡ links_of self.old.history }
+        ensures number { result ≡ entries_linked self.old.history }
         ensures event { Makes self.old self.new (linked_event self.old who key cost moment expiry) }
         ensures room { self.old.room ≤ self.new.room + 1 }
     {

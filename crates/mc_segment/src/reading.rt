@@ -2,7 +2,7 @@
 ghost use Rattle.std.specs.Prelude.{◌≡◌, ◌≤◌, ◌^◌, ◌+◌, ◌↔◌, ℕ, false, None, Some, length, take, reverse, IsTrue, IfSome, IfOk};
 ghost use Rattle.std.specs.Option.{option_copied, IsSomeAnd};
 ghost use Rattle.mc_item.specs.declared.{lists.Entry.Entry, lists.Seg.Seg};
-ghost use Rattle.mc_rule.specs.Lists.{lists_of, links_of, list_of, bytes_of, count_of, times_in, find, found, IsFull};
+ghost use Rattle.mc_rule.specs.Lists.{lists_of, entries_linked, list_of, bytes_of, count_of, times_in, find, found, IsFull};
 ghost use Rattle.mc_segment.specs.Entries.{entry_of};
 ghost use Rattle.mc_rule.specs.{Segment.numbers_of, Segment.numbers_behind, Lawful.is_named, Lawful.IsIn, Lawful.IsListed, Lawful.IsLawfulHistoryByLists};
 
@@ -37,7 +37,7 @@ impl ClassState {
 
     /// The number of the next new entry: entries are numbered from 0, and no number is used again.
     pub fn next_number(&self) -> u64
-        ensures { result ≡ links_of self.now.history }
+        ensures { result ≡ entries_linked self.now.history }
     {
         self.lists.next()
     }
@@ -140,10 +140,10 @@ impl ClassState {
     /// each event is lawful after those before it as far as the lists tell.
     pub fn law(&self)
         ensures once { (q : ℕ) → times_in q (lists_of self.now.history) ≤ 1 }
-        ensures below { (q : ℕ) → links_of self.now.history ≤ q → found q (lists_of self.now.history) ≡ None }
+        ensures below { (q : ℕ) → entries_linked self.now.history ≤ q → found q (lists_of self.now.history) ≡ None }
         ensures inside { (s : Seg) (q : ℕ) → Rattle.mc_rule.specs.Lists.segment_of q (lists_of self.now.history) ≡ Some s → IsIn s q (lists_of self.now.history) }
         ensures lists { (s : Seg) (q : ℕ) → IsIn s q (lists_of self.now.history) → Rattle.mc_rule.specs.Lists.segment_of q (lists_of self.now.history) ≡ Some s }
-        ensures fresh { (q : ℕ) → links_of self.now.history ≤ q → is_named q self.now.history ≡ false }
+        ensures fresh { (q : ℕ) → entries_linked self.now.history ≤ q → is_named q self.now.history ≡ false }
         ensures lawful { IsLawfulHistoryByLists self.now.chunks self.now.rule self.now.history }
         ensures places { (length self.now.history ≤ self.now.max_events) × (self.now.max_events ≤ 2 ^ 32) }
     {

@@ -3,15 +3,15 @@ ghost use Rattle.std.specs.Prelude.{◌≡◌, ◌<◌, ◌≤◌, ◌+◌, ◌=
 ghost use Rattle.std.specs.{HashMap.spare, Option.option_copied, Option.option_map};
 ghost use Rattle.mc_segment.specs.Slots.{slot, has_slot, place_newer, place_older, renewed, reolded, IsShaped};
 
-use crate::arena::Place;
+use crate::arena::Listed;
 use std::alloc::AllocError;
 use std::collections::HashMap;
 
 /// The slots, under their numbers.
-pub(crate) type Slots = HashMap<u64, Option<Place>>;
+pub(crate) type Slots = HashMap<u64, Option<Listed>>;
 
 // The place of a number.
-pub(crate) fn place_at(slots: &Slots, number: u64) -> Option<&Place>
+pub(crate) fn place_at(slots: &Slots, number: u64) -> Option<&Listed>
     ensures { option_copied result ≡ slot slots.now number }
 {
     slots.get(&number)?.as_ref()
@@ -29,7 +29,7 @@ pub(crate) fn reserve(slots: &mut Slots, n: usize) -> Result<(), AllocError>
 
 // Takes the place out of a number's slot, which is given back unless it is kept for a place to come.
 #[inline(always)]
-pub(crate) fn empty(slots: &mut Slots, number: u64, keeps: bool) -> Option<Place>
+pub(crate) fn empty(slots: &mut Slots, number: u64, keeps: bool) -> Option<Listed>
     ensures place { result ≡ slot slots.old number }
     ensures slots { (q : ℕ) → slot slots.new q ≡ (if number == q then None else slot slots.old q) }
     ensures shape { keeps ≡ true → IsShaped slots.old slots.new }
@@ -44,7 +44,7 @@ pub(crate) fn empty(slots: &mut Slots, number: u64, keeps: bool) -> Option<Place
 
 // Puts a place into a number's slot, which is made for a new number.
 #[inline(always)]
-pub(crate) fn fill(slots: &mut Slots, number: u64, place: Place, is_new: bool)
+pub(crate) fn fill(slots: &mut Slots, number: u64, place: Listed, is_new: bool)
     requires room { is_new ≡ true → 0 < spare slots.old }
     requires slot { is_new ≡ false → has_slot slots.old number ≡ true }
     ensures slots { (q : ℕ) → slot slots.new q ≡ (if number == q then Some place else slot slots.old q) }
@@ -60,7 +60,7 @@ pub(crate) fn fill(slots: &mut Slots, number: u64, place: Place, is_new: bool)
 
 // Puts a place into a slot that was kept.
 #[inline(always)]
-fn refill(slots: &mut Slots, number: u64, place: Place)
+fn refill(slots: &mut Slots, number: u64, place: Listed)
     requires { has_slot slots.old number ≡ true }
     ensures slots { (q : ℕ) → slot slots.new q ≡ (if number == q then Some place else slot slots.old q) }
     ensures shape { IsShaped slots.old slots.new }
@@ -97,7 +97,7 @@ pub(crate) fn set_older(slots: &mut Slots, at: Option<u64>, to: Option<u64>)
     }
 }
 
-fn tell_newer(slot: &mut Option<Place>, to: Option<u64>)
+fn tell_newer(slot: &mut Option<Listed>, to: Option<u64>)
     ensures { slot.new ≡ option_map (renewed to) slot.old }
 {
     if let Some(place) = slot {
@@ -105,7 +105,7 @@ fn tell_newer(slot: &mut Option<Place>, to: Option<u64>)
     }
 }
 
-fn tell_older(slot: &mut Option<Place>, to: Option<u64>)
+fn tell_older(slot: &mut Option<Listed>, to: Option<u64>)
     ensures { slot.new ≡ option_map (reolded to) slot.old }
 {
     if let Some(place) = slot {

@@ -2,7 +2,7 @@
 //! none, and changes nothing where it is refused.
 ghost use Rattle.std.specs.Prelude.{◌≡◌, ◌+◌, ◌<◌, ◌≤◌, ◌==◌, ◌^◌, ℕ, Some, true, false, length, slice_get, IfOk, OnOk, OnErr};
 ghost use Rattle.mc_item.specs.declared.class_event.ClassEvent.TheVariants as events;
-ghost use Rattle.mc_rule.specs.Lists.{lists_of, links_of, links_in, count_of, lists_after, unlinked};
+ghost use Rattle.mc_rule.specs.Lists.{lists_of, entries_linked, entries_linked_by, count_of, lists_after, unlinked};
 ghost use Rattle.mc_rule.specs.Lawful.{names, IsListed};
 ghost use Rattle.mc_segment.specs.ClassCalls.{MayCome, Makes, Stays, MayEnd};
 
@@ -25,7 +25,7 @@ impl ClassState {
         requires free { count_of (lists_of self.old.history) < self.old.chunks }
         requires cost { cost ≤ 2 ^ 20 }
         requires copy { self.old.keeps_events ≡ true → copy ≡ Some key }
-        ensures number { IfOk result (λ number. number ≡ links_of self.old.history) }
+        ensures number { IfOk result (λ number. number ≡ entries_linked self.old.history) }
         ensures ok { OnOk result (Makes self.old self.new
             (events.Linked (record { who = who; number = links_of self.old.history; key = key; cost = cost; seg = seg; moment = moment }))) }
         ensures err { OnErr result (Stays self.old self.new) }
@@ -73,7 +73,7 @@ impl ClassState {
         requires there { IsListed number (lists_of self.old.history) }
         requires lawful { MayCome self.old event }
         requires leaves { lists_after (lists_of self.old.history) event ≡ unlinked number (lists_of self.old.history) }
-        requires links { links_in event ≡ 0 }
+        requires links { entries_linked_by event ≡ 0 }
         requires names { (q : ℕ) → names q event ≡ (number == q) }
         ensures ok { OnOk result (Makes self.old self.new event) }
         ensures err { OnErr result (Stays self.old self.new) }
@@ -117,7 +117,7 @@ impl ClassState {
     pub(crate) fn note(&mut self, event: ClassEvent) -> Result<u64, Fault>
         requires lawful { MayCome self.old event }
         requires stays { lists_after (lists_of self.old.history) event ≡ lists_of self.old.history }
-        requires links { links_in event ≡ 0 }
+        requires links { entries_linked_by event ≡ 0 }
         requires names { (q : ℕ) → names q event ≡ false }
         ensures place { IfOk result (λ place. place ≡ length self.old.history) }
         ensures noted { IfOk result (λ place. slice_get self.new.history place ≡ Some event) }

@@ -15,7 +15,7 @@ use Rattle.mc_board.proofs.SeenLemmas.{list_at_same}
 use Rattle.mc_segment.specs.ClassState.{ClassView}
 use Rattle.mc_stripe.specs.StripeCalls.{KeepsSite}
 use Rattle.mc_stripe.specs.StripeState as states
-use Rattle.mc_pull.specs.{Lone.AreMadeBy, Lone.IsCauseOf, Lone.IsMadeBy, Lone.StripeGrows, Settled.cooled_event, Walker.Walker}
+use Rattle.mc_pull.specs.{Lone.AreMadeBy, Lone.IsCauseOf, Lone.IsWalkersEvent, Lone.StripeGrows, Settled.cooled_event, Walker.Walker}
 use Rattle.mc_pull.specs.Perform as words
 use Rattle.mc_pull.specs.Performed.{IsPerformed, IsUntouched, did_event, events_on_stripe, is_cooling}
 use Rattle.mc_store.specs.Callers.{AreCalled, IsBegun, IsBegunAs, IsMomentOf, IsCalled, IsNext, IsOf, answered_at, asked_for, call_events, calls_told, who_of}
@@ -237,7 +237,7 @@ moment_made w (Expired dead) is = is
 moment_made w (Taken class place) is = tt
 
 -- a walker's event was called
-event_called : (config : Config) (stripe place : ℕ) (sight : Sight) (w : Walker) (event : StripeEvent) → HasBegun config sight w.who w.moment → IsMadeBy w event → WasCalled config stripe place event (list_at sight.seen)
+event_called : (config : Config) (stripe place : ℕ) (sight : Sight) (w : Walker) (event : StripeEvent) → HasBegun config sight w.who w.moment → IsWalkersEvent w event → WasCalled config stripe place event (list_at sight.seen)
 event_called config stripe place sight w (events.Did did) begun made = absurd made
 event_called config stripe place sight w (events.Lost lost) begun made =
     let here : HasBegun config sight lost.who w.moment = subst (λ (who : Who). HasBegun config sight who w.moment) (sym made.0) begun in

@@ -12,7 +12,7 @@ use Rattle.mc_evidence.proofs.{SeenLemmas.class_events-map, SeenLemmas.classes_g
 use Rattle.mc_evidence.proofs.{SoundLemmas.entry_in, SoundLemmas.item_in, SoundLemmas.locks_sound, SoundLemmas.once_in}
 use Rattle.mc_store.specs.Finals.{AreClasses, AreExactlyEntries, AreStripes, IsBehindClasses, IsBehindStripes, class_histories, class_history, stripe_histories, stripe_history}
 use Rattle.mc_store.specs.{Locked.class_lock, Locked.setting_of, Sides.ClassSide, Sides.StripeSide, Sides.class_told, Sides.stripe_told}
-use Rattle.mc_store.proofs.PlaceLemmas.{get_some}
+use Rattle.mc_store.proofs.NumberOrderLemmas.{get_some}
 
 -- what a stripe that is there has seen
 abbrev stripe_sight : Option StripeSide → Sight

@@ -9,7 +9,7 @@ use Rattle.mc_item.specs.declared.stripe_event.StripeEvent.TheVariants as events
 use Rattle.mc_item.proofs.StripeLemmas.{cache_of-push}
 use Rattle.mc_rule.specs.Pairs.{item_after}
 use Rattle.mc_evidence.specs.Losses.{AreNoCommands, IsSameItem}
-use Rattle.mc_evidence.proofs.{LegalLemmas.after_loss, LossLemmas.was_there}
+use Rattle.mc_evidence.proofs.{LinkLifeLemmas.after_loss, LossLemmas.was_there}
 use Rattle.mc_stripe.specs.{Plan.dead_link, Plan.visible_row, StripeCalls.KeepsSite, StripeState.Stripe, StripeState.cache_now}
 use Rattle.mc_pull.specs.{Lone.AreMadeBy, Settled.lost_event, Walker.Walker}
 use Rattle.mc_store.specs.Commands.{IsSearch, LeadsUp, burial, walker_in}

@@ -12,11 +12,11 @@ use Rattle.mc_rule.specs.Lists.{count_of, lists_of}
 use Rattle.mc_board.proofs.PrefixLemmas.{prefix_self, prefix_trans}
 use Rattle.mc_segment.specs.ClassState.{ClassView, opened}
 use Rattle.mc_pull.specs.declared.looking.Answer.{Answer}
-use Rattle.mc_crawl.specs.{Crawl.AreReclaims, Crawl.IsCrawled, Crawl.Reclaims, Crawl.crawl, CrawlCount.IsBalanced, CrawlCount.counted, Snapshot.links_of}
+use Rattle.mc_crawl.specs.{Crawl.AreReclaims, Crawl.IsCrawled, Crawl.Reclaims, Crawl.crawl, CrawlCount.IsBalanced, CrawlCount.counted_as, Snapshot.links_of}
 use Rattle.mc_crawl.specs.declared.kind.Kind.{Kind}
 use Rattle.mc_store.specs.{Calls.IsSeenGrowOf, Locked.class_lock, Sides.class_told}
 use Rattle.mc_store.specs.Crawls.{AreLinksCounted, CountsLink, HasReclaims, IsCrawledBy, IsLinkCounted, IsSeenSound, IsSnapshot, ShowsReclaims}
-use Rattle.mc_store.proofs.ServedLemmas.{map_append}
+use Rattle.mc_store.proofs.SyncedStepLemmas.{map_append}
 
 -- at least none is there
 reclaims_none : (who : Who) (moment : ℕ) (es : List Event) → HasReclaims who moment 0 es
@@ -113,7 +113,7 @@ snapshot_taken config class before after c links number seen now are count = (
 
 -- a link that was crawled was counted
 pub counts_link : (config : Config) (c c_new : ClassView) (who : Who) (moment : ℕ) (link : Link) (xs ys : List Answer) (h h_new : Histogram) (r : Result Unit Fault)
-    → OnOk r ((k : Kind) × IsCrawled (crawl who link.number moment config) c c_new xs ys k × (h_new ≡ counted k h)) → OnOk r (CountsLink config c c_new who moment link h h_new)
+    → OnOk r ((k : Kind) × IsCrawled (crawl who link.number moment config) c c_new xs ys k × (h_new ≡ counted_as k h)) → OnOk r (CountsLink config c c_new who moment link h h_new)
 counts_link config c c_new who moment link xs ys h h_new (Ok x) made = record { kind = made.0; answers = xs; answers_new = ys; crawled = made.1; counts = made.2 }
 counts_link config c c_new who moment link xs ys h h_new (Err f) made = tt
 
@@ -157,7 +157,7 @@ unfolding snapshot_later
 so_far_more config class a b c who moment links done more link h h_new some grows one is = record {
   snapshot = snapshot_later config class a b c (length links) some.snapshot grows;
   links_are = some.links_are;
-  counted =
+  counted_as =
       subst (λ (l : List Link). AreLinksCounted config class (class_told some.snapshot.history) (list_at c.seen (class_lock config class)) who moment l no_counts h_new) is
       (links_counted-more config class (class_told some.snapshot.history) (list_at b.seen (class_lock config class)) (list_at c.seen (class_lock config class)) who moment done link no_counts h h_new some.counted one);
 }
@@ -177,6 +177,6 @@ so_far_all config class before after who moment links done h all is count balanc
   balanced = balanced;
   reclaims = reclaims;
   sound = sound;
-  counted =
+  counted_as =
       subst (λ (l : List Link). AreLinksCounted config class (class_told all.snapshot.history) (list_at after.seen (class_lock config class)) who moment l no_counts h) (is ∙ sym all.links_are) all.counted;
 }

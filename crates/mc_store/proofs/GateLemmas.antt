@@ -6,7 +6,7 @@ use mathlib.Core.List.{IsPrefix}
 use Rattle.atomic_table.specs.Seated.{TableId}
 use Rattle.mc_item.specs.declared.{class_event.ClassEvent.ClassEvent, config.Config.Config, event.Event.Event, fault.Fault.Fault}
 use Rattle.mc_item.specs.declared.{fault.Fault.TheVariants.HistoryFull, item.Who.Who, stripe_event.StripeEvent.StripeEvent}
-use Rattle.mc_evidence.proofs.EntryLemmas.{survey_step}
+use Rattle.mc_evidence.proofs.LentStepLemmas.{survey_step}
 use Rattle.mc_evidence.specs.Seen.{stripes_seen}
 use Rattle.mc_segment.specs.{ClassCalls.surveyed_event, ClassState.ClassView, ClassState.with_room}
 use Rattle.mc_stripe.specs.StripeState.{Stripe}
@@ -15,7 +15,7 @@ use Rattle.mc_board.specs.declared.rule.Sight.{Sight}
 use Rattle.mc_board.proofs.PrefixLemmas.{prefix_length, prefix_more, prefix_self}
 use Rattle.mc_pull.specs.{Lone.AreMadeBy, Lone.StripeGrows, Question.IsClassOf, Settled.class_with, Walker.Walker}
 use Rattle.mc_store.specs.{Locked.setting_of, Serving.HasSeenShort, Serving.IsServed, Serving.MayFailSeen, Sides.class_told}
-use Rattle.mc_store.proofs.ServedLemmas.{map_append, short_of}
+use Rattle.mc_store.proofs.SyncedStepLemmas.{map_append, short_of}
 
 -- ---- stripes that grow
 

@@ -13,7 +13,7 @@ use Rattle.mc_evidence.proofs.SeenLemmas.{stripe_events-map}
 use Rattle.mc_pull.specs.Performed.{cooled_if}
 use Rattle.mc_store.specs.{Calls.IsRepliedBy, Headline.IsBorneOut, Headline.answered_did, Locked.setting_of, Sides.stripe_told}
 use Rattle.mc_store.specs.Finals.{AreStripes, FinalView, IsBehindStripes, stripe_histories, stripe_history}
-use Rattle.mc_store.proofs.{ClosedLemmas.stripe_begins, PlaceLemmas.get_some, ServedLemmas.map_length}
+use Rattle.mc_store.proofs.{ClosedLemmas.stripe_begins, NumberOrderLemmas.get_some, SyncedStepLemmas.map_length}
 
 -- behind a list, and whatever follows, stands what comes next
 get_next : {X : Type 0} (xs ys more : List X) (x : X) → slice_get ((xs ++ x ∷ ys) ++ more) (length xs) ≡ Some x

@@ -12,7 +12,7 @@ use Rattle.mc_board.specs.declared.rule.Sight.{Sight}
 use Rattle.mc_segment.specs.ClassState.{ClassView, opened}
 use Rattle.mc_pull.specs.Question.{IsClassOf}
 use Rattle.mc_pull.specs.declared.looking.Answer.{Answer}
-use Rattle.mc_crawl.specs.{Crawl.IsCrawled, Crawl.IsReclaim, Crawl.crawl, CrawlCount.IsBalanced, CrawlCount.counted, Snapshot.links_of}
+use Rattle.mc_crawl.specs.{Crawl.IsCrawled, Crawl.IsReclaim, Crawl.crawl, CrawlCount.IsBalanced, CrawlCount.counted_as, Snapshot.links_of}
 use Rattle.mc_crawl.specs.declared.kind.Kind.{Kind}
 use Rattle.mc_store.specs.{Locked.class_lock, Locked.setting_of, Sides.class_told}
 
@@ -54,7 +54,7 @@ pub record CountsLink (config : Config) (c c_new : ClassView) (who : Who) (momen
   pub answers : List Answer
   pub answers_new : List Answer
   pub crawled : IsCrawled (crawl who link.number moment config) c c_new answers answers_new kind
-  pub counts : histogram_new ≡ counted kind histogram
+  pub counts : histogram_new ≡ counted_as kind histogram
 
 -- a link was counted under its class's lock: the class had all that was seen of it before, and all that it has then is seen
 pub record IsLinkCounted (config : Config) (class : ClassNo) (seen seen_new : List Event) (who : Who) (moment : ℕ) (link : Link) (histogram histogram_new : Histogram) : Type 0 where

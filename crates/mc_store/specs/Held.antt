@@ -16,16 +16,16 @@ use Rattle.mc_pull.specs.declared.attempting.Tried.{Tried}
 use Rattle.mc_pull.specs.declared.attempting.Tried.TheVariants as tried
 use Rattle.mc_pull.specs.{Lone.AreMadeBy, Perform.call}
 use Rattle.mc_store.specs.{Callers.answered_at, Calls.IsReplied, Commands.IsCut, Commands.walker_in, Earned.HasGivenUp, Earned.IsEarnedAt, Earned.IsEarnedIn}
-use Rattle.mc_store.specs.{Passes.CallerView, Passes.HasAsked, Performing.IsMade, Serving.HasSeenShort, Serving.IsShort, Sides.ClassSide, Sides.StripeSide}
+use Rattle.mc_store.specs.{Passes.CallerView, Passes.HasAsked, Performing.IsMadeOnStripe, Serving.HasSeenShort, Serving.IsShort, Sides.ClassSide, Sides.StripeSide}
 
 -- a class's number
-abbrev pub number_of : ClassSide → ClassNo
-number_of c = c.class.number
+abbrev pub class_number : ClassSide → ClassNo
+class_number c = c.class.number
 
 -- that of the class that a slot holds
-abbrev pub number_in : Option (MutexGuard ClassSide) → Option ClassNo
-number_in None = None
-number_in (Some guard) = Some (number_of (mutex_guard_value guard))
+abbrev pub class_held : Option (MutexGuard ClassSide) → Option ClassNo
+class_held None = None
+class_held (Some guard) = Some (class_number (mutex_guard_value guard))
 
 -- a command's caller asked for it in this turn, and its key is of this stripe
 pub record IsCallOn (config : Config) (s : Stripe) (caller : CallerView) (command : Command) (turn : Turn) : Type 0 where
@@ -62,7 +62,7 @@ IsRefusedAt config s turn key v refused = IfSome refused (λ place. IsEarnedAt c
 pub record IsMadeIn (config : Config) (s : Stripe) (own_new : StripeSide) (caller caller_new : CallerView) (made : Command) (turn : Turn) (reply : Reply) : Type 0 where
   pub alive : IsAlive (item_of s made) turn.moment
   pub room : Room
-  pub made_is : IsMade s own_new.stripe (call turn.who made turn.moment room) reply
+  pub made_is : IsMadeOnStripe s own_new.stripe (call turn.who made turn.moment room) reply
   pub noted : caller_new ≡ record caller { calls = caller.calls ++ answered_at s.site.stripe (length s.history) ∷ [] }
   pub earned : IsEarnedIn config s.site.stripe turn.who turn.moment (key_of made) own_new.sight room
 

@@ -7,7 +7,7 @@ use Rattle.mc_stripe.specs.StripeState.{Stripe}
 use Rattle.mc_pull.specs.{Perform.Call, Perform.answer_to, Performed.events_on_stripe}
 
 -- a command was made on its stripe: its events stand at the end of the history, and this is its reply
-pub record IsMade (s s_new : Stripe) (c : Call) (reply : Reply) : Type 0 where
+pub record IsMadeOnStripe (s s_new : Stripe) (c : Call) (reply : Reply) : Type 0 where
   pub reply_is : reply ≡ (answer_to s c).reply
   pub cooling : Bool
   pub history_is : s_new.history ≡ s.history ++ events_on_stripe s c cooling

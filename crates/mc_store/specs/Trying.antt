@@ -8,7 +8,7 @@ use Rattle.mc_stripe.specs.declared.{fate.Fate.Fate, wanting.Given.Given, trying
 use Rattle.mc_pull.specs.declared.attempting.Tried.{Tried}
 use Rattle.mc_pull.specs.declared.attempting.Tried.TheVariants as tried
 use Rattle.mc_pull.specs.Perform.{call}
-use Rattle.mc_store.specs.{Callers.answered_at, Passes.CallerView, Performing.IsMade, Sides.ClassSide}
+use Rattle.mc_store.specs.{Callers.answered_at, Passes.CallerView, Performing.IsMadeOnStripe, Sides.ClassSide}
 
 -- a try made its command
 abbrev pub is_made_of : Tried → Bool
@@ -25,7 +25,7 @@ pub record IsMadeBy (s s_new : Stripe) (caller caller_new : CallerView) (made : 
   pub room : Room
   pub fate : Fate
   pub uses : Uses given (key_of made) (item_of s made) turn.moment (row_at s made turn.moment) room fate
-  pub made_is : IsMade s s_new (call turn.who made turn.moment room) reply
+  pub made_is : IsMadeOnStripe s s_new (call turn.who made turn.moment room) reply
   pub noted : caller_new ≡ record caller { calls = caller.calls ++ answered_at s.site.stripe (length s.history) ∷ [] }
 
 -- the classes that are held are as they were, but for the room of their histories

@@ -7,7 +7,7 @@ ghost use Rattle.mc_evidence.specs.Setting.{IsClass};
 ghost use Rattle.mc_stripe.specs.{Plan.dead_link, StripeCalls.KeepsSite, StripeState.cache_now};
 ghost use Rattle.mc_stripe.specs.declared.wanting.Want.TheVariants as wants;
 ghost use Rattle.mc_store.specs.{Commands.burial, Locked.HasBegunCommand, Locked.setting_of, Serving.IsShort};
-ghost use Rattle.mc_store.specs.Held.{Ends, IsCallOn, WantsAlone, number_in};
+ghost use Rattle.mc_store.specs.Held.{Ends, IsCallOn, WantsAlone, class_held};
 
 use crate::caller::Caller;
 use crate::held::{answer_at_home, answer_at_item, try_home};
@@ -36,7 +36,7 @@ fn lock_both<'a, N: Named>(
     requires home { IsClass (setting_of N.config) home }
     requires other { IfSome other (λ n. IsClass (setting_of N.config) n) }
     ensures home { (mutex_guard_value result.0).class.number ≡ home }
-    ensures other { number_in result.1 ≡ other }
+    ensures other { class_held result.1 ≡ other }
 {
     match other {
         None => (store.lock_class(rt, home), None),

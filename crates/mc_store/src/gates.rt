@@ -1,6 +1,6 @@
 //! Gates of walks under the locks of a store: other stripes are only tried.
 ghost use Rattle.std.specs.Prelude.{◌≡◌, ◌≢◌, ◌≤◌, ◌+◌, List, IfErr, IfOk, false, true};
-ghost use Rattle.mc_pull.specs.{Growth.Grows, Juggle.IsJuggle, Lone.StripeGrows, Question.IsClassOf, Rounds.IsRoom, Rounds.rounds, Walker.walker_of};
+ghost use Rattle.mc_pull.specs.{Growth.GainsEvents, Juggle.IsJuggle, Lone.StripeGrows, Question.IsClassOf, Rounds.IsRoom, Rounds.rounds, Walker.walker_of};
 ghost use Rattle.mc_pull.specs.declared.looking.Answer.{Answer};
 ghost use Rattle.mc_store.specs.{Earned.IsSearchInVain, Looked.IsOfCall, Serving.IsServed, Serving.MayFailSeen, Locked.HasBegun, Made.WalksOwn};
 
@@ -61,7 +61,7 @@ impl<'a, N: Named> Trying<'a, N> {
         requires begun { HasBegun N.config self.old.seen.now.sight self.old.who self.old.moment }
         ensures juggle { IfOk result (λ moves. (xs : List Answer) × IsJuggle (rounds class.old who moment config.now) class.old.history xs class.new.history moves) }
         ensures few { IfOk result (λ moves. moves.reclaimed + moves.moved ≤ 10000) }
-        ensures grows { Grows class.old class.new }
+        ensures grows { GainsEvents class.old class.new }
         ensures fault { IfErr result (MayFailSeen N.config self.new.seen.now.sight class.new) }
         ensures owner_reference { self.new.owner.ghost_name ≡ self.old.owner.ghost_name }
         ensures seen_reference { self.new.seen.ghost_name ≡ self.old.seen.ghost_name }
@@ -190,7 +190,7 @@ impl<'a, 'b, N: Named> Holding<'a, 'b, N> {
         requires served { IsServed N.board.table N.config self.old.others.owner.now self.old.others.seen.now class.old }
         requires begun { HasBegun N.config self.old.others.seen.now.sight self.old.others.who self.old.others.moment }
         ensures room { IfOk result (λ found. (xs : List Answer) × IsRoom (rounds class.old who moment config.now) class.old.history xs class.new.history found) }
-        ensures grows { Grows class.old class.new }
+        ensures grows { GainsEvents class.old class.new }
         ensures fault { IfErr result (MayFailSeen N.config self.new.others.seen.now.sight class.new) }
         ensures own_reference { self.new.own.ghost_name ≡ self.old.own.ghost_name }
         ensures owner_reference { self.new.others.owner.ghost_name ≡ self.old.others.owner.ghost_name }

@@ -9,7 +9,7 @@ ghost use Rattle.mc_pull.specs.Attempt.{IsReady};
 ghost use Rattle.mc_rule.specs.Lists.{IsFull, lists_of};
 ghost use Rattle.mc_segment.specs.ClassState.{with_room};
 ghost use Rattle.mc_stripe.specs.StripeCalls.{KeepsSite};
-ghost use Rattle.mc_store.specs.Held.{Ends, HasGivenUpAny, IsCallOn, IsRefusedAt, IsStillFull, IsTriedOn, IsWalked, Suffice, WantsChunk, number_in};
+ghost use Rattle.mc_store.specs.Held.{Ends, HasGivenUpAny, IsCallOn, IsRefusedAt, IsStillFull, IsTriedOn, IsWalked, Suffice, WantsChunk, class_held};
 ghost use Rattle.mc_store.specs.{Locked.HasBegunCommand, Serving.IsShort};
 
 use crate::caller::Caller;
@@ -81,9 +81,9 @@ pub(crate) fn try_home<N: Named>(
 ) -> Result<Tried, Fault>
     requires board { board.now ≡ N.board }
     requires called { IsCallOn N.config own.old.stripe caller.old command.now turn }
-    requires apart { number_in other.old ≢ Some home.old.class.number }
+    requires apart { class_held other.old ≢ Some home.old.class.number }
     requires refused { IsRefusedAt N.config own.old.stripe turn (key_of command.now) home.old.class refused }
-    ensures tried { IfOk result (IsTriedOn N.config own.old.stripe own.new caller.old caller.new command.now turn (Some home.old.class.number) (number_in other.old) (IsStillFull N.config own.new.sight refused home.old.class home.new.class × (number_in other.new ≡ number_in other.old) × WantsChunk home.old.class.number (number_in other.old) own.old.stripe command.now turn.moment)) }
+    ensures tried { IfOk result (IsTriedOn N.config own.old.stripe own.new caller.old caller.new command.now turn (Some home.old.class.number) (class_held other.old) (IsStillFull N.config own.new.sight refused home.old.class home.new.class × (class_held other.new ≡ class_held other.old) × WantsChunk home.old.class.number (class_held other.old) own.old.stripe command.now turn.moment)) }
     ensures err { OnErr result ((own.new.stripe.history ≡ own.old.stripe.history) × (caller.new ≡ caller.old)) }
     ensures sees { Grows own.old.sight own.new.sight }
     ensures site { KeepsSite own.old.stripe own.new.stripe }
@@ -155,8 +155,8 @@ pub(crate) fn answer_at_home<N: Named>(
 ) -> Result<Reply, Fault>
     requires called { IsCallOn N.config own.old.stripe caller.old command.now turn }
     requires begun { HasBegunCommand N.config own.old.sight turn.who turn.moment }
-    requires apart { number_in other.old ≢ Some home.old.class.number }
-    requires wants { WantsChunk home.old.class.number (number_in other.old) own.old.stripe command.now turn.moment }
+    requires apart { class_held other.old ≢ Some home.old.class.number }
+    requires wants { WantsChunk home.old.class.number (class_held other.old) own.old.stripe command.now turn.moment }
     ensures { Ends N.config own.old.stripe own.new caller.old caller.new command.now turn result }
 {
     let board = &store.board;

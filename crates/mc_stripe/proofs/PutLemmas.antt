@@ -7,9 +7,9 @@ use Rattle.mc_item.specs.declared.{stripe_event.StripeEvent.StripeEvent}
 use Rattle.mc_item.specs.declared.answer.Need.TheVariants as needs
 use Rattle.mc_item.specs.declared.command.Verb.TheVariants.{Set, Add, Replace, Cas}
 use Rattle.mc_item.specs.declared.reply.Room as rooms
-use Rattle.mc_stripe.specs.{Plan.fate_of, Trying.Makes, Trying.Puts}
-use Rattle.mc_stripe.specs.Putting.{IsDecided, IsTold, answer_of_room, cas_in, decline_of, found_of, item_after, link_in, made_of, row_by, storing_row}
-use Rattle.mc_stripe.specs.Wanting.{Covers, HasPlaces, IsCrowded, IsLacking, IsTaken, IsWanting, LacksPlace, Uses, class_beside}
+use Rattle.mc_stripe.specs.{Plan.fate_of, Trying.MakesRow, Trying.Puts}
+use Rattle.mc_stripe.specs.Putting.{IsDecided, KnowsItem, answer_of_room, cas_in, decline_of, found_of, item_left, link_in, made_of, row_by, storing_row}
+use Rattle.mc_stripe.specs.Wanting.{Covers, HasPlacesFor, IsCrowded, IsLacking, IsTaken, IsWanting, LacksPlace, Uses, class_beside}
 use Rattle.mc_stripe.specs.declared.{fate.Fate.Fate, putting.Found.Found, putting.Put.Put, putting.PutAnswer.PutAnswer, wanting.Given.Given, wanting.Want.Want}
 use Rattle.mc_stripe.specs.declared.wanting.Want.TheVariants as wants
 
@@ -39,7 +39,7 @@ lacking given key item moment class verb version alive (wants.Burial link) lacks
 lacking given key item moment class verb version alive (wants.Place other) lacks = absurd lacks
 
 -- a storage command's decision, told of its item and of its new version
-module _ {found : Option Found} {cost : ℕ} {expiry : Expiry} {key : List ℕ} {item : Option Item} {moment : ℕ} {version : Link → Item} (told : IsTold found cost expiry key item moment version)
+module _ {found : Option Found} {cost : ℕ} {expiry : Expiry} {key : List ℕ} {item : Option Item} {moment : ℕ} {version : Link → Item} (told : KnowsItem found cost expiry key item moment version)
     (given : Given) (class : ClassNo) (verb : Verb) where
   row_is : (declined : Option PutAnswer) → decline_of verb (cas_in found) ≡ declined → store_row (Some class) verb item version ≡ row_by declined class verb version
   row_is declined is = declined_by class verb item version ∙ ap (λ (d : Option PutAnswer). row_by d class verb version) (ap (λ (f : Option Found). decline_of verb (cas_in f)) (sym told.found_is) ∙ is)
@@ -71,19 +71,19 @@ module _ {found : Option Found} {cost : ℕ} {expiry : Expiry} {key : List ℕ} 
           (record { alive = told.alive; covers = covers_item; room = room; taken = taken; lacks = subst (λ (f : Fate). LacksPlace given room f at) (fate_in of_item told.version_is) lacks })
 
       -- is decided, where each has one
-      pub stored_decided : HasPlaces given room fate
+      pub stored_decided : HasPlacesFor given room fate
           → IsDecided given key item moment (store_row (Some class) verb item version) version (record { answer = answer_of_room room; room = room; fate = fate })
       stored_decided places = rw (row_is None stores)
           (stored given key item moment class verb version room fate (record { alive = told.alive; covers = covers_item; taken = taken; fate_is = fate_in of_item told.version_is; places = places }))
 
 -- what a decision is told of an item that was found, or of none
 pub told_of : {cost : ℕ} {expiry : Expiry} {key : List ℕ} {item : Option Item} {moment : ℕ} {version : Link → Item} (was : Option Item) → was ≡ item → IsAlive was moment
-    → ((link : Link) → (cost ≡ cost_of key (version link).value) × (expiry ≡ (version link).expiry)) → IsTold (found_of was) cost expiry key item moment version
+    → ((link : Link) → (cost ≡ cost_of key (version link).value) × (expiry ≡ (version link).expiry)) → KnowsItem (found_of was) cost expiry key item moment version
 told_of {moment = moment} was is alive version_is = record { alive = subst (λ (o : Option Item). IsAlive o moment) is alive; found_is = ap found_of is; version_is = version_is }
 
 -- a storage command that was decided is made where the items have what it leaves
 pub decided_makes : {given : Given} (old new : List ℕ → Option Item) {key : List ℕ} {moment : ℕ} {row : Row} {version : Link → Item} {put : Put}
-    → IsDecided given key (old key) moment row version put → Puts old new key (item_after put.room put.fate version (old key)) → Makes true given old new key row moment (made_of put)
+    → IsDecided given key (old key) moment row version put → Puts old new key (item_left put.room put.fate version (old key)) → MakesRow true given old new key row moment (made_of put)
 decided_makes old new decided puts = record {
   made_is = record { uses = decided.uses; reply_is = decided.reply_is; items = rw decided.item_is puts };
   noted = λ _. refl;

@@ -73,21 +73,21 @@ goes (fates.Woken link) = false
 goes (fates.Renewed cost expiry old) = false
 
 -- how many versions it adds
-abbrev pub added : PutAnswer → ℕ
-added answered.Stored = 1
-added answered.NotStored = 0
-added answered.Exists = 0
-added answered.NotFound = 0
-added answered.NoRoom = 0
+abbrev pub versions_added : PutAnswer → ℕ
+versions_added answered.Stored = 1
+versions_added answered.NotStored = 0
+versions_added answered.Exists = 0
+versions_added answered.NotFound = 0
+versions_added answered.NoRoom = 0
 
 -- what a storage command leaves under its key: the new version in a link, none where the item goes, else the item as it was
-abbrev pub item_after : Room → Fate → (Link → Item) → Option Item → Option Item
-item_after (rooms.At link) fate version item = Some (version link)
-item_after (rooms.Refused class place) fate version item = if goes fate then None else item
-item_after rooms.Keep fate version item = if goes fate then None else item
+abbrev pub item_left : Room → Fate → (Link → Item) → Option Item → Option Item
+item_left (rooms.At link) fate version item = Some (version link)
+item_left (rooms.Refused class place) fate version item = if goes fate then None else item
+item_left rooms.Keep fate version item = if goes fate then None else item
 
 -- what a decision is told: the item that was found, which is alive, or that none was; and the cost and the expiry of each new version
-pub record IsTold (found : Option Found) (cost : ℕ) (expiry : Expiry) (key : List ℕ) (item : Option Item) (moment : ℕ) (version : Link → Item) : Type 0 where
+pub record KnowsItem (found : Option Found) (cost : ℕ) (expiry : Expiry) (key : List ℕ) (item : Option Item) (moment : ℕ) (version : Link → Item) : Type 0 where
   pub alive : IsAlive item moment
   pub found_is : found ≡ found_of item
   pub version_is : (link : Link) → (cost ≡ cost_of key (version link).value) × (expiry ≡ (version link).expiry)
@@ -96,9 +96,9 @@ pub record IsTold (found : Option Found) (cost : ℕ) (expiry : Expiry) (key : L
 pub record IsDecided (given : Given) (key : List ℕ) (item : Option Item) (moment : ℕ) (row : Row) (version : Link → Item) (put : Put) : Type 0 where
   pub uses : Uses given key item moment row put.room put.fate
   pub reply_is : reply_of put.answer ≡ (row.answer put.room).reply
-  pub added_is : added put.answer ≡ versions_of (row.answer put.room).change
-  pub item_is : changed item (row.answer put.room).change ≡ item_after put.room put.fate version item
+  pub added_is : versions_added put.answer ≡ versions_of (row.answer put.room).change
+  pub item_is : changed item (row.answer put.room).change ≡ item_left put.room put.fate version item
 
 -- what a storage command made that was decided
 abbrev pub made_of : Put → Made
-made_of put = record { done = record { reply = reply_of put.answer; room = put.room; fate = put.fate }; noted = Some (reply_of put.answer); added = added put.answer }
+made_of put = record { done = record { reply = reply_of put.answer; room = put.room; fate = put.fate }; noted = Some (reply_of put.answer); added = versions_added put.answer }

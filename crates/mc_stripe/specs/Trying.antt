@@ -11,8 +11,8 @@ abbrev pub Puts : (old new : List ℕ → Option Item) → List ℕ → Option I
 Puts old new key item = (q : List ℕ) → new q ≡ (if pointwise nat_eq key q then item else old q)
 
 -- nothing changed
-abbrev pub Stays : (old new : List ℕ → Option Item) → Type 0
-Stays old new = (q : List ℕ) → new q ≡ old q
+abbrev pub ItemsStay : (old new : List ℕ → Option Item) → Type 0
+ItemsStay old new = (q : List ℕ) → new q ≡ old q
 
 -- a command of this row was made of the items, with what it is given, and this was replied
 pub record IsMade (given : Given) (old new : List ℕ → Option Item) (key : List ℕ) (row : Row) (moment : ℕ) (room : Room) (reply : Reply) (fate : Fate) : Type 0 where
@@ -21,14 +21,14 @@ pub record IsMade (given : Given) (old new : List ℕ → Option Item) (key : Li
   pub items : Puts old new key (changed (old key) (row.answer room).change)
 
 -- a command of this row was made of the items: its reply once more for an event that is kept, and how many versions it added
-pub record Makes (keeps : Bool) (given : Given) (old new : List ℕ → Option Item) (key : List ℕ) (row : Row) (moment : ℕ) (made : Made) : Type 0 where
+pub record MakesRow (keeps : Bool) (given : Given) (old new : List ℕ → Option Item) (key : List ℕ) (row : Row) (moment : ℕ) (made : Made) : Type 0 where
   pub made_is : IsMade given old new key row moment made.done.room made.done.reply made.done.fate
   pub noted : keeps ≡ true → made.noted ≡ Some made.done.reply
   pub added : made.added ≡ versions_of (row.answer made.done.room).change
 
 -- the items stay, and this is wanted
 abbrev pub IsLeft : Given → (old new : List ℕ → Option Item) → List ℕ → ℕ → Row → Want → Type 0
-IsLeft given old new key moment row want = Stays old new × IsWanting given key (old key) moment row want
+IsLeft given old new key moment row want = ItemsStay old new × IsWanting given key (old key) moment row want
 
 -- the item of a command's key
 abbrev pub item_of : Stripe → Command → Option Item

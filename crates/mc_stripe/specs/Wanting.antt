@@ -77,7 +77,7 @@ changes_at class room (fates.Goes link) = links_at class (Some link)
 changes_at class room (fates.Woken link) = 0
 
 -- the histories of the classes that are held have places for that
-pub record HasPlaces (given : Given) (room : Room) (fate : Fate) : Type 0 where
+pub record HasPlacesFor (given : Given) (room : Room) (fate : Fate) : Type 0 where
   pub home : IfSome given.home (λ h. changes_at h.class room fate ≤ h.places)
   pub other : IfSome given.other (λ o. changes_at o.class room fate ≤ o.places)
 
@@ -100,7 +100,7 @@ pub record Uses (given : Given) (key : List ℕ) (found : Option Item) (moment :
   pub covers : Covers given (classes_for key found row)
   pub taken : IsTaken given row.need room
   pub fate_is : fate ≡ fate_of key found (row.answer room).change
-  pub places : HasPlaces given room fate
+  pub places : HasPlacesFor given room fate
 
 -- a class that is held and wanted lacks a place for what a room would change
 pub record IsCrowded (given : Given) (key : List ℕ) (found : Option Item) (moment : ℕ) (row : Row) (class : ClassNo) : Type 0 where

@@ -8,7 +8,7 @@ ghost use Rattle.mc_item.specs.declared.answer.Need.TheVariants as needs;
 ghost use Rattle.mc_item.specs.declared.fault.Fault.TheVariants as faults;
 ghost use Rattle.mc_item.specs.declared.{item.ClassNo.ClassNo as TheClass, reply.Room.Room as TheRoom};
 ghost use Rattle.mc_stripe.specs.{Plan.woken_by, Plan.woken_link, StripeCalls.KeepsSite, StripeState.cache_now, Wanting.IsTaken};
-ghost use Rattle.mc_stripe.specs.Trying.{IsDone, IsLeft, IsOpen, Makes, Stays};
+ghost use Rattle.mc_stripe.specs.Trying.{IsDone, IsLeft, IsOpen, MakesRow, ItemsStay};
 
 use crate::counting::count_item;
 use crate::deleting::delete_item;
@@ -51,9 +51,9 @@ fn make(
 ) -> Result<Result<Made, Want>, NoMemory>
     requires cas { cas_of site.now versions < 2 ^ 64 }
     requires moment { moment ≤ 2 ^ 62 }
-    ensures made { IfOk result (λ t. IfOk t (Makes keeps given.now (get (pointwise nat_eq) items.old) (get (pointwise nat_eq) items.new) (key_of command.now) (row_of site.now versions (get (pointwise nat_eq) items.old (key_of command.now)) command.now moment) moment)) }
+    ensures made { IfOk result (λ t. IfOk t (MakesRow keeps given.now (get (pointwise nat_eq) items.old) (get (pointwise nat_eq) items.new) (key_of command.now) (row_of site.now versions (get (pointwise nat_eq) items.old (key_of command.now)) command.now moment) moment)) }
     ensures wants { IfOk result (λ t. IfErr t (IsLeft given.now (get (pointwise nat_eq) items.old) (get (pointwise nat_eq) items.new) (key_of command.now) moment (row_of site.now versions (get (pointwise nat_eq) items.old (key_of command.now)) command.now moment))) }
-    ensures err { OnErr result (Stays (get (pointwise nat_eq) items.old) (get (pointwise nat_eq) items.new)) }
+    ensures err { OnErr result (ItemsStay (get (pointwise nat_eq) items.old) (get (pointwise nat_eq) items.new)) }
     ensures spare { spare items.old ≤ spare items.new + 1 }
 {
     match command {

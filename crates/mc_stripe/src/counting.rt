@@ -4,7 +4,7 @@ ghost use Rattle.std.specs.{Cmp.Lexicographic.pointwise, HashMap.get, HashMap.sp
 ghost use Rattle.mc_item.specs.{Answer.cas_of, Cache.changed, Cache.versions_of, Stripe.IsAlive};
 ghost use Rattle.mc_item.specs.declared.answer.Need.TheVariants as needs;
 ghost use Rattle.mc_item.specs.declared.item.ClassNo.{ClassNo as TheClass};
-ghost use Rattle.mc_stripe.specs.{Counting.step_row, Trying.IsLeft, Trying.Makes, Trying.Stays};
+ghost use Rattle.mc_stripe.specs.{Counting.step_row, Trying.IsLeft, Trying.MakesRow, Trying.ItemsStay};
 ghost use Rattle.mc_stripe.specs.Wanting.{Covers, IsLacking, IsTaken, IsWanting, Uses, class_beside};
 
 use crate::changing::{change_found, versions_of as versions_in};
@@ -94,9 +94,9 @@ pub(crate) fn count_item(
     given: &Given,
 ) -> Result<Result<Made, Want>, NoMemory>
     requires cas { cas_of site.now versions < 2 ^ 64 }
-    ensures made { IfOk result (λ t. IfOk t (Makes true given.now (get (pointwise nat_eq) items.old) (get (pointwise nat_eq) items.new) key.now (step_row site.now versions key.now step (get (pointwise nat_eq) items.old key.now)) moment)) }
+    ensures made { IfOk result (λ t. IfOk t (MakesRow true given.now (get (pointwise nat_eq) items.old) (get (pointwise nat_eq) items.new) key.now (step_row site.now versions key.now step (get (pointwise nat_eq) items.old key.now)) moment)) }
     ensures wants { IfOk result (λ t. IfErr t (IsLeft given.now (get (pointwise nat_eq) items.old) (get (pointwise nat_eq) items.new) key.now moment (step_row site.now versions key.now step (get (pointwise nat_eq) items.old key.now)))) }
-    ensures err { OnErr result (Stays (get (pointwise nat_eq) items.old) (get (pointwise nat_eq) items.new)) }
+    ensures err { OnErr result (ItemsStay (get (pointwise nat_eq) items.old) (get (pointwise nat_eq) items.new)) }
     ensures spare { spare items.new ≡ spare items.old }
 {
     let Some(item) = items.get_mut(key) else {

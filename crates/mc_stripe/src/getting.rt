@@ -3,7 +3,7 @@ ghost use Rattle.std.specs.Prelude.{◌≡◌, Bool, Some, IfOk, IfErr, OnErr, n
 ghost use Rattle.std.specs.{Cmp.Lexicographic.pointwise, HashMap.get, HashMap.spare};
 ghost use Rattle.mc_item.specs.{Answer.get_row, Cache.changed};
 ghost use Rattle.mc_item.specs.declared.reply.Room.TheVariants as rooms;
-ghost use Rattle.mc_stripe.specs.Trying.{IsLeft, Makes, Stays};
+ghost use Rattle.mc_stripe.specs.Trying.{IsLeft, MakesRow, ItemsStay};
 
 use crate::fate::{Fate, wakes};
 use crate::trying::{Done, Made, untouched};
@@ -61,9 +61,9 @@ pub(crate) fn get_item(
     given: &Given,
     keeps: bool,
 ) -> Result<Result<Made, Want>, NoMemory>
-    ensures made { IfOk result (λ t. IfOk t (Makes keeps given.now (get (pointwise nat_eq) items.old) (get (pointwise nat_eq) items.new) key.now (get_row (get (pointwise nat_eq) items.old key.now)) moment)) }
+    ensures made { IfOk result (λ t. IfOk t (MakesRow keeps given.now (get (pointwise nat_eq) items.old) (get (pointwise nat_eq) items.new) key.now (get_row (get (pointwise nat_eq) items.old key.now)) moment)) }
     ensures wants { IfOk result (λ t. IfErr t (IsLeft given.now (get (pointwise nat_eq) items.old) (get (pointwise nat_eq) items.new) key.now moment (get_row (get (pointwise nat_eq) items.old key.now)))) }
-    ensures err { OnErr result (Stays (get (pointwise nat_eq) items.old) (get (pointwise nat_eq) items.new)) }
+    ensures err { OnErr result (ItemsStay (get (pointwise nat_eq) items.old) (get (pointwise nat_eq) items.new)) }
     ensures spare { spare items.new ≡ spare items.old }
 {
     let Some(item) = items.get_mut(key) else {

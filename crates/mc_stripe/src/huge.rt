@@ -2,7 +2,7 @@
 ghost use Rattle.std.specs.Prelude.{◌≤◌, IfOk, IfErr, nat_eq, true};
 ghost use Rattle.std.specs.{Cmp.Lexicographic.pointwise, HashMap.get, HashMap.spare};
 ghost use Rattle.mc_item.specs.Answer.{huge_row};
-ghost use Rattle.mc_stripe.specs.Trying.{IsLeft, Makes};
+ghost use Rattle.mc_stripe.specs.Trying.{IsLeft, MakesRow};
 
 use crate::changing::remove;
 use crate::fate::Fate;
@@ -21,7 +21,7 @@ pub(crate) fn refuse_huge(
     moment: u64,
     given: &Given,
 ) -> Result<Made, Want>
-    ensures made { IfOk result (Makes true given.now (get (pointwise nat_eq) items.old) (get (pointwise nat_eq) items.new) key.now (huge_row verb) moment) }
+    ensures made { IfOk result (MakesRow true given.now (get (pointwise nat_eq) items.old) (get (pointwise nat_eq) items.new) key.now (huge_row verb) moment) }
     ensures wants { IfErr result (IsLeft given.now (get (pointwise nat_eq) items.old) (get (pointwise nat_eq) items.new) key.now moment (huge_row verb)) }
     ensures spare { spare items.old ≤ spare items.new }
 {

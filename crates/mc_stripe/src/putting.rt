@@ -4,9 +4,9 @@ ghost use Rattle.std.specs.{Cmp.Lexicographic.pointwise, HashMap.get, HashMap.sp
 ghost use Rattle.mc_item.specs.Answer as answers;
 ghost use Rattle.mc_item.specs.{Answer.cas_of, Answer.store_row, Answer.version_of, Item.link_of_item, Measure.cost_of};
 ghost use Rattle.mc_item.specs.declared.{item.ClassNo.ClassNo as TheClass, item.Item.Item as TheItem, item.Link.Link as TheLink};
-ghost use Rattle.mc_stripe.specs.{Plan.fate_of, Trying.IsLeft, Trying.Makes, Trying.Stays, Wanting.IsGiven, Wanting.IsWanting};
+ghost use Rattle.mc_stripe.specs.{Plan.fate_of, Trying.IsLeft, Trying.MakesRow, Trying.ItemsStay, Wanting.IsGiven, Wanting.IsWanting};
 ghost use Rattle.mc_stripe.specs.Putting as words;
-ghost use Rattle.mc_stripe.specs.Putting.{IsDecided, IsTold, answer_of_room, decline_of, goes, made_of, reply_of, storing_row};
+ghost use Rattle.mc_stripe.specs.Putting.{IsDecided, KnowsItem, answer_of_room, decline_of, goes, made_of, reply_of, storing_row};
 
 use crate::changing::remove;
 use crate::fate::Fate;
@@ -187,8 +187,8 @@ fn decide(
     found: Option<Found>,
     given: &Given,
 ) -> Result<Put, Want>
-    ensures made { (key : List ℕ) (item : Option TheItem) (moment : ℕ) (version : TheLink → TheItem) → IsTold found cost expiry key item moment version → IfOk result (IsDecided given.now key item moment (store_row (Some fresh) verb item version) version) }
-    ensures wants { (key : List ℕ) (item : Option TheItem) (moment : ℕ) (version : TheLink → TheItem) → IsTold found cost expiry key item moment version → IfErr result (IsWanting given.now key item moment (store_row (Some fresh) verb item version)) }
+    ensures made { (key : List ℕ) (item : Option TheItem) (moment : ℕ) (version : TheLink → TheItem) → KnowsItem found cost expiry key item moment version → IfOk result (IsDecided given.now key item moment (store_row (Some fresh) verb item version) version) }
+    ensures wants { (key : List ℕ) (item : Option TheItem) (moment : ℕ) (version : TheLink → TheItem) → KnowsItem found cost expiry key item moment version → IfErr result (IsWanting given.now key item moment (store_row (Some fresh) verb item version)) }
 {
     if let Some(answer) = declines(verb, cas_in(found)) {
         return Ok(Put {
@@ -243,9 +243,9 @@ pub(crate) fn put_item(
 ) -> Result<Result<Made, Want>, NoMemory>
     requires cas { cas_of site.now versions < 2 ^ 64 }
     requires cost { cost ≡ cost_of key.now content.now.value.now }
-    ensures made { IfOk result (λ t. IfOk t (Makes true given.now (get (pointwise nat_eq) items.old) (get (pointwise nat_eq) items.new) key.now (store_row (Some fresh) verb (get (pointwise nat_eq) items.old key.now) (version_of site.now versions content.now.flags content.now.value.now content.now.expiry)) moment)) }
+    ensures made { IfOk result (λ t. IfOk t (MakesRow true given.now (get (pointwise nat_eq) items.old) (get (pointwise nat_eq) items.new) key.now (store_row (Some fresh) verb (get (pointwise nat_eq) items.old key.now) (version_of site.now versions content.now.flags content.now.value.now content.now.expiry)) moment)) }
     ensures wants { IfOk result (λ t. IfErr t (IsLeft given.now (get (pointwise nat_eq) items.old) (get (pointwise nat_eq) items.new) key.now moment (store_row (Some fresh) verb (get (pointwise nat_eq) items.old key.now) (version_of site.now versions content.now.flags content.now.value.now content.now.expiry)))) }
-    ensures err { OnErr result (Stays (get (pointwise nat_eq) items.old) (get (pointwise nat_eq) items.new)) }
+    ensures err { OnErr result (ItemsStay (get (pointwise nat_eq) items.old) (get (pointwise nat_eq) items.new)) }
     ensures spare { spare items.old ≤ spare items.new + 1 }
 {
     let Some(item) = items.get_mut(key) else {

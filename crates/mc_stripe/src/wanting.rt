@@ -3,7 +3,7 @@ ghost use Rattle.std.specs.Prelude.{◌≡◌, ◌<◌, Some, None, false, true,
 ghost use Rattle.mc_item.specs.Stripe as words;
 ghost use Rattle.mc_item.specs.declared.answer.Need.TheVariants as needs;
 ghost use Rattle.mc_stripe.specs.Wanting as wanted;
-ghost use Rattle.mc_stripe.specs.Wanting.{Covers, HasPlaces, Holds, IsTaken, LacksPlace, class_beside};
+ghost use Rattle.mc_stripe.specs.Wanting.{Covers, HasPlacesFor, Holds, IsTaken, LacksPlace, class_beside};
 ghost use Rattle.mc_stripe.specs.declared.wanting.Want.TheVariants as wants;
 
 use crate::fate::Fate;
@@ -183,7 +183,7 @@ impl Given {
     // The class whose history has no place for what becomes of chunks.
     #[inline(always)]
     pub(crate) fn crowded(&self, room: Room, fate: Fate) -> Option<ClassNo>
-        ensures places { IfNone result (HasPlaces self.now room fate) }
+        ensures places { IfNone result (HasPlacesFor self.now room fate) }
         ensures lacks { IfSome result (LacksPlace self.now room fate) }
     {
         if let Some(home) = self.home {

@@ -113,12 +113,12 @@ struct Wanted<'a> {
     errors: &'a [u8],
 }
 
-fn same_bytes<R: Abort>(rt: &R, told: &[u8], wanted: &[u8], name: &str, place: usize) {
-    assert_eq!(rt; told, wanted, "{name}, at {place}");
+fn same_bytes<R: Abort>(rt: &R, got: &[u8], wanted: &[u8], name: &str, place: usize) {
+    assert_eq!(rt; got, wanted, "{name}, at {place}");
 }
 
-fn same_status<R: Abort>(rt: &R, told: u8, wanted: u8, name: &str, place: usize) {
-    assert_eq!(rt; told, wanted, "{name}, at {place}");
+fn same_status<R: Abort>(rt: &R, got: u8, wanted: u8, name: &str, place: usize) {
+    assert_eq!(rt; got, wanted, "{name}, at {place}");
 }
 
 // Asserts that a run is as wanted; a place tells it from others of its name.

@@ -14,7 +14,7 @@ fn words_of(rt: &HostRuntime) -> io::Result<Vec<String>> {
 }
 
 // The exit with this status, and a line on standard error; that it fails changes no status.
-fn told(rt: &HostRuntime, line: impl Display + Drop, status: u8) -> ExitCode {
+fn ended(rt: &HostRuntime, line: impl Display + Drop, status: u8) -> ExitCode {
     let _ = eprintln!(rt; "mcseg: {line}");
     ExitCode::from(status)
 }
@@ -22,9 +22,9 @@ fn told(rt: &HostRuntime, line: impl Display + Drop, status: u8) -> ExitCode {
 // The exit where the words can't be had.
 fn refused(rt: &HostRuntime, error: &io::Error) -> ExitCode {
     match error.kind() {
-        ErrorKind::OutOfMemory => told(rt, "out of memory", 1),
-        ErrorKind::InvalidData => told(rt, "a word of the command line is not UTF-8", 2),
-        _ => told(rt, format_args!("no words of the command line: {error}"), 3),
+        ErrorKind::OutOfMemory => ended(rt, "out of memory", 1),
+        ErrorKind::InvalidData => ended(rt, "a word of the command line is not UTF-8", 2),
+        _ => ended(rt, format_args!("no words of the command line: {error}"), 3),
     }
 }
 
@@ -42,7 +42,7 @@ fn main(rt: HostRuntime) -> ExitCode {
     }
     let seed = match RandomState::new(&rt) {
         Ok(seed) => seed,
-        Err(error) => return told(&rt, format_args!("no random numbers: {error}"), 3),
+        Err(error) => return ended(&rt, format_args!("no random numbers: {error}"), 3),
     };
     let status = run_words(
         &rt,

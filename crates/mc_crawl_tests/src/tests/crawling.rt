@@ -102,17 +102,17 @@ fn crawl_refused(
 
 // The minutes that were counted, each with its count.
 fn minutes(alloc: Global, histogram: &Histogram) -> Result<Vec<(usize, u64)>, Fail> {
-    let mut told = Vec::new(alloc);
+    let mut got = Vec::new(alloc);
     for (minute, count) in histogram.minutes.iter().enumerate() {
         if *count > 0 {
-            told.push((minute, *count))?;
+            got.push((minute, *count))?;
         }
     }
-    Ok(told)
+    Ok(got)
 }
 
 // How many links were seen, reclaimed, passed, gone, without an expiry, and with an hour or more to live; then the minutes.
-fn told_counts(alloc: Global, histogram: &Histogram) -> Result<String, Fail> {
+fn text_of_counts(alloc: Global, histogram: &Histogram) -> Result<String, Fail> {
     let counts = [
         histogram.seen,
         histogram.reclaimed,
@@ -126,8 +126,8 @@ fn told_counts(alloc: Global, histogram: &Histogram) -> Result<String, Fail> {
 }
 
 // The end of a crawl, and what was counted.
-fn told_end(alloc: Global, made: Result<(), Fault>, histogram: &Histogram) -> Result<String, Fail> {
-    let counts = told_counts(alloc, histogram)?;
+fn text_of_end(alloc: Global, made: Result<(), Fault>, histogram: &Histogram) -> Result<String, Fail> {
+    let counts = text_of_counts(alloc, histogram)?;
     match made {
         Ok(()) => Ok(counts),
         Err(fault) => Ok(format!(in alloc; "{fault:?} {counts}")?),
@@ -135,25 +135,25 @@ fn told_end(alloc: Global, made: Result<(), Fault>, histogram: &Histogram) -> Re
 }
 
 /// Crawls links, and tells what was counted.
-pub(super) fn told_crawl(world: &mut World, links: &[Link], moment: u64) -> Result<String, Fail> {
+pub(super) fn text_of_crawl(world: &mut World, links: &[Link], moment: u64) -> Result<String, Fail> {
     let mut histogram = empty();
     let made = crawl(world, links, moment, &mut histogram);
-    told_end(world.alloc, made, &histogram)
+    text_of_end(world.alloc, made, &histogram)
 }
 
 // What was counted, and which stripes the gate was asked for.
-fn told_asked(alloc: Global, counts: &str, gate: &Refusing) -> Result<String, Fail> {
+fn text_of_asked(alloc: Global, counts: &str, gate: &Refusing) -> Result<String, Fail> {
     Ok(format!(in alloc; "{counts} {:?}", gate.answers.as_slice())?)
 }
 
 /// Crawls links through a gate that says no, and tells what was counted, and what the gate answered.
-pub(super) fn told_refused(world: &mut World, links: &[Link], moment: u64) -> Result<String, Fail> {
+pub(super) fn text_of_refused(world: &mut World, links: &[Link], moment: u64) -> Result<String, Fail> {
     let alloc = world.alloc;
     let mut histogram = empty();
     let mut gate = Refusing {
         answers: Vec::new(alloc),
     };
     let made = crawl_refused(world, links, moment, &mut histogram, &mut gate);
-    let counts = told_end(alloc, made, &histogram)?;
-    told_asked(alloc, counts.as_str(), &gate)
+    let counts = text_of_end(alloc, made, &histogram)?;
+    text_of_asked(alloc, counts.as_str(), &gate)
 }

@@ -1,5 +1,5 @@
 //! Tests as rows: what is done or looked at, and what it tells.
-use super::crawling::{told_crawl, told_refused};
+use super::crawling::{text_of_crawl, text_of_refused};
 use mc_crawl::snapshot;
 use mc_history::{History, Shows};
 use mc_item::{ClassEvent, Command, Config, Link, StripeEvent};
@@ -46,8 +46,8 @@ fn last_in<E: Drop, S: Shows<E> + Drop>(history: &History<E, S>) -> Option<&E> {
     history.get(history.len().checked_sub(1)?)
 }
 
-fn text(alloc: Global, told: &str) -> Result<String, Fail> {
-    Ok(format!(in alloc; "{told}")?)
+fn text(alloc: Global, got: &str) -> Result<String, Fail> {
+    Ok(format!(in alloc; "{got}")?)
 }
 
 // What the class's last event says: who reclaimed which entry, at which moment, and how many events the stripe had.
@@ -76,24 +76,24 @@ fn last_of_stripe(world: &World) -> Result<String, Fail> {
     }
 }
 
-fn told_lengths(world: &World) -> Result<String, Fail> {
+fn text_of_lengths(world: &World) -> Result<String, Fail> {
     let entries = world.class.count();
     let class = world.class.history().len();
     let stripe = world.stripe.history().len();
     Ok(format!(in world.alloc; "{entries} {class} {stripe}")?)
 }
 
-fn told_store(world: &mut World, letter: u8, exptime: i64, moment: u64) -> Result<String, Fail> {
+fn text_of_store(world: &mut World, letter: u8, exptime: i64, moment: u64) -> Result<String, Fail> {
     store(world, letter, exptime, moment)?;
     text(world.alloc, "stored")
 }
 
-fn told_ask(world: &mut World, command: Command) -> Result<String, Fail> {
+fn text_of_ask(world: &mut World, command: Command) -> Result<String, Fail> {
     ask(world, command, 1000)?;
     text(world.alloc, "asked")
 }
 
-fn told_unlink(world: &mut World, number: u64) -> Result<String, Fail> {
+fn text_of_unlink(world: &mut World, number: u64) -> Result<String, Fail> {
     let class = &mut world.class;
     if class.entry(number).is_none() {
         return text(world.alloc, "no entry");
@@ -102,18 +102,18 @@ fn told_unlink(world: &mut World, number: u64) -> Result<String, Fail> {
     text(world.alloc, "unlinked")
 }
 
-fn told_juggle(world: &mut World, moment: u64) -> Result<String, Fail> {
+fn text_of_juggle(world: &mut World, moment: u64) -> Result<String, Fail> {
     let moves = juggle(world, moment)?;
     Ok(format!(in world.alloc; "{} reclaimed, {} moved", moves.reclaimed, moves.moved)?)
 }
 
-fn told_survey(world: &mut World) -> Result<String, Fail> {
+fn text_of_survey(world: &mut World) -> Result<String, Fail> {
     let class = &mut world.class;
     class.survey(WHO, 1000)?;
     text(world.alloc, "surveyed")
 }
 
-fn told_links(alloc: Global, links: &[Link]) -> Result<String, Fail> {
+fn text_of_links(alloc: Global, links: &[Link]) -> Result<String, Fail> {
     let mut numbers = Vec::new(alloc);
     for link in links {
         numbers.push((link.class.0, link.number))?;
@@ -121,25 +121,25 @@ fn told_links(alloc: Global, links: &[Link]) -> Result<String, Fail> {
     Ok(format!(in alloc; "{:?}", numbers.as_slice())?)
 }
 
-fn told_snapshot(world: &World, links: &mut Vec<Link>) -> Result<String, Fail> {
+fn text_of_snapshot(world: &World, links: &mut Vec<Link>) -> Result<String, Fail> {
     *links = snapshot(world.alloc, &world.class)?;
-    told_links(world.alloc, links.as_slice())
+    text_of_links(world.alloc, links.as_slice())
 }
 
 // What a row does, and what it tells.
 fn tell(world: &mut World, links: &mut Vec<Link>, ask: Ask) -> Result<String, Fail> {
     let alloc = world.alloc;
     match ask {
-        Ask::Store(letter, exptime, moment) => told_store(world, letter, exptime, moment),
-        Ask::Get(letter) => told_ask(world, Command::Get(key(alloc, letter)?)),
-        Ask::Delete(letter) => told_ask(world, Command::Delete(key(alloc, letter)?)),
-        Ask::Unlink(number) => told_unlink(world, number),
-        Ask::Juggle(moment) => told_juggle(world, moment),
-        Ask::Survey => told_survey(world),
-        Ask::Snapshot => told_snapshot(world, links),
-        Ask::Crawl(moment) => told_crawl(world, links.as_slice(), moment),
-        Ask::CrawlRefused(moment) => told_refused(world, links.as_slice(), moment),
-        Ask::Lengths => told_lengths(world),
+        Ask::Store(letter, exptime, moment) => text_of_store(world, letter, exptime, moment),
+        Ask::Get(letter) => text_of_ask(world, Command::Get(key(alloc, letter)?)),
+        Ask::Delete(letter) => text_of_ask(world, Command::Delete(key(alloc, letter)?)),
+        Ask::Unlink(number) => text_of_unlink(world, number),
+        Ask::Juggle(moment) => text_of_juggle(world, moment),
+        Ask::Survey => text_of_survey(world),
+        Ask::Snapshot => text_of_snapshot(world, links),
+        Ask::Crawl(moment) => text_of_crawl(world, links.as_slice(), moment),
+        Ask::CrawlRefused(moment) => text_of_refused(world, links.as_slice(), moment),
+        Ask::Lengths => text_of_lengths(world),
         Ask::LastOfClass => last_of_class(world),
         Ask::LastOfStripe => last_of_stripe(world),
     }
@@ -153,8 +153,8 @@ fn check_row<R: Abort>(
     row: &Row,
     place: usize,
 ) -> Result<(), Fail> {
-    let told = tell(world, links, row.0)?;
-    assert_eq!(rt; told.as_str(), row.1, "at row {place}");
+    let got = tell(world, links, row.0)?;
+    assert_eq!(rt; got.as_str(), row.1, "at row {place}");
     Ok(())
 }
 

@@ -21,18 +21,18 @@ fn same_numbers(rt: &impl Abort, seen: &[u64], wanted: &[u64]) {
     assert_eq!(rt; seen, wanted);
 }
 
-fn told_limits(rt: &impl Abort, alloc: Global, config: &Config) -> String {
+fn text_of_limits(rt: &impl Abort, alloc: Global, config: &Config) -> String {
     let (stripes, callers, events) = (config.stripes, config.callers, config.max_events);
     format!(in alloc; "{stripes} {callers} {events}").expect(rt, "memory")
 }
 
-fn told_rule(rt: &impl Abort, alloc: Global, config: &Config) -> String {
+fn text_of_rule(rt: &impl Abort, alloc: Global, config: &Config) -> String {
     let (hot, warm) = (config.hot_percent, config.warm_percent);
     let (hotter, warmer) = (config.hot_factor, config.warm_factor);
     format!(in alloc; "{hot} {warm} {hotter} {warmer}").expect(rt, "memory")
 }
 
-fn told_temp(rt: &impl Abort, alloc: Global, config: &Config) -> String {
+fn text_of_temp(rt: &impl Abort, alloc: Global, config: &Config) -> String {
     let (temp, temp_ttl, keeps) = (config.temp, config.temp_ttl, config.keeps_events);
     format!(in alloc; "{temp} {temp_ttl}, events kept {keeps}").expect(rt, "memory")
 }
@@ -45,11 +45,11 @@ fn checked(rt: &impl Abort, alloc: Global) -> Config {
 fn usual_numbers(rt: HostRuntime) {
     let alloc = rt.alloc();
     let config = checked(&rt, alloc);
-    let limits = told_limits(&rt, alloc, &config);
+    let limits = text_of_limits(&rt, alloc, &config);
     same(&rt, limits.as_str(), "1 3 1048576", 0);
-    let rule = told_rule(&rt, alloc, &config);
+    let rule = text_of_rule(&rt, alloc, &config);
     same(&rt, rule.as_str(), "20 40 20 200", 1);
-    let temp = told_temp(&rt, alloc, &config);
+    let temp = text_of_temp(&rt, alloc, &config);
     same(&rt, temp.as_str(), "false 61, events kept true", 2);
 }
 

@@ -25,7 +25,7 @@ fn command_copy(rt: &impl Abort, alloc: Global, command: &Command) -> Command {
     command.copy(alloc).expect(rt, "memory")
 }
 
-fn told_command(rt: &impl Abort, alloc: Global, command: &Command) -> String {
+fn text_of_command(rt: &impl Abort, alloc: Global, command: &Command) -> String {
     format!(in alloc; "{command:?}").expect(rt, "memory")
 }
 
@@ -34,7 +34,7 @@ fn check_command(rt: &impl Abort, alloc: Global, asked: Asked, wanted: &str, pla
     let command = command_of(rt, alloc, asked);
     let copy = command_copy(rt, alloc, &command);
     same_bytes(rt, copy.key().bytes(), b"k".as_slice(), place);
-    let shown = told_command(rt, alloc, &copy);
+    let shown = text_of_command(rt, alloc, &copy);
     same(rt, shown.as_str(), wanted, place);
 }
 
@@ -53,14 +53,14 @@ fn reply_copy(rt: &impl Abort, reply: &Reply) -> Reply {
     reply.copy().expect(rt, "memory")
 }
 
-fn told_reply(rt: &impl Abort, alloc: Global, reply: &Reply) -> String {
+fn text_of_reply(rt: &impl Abort, alloc: Global, reply: &Reply) -> String {
     format!(in alloc; "{reply:?}").expect(rt, "memory")
 }
 
 // The copy of a reply is shown so.
 fn check_reply(rt: &impl Abort, alloc: Global, reply: &Reply, wanted: &str) {
     let copy = reply_copy(rt, reply);
-    let shown = told_reply(rt, alloc, &copy);
+    let shown = text_of_reply(rt, alloc, &copy);
     same(rt, shown.as_str(), wanted, 0);
 }
 

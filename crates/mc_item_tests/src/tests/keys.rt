@@ -73,7 +73,7 @@ static STRIPES: [(&[u8], &str); 4] = [
     (&[b'x'; 250], "0 1 13"),
 ];
 
-fn told_stripes(rt: &impl Abort, alloc: Global, key: &Key) -> String {
+fn text_of_stripes(rt: &impl Abort, alloc: Global, key: &Key) -> String {
     let (one, four, many) = (
         stripe_of(key, 1).0,
         stripe_of(key, 4).0,
@@ -84,7 +84,7 @@ fn told_stripes(rt: &impl Abort, alloc: Global, key: &Key) -> String {
 
 fn check_stripes(rt: &impl Abort, alloc: Global, bytes: &[u8], wanted: &str, place: usize) {
     let key = key(rt, alloc, bytes);
-    let stripes = told_stripes(rt, alloc, &key);
+    let stripes = text_of_stripes(rt, alloc, &key);
     same(rt, stripes.as_str(), wanted, place);
 }
 

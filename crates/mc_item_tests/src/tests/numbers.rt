@@ -133,12 +133,12 @@ fn short_lists(rt: HostRuntime) {
     same_list(&rt, ClassSizes::of(&[96, 120]).as_slice(), &[96, 120]);
 }
 
-fn told_minutes(rt: &impl Abort, alloc: Global, counts: &Histogram) -> String {
+fn text_of_minutes(rt: &impl Abort, alloc: Global, counts: &Histogram) -> String {
     let (first, second, last) = (counts.minutes[0], counts.minutes[1], counts.minutes[59]);
     format!(in alloc; "{first} {second} {last}").expect(rt, "memory")
 }
 
-fn told_others(rt: &impl Abort, alloc: Global, counts: &Histogram) -> String {
+fn text_of_others(rt: &impl Abort, alloc: Global, counts: &Histogram) -> String {
     let (hour_plus, no_expiry, seen) = (counts.hour_plus, counts.no_expiry, counts.seen);
     let (reclaimed, passed, gone) = (counts.reclaimed, counts.passed, counts.gone);
     format!(in alloc; "{hour_plus} {no_expiry} {seen} {reclaimed} {passed} {gone}").expect(
@@ -159,9 +159,9 @@ fn sums_of_counts(rt: HostRuntime) {
     other.passed = 7;
     other.gone = 8;
     sum.add(&other);
-    let minutes = told_minutes(&rt, rt.alloc(), &sum);
+    let minutes = text_of_minutes(&rt, rt.alloc(), &sum);
     same(&rt, minutes.as_str(), "1 0 2", 0);
-    let others = told_others(&rt, rt.alloc(), &sum);
+    let others = text_of_others(&rt, rt.alloc(), &sum);
     same(&rt, others.as_str(), "3 4 5 6 7 8", 1);
 }
 

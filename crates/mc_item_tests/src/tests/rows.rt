@@ -1,5 +1,5 @@
 //! Parts of the table of commands that can be called alone, each after five versions of stripe 1 of 4: the answer to a count, a new version in an item's place, and a count in place.
-use crate::tests::{AT, GROWN, NO_MARKS, REFUSED, item, key, same, same_bytes, site, told, value};
+use crate::tests::{AT, GROWN, NO_MARKS, REFUSED, item, key, same, same_bytes, site, text_of, value};
 use mc_item::{ClassNo, Content, Expiry, Item, Key, Link, Marks, Room, Step, Value};
 use std::alloc::Global;
 use std::process::Abort;
@@ -28,7 +28,7 @@ static COUNTS: [CountRow; 4] = [
     (Step::Up(1), b"9", REFUSED, "NoSpace; Stays"),
 ];
 
-fn told_count(
+fn text_of_count(
     rt: &impl Abort,
     alloc: Global,
     key: &Key,
@@ -39,13 +39,13 @@ fn told_count(
     let answer = site()
         .count_answer(alloc, 5, key, step, Some(found), None, room)
         .expect(rt, "memory");
-    told(rt, alloc, &answer)
+    text_of(rt, alloc, &answer)
 }
 
 fn check_count(rt: &impl Abort, alloc: Global, row: &CountRow, place: usize) {
     let key = key(rt, alloc, b"k");
     let found = item(rt, alloc, row.1, NO_MARKS);
-    let answer = told_count(rt, alloc, &key, &found, row.0, row.2);
+    let answer = text_of_count(rt, alloc, &key, &found, row.0, row.2);
     same(rt, answer.as_str(), row.3, place);
 }
 
@@ -75,7 +75,7 @@ fn renew(rt: &impl Abort, held: &mut Item, value: &Value, link: Link) {
     site().renew(5, held, &content, link).expect(rt, "memory");
 }
 
-fn told_item(rt: &impl Abort, alloc: Global, item: &Item) -> String {
+fn text_of_item(rt: &impl Abort, alloc: Global, item: &Item) -> String {
     format!(in alloc; "{item:?}").expect(rt, "memory")
 }
 
@@ -85,7 +85,7 @@ fn a_renewed_item_is_the_new_version(rt: HostRuntime) {
     let mut held = item(&rt, alloc, b"old", BOTH);
     let value = value(&rt, alloc, b"1");
     renew(&rt, &mut held, &value, OTHER);
-    let shown = told_item(&rt, alloc, &held);
+    let shown = text_of_item(&rt, alloc, &held);
     same(
         &rt,
         shown.as_str(),
@@ -105,7 +105,7 @@ static IN_PLACE: [InPlaceRow; 4] = [
 ];
 
 // Counts an item in place.
-fn told_in_place(rt: &impl Abort, alloc: Global, held: &mut Item, step: Step) -> String {
+fn text_in_place(rt: &impl Abort, alloc: Global, held: &mut Item, step: Step) -> String {
     let number = held.count(step, 22);
     let bytes = held.value.bytes();
     let cas = held.cas;
@@ -114,7 +114,7 @@ fn told_in_place(rt: &impl Abort, alloc: Global, held: &mut Item, step: Step) ->
 
 fn check_in_place(rt: &impl Abort, alloc: Global, row: &InPlaceRow, place: usize) {
     let mut held = item(rt, alloc, row.0, NO_MARKS);
-    let counted = told_in_place(rt, alloc, &mut held, row.1);
+    let counted = text_in_place(rt, alloc, &mut held, row.1);
     same(rt, counted.as_str(), row.2, place);
 }
 
@@ -138,7 +138,7 @@ fn a_shared_value_is_not_counted_in_place(rt: HostRuntime) {
     let alloc = rt.alloc();
     let mut held = item(&rt, alloc, b"9 ", NO_MARKS);
     let copy = copy_of(&rt, &held.value);
-    let counted = told_in_place(&rt, alloc, &mut held, Step::Up(1));
+    let counted = text_in_place(&rt, alloc, &mut held, Step::Up(1));
     same(&rt, counted.as_str(), "None, [57, 32], 6", 0);
     same_bytes(&rt, copy.bytes(), b"9 ".as_slice(), 0);
 }

@@ -190,14 +190,14 @@ fn event_text<R: Abort>(rt: &R, alloc: Global, event: &ClassEvent) -> String {
 }
 
 // The event at a place of the history, in short.
-fn told_event<R: Abort>(rt: &R, alloc: Global, class: &ClassState, place: usize) -> String {
+fn text_of_event<R: Abort>(rt: &R, alloc: Global, class: &ClassState, place: usize) -> String {
     let event = class.history().get(place).expect(rt, "an event");
     event_text(rt, alloc, event)
 }
 
 fn check_event<R: Abort>(rt: &R, alloc: Global, class: &ClassState, place: usize, text: &str) {
-    let told = told_event(rt, alloc, class, place);
-    same(rt, told.as_str(), text, place);
+    let got = text_of_event(rt, alloc, class, place);
+    same(rt, got.as_str(), text, place);
 }
 
 // The events of a class are these.

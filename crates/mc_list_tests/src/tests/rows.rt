@@ -89,8 +89,8 @@ const CALL: Call = Call { who: WHO, at: 0 };
 
 pub(super) type Row = (Ask, &'static str);
 
-fn text<R: Abort>(rt: &R, alloc: Global, told: &str) -> String {
-    format!(in alloc; "{told}").expect(rt, "a text")
+fn text<R: Abort>(rt: &R, alloc: Global, got: &str) -> String {
+    format!(in alloc; "{got}").expect(rt, "a text")
 }
 
 fn number_text<R: Abort>(rt: &R, alloc: Global, number: u64) -> String {
@@ -133,7 +133,7 @@ fn survey_text<R: Abort>(rt: &R, alloc: Global, survey: Survey) -> String {
     numbers_text(rt, alloc, &[place, total, cold_age])
 }
 
-fn told_survey<R: Abort>(rt: &R, alloc: Global, class: &mut ClassState, moment: u64) -> String {
+fn text_of_survey<R: Abort>(rt: &R, alloc: Global, class: &mut ClassState, moment: u64) -> String {
     match class.survey(WHO, moment) {
         Ok(survey) => survey_text(rt, alloc, survey),
         Err(fault) => room_text(rt, alloc, Err(fault)),
@@ -146,30 +146,30 @@ fn survey_reserved<R: Abort>(rt: &R, class: &mut ClassState, moment: u64) -> Sur
 }
 
 // How many of so many surveys at the moment 1000 have the next place and find nothing.
-fn told_surveys<R: Abort>(rt: &R, alloc: Global, class: &mut ClassState, surveys: u64) -> String {
+fn text_of_surveys<R: Abort>(rt: &R, alloc: Global, class: &mut ClassState, surveys: u64) -> String {
     let mut right = 0u64;
     for place in 0..surveys {
-        let told = told_survey(rt, alloc, class, 1000);
+        let got = text_of_survey(rt, alloc, class, 1000);
         let wanted = numbers_text(rt, alloc, &[place, 0, 0]);
-        if told.as_str() == wanted.as_str() {
+        if got.as_str() == wanted.as_str() {
             right = right.saturating_add(1);
         }
     }
     number_text(rt, alloc, right)
 }
 
-fn told_passed<R: Abort>(rt: &R, alloc: Global, class: &ClassState, j: u64) -> String {
+fn text_of_passed<R: Abort>(rt: &R, alloc: Global, class: &ClassState, j: u64) -> String {
     assert!(rt; j <= 4);
     assert!(rt; j <= class.len(Seg::Hot));
     numbers_text(rt, alloc, class.passed(Seg::Hot, j).as_slice())
 }
 
-fn told_tail_key<R: Abort>(rt: &R, alloc: Global, class: &ClassState, seg: Seg, j: u64) -> String {
+fn text_of_tail_key<R: Abort>(rt: &R, alloc: Global, class: &ClassState, seg: Seg, j: u64) -> String {
     let entry = class.from_tail(seg, j).expect(rt, "an entry");
     key_text(rt, alloc, &entry.key)
 }
 
-fn told_key<R: Abort>(rt: &R, alloc: Global, class: &ClassState, number: u64) -> String {
+fn text_of_key<R: Abort>(rt: &R, alloc: Global, class: &ClassState, number: u64) -> String {
     assert!(rt; class.segment_of(number).is_some());
     let key = class.key(number).expect(rt, "a key");
     key_text(rt, alloc, &key)
@@ -205,9 +205,9 @@ fn look<R: Abort>(rt: &R, alloc: Global, class: &ClassState, sight: Sight) -> St
     match sight {
         Sight::IsFull => full_text(rt, alloc, class.is_full()),
         Sight::Segment(number) => segment_text(rt, alloc, class.segment_of(number)),
-        Sight::TailKey(seg, j) => told_tail_key(rt, alloc, class, seg, j),
-        Sight::Passed(j) => told_passed(rt, alloc, class, j),
-        Sight::Key(number) => told_key(rt, alloc, class, number),
+        Sight::TailKey(seg, j) => text_of_tail_key(rt, alloc, class, seg, j),
+        Sight::Passed(j) => text_of_passed(rt, alloc, class, j),
+        Sight::Key(number) => text_of_key(rt, alloc, class, number),
         _ => some_text(rt, alloc, number_of(class, sight)),
     }
 }
@@ -254,7 +254,7 @@ fn act_reserved<R: Abort>(rt: &R, alloc: Global, class: &mut ClassState, deed: D
 }
 
 // What a row does that tells a number.
-fn told_number<R: Abort>(rt: &R, alloc: Global, class: &mut ClassState, ask: Ask) -> u64 {
+fn answered_number<R: Abort>(rt: &R, alloc: Global, class: &mut ClassState, ask: Ask) -> u64 {
     match ask {
         Ask::Do(deed) => act(rt, alloc, class, deed),
         Ask::Reserved(deed) => act_reserved(rt, alloc, class, deed),
@@ -270,19 +270,19 @@ fn told_number<R: Abort>(rt: &R, alloc: Global, class: &mut ClassState, ask: Ask
 // What a row does, and what it tells.
 fn tell<R: Abort>(rt: &R, alloc: Global, class: &mut ClassState, ask: Ask) -> String {
     match ask {
-        Ask::Survey(moment) => told_survey(rt, alloc, class, moment),
+        Ask::Survey(moment) => text_of_survey(rt, alloc, class, moment),
         Ask::SurveyReserved(moment) => survey_text(rt, alloc, survey_reserved(rt, class, moment)),
-        Ask::Surveys(surveys) => told_surveys(rt, alloc, class, surveys),
+        Ask::Surveys(surveys) => text_of_surveys(rt, alloc, class, surveys),
         Ask::Reserve(events) => room_text(rt, alloc, class.reserve(events)),
         Ask::See(sight) => look(rt, alloc, class, sight),
-        _ => number_text(rt, alloc, told_number(rt, alloc, class, ask)),
+        _ => number_text(rt, alloc, answered_number(rt, alloc, class, ask)),
     }
 }
 
 // Ends the test where a row tells something else.
 fn check_row<R: Abort>(rt: &R, alloc: Global, class: &mut ClassState, row: &Row, place: usize) {
-    let told = tell(rt, alloc, class, row.0);
-    same(rt, told.as_str(), row.1, place);
+    let got = tell(rt, alloc, class, row.0);
+    same(rt, got.as_str(), row.1, place);
 }
 
 fn check_rows<R: Abort>(rt: &R, alloc: Global, class: &mut ClassState, rows: &[Row]) {

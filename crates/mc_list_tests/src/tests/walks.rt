@@ -49,7 +49,7 @@ static BY_NUMBER: [Row; 10] = [
 ];
 
 #[test]
-fn an_entry_is_told_by_its_number(rt: HostRuntime) -> Result<(), Fail> {
+fn an_entry_has_its_number(rt: HostRuntime) -> Result<(), Fail> {
     play(&rt, rt.alloc(), of(2, 16), BY_NUMBER.as_slice())
 }
 

@@ -1,5 +1,5 @@
 //! The moments of upkeep: which texts are a list of them, and of which.
-use super::plans::{NONE, options_of, same, told_fault, told_words_fault};
+use super::plans::{NONE, options_of, same, text_of_fault, text_of_words_fault};
 use mc_options::{plan_for, read_words};
 use std::alloc::Global;
 use std::process::Abort;
@@ -32,24 +32,24 @@ static MOMENTS: [(&str, &str); 24] = [
     ("now", "List"),
 ];
 
-fn told_moments(rt: &impl Abort, alloc: Global, moments: &[u64]) -> String {
+fn text_of_moments(rt: &impl Abort, alloc: Global, moments: &[u64]) -> String {
     format!(in alloc; "{moments:?}").expect(rt, "memory")
 }
 
 // The moments of a text as an option, or the fault.
-fn told_option(rt: &impl Abort, alloc: Global, text: &str) -> String {
+fn text_of_option(rt: &impl Abort, alloc: Global, text: &str) -> String {
     match plan_for(alloc, None, Some(text.as_bytes()), options_of(NONE)) {
-        Ok(plan) => told_moments(rt, alloc, plan.upkeep.as_slice()),
-        Err(fault) => told_fault(rt, alloc, fault),
+        Ok(plan) => text_of_moments(rt, alloc, plan.upkeep.as_slice()),
+        Err(fault) => text_of_fault(rt, alloc, fault),
     }
 }
 
 // The moments of a word behind the program's name, or the fault.
-fn told_word(rt: &impl Abort, alloc: Global, word: &str) -> String {
+fn text_of_word(rt: &impl Abort, alloc: Global, word: &str) -> String {
     let words = ["mcseg", word];
     match read_words(alloc, words.as_slice()) {
-        Ok(plan) => told_moments(rt, alloc, plan.upkeep.as_slice()),
-        Err(fault) => told_words_fault(rt, alloc, &fault),
+        Ok(plan) => text_of_moments(rt, alloc, plan.upkeep.as_slice()),
+        Err(fault) => text_of_words_fault(rt, alloc, &fault),
     }
 }
 
@@ -59,10 +59,10 @@ fn word_of(rt: &impl Abort, alloc: Global, text: &str) -> String {
 }
 
 fn check_text(rt: &impl Abort, alloc: Global, text: &str, wanted: &str, place: usize) {
-    let by_option = told_option(rt, alloc, text);
+    let by_option = text_of_option(rt, alloc, text);
     same(rt, by_option.as_str(), wanted, place);
     let word = word_of(rt, alloc, text);
-    let by_word = told_word(rt, alloc, word.as_str());
+    let by_word = text_of_word(rt, alloc, word.as_str());
     same(rt, by_word.as_str(), wanted, place);
 }
 

@@ -172,7 +172,7 @@ pub(super) fn options_of(given: Given) -> Options {
 }
 
 // The sizes of the classes.
-fn told_sizes(rt: &impl Abort, alloc: Global, sizes: &[u64]) -> String {
+fn text_of_sizes(rt: &impl Abort, alloc: Global, sizes: &[u64]) -> String {
     if sizes == USUAL.as_slice() {
         format!(in alloc; "usual").expect(rt, "memory")
     } else {
@@ -181,7 +181,7 @@ fn told_sizes(rt: &impl Abort, alloc: Global, sizes: &[u64]) -> String {
 }
 
 // How many classes have a limit of chunks, and which one all of them have.
-fn told_chunks(rt: &impl Abort, alloc: Global, chunks: &[u64]) -> String {
+fn text_of_chunks(rt: &impl Abort, alloc: Global, chunks: &[u64]) -> String {
     let count = chunks.len();
     let limit = chunks.first().copied().unwrap_or(0);
     if chunks.iter().all(|other| *other == limit) {
@@ -192,7 +192,7 @@ fn told_chunks(rt: &impl Abort, alloc: Global, chunks: &[u64]) -> String {
 }
 
 // Callers, percents, factors and upkeep, in any case.
-fn told_others(rt: &impl Abort, alloc: Global, config: &Config, upkeep: &[u64]) -> String {
+fn text_of_others(rt: &impl Abort, alloc: Global, config: &Config, upkeep: &[u64]) -> String {
     let callers = config.callers;
     let (hot, warm) = (config.hot_percent, config.warm_percent);
     let (hotter, warmer) = (config.hot_factor, config.warm_factor);
@@ -202,8 +202,8 @@ fn told_others(rt: &impl Abort, alloc: Global, config: &Config, upkeep: &[u64]) 
 }
 
 // The same where they aren't the usual ones.
-fn told_rest(rt: &impl Abort, alloc: Global, plan: &Plan) -> String {
-    let rest = told_others(rt, alloc, &plan.config, plan.upkeep.as_slice());
+fn text_of_rest(rt: &impl Abort, alloc: Global, plan: &Plan) -> String {
+    let rest = text_of_others(rt, alloc, &plan.config, plan.upkeep.as_slice());
     if rest.as_str() == USUAL_REST {
         String::new(alloc)
     } else {
@@ -211,33 +211,33 @@ fn told_rest(rt: &impl Abort, alloc: Global, plan: &Plan) -> String {
     }
 }
 
-fn told_temp(temp: bool) -> &'static str {
+fn text_of_temp(temp: bool) -> &'static str {
     if temp { "temp" } else { "no temp" }
 }
 
-fn told_kept(kept: bool) -> &'static str {
+fn text_of_kept(kept: bool) -> &'static str {
     if kept { "kept" } else { "let go" }
 }
 
 // What a plan has.
-fn told_plan(rt: &impl Abort, alloc: Global, plan: &Plan) -> String {
+fn text_of_plan(rt: &impl Abort, alloc: Global, plan: &Plan) -> String {
     let config = &plan.config;
-    let sizes = told_sizes(rt, alloc, config.sizes.as_slice());
-    let chunks = told_chunks(rt, alloc, config.chunks.as_slice());
-    let temp = told_temp(config.temp);
-    let rest = told_rest(rt, alloc, plan);
+    let sizes = text_of_sizes(rt, alloc, config.sizes.as_slice());
+    let chunks = text_of_chunks(rt, alloc, config.chunks.as_slice());
+    let temp = text_of_temp(config.temp);
+    let rest = text_of_rest(rt, alloc, plan);
     let (stripes, life, events) = (config.stripes, config.temp_ttl, config.max_events);
-    let kept = told_kept(config.keeps_events);
+    let kept = text_of_kept(config.keeps_events);
     format!(in alloc;
         "{stripes} stripes, sizes {sizes}, {chunks} chunks, {temp} {life}, {events} events {kept}{rest}"
     ).expect(rt, "memory")
 }
 
 // The plan of options, or its fault.
-fn told_options(rt: &impl Abort, alloc: Global, sizes: Option<&[u8]>, given: Given) -> String {
+fn text_of_options(rt: &impl Abort, alloc: Global, sizes: Option<&[u8]>, given: Given) -> String {
     match plan_for(alloc, sizes, None, options_of(given)) {
-        Ok(plan) => told_plan(rt, alloc, &plan),
-        Err(fault) => told_fault(rt, alloc, fault),
+        Ok(plan) => text_of_plan(rt, alloc, &plan),
+        Err(fault) => text_of_fault(rt, alloc, fault),
     }
 }
 
@@ -252,39 +252,39 @@ fn fault_of(fault: &WordsFault) -> Option<PlanFault> {
 }
 
 /// What is wrong with options.
-pub(super) fn told_fault(rt: &impl Abort, alloc: Global, fault: PlanFault) -> String {
+pub(super) fn text_of_fault(rt: &impl Abort, alloc: Global, fault: PlanFault) -> String {
     format!(in alloc; "{fault:?}").expect(rt, "memory")
 }
 
-fn told_refusal(rt: &impl Abort, alloc: Global) -> String {
+fn text_of_refusal(rt: &impl Abort, alloc: Global) -> String {
     format!(in alloc; "Words").expect(rt, "memory")
 }
 
 /// What is wrong with words.
-pub(super) fn told_words_fault(rt: &impl Abort, alloc: Global, fault: &WordsFault) -> String {
+pub(super) fn text_of_words_fault(rt: &impl Abort, alloc: Global, fault: &WordsFault) -> String {
     match fault_of(fault) {
-        Some(fault) => told_fault(rt, alloc, fault),
-        None => told_refusal(rt, alloc),
+        Some(fault) => text_of_fault(rt, alloc, fault),
+        None => text_of_refusal(rt, alloc),
     }
 }
 
 // The plan of words, or what is wrong with them.
-fn told_words(rt: &impl Abort, alloc: Global, words: &[&str]) -> String {
+fn text_of_words(rt: &impl Abort, alloc: Global, words: &[&str]) -> String {
     match read_words(alloc, words) {
-        Ok(plan) => told_plan(rt, alloc, &plan),
-        Err(fault) => told_words_fault(rt, alloc, &fault),
+        Ok(plan) => text_of_plan(rt, alloc, &plan),
+        Err(fault) => text_of_words_fault(rt, alloc, &fault),
     }
 }
 
 /// Ends the test where a row tells something else.
-pub(super) fn same(rt: &impl Abort, told: &str, wanted: &str, place: usize) {
-    assert_eq!(rt; told, wanted, "at row {place}");
+pub(super) fn same(rt: &impl Abort, got: &str, wanted: &str, place: usize) {
+    assert_eq!(rt; got, wanted, "at row {place}");
 }
 
 fn check_row(rt: &impl Abort, alloc: Global, row: &Row, place: usize) {
-    let by_options = told_options(rt, alloc, row.0, row.1);
+    let by_options = text_of_options(rt, alloc, row.0, row.1);
     same(rt, by_options.as_str(), row.3, place);
-    let by_words = told_words(rt, alloc, row.2);
+    let by_words = text_of_words(rt, alloc, row.2);
     same(rt, by_words.as_str(), row.3, place);
 }
 
@@ -314,8 +314,8 @@ static REFUSED: [&[&str]; 11] = [
 ];
 
 fn check_refused(rt: &impl Abort, alloc: Global, words: &[&str], place: usize) {
-    let told = told_words(rt, alloc, words);
-    same(rt, told.as_str(), "Words", place);
+    let got = text_of_words(rt, alloc, words);
+    same(rt, got.as_str(), "Words", place);
 }
 
 fn check_all_refused(rt: &impl Abort, alloc: Global, rows: &[&[&str]]) {

@@ -29,8 +29,8 @@ pub(super) fn last_value(rt: &impl Abort, alloc: Global, bytes: &[u8]) -> Reply 
 }
 
 fn check_reply(rt: &impl Abort, alloc: Global, reply: &Reply, want: &[u8]) {
-    let told = reply_text(alloc, reply).expect(rt, "memory");
-    same(rt, told.as_slice(), want, "of length", want.len());
+    let got = reply_text(alloc, reply).expect(rt, "memory");
+    same(rt, got.as_slice(), want, "of length", want.len());
 }
 
 #[test]
@@ -80,8 +80,8 @@ static FAULTS: [(LineFault, &[u8]); 6] = [
 ];
 
 fn check_fault(rt: &impl Abort, alloc: Global, why: LineFault, want: &[u8], place: usize) {
-    let told = fault_text(alloc, why).expect(rt, "memory");
-    same(rt, told.as_slice(), want, "at row", place);
+    let got = fault_text(alloc, why).expect(rt, "memory");
+    same(rt, got.as_slice(), want, "at row", place);
 }
 
 #[test]
@@ -108,8 +108,8 @@ fn a_fault_is_added_behind_other_text(rt: HostRuntime) {
 
 fn check_value(rt: &impl Abort, alloc: Global, reply: &Reply, with_cas: bool, want: &[u8]) {
     let key = key(rt, alloc, b"k");
-    let told = value_text(alloc, &key, reply, with_cas).expect(rt, "memory");
-    same(rt, told.as_slice(), want, "of length", want.len());
+    let got = value_text(alloc, &key, reply, with_cas).expect(rt, "memory");
+    same(rt, got.as_slice(), want, "of length", want.len());
 }
 
 #[test]
@@ -220,8 +220,8 @@ static MOVES: Moves = Moves {
 
 #[test]
 fn upkeep(rt: HostRuntime) {
-    let told = moves_text(rt.alloc(), &MOVES).expect(&rt, "memory");
-    same(&rt, told.as_slice(), b"JUGGLED 3 500\r\n", "moves", 0);
+    let got = moves_text(rt.alloc(), &MOVES).expect(&rt, "memory");
+    same(&rt, got.as_slice(), b"JUGGLED 3 500\r\n", "moves", 0);
     let mut out = Vec::new(rt.alloc());
     end(&rt, &mut out);
     push_moves(&mut out, &MOVES).expect(&rt, "memory");
@@ -229,8 +229,8 @@ fn upkeep(rt: HostRuntime) {
 }
 
 fn check_histogram(rt: &impl Abort, alloc: Global, counts: &Histogram, want: &[u8]) {
-    let told = histogram_text(alloc, counts).expect(rt, "memory");
-    same(rt, told.as_slice(), want, "of length", want.len());
+    let got = histogram_text(alloc, counts).expect(rt, "memory");
+    same(rt, got.as_slice(), want, "of length", want.len());
 }
 
 fn fill(counts: &mut Histogram) {

@@ -86,10 +86,10 @@ fn wanted(most: usize) -> &'static [u8] {
 fn check_little(rt: &impl Abort, alloc: Global, most: usize) {
     let mut sink = new_sink(rt, alloc, most);
     let written = write_reply(&mut sink, b"STORED\r\n");
-    let mut told = Vec::new(alloc);
-    push_written(rt, &mut told, written.is_ok());
-    text(rt, &mut told, sink.taken.as_slice());
-    same(rt, told.as_slice(), wanted(most), "at most", most);
+    let mut got = Vec::new(alloc);
+    push_written(rt, &mut got, written.is_ok());
+    text(rt, &mut got, sink.taken.as_slice());
+    same(rt, got.as_slice(), wanted(most), "at most", most);
 }
 
 #[test]
@@ -109,10 +109,10 @@ fn check_whole(rt: &impl Abort, alloc: Global, most: usize) {
     let mut reply = ReplyText::new(alloc);
     reply.push_reply(&Reply::Stored).expect(rt, "memory");
     let written = write_whole(&mut sink, &mut reply).is_ok();
-    let mut told = Vec::new(alloc);
-    push_written(rt, &mut told, written);
-    text(rt, &mut told, sink.taken.as_slice());
-    same(rt, told.as_slice(), wanted(most), "at most", most);
+    let mut got = Vec::new(alloc);
+    push_written(rt, &mut got, written);
+    text(rt, &mut got, sink.taken.as_slice());
+    same(rt, got.as_slice(), wanted(most), "at most", most);
     check_empty(rt, written, reply.len());
 }
 

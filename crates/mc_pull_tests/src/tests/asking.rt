@@ -2,7 +2,7 @@
 ghost use Rattle.std.specs.Prelude.{OnOk};
 ghost use Rattle.mc_pull_tests.specs.Met.{AreMet};
 
-use super::seeing::{Seen, tell_seen, told_class, told_stripe};
+use super::seeing::{Seen, tell_seen, text_of_class, text_of_stripe};
 use super::trying::{Lend, Pair, opened, tell_command};
 use mc_item::{Command, StripeNo, Verb};
 use mc_pull::{Judge, Lone, settle};
@@ -179,21 +179,21 @@ fn check_row<R: Abort>(rt: &R, pair: &mut Pair, row: &Row, place: usize) -> Resu
     ensures met { OnOk result (AreMet pair.new.config pair.new.stripe pair.new.first pair.new.second) }
 {
     let before = lengths(pair);
-    let told = tell_asked(pair, row.0, row.1)?;
-    assert_eq!(rt; told.as_str(), row.2, "at row {place}");
-    let first = told_class(pair.alloc, &pair.first, before[0])?;
+    let got = tell_asked(pair, row.0, row.1)?;
+    assert_eq!(rt; got.as_str(), row.2, "at row {place}");
+    let first = text_of_class(pair.alloc, &pair.first, before[0])?;
     assert_eq!(rt;
         first.as_str(),
         row.3[0],
         "of the first class at row {place}"
     );
-    let second = told_class(pair.alloc, &pair.second, before[1])?;
+    let second = text_of_class(pair.alloc, &pair.second, before[1])?;
     assert_eq!(rt;
         second.as_str(),
         row.3[1],
         "of the second class at row {place}"
     );
-    let stripe = told_stripe(pair.alloc, &pair.stripe, before[2])?;
+    let stripe = text_of_stripe(pair.alloc, &pair.stripe, before[2])?;
     assert_eq!(rt; stripe.as_str(), row.3[2], "of the stripe at row {place}");
     Ok(())
 }

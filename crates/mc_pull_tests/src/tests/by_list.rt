@@ -112,7 +112,7 @@ fn room(world: &mut World, moment: u64, yes: &[bool]) -> Result<(bool, usize), F
 }
 
 // How many entries a walk has met.
-fn told_pulled(alloc: Global, pulled: Option<Pulled>) -> Result<String, Fail> {
+fn text_of_pulled(alloc: Global, pulled: Option<Pulled>) -> Result<String, Fail> {
     let Some(pulled) = pulled else {
         return Ok(format!(in alloc; "may not be pulled")?);
     };
@@ -123,12 +123,12 @@ fn told_pulled(alloc: Global, pulled: Option<Pulled>) -> Result<String, Fail> {
     )?)
 }
 
-fn told_room(alloc: Global, told: (bool, usize)) -> Result<String, Fail> {
-    let (found, looks) = told;
+fn text_of_room(alloc: Global, got: (bool, usize)) -> Result<String, Fail> {
+    let (found, looks) = got;
     Ok(format!(in alloc; "{found} after {looks}")?)
 }
 
-fn told_juggled(world: &mut World, moment: u64) -> Result<String, Fail> {
+fn text_of_juggled(world: &mut World, moment: u64) -> Result<String, Fail> {
     let moves = juggle(world, moment)?;
     Ok(format!(in world.alloc; "{} reclaimed, {} moved", moves.reclaimed, moves.moved)?)
 }
@@ -137,11 +137,11 @@ fn told_juggled(world: &mut World, moment: u64) -> Result<String, Fail> {
 pub(super) fn tell_walked(world: &mut World, walked: Walked) -> Result<String, Fail> {
     let alloc = world.alloc;
     match walked {
-        Walked::Juggle(moment) => told_juggled(world, moment),
-        Walked::Evict(moment, yes) => told_pulled(alloc, evict(world, moment, yes)?),
+        Walked::Juggle(moment) => text_of_juggled(world, moment),
+        Walked::Evict(moment, yes) => text_of_pulled(alloc, evict(world, moment, yes)?),
         Walked::Force(moment, yes) => {
-            told_pulled(alloc, walk(world, Seg::Hot, Mode::Force, moment, yes)?)
+            text_of_pulled(alloc, walk(world, Seg::Hot, Mode::Force, moment, yes)?)
         }
-        Walked::Room(moment, yes) => told_room(alloc, room(world, moment, yes)?),
+        Walked::Room(moment, yes) => text_of_room(alloc, room(world, moment, yes)?),
     }
 }

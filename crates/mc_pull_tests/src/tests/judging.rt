@@ -110,7 +110,7 @@ fn ask_tail(world: &mut World, moment: u64) -> Result<Option<Done>, Fault> {
 }
 
 // The text of an outcome.
-fn told_done(alloc: Global, done: Result<Option<Done>, Fault>) -> Result<String, Fail> {
+fn text_of_done(alloc: Global, done: Result<Option<Done>, Fault>) -> Result<String, Fail> {
     match done {
         Ok(Some(done)) => Ok(format!(in alloc; "{done:?}")?),
         Ok(None) => Ok(format!(in alloc; "no tail")?),
@@ -119,7 +119,7 @@ fn told_done(alloc: Global, done: Result<Option<Done>, Fault>) -> Result<String,
 }
 
 // A command on the stripe alone.
-fn told_ask(world: &mut World, command: Command) -> Result<String, Fail> {
+fn text_of_ask(world: &mut World, command: Command) -> Result<String, Fail> {
     ask(world, command, 1000)?;
     Ok(format!(in world.alloc; "asked")?)
 }
@@ -128,12 +128,12 @@ fn told_ask(world: &mut World, command: Command) -> Result<String, Fail> {
 pub(super) fn tell_judged(world: &mut World, judged: Judged) -> Result<String, Fail> {
     let alloc = world.alloc;
     match judged {
-        Judged::Tail(seg, moment) => told_done(alloc, judge_tail(world, seg, moment)),
-        Judged::IsDead(moment) => told_done(alloc, ask_tail(world, moment)),
-        Judged::Get(letter) => told_ask(world, Command::Get(key(alloc, letter)?)),
-        Judged::Delete(letter) => told_ask(world, Command::Delete(key(alloc, letter)?)),
+        Judged::Tail(seg, moment) => text_of_done(alloc, judge_tail(world, seg, moment)),
+        Judged::IsDead(moment) => text_of_done(alloc, ask_tail(world, moment)),
+        Judged::Get(letter) => text_of_ask(world, Command::Get(key(alloc, letter)?)),
+        Judged::Delete(letter) => text_of_ask(world, Command::Delete(key(alloc, letter)?)),
         Judged::Set(letter) => {
-            told_ask(world, storage(alloc, Verb::Set, letter, 0, 0, &[letter])?)
+            text_of_ask(world, storage(alloc, Verb::Set, letter, 0, 0, &[letter])?)
         }
     }
 }

@@ -10,7 +10,7 @@ pub enum Way {
     Force,
 }
 
-/// The rows of the table, and an entry whose item is gone. A move to COLD by a survey is told apart by its cause, and
+/// The rows of the table, and an entry whose item is gone. A move to COLD by a survey is got apart by its cause, and
 /// what a survey leaves there by whether its bytes are just the limit, or its age is just the greatest.
 #[derive(Clone, Copy, Debug, PartialEq, Eq)]
 pub enum Row {
@@ -46,7 +46,7 @@ pub(super) fn due_row(bytes: u128, limit: u128, age: u128, greatest_age: u128) -
 }
 
 /// The first row that fits an entry whose item is there, if a list is judged in this way at all. What becomes of an
-/// entry of HOT or WARM that is not active is told by a survey.
+/// entry of HOT or WARM that is not active is got by a survey.
 pub(super) fn row_of(seg: Seg, way: Way, dead: bool, active: bool, due: Row) -> Option<Row> {
     match (seg, way, dead, active) {
         (_, _, true, _) => Some(Row::Dead),

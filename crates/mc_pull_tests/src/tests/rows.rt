@@ -59,7 +59,7 @@ pub(super) static SIX_AND_FIVE_DIE: [Row; 7] = [
     (Ask::Walk(Walked::Juggle(1000)), "0 reclaimed, 5 moved"),
 ];
 
-fn told_store(world: &mut World, letter: u8, exptime: i64, moment: u64) -> Result<String, Fail> {
+fn text_of_store(world: &mut World, letter: u8, exptime: i64, moment: u64) -> Result<String, Fail> {
     store(world, letter, exptime, moment)?;
     Ok(format!(in world.alloc; "stored")?)
 }
@@ -67,7 +67,7 @@ fn told_store(world: &mut World, letter: u8, exptime: i64, moment: u64) -> Resul
 // What a row does, and what it tells.
 fn tell(world: &mut World, ask: Ask) -> Result<String, Fail> {
     match ask {
-        Ask::Store(letter, exptime, moment) => told_store(world, letter, exptime, moment),
+        Ask::Store(letter, exptime, moment) => text_of_store(world, letter, exptime, moment),
         Ask::Walk(walked) => tell_walked(world, walked),
         Ask::Judge(judged) => tell_judged(world, judged),
         Ask::See(seen) => tell_seen(world.alloc, &world.class, &world.stripe, seen),
@@ -76,8 +76,8 @@ fn tell(world: &mut World, ask: Ask) -> Result<String, Fail> {
 
 // Ends the test where a row tells something else.
 fn check_row<R: Abort>(rt: &R, world: &mut World, row: &Row, place: usize) -> Result<(), Fail> {
-    let told = tell(world, row.0)?;
-    assert_eq!(rt; told.as_str(), row.1, "at row {place}");
+    let got = tell(world, row.0)?;
+    assert_eq!(rt; got.as_str(), row.1, "at row {place}");
     Ok(())
 }
 

@@ -51,7 +51,7 @@ pub(super) fn last_event(class: &ClassState) -> Option<&ClassEvent> {
 }
 
 // What an event of a class says.
-fn told_event(alloc: Global, event: &ClassEvent) -> Result<String, Fail> {
+fn text_of_event(alloc: Global, event: &ClassEvent) -> Result<String, Fail> {
     match event {
         ClassEvent::Linked(e) => Ok(format!(in alloc; "links {}", e.number)?),
         ClassEvent::Unlinked(e) => Ok(format!(in alloc; "unlinks {}", e.number)?),
@@ -71,15 +71,15 @@ fn told_event(alloc: Global, event: &ClassEvent) -> Result<String, Fail> {
 }
 
 // The same of an event that may be absent.
-fn told_if(alloc: Global, event: Option<&ClassEvent>) -> Result<String, Fail> {
+fn text_of_if(alloc: Global, event: Option<&ClassEvent>) -> Result<String, Fail> {
     match event {
-        Some(event) => told_event(alloc, event),
+        Some(event) => text_of_event(alloc, event),
         None => Ok(format!(in alloc; "no event")?),
     }
 }
 
 // What the loss of an item says.
-fn told_loss(alloc: Global, lost: &Lost) -> Result<String, Fail> {
+fn text_of_loss(alloc: Global, lost: &Lost) -> Result<String, Fail> {
     let key = lost.key.bytes();
     match lost.cause {
         Cause::Expired(moment) => Ok(format!(in alloc; "loses {key:?} dead at {moment}")?),
@@ -90,9 +90,9 @@ fn told_loss(alloc: Global, lost: &Lost) -> Result<String, Fail> {
 }
 
 // What an event of a stripe says.
-fn told_item_event(alloc: Global, event: &StripeEvent) -> Result<String, Fail> {
+fn text_of_item_event(alloc: Global, event: &StripeEvent) -> Result<String, Fail> {
     match event {
-        StripeEvent::Lost(lost) => told_loss(alloc, lost),
+        StripeEvent::Lost(lost) => text_of_loss(alloc, lost),
         StripeEvent::Cooled(e) => Ok(format!(in alloc; "cools {:?}", e.key.bytes())?),
         StripeEvent::Did(_) => Ok(format!(in alloc; "does")?),
     }
@@ -101,62 +101,62 @@ fn told_item_event(alloc: Global, event: &StripeEvent) -> Result<String, Fail> {
 // What a stripe's last event says.
 fn last_of_stripe(alloc: Global, stripe: &StripeState) -> Result<String, Fail> {
     match last_in(stripe.history()) {
-        Some(last) => told_item_event(alloc, last),
+        Some(last) => text_of_item_event(alloc, last),
         None => Ok(format!(in alloc; "no event")?),
     }
 }
 
 /// The events of a class from a place on.
-pub(super) fn told_class(alloc: Global, class: &ClassState, from: usize) -> Result<String, Fail> {
-    let mut told = format!(in alloc; "")?;
+pub(super) fn text_of_class(alloc: Global, class: &ClassState, from: usize) -> Result<String, Fail> {
+    let mut got = format!(in alloc; "")?;
     for place in from..class.history().len() {
-        let event = told_if(alloc, class.history().get(place))?;
-        told = format!(in alloc; "{told}[{event}]")?;
+        let event = text_of_if(alloc, class.history().get(place))?;
+        got = format!(in alloc; "{got}[{event}]")?;
     }
-    Ok(told)
+    Ok(got)
 }
 
 /// Those of a stripe.
-pub(super) fn told_stripe(
+pub(super) fn text_of_stripe(
     alloc: Global,
     stripe: &StripeState,
     from: usize,
 ) -> Result<String, Fail> {
-    let mut told = format!(in alloc; "")?;
+    let mut got = format!(in alloc; "")?;
     for place in from..stripe.history().len() {
         if let Some(event) = stripe.history().get(place) {
-            let event = told_item_event(alloc, event)?;
-            told = format!(in alloc; "{told}[{event}]")?;
+            let event = text_of_item_event(alloc, event)?;
+            got = format!(in alloc; "{got}[{event}]")?;
         }
     }
-    Ok(told)
+    Ok(got)
 }
 
-fn told_lengths(alloc: Global, class: &ClassState, stripe: &StripeState) -> Result<String, Fail> {
+fn text_of_lengths(alloc: Global, class: &ClassState, stripe: &StripeState) -> Result<String, Fail> {
     let (class, stripe) = events(class, stripe);
     Ok(format!(in alloc; "{class} {stripe}")?)
 }
 
-fn told_list(alloc: Global, class: &ClassState, seg: Seg) -> Result<String, Fail> {
+fn text_of_list(alloc: Global, class: &ClassState, seg: Seg) -> Result<String, Fail> {
     let numbers = numbers(alloc, class, seg)?;
     Ok(format!(in alloc; "{:?}", numbers.as_slice())?)
 }
 
-fn told_time(alloc: Global, class: &ClassState, number: u64) -> Result<String, Fail> {
+fn text_of_time(alloc: Global, class: &ClassState, number: u64) -> Result<String, Fail> {
     match class.entry(number) {
         Some(entry) => Ok(format!(in alloc; "{}", entry.time)?),
         None => Ok(format!(in alloc; "no entry")?),
     }
 }
 
-fn told_item(alloc: Global, stripe: &StripeState, letter: u8) -> Result<String, Fail> {
+fn text_of_item(alloc: Global, stripe: &StripeState, letter: u8) -> Result<String, Fail> {
     let key = key(alloc, letter)?;
-    let told = if stripe.find(&key).is_none() {
+    let got = if stripe.find(&key).is_none() {
         "absent"
     } else {
         "there"
     };
-    Ok(format!(in alloc; "{told}")?)
+    Ok(format!(in alloc; "{got}")?)
 }
 
 /// What is seen of a class and its stripe.
@@ -167,11 +167,11 @@ pub(super) fn tell_seen(
     seen: Seen,
 ) -> Result<String, Fail> {
     match seen {
-        Seen::Lengths => told_lengths(alloc, class, stripe),
-        Seen::List(seg) => told_list(alloc, class, seg),
-        Seen::Time(number) => told_time(alloc, class, number),
-        Seen::Item(letter) => told_item(alloc, stripe, letter),
-        Seen::LastOfClass => told_if(alloc, last_event(class)),
+        Seen::Lengths => text_of_lengths(alloc, class, stripe),
+        Seen::List(seg) => text_of_list(alloc, class, seg),
+        Seen::Time(number) => text_of_time(alloc, class, number),
+        Seen::Item(letter) => text_of_item(alloc, stripe, letter),
+        Seen::LastOfClass => text_of_if(alloc, last_event(class)),
         Seen::LastOfStripe => last_of_stripe(alloc, stripe),
     }
 }

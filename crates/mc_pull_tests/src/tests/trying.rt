@@ -165,16 +165,16 @@ fn try_lent(
     }
 }
 
-fn told_reply(alloc: Global, reply: Reply) -> Result<String, Fail> {
+fn text_of_reply(alloc: Global, reply: Reply) -> Result<String, Fail> {
     match reply {
         Reply::Value { .. } => Ok(format!(in alloc; "a value")?),
         reply => Ok(format!(in alloc; "{reply:?}")?),
     }
 }
 
-fn told_tried(alloc: Global, tried: Result<Tried, Fault>) -> Result<String, Fail> {
+fn text_of_tried(alloc: Global, tried: Result<Tried, Fault>) -> Result<String, Fail> {
     match tried {
-        Ok(Tried::Made(reply)) => told_reply(alloc, reply),
+        Ok(Tried::Made(reply)) => text_of_reply(alloc, reply),
         Ok(Tried::Wants(want)) => Ok(format!(in alloc; "{want:?}")?),
         Err(fault) => Ok(format!(in alloc; "{fault:?}")?),
     }
@@ -202,5 +202,5 @@ pub(super) fn tell_command(
     ready(&mut pair.first)?;
     ready(&mut pair.second)?;
     let tried = try_lent(pair, command, lend, turn, refused);
-    told_tried(pair.alloc, tried)
+    text_of_tried(pair.alloc, tried)
 }

@@ -1,4 +1,4 @@
-//! Walks and rounds along lists of six items, by the answers that a gate is told to give.
+//! Walks and rounds along lists of six items, by the answers that a gate is got to give.
 use super::by_list::Walked::{Evict, Force, Room};
 use super::by_list::{evict, pull};
 use super::rows::Ask::{See, Walk};
@@ -183,8 +183,8 @@ fn plain_walk(yes: [bool; 5]) -> (u64, u64, u64) {
 fn check_walk<R: Abort>(rt: &R, world: &mut World, digits: u32) -> Result<(), Fail> {
     let yes = pattern(digits);
     let pulled = evict(world, 1000, &yes)?.expect(rt, "a walk");
-    let told = (pulled.evicted, pulled.passed, world.class.count());
-    assert_eq!(rt; told, plain_walk(yes), "at {digits}");
+    let got = (pulled.evicted, pulled.passed, world.class.count());
+    assert_eq!(rt; got, plain_walk(yes), "at {digits}");
     assert_eq!(rt; (pulled.reclaimed, pulled.moved), (0, 0), "at {digits}");
     Ok(())
 }

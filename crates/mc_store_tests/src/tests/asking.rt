@@ -135,7 +135,7 @@ fn shown_item<R: Abort>(rt: &R, alloc: Global, flags: u32, bytes: &[u8]) -> Stri
 }
 
 /// The reply in one line: of an item its flags and its value.
-pub(super) fn told<R: Abort>(rt: &R, alloc: Global, reply: &Reply) -> String {
+pub(super) fn text_of_reply<R: Abort>(rt: &R, alloc: Global, reply: &Reply) -> String {
     match reply {
         Reply::Value { flags, value, .. } => shown_item(rt, alloc, *flags, value.bytes()),
         other => format!(in alloc; "{other:?}").expect(rt, "a line"),
@@ -143,7 +143,7 @@ pub(super) fn told<R: Abort>(rt: &R, alloc: Global, reply: &Reply) -> String {
 }
 
 /// An item's value, or `-` where there is none.
-pub(super) fn told_value<R: Abort>(rt: &R, alloc: Global, reply: &Reply) -> String {
+pub(super) fn text_of_value<R: Abort>(rt: &R, alloc: Global, reply: &Reply) -> String {
     match reply {
         Reply::Value { value, .. } => text_of(rt, alloc, value.bytes()),
         _ => owned(rt, alloc, "-"),

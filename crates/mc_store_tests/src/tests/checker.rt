@@ -77,7 +77,7 @@ fn is_refused(ledger: &Final, room: Room) -> bool
 }
 
 // Whether an item may go for a cause: where its chunk was taken, the event that is cited says so.
-fn is_told(alloc: Global, ledger: &Final, cause: Cause) -> bool
+fn has_event(alloc: Global, ledger: &Final, cause: Cause) -> bool
     requires { length ledger.now.classes ≡ 2 }
 {
     match cause {
@@ -95,11 +95,11 @@ fn check_lost<R: Abort>(rt: &R, alloc: Global, ledger: &Final, plain: &mut Plain
     requires { length ledger.now.classes ≡ 2 }
 {
     assert!(rt; plain.lose(lost.key.bytes(), lost.cause));
-    assert!(rt; is_told(alloc, ledger, lost.cause));
+    assert!(rt; has_event(alloc, ledger, lost.cause));
 }
 
 // Ends the test where an answered command's reply isn't that of the plain memcached.
-fn check_told<R: Abort>(rt: &R, alloc: Global, did: &Did, wanted: &Reply) {
+fn check_reply<R: Abort>(rt: &R, alloc: Global, did: &Did, wanted: &Reply) {
     let reply = shown(rt, alloc, &did.reply);
     let wanted = shown(rt, alloc, wanted);
     assert_eq!(rt; reply.as_str(), wanted.as_str(), "to {:?}", did.command);
@@ -113,7 +113,7 @@ fn check_reply<R: Abort>(rt: &R, alloc: Global, ledger: &Final, plain: &mut Plai
     let wanted = plain
         .answer(&did.command, did.moment, refused)
         .expect(rt, "memory");
-    check_told(rt, alloc, did, &wanted);
+    check_reply(rt, alloc, did, &wanted);
 }
 
 // Ends the test where an event of a stripe's history isn't one that may happen to the plain memcached, or an answered

@@ -2,7 +2,7 @@
 ghost use Rattle.std.specs.Prelude.{◌≡◌, ◌≤◌, ◌<◌, length};
 ghost use Rattle.mc_store_tests.specs.Opening.{AreParts};
 
-use super::asking::{self, Ask, command_of, told, told_value};
+use super::asking::{self, Ask, command_of, text_of_reply, text_of_value};
 use super::ends::{Ended, check_ends};
 use super::opening::{Parts, Shape, compare_all, opened, parts_for, shape_of};
 use mc_item::{ClassNo, Config, Reply, StripeNo, Who};
@@ -68,7 +68,7 @@ fn reply_to<N: Named, R: Abort + Wait>(
     reply
 }
 
-// What is told of a command.
+// What is got of a command.
 fn replied<N: Named, R: Abort + Wait>(
     rt: &R,
     alloc: Global,
@@ -80,10 +80,10 @@ fn replied<N: Named, R: Abort + Wait>(
     shown: &mut u64,
 ) -> String {
     let reply = reply_to(rt, alloc, store, pass, moment, letter, what, shown);
-    told(rt, alloc, &reply)
+    text_of_reply(rt, alloc, &reply)
 }
 
-// What is told of a key's value.
+// What is got of a key's value.
 fn value_of<N: Named, R: Abort + Wait>(
     rt: &R,
     alloc: Global,
@@ -94,10 +94,10 @@ fn value_of<N: Named, R: Abort + Wait>(
 ) -> String {
     let command = command_of(rt, alloc, letter, Ask::Get, 0);
     let reply = asking::answer(rt, alloc, store, pass, command, moment);
-    told_value(rt, alloc, &reply)
+    text_of_value(rt, alloc, &reply)
 }
 
-// What is told of a class that is juggled.
+// What is got of a class that is juggled.
 fn juggled<N: Named, R: Abort + Wait>(
     rt: &R,
     alloc: Global,
@@ -114,7 +114,7 @@ fn juggled<N: Named, R: Abort + Wait>(
     format!(in alloc; "reclaimed {}, moved {}", moves.reclaimed, moves.moved).expect(rt, "a text")
 }
 
-// What is told of a class that is crawled.
+// What is got of a class that is crawled.
 fn crawled<N: Named, R: Abort + Wait>(
     rt: &R,
     alloc: Global,

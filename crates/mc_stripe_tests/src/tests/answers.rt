@@ -3,10 +3,10 @@
 //! those of its value; class 1 has 66 bytes, class 2 has 70.
 use super::Asked::{Decr, Delete, Get, Huge, Incr, StoreUntil, Touch};
 use super::calls::asserts_owned;
-use super::plain::{text, told_item};
+use super::plain::{text, text_of_item};
 use super::trying::Held::{Both, Home, Nothing, Other};
 use super::trying::Lent::{Link, Refusal};
-use super::trying::{Held, events, given_of, opened, told_try};
+use super::trying::{Held, events, given_of, opened, text_of_try};
 use super::wants::{Told, check_want};
 use super::{Asked, WHO, value};
 use mc_item::{ClassNo, Command, Key, Verb};
@@ -316,10 +316,10 @@ fn set<R: Abort>(
     };
     asserts_owned(rt, stripe, &command, 1000);
     assert!(rt; may_give(given, stripe.history()));
-    let told = stripe
+    let got = stripe
         .attempt(&command, turn, &given)
         .expect(rt, "no fault");
-    assert!(rt; told.is_ok());
+    assert!(rt; got.is_ok());
 }
 
 // Stripe 1 of 4 after five versions: the second is of the key `b`, where an item is there, and the others are of the key `f`.
@@ -334,7 +334,7 @@ fn begun<R: Abort + RandomSource>(rt: &R, alloc: Global, there: There) -> Stripe
         set(rt, alloc, &mut stripe, b"f", 0, "1");
     }
     if let Some((_, true)) = there {
-        let _hit = told_try(rt, alloc, &mut stripe, WHO, Get, 1000, Nothing);
+        let _hit = text_of_try(rt, alloc, &mut stripe, WHO, Get, 1000, Nothing);
     }
     stripe
 }
@@ -344,16 +344,16 @@ fn answer_text<R: Abort>(
     rt: &R,
     alloc: Global,
     stripe: &StripeState,
-    told: &Told,
+    got: &Told,
     before: &str,
 ) -> String {
-    let now = told_item(rt, alloc, stripe);
+    let now = text_of_item(rt, alloc, stripe);
     let left = if now.as_str() == before && before != "none" {
         "the same"
     } else {
         now.as_str()
     };
-    match told {
+    match got {
         Ok(Ok(done)) => format!(in alloc; "{:?}; {left}", done.reply).expect(rt, "a text"),
         Ok(Err(_)) | Err(_) => text(rt, alloc, "not made"),
     }
@@ -363,13 +363,13 @@ fn answer_text<R: Abort>(
 fn check_row<R: Abort + RandomSource>(rt: &R, alloc: Global, row: &Row, place: usize) {
     let (there, asked, held, classes, wanted) = *row;
     let mut stripe = begun(rt, alloc, there);
-    let before = told_item(rt, alloc, &stripe);
+    let before = text_of_item(rt, alloc, &stripe);
     if classes != NOTHING {
-        let told = told_try(rt, alloc, &mut stripe, WHO, asked, 1000, Nothing);
-        check_want(rt, &told, Want::Classes(classes));
+        let got = text_of_try(rt, alloc, &mut stripe, WHO, asked, 1000, Nothing);
+        check_want(rt, &got, Want::Classes(classes));
     }
-    let told = told_try(rt, alloc, &mut stripe, WHO, asked, 1000, held);
-    let answer = answer_text(rt, alloc, &stripe, &told, before.as_str());
+    let got = text_of_try(rt, alloc, &mut stripe, WHO, asked, 1000, held);
+    let answer = answer_text(rt, alloc, &stripe, &got, before.as_str());
     assert_eq!(rt; answer.as_str(), wanted, "at row {place}");
 }
 

@@ -5,7 +5,7 @@ ghost use Rattle.mc_stripe.specs.StripeState.{cache_now};
 
 use super::noted::reply_in;
 use super::plain::{classes_of, reply_text, text};
-use super::trying::{Held, Lent, held_for, told_try, want_text, woken};
+use super::trying::{Held, Lent, held_for, text_of_try, want_text, woken};
 use super::{Asked, WHO, b, command_of};
 use mc_item::{ClassNo, Command, Fault, Key, Link, Verb, Who};
 use mc_stripe::{Done, Fate, Given, Other, StripeState, Turn, Want};
@@ -24,7 +24,7 @@ pub(super) fn asserts_owned<R: Abort>(rt: &R, stripe: &StripeState, command: &Co
 
 /// The reply to a caller's command, which is given all that it may want; or what is wanted, or the fault. A class gives the
 /// link that has the number of the event; where it is full, a refusal.
-pub(super) fn told_reply<R: Abort>(
+pub(super) fn text_of_reply<R: Abort>(
     rt: &R,
     alloc: Global,
     stripe: &mut StripeState,
@@ -35,7 +35,7 @@ pub(super) fn told_reply<R: Abort>(
 ) -> String {
     let lent = if full { Lent::Refusal } else { Lent::Link };
     let held = held_for(rt, alloc, stripe, asked, lent);
-    match told_try(rt, alloc, stripe, who, asked, moment, held) {
+    match text_of_try(rt, alloc, stripe, who, asked, moment, held) {
         Ok(Ok(done)) => reply_text(rt, alloc, &done.reply),
         Ok(Err(want)) => want_text(rt, alloc, want),
         Err(fault) => fault_text(rt, alloc, fault),
@@ -48,7 +48,7 @@ pub(super) fn fault_text<R: Abort>(rt: &R, alloc: Global, fault: Fault) -> Strin
 }
 
 /// The reply that the last event notes.
-pub(super) fn told_last<R: Abort>(rt: &R, alloc: Global, stripe: &StripeState) -> String {
+pub(super) fn text_of_last<R: Abort>(rt: &R, alloc: Global, stripe: &StripeState) -> String {
     let history = stripe.history();
     match history.get(history.len().saturating_sub(1)) {
         Some(event) => reply_in(rt, alloc, event),
@@ -70,10 +70,10 @@ fn link_text<R: Abort>(rt: &R, alloc: Global, link: Option<Link>) -> String {
 fn unheld_text<R: Abort>(
     rt: &R,
     alloc: Global,
-    told: &Result<Result<Done, Want>, Fault>,
+    got: &Result<Result<Done, Want>, Fault>,
     last: &str,
 ) -> String {
-    match told {
+    match got {
         Ok(Ok(done)) => reply_text(rt, alloc, &done.reply),
         Ok(Err(_)) => format!(in alloc; "given back after {last}").expect(rt, "a text"),
         Err(fault) => fault_text(rt, alloc, *fault),
@@ -81,20 +81,20 @@ fn unheld_text<R: Abort>(
 }
 
 /// The reply to a command that is given nothing; or that it was given back, and the last reply; or the fault.
-pub(super) fn told_unheld<R: Abort>(
+pub(super) fn text_of_unheld<R: Abort>(
     rt: &R,
     alloc: Global,
     stripe: &mut StripeState,
     asked: Asked,
     moment: u64,
 ) -> String {
-    let told = told_try(rt, alloc, stripe, WHO, asked, moment, Held::Nothing);
-    let last = told_last(rt, alloc, stripe);
-    unheld_text(rt, alloc, &told, last.as_str())
+    let got = text_of_try(rt, alloc, stripe, WHO, asked, moment, Held::Nothing);
+    let last = text_of_last(rt, alloc, stripe);
+    unheld_text(rt, alloc, &got, last.as_str())
 }
 
 /// The link of the item that a hit at a moment would wake.
-pub(super) fn told_woken<R: Abort>(
+pub(super) fn text_of_woken<R: Abort>(
     rt: &R,
     alloc: Global,
     stripe: &StripeState,
@@ -112,8 +112,8 @@ fn replaced(fate: Fate) -> Option<Link> {
 }
 
 // What comes of a set.
-fn set_text<R: Abort>(rt: &R, alloc: Global, told: &Result<Result<Done, Want>, Fault>) -> String {
-    match told {
+fn set_text<R: Abort>(rt: &R, alloc: Global, got: &Result<Result<Done, Want>, Fault>) -> String {
+    match got {
         Ok(Ok(done)) => link_text(rt, alloc, replaced(done.fate)),
         Ok(Err(_)) => text(rt, alloc, "given back"),
         Err(fault) => fault_text(rt, alloc, *fault),
@@ -122,7 +122,7 @@ fn set_text<R: Abort>(rt: &R, alloc: Global, told: &Result<Result<Done, Want>, F
 
 /// Sets the key `b` to a text, where just the class of the new version is held, which gives the link that has the number of
 /// the event. Tells the link that was replaced, or that the command was given back; or the fault.
-pub(super) fn told_set<R: Abort>(
+pub(super) fn text_of_set<R: Abort>(
     rt: &R,
     alloc: Global,
     stripe: &mut StripeState,
@@ -133,8 +133,8 @@ pub(super) fn told_set<R: Abort>(
     let command = command_of(rt, alloc, asked);
     let class = classes_of(stripe, &command).home.expect(rt, "a class");
     let held = Held::Home(class.0, Lent::Link, 2);
-    let told = told_try(rt, alloc, stripe, WHO, asked, moment, held);
-    set_text(rt, alloc, &told)
+    let got = text_of_try(rt, alloc, stripe, WHO, asked, moment, held);
+    set_text(rt, alloc, &got)
 }
 
 // Whether the key's item has the mark ACTIVE.

@@ -2,7 +2,7 @@
 //! each try is held against the plain program of the table.
 use super::Asked::{Decr, Delete, Get, Huge, Incr, Store, StoreUntil, Touch};
 use super::calls::expire;
-use super::trying::{Held, Lent, held_of, opened, told_try};
+use super::trying::{Held, Lent, held_of, opened, text_of_try};
 use super::{Asked, WHO};
 use mc_item::Verb;
 use mc_stripe::{StripeState, Want};
@@ -82,7 +82,7 @@ fn makes<R: Abort>(
 ) -> bool {
     let mut held = Held::Nothing;
     for _ in 0..7 {
-        match told_try(rt, alloc, stripe, WHO, asked, moment, held) {
+        match text_of_try(rt, alloc, stripe, WHO, asked, moment, held) {
             Ok(Ok(_)) => return true,
             Ok(Err(want)) => {
                 if let Want::Burial(_) = want {

@@ -52,7 +52,7 @@ pub(super) fn reply_in<R: Abort>(rt: &R, alloc: Global, event: &StripeEvent) -> 
 }
 
 /// The event at a place of the history, in short.
-pub(super) fn told_event<R: Abort>(
+pub(super) fn text_of_event<R: Abort>(
     rt: &R,
     alloc: Global,
     stripe: &StripeState,

@@ -14,8 +14,8 @@ use std::alloc::Global;
 use std::process::Abort;
 
 /// A text of its own.
-pub(super) fn text<R: Abort>(rt: &R, alloc: Global, told: &str) -> String {
-    format!(in alloc; "{told}").expect(rt, "a text")
+pub(super) fn text<R: Abort>(rt: &R, alloc: Global, got: &str) -> String {
+    format!(in alloc; "{got}").expect(rt, "a text")
 }
 
 // An item's text, where there is one.
@@ -27,7 +27,7 @@ fn item_text<R: Abort>(rt: &R, alloc: Global, found: Option<&Item>) -> String {
 }
 
 /// The text of the item under the key `b`.
-pub(super) fn told_item<R: Abort>(rt: &R, alloc: Global, stripe: &StripeState) -> String {
+pub(super) fn text_of_item<R: Abort>(rt: &R, alloc: Global, stripe: &StripeState) -> String {
     let key = b(rt, alloc);
     item_text(rt, alloc, stripe.find(&key))
 }

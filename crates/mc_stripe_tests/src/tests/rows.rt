@@ -1,10 +1,10 @@
 //! A test of stripe 1 of 4 is a list of rows: what is done or looked at, and what it tells.
 use super::calls::{
-    cool, cools_without_memory, expire, is_b_active, is_dead_at, take, told_last, told_reply,
-    told_set, told_unheld, told_woken,
+    cool, cools_without_memory, expire, is_b_active, is_dead_at, take, text_of_last, text_of_reply,
+    text_of_set, text_of_unheld, text_of_woken,
 };
-use super::noted::told_event;
-use super::plain::{text, told_item};
+use super::noted::text_of_event;
+use super::plain::{text, text_of_item};
 use super::trying::opened;
 use super::{Asked, WHO};
 use mc_item::{Key, Who};
@@ -71,7 +71,7 @@ fn nine(turn: u32) -> Who {
 }
 
 // The reply to a command of caller 9 in a turn.
-fn told_turn<R: Abort>(
+fn text_of_turn<R: Abort>(
     rt: &R,
     alloc: Global,
     stripe: &mut StripeState,
@@ -80,7 +80,7 @@ fn told_turn<R: Abort>(
     full: bool,
 ) -> String {
     let moment = 1000 + u64::from(turn);
-    told_reply(rt, alloc, stripe, nine(turn), asked, moment, full)
+    text_of_reply(rt, alloc, stripe, nine(turn), asked, moment, full)
 }
 
 fn number_text<R: Abort>(rt: &R, alloc: Global, number: u64) -> String {
@@ -92,18 +92,18 @@ fn truth<R: Abort>(rt: &R, alloc: Global, holds: bool) -> String {
 }
 
 // How many of so many gets missed.
-fn told_misses<R: Abort>(rt: &R, alloc: Global, stripe: &mut StripeState, gets: u32) -> String {
+fn text_of_misses<R: Abort>(rt: &R, alloc: Global, stripe: &mut StripeState, gets: u32) -> String {
     let mut misses = 0u64;
     for _i in 0..gets {
-        let told = told_reply(rt, alloc, stripe, WHO, Asked::Get, 1000, false);
-        if told.as_str() == "Miss" {
+        let got = text_of_reply(rt, alloc, stripe, WHO, Asked::Get, 1000, false);
+        if got.as_str() == "Miss" {
             misses = misses.saturating_add(1);
         }
     }
     number_text(rt, alloc, misses)
 }
 
-fn told_room<R: Abort>(rt: &R, alloc: Global, stripe: &mut StripeState, events: usize) -> String {
+fn text_of_room<R: Abort>(rt: &R, alloc: Global, stripe: &mut StripeState, events: usize) -> String {
     let made = stripe.reserve(events);
     format!(in alloc; "{made:?}").expect(rt, "a text")
 }
@@ -119,9 +119,9 @@ fn look<R: Abort>(rt: &R, alloc: Global, stripe: &StripeState, ask: Ask) -> Stri
         Ask::Dead(moment) => truth(rt, alloc, is_dead_at(rt, alloc, stripe, moment)),
         Ask::Active => truth(rt, alloc, is_b_active(rt, alloc, stripe)),
         Ask::Owns(letter) => truth(rt, alloc, owns(rt, alloc, stripe, letter)),
-        Ask::Item => told_item(rt, alloc, stripe),
-        Ask::Last => told_last(rt, alloc, stripe),
-        Ask::Event(place) => told_event(rt, alloc, stripe, place),
+        Ask::Item => text_of_item(rt, alloc, stripe),
+        Ask::Last => text_of_last(rt, alloc, stripe),
+        Ask::Event(place) => text_of_event(rt, alloc, stripe, place),
         Ask::Events => number_text(rt, alloc, stripe.history().len() as u64),
         Ask::Number => number_text(rt, alloc, u64::from(stripe.number().0)),
         _ => text(rt, alloc, "no look"),
@@ -131,7 +131,7 @@ fn look<R: Abort>(rt: &R, alloc: Global, stripe: &StripeState, ask: Ask) -> Stri
 // What an upkeep of the stripe tells.
 fn keep_up<R: Abort>(rt: &R, alloc: Global, stripe: &mut StripeState, ask: Ask) -> String {
     match ask {
-        Ask::Reserve(events) => told_room(rt, alloc, stripe, events),
+        Ask::Reserve(events) => text_of_room(rt, alloc, stripe, events),
         Ask::GetAndCool => text(rt, alloc, cools_without_memory(rt, alloc, stripe)),
         Ask::Cool(turn) => {
             cool(rt, alloc, stripe, nine(turn));
@@ -152,26 +152,26 @@ fn keep_up<R: Abort>(rt: &R, alloc: Global, stripe: &mut StripeState, ask: Ask) 
 // What a row does, and what it tells.
 fn tell<R: Abort>(rt: &R, alloc: Global, stripe: &mut StripeState, ask: Ask) -> String {
     match ask {
-        Ask::Answer(asked) => told_reply(rt, alloc, stripe, WHO, asked, 1000, false),
-        Ask::Full(asked) => told_reply(rt, alloc, stripe, WHO, asked, 1000, true),
-        Ask::Turn(turn, asked) => told_turn(rt, alloc, stripe, turn, asked, false),
-        Ask::FullTurn(turn, asked) => told_turn(rt, alloc, stripe, turn, asked, true),
-        Ask::Misses(gets) => told_misses(rt, alloc, stripe, gets),
-        Ask::Unheld(asked, moment) => told_unheld(rt, alloc, stripe, asked, moment),
-        Ask::Woken(moment) => told_woken(rt, alloc, stripe, moment),
-        Ask::Set(set, moment) => told_set(rt, alloc, stripe, set, moment),
+        Ask::Answer(asked) => text_of_reply(rt, alloc, stripe, WHO, asked, 1000, false),
+        Ask::Full(asked) => text_of_reply(rt, alloc, stripe, WHO, asked, 1000, true),
+        Ask::Turn(turn, asked) => text_of_turn(rt, alloc, stripe, turn, asked, false),
+        Ask::FullTurn(turn, asked) => text_of_turn(rt, alloc, stripe, turn, asked, true),
+        Ask::Misses(gets) => text_of_misses(rt, alloc, stripe, gets),
+        Ask::Unheld(asked, moment) => text_of_unheld(rt, alloc, stripe, asked, moment),
+        Ask::Woken(moment) => text_of_woken(rt, alloc, stripe, moment),
+        Ask::Set(set, moment) => text_of_set(rt, alloc, stripe, set, moment),
         _ => keep_up(rt, alloc, stripe, ask),
     }
 }
 
-fn same<R: Abort>(rt: &R, told: &str, wanted: &str, place: usize) {
-    assert_eq!(rt; told, wanted, "at row {place}");
+fn same<R: Abort>(rt: &R, got: &str, wanted: &str, place: usize) {
+    assert_eq!(rt; got, wanted, "at row {place}");
 }
 
 // Ends the test where a row tells something else.
 fn check_row<R: Abort>(rt: &R, alloc: Global, stripe: &mut StripeState, row: &Row, place: usize) {
-    let told = tell(rt, alloc, stripe, row.0);
-    same(rt, told.as_str(), row.1, place);
+    let got = tell(rt, alloc, stripe, row.0);
+    same(rt, got.as_str(), row.1, place);
 }
 
 /// Ends the test where a row tells something else.

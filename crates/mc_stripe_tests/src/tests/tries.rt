@@ -345,9 +345,9 @@ static ALL: [Asked; 12] = [
 ];
 
 // Ends the test where a command that is given all it may need tells something else at this moment.
-fn check_all<R: Abort>(rt: &R, alloc: Global, stripe: &mut StripeState, moment: u64, told: Told) {
+fn check_all<R: Abort>(rt: &R, alloc: Global, stripe: &mut StripeState, moment: u64, got: Told) {
     for asked in ALL.as_slice() {
-        let rows = [(*asked, Both(1, Chunk, 9, 1, 9), told)];
+        let rows = [(*asked, Both(1, Chunk, 9, 1, 9), got)];
         check_tries(rt, alloc, stripe, moment, rows.as_slice());
     }
 }
@@ -395,16 +395,16 @@ static HIT_AGAIN: [Row; 1] = [(Touch(100), Other(1, 0), Made("Touched", Keep, Wo
 #[test]
 fn the_second_hit_of_a_live_item_wakes_it(rt: HostRuntime) {
     let mut stripe = opened(&rt, rt.alloc());
-    let mut told = [None; 5];
-    told[0] = woken(&rt, rt.alloc(), &stripe, 1000);
+    let mut got = [None; 5];
+    got[0] = woken(&rt, rt.alloc(), &stripe, 1000);
     check_tries(&rt, rt.alloc(), &mut stripe, 1000, DIES.as_slice());
-    told[1] = woken(&rt, rt.alloc(), &stripe, 1000);
+    got[1] = woken(&rt, rt.alloc(), &stripe, 1000);
     check_tries(&rt, rt.alloc(), &mut stripe, 1000, HIT.as_slice());
-    told[2] = woken(&rt, rt.alloc(), &stripe, 1099);
-    told[3] = woken(&rt, rt.alloc(), &stripe, 1100);
+    got[2] = woken(&rt, rt.alloc(), &stripe, 1099);
+    got[3] = woken(&rt, rt.alloc(), &stripe, 1100);
     check_tries(&rt, rt.alloc(), &mut stripe, 1000, HIT_AGAIN.as_slice());
-    told[4] = woken(&rt, rt.alloc(), &stripe, 1000);
-    assert_eq!(rt; told, [None, None, Some(OLD), None, None]);
+    got[4] = woken(&rt, rt.alloc(), &stripe, 1000);
+    assert_eq!(rt; got, [None, None, Some(OLD), None, None]);
 }
 
 static MISSES: [Row; 16] = [MISS; 16];

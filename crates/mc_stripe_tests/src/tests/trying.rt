@@ -1,7 +1,7 @@
 //! Tries of commands on stripe 1 of 4, each of which is held against the plain program of the table.
 use super::calls::{asserts_owned, fault_text};
-use super::noted::{did_text, told_event};
-use super::plain::{Plain, by_table, classes_of, reply_text, text, told_item};
+use super::noted::{did_text, text_of_event};
+use super::plain::{Plain, by_table, classes_of, reply_text, text, text_of_item};
 use super::{Asked, WHO, b, checked, command_of, four_stripes};
 use mc_item::{ClassNo, Command, Fault, Link, Room, StripeNo, Who};
 use mc_stripe::{Classes, Done, Fate, Given, Home, Other, StripeState, Turn, Want};
@@ -121,7 +121,7 @@ pub(super) fn held_for<R: Abort>(
 // The text of the last event, where there is one.
 fn last_text<R: Abort>(rt: &R, alloc: Global, stripe: &StripeState) -> String {
     match stripe.history().len().checked_sub(1) {
-        Some(place) => told_event(rt, alloc, stripe, place),
+        Some(place) => text_of_event(rt, alloc, stripe, place),
         None => text(rt, alloc, "none"),
     }
 }
@@ -138,7 +138,7 @@ fn texts_of<R: Abort>(rt: &R, alloc: Global, stripe: &StripeState) -> Texts {
     Texts {
         events: events(stripe),
         last: last_text(rt, alloc, stripe),
-        item: told_item(rt, alloc, stripe),
+        item: text_of_item(rt, alloc, stripe),
     }
 }
 
@@ -151,9 +151,9 @@ fn check_texts<R: Abort>(rt: &R, texts: &Texts, events: u64, last: &str, item: &
 
 // Ends the test where a command did something else than by the plain program.
 fn check_made<R: Abort>(rt: &R, alloc: Global, plain: &Plain, done: &Done) {
-    let told = reply_text(rt, alloc, &done.reply);
+    let got = reply_text(rt, alloc, &done.reply);
     let wanted = reply_text(rt, alloc, &plain.did.reply);
-    assert_eq!(rt; told.as_str(), wanted.as_str());
+    assert_eq!(rt; got.as_str(), wanted.as_str());
     assert_eq!(rt; done.room, plain.did.room);
     assert_eq!(rt; done.fate, plain.fate);
 }
@@ -166,9 +166,9 @@ fn check_try<R: Abort>(
     before: &Texts,
     now: &Texts,
     plain: &Plain,
-    told: &Result<Result<Done, Want>, Fault>,
+    got: &Result<Result<Done, Want>, Fault>,
 ) {
-    match told {
+    match got {
         Ok(Ok(done)) => {
             check_made(rt, alloc, plain, done);
             let event = did_text(rt, alloc, &plain.did);
@@ -188,7 +188,7 @@ fn check_try<R: Abort>(
 }
 
 /// What the try of a caller's command tells, which is held against the plain program.
-pub(super) fn told_try<R: Abort>(
+pub(super) fn text_of_try<R: Abort>(
     rt: &R,
     alloc: Global,
     stripe: &mut StripeState,
@@ -204,10 +204,10 @@ pub(super) fn told_try<R: Abort>(
     let same = command_of(rt, alloc, asked);
     let plain = by_table(rt, alloc, stripe, who, same, moment, given);
     let before = texts_of(rt, alloc, stripe);
-    let told = stripe.attempt(&command, Turn { who, moment }, &given);
+    let got = stripe.attempt(&command, Turn { who, moment }, &given);
     let now = texts_of(rt, alloc, stripe);
-    check_try(rt, alloc, &before, &now, &plain, &told);
-    told
+    check_try(rt, alloc, &before, &now, &plain, &got);
+    got
 }
 
 // What became of a command with this reply, which took this room.
@@ -221,8 +221,8 @@ pub(super) fn want_text<R: Abort>(rt: &R, alloc: Global, want: Want) -> String {
 }
 
 // The text of what a try tells.
-fn told_text<R: Abort>(rt: &R, alloc: Global, told: &Result<Result<Done, Want>, Fault>) -> String {
-    match told {
+fn text_of_text<R: Abort>(rt: &R, alloc: Global, got: &Result<Result<Done, Want>, Fault>) -> String {
+    match got {
         Ok(Ok(done)) => {
             let reply = reply_text(rt, alloc, &done.reply);
             made_text(rt, alloc, reply.as_str(), done.room, done.fate)
@@ -241,8 +241,8 @@ fn class_in(held: Held) -> u32 {
 }
 
 // The text of what the try of this event is to tell.
-fn wanted_text<R: Abort>(rt: &R, alloc: Global, told: Told, held: Held, number: u64) -> String {
-    match told {
+fn wanted_text<R: Abort>(rt: &R, alloc: Global, got: Told, held: Held, number: u64) -> String {
+    match got {
         Told::Made(reply, lent, fate) => {
             let room = room_of(class_in(held), lent, number);
             made_text(rt, alloc, reply, room, fate)
@@ -260,10 +260,10 @@ fn row_texts<R: Abort>(
     moment: u64,
     row: Row,
 ) -> (String, String) {
-    let (asked, held, told) = row;
-    let wanted = wanted_text(rt, alloc, told, held, events(stripe));
-    let told = told_try(rt, alloc, stripe, WHO, asked, moment, held);
-    (told_text(rt, alloc, &told), wanted)
+    let (asked, held, got) = row;
+    let wanted = wanted_text(rt, alloc, got, held, events(stripe));
+    let got = text_of_try(rt, alloc, stripe, WHO, asked, moment, held);
+    (text_of_text(rt, alloc, &got), wanted)
 }
 
 /// Ends the test where a row tells something else at this moment.
@@ -275,8 +275,8 @@ pub(super) fn check_tries<R: Abort>(
     rows: &[Row],
 ) {
     for (place, row) in rows.iter().enumerate() {
-        let (told, wanted) = row_texts(rt, alloc, stripe, moment, *row);
-        assert_eq!(rt; told.as_str(), wanted.as_str(), "at row {place}");
+        let (got, wanted) = row_texts(rt, alloc, stripe, moment, *row);
+        assert_eq!(rt; got.as_str(), wanted.as_str(), "at row {place}");
     }
 }
 

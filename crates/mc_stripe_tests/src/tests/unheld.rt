@@ -76,7 +76,7 @@ static TOLD: [Row; 11] = [
 ];
 
 #[test]
-fn of_an_item_that_a_hit_would_wake_the_link_is_told(rt: HostRuntime) {
+fn a_hit_that_would_wake_names_the_link(rt: HostRuntime) {
     play(&rt, rt.alloc(), TOLD.as_slice());
 }
 

@@ -6,7 +6,7 @@ use super::plain::need_of;
 use super::rows::Ask::{Answer, Events};
 use super::rows::check_rows;
 use super::tries::{GROWN, NEW_1, NEW_2, OLD, OVER_1, OVER_2};
-use super::trying::{Held, Lent, held_of, opened, told_try};
+use super::trying::{Held, Lent, held_of, opened, text_of_try};
 use super::{Asked, WHO, command_of, rows};
 use mc_item::Need::{Fresh, Nothing, Same, TooLarge};
 use mc_item::{ClassNo, Fault, Link, Need, Verb};
@@ -123,8 +123,8 @@ fn begun<R: Abort + RandomSource>(
     let mut stripe = opened(rt, alloc);
     check_rows(rt, alloc, &mut stripe, rows);
     if let Some(link) = dead {
-        let told = told_try(rt, alloc, &mut stripe, WHO, asked, moment, Held::Nothing);
-        check_want(rt, &told, Want::Burial(link));
+        let got = text_of_try(rt, alloc, &mut stripe, WHO, asked, moment, Held::Nothing);
+        check_want(rt, &got, Want::Burial(link));
         expire(rt, alloc, &mut stripe, WHO, moment);
     }
     stripe
@@ -133,16 +133,16 @@ fn begun<R: Abort + RandomSource>(
 pub(super) type Told = Result<Result<Done, Want>, Fault>;
 
 /// Ends the test where something else is wanted.
-pub(super) fn check_want<R: Abort>(rt: &R, told: &Told, wanted: Want) {
-    match told {
+pub(super) fn check_want<R: Abort>(rt: &R, got: &Told, wanted: Want) {
+    match got {
         Ok(Err(want)) => assert_eq!(rt; *want, wanted),
         Ok(Ok(_)) | Err(_) => assert!(rt; false, "{wanted:?} should be wanted"),
     }
 }
 
 // Ends the test where something else becomes of chunks.
-fn check_fate<R: Abort>(rt: &R, told: &Told, fate: Fate) {
-    match told {
+fn check_fate<R: Abort>(rt: &R, got: &Told, fate: Fate) {
+    match got {
         Ok(Ok(done)) => assert_eq!(rt; done.fate, fate),
         Ok(Err(_)) | Err(_) => assert!(rt; false, "{fate:?} should become of chunks"),
     }
@@ -162,12 +162,12 @@ fn check_lent<R: Abort + RandomSource>(
     assert_eq!(rt; need_of(&stripe, &command_of(rt, alloc, asked)), need);
     let classes = classes_in(row);
     if classes.home.is_some() || classes.other.is_some() {
-        let told = told_try(rt, alloc, &mut stripe, WHO, asked, state.1, Held::Nothing);
-        check_want(rt, &told, Want::Classes(classes));
+        let got = text_of_try(rt, alloc, &mut stripe, WHO, asked, state.1, Held::Nothing);
+        check_want(rt, &got, Want::Classes(classes));
     }
     let held = held_of(classes, lent, 2);
-    let told = told_try(rt, alloc, &mut stripe, WHO, asked, state.1, held);
-    check_fate(rt, &told, fate);
+    let got = text_of_try(rt, alloc, &mut stripe, WHO, asked, state.1, held);
+    check_fate(rt, &got, fate);
 }
 
 // Ends the test where a command wants or does something else.

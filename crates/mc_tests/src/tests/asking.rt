@@ -235,12 +235,12 @@ static ROWS: [Row; 9] = [
     },
 ];
 
-fn same_outcome<R: Abort>(rt: &R, told: Outcome, wanted: Outcome, place: usize) {
-    assert_eq!(rt; told, wanted, "at row {place}");
+fn same_outcome<R: Abort>(rt: &R, got: Outcome, wanted: Outcome, place: usize) {
+    assert_eq!(rt; got, wanted, "at row {place}");
 }
 
-fn same_counts<R: Abort>(rt: &R, told: &[usize], wanted: &[usize], place: usize) {
-    assert_eq!(rt; told, wanted, "at row {place}");
+fn same_counts<R: Abort>(rt: &R, got: &[usize], wanted: &[usize], place: usize) {
+    assert_eq!(rt; got, wanted, "at row {place}");
 }
 
 fn asserts_asked<R: Abort>(rt: &R, asked: &Asked, row: &Row, place: usize) {

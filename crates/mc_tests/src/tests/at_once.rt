@@ -140,7 +140,7 @@ fn meeting_scripts<'a, R: Abort>(
     scripts
 }
 
-fn asserts_told<R: Abort>(rt: &R, ends: &[(Meeting<'_>, Told<'_, R>)], output: &[u8]) {
+fn asserts_replies<R: Abort>(rt: &R, ends: &[(Meeting<'_>, Told<'_, R>)], output: &[u8]) {
     for end in ends {
         assert_eq!(rt; end.1.kept.little.bytes.as_slice(), output);
     }
@@ -156,7 +156,7 @@ fn two_scripts_run_at_once(rt: HostRuntime) {
     let scripts = meeting_scripts(&rt, rt.alloc(), input.as_slice(), &one, &two);
     let run = run_of(&rt, rt.alloc(), config, scripts, &[]);
     asserts_outcomes(&rt, run.outcomes.as_slice(), &[Outcome::Done; 4]);
-    asserts_told(&rt, run.ends.as_slice(), output.as_slice());
+    asserts_replies(&rt, run.ends.as_slice(), output.as_slice());
 }
 
 // So many scripts of the same bytes. The first read of one of them fails, if its number is one of theirs.

@@ -43,8 +43,8 @@ pub(super) fn run_one<R: Abort + RandomSource + Threads + Wait + Sync>(
     }
 }
 
-fn same_outcome<R: Abort>(rt: &R, told: Outcome, case: &Case<'_>, place: usize) {
-    assert_eq!(rt; told, case.outcome, "{}, at {place}", case.name);
+fn same_outcome<R: Abort>(rt: &R, got: Outcome, case: &Case<'_>, place: usize) {
+    assert_eq!(rt; got, case.outcome, "{}, at {place}", case.name);
 }
 
 /// Asserts that a script ends as it is wanted to, and that all its output comes.

@@ -1,5 +1,5 @@
 use Rattle.mc_pull.specs.Walker.{walker_of}
-use Rattle.mc_pull.proofs.LoneLemmas.{walked_itself}
+use Rattle.mc_pull.proofs.OneStripeGateLemmas.{walked_itself}
 use Rattle.mc_crawl.proofs.lone.crawl_lone.Goals as goal
 
 pub returns-clause-walked : goal.returns-clause-walked

@@ -2,7 +2,7 @@ use Rattle.std.proofs.Common.{◌≡◌, ◌++◌, List, length, arith, ap, ◌�
 use Rattle.mc_item.specs.declared.item.Link.{Link}
 use Rattle.mc_item.specs.declared.lists.Seg.TheVariants.{Hot, Warm, Cold, Temp}
 use Rattle.mc_crawl.specs.Snapshot.{links_in, links_of}
-use Rattle.mc_crawl.proofs.FewLemmas.{links_few}
+use Rattle.mc_crawl.proofs.EntryCountLemmas.{links_few}
 use Rattle.mc_crawl.proofs.snapping.snapshot.Goals as goal
 
 pub returns-clause-few : goal.returns-clause-few

@@ -1,6 +1,6 @@
 use denote.Exit.{no}
 use denote.Param.Send.{arg_send, param_send}
-use Rattle.mc_driver.proofs.SendLemmas.{job_send}
+use Rattle.mc_driver.proofs.SendJobLemmas.{job_send}
 use Rattle.mc_driver.proofs.jobs.run_jobs.Goals as goal
 
 pub for_each_mut-requires-send-T : goal.for_each_mut-requires-send-T

@@ -1,7 +1,7 @@
 use Rattle.std.proofs.Common.{◌≡◌, inr, subst, arith}
 use Rattle.std.specs.{List.All, List.flat_map, Io.KnownBytes.Appends}
 use Rattle.mc_script.specs.declared.outcome.Outcome.TheVariants.{Done}
-use Rattle.mc_proto.specs.Gathered.{bytes_of}
+use Rattle.mc_proto.specs.Gathered.{bytes_of_parts}
 use Rattle.mc_item.proofs.ConfigLemmas.{bounded}
 use Rattle.mc_driver.specs.{Input.IsRunOf, Status.IsFirstFault}
 use Rattle.mc_driver.proofs.StatusLemmas.{told_not_two, told_small, unrun_for_number}
@@ -11,14 +11,14 @@ pub returns-clause-done : goal.returns-clause-done
 returns-clause-done g c = λ zero.
     let input = flat_map (λ v. v.items) c.args.input.items in
     let run = c.in-Ok.run' in
-    let printed = flat_map (λ end. bytes_of end.1.pieces.items) run.ends.items in
+    let printed = flat_map (λ end. bytes_of_parts end.1.pieces.items) run.ends.items in
     record {
       printed = printed;
       ended = run.outcomes.items;
       final = run.ledger;
       run = subst (λ moments. IsRunOf c.args.plan.config moments input printed run.outcomes.items run.ledger) c.as_slice-upkeep.ensures c.in-Ok.ensures.ok;
       done = subst (All (λ outcome. outcome ≡ Done)) c.as_slice-2.ensures.value (c.say_outcomes-status.ensures.done zero);
-      written = subst (λ ends. Appends (g.W.Write.contents c.args.writer.now) (g.W.Write.contents c.print_scripts.new.writer) (flat_map (λ end. bytes_of end.1.pieces.items) ends)) c.as_slice.ensures.value c.in-Ok-print_scripts.ensures;
+      written = subst (λ ends. Appends (g.W.Write.contents c.args.writer.now) (g.W.Write.contents c.print_scripts.new.writer) (flat_map (λ end. bytes_of_parts end.1.pieces.items) ends)) c.as_slice.ensures.value c.in-Ok-print_scripts.ensures;
     }
 
 pub run_cut-requires-clause-bounded : goal.run_cut-requires-clause-bounded
@@ -33,7 +33,7 @@ pub returns-clause-broken : goal.returns-clause-broken
 returns-clause-broken g c = λ one.
     let input = flat_map (λ v. v.items) c.args.input.items in
     let run = c.in-Ok.run' in
-    let printed = flat_map (λ end. bytes_of end.1.pieces.items) run.ends.items in
+    let printed = flat_map (λ end. bytes_of_parts end.1.pieces.items) run.ends.items in
     inr (record {
       printed = printed;
       ended = run.outcomes.items;
@@ -41,7 +41,7 @@ returns-clause-broken g c = λ one.
       run = subst (λ moments. IsRunOf c.args.plan.config moments input printed run.outcomes.items run.ledger) c.as_slice-upkeep.ensures c.in-Ok.ensures.ok;
       fault = subst (λ status. IsFirstFault status run.outcomes.items) one
           (subst (IsFirstFault c.say_outcomes-status.result) c.as_slice-2.ensures.value (c.say_outcomes-status.ensures.first (omega (arith, one))));
-      written = subst (λ ends. Appends (g.W.Write.contents c.args.writer.now) (g.W.Write.contents c.print_scripts.new.writer) (flat_map (λ end. bytes_of end.1.pieces.items) ends)) c.as_slice.ensures.value c.in-Ok-print_scripts.ensures;
+      written = subst (λ ends. Appends (g.W.Write.contents c.args.writer.now) (g.W.Write.contents c.print_scripts.new.writer) (flat_map (λ end. bytes_of_parts end.1.pieces.items) ends)) c.as_slice.ensures.value c.in-Ok-print_scripts.ensures;
     })
 
 pub returns-clause-refused : goal.returns-clause-refused

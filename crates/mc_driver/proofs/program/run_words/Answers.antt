@@ -5,7 +5,7 @@ use Rattle.clap.specs.Words.{kind_of}
 use Rattle.clap.specs.declared.error.kind.ErrorKind.TheVariants.{DisplayHelp, DisplayVersion, OutOfMemory}
 use Rattle.std.specs.List.{flat_map}
 use Rattle.mc_options.proofs.PlanLemmas.{moments_early}
-use Rattle.mc_driver.specs.Input.{IsAnswered}
+use Rattle.mc_driver.specs.Input.{IsInputAnswered}
 use Rattle.mc_driver.proofs.StatusLemmas.{mistaken}
 use Rattle.mc_driver.proofs.program.run_words.Goals as goal
 
@@ -27,7 +27,7 @@ returns-clause-done g c = λ zero none.
       are_asked = asked.2;
       input = input;
       whole = c.in-Ok-read_pieces.ensures;
-      done = subst (λ config. IsAnswered config c.in-Ok.plan.upkeep input (g.W.Write.contents c.args.writer.now) (g.W.Write.contents c.run_input.new.writer)) asked.3 (c.run_input.ensures.done zero);
+      done = subst (λ config. IsInputAnswered config c.in-Ok.plan.upkeep input (g.W.Write.contents c.args.writer.now) (g.W.Write.contents c.run_input.new.writer)) asked.3 (c.run_input.ensures.done zero);
     }
 
 pub returns-in-Err-Words-clause-refused : goal.returns-in-Err-Words-clause-refused

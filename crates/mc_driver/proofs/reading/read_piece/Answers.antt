@@ -1,5 +1,5 @@
 use Rattle.std.proofs.Common.{◌∙◌, arith}
-use Rattle.mc_driver.proofs.PieceLemmas.{filled_more}
+use Rattle.mc_driver.proofs.ReaderPieceLemmas.{filled_more}
 use Rattle.mc_driver.proofs.reading.read_piece.Goals as goal
 
 pub loop-filled-preserved : goal.loop-filled-preserved

@@ -1,6 +1,6 @@
 use Rattle.std.proofs.Common.{arith, subst, sym}
 use Rattle.std.specs.Io.KnownBytes.{Consumes}
-use Rattle.mc_driver.proofs.PieceLemmas.{read_all, read_more}
+use Rattle.mc_driver.proofs.ReaderPieceLemmas.{read_all, read_more}
 use Rattle.mc_driver.proofs.reading.read_pieces.Goals as goal
 
 pub returns-then-came-lt-PIECE : goal.returns-then-came-lt-PIECE

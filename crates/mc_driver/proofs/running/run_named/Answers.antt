@@ -1,8 +1,8 @@
 use Rattle.std.proofs.Common.{◌≡◌, ◌∙◌, List, ap, arith, length, map, slice_get, slice_index_or, sym, subst}
 use Rattle.std.proofs.lemmas.List.{length-map}
 use Rattle.mc_store.specs.{Finals.AreClasses, Finals.AreStripes, Finals.FinalView, Passes.ArePasses, Passes.PassView}
-use Rattle.mc_driver.specs.{Jobs.HasWorked, Jobs.ends_in, Left.IsLeft, Run.limits_of}
-use Rattle.mc_driver.proofs.{JobLemmas.all_start, LeftLemmas.store_left, RunLemmas.run_left, RunLemmas.written_back}
+use Rattle.mc_driver.specs.{Jobs.HasWorked, Jobs.ends_in, Left.IsRunDone, Run.limits_of}
+use Rattle.mc_driver.proofs.{JobLemmas.all_start, RunLeavesLemmas.store_left, RunLemmas.run_left, RunLemmas.written_back}
 use Rattle.mc_driver.proofs.running.run_named.Goals as goal
 
 pub run_jobs-requires-clause-first : goal.run_jobs-requires-clause-first
@@ -41,9 +41,9 @@ returns g c =
     limits (c.run_jobs.ensures.each i d below))
     (λ k p found. c.compare_all.ensures.compared k p (ap (λ (ps : List PassView). slice_get ps k) passes_are ∙ found)) c.requires.callers
     (store_left config final all all_classes c.close-ledger.ensures.sound c.close-ledger.ensures.entries) in
-    subst (λ es. IsLeft g.S.Source.coming g.S.Source.failures g.K.Sink.taken g.K.Sink.failures config c.args.upkeep.now c.args.scripts.items es c.end_all.new.self.outcomes.items c.compare_all.new.ledger)
+    subst (λ es. IsRunDone g.S.Source.coming g.S.Source.failures g.K.Sink.taken g.K.Sink.failures config c.args.upkeep.now c.args.scripts.items es c.end_all.new.self.outcomes.items c.compare_all.new.ledger)
     (sym (c.end_all.ensures.ends ∙ ap (λ js. ends_in (map (λ job. job.work) js)) back))
-    (subst (λ os. IsLeft g.S.Source.coming g.S.Source.failures g.K.Sink.taken g.K.Sink.failures config c.args.upkeep.now c.args.scripts.items (ends_in (map (λ job. job.work) done)) os c.compare_all.new.ledger)
+    (subst (λ os. IsRunDone g.S.Source.coming g.S.Source.failures g.K.Sink.taken g.K.Sink.failures config c.args.upkeep.now c.args.scripts.items (ends_in (map (λ job. job.work) done)) os c.compare_all.new.ledger)
     (sym (c.end_all.ensures.outcomes ∙ ap (λ js. map (λ job. job.outcome) js) back))
-    (subst (λ (f : FinalView). IsLeft g.S.Source.coming g.S.Source.failures g.K.Sink.taken g.K.Sink.failures config c.args.upkeep.now c.args.scripts.items (ends_in (map (λ job. job.work) done)) (map (λ job. job.outcome) done) f)
+    (subst (λ (f : FinalView). IsRunDone g.S.Source.coming g.S.Source.failures g.K.Sink.taken g.K.Sink.failures config c.args.upkeep.now c.args.scripts.items (ends_in (map (λ job. job.work) done)) (map (λ job. job.outcome) done) f)
     (sym c.compare_all.ensures.same) left))

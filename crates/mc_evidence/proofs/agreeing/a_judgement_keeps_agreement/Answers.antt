@@ -1,4 +1,4 @@
-use Rattle.mc_evidence.proofs.AgreeLemmas.{agree_cooled, agree_evicted, agree_moved, agree_reclaimed}
+use Rattle.mc_evidence.proofs.AgreementLemmas.{agree_cooled, agree_evicted, agree_moved, agree_reclaimed}
 use Rattle.mc_evidence.proofs.agreeing.a_judgement_keeps_agreement.Goals as goal
 
 pub returns : goal.returns

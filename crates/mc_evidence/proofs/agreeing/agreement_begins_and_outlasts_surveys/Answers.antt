@@ -1,4 +1,4 @@
-use Rattle.mc_evidence.proofs.AgreeLemmas.{agree_begins, agree_refused, agree_surveyed}
+use Rattle.mc_evidence.proofs.AgreementLemmas.{agree_begins, agree_refused, agree_surveyed}
 use Rattle.mc_evidence.proofs.agreeing.agreement_begins_and_outlasts_surveys.Goals as goal
 
 pub returns : goal.returns

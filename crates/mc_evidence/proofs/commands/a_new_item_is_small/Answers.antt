@@ -1,4 +1,4 @@
-use Rattle.mc_evidence.proofs.SmallLemmas.{small_item}
+use Rattle.mc_evidence.proofs.SmallItemLemmas.{small_item}
 use Rattle.mc_evidence.proofs.commands.a_new_item_is_small.Goals as goal
 
 pub returns : goal.returns

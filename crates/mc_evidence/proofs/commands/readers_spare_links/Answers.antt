@@ -1,4 +1,4 @@
-use Rattle.mc_evidence.proofs.SmallLemmas.{absent_spares, reader_spares}
+use Rattle.mc_evidence.proofs.SmallItemLemmas.{absent_spares, reader_spares}
 use Rattle.mc_evidence.proofs.commands.readers_spare_links.Goals as goal
 
 pub returns : goal.returns

@@ -1,5 +1,5 @@
 use Rattle.mc_rule.proofs.OnceLemmas.{numbered}
-use Rattle.mc_evidence.proofs.ExactLemmas.{entry_of_item, item_of_entry}
+use Rattle.mc_evidence.proofs.ItemsAreEntriesLemmas.{entry_of_item, item_of_entry}
 use Rattle.mc_evidence.proofs.entries.items_are_exactly_entries.Goals as goal
 
 pub returns : goal.returns

@@ -1,4 +1,4 @@
-use Rattle.mc_evidence.proofs.EntryLemmas.{linking_step, refusal_step, survey_step, unlinking_step}
+use Rattle.mc_evidence.proofs.LentStepLemmas.{linking_step, refusal_step, survey_step, unlinking_step}
 use Rattle.mc_evidence.proofs.locking.a_command_keeps_its_classes.Goals as goal
 
 pub returns : goal.returns

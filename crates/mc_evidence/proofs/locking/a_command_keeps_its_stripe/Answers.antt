@@ -1,4 +1,4 @@
-use Rattle.mc_evidence.proofs.EntryLemmas.{command_step}
+use Rattle.mc_evidence.proofs.LentStepLemmas.{command_step}
 use Rattle.mc_evidence.proofs.locking.a_command_keeps_its_stripe.Goals as goal
 
 pub returns : goal.returns

@@ -1,4 +1,4 @@
-use Rattle.mc_evidence.proofs.OnlyLemmas.{one_cooled_item, one_evicted_item, one_giver, one_reclaimed_item, one_taker}
+use Rattle.mc_evidence.proofs.PartnersOfOneLemmas.{one_cooled_item, one_evicted_item, one_giver, one_reclaimed_item, one_taker}
 use Rattle.mc_evidence.proofs.partnering.a_stripe_event_is_the_only_partner.Goals as goal
 
 pub returns : goal.returns

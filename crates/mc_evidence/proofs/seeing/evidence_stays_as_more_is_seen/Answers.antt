@@ -1,4 +1,4 @@
-use Rattle.mc_evidence.proofs.{CitedLemmas.all_suited_later, GrowLemmas.all_backed_later, GrowLemmas.all_told_later, GrowLemmas.tried_later}
+use Rattle.mc_evidence.proofs.{CitedItemLemmas.all_suited_later, EvidenceGrowthLemmas.all_backed_later, EvidenceGrowthLemmas.all_told_later, EvidenceGrowthLemmas.tried_later}
 use Rattle.mc_evidence.proofs.seeing.evidence_stays_as_more_is_seen.Goals as goal
 
 pub returns : goal.returns

@@ -1,7 +1,7 @@
 use denote.Param.{param}
 use denote.Param.Send.{shr_send, mut_send}
 use Rattle.std.proofs.Crossing.{sync}
-use Rattle.mc_store.proofs.SendLemmas.{store_sync, pass_send, closure_send, nothing, one_sent}
+use Rattle.mc_store.proofs.SendStoreLemmas.{store_sync, pass_send, closure_send, nothing, one_sent}
 use Rattle.mc_examples.proofs.sharing.visited.Goals as goal
 
 pub join-one-requires-send-F : goal.join-one-requires-send-F

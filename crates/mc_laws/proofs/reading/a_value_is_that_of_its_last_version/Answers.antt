@@ -1,4 +1,4 @@
-use Rattle.mc_laws.proofs.SourceLemmas.{written_before}
+use Rattle.mc_laws.proofs.ValueSourceLemmas.{written_before}
 use Rattle.mc_laws.proofs.reading.a_value_is_that_of_its_last_version.Goals as goal
 
 pub returns : goal.returns

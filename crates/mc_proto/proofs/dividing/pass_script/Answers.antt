@@ -1,6 +1,6 @@
 use Rattle.std.proofs.Common.{◌++◌, subst, sym}
 use Rattle.mc_proto.specs.Scripts.{IsLast, StandsFirst}
-use Rattle.mc_proto.proofs.{DividingLemmas.goes_on, DividingLemmas.stays_on, NextLemmas.lacks_next, SplitLemmas.last_on}
+use Rattle.mc_proto.proofs.{DividingLemmas.goes_on, DividingLemmas.stays_on, NextDirectiveLemmas.lacks_next, ScriptCutLemmas.last_on}
 use Rattle.mc_proto.proofs.dividing.pass_script.Goals as goal
 
 pub returns-then-lacks_next-clause-line : goal.returns-then-lacks_next-clause-line

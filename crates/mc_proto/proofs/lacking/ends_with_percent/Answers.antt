@@ -1,6 +1,6 @@
 use Rattle.std.proofs.Common.{◌<◌, length, arith, sym}
 use Rattle.std.proofs.lemmas.Bool.{eqb-false}
-use Rattle.mc_proto.proofs.NextLemmas.{after_is}
+use Rattle.mc_proto.proofs.NextDirectiveLemmas.{after_is}
 use Rattle.mc_proto.proofs.lacking.ends_with_percent.Goals as goal
 
 pub returns : goal.returns

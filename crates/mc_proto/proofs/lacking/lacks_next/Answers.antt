@@ -1,6 +1,6 @@
 use Rattle.std.proofs.Common.{◌≡◌, ◌<◌, ◌∷◌, ℕ, List, [], length, drop, zero, suc, true, refl, subst, sym, ap, ◌∙◌, arith}
 use Rattle.mc_proto.specs.Lines.{LacksNextBehind}
-use Rattle.mc_proto.proofs.NextLemmas.{next_first, next_skip, next_left, next_none}
+use Rattle.mc_proto.proofs.NextDirectiveLemmas.{next_first, next_skip, next_left, next_none}
 use Rattle.mc_proto.proofs.lacking.lacks_next.Goals as goal
 
 one_more : (n : ℕ) (xs : List ℕ) → drop 1 (drop n xs) ≡ drop (suc n) xs

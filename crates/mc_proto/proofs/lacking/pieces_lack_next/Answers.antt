@@ -1,7 +1,7 @@
 use Rattle.std.proofs.Common.{◌≡◌, ℕ, List, ap, ◌∙◌, sym, subst}
 use Rattle.std.specs.{List.flat_map, VecDeque.Iter.deque_iter_rest}
 use Rattle.mc_proto.specs.Lines.{LacksNextBehind, is_after}
-use Rattle.mc_proto.proofs.NextLemmas.{next_front, next_behind, next_both}
+use Rattle.mc_proto.proofs.NextDirectiveLemmas.{next_front, next_behind, next_both}
 use Rattle.mc_proto.proofs.lacking.pieces_lack_next.Goals as goal
 
 pub returns-then-not-lacks_next-clause-has : goal.returns-then-not-lacks_next-clause-has

@@ -1,4 +1,4 @@
-use Rattle.mc_proto.proofs.RestLemmas.{after_reads}
+use Rattle.mc_proto.proofs.KeptRestLemmas.{after_reads}
 use Rattle.mc_proto.proofs.laws.after_is_reading.Goals as goal
 
 pub returns : goal.returns

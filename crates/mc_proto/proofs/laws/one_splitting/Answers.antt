@@ -1,4 +1,4 @@
-use Rattle.mc_proto.proofs.SplitLemmas.{scripts_once}
+use Rattle.mc_proto.proofs.ScriptCutLemmas.{scripts_once}
 use Rattle.mc_proto.proofs.laws.one_splitting.Goals as goal
 
 pub returns : goal.returns

@@ -1,4 +1,4 @@
-use Rattle.mc_proto.proofs.SplitLemmas.{scripts_read}
+use Rattle.mc_proto.proofs.ScriptCutLemmas.{scripts_read}
 use Rattle.mc_proto.proofs.laws.scripts_read_alone.Goals as goal
 
 pub returns : goal.returns

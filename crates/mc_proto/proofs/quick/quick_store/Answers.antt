@@ -1,7 +1,7 @@
 use Rattle.std.proofs.Common.{◌≡◌, ◌∷◌, ◌∙◌, arith, sym}
 use Rattle.std.specs.Prelude.{Some, pos}
-use Rattle.mc_proto.specs.Lines.{tokens, key_of}
-use Rattle.mc_proto.proofs.QuickLemmas.{quiet_tokens, number_within, store_line_says}
+use Rattle.mc_proto.specs.Lines.{tokens, key_of_token}
+use Rattle.mc_proto.proofs.OnePassLineLemmas.{quiet_tokens, number_within, store_line_says}
 use Rattle.mc_proto.proofs.quick.quick_store.Goals as goal
 
 pub returns-clause-value : goal.returns-clause-value
@@ -12,7 +12,7 @@ returns-clause-value c =
     let e = c.in-Some-next_number-2 in
     let n = c.in-Some-next_number-3 in
     let q = c.in-Some-quiet_end in
-    let key : key_of k.token.now ≡ Some c.in-Some-2.key = sym c.in_ok-key.ensures ∙ c.in-Some-2.is in
+    let key : key_of_token k.token.now ≡ Some c.in-Some-2.key = sym c.in_ok-key.ensures ∙ c.in-Some-2.is in
     let behind : tokens v.rest.now ≡ k.token.now ∷ f.ensures.0 ∷ e.ensures.0 ∷ n.ensures.0 ∷ quiet_tokens q.quiet = cc (k.ensures.0, f.ensures.1, e.ensures.1, n.ensures.1, q.ensures) in
     c.begun_store.ensures.value
     ∙ sym (store_line_says c.args.limits v.verb c.args.line.now v.rest.now c.in-Some-2.key k.token.now f.ensures.0 e.ensures.0 n.ensures.0 f.flags n.count (pos e.exptime) q.quiet v.ensures behind key

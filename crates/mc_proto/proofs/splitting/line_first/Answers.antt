@@ -1,7 +1,7 @@
 use Rattle.std.proofs.Common.{◌≡◌, ◌<◌, ◌∙◌, length, take, ap, arith, subst}
 use Rattle.std.proofs.lemmas.List.{take_all}
 use Rattle.mc_proto.specs.{Lines.Lacks, Table.says}
-use Rattle.mc_proto.proofs.FirstLemmas.{long_asked, more_asked, next_asked, plain_asked}
+use Rattle.mc_proto.proofs.FirstLineLemmas.{long_asked, more_asked, next_asked, plain_asked}
 use Rattle.mc_proto.proofs.splitting.line_first.Goals as goal
 
 pub returns-then-end-gt-MAX_LINE : goal.returns-then-end-gt-MAX_LINE

@@ -1,5 +1,5 @@
 use Rattle.std.proofs.Common.{◌∙◌, [], ℕ, List, Bor, sym}
-use Rattle.mc_proto.proofs.StorageLemmas.{cas_row}
+use Rattle.mc_proto.proofs.CasLineLemmas.{cas_row}
 use Rattle.mc_proto.proofs.storage.cas_line.Goals as goal
 
 pub returns-clause-value : goal.returns-clause-value

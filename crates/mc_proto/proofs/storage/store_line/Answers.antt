@@ -1,5 +1,5 @@
 use Rattle.std.proofs.Common.{◌∙◌, [], ℕ, List, Bor, sym}
-use Rattle.mc_proto.proofs.StorageLemmas.{store_row}
+use Rattle.mc_proto.proofs.CasLineLemmas.{store_row}
 use Rattle.mc_proto.proofs.storage.store_line.Goals as goal
 
 pub returns-clause-value : goal.returns-clause-value

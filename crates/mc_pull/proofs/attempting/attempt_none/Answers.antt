@@ -1,6 +1,6 @@
 use Rattle.std.proofs.Common.{refl}
 use Rattle.std.specs.Prelude.{None, false}
-use Rattle.mc_pull.proofs.MadeLemmas.{made_on, made_try}
+use Rattle.mc_pull.proofs.TriedCommandLemmas.{made_on, made_try}
 use Rattle.mc_pull.proofs.attempting.attempt_none.Goals as goal
 
 pub returns-in-Ok-clause-tried : goal.returns-in-Ok-clause-tried

@@ -1,5 +1,5 @@
 use Rattle.std.proofs.Common.{rules, ◌+◌, ◌∷◌, [], ℕ, ◌∙◌, length, refl, sym, ap, inl, inr}
-use Rattle.mc_pull.proofs.MadeLemmas.{class_refused, made_on, made_try, marked_then, offered_on, part_gains, part_may, stripe_refused, warms_in}
+use Rattle.mc_pull.proofs.TriedCommandLemmas.{class_refused, made_on, made_try, marked_then, offered_on, part_gains, part_may, stripe_refused, warms_in}
 use Rattle.mc_pull.proofs.PerformLemmas.{either_on, two_cool}
 use Rattle.mc_pull.proofs.attempting.attempt_two.Goals as goal
 

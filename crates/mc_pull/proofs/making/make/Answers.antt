@@ -1,8 +1,8 @@
 use Rattle.std.proofs.Common.{subst, sym, ap, ◌∙◌}
-use Rattle.mc_rule.specs.{Lawful.IsListed, Lists.lists_of, Lists.links_of, Lists.entry, Segment.segment_for, Lists.no_lists}
+use Rattle.mc_rule.specs.{Lawful.IsListed, Lists.lists_of, Lists.entries_linked, Lists.entry, Segment.segment_for, Lists.no_lists}
 use Rattle.mc_segment.specs.{ClassState.ClassView, ClassCalls.linked_event}
 use Rattle.mc_segment.proofs.StateLemmas.{lists_from-push}
-use Rattle.mc_pull.proofs.PartLemmas.{listed_linked}
+use Rattle.mc_pull.proofs.ListedEntryLemmas.{listed_linked}
 use Rattle.mc_pull.proofs.making.make.Goals as goal
 
 pub unlink-requires-clause-lawful : goal.unlink-requires-clause-lawful
@@ -12,4 +12,4 @@ unlink-requires-clause-lawful c =
     let e = linked_event v c.args.who r.key r.cost c.args.moment r.expiry in
     let after_it = ap (λ (x : ClassView). lists_of x.history) c.link-in-Renews.ensures.event ∙ lists_from-push no_lists v.history e in
     subst (IsListed r.number) (sym after_it)
-    (listed_linked r.number (segment_for v.rule c.args.moment r.expiry) (entry (links_of v.history) r.key r.cost c.args.moment) (lists_of v.history) (rw r.is at c.requires.may).1)
+    (listed_linked r.number (segment_for v.rule c.args.moment r.expiry) (entry (entries_linked v.history) r.key r.cost c.args.moment) (lists_of v.history) (rw r.is at c.requires.may).1)

@@ -1,5 +1,5 @@
 use Rattle.std.proofs.Common.{◌∙◌, sym, arith}
-use Rattle.mc_pull.proofs.{GrowthLemmas.may_later, GrowthLemmas.class_later, GrowthLemmas.kept_later, WayLemmas.looked_on, WayLemmas.looked_whole}
+use Rattle.mc_pull.proofs.{GrowthLemmas.may_later, GrowthLemmas.class_later, GrowthLemmas.kept_later, WalkAnswerLemmas.looked_on, WalkAnswerLemmas.looked_whole}
 use Rattle.mc_pull.proofs.pulling.pull_tail.Goals as goal
 
 pub looks-preserved : goal.looks-preserved

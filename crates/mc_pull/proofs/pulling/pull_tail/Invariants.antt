@@ -1,7 +1,7 @@
 use Rattle.std.proofs.Common.{◌≡◌, List}
 use Rattle.mc_item.specs.declared.class_event.ClassEvent.{ClassEvent}
 use Rattle.mc_pull.specs.{Question.MayWalk, Question.IsClassOf, Walker.walker_of}
-use Rattle.mc_pull.proofs.WayLemmas.{OnLooks}
+use Rattle.mc_pull.proofs.WalkAnswerLemmas.{OnLooks}
 use Rattle.mc_pull.proofs.pulling.pull_tail.Given as goal
 
 abbrev pub invariant-looks : goal.invariant-looks

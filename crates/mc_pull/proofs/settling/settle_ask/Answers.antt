@@ -1,5 +1,5 @@
 use Rattle.mc_pull.specs.Question.{question_of}
-use Rattle.mc_pull.proofs.KeepLemmas.{judgement_kept, judgement_seen}
+use Rattle.mc_pull.proofs.JudgementKeepsLemmas.{judgement_kept, judgement_seen}
 use Rattle.mc_pull.proofs.settling.settle_ask.Goals as goal
 
 pub returns-clause-agreement : goal.returns-clause-agreement

@@ -1,4 +1,4 @@
-use Rattle.mc_pull.proofs.TriedLemmas.{tried_in_vain}
+use Rattle.mc_pull.proofs.SearchTriedLemmas.{tried_in_vain}
 use Rattle.mc_pull.proofs.trying.a_search_in_vain_has_tried.Goals as goal
 
 pub returns : goal.returns

@@ -3,7 +3,7 @@ use Rattle.std.specs.Vec.Iter.{into_iter_items}
 use Rattle.mc_item.specs.declared.fault.Fault.TheVariants as faults
 use Rattle.mc_proto.specs.declared.request.Request.TheVariants as requests
 use Rattle.mc_script.specs.Calls.{Fails}
-use Rattle.mc_script.proofs.CallLemmas.{keys_none, keys_more, keys_fail, keys_all, keys_end_fails, begins_further, begins_itself}
+use Rattle.mc_script.proofs.MadeCallLemmas.{keys_none, keys_more, keys_fail, keys_all, keys_end_fails, begins_further, begins_itself}
 use Rattle.mc_script.proofs.IterLemmas.{all_taken, split_at}
 use Rattle.mc_script.proofs.answering.answer_get.Goals as goal
 use Rattle.mc_script.proofs.answering.answer_get.Goals.{in-Ok+in_ok-answer_key-in-Ok, in-Err+in-None}

@@ -1,6 +1,6 @@
 use Rattle.std.proofs.Common.{◌≡◌}
 use Rattle.mc_script.specs.Calls.{Begins}
-use Rattle.mc_script.proofs.CallLemmas.{HasKeys}
+use Rattle.mc_script.proofs.MadeCallLemmas.{HasKeys}
 use Rattle.mc_script.proofs.answering.answer_get.Given as goal
 
 -- the keys so far were answered

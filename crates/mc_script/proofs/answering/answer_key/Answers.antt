@@ -3,7 +3,7 @@ use Rattle.mc_item.specs.declared.command.Command.TheVariants as commands
 use Rattle.mc_item.specs.declared.fault.Fault.TheVariants as faults
 use Rattle.mc_proto.specs.Answers.{Replied}
 use Rattle.mc_script.specs.{Calls.FailsKey, Exchanges.Asks}
-use Rattle.mc_script.proofs.CallLemmas.{adds_none, breaks_end, breaks_none, makes_one}
+use Rattle.mc_script.proofs.MadeCallLemmas.{adds_none, breaks_end, breaks_none, makes_one}
 use Rattle.mc_script.proofs.answering.answer_key.Goals as goal
 
 pub returns-in_err-push_value_head-clause-err : goal.returns-in_err-push_value_head-clause-err

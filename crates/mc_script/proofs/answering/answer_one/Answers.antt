@@ -3,7 +3,7 @@ use Rattle.mc_item.specs.declared.fault.Fault.TheVariants as faults
 use Rattle.mc_proto.specs.Answers.{Replied}
 use Rattle.mc_proto.specs.declared.request.Request.TheVariants as requests
 use Rattle.mc_script.specs.{Calls.Fails, Exchanges.Asks}
-use Rattle.mc_script.proofs.CallLemmas.{breaks_end, makes_one}
+use Rattle.mc_script.proofs.MadeCallLemmas.{breaks_end, makes_one}
 use Rattle.mc_script.proofs.answering.answer_one.Goals as goal
 
 pub returns-in_err-push_unless-clause-err : goal.returns-in_err-push_unless-clause-err

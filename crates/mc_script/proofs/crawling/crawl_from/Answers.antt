@@ -2,7 +2,7 @@ use Rattle.std.proofs.Common.{rules, ◌≡◌, ◌∙◌, length, arith, subst,
 use Rattle.mc_item.specs.declared.counts.Histogram.{Histogram}
 use Rattle.mc_proto.specs.Answers.{Counted, counts_of}
 use Rattle.mc_script.specs.{Calls.AddsUp, Exchanges.Crawls}
-use Rattle.mc_script.proofs.{ClassLemmas.class_fails, ClassLemmas.class_more}
+use Rattle.mc_script.proofs.{DirectiveCallLemmas.class_fails, DirectiveCallLemmas.class_more}
 use Rattle.mc_script.proofs.SumLemmas.{adds_up_both, both_fit, counts_of-push, sums_long}
 use Rattle.mc_script.proofs.crawling.crawl_from.Goals as goal
 

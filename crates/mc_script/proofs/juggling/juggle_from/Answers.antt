@@ -1,7 +1,7 @@
 use Rattle.std.proofs.Common.{rules, ◌∙◌, arith}
 use Rattle.mc_proto.specs.Answers.{Moved, moves_of}
 use Rattle.mc_script.specs.Exchanges.{Juggles}
-use Rattle.mc_script.proofs.{ClassLemmas.class_fails, ClassLemmas.class_more, SumLemmas.moves_of-push}
+use Rattle.mc_script.proofs.{DirectiveCallLemmas.class_fails, DirectiveCallLemmas.class_more, SumLemmas.moves_of-push}
 use Rattle.mc_script.proofs.juggling.juggle_from.Goals as goal
 
 pub returns-in_err-moves-clause-err : goal.returns-in_err-moves-clause-err

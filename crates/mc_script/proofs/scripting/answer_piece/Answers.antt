@@ -1,7 +1,7 @@
 use Rattle.std.proofs.Common.{subst, inl}
 use Rattle.mc_script.specs.Progress.{Goes}
 use Rattle.mc_script.specs.declared.scripting.Progress.{Progress}
-use Rattle.mc_script.proofs.PieceLemmas.{piece_torn, piece_breaks, piece_goes_on, piece_ended, piece_memory, piece_full}
+use Rattle.mc_script.proofs.ScriptPieceLemmas.{piece_torn, piece_breaks, piece_goes_on, piece_ended, piece_memory, piece_full}
 use Rattle.mc_script.proofs.scripting.answer_piece.Goals as goal
 
 pub returns-in-Output-clause-leaves : goal.returns-in-Output-clause-leaves

@@ -2,10 +2,10 @@ use Rattle.std.proofs.Common.{◌<◌, List, ℕ, sym, ◌∙◌, refl, arith, s
 use Rattle.std.specs.Prelude.{All}
 use Rattle.mc_proto.specs.Grammar.{IsModerate}
 use Rattle.mc_proto.specs.declared.request.Limits.{Limits}
-use Rattle.mc_script.specs.{Progress.GoesOn, Progress.IsOnWay, Run.AreCounted, Run.Leaves}
+use Rattle.mc_script.specs.{Progress.AnswersWhole, Progress.IsOnWay, Run.AreCounted, Run.Leaves}
 use Rattle.mc_script.specs.declared.outcome.Outcome.{Outcome}
 use Rattle.mc_script.specs.declared.outcome.Outcome.TheVariants as outcomes
-use Rattle.mc_script.proofs.RunLemmas.{way_starts, way_out, way_ends, way_runs_out, way_starves, way_comes, way_goes_on, answered_at, moderate_are}
+use Rattle.mc_script.proofs.ScriptRunLemmas.{way_starts, way_out, way_ends, way_runs_out, way_starves, way_comes, way_goes_on, answered_at, moderate_are}
 use Rattle.mc_script.proofs.scripting.run_script.Goals as goal
 
 pub loop-init : goal.loop-init
@@ -75,7 +75,7 @@ loop-preserved g c =
     c.loop.text.items c.in-Ok-Some.piece.items _ _ _ _ c.in-Ok.requests.items c.loop.invariant.way c.loop.invariant.limits c.in-Ok.ensures.limits c.in-Ok.ensures.reads came.0 in
     let has = answered_at c.args.limits c.loop.invariant.way.done (g.E.Ends.taken c.args.ends.now) (g.E.Ends.taken c.loop.ends) (g.E.Ends.taken c.piece.new.self) c.loop.text.items (g.C.Calls.notes c.loop.calls) (g.C.Calls.caller c.args.calls.now) (g.C.Calls.caller c.loop.calls) _ _ c.loop.invariant.way.state_of c.in-Ok-Some.ensures.taken c.loop.invariant.caller in
     let goes = rw c.in-None-answer_piece.is at (c.answer_piece.ensures.leaves (g.E.Ends.coming c.args.ends.now) (g.E.Ends.taken c.args.ends.now) c.loop.invariant.way.done come has) in
-    let on = subst (λ (n : ℕ). GoesOn c.args.limits (g.E.Ends.taken c.args.ends.now) (g.E.Ends.taken c.answer_piece.new.ends) c.answer_piece.new.text.items (g.C.Calls.notes c.answer_piece.new.calls) n (g.C.Calls.turn c.answer_piece.new.calls) c.answer_piece.new.moment c.loop.invariant.way.done c.in-Ok.requests.items) c.loop.invariant.caller goes in
+    let on = subst (λ (n : ℕ). AnswersWhole c.args.limits (g.E.Ends.taken c.args.ends.now) (g.E.Ends.taken c.answer_piece.new.ends) c.answer_piece.new.text.items (g.C.Calls.notes c.answer_piece.new.calls) n (g.C.Calls.turn c.answer_piece.new.calls) c.answer_piece.new.moment c.loop.invariant.way.done c.in-Ok.requests.items) c.loop.invariant.caller goes in
     let counted = rw c.in-None-answer_piece.is at c.answer_piece.ensures.counted in
     record {
       may = c.answer_piece.ensures.may c.in-None-answer_piece.is;

@@ -2,7 +2,7 @@ use Rattle.std.proofs.Common.{◌∙◌, ℕ, ap, refl, subst}
 use Rattle.std.specs.Prelude.{None}
 use Rattle.mc_item.specs.{Command.key_of, Measure.stripe_of}
 use Rattle.mc_store.specs.{Held.Ends, Passes.CallerView}
-use Rattle.mc_store.proofs.{EndLemmas.ends_made, EndLemmas.ends_same, HeldLemmas.made_alone, UnderLemmas.searched_itself, UnderLemmas.site_itself}
+use Rattle.mc_store.proofs.{CommandEndLemmas.ends_made, CommandEndLemmas.ends_same, HeldTryLemmas.made_alone, UnderLockLemmas.searched_itself, UnderLockLemmas.site_itself}
 use Rattle.mc_store.proofs.answering.answer.Goals as goal
 
 pub try_alone-requires-clause-may : goal.try_alone-requires-clause-may

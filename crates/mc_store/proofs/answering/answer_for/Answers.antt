@@ -1,7 +1,7 @@
 use Rattle.std.proofs.Common.{◌∙◌, ap, refl, subst, sym}
 use Rattle.mc_stripe.specs.StripeState.{Stripe}
 use Rattle.mc_store.specs.{Callers.asked_for, Held.Ends, Passes.CallerView, Passes.HasAsked, Sides.StripeSide}
-use Rattle.mc_store.proofs.{CallerLemmas.asked_called, EndLemmas.ends_made, EndLemmas.ends_same, UnderLemmas.searched_itself, UnderLemmas.site_itself}
+use Rattle.mc_store.proofs.{CallerLemmas.asked_called, CommandEndLemmas.ends_made, CommandEndLemmas.ends_same, UnderLockLemmas.searched_itself, UnderLockLemmas.site_itself}
 use Rattle.mc_store.proofs.answering.answer_for.Goals as goal
 
 pub returns-in-Made : goal.returns-in-Made

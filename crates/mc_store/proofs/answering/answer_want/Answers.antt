@@ -4,9 +4,9 @@ use Rattle.mc_item.specs.{Command.key_of, Measure.stripe_of}
 use Rattle.mc_item.specs.declared.answer.Site.{Site}
 use Rattle.mc_stripe.specs.{StripeCalls.KeepsSite, StripeState.Stripe, Trying.item_of}
 use Rattle.mc_store.specs.{Callers.asked_for, Held.Ends, Passes.CallerView, Sides.StripeSide}
-use Rattle.mc_store.proofs.{CallerLemmas.asked_called, CallerLemmas.command_sees, CommandLemmas.buried_alive, CommandLemmas.not_dead, HeldLemmas.made_alone}
-use Rattle.mc_store.proofs.{HeldLemmas.some_none, ShortLemmas.stripe_made, UnderLemmas.searched_itself, UnderLemmas.site_itself}
-use Rattle.mc_store.proofs.EndLemmas.{buried_now, ends_buried, ends_early, ends_err, ends_made, ends_same}
+use Rattle.mc_store.proofs.{CallerLemmas.asked_called, CallerLemmas.command_sees, CommandLemmas.buried_alive, CommandLemmas.not_dead, HeldTryLemmas.made_alone}
+use Rattle.mc_store.proofs.{HeldTryLemmas.some_none, ShortHistoryLemmas.stripe_made, UnderLockLemmas.searched_itself, UnderLockLemmas.site_itself}
+use Rattle.mc_store.proofs.CommandEndLemmas.{buried_now, ends_buried, ends_early, ends_err, ends_made, ends_same}
 use Rattle.mc_store.proofs.answering.answer_want.Goals as goal
 
 pub answer_with-requires-clause-begun : goal.answer_with-requires-clause-begun

@@ -3,7 +3,7 @@ use Rattle.std.specs.Prelude.{Some}
 use Rattle.mc_item.specs.declared.item.ClassNo.{ClassNo}
 use Rattle.mc_stripe.specs.declared.wanting.Classes.{Classes}
 use Rattle.mc_store.specs.Sides.{ClassSide}
-use Rattle.mc_store.proofs.NeedLemmas.{home_apart, home_class, other_if}
+use Rattle.mc_store.proofs.NeededClassLemmas.{home_apart, home_class, other_if}
 use Rattle.mc_store.proofs.answering.answer_with.Goals as goal
 
 pub lock_both-guard-requires-clause-home : goal.lock_both-guard-requires-clause-home

@@ -1,4 +1,4 @@
-use Rattle.mc_store.proofs.NeedLemmas.{dead_class}
+use Rattle.mc_store.proofs.NeededClassLemmas.{dead_class}
 use Rattle.mc_store.proofs.answering.bury.Goals as goal
 
 pub lock_class-guard-requires : goal.lock_class-guard-requires

@@ -1,6 +1,6 @@
 use Rattle.std.proofs.Common.{◌≡◌, ◌+◌, ℕ, length, sym, ap, subst, ◌∙◌, arith}
 use Rattle.mc_item.specs.declared.item.ClassNo.{ClassNo}
-use Rattle.mc_store.proofs.PlaceLemmas.{AreClassesSoFar, classes_push}
+use Rattle.mc_store.proofs.NumberOrderLemmas.{AreClassesSoFar, classes_push}
 use Rattle.mc_store.proofs.closing.take_classes.Goals as goal
 
 pub loop-class-preserved : goal.loop-class-preserved

@@ -1,7 +1,7 @@
 use Rattle.std.proofs.Common.{◌≡◌, ◌≤◌, ◌+◌, length}
 use Rattle.std.specs.Prelude.{vec_len, vec_capacity}
 use Rattle.std.specs.Vec.Iter.{into_iter_items}
-use Rattle.mc_store.proofs.PlaceLemmas.{AreClassesSoFar}
+use Rattle.mc_store.proofs.NumberOrderLemmas.{AreClassesSoFar}
 use Rattle.mc_store.proofs.closing.take_classes.Given as goal
 
 abbrev pub invariant-loop-class : goal.invariant-loop-class

@@ -1,5 +1,5 @@
 use Rattle.std.proofs.Common.{◌≡◌, length, sym, ap, subst, ◌∙◌, arith}
-use Rattle.mc_store.proofs.PlaceLemmas.{AreStripesSoFar, stripes_push}
+use Rattle.mc_store.proofs.NumberOrderLemmas.{AreStripesSoFar, stripes_push}
 use Rattle.mc_store.proofs.closing.take_stripes.Goals as goal
 
 pub loop-stripe-preserved : goal.loop-stripe-preserved

@@ -1,7 +1,7 @@
 use Rattle.std.proofs.Common.{◌≡◌, ◌≤◌, ◌+◌, length}
 use Rattle.std.specs.Prelude.{vec_len, vec_capacity}
 use Rattle.std.specs.Vec.Iter.{into_iter_items}
-use Rattle.mc_store.proofs.PlaceLemmas.{AreStripesSoFar}
+use Rattle.mc_store.proofs.NumberOrderLemmas.{AreStripesSoFar}
 use Rattle.mc_store.proofs.closing.take_stripes.Given as goal
 
 abbrev pub invariant-loop-stripe : goal.invariant-loop-stripe

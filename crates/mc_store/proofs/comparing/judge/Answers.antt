@@ -1,7 +1,7 @@
 use Rattle.std.proofs.Common.{List, slice_get, ap, sym, subst, ◌∙◌}
 use Rattle.mc_board.specs.Views.{BoardView}
 use Rattle.mc_store.specs.{Finals.IsBehindStripes, Sides.AreClassesOn, Sides.AreStripesOn, Sides.ClassSide, Sides.StripeSide}
-use Rattle.mc_store.proofs.{ClosedLemmas.closed_entries, ClosedLemmas.closed_sound, PlaceLemmas.classes_on, PlaceLemmas.stripes_on}
+use Rattle.mc_store.proofs.{ClosedLemmas.closed_entries, ClosedLemmas.closed_sound, NumberOrderLemmas.classes_on, NumberOrderLemmas.stripes_on}
 use Rattle.mc_store.proofs.comparing.judge.Goals as goal
 
 pub compare_from_stripes-requires-clause-stripes : goal.compare_from_stripes-requires-clause-stripes

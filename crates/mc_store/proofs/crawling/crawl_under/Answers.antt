@@ -4,7 +4,7 @@ use Rattle.mc_item.specs.declared.config.Config.{Config}
 use Rattle.mc_board.specs.Views.{OwnerView}
 use Rattle.mc_segment.specs.ClassState.{ClassView}
 use Rattle.mc_store.specs.{Crawls.CountsLink, Callers.crawling_of, Locked.HasBegunAs, Locked.IsLockedClass, Serving.class_side, Sides.ClassSide}
-use Rattle.mc_store.proofs.{CallerLemmas.begun_as_sees, MadeLemmas.gains_crawled, MadeLemmas.locked_gains}
+use Rattle.mc_store.proofs.{CallerLemmas.begun_as_sees, OwnEventLemmas.gains_crawled, OwnEventLemmas.locked_gains}
 use Rattle.mc_store.proofs.crawling.crawl_under.Goals as goal
 
 pub invariant_of-class : goal.invariant_of-class

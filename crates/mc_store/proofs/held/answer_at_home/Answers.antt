@@ -5,10 +5,10 @@ use Rattle.mc_item.specs.declared.{answer.Site.Site, class_event.ClassEvent.Clas
 use Rattle.mc_item.specs.declared.{item.StripeNo.StripeNo}
 use Rattle.mc_segment.specs.ClassState.{ClassView}
 use Rattle.mc_stripe.specs.{StripeCalls.KeepsSite, StripeState.Stripe}
-use Rattle.mc_store.specs.{Earned.HasGivenUp, Earned.IsEarnedAt, Held.Ends, Held.Suffice, Held.number_in, Sides.StripeSide}
-use Rattle.mc_store.proofs.{CallerLemmas.command_sees, NeedLemmas.suffice_behind, UnderLemmas.site_both}
-use Rattle.mc_store.proofs.EndLemmas.{ends_cut, ends_err, ends_made, searched_same, searched_walk, suffice_same}
-use Rattle.mc_store.proofs.HeldLemmas.{earned_now, made_caller, no_burial, refuse_short, some_none, wants_place}
+use Rattle.mc_store.specs.{Earned.HasGivenUp, Earned.IsEarnedAt, Held.Ends, Held.Suffice, Held.class_held, Sides.StripeSide}
+use Rattle.mc_store.proofs.{CallerLemmas.command_sees, NeededClassLemmas.suffice_behind, UnderLockLemmas.site_both}
+use Rattle.mc_store.proofs.CommandEndLemmas.{ends_cut, ends_err, ends_made, searched_same, searched_walk, suffice_same}
+use Rattle.mc_store.proofs.HeldTryLemmas.{earned_now, made_caller, no_burial, refuse_short, some_none, wants_place}
 use Rattle.mc_store.proofs.held.answer_at_home.Goals as goal
 
 pub unreachable-requires : goal.unreachable-requires
@@ -19,7 +19,7 @@ unreachable-requires g c =
     let s = c.args.own.now.stripe in
     let mid = c.search.new.own.stripe in
     let class = c.args.home.now.class.number in
-    let other = number_in c.args.other.now in
+    let other = class_held c.args.other.now in
     let suffices = subst (λ (n : ClassNo). Suffice (Some n) other mid command turn.moment) (sym c.search.ensures.number)
     (suffice_behind config turn class s mid c.search.ensures.site c.search.ensures.walked (Some class) other command refl c.requires.wants.fresh c.requires.wants.suffice) in
     let tried = rw c.in-Wants.is at c.in_ok-reply.ensures.tried in
@@ -33,7 +33,7 @@ unreachable-requires-in-Classes g c =
     let s = c.args.own.now.stripe in
     let mid = c.search.new.own.stripe in
     let class = c.args.home.now.class.number in
-    let other = number_in c.args.other.now in
+    let other = class_held c.args.other.now in
     let suffices = subst (λ (n : ClassNo). Suffice (Some n) other mid command turn.moment) (sym c.search.ensures.number)
     (suffice_behind config turn class s mid c.search.ensures.site c.search.ensures.walked (Some class) other command refl c.requires.wants.fresh c.requires.wants.suffice) in
     let tried = rw c.in-Wants.is at c.in_ok-reply.ensures.tried in
@@ -161,16 +161,16 @@ returns-in-Wants-2 g c =
     let again = rw c.in-Wants-2.is at c.in_ok-reply-in-Room.ensures.tried in
     let full = rw c.in-Room.is at tried.2 in
     let class = c.args.home.now.class.number in
-    let other = number_in c.args.other.now in
+    let other = class_held c.args.other.now in
     let number : c.refuse.new.lent.class.number ≡ class = ap (λ (v : ClassView). v.number) c.in_ok-place-in-Room.ensures.refused ∙ (full.0.number_is ∙ c.search.ensures.number) in
     let behind = suffice_behind config turn class s mid c.search.ensures.site c.search.ensures.walked (Some class) other command refl c.requires.wants.fresh c.requires.wants.suffice in
     let own = ap (λ (x : StripeSide). x.stripe) c.refuse.ensures.own in
     let site = subst (λ (t : Stripe). KeepsSite mid t) (sym own) c.try_home.ensures.site in
     let same = ap (λ (t : Stripe). t.history) own ∙ tried.0 in
     let later = suffice_same mid last site same command turn.moment (Some class) other behind in
-    let again_suffice = subst (λ (n : ClassNo). Suffice (Some n) (number_in c.try_home.new.other) last c.args.command.now turn.moment) (sym number)
+    let again_suffice = subst (λ (n : ClassNo). Suffice (Some n) (class_held c.try_home.new.other) last c.args.command.now turn.moment) (sym number)
     (subst (λ (o : Option ClassNo). Suffice (Some class) o last c.args.command.now turn.moment) (sym full.1) later) in
     let searched = searched_walk config command turn s mid class alive c.requires.wants.fresh c.search.ensures.walked in
     ends_cut config command turn s last alive (searched_same mid last site same command turn.moment config turn.who s searched) (site_both s mid last c.search.ensures.site site)
     c.try_home-in-Room.new.own c.args.caller.now c.try_home-in-Room.new.caller HistoryFull c.try_home-in-Room.ensures.site again.0 (again.1 ∙ tried.1)
-    (λ is. wants_place config last c.try_home-in-Room.new.own c.args.command.now turn.moment (Some c.refuse.new.lent.class.number) (number_in c.try_home.new.other) _ again_suffice c.in-Wants-2.field-0 again.2 (λ room. some_none c.in_ok-place-in-Room.place _ refl (rw room at again.2).0.none))
+    (λ is. wants_place config last c.try_home-in-Room.new.own c.args.command.now turn.moment (Some c.refuse.new.lent.class.number) (class_held c.try_home.new.other) _ again_suffice c.in-Wants-2.field-0 again.2 (λ room. some_none c.in_ok-place-in-Room.place _ refl (rw room at again.2).0.none))

@@ -1,5 +1,5 @@
 use Rattle.std.proofs.Common.{refl}
-use Rattle.mc_store.proofs.{EndLemmas.ends_made, UnderLemmas.searched_itself, UnderLemmas.site_itself}
+use Rattle.mc_store.proofs.{CommandEndLemmas.ends_made, UnderLockLemmas.searched_itself, UnderLockLemmas.site_itself}
 use Rattle.mc_store.proofs.held.answer_at_item.Goals as goal
 
 pub returns-in-Made : goal.returns-in-Made

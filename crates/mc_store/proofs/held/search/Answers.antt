@@ -1,6 +1,6 @@
 use Rattle.std.proofs.Common.{ap, sym}
 use Rattle.mc_segment.specs.ClassState.{ClassView}
-use Rattle.mc_store.proofs.{EarnedLemmas.gone_through, LookedLemmas.full_vain}
+use Rattle.mc_store.proofs.{EarnedRefusalLemmas.gone_through, VisitedStripeLemmas.full_vain}
 use Rattle.mc_store.proofs.held.search.Goals as goal
 
 pub returns-clause-tried : goal.returns-clause-tried

@@ -6,9 +6,9 @@ use Rattle.mc_segment.specs.ClassState.{ClassView}
 use Rattle.mc_stripe.specs.{StripeState.Stripe, Trying.item_of, Trying.row_at}
 use Rattle.mc_stripe.specs.declared.wanting.Given.{Given}
 use Rattle.mc_pull.specs.{Agreeing.AgreeNow, Attempt.IsNoted, Attempt.OffersHome, Attempt.OffersOther}
-use Rattle.mc_store.specs.{Held.number_in, Held.number_of, Sides.ClassSide, Sides.StripeSide, Trying.IsTriedUnder}
-use Rattle.mc_store.proofs.HeldLemmas.{crowded_both, crowded_home, heard_of, home_fits, keeps_full, noted_of, other_fits, readied, readied_class, refused_of, same_number, short_seen, taken_earned, tried_on, wants_chunk}
-use Rattle.mc_store.proofs.PairLemmas.{grows_trans}
+use Rattle.mc_store.specs.{Held.class_held, Held.class_number, Sides.ClassSide, Sides.StripeSide, Trying.IsTriedUnder}
+use Rattle.mc_store.proofs.HeldTryLemmas.{crowded_both, crowded_home, heard_of, home_fits, keeps_full, noted_of, other_fits, readied, readied_class, refused_of, same_number, short_seen, taken_earned, tried_on, wants_chunk}
+use Rattle.mc_store.proofs.LockKeepsLemmas.{grows_trans}
 use Rattle.mc_store.proofs.held.try_home.Goals as goal
 
 -- ---- on the class of the new version alone
@@ -73,15 +73,15 @@ returns-in_ok-ready_class-in-None-clause-tried g c =
     let is = readied was met side c.meet.ensures.lent c.ready_class.ensures.same in
     let same = ap (λ (x : StripeSide). x.stripe) c.meet.ensures.own in
     let for_home = ap (λ (n : ClassNo). Some n) (offers.class_is ∙ same_number table config was side met.sight side.class.room is) in
-    let for_other = sym (ap number_in c.in-None.is) in
+    let for_other = sym (ap class_held c.in-None.is) in
     let short = short_seen table config was side met.sight side.class.room is mid end.sight c.side.ensures.kept c.meet.ensures.told c.try_on_one.ensures.sees in
-    tried_on config s end c.args.caller.now c.try_on_one.new.caller command turn given (side ∷ []) (new ∷ []) (Some was.class.number) (number_in c.args.other.now) _ for_home for_other
+    tried_on config s end c.args.caller.now c.try_on_one.new.caller command turn given (side ∷ []) (new ∷ []) (Some was.class.number) (class_held c.args.other.now) _ for_home for_other
     (λ room taken. taken_earned config s turn key side.class refused mid end.sight (heard_of table config was side met.sight side.class.room is mid c.meet.ensures.heard) c.try_on_one.ensures.sees
     (refused_of table config was side met.sight side.class.room is s turn key refused c.requires.refused) given (row_at s command turn.moment).need room offers taken)
     (λ stay lacks. (
       keeps_full config end.sight was.class side.class new.class refused turn.who (Some offer) offers (readied_class table config was side met.sight side.class.room is) stay.0 short lacks.none,
       refl,
-      wants_chunk s command turn.moment given was.class.number (number_in c.args.other.now) for_home for_other lacks,
+      wants_chunk s command turn.moment given was.class.number (class_held c.args.other.now) for_home for_other lacks,
     ))
     (λ stay class crowded. inr (short (crowded_home given key (item_of s command) turn.moment (row_at s command turn.moment) class crowded side.class refused turn.who refl offers)))
     c.try_on_one.result
@@ -131,7 +131,7 @@ try_on_two-requires-clause-may g c =
     let same = step ∙ ap (λ (x : StripeSide). x.stripe) c.meet-in-Some.ensures.own in
     let offers = subst (λ (v : ClassView). OffersHome v refused who c.offer_home-in-Some.result) at c.offer_home-in-Some.ensures in
     let offers_b = subst (λ (v : ClassView). OffersOther v c.offer_other.result) at_b c.offer_other.ensures in
-    let number_b : number_in c.args.other.now ≡ Some beside.class.number = ap number_in c.in-Some.is ∙ ap (λ (x : ClassSide). Some (number_of x)) (sym c.deref_mut-beside.ensures.value) in
+    let number_b : class_held c.args.other.now ≡ Some beside.class.number = ap class_held c.in-Some.is ∙ ap (λ (x : ClassSide). Some (class_number x)) (sym c.deref_mut-beside.ensures.value) in
     let far : side.class.number ≢ side_b.class.number = λ e. c.requires.apart (number_b
     ∙ ap (λ (n : ClassNo). Some n) (sym (same_number table config beside side_b c.meet-in-Some-2.new.lent.sight side_b.class.room is_b) ∙ (sym e ∙ same_number table config was side c.meet-in-Some.new.lent.sight side.class.room is))) in
     record {
@@ -162,7 +162,7 @@ try_on_two-requires-clause-room g c =
     let at_b : c.state-in-Some-2.result.now ≡ side_b.class = c.state-in-Some-2.ensures ∙ ap (λ (x : ClassSide). x.class) c.side-in-Some-2.ensures.value in
     let offers = subst (λ (v : ClassView). OffersHome v refused who c.offer_home-in-Some.result) at c.offer_home-in-Some.ensures in
     let offers_b = subst (λ (v : ClassView). OffersOther v c.offer_other.result) at_b c.offer_other.ensures in
-    let number_b : number_in c.args.other.now ≡ Some beside.class.number = ap number_in c.in-Some.is ∙ ap (λ (x : ClassSide). Some (number_of x)) (sym c.deref_mut-beside.ensures.value) in
+    let number_b : class_held c.args.other.now ≡ Some beside.class.number = ap class_held c.in-Some.is ∙ ap (λ (x : ClassSide). Some (class_number x)) (sym c.deref_mut-beside.ensures.value) in
     let far : side.class.number ≢ side_b.class.number = λ e. c.requires.apart (number_b
     ∙ ap (λ (n : ClassNo). Some n) (sym (same_number table config beside side_b c.meet-in-Some-2.new.lent.sight side_b.class.room is_b) ∙ (sym e ∙ same_number table config was side c.meet-in-Some.new.lent.sight side.class.room is))) in (
       (λ same. home_fits side.class c.offer_home-in-Some.result refused who c.in_ok-ready_class-in-Some.ensures.ready offers, λ same. absurd (far (sym same ∙ offers_b.class_is))),
@@ -199,7 +199,7 @@ returns-in_ok-ready_class-in-Some-2-clause-tried g c =
     let is_b = readied beside met_b side_b c.meet-in-Some-2.ensures.lent c.ready_class-in-Some-2.ensures.same in
     let number = same_number table config was side met.sight side.class.room is in
     let number_of_b = same_number table config beside side_b met_b.sight side_b.class.room is_b in
-    let number_b : number_in c.args.other.now ≡ Some beside.class.number = ap number_in c.in-Some.is ∙ ap (λ (x : ClassSide). Some (number_of x)) (sym c.deref_mut-beside.ensures.value) in
+    let number_b : class_held c.args.other.now ≡ Some beside.class.number = ap class_held c.in-Some.is ∙ ap (λ (x : ClassSide). Some (class_number x)) (sym c.deref_mut-beside.ensures.value) in
     let far : side.class.number ≢ side_b.class.number = λ e. c.requires.apart (number_b ∙ ap (λ (n : ClassNo). Some n) (sym number_of_b ∙ (sym e ∙ number))) in
     let same = ap (λ (x : StripeSide). x.stripe) c.meet-in-Some-2.ensures.own ∙ ap (λ (x : StripeSide). x.stripe) c.meet-in-Some.ensures.own in
     let for_home = ap (λ (n : ClassNo). Some n) (offers.class_is ∙ number) in
@@ -207,13 +207,13 @@ returns-in_ok-ready_class-in-Some-2-clause-tried g c =
     let later = grows_trans mid mid_b end.sight c.meet-in-Some-2.ensures.grows c.try_on_two.ensures.sees in
     let short = short_seen table config was side met.sight side.class.room is mid end.sight c.side-in-Some.ensures.kept c.meet-in-Some.ensures.told later in
     let short_b = short_seen table config beside side_b met_b.sight side_b.class.room is_b mid_b end.sight c.side-in-Some-2.ensures.kept c.meet-in-Some-2.ensures.told c.try_on_two.ensures.sees in
-    tried_on config s end c.args.caller.now c.try_on_two.new.caller command turn given (side ∷ side_b ∷ []) (new ∷ new_b ∷ []) (Some was.class.number) (number_in c.args.other.now) _ for_home for_other
+    tried_on config s end c.args.caller.now c.try_on_two.new.caller command turn given (side ∷ side_b ∷ []) (new ∷ new_b ∷ []) (Some was.class.number) (class_held c.args.other.now) _ for_home for_other
     (λ room taken. taken_earned config s turn key side.class refused mid end.sight (heard_of table config was side met.sight side.class.room is mid c.meet-in-Some.ensures.heard) later
     (refused_of table config was side met.sight side.class.room is s turn key refused c.requires.refused) given (row_at s command turn.moment).need room offers taken)
     (λ stay lacks. (
       keeps_full config end.sight was.class side.class new.class refused turn.who (Some offer) offers (readied_class table config was side met.sight side.class.room is) stay.0 short lacks.none,
       ap (λ (v : ClassView). Some v.number) stay.1.0 ∙ (ap (λ (n : ClassNo). Some n) number_of_b ∙ sym number_b),
-      wants_chunk s command turn.moment given was.class.number (number_in c.args.other.now) for_home for_other lacks,
+      wants_chunk s command turn.moment given was.class.number (class_held c.args.other.now) for_home for_other lacks,
     ))
     (λ stay class crowded. inr (⊎_elim short short_b (crowded_both given key (item_of s command) turn.moment (row_at s command turn.moment) class crowded side.class side_b.class refused turn.who far offers offers_b)))
     c.try_on_two.result

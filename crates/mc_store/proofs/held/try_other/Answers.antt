@@ -7,8 +7,8 @@ use Rattle.mc_stripe.specs.{StripeState.Stripe, Trying.item_of, Trying.row_at}
 use Rattle.mc_stripe.specs.declared.wanting.Given.{Given}
 use Rattle.mc_pull.specs.Attempt.{OffersOther}
 use Rattle.mc_store.specs.{Sides.ClassSide, Sides.StripeSide, Trying.IsTriedUnder}
-use Rattle.mc_store.proofs.HeldLemmas.{crowded_other, none_earned, other_fits, readied, same_number, short_seen, tried_on}
-use Rattle.mc_store.proofs.PairLemmas.{grows_trans}
+use Rattle.mc_store.proofs.HeldTryLemmas.{crowded_other, none_earned, other_fits, readied, same_number, short_seen, tried_on}
+use Rattle.mc_store.proofs.LockKeepsLemmas.{grows_trans}
 use Rattle.mc_store.proofs.held.try_other.Goals as goal
 
 pub try_on_one-requires-clause-room : goal.try_on_one-requires-clause-room

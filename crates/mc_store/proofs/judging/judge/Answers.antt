@@ -1,13 +1,13 @@
 use Rattle.std.proofs.Common.{◌≡◌, ap, sym, subst, ◌∙◌}
 use Rattle.std.specs.Prelude.{IsSomeAnd}
 use Rattle.mc_pull.specs.{Lone.StripeGrows, Question.HasKeyOf, Question.question_of, Walker.walker_of}
-use Rattle.mc_pull.proofs.LoneLemmas.{settle_walked}
+use Rattle.mc_pull.proofs.OneStripeGateLemmas.{settle_walked}
 use Rattle.mc_board.specs.Views.{OwnerView}
 use Rattle.mc_stripe.specs.StripeState.{Stripe}
 use Rattle.mc_store.specs.{Looked.IsKnown, Serving.MayFailSeen, Sides.StripeSide, Locked.HasBegun}
 use Rattle.mc_store.specs.declared.locked.LockedStripe.TheInside.{Inside}
-use Rattle.mc_store.proofs.{JudgedLemmas.class_judged, JudgedLemmas.fault_judged, JudgedLemmas.known_judged, JudgedLemmas.stripe_judged}
-use Rattle.mc_store.proofs.{ServedLemmas.class_told_more, ServedLemmas.handed_on, ServedLemmas.settled_grows, ServedLemmas.settled_told, PairLemmas.grows_trans}
+use Rattle.mc_store.proofs.{JudgedEntryLemmas.class_judged, JudgedEntryLemmas.fault_judged, JudgedEntryLemmas.known_judged, JudgedEntryLemmas.stripe_judged}
+use Rattle.mc_store.proofs.{SyncedStepLemmas.class_told_more, SyncedStepLemmas.handed_on, SyncedStepLemmas.settled_grows, SyncedStepLemmas.settled_told, LockKeepsLemmas.grows_trans}
 use Rattle.mc_store.proofs.judging.judge.Goals as goal
 
 pub catch_up_stripe-requires-clause-behind : goal.catch_up_stripe-requires-clause-behind

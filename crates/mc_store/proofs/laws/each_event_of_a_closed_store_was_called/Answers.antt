@@ -1,4 +1,4 @@
-use Rattle.mc_store.proofs.CalledLemmas.{was_called}
+use Rattle.mc_store.proofs.AnsweredTurnLemmas.{was_called}
 use Rattle.mc_store.proofs.laws.each_event_of_a_closed_store_was_called.Goals as goal
 
 pub returns : goal.returns

@@ -5,7 +5,7 @@ use Rattle.mc_evidence.proofs.LockLemmas.{class_begins}
 use Rattle.mc_board.specs.Histories.{list_at}
 use Rattle.mc_segment.specs.ClassState.{ClassView}
 use Rattle.mc_store.specs.{Locked.setting_of, Sides.ClassSide}
-use Rattle.mc_store.proofs.MadeLemmas.{called_none}
+use Rattle.mc_store.proofs.OwnEventLemmas.{called_none}
 use Rattle.mc_store.proofs.opening.open_class.Goals as goal
 
 pub new-requires-2 : goal.new-requires-2

@@ -1,6 +1,6 @@
 use Rattle.std.proofs.Common.{◌≡◌, ◌∙◌, ap, subst, sym}
 use Rattle.mc_store.specs.{Locked.class_lock, Sides.ClassSide, Sides.StripeSide, Sides.class_told}
-use Rattle.mc_store.proofs.{EarnedLemmas.class_seen, MeetLemmas.meet_agree, MeetLemmas.meet_class, MeetLemmas.meet_stripe, UnderLemmas.told_at}
+use Rattle.mc_store.proofs.{EarnedRefusalLemmas.class_seen, SyncLemmas.meet_agree, SyncLemmas.meet_class, SyncLemmas.meet_stripe, UnderLockLemmas.told_at}
 use Rattle.mc_store.proofs.pairing.meet.Goals as goal
 
 pub invariant_of-own : goal.invariant_of-own

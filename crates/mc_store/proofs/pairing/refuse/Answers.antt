@@ -3,8 +3,8 @@ use Rattle.mc_board.specs.{Histories.Grows, Histories.list_at, Views.OwnerView}
 use Rattle.mc_board.proofs.PrefixLemmas.{prefix_self}
 use Rattle.mc_segment.specs.ClassState.{ClassView}
 use Rattle.mc_store.specs.{Locked.HasBegunCommand, Locked.IsLockedClass, Serving.class_side, Sides.ClassSide, Sides.StripeSide}
-use Rattle.mc_store.proofs.{CallerLemmas.command_sees, MadeLemmas.gains_refused, MadeLemmas.locked_told, LentLemmas.class_behind, RefusedLemmas.refusal_grows}
-use Rattle.mc_store.proofs.{RefusedLemmas.refused_after}
+use Rattle.mc_store.proofs.{CallerLemmas.command_sees, OwnEventLemmas.gains_refused, OwnEventLemmas.locked_told, LentClassLemmas.class_behind, NotedRefusalLemmas.refusal_grows}
+use Rattle.mc_store.proofs.{NotedRefusalLemmas.refused_after}
 use Rattle.mc_store.proofs.pairing.refuse.Goals as goal
 
 pub catch_up_class-requires-clause-behind : goal.catch_up_class-requires-clause-behind

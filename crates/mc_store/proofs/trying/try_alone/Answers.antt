@@ -1,5 +1,5 @@
 use Rattle.std.proofs.Common.{[], ap, refl}
-use Rattle.mc_store.proofs.OpenedLemmas.{alone_left, known_in, left_first, left_tried, open_stripe, step_on, stripe_lacks}
+use Rattle.mc_store.proofs.OpenTryLemmas.{alone_left, known_in, left_first, left_tried, open_stripe, step_on, stripe_lacks}
 use Rattle.mc_store.proofs.trying.try_alone.Goals as goal
 
 pub put_if-requires-clause-behind : goal.put_if-requires-clause-behind

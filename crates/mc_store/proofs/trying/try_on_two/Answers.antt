@@ -1,7 +1,7 @@
 use Rattle.std.proofs.Common.{rules, ◌∷◌, ◌∙◌, [], ap, subst, sym}
 use Rattle.mc_store.specs.{Callers.asked_for, Passes.CallerView, Passes.HasCalled, Sides.ClassSide}
-use Rattle.mc_store.proofs.LentLemmas.{class_behind}
-use Rattle.mc_store.proofs.OpenedLemmas.{class_left, first_lent, grow_in, known_in, left_err, left_first, left_same, left_sees, left_stays, left_told, left_tried, left_unnoted, open_class, open_stripe, second_lent, step_two, stripe_lacks, two_full, two_left}
+use Rattle.mc_store.proofs.LentClassLemmas.{class_behind}
+use Rattle.mc_store.proofs.OpenTryLemmas.{class_left, first_lent, grow_in, known_in, left_err, left_first, left_same, left_sees, left_stays, left_told, left_tried, left_unnoted, open_class, open_stripe, second_lent, step_two, stripe_lacks, two_full, two_left}
 use Rattle.mc_store.proofs.trying.try_on_two.Goals as goal
 
 pub put_if-requires-clause-behind : goal.put_if-requires-clause-behind

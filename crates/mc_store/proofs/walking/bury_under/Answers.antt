@@ -2,15 +2,15 @@ use Rattle.std.proofs.Common.{◌≡◌, ◌++◌, ◌∷◌, [], List, Some, ap
 use Rattle.mc_item.specs.declared.{fault.Fault.TheVariants.HistoryFull, stripe_event.Cause.TheVariants.Expired, stripe_event.StripeEvent.StripeEvent}
 use Rattle.mc_segment.specs.ClassState.{ClassView}
 use Rattle.mc_stripe.specs.{Plan.dead_link, StripeState.Stripe, StripeState.cache_now}
-use Rattle.mc_pull.specs.{Agreeing.AgreeNow, Question.question, Refusal.MayFail, Settled.lost_event, Settled.stripe_events}
+use Rattle.mc_pull.specs.{Agreeing.AgreeNow, Question.question, Refusal.MayFail, Settled.lost_event, Settled.done_stripe_events}
 use Rattle.mc_pull.specs.declared.{judge.Done.Done, judge.Judge.TheVariants.Dead}
-use Rattle.mc_pull.proofs.LoneLemmas.{settle_walked}
-use Rattle.mc_store.proofs.{DeadLemmas.dead_listed, DeadLemmas.dead_reclaimed, DeadLemmas.told_dead, ShortLemmas.err_is, MadeLemmas.gains_settled}
-use Rattle.mc_store.proofs.{MadeLemmas.locked_told, CallerLemmas.begun_sees, CallerLemmas.command_any, CallerLemmas.command_sees, PairLemmas.grows_trans}
+use Rattle.mc_pull.proofs.OneStripeGateLemmas.{settle_walked}
+use Rattle.mc_store.proofs.{DeadEntryLemmas.dead_listed, DeadEntryLemmas.dead_reclaimed, DeadEntryLemmas.told_dead, ShortHistoryLemmas.err_is, OwnEventLemmas.gains_settled}
+use Rattle.mc_store.proofs.{OwnEventLemmas.locked_told, CallerLemmas.begun_sees, CallerLemmas.command_any, CallerLemmas.command_sees, LockKeepsLemmas.grows_trans}
 use Rattle.mc_store.specs.{Sides.ClassSide, Sides.StripeSide, Locked.HasBegun, Locked.HasBegunCommand, Locked.IsLockedClass, Made.GainsOwn, Serving.class_side}
 use Rattle.mc_store.specs.declared.locked.LockedStripe.TheInside as stripes
 use Rattle.mc_store.specs.declared.locked.LockedClass.TheInside as classes
-use Rattle.mc_store.proofs.ServedLemmas.{class_paired, class_told_more, settled_grows, settled_told, short_paired, stripe_paired}
+use Rattle.mc_store.proofs.SyncedStepLemmas.{class_paired, class_told_more, settled_grows, settled_told, short_paired, stripe_paired}
 use Rattle.mc_store.proofs.walking.bury_under.Goals as goal
 use Rattle.mc_board.specs.Histories.{Grows}
 
@@ -170,7 +170,7 @@ returns-clause-lost g c =
     let last : c.learn.new.stripe.stripe ≡ c.settle-done.new.stripe = ap (λ (x : StripeSide). x.stripe) ((c.learn.ensures.stripe ∙ c.hear-2.ensures.stripe) ∙ c.hear.ensures.told) in
     ap (λ (s : Stripe). s.history) last
     ∙ (c.in_ok-done.ensures.settled.stripe
-    ∙ (ap (λ (es : List StripeEvent). own.state.history ++ es) (ap (λ (d : Done). stripe_events lent.state q d) (c.in_ok-done.ensures.done ∙ made.0) ∙ made.1)
+    ∙ (ap (λ (es : List StripeEvent). own.state.history ++ es) (ap (λ (d : Done). done_stripe_events lent.state q d) (c.in_ok-done.ensures.done ∙ made.0) ∙ made.1)
     ∙ ap (λ (s : Stripe). s.history ++ lost_event c.args.who c.args.key.now (Expired c.args.moment) ∷ []) (s_is ∙ ap (λ (x : StripeSide). x.stripe) c.meet.ensures.own)))
 
 pub returns-in_err-done-clause-sees : goal.returns-in_err-done-clause-sees

@@ -5,7 +5,7 @@ use Rattle.mc_segment.specs.ClassState.{ClassView}
 use Rattle.mc_pull.specs.{Juggle.IsJuggle, Rounds.rounds}
 use Rattle.mc_pull.specs.declared.looking.Answer.{Answer}
 use Rattle.mc_store.specs.{Callers.juggling_of, Locked.HasBegunAs, Locked.IsLockedClass, Serving.class_side, Sides.ClassSide}
-use Rattle.mc_store.proofs.{CallerLemmas.begun_as_sees, GateLemmas.ok_more, MadeLemmas.locked_gains, MadeLemmas.of_juggling}
+use Rattle.mc_store.proofs.{CallerLemmas.begun_as_sees, GateLemmas.ok_more, OwnEventLemmas.locked_gains, OwnEventLemmas.of_juggling}
 use Rattle.mc_store.proofs.walking.juggle_under.Goals as goal
 
 pub returns-clause-juggle : goal.returns-clause-juggle

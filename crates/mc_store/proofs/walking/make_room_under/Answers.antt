@@ -9,7 +9,7 @@ use Rattle.mc_pull.specs.declared.looking.Answer.{Answer}
 use Rattle.mc_store.specs.{Earned.IsSearchInVain, Locked.HasBegunCommand, Locked.IsLockedClass, Serving.class_side}
 use Rattle.mc_store.specs.Sides.{ClassSide, StripeSide, class_told}
 use Rattle.mc_store.specs.declared.locked.LockedStripe.TheInside.{Inside}
-use Rattle.mc_store.proofs.{GateLemmas.ok_more, GateLemmas.room_full, PairLemmas.grows_trans, ServedLemmas.stripe_heard, MadeLemmas.locked_commanded}
+use Rattle.mc_store.proofs.{GateLemmas.ok_more, GateLemmas.room_full, LockKeepsLemmas.grows_trans, SyncedStepLemmas.stripe_heard, OwnEventLemmas.locked_commanded}
 use Rattle.mc_store.proofs.{CallerLemmas.command_any, CallerLemmas.command_sees}
 use Rattle.mc_store.proofs.walking.make_room_under.Goals as goal
 

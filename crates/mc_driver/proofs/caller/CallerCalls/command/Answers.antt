@@ -1,6 +1,6 @@
 use Rattle.mc_item.specs.{Command.key_of, Measure.stripe_of}
 use Rattle.mc_store.specs.Passes.{next_who}
-use Rattle.mc_driver.proofs.{CallLemmas.command_failed, CallLemmas.replied_ok, MadeLemmas.replied_may}
+use Rattle.mc_driver.proofs.{SharedCallLemmas.command_failed, SharedCallLemmas.replied_ok, CalledEventLemmas.replied_may}
 use Rattle.mc_driver.proofs.caller.CallerCalls.command.Goals as goal
 
 pub returns-clause-err : goal.returns-clause-err

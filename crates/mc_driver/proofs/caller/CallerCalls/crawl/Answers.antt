@@ -1,5 +1,5 @@
 use Rattle.mc_store.specs.Passes.{next_who}
-use Rattle.mc_driver.proofs.{CallLemmas.crawled_kinds, CallLemmas.crawled_ok, CallLemmas.crawling_failed, MadeLemmas.crawled_may}
+use Rattle.mc_driver.proofs.{SharedCallLemmas.crawled_kinds, SharedCallLemmas.crawled_ok, SharedCallLemmas.crawling_failed, CalledEventLemmas.crawled_may}
 use Rattle.mc_driver.proofs.caller.CallerCalls.crawl.Goals as goal
 
 pub returns-clause-ok : goal.returns-clause-ok

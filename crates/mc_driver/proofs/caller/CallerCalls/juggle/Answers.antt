@@ -1,4 +1,4 @@
-use Rattle.mc_driver.proofs.{CallLemmas.juggled_ok, CallLemmas.juggling_failed, MadeLemmas.juggled_may}
+use Rattle.mc_driver.proofs.{SharedCallLemmas.juggled_ok, SharedCallLemmas.juggling_failed, CalledEventLemmas.juggled_may}
 use Rattle.mc_driver.proofs.caller.CallerCalls.juggle.Goals as goal
 
 pub returns-clause-ok : goal.returns-clause-ok

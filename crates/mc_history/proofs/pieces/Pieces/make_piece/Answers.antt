@@ -2,7 +2,7 @@ use Rattle.std.proofs.Common.{◌≡◌, ◌+◌, ◌∷◌, ◌++◌, [], ap, l
 use Rattle.std.specs.Prelude.{Vec, vec_capacity}
 use Rattle.std.specs.{List.flat_map, declared.alloc.Global.Global}
 use Rattle.std.proofs.lemmas.List.Elements.{All-same, All-push}
-use Rattle.mc_history.specs.Pieces.{IsFull, IsAhead, IsSound}
+use Rattle.mc_history.specs.Pieces.{IsFullPiece, IsAhead, ArePiecesSound}
 use Rattle.mc_history.proofs.PieceLemmas.{length_of_full, one_more_fits}
 use Rattle.mc_history.proofs.pieces.Pieces.make_piece.Goals as goal
 
@@ -17,8 +17,8 @@ turn_if_full-requires g c =
     let longer = ap length grown in
     let more = length-append old.ahead.items (made ∷ []) in
     let fits = one_more_fits (vec_capacity old.last) (length old.full.items + length old.ahead.items) c.requires.kept.sound.last (omega (arith, full, events, c.requires.few, old.last.ok)) in
-    let sound : IsSound (record { last = old.last; full = c.reserve.new.self; ahead = c.push_reserved.new.self }) = record {
-      full = All-same IsFull _ _ c.reserve.ensures.items c.requires.kept.sound.full;
+    let sound : ArePiecesSound (record { last = old.last; full = c.reserve.new.self; ahead = c.push_reserved.new.self }) = record {
+      full = All-same IsFullPiece _ _ c.reserve.ensures.items c.requires.kept.sound.full;
       last = c.requires.kept.sound.last;
       ahead = All-same IsAhead _ _ grown (All-push IsAhead _ _ c.requires.kept.sound.ahead (record { none = ap length c.in_ok-with_capacity.ensures.items; places = c.in_ok-with_capacity.ensures.exact }));
       behind = omega (arith, same, longer, more, c.in_ok-reserve.ensures.ok, c.reserve.new.self.ok, c.len.ensures, old.ahead.ok);

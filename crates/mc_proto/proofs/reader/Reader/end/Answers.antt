@@ -1,4 +1,4 @@
-use Rattle.mc_proto.proofs.RestLemmas.{after_named}
+use Rattle.mc_proto.proofs.KeptRestLemmas.{after_named}
 use Rattle.mc_proto.proofs.reader.Reader.end.Goals as goal
 
 pub returns-clause-rest : goal.returns-clause-rest

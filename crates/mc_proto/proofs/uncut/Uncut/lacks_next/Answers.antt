@@ -1,7 +1,7 @@
 use Rattle.std.proofs.Common.{◌≡◌, ◌∙◌, ◌++◌, ℕ, List, drop, false, ap, sym, subst}
 use Rattle.std.specs.List.{flat_map}
 use Rattle.mc_proto.specs.Lines.{LacksNext, LacksNextBehind}
-use Rattle.mc_proto.proofs.NextLemmas.{next_front, next_behind, next_both}
+use Rattle.mc_proto.proofs.NextDirectiveLemmas.{next_front, next_behind, next_both}
 use Rattle.mc_proto.proofs.uncut.Uncut.lacks_next.Goals as goal
 
 -- what comes is the rest of the piece that was reached, and the other pieces

@@ -1,5 +1,5 @@
 use Rattle.mc_pull.specs.{Question.question_of, Walker.walker_of}
-use Rattle.mc_pull.proofs.LoneLemmas.{settle_walked, walked_both}
+use Rattle.mc_pull.proofs.OneStripeGateLemmas.{settle_walked, walked_both}
 use Rattle.mc_pull.proofs.lone.LoneGate.visit.Goals as goal
 
 pub returns-in_err-settle-clause-kept : goal.returns-in_err-settle-clause-kept

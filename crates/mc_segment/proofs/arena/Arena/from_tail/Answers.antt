@@ -4,7 +4,7 @@ use Rattle.mc_rule.specs.Lists.{list_of}
 use Rattle.mc_segment.specs.declared.ends.Ends.{Ends}
 use Rattle.mc_segment.specs.{Nodes.before, Arena.part, Arena.code}
 use Rattle.mc_segment.proofs.TailLemmas.{before_last, not_yet, missing, next_is, entry_is, node_here}
-use Rattle.mc_segment.proofs.{PartLemmas.mine, ArenaLemmas.seen}
+use Rattle.mc_segment.proofs.{OneListLemmas.mine, ArenaLemmas.seen}
 use Rattle.mc_segment.proofs.arena.Arena.from_tail.Goals as goal
 
 pub loop-init : goal.loop-init

@@ -2,7 +2,7 @@ use Rattle.std.proofs.Common.{◌+◌, ap, ◌∙◌, sym, Some}
 use Rattle.std.specs.Option.{option_copied}
 use Rattle.mc_segment.specs.declared.arena.Node.{Node}
 use Rattle.mc_segment.specs.{Slots.slot, Arena.part, Arena.code, Arena.nodes_of}
-use Rattle.mc_segment.proofs.{ChainLemmas.some_none, PartLemmas.named, PartLemmas.mine, ArenaLemmas.seen, ArenaLemmas.found_is}
+use Rattle.mc_segment.proofs.{ChainLemmas.some_none, OneListLemmas.named, OneListLemmas.mine, ArenaLemmas.seen, ArenaLemmas.found_is}
 use Rattle.mc_segment.proofs.TailLemmas.{not_missing, none_newer, newer_stands, tail_node, some_same}
 use Rattle.mc_segment.proofs.arena.Arena.next_newer.Goals as goal
 

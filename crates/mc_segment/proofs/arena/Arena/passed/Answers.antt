@@ -5,7 +5,7 @@ use Rattle.mc_rule.specs.{Lists.list_of, Segment.numbers_of}
 use Rattle.mc_segment.specs.declared.ends.Ends.{Ends}
 use Rattle.mc_segment.specs.{Nodes.before, Arena.part, Arena.code}
 use Rattle.mc_segment.proofs.TailLemmas.{before_last, not_yet, missing, next_is, here, node_here, some_same, tail_number}
-use Rattle.mc_segment.proofs.{PartLemmas.mine, ArenaLemmas.seen}
+use Rattle.mc_segment.proofs.{OneListLemmas.mine, ArenaLemmas.seen}
 use Rattle.mc_segment.proofs.arena.Arena.passed.Goals as goal
 
 pub loop-i-init : goal.loop-i-init

@@ -1,9 +1,9 @@
 use Rattle.std.proofs.Common.{◌≡◌, ◌==◌, None, Some, Option, ap, ◌∙◌, sym, subst, arith}
 use Rattle.std.specs.Prelude.{if◌then◌else◌}
 use Rattle.mc_rule.specs.Lists.{count_of, linked}
-use Rattle.mc_segment.specs.declared.{arena.Place.Place, ends.Ends.Ends, ends.Heads.Heads}
+use Rattle.mc_segment.specs.declared.{arena.Listed.Listed, ends.Ends.Ends, ends.Heads.Heads}
 use Rattle.mc_segment.specs.{Nodes.node, Slots.slot, Slots.place_newer, Arena.Held, Arena.IsArena, Arena.ends_of, Arena.with_ends, Arena.pushed_ends}
-use Rattle.mc_segment.proofs.{PartLemmas.linked_count, ArenaLemmas.seen, ArenaLemmas.closed, ArenaLemmas.whole, ArenaLemmas.put_arena}
+use Rattle.mc_segment.proofs.{OneListLemmas.linked_count, ArenaLemmas.seen, ArenaLemmas.closed, ArenaLemmas.whole, ArenaLemmas.put_arena}
 use Rattle.mc_segment.proofs.arena.Arena.put.Goals as goal
 
 put_is : (c : goal.After-set) → IsArena (slot c.fill.new.slots) c.self.inside.next c.set.new.self (linked c.args.seg c.args.entry c.args.self.now.lists)
@@ -21,7 +21,7 @@ put_is c =
     (omega (arith, c.requires.count, next))
     (omega (arith, c.requires.cost, next))
     (λ q. c.fill.ensures.slots q
-    ∙ (ap (λ (o : Option Place). if e.number == q then Some (record { seg = s; node = node e None c.of-ends.result.newest }) else o) (c.set_newer.ensures.slots q)
+    ∙ (ap (λ (o : Option Listed). if e.number == q then Some (record { seg = s; node = node e None c.of-ends.result.newest }) else o) (c.set_newer.ensures.slots q)
     ∙ ap (λ (x : Ends). if e.number == q then Some (record { seg = s; node = node e None x.newest }) else place_newer x.newest (Some e.number) q (slot xs q)) ends)))
 
 pub invariant_of-self : goal.invariant_of-self

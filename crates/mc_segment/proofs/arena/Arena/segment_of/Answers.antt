@@ -1,7 +1,7 @@
 use Rattle.std.proofs.Common.{ap, ◌∙◌, sym}
 use Rattle.std.specs.Option.{option_map}
 use Rattle.mc_item.specs.declared.{lists.Entry.Entry, lists.Seg.Seg}
-use Rattle.mc_segment.proofs.{PartLemmas.named, ArenaLemmas.seen, ArenaLemmas.found_is}
+use Rattle.mc_segment.proofs.{OneListLemmas.named, ArenaLemmas.seen, ArenaLemmas.found_is}
 use Rattle.mc_segment.proofs.arena.Arena.segment_of.Goals as goal
 
 pub returns-in_err-place_at : goal.returns-in_err-place_at

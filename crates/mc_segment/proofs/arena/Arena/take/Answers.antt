@@ -4,7 +4,7 @@ use Rattle.mc_rule.specs.Lists.{count_of, found, unlinked}
 use Rattle.mc_segment.specs.declared.{ends.Ends.Ends, ends.Heads.Heads}
 use Rattle.mc_segment.specs.Slots.{slot, place_newer, place_older}
 use Rattle.mc_segment.specs.Arena.{Held, IsArena, ends_of, with_ends, taken_ends, all_bytes}
-use Rattle.mc_segment.proofs.{PartLemmas.named, PartLemmas.emptied, PartLemmas.none_slot, SlotLemmas.has_place}
+use Rattle.mc_segment.proofs.{OneListLemmas.named, OneListLemmas.emptied, OneListLemmas.none_slot, SlotLemmas.has_place}
 use Rattle.mc_segment.proofs.ArenaLemmas.{slot_below, seen, closed, whole, same_slots, take_arena, taken_sums, number_is, length_is, cost_fits, found_is, unlinked_none, find_here, unlinked_is}
 use Rattle.mc_segment.proofs.arena.Arena.take.Goals as goal
 

@@ -2,7 +2,7 @@ use Rattle.std.proofs.Common.{◌≡◌, ap, subst, Some, take, reverse}
 use Rattle.std.specs.Prelude.{IfSome}
 use Rattle.std.specs.Option.{option_copied}
 use Rattle.mc_rule.specs.{Lists.Lists, Lists.list_of, Lists.find, Lists.found, Segment.numbers_of, Segment.numbers_behind}
-use Rattle.mc_segment.proofs.{StateLemmas.seen_lists, TailLemmas.behind_read, TailLemmas.once_in, FoundLemmas.found_tail}
+use Rattle.mc_segment.proofs.{StateLemmas.seen_lists, TailLemmas.behind_read, TailLemmas.once_in, ListOfNumberLemmas.found_tail}
 use Rattle.mc_segment.proofs.state.ClassState.from_tail.Goals as goal
 
 pub returns-clause-behind : goal.returns-clause-behind

@@ -1,6 +1,6 @@
 use Rattle.std.proofs.Common.{◌≤◌, subst}
 use Rattle.mc_rule.specs.Lists.{Lists, lists_of, times_in}
-use Rattle.mc_segment.proofs.{StateLemmas.seen_lists, FoundLemmas.is_inside, FoundLemmas.segment_is}
+use Rattle.mc_segment.proofs.{StateLemmas.seen_lists, ListOfNumberLemmas.is_inside, ListOfNumberLemmas.segment_is}
 use Rattle.mc_segment.proofs.state.ClassState.law.Goals as goal
 
 pub returns-clause-inside : goal.returns-clause-inside

@@ -2,7 +2,7 @@ use Rattle.std.proofs.Common.{◌≤◌, ◌∙◌, ap, subst, rules, arith}
 use Rattle.mc_item.specs.declared.class_event.ClassEvent.TheVariants as events
 use Rattle.mc_rule.specs.Lists.{Lists, moved, segment_of, times_in}
 use Rattle.mc_segment.specs.ClassState.{HasPlaces}
-use Rattle.mc_segment.proofs.{StateLemmas.keeps, StateLemmas.seen_lists, StateLemmas.not_to_come, FoundLemmas.segment_is}
+use Rattle.mc_segment.proofs.{StateLemmas.keeps, StateLemmas.seen_lists, StateLemmas.not_to_come, ListOfNumberLemmas.segment_is}
 use Rattle.mc_segment.proofs.state.ClassState.turn.Goals as goal
 
 pub move_to-requires : goal.move_to-requires

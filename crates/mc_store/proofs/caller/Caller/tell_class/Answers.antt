@@ -1,7 +1,7 @@
 use Rattle.std.proofs.Common.{ap, subst, sym}
 use Rattle.mc_store.specs.{Locked.IsLockedClass, Serving.class_side}
 use Rattle.mc_store.specs.declared.locked.LockedClass.TheInside.{Inside}
-use Rattle.mc_store.proofs.MadeLemmas.{locked_sees}
+use Rattle.mc_store.proofs.OwnEventLemmas.{locked_sees}
 use Rattle.mc_store.proofs.caller.Caller.tell_class.Goals as goal
 
 pub invariant_of-class : goal.invariant_of-class

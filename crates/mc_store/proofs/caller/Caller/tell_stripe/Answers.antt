@@ -1,7 +1,7 @@
 use Rattle.std.proofs.Common.{ap, subst, sym}
 use Rattle.mc_store.specs.Locked.{IsLockedStripe}
 use Rattle.mc_store.specs.declared.locked.LockedStripe.TheInside.{Inside}
-use Rattle.mc_store.proofs.{PairLemmas.stripe_sees, SaidLemmas.stripe_side}
+use Rattle.mc_store.proofs.{LockKeepsLemmas.stripe_sees, SyncedLemmas.stripe_side}
 use Rattle.mc_store.proofs.caller.Caller.tell_stripe.Goals as goal
 
 pub invariant_of-stripe : goal.invariant_of-stripe

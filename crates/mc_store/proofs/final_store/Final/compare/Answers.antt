@@ -1,7 +1,7 @@
 use Rattle.std.proofs.Common.{◌≡◌, List, slice_get, ap, ◌∙◌, subst}
 use Rattle.mc_board.specs.Histories.{HasSeen}
 use Rattle.mc_store.specs.{Callers.calls_told, Finals.FinalView, Locked.caller_place, Passes.CallerView, Passes.PassView, Sides.ClassSide, Sides.StripeSide}
-use Rattle.mc_store.proofs.FinalLemmas.{its_own, its_own_in_classes}
+use Rattle.mc_store.proofs.ClosedCallLemmas.{its_own, its_own_in_classes}
 use Rattle.mc_store.proofs.final_store.Final.compare.Goals as goal
 
 pub returns-clause-own : goal.returns-clause-own

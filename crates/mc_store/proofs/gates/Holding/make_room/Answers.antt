@@ -2,7 +2,7 @@ use Rattle.std.proofs.Common.{◌≡◌, Bool, List, false}
 use Rattle.mc_pull.specs.{Rounds.IsRoom, Rounds.rounds, Walker.walker_of}
 use Rattle.mc_pull.specs.declared.looking.Answer.{Answer}
 use Rattle.mc_store.specs.{Earned.IsSearchInVain, Looked.IsOfCall}
-use Rattle.mc_store.proofs.{GateLemmas.grew_itself, GateLemmas.ok_more, LookedLemmas.looked_itself, LookedLemmas.tried_any, MadeLemmas.walks_none}
+use Rattle.mc_store.proofs.{GateLemmas.grew_itself, GateLemmas.ok_more, VisitedStripeLemmas.looked_itself, VisitedStripeLemmas.tried_any, OwnEventLemmas.walks_none}
 use Rattle.mc_store.proofs.gates.Holding.make_room.Goals as goal
 
 pub returns-clause-stripe : goal.returns-clause-stripe

@@ -4,11 +4,11 @@ use Rattle.mc_board.specs.{Histories.Grows, Views.SeenView}
 use Rattle.mc_store.specs.{Locked.HasBegun, Looked.IsOfCall, Sides.StripeSide}
 use Rattle.mc_store.proofs.{CallerLemmas.asked_here, CallerLemmas.begun_sees, GateLemmas.grew_on}
 use Rattle.mc_stripe.specs.StripeState.{Stripe}
-use Rattle.mc_pull.specs.{Lone.StripeGrows, Looks.answer, Question.HasKeyOf, Question.question_of, Walker.walker_of}
+use Rattle.mc_pull.specs.{Lone.StripeGrows, Looks.answer_by, Question.HasKeyOf, Question.question_of, Walker.walker_of}
 use Rattle.mc_pull.specs.declared.looking.Answer.{Answer}
 use Rattle.mc_segment.specs.ClassState.{ClassView}
-use Rattle.mc_store.proofs.LookedLemmas.{known_at, looked_away, looked_both, looked_here, same_after}
-use Rattle.mc_store.proofs.MadeLemmas.{gains_judged, gains_none, walks_none, walks_on}
+use Rattle.mc_store.proofs.VisitedStripeLemmas.{known_at, looked_away, looked_both, looked_here, same_after}
+use Rattle.mc_store.proofs.OwnEventLemmas.{gains_judged, gains_none, walks_none, walks_on}
 use Rattle.mc_store.proofs.gates.HoldingGate.visit.Goals as goal
 
 pub returns-then-not-lends-clause-kept : goal.returns-then-not-lends-clause-kept
@@ -57,7 +57,7 @@ returns-clause-kept g c = λ first begun kept.
     let learnt : c.learn.new.self.stripe ≡ s = ap (λ (x : StripeSide). x.stripe) c.learn.ensures.stripe in
     let grows : StripeGrows w s c.judge.new.stripe.stripe = subst (λ (x : Stripe). StripeGrows w x c.judge.new.stripe.stripe) learnt c.judge.ensures.stripe in
     let known = known_at look.class.now q g.N.Named.config look.ask.config.now s c.learn.new.self.stripe c.args.stripe c.judge.new.look.judged c.requires.gate.0 learnt (c.lends.ensures.own c.if-not-lends.false).0 c.requires.key c.in_ok-judge.ensures.known in
-    let answered = c.push_reserved.ensures.items ∙ ap (λ (xs : List Answer). xs ++ answer c.args.stripe c.judge.new.look.judged ∷ []) c.reserve.ensures.items in (
+    let answered = c.push_reserved.ensures.items ∙ ap (λ (xs : List Answer). xs ++ answer_by c.args.stripe c.judge.new.look.judged ∷ []) c.reserve.ensures.items in (
       grew_on w _ _ _ kept.0 grows,
       λ of.
           let was = kept.1 of in (

@@ -1,5 +1,5 @@
 use Rattle.std.proofs.Common.{refl}
-use Rattle.mc_store.proofs.{MadeLemmas.walks_none, CrawledLemmas.counts_link}
+use Rattle.mc_store.proofs.{OwnEventLemmas.walks_none, CrawledLemmas.counts_link}
 use Rattle.mc_store.proofs.gates.Trying.crawl.Goals as goal
 
 pub returns-clause-walked : goal.returns-clause-walked

@@ -2,7 +2,7 @@ use Rattle.std.proofs.Common.{List, refl}
 use Rattle.mc_item.specs.declared.counts.Moves.{Moves}
 use Rattle.mc_pull.specs.{Juggle.IsJuggle, Rounds.rounds}
 use Rattle.mc_pull.specs.declared.looking.Answer.{Answer}
-use Rattle.mc_store.proofs.{GateLemmas.ok_more, GateLemmas.served_room, GateLemmas.served_survey, MadeLemmas.walks_none, MadeLemmas.walks_survey}
+use Rattle.mc_store.proofs.{GateLemmas.ok_more, GateLemmas.served_room, GateLemmas.served_survey, OwnEventLemmas.walks_none, OwnEventLemmas.walks_survey}
 use Rattle.mc_store.proofs.gates.Trying.juggle.Goals as goal
 
 pub juggle-requires-clause-outlasts : goal.juggle-requires-clause-outlasts

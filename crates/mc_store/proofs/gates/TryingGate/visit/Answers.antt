@@ -1,12 +1,12 @@
 use Rattle.std.proofs.Common.{◌≡◌, ◌∙◌, ◌++◌, ◌∷◌, [], ℕ, List, None, ap, refl, subst, sym}
 use Rattle.std.proofs.lemmas.List.{append-nil}
 use Rattle.mc_item.specs.declared.{class_event.ClassEvent.ClassEvent, config.Config.Config, item.StripeNo.StripeNo}
-use Rattle.mc_pull.specs.{Looks.IsJudgedIf, Looks.answer, Question.question_of}
+use Rattle.mc_pull.specs.{Looks.IsJudgedIf, Looks.answer_by, Question.question_of}
 use Rattle.mc_pull.specs.declared.looking.Answer.{Answer}
 use Rattle.mc_board.specs.{Histories.Grows, Views.SeenView}
 use Rattle.mc_segment.specs.ClassState.{ClassView}
 use Rattle.mc_store.specs.{Locked.HasBegun, Sides.StripeSide}
-use Rattle.mc_store.proofs.{CallerLemmas.asked_here, CallerLemmas.begun_sees, MadeLemmas.gains_judged, MadeLemmas.gains_none, MadeLemmas.walks_on}
+use Rattle.mc_store.proofs.{CallerLemmas.asked_here, CallerLemmas.begun_sees, OwnEventLemmas.gains_judged, OwnEventLemmas.gains_none, OwnEventLemmas.walks_on}
 use Rattle.mc_store.proofs.gates.TryingGate.visit.Goals as goal
 
 pub judge-requires-clause-begun : goal.judge-requires-clause-begun
@@ -56,7 +56,7 @@ returns-clause-kept g c = λ first begun kept.
 
 pub returns-in_default-clause-answer : goal.returns-in_default-clause-answer
 returns-in_default-clause-answer g c =
-    rw c.requires.once (refl, c.push_reserved-in_default.ensures.items ∙ ap (λ (xs : List Answer). xs ++ answer c.args.stripe None ∷ []) c.reserve.ensures.items)
+    rw c.requires.once (refl, c.push_reserved-in_default.ensures.items ∙ ap (λ (xs : List Answer). xs ++ answer_by c.args.stripe None ∷ []) c.reserve.ensures.items)
 
 pub returns-in_default-clause-class : goal.returns-in_default-clause-class
 returns-in_default-clause-class g c =
@@ -65,7 +65,7 @@ returns-in_default-clause-class g c =
 
 pub returns-in_default-try_lock-clause-answer : goal.returns-in_default-try_lock-clause-answer
 returns-in_default-try_lock-clause-answer g c =
-    rw c.requires.once (refl, c.push_reserved-in_default-try_lock.ensures.items ∙ ap (λ (xs : List Answer). xs ++ answer c.args.stripe None ∷ []) c.reserve.ensures.items)
+    rw c.requires.once (refl, c.push_reserved-in_default-try_lock.ensures.items ∙ ap (λ (xs : List Answer). xs ++ answer_by c.args.stripe None ∷ []) c.reserve.ensures.items)
 
 pub returns-in_default-try_lock-clause-class : goal.returns-in_default-try_lock-clause-class
 returns-in_default-try_lock-clause-class g c =
@@ -74,7 +74,7 @@ returns-in_default-try_lock-clause-class g c =
 
 pub returns-then-not-is_numbered-clause-answer : goal.returns-then-not-is_numbered-clause-answer
 returns-then-not-is_numbered-clause-answer g c =
-    rw c.requires.once (refl, c.push_reserved-then-not-is_numbered.ensures.items ∙ ap (λ (xs : List Answer). xs ++ answer c.args.stripe None ∷ []) c.reserve.ensures.items)
+    rw c.requires.once (refl, c.push_reserved-then-not-is_numbered.ensures.items ∙ ap (λ (xs : List Answer). xs ++ answer_by c.args.stripe None ∷ []) c.reserve.ensures.items)
 
 pub returns-then-not-is_numbered-clause-class : goal.returns-then-not-is_numbered-clause-class
 returns-then-not-is_numbered-clause-class g c =

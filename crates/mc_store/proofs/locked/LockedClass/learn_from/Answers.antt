@@ -1,6 +1,6 @@
 use Rattle.std.proofs.Common.{subst, sym}
 use Rattle.mc_store.specs.{Locked.IsLockedClass, Serving.class_side}
-use Rattle.mc_store.proofs.MadeLemmas.{locked_sees}
+use Rattle.mc_store.proofs.OwnEventLemmas.{locked_sees}
 use Rattle.mc_store.proofs.locked.LockedClass.learn_from.Goals as goal
 
 pub invariant_of-self : goal.invariant_of-self

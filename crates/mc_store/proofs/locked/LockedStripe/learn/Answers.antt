@@ -1,6 +1,6 @@
 use Rattle.std.proofs.Common.{subst, sym}
 use Rattle.mc_store.specs.Locked.{IsLockedStripe}
-use Rattle.mc_store.proofs.{PairLemmas.stripe_sees, SaidLemmas.stripe_side}
+use Rattle.mc_store.proofs.{LockKeepsLemmas.stripe_sees, SyncedLemmas.stripe_side}
 use Rattle.mc_store.proofs.locked.LockedStripe.learn.Goals as goal
 
 pub invariant_of-self : goal.invariant_of-self

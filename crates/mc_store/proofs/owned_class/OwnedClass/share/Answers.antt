@@ -3,7 +3,7 @@ use Rattle.mc_board.specs.{Views.SeenView, Histories.Grows}
 use Rattle.mc_board.proofs.SeenLemmas.{Grows-trans}
 use Rattle.mc_board.specs.declared.rule.Sight.{Sight}
 use Rattle.mc_store.specs.Sides.{ClassSide, class_told}
-use Rattle.mc_store.proofs.UnderLemmas.{grows_but, told_at}
+use Rattle.mc_store.proofs.UnderLockLemmas.{grows_but, told_at}
 use Rattle.mc_store.proofs.owned_class.OwnedClass.share.Goals as goal
 
 pub returns-clause-told : goal.returns-clause-told

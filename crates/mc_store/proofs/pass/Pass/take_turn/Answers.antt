@@ -1,6 +1,6 @@
 use Rattle.std.proofs.Common.{◌≡◌, ◌∷◌, [], ◌<◌, ◌+◌, ap, refl, subst, sym, arith, length}
 use Rattle.mc_store.specs.{Callers.call_events, Callers.turns_of, Passes.CallerView}
-use Rattle.mc_store.proofs.CallLemmas.{turn_taken}
+use Rattle.mc_store.proofs.SeenStripeLemmas.{turn_taken}
 use Rattle.mc_store.proofs.pass.Pass.take_turn.Goals as goal
 
 pub invariant_of-self : goal.invariant_of-self

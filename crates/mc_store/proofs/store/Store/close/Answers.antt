@@ -1,7 +1,7 @@
 use Rattle.std.proofs.Common.{List, sym, subst}
 use Rattle.mc_board.specs.Views.{BoardView}
 use Rattle.mc_store.specs.Sides.{AreClassesOn, AreStripesOn, ClassSide, StripeSide}
-use Rattle.mc_store.proofs.PlaceLemmas.{classes_on, stripes_on}
+use Rattle.mc_store.proofs.NumberOrderLemmas.{classes_on, stripes_on}
 use Rattle.mc_store.proofs.store.Store.close.Goals as goal
 
 pub new-requires-clause-stripes : goal.new-requires-clause-stripes

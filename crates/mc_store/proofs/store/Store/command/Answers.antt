@@ -4,7 +4,7 @@ use Rattle.mc_item.specs.declared.{config.Config.Config, item.StripeNo.StripeNo,
 use Rattle.mc_board.specs.{Histories.Grows, Histories.HasSeen, Histories.list_at, Views.SeenView}
 use Rattle.mc_board.specs.declared.rule.Sight.{Sight}
 use Rattle.mc_store.specs.{Held.Ends, Held.IsCallOn, Locked.IsLockedStripe, Passes.HasAsked, Passes.PassView, Passes.caller_of, Passes.next_who, Sides.StripeSide, Sides.stripe_told}
-use Rattle.mc_store.proofs.{CallLemmas.IsShared, CallLemmas.asked_now, CallLemmas.on_err_more, CallLemmas.shared_by, CallLemmas.turns_kept, CallerLemmas.on_ok_always}
+use Rattle.mc_store.proofs.{SeenStripeLemmas.IsShared, SeenStripeLemmas.asked_now, SeenStripeLemmas.on_err_more, SeenStripeLemmas.shared_by, SeenStripeLemmas.turns_kept, CallerLemmas.on_ok_always}
 use Rattle.mc_store.proofs.store.Store.command.Given.{Over}
 use Rattle.mc_store.proofs.store.Store.command.Goals as goal
 use Rattle.mc_store.proofs.store.Store.command.Goals.{After-compare, After-share, in-None, in-Some}

@@ -8,7 +8,7 @@ use Rattle.mc_crawl.specs.CrawlCount.{IsBalanced}
 use Rattle.mc_store.specs.Crawls.{IsCrawledBy, IsSnapshot, ShowsReclaims}
 use Rattle.mc_store.specs.{Locked.class_lock, Passes.PassView, Sides.class_told, Callers.crawling_of}
 use Rattle.mc_store.proofs.CrawledLemmas.{shows_both, shows_none, so_far_all, so_far_more, so_far_none}
-use Rattle.mc_store.proofs.{PairLemmas.grows_trans, CallLemmas.on_err_always, CallLemmas.called_now}
+use Rattle.mc_store.proofs.{LockKeepsLemmas.grows_trans, SeenStripeLemmas.on_err_always, SeenStripeLemmas.called_now}
 use Rattle.mc_store.proofs.store.Store.crawl.Goals as goal
 
 pub loop-i-init : goal.loop-i-init

@@ -8,8 +8,8 @@ use Rattle.mc_pull.specs.Growth as classes
 use Rattle.mc_item.specs.declared.item.ClassNo.{ClassNo}
 use Rattle.mc_store.specs.{Callers.crawling_of, Crawls.CountsLink, Crawls.IsLinkCounted, Crawls.ShowsReclaims, Finals.IsBehindAt, Locked.HasBegunAs}
 use Rattle.mc_store.specs.{Locked.IsHeldClass, Locked.class_lock, Passes.PassView, Passes.HasCalled, Passes.caller_of, Sides.ClassSide, Sides.class_told}
-use Rattle.mc_store.proofs.{CrawledLemmas.link_counted, CrawledLemmas.on_ok_more, CrawledLemmas.shows_one, GrownLemmas.class_grew, GrownLemmas.fails_full}
-use Rattle.mc_store.proofs.{GrownLemmas.seen_sound}
+use Rattle.mc_store.proofs.{CrawledLemmas.link_counted, CrawledLemmas.on_ok_more, CrawledLemmas.shows_one, GrownClassLemmas.class_grew, GrownClassLemmas.fails_full}
+use Rattle.mc_store.proofs.{GrownClassLemmas.seen_sound}
 use Rattle.mc_store.proofs.store.Store.crawl_link.Goals as goal
 
 pub returns-clause-reclaims : goal.returns-clause-reclaims

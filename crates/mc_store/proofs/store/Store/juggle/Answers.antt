@@ -9,7 +9,7 @@ use Rattle.mc_pull.specs.{Juggle.IsJuggle, Rounds.rounds}
 use Rattle.mc_pull.specs.declared.looking.Answer.{Answer}
 use Rattle.mc_store.specs.{Calls.IsJuggledBy, Finals.IsBehindAt, Locked.HasBegunAs, Locked.IsHeldClass, Sides.ClassSide, Sides.class_told, Callers.juggling_of}
 use Rattle.mc_store.specs.Passes.{PassView, HasCalled, caller_of}
-use Rattle.mc_store.proofs.{GrownLemmas.fails_full, GrownLemmas.juggled_so, CallLemmas.called_now}
+use Rattle.mc_store.proofs.{GrownClassLemmas.fails_full, GrownClassLemmas.juggled_so, SeenStripeLemmas.called_now}
 use Rattle.mc_store.proofs.store.Store.juggle.Goals as goal
 
 pub returns-clause-juggled : goal.returns-clause-juggled

@@ -1,7 +1,7 @@
 use Rattle.std.proofs.Common.{rules, arith, ◌≡◌, ◌≤◌, ◌+◌, ◌-◌, ◌∷◌, ◌++◌, [], ℕ, List, ap, length, subst, sym, ◌∙◌}
 use Rattle.std.proofs.lemmas.List.{length-append}
 use Rattle.mc_store.specs.{Locked.locks_for, Passes.ArePasses, Passes.PassView, Passes.new_pass}
-use Rattle.mc_store.proofs.PlaceLemmas.{passes_push}
+use Rattle.mc_store.proofs.NumberOrderLemmas.{passes_push}
 use Rattle.mc_store.proofs.store.Store.open.Goals as goal
 
 pub loop-owner-preserved : goal.loop-owner-preserved

@@ -6,7 +6,7 @@ use Rattle.mc_rule.specs.Lists.{count_of, lists_of}
 use Rattle.mc_segment.specs.ClassState.{ClassView}
 use Rattle.mc_crawl.specs.Snapshot.{links_of}
 use Rattle.mc_store.specs.{Finals.IsBehindAt, Locked.IsHeldClass, Locked.class_lock, Passes.PassView, Sides.ClassSide, Sides.class_told}
-use Rattle.mc_store.proofs.{CrawledLemmas.snapshot_taken, GrownLemmas.seen_sound}
+use Rattle.mc_store.proofs.{CrawledLemmas.snapshot_taken, GrownClassLemmas.seen_sound}
 use Rattle.mc_store.proofs.store.Store.snapshot_of.Goals as goal
 
 pub returns-clause-links : goal.returns-clause-links

@@ -1,7 +1,7 @@
 use denote.Param.{param}
 use denote.Param.Send.{IsSync, shr_send, sendable}
 use Rattle.std.proofs.Crossing.{crosses}
-use Rattle.mc_store.proofs.SendLemmas.{store_sync, closure_send, nothing, one_sent}
+use Rattle.mc_store.proofs.SendStoreLemmas.{store_sync, closure_send, nothing, one_sent}
 use Rattle.mc_store_tests.specs.contracts.tests.own_locks.Signs as Signs
 use Rattle.mc_store_tests.proofs.tests.own_locks.asked_under_a_lock.Goals as goal
 

@@ -1,7 +1,7 @@
 use denote.Param.{param}
 use denote.Param.Send.{IsSync, shr_sync, sendable}
 use Rattle.std.proofs.Crossing.{crosses, sync}
-use Rattle.mc_store.proofs.SendLemmas.{store_sync, closure_sync, nothing, one_shared}
+use Rattle.mc_store.proofs.SendStoreLemmas.{store_sync, closure_sync, nothing, one_shared}
 use Rattle.mc_store_tests.specs.contracts.tests.sharing.Job as Job
 use Rattle.mc_store_tests.proofs.tests.sharing.at_once.Goals as goal
 

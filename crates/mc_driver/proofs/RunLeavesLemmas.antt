@@ -1,0 +1,115 @@
+-- What a run leaves: the closed store, and what the caller's pass has seen of it.
+use Rattle.std.proofs.Common.{◌≡◌, ◌<◌, ◌≤◌, ◌+◌, ◌-◌, ℕ, suc, List, Option, length, sym, ap, ◌∙◌, subst, arith, inl, inr}
+use Rattle.std.proofs.lemmas.Bool.{cases_lt}
+use Rattle.std.specs.List.{slice_get}
+use mathlib.Core.List.{IsPrefix}
+use Rattle.mc_item.specs.declared.{answer.Site.Site, config.Config.Config, item.ClassNo.ClassNo, stripe_event.StripeEvent.StripeEvent}
+use Rattle.mc_item.specs.declared.stripe_event.StripeEvent.TheVariants as events
+use Rattle.mc_board.specs.Histories.{list_at}
+use Rattle.mc_board.specs.declared.rule.Sight.{Sight}
+use Rattle.mc_board.proofs.PrefixLemmas.{prefix_length}
+use Rattle.mc_evidence.specs.{Seen.stripe_events, Setting.IsClass, Sound.IsSoundStore}
+use Rattle.mc_item.specs.Stripe.{IsLegal}
+use Rattle.mc_script.specs.Exchanges.{Exchange}
+use Rattle.mc_store.specs.Finals.{AreClasses, AreExactlyEntries, AreItsOwn, AreStripes, FinalView, IsBehindClasses, IsBehindStripes, class_histories, class_history, stripe_histories, stripe_history}
+use Rattle.mc_store.specs.{Locked.class_lock, Locked.setting_of, Passes.PassView, Serving.HasSeenShort, Sides.ClassSide, Sides.StripeSide, Sides.class_told}
+use Rattle.mc_store.specs.{Sides.stripe_told}
+use Rattle.mc_store.proofs.{NumberOrderLemmas.get_some, SyncedStepLemmas.map_length}
+use Rattle.mc_driver.specs.{Caller.AreAt, Caller.AreNoted, Caller.histories_seen, Caller.places_in, Run.HasFull, Run.IsStore, Run.histories_left}
+use Rattle.mc_driver.specs.Stand.{AreItsCalls, Grow, Stand, calls_at, nothing_seen}
+use Rattle.mc_driver.proofs.{NotedPlaceLemmas.at_later, NotedPlaceLemmas.called_place, NotedPlaceLemmas.class_begins, NotedPlaceLemmas.stripe_begins, OnlyCallsLemmas.only_these}
+use Rattle.mc_driver.proofs.{StandingCallLemmas.stand_later}
+
+-- a site by its parts
+site_is : (s : Site) (stripe stripes : ℕ) (sizes : List ℕ) → s.stripe ≡ stripe → s.stripes ≡ stripes → s.sizes ≡ sizes → s ≡ record { stripe = stripe; stripes = stripes; sizes = sizes }
+site_is s stripe stripes sizes a b c = site_parts s.stripe stripe s.stripes stripes s.sizes sizes a b c
+  where
+    site_of_parts : ℕ → ℕ → List ℕ → Site
+    site_of_parts x y z = record { stripe = x; stripes = y; sizes = z }
+
+    site_parts : (x x' y y' : ℕ) (z z' : List ℕ) → x ≡ x' → y ≡ y' → z ≡ z' → site_of_parts x y z ≡ site_of_parts x' y' z'
+    site_parts x x' y y' z z' xx yy zz = ap (λ q. site_of_parts q y z) xx ∙ ap (λ q. site_of_parts x' q z) yy ∙ ap (λ q. site_of_parts x' y' q) zz
+
+module _ (config : Config) (final : FinalView) (all : AreStripes final.board config final.stripes) (all_classes : AreClasses final.board config final.classes) where
+  -- the store is all of its stripes and classes
+  pub store_left : IsSoundStore (setting_of config) (stripe_histories final.stripes) (class_histories final.classes)
+      → AreExactlyEntries (setting_of config) (stripe_histories final.stripes) (class_histories final.classes) → IsStore config final
+  store_left sound entries = record {
+    count = all.many;
+    each = λ number s found.
+        let under = all.each number s found in
+        let site = site_is s.stripe.site number config.stripes config.sizes under.number_is under.kept.made_with.stripes under.kept.made_with.sizes in
+        record {
+          site = site;
+          limit = under.kept.made_with.limit;
+          keeps_events = under.kept.made_with.keeps_events;
+          legal = subst (λ (x : Site). IsLegal x s.stripe.history) (sym site)
+              (subst (λ (k : ℕ). IsLegal (record { stripe = k; stripes = config.stripes; sizes = config.sizes }) s.stripe.history) under.number_is under.kept.keeps.legal);
+        };
+    classes = all_classes.many;
+    each_class = λ place c found.
+        let under = all_classes.each place c found in
+        record { number_is = ap (λ (n : ℕ). record { 0 = n }) under.number_is; made_with = under.kept.held.made_with };
+    sound = sound;
+    entries = entries;
+  }
+
+  module _ (sight : Sight) (behind : IsBehindStripes sight final.stripes) (behind_of : IsBehindClasses sight final.classes) where
+    stripe_seen : (number : ℕ) → number < config.stripes → IsPrefix (list_at sight.seen number) (stripe_told (stripe_histories final.stripes number))
+    stripe_seen number below =
+        let g = get_some final.stripes number (omega (arith, below, all.many)) in
+        let under = all.each number g.0 g.1 in
+        let lock : g.0.lock ≡ number = under.kept.lock_is ∙ under.number_is in
+        subst (λ (o : Option StripeSide). IsPrefix (list_at sight.seen number) (stripe_told (stripe_history o))) (sym g.1)
+        (subst (λ (k : ℕ). IsPrefix (list_at sight.seen k) (stripe_told g.0.stripe.history)) lock (behind.each number g.0 g.1).seen)
+
+    class_seen : (class : ClassNo) → IsClass (setting_of config) class → IsPrefix (list_at sight.seen (class_lock config class)) (class_told (class_histories final.classes class))
+    class_seen class is =
+        let g = get_some final.classes (class.0 - 1) (omega (arith, is.0, is.1, all_classes.many)) in
+        let under = all_classes.each (class.0 - 1) g.0 g.1 in
+        let same : g.0.class.number.0 ≡ class.0 = under.number_is ∙ omega (arith, is.0) in
+        let lock : g.0.lock ≡ class_lock config class = under.kept.held.lock_is ∙ ap (λ (n : ℕ). config.stripes + (n - 1)) same in
+        subst (λ (o : Option ClassSide). IsPrefix (list_at sight.seen (class_lock config class)) (class_told (class_history o))) (sym g.1)
+        (subst (λ (k : ℕ). IsPrefix (list_at sight.seen k) (class_told g.0.class.history)) lock (behind_of.each (class.0 - 1) g.0 g.1).seen)
+
+    -- what the pass has seen of it is a beginning
+    pub left_grows : Grow config (histories_seen config sight) (histories_left final)
+    left_grows = record {
+      stripes = λ number below. stripe_begins (list_at sight.seen number) (stripe_histories final.stripes number) (stripe_seen number below);
+      classes = λ class is. class_begins (list_at sight.seen (class_lock config class)) (class_histories final.classes class) (class_seen class is);
+    }
+
+    -- and where it has seen that a history is short of places, it is
+    pub left_full : HasSeenShort config sight → HasFull config (histories_left final)
+    left_full short = elim (cases_lt short.lock config.stripes) [
+      | inl below ↦
+          let long : length (list_at sight.seen short.lock) ≤ length (stripe_histories final.stripes short.lock) =
+          subst (λ (n : ℕ). length (list_at sight.seen short.lock) ≤ n) (map_length _ (stripe_histories final.stripes short.lock)) (prefix_length _ _ (stripe_seen short.lock below)) in
+          inl (record { number = short.lock; below = below; full = omega (arith, short.short, long) })
+      | inr past ↦
+          let class : ClassNo = record { 0 = suc (short.lock - config.stripes) } in
+          let first : 1 ≤ class.0 = omega arith in
+          let last : class.0 ≤ length config.sizes = omega (arith, short.of, past) in
+          let lock : class_lock config class ≡ short.lock = omega (arith, past) in
+          let seen = subst (λ (k : ℕ). IsPrefix (list_at sight.seen k) (class_told (class_histories final.classes class))) lock (class_seen class (first, last)) in
+          let long : length (list_at sight.seen short.lock) ≤ length (class_histories final.classes class) =
+          subst (λ (n : ℕ). length (list_at sight.seen short.lock) ≤ n) (map_length _ (class_histories final.classes class)) (prefix_length _ _ seen) in
+          inr (record { number = class; first = first; last = last; full = omega (arith, short.short, long) })
+    ]
+
+    -- the calls that the pass has noted stand in it, and of the caller there are only these
+    pub left_calls : (pass : PassView) → pass.sight ≡ sight → AreItsOwn pass final.stripes → (calls : List Exchange) → AreNoted config pass calls → AreItsCalls config pass.caller (histories_left final) calls
+    left_calls pass is own calls noted = record {
+      stand = stand_later config nothing_seen (histories_seen config sight) (histories_left final) calls left_grows
+          (subst (λ (t : Sight). Stand config nothing_seen (histories_seen config t) calls) is noted.stand);
+      only = record {
+        at = λ number below.
+            let g = get_some final.stripes number (omega (arith, below, all.many)) in
+            let there : stripe_histories final.stripes number ≡ g.0.stripe.history = ap stripe_history g.1 in
+            let at = at_later _ (stripe_histories final.stripes number) pass.caller _ _
+            (left_grows.stripes number below) (subst (λ (t : Sight). AreAt (stripe_events (list_at t.seen number)) pass.caller (places_in number pass.calls) (calls_at config.stripes number calls)) is (noted.at number below)) in
+            only_these pass.caller (stripe_histories final.stripes number) (places_in number pass.calls) (calls_at config.stripes number calls) (noted.rising number below) at
+            (λ place did found by. called_place number place pass.calls
+            did (own.each number g.0 place (events.Did did) g.1 (ap (λ (h : List StripeEvent). slice_get h place) (sym there) ∙ found) by));
+      };
+    }

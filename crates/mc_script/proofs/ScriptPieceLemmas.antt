@@ -1,0 +1,196 @@
+-- What a piece leaves: the script goes on, or ends there.
+use Rattle.std.proofs.Common.{◌≡◌, ℕ, List, [], ◌∷◌, ◌++◌, refl, sym, ap, ◌∙◌, append_assoc, append-nil, arith, Bool, subst, false, length}
+use Rattle.std.specs.Prelude.{if◌then◌else◌}
+use Rattle.mc_item.specs.declared.fault.Fault.{Fault}
+use Rattle.mc_item.specs.declared.fault.Fault.TheVariants as faults
+use Rattle.mc_proto.specs.{Grammar.Reads, Text.IsBeginning}
+use Rattle.mc_proto.specs.declared.{request.Limits.Limits, request.Request.Request}
+use Rattle.mc_proto.proofs.{KeptRestLemmas.after_reads, StreamLemmas.stream_reads, StreamLemmas.reading_on}
+use Rattle.mc_script.specs.{Progress.EndsHere, Progress.FailsHere, Progress.Goes, Progress.AnswersWhole, Progress.HasAnswered, Progress.HasCome, Run.ArePartOf}
+use Rattle.mc_script.specs.{Run.first_moment, Run.HasBroken, Run.HasRead, Run.HasRun, Run.HasStopped, Run.NoneEnds, Exchanges.Exchange, Exchanges.exchanges}
+use Rattle.mc_script.specs.Script.{Answered, all_exchanges, calls_of, ends, moment_behind, own_requests, requests_of, texts_of, turn_behind}
+use Rattle.mc_script.specs.declared.scripting.Progress.{Progress}
+use Rattle.mc_script.specs.declared.scripting.Progress.TheVariants as progress
+use Rattle.mc_script.proofs.{MadeCallLemmas.AreAnswers-none, MadeCallLemmas.exchanges-none, MadeCallLemmas.part_few, ProgressLemmas.requests_of-append}
+use Rattle.mc_script.proofs.{ProgressLemmas.printed_more}
+
+-- requests none of which ends the script are its own, and so are those behind them
+own_requests-append : (front back : List Request) → NoneEnds front → own_requests (front ++ back) ≡ front ++ own_requests back
+own_requests-append [] back own = refl
+own_requests-append (r ∷ rs) back own =
+    ap (λ (b : Bool). if b then [] else r ∷ own_requests (rs ++ back)) own.0 ∙ ap (λ (t : List Request). r ∷ t) (own_requests-append rs back own.1)
+
+-- all of them
+pub own_requests-all : (all : List Request) → NoneEnds all → own_requests all ≡ all
+own_requests-all all own = sym (ap own_requests (append-nil all)) ∙ own_requests-append all [] own ∙ append-nil all
+
+-- one that doesn't end the script is its own
+own_requests-one : (r : Request) (rs : List Request) → ends r ≡ false → own_requests (r ∷ rs) ≡ r ∷ own_requests rs
+own_requests-one r rs own = ap (λ (b : Bool). if b then [] else r ∷ own_requests rs) own
+
+-- one that ends the script is the last
+own_requests-ends : (back others : List Request) → EndsHere back → own_requests (back ++ others) ≡ []
+own_requests-ends (r ∷ rs) others last = ap (λ (b : Bool). if b then [] else r ∷ own_requests (rs ++ others)) last
+own_requests-ends [] others last = absurd last
+
+pub NoneEnds-append : (front back : List Request) → NoneEnds front → NoneEnds back → NoneEnds (front ++ back)
+NoneEnds-append [] back first second = second
+NoneEnds-append (r ∷ rs) back first second = (first.0, NoneEnds-append rs back first.1 second)
+
+-- all that was gathered is printed now
+now_printed : (printed start taken text taken' : List ℕ) (texts : List ℕ) → taken ≡ start ++ printed → printed ++ text ≡ texts → taken' ≡ taken ++ text → taken' ≡ start ++ texts
+now_printed printed start taken text taken' texts took is out = out ∙ ap (λ (t : List ℕ). t ++ text) took ∙ append_assoc start printed text ∙ ap (λ (t : List ℕ). start ++ t) is
+
+-- or a beginning of it
+now_torn : (printed start taken text taken' : List ℕ) (texts : List ℕ) → taken ≡ start ++ printed → printed ++ text ≡ texts → IsBeginning taken taken' text → IsBeginning start taken' texts
+now_torn printed start taken text taken' texts took is by = (
+  printed ++ by.0,
+  by.1,
+  sym is ∙ ap (λ (t : List ℕ). printed ++ t) by.2 ∙ sym (append_assoc printed by.0 by.1),
+  by.3 ∙ ap (λ (t : List ℕ). t ++ by.0) took ∙ append_assoc start printed by.0,
+)
+
+-- no call of the next request was made
+part_none : (limits : Limits) (back : List Request) (caller turn moment : ℕ) → ArePartOf limits back caller turn moment []
+part_none limits [] caller turn moment = refl
+part_none limits (r ∷ rs) caller turn moment =
+    record { answers = []; part = omega arith; kinds = AreAnswers-none (calls_of limits r); are = sym (exchanges-none caller turn moment (calls_of limits r)) }
+
+-- what was read, where the first of these requests were answered
+come_read : (limits : Limits) (bytes left : List ℕ) (done : List Answered) (added front back : List Request) (more : List Answered)
+    → HasCome limits bytes left done added → added ≡ front ++ back → NoneEnds front → requests_of more ≡ front → HasRead limits bytes left (requests_of (done ++ more) ++ own_requests back)
+come_read limits bytes left done added front back more come split own asked =
+    let read = after_reads limits come.state come.unread come.came (come.requests ++ added) come.after in
+    record {
+      came = come.came;
+      split = come.split;
+      requests = come.requests ++ added;
+      rest = read.0;
+      reads = read.1;
+      own_are = own_requests-append come.requests added come.own ∙ ap (λ (t : List Request). come.requests ++ own_requests t) split ∙ ap (λ (t : List Request). come.requests ++ t) (own_requests-append front back own)
+          ∙ sym (append_assoc come.requests front (own_requests back)) ∙ ap (λ (t : List Request). (t ++ front) ++ own_requests back) (sym come.asked) ∙ ap (λ (t : List Request). (requests_of done ++ t) ++ own_requests back) (sym asked)
+          ∙ ap (λ (t : List Request). t ++ own_requests back) (sym (requests_of-append done more));
+    }
+
+-- the script ended in a piece
+pub piece_ended : (limits : Limits) (bytes left start taken text taken' : List ℕ) (notes : List Exchange → Type 0) (caller turn moment : ℕ) (done : List Answered) (added : List Request)
+    → HasCome limits bytes left done added → Goes progress.Ended limits added done start taken text notes caller turn moment → taken' ≡ taken ++ text → HasRun limits bytes start taken' notes caller
+piece_ended limits bytes left start taken text taken' notes caller turn moment done added come g out =
+    let whole = stream_reads limits bytes in
+    let on = reading_on limits come.came left come.after.rest whole.1 (come.requests ++ added) whole.0 come.after.spelt (subst (λ (t : List ℕ). Reads limits t whole.0 whole.1) come.split whole.2) in
+    let cut_at : whole.0 ≡ come.requests ++ (g.front ++ (g.back ++ on.0)) =
+    on.1 ∙ append_assoc come.requests added on.0 ∙ ap (λ (t : List Request). come.requests ++ (t ++ on.0)) g.split ∙ ap (λ (t : List Request). come.requests ++ t) (append_assoc g.front g.back on.0) in
+    record {
+      requests = whole.0;
+      rest = whole.1;
+      answered = done ++ g.added;
+      reads = whole.2;
+      asked = requests_of-append done g.added ∙ ap (λ (t : List Request). t ++ requests_of g.added) come.asked ∙ ap (λ (t : List Request). come.requests ++ t) (g.asked ∙ sym (append-nil g.front))
+          ∙ ap (λ (t : List Request). come.requests ++ (g.front ++ t)) (sym (own_requests-ends g.back on.0 g.state.0))
+          ∙ ap (λ (t : List Request). come.requests ++ t) (sym (own_requests-append g.front (g.back ++ on.0) g.own)) ∙ sym (own_requests-append come.requests (g.front ++ (g.back ++ on.0)) come.own) ∙ ap own_requests (sym cut_at);
+      whole = g.state.1.whole;
+      texts = now_printed g.state.1.printed start taken text taken' (texts_of (done ++ g.added)) g.state.1.took g.state.1.texts out;
+      calls = g.state.1.notes_all;
+    }
+
+-- all requests of a piece were answered, and the script goes on
+pub piece_goes_on : (limits : Limits) (start taken text taken' text' : List ℕ) (notes : List Exchange → Type 0) (caller turn moment : ℕ) (done : List Answered) (added : List Request)
+    → Goes progress.More limits added done start taken text notes caller turn moment → taken' ≡ taken ++ text → text' ≡ [] → AnswersWhole limits start taken' text' notes caller turn moment done added
+piece_goes_on limits start taken text taken' text' notes caller turn moment done added g out none =
+    let all : added ≡ g.front = g.split ∙ ap (λ (t : List Request). g.front ++ t) g.state.0 ∙ append-nil g.front in
+    record {
+      own = subst NoneEnds (sym all) g.own;
+      out = none;
+      now = done ++ g.added;
+      asked = requests_of-append done g.added ∙ ap (λ (t : List Request). requests_of done ++ t) (g.asked ∙ sym all);
+      state_of = printed_more limits (done ++ g.added) start taken text taken' text' notes caller turn moment g.state.1 (text, out, sym (append-nil text) ∙ ap (λ (t : List ℕ). text ++ t) (sym none));
+    }
+
+-- a request failed, and the texts before it are out
+failed_stops : (fault : Fault) (limits : Limits) (bytes left start taken text taken' : List ℕ) (notes : List Exchange → Type 0) (caller : ℕ) (done : List Answered) (back : List Request)
+    → HasRead limits bytes left (requests_of done ++ own_requests back) → FailsHere fault limits back done start taken text notes caller → taken' ≡ taken ++ text → HasStopped fault limits bytes left start taken' notes caller
+failed_stops fault limits bytes left start taken text taken' notes caller done [] read has out = absurd has
+failed_stops fault limits bytes left start taken text taken' notes caller done (r ∷ rs) read has out = record {
+  answered = done;
+  request = r;
+  back = own_requests rs;
+  read = subst (λ (t : List Request). HasRead limits bytes left (requests_of done ++ t)) (own_requests-one r rs has.own) read;
+  whole = has.whole;
+  texts = now_printed has.printed start taken text taken' (texts_of done) has.took has.texts out;
+  answers = has.answers;
+  part = has.part;
+  kinds = has.kinds;
+  calls = has.notes_part;
+}
+
+-- a request failed, and then the sink
+failed_breaks : (fault : Fault) (limits : Limits) (bytes left start taken text taken' : List ℕ) (notes : List Exchange → Type 0) (caller : ℕ) (done : List Answered) (back : List Request)
+    → HasRead limits bytes left (requests_of done ++ own_requests back) → FailsHere fault limits back done start taken text notes caller → IsBeginning taken taken' text → HasBroken limits bytes left start taken' notes caller
+failed_breaks fault limits bytes left start taken text taken' notes caller done [] read has by = absurd has
+failed_breaks fault limits bytes left start taken text taken' notes caller done (r ∷ rs) read has by = record {
+  answered = done;
+  back = r ∷ own_requests rs;
+  read = subst (λ (t : List Request). HasRead limits bytes left (requests_of done ++ t)) (own_requests-one r rs has.own) read;
+  whole = has.whole;
+  texts = now_torn has.printed start taken text taken' (texts_of done) has.took has.texts by;
+  more = exchanges caller (turn_behind limits 0 done) (moment_behind first_moment done) (calls_of limits r) has.answers;
+  part = record { answers = has.answers; part = part_few fault (length has.answers) (length (calls_of limits r)) has.part; kinds = has.kinds; are = refl };
+  calls = has.notes_part;
+}
+
+-- requests were answered, and then the sink failed
+answered_breaks : (limits : Limits) (bytes left start taken text taken' : List ℕ) (notes : List Exchange → Type 0) (caller turn moment : ℕ) (done : List Answered) (back : List Request)
+    → HasRead limits bytes left (requests_of done ++ own_requests back) → HasAnswered limits done start taken text notes caller turn moment → IsBeginning taken taken' text → HasBroken limits bytes left start taken' notes caller
+answered_breaks limits bytes left start taken text taken' notes caller turn moment done back read has by = record {
+  answered = done;
+  back = own_requests back;
+  read = read;
+  whole = has.whole;
+  texts = now_torn has.printed start taken text taken' (texts_of done) has.took has.texts by;
+  more = [];
+  part = part_none limits (own_requests back) caller (turn_behind limits 0 done) (moment_behind first_moment done);
+  calls = subst notes (sym (append-nil (all_exchanges limits caller 0 first_moment done))) has.notes_all;
+}
+
+-- the sink failed within a piece
+pub piece_torn : (limits : Limits) (bytes left start taken text : List ℕ) (notes : List Exchange → Type 0) (caller turn moment : ℕ) (done : List Answered) (added : List Request)
+    → HasCome limits bytes left done added → Goes progress.Output limits added done start taken text notes caller turn moment → HasBroken limits bytes left start taken notes caller
+piece_torn limits bytes left start taken text notes caller turn moment done added come g =
+    let read = come_read limits bytes left done added g.front g.back g.added come g.split g.own g.asked in
+    record {
+      answered = done ++ g.added;
+      back = own_requests g.back;
+      read = come_read limits bytes left done added g.front g.back g.added come g.split g.own g.asked;
+      whole = g.state.whole;
+      texts = g.state.texts;
+      more = [];
+      part = part_none limits (own_requests g.back) caller (turn_behind limits 0 (done ++ g.added)) (moment_behind first_moment (done ++ g.added));
+      calls = subst notes (sym (append-nil (all_exchanges limits caller 0 first_moment (done ++ g.added)))) g.state.notes_all;
+    }
+
+-- a request failed for want of memory
+pub piece_memory : (limits : Limits) (bytes left start taken text taken' : List ℕ) (notes : List Exchange → Type 0) (caller turn moment : ℕ) (done : List Answered) (added : List Request)
+    → HasCome limits bytes left done added → Goes progress.Memory limits added done start taken text notes caller turn moment → taken' ≡ taken ++ text → HasStopped faults.NoMemory limits bytes left start taken' notes caller
+piece_memory limits bytes left start taken text taken' notes caller turn moment done added come g out =
+    failed_stops faults.NoMemory limits bytes left start taken text taken' notes caller (done ++ g.added) g.back
+    (come_read limits bytes left done added g.front g.back g.added come g.split g.own g.asked) g.state out
+
+-- or since the history is full
+pub piece_full : (limits : Limits) (bytes left start taken text taken' : List ℕ) (notes : List Exchange → Type 0) (caller turn moment : ℕ) (done : List Answered) (added : List Request)
+    → HasCome limits bytes left done added → Goes progress.Full limits added done start taken text notes caller turn moment → taken' ≡ taken ++ text → HasStopped faults.HistoryFull limits bytes left start taken' notes caller
+piece_full limits bytes left start taken text taken' notes caller turn moment done added come g out =
+    failed_stops faults.HistoryFull limits bytes left start taken text taken' notes caller (done ++ g.added) g.back
+    (come_read limits bytes left done added g.front g.back g.added come g.split g.own g.asked) g.state out
+
+-- the sink failed behind a piece
+pub piece_breaks : (p : Progress) (limits : Limits) (bytes left start taken text taken' : List ℕ) (notes : List Exchange → Type 0) (caller turn moment : ℕ) (done : List Answered) (added : List Request)
+    → HasCome limits bytes left done added → Goes p limits added done start taken text notes caller turn moment → (p ≡ progress.Output → ⊥) → IsBeginning taken taken' text → HasBroken limits bytes left start taken' notes caller
+piece_breaks progress.More limits bytes left start taken text taken' notes caller turn moment done added come g not by =
+    answered_breaks limits bytes left start taken text taken' notes caller turn moment (done ++ g.added) g.back (come_read limits bytes left done added g.front g.back g.added come g.split g.own g.asked) g.state.1 by
+piece_breaks progress.Ended limits bytes left start taken text taken' notes caller turn moment done added come g not by =
+    answered_breaks limits bytes left start taken text taken' notes caller turn moment (done ++ g.added) g.back (come_read limits bytes left done added g.front g.back g.added come g.split g.own g.asked) g.state.1 by
+piece_breaks progress.Memory limits bytes left start taken text taken' notes caller turn moment done added come g not by =
+    failed_breaks faults.NoMemory limits bytes left start taken text taken' notes caller (done ++ g.added) g.back (come_read limits bytes left done added g.front g.back g.added come g.split g.own g.asked) g.state by
+piece_breaks progress.Full limits bytes left start taken text taken' notes caller turn moment done added come g not by =
+    failed_breaks faults.HistoryFull limits bytes left start taken text taken' notes caller (done ++ g.added) g.back (come_read limits bytes left done added g.front g.back g.added come g.split g.own g.asked) g.state by
+piece_breaks progress.Output limits bytes left start taken text taken' notes caller turn moment done added come g not by = absurd (not refl)

@@ -1,0 +1,155 @@
+-- A refusal that was earned: when it is noted, and as more is seen.
+use Rattle.std.proofs.Common.{◌≡◌, ◌<◌, ◌⊎◌, ℕ, Bool, false, List, [], ◌∷◌, ◌++◌, inl, inr, refl, sym, ap, ◌∙◌, subst, append_assoc}
+use Rattle.std.specs.Prelude.{Option, Some, None, IfSome}
+use mathlib.Core.List.{IsPrefix}
+use Rattle.mc_item.specs.{Command.key_of, Measure.stripe_of}
+use Rattle.mc_item.specs.declared.{answer.Site.Site, class_event.ClassEvent.ClassEvent, command.Command.Command, config.Config.Config, item.ClassNo.ClassNo}
+use Rattle.mc_item.specs.declared.{item.StripeNo.StripeNo, item.Who.Who, lists.Entry.Entry, lists.Seg.Seg, lists.Seg.TheVariants.Hot}
+use Rattle.mc_item.specs.declared.{lists.Seg.TheVariants.Cold, reply.Reply.Reply, reply.Room.Room, stripe_event.Did.Did}
+use Rattle.mc_item.specs.declared.class_event.ClassEvent.TheVariants as entries
+use Rattle.mc_item.specs.declared.reply.Room.TheVariants as rooms
+use Rattle.mc_rule.specs.{Lists.from_tail, Lists.list_of, Lists.lists_of, Pairs.IsKeyOf, Pairs.IsRefusal, Places.Has, Segment.Rule, Places.Stands}
+use Rattle.mc_evidence.specs.{Refusals.HasTried, Refusals.NoneNear, Refusals.WasTried, Seen.class_events, Seen.classes_seen}
+use Rattle.mc_evidence.proofs.{EvidenceGrowthLemmas.tried_later, SeenLemmas.class_events-map, SeenLemmas.classes_grow}
+use Rattle.mc_pull.specs.{Tried.IsNoneNear, Question.IsClassOf, Rounds.IsRoom, Rounds.Rounds, Rounds.rounds}
+use Rattle.mc_board.specs.Histories.{Grows, list_at}
+use Rattle.mc_board.specs.declared.rule.Sight.{Sight}
+use Rattle.mc_segment.specs.{ClassCalls.refused_event, ClassState.ClassView, ClassState.chunks_for, ClassState.class_view, ClassState.opened}
+use Rattle.mc_store.specs.Earned.{HasGoneThrough, HasSearched, IsInVain, IsEarned, IsEarnedAt, IsEarnedIn, IsLastResort}
+use Rattle.mc_store.specs.{Locked.class_lock, Sides.class_told}
+
+-- who has seen all that a class told has seen its history
+pub class_seen : (config : Config) (sight : Sight) (lock : ℕ) (class : ClassNo) (history : List ClassEvent) → lock ≡ class_lock config class → list_at sight.seen lock ≡ class_told history
+    → classes_seen config.stripes (list_at sight.seen) class ≡ history
+class_seen config sight lock class history at told =
+    ap (λ (k : ℕ). class_events (list_at sight.seen k)) (sym at) ∙ (ap class_events told ∙ class_events-map history)
+
+-- a class of a configuration is, without its events, the one that the configuration opens
+pub opened_again : (config : Config) (v : ClassView) (class : ClassNo) → IsClassOf config v → v.number ≡ class
+    → class_view v.number v.chunks v.max_events v.keeps_events v.rule [] 0 ≡ opened config class
+opened_again config v class made is =
+    let chunks = chunks_for config class in
+    ap (λ (x : ClassNo). class_view x v.chunks v.max_events v.keeps_events v.rule [] 0) is
+    ∙ ap (λ (x : ℕ). class_view class x v.max_events v.keeps_events v.rule [] 0) (made.chunks ∙ ap (chunks_for config) is)
+    ∙ ap (λ (x : ℕ). class_view class chunks x v.keeps_events v.rule [] 0) made.max_events
+    ∙ ap (λ (x : Bool). class_view class chunks config.max_events x v.rule [] 0) made.keeps_events
+    ∙ ap (λ (x : Rule). class_view class chunks config.max_events config.keeps_events x [] 0) made.rule
+
+-- a class of a configuration has the rounds that the configuration gives a class of its number
+rounds_same : (config : Config) (v : ClassView) (class : ClassNo) (who : Who) (moment : ℕ) → IsClassOf config v → v.number ≡ class → rounds v who moment config ≡ rounds (opened config class) who moment config
+rounds_same config v class who moment made is = ap (λ (c : ClassView). rounds c who moment config) (opened_again config v class made is)
+
+-- rounds in vain are all rounds of a search
+pub gone_through : (config : Config) (number : StripeNo) (v : ClassView) (class : ClassNo) (who : Who) (moment : ℕ) (after : List ClassEvent) → IsClassOf config v → v.number ≡ class
+    → IsInVain config number v who moment v.history after → HasGoneThrough config number class who moment after
+gone_through config number v class who moment after made is vain = record {
+  before = v.history;
+  in_vain = record {
+    answers = vain.answers;
+    rounds_are = subst (λ (r : Rounds). IsRoom r v.history vain.answers after false) (rounds_same config v class who moment made is) vain.rounds_are;
+    had = vain.had;
+  };
+}
+
+-- what stands in a list stands there as more is seen
+stands_more : (seen more before : List ClassEvent) (e : ClassEvent) → IsPrefix seen more → Stands seen before e → Stands more before e
+stands_more seen more before e begins stands = record {
+  later = stands.later ++ begins.0;
+  is = sym begins.1 ∙ (ap (λ (l : List ClassEvent). l ++ begins.0) stands.is ∙ append_assoc before (e ∷ stands.later) begins.0);
+}
+
+-- what was earned stays so as more is seen
+earned_more : (config : Config) (number : StripeNo) (class : ClassNo) (who : Who) (moment : ℕ) (key : List ℕ) (place : ℕ) (seen more : List ClassEvent) → IsPrefix seen more → IsEarnedAt config number class who moment key place seen
+    → IsEarnedAt config number class who moment key place more
+earned_more config number class who moment key place seen more begins earned = record {
+  before = earned.before;
+  refused = stands_more seen more earned.before (refused_event who) begins earned.refused;
+  place_is = earned.place_is;
+  searched = earned.searched;
+}
+
+pub earned_sees : (config : Config) (number : ℕ) (who : Who) (moment : ℕ) (key : List ℕ) (a b : Sight) (room : Room) → Grows a b → IsEarnedIn config number who moment key a room → IsEarnedIn config number who moment key b room
+earned_sees config number who moment key a b rooms.Keep grows earned = tt
+earned_sees config number who moment key a b (rooms.At link) grows earned = tt
+earned_sees config number who moment key a b (rooms.Refused class place) grows earned =
+    earned_more config (record { 0 = number }) class who moment key place (classes_seen config.stripes (list_at a.seen) class) (classes_seen config.stripes (list_at b.seen) class)
+    (classes_grow config.stripes (list_at a.seen) (list_at b.seen) grows.at class) earned
+
+-- ---- in the words of evidence
+
+-- none near a tail is of the stripe
+near_none : (site : Site) (stripes : ℕ) (seg : Seg) (history : List ClassEvent) → site.stripes ≡ stripes → IsNoneNear stripes (record { 0 = site.stripe }) seg history → NoneNear site (list_of (lists_of history) seg)
+near_none site stripes seg history same none = λ j few. by j few (from_tail (list_of (lists_of history) seg) j) refl
+  where
+    by : (j : ℕ) → j < 5 → (o : Option Entry) → from_tail (list_of (lists_of history) seg) j ≡ o → IfSome o (λ e. IsKeyOf site e.key → ⊥)
+    by j few None is = tt
+    by j few (Some e) is = λ of. none j e few is (ap (λ (n : ℕ). stripe_of e.key n) (sym same) ∙ of)
+
+-- a room that is none is no refusal
+pub earned_keep : (config : Config) (site : Site) (sight : Sight) (who : Who) (command : Command) (moment : ℕ) (reply : Reply) → IsEarned config site sight (record { who = who; command = command; moment = moment; reply = reply; room = rooms.Keep })
+earned_keep config site sight who command moment reply = record {
+  tried = λ class place is. absurd (kept class place is);
+  last = λ class place is. absurd (kept class place is);
+}
+  where
+    kept : (class : ClassNo) (place : ℕ) → rooms.Keep ≡ rooms.Refused class place → ⊥
+    kept class place is = cc
+
+-- whatever was earned wasn't made at once
+pub earned_told : (config : Config) (site : Site) (sight : Sight) (who : Who) (command : Command) (moment : ℕ) (reply : Reply) (room : Room) → site.stripes ≡ config.stripes → IsEarnedIn config site.stripe who moment (key_of command) sight room
+    → IsEarned config site sight (record { who = who; command = command; moment = moment; reply = reply; room = room })
+earned_told config site sight who command moment reply rooms.Keep same earned = earned_keep config site sight who command moment reply
+earned_told config site sight who command moment reply (rooms.At link) same earned = record {
+  tried = λ class place is. absurd (at class place is);
+  last = λ class place is. absurd (at class place is);
+}
+  where
+    at : (class : ClassNo) (place : ℕ) → rooms.At link ≡ rooms.Refused class place → ⊥
+    at class place is = cc
+earned_told config site sight who command moment reply (rooms.Refused own at) same earned = record {
+  tried = λ class place is. of class (same_class class place is);
+  last = λ class place is. resort class place is;
+}
+  where
+    same_class : (class : ClassNo) (place : ℕ) → rooms.Refused own at ≡ rooms.Refused class place → own ≡ class
+    same_class class place is = cc
+
+    same_place : (class : ClassNo) (place : ℕ) → rooms.Refused own at ≡ rooms.Refused class place → at ≡ place
+    same_place class place is = cc
+
+    did : Did
+    did = record { who = who; command = command; moment = moment; reply = reply; room = rooms.Refused own at }
+
+    IsSo : ClassNo → Type 0
+    IsSo class = Has entries.Refused (classes_seen config.stripes (list_at sight.seen) class) (λ behind e. IsRefusal class did behind e × (HasTried behind who (key_of command) ⊎ (NoneNear site (lists_of behind).cold × NoneNear site (lists_of behind).hot)))
+
+    searched : HasSearched config.stripes (record { 0 = site.stripe }) who (key_of command) earned.before → HasTried earned.before who (key_of command) ⊎ (NoneNear site (lists_of earned.before).cold × NoneNear site (lists_of earned.before).hot)
+    searched (inl tried) = inl tried
+    searched (inr none) = inr (near_none site config.stripes Cold earned.before same none.0, near_none site config.stripes Hot earned.before same none.1)
+
+    of : (class : ClassNo) → own ≡ class → IsSo class
+    of class is =
+        subst IsSo is (earned.before, record { who = who }, earned.refused, (record { who = refl; room = ap (λ (n : ℕ). rooms.Refused own n) earned.place_is }, searched earned.searched.0))
+
+    resort : (class : ClassNo) (place : ℕ) → rooms.Refused own at ≡ rooms.Refused class place → IsLastResort config (record { 0 = site.stripe }) class place (classes_seen config.stripes (list_at sight.seen) class) did
+    resort class place is =
+        subst (λ (n : ClassNo). IsLastResort config (record { 0 = site.stripe }) n place (classes_seen config.stripes (list_at sight.seen) n) did) (same_class class place is)
+        (subst (λ (p : ℕ). IsLastResort config (record { 0 = site.stripe }) own p (classes_seen config.stripes (list_at sight.seen) own) did) (same_place class place is)
+        (record { before = earned.before; refused = earned.refused; place_is = earned.place_is; through = earned.searched.1 }))
+
+-- and wasn't so for whoever has seen more
+pub told_sees : (config : Config) (site : Site) (a b : Sight) (did : Did) → Grows a b → IsEarned config site a did → IsEarned config site b did
+told_sees config site a b did grows earned = record {
+  tried = λ class.
+      let begins = classes_grow config.stripes (list_at a.seen) (list_at b.seen) grows.at class in
+      subst (λ (l : List ClassEvent). WasTried site class l did) begins.1 (tried_later site class (classes_seen config.stripes (list_at a.seen) class) begins.0 did (earned.tried class));
+  last = λ class place is.
+      let begins = classes_grow config.stripes (list_at a.seen) (list_at b.seen) grows.at class in
+      let resort = earned.last class place is in
+      record {
+        before = resort.before;
+        refused = stands_more (classes_seen config.stripes (list_at a.seen) class) (classes_seen config.stripes (list_at b.seen) class) resort.before (refused_event did.who) begins resort.refused;
+        place_is = resort.place_is;
+        through = resort.through;
+      };
+}

@@ -1,0 +1,70 @@
+-- A class whose history grew under its lock, as the pass sees it that made the call.
+use Rattle.std.proofs.Common.{◌≡◌, ◌<◌, ◌+◌, ℕ, List, Result, Ok, Err, sym, ap, ◌∙◌, subst, inl, inr, length}
+use Rattle.std.specs.Prelude.{IfErr, IfOk}
+use mathlib.Core.List.{IsPrefix}
+use Rattle.atomic_table.specs.Seated.{TableId}
+use Rattle.mc_item.specs.declared.{class_event.ClassEvent.ClassEvent, config.Config.Config, counts.Moves.Moves, fault.Fault.Fault}
+use Rattle.mc_item.specs.declared.{fault.Fault.TheVariants.HistoryFull, item.ClassNo.ClassNo, item.Who.Who}
+use Rattle.mc_evidence.specs.{Locks.ClassKeeps, Seen.stripes_seen}
+use Rattle.mc_board.specs.Histories.{Grows, list_at}
+use Rattle.mc_board.specs.declared.rule.Sight.{Sight}
+use Rattle.mc_segment.specs.ClassState.{ClassView}
+use Rattle.mc_pull.specs.Growth as classes
+use Rattle.mc_pull.specs.{Juggle.IsJuggle, Rounds.rounds}
+use Rattle.mc_pull.specs.declared.looking.Answer.{Answer}
+use Rattle.mc_store.specs.{Calls.IsJuggledBy, Calls.IsSeenGrowOf, Crawls.IsSeenSound, Finals.IsBehindAt, Locked.IsHeldClass, Locked.class_lock}
+use Rattle.mc_store.specs.{Locked.setting_of, Serving.HasSeenShort, Serving.MayFailSeen, Sides.ClassSide, Sides.class_told}
+use Rattle.mc_store.proofs.{GateLemmas.short_seen, LockKeepsLemmas.class_sees, SyncedStepLemmas.short_of}
+
+-- what a class's lock keeps is seen by whoever was told of it all
+pub seen_sound : (table : TableId) (config : Config) (class : ClassNo) (after : Sight) (s : ClassSide) → IsHeldClass table config s → s.class.number ≡ class → list_at after.seen s.lock ≡ class_told s.class.history → Grows s.sight after
+    → IsSeenSound config class after
+seen_sound table config class after s kept number told all = record {
+  history = s.class.history;
+  now = ap (λ (k : ℕ). list_at after.seen k) (sym (kept.lock_is ∙ ap (class_lock config) number)) ∙ told;
+  sound = subst (λ (n : ClassNo). ClassKeeps (setting_of config) n s.class.history (stripes_seen (list_at after.seen))) number (class_sees table config s after all kept).keeps;
+}
+
+module _ (table : TableId) (config : Config) (class : ClassNo) (before after : Sight) (old new : ClassSide) (old_kept : IsHeldClass table config old) (new_kept : IsHeldClass table config new)
+    (number : old.class.number ≡ class) (grows : classes.Grows old.class new.class) (behind : IsBehindAt before old.lock (class_told old.class.history))
+    (told : list_at after.seen new.lock ≡ class_told new.class.history) (all : Grows new.sight after) where
+  new_number : new.class.number ≡ class
+  new_number = ap (λ (v : ClassView). v.number) grows.same ∙ number
+
+  old_lock : old.lock ≡ class_lock config class
+  old_lock = old_kept.lock_is ∙ ap (class_lock config) number
+
+  new_lock : new.lock ≡ class_lock config class
+  new_lock = new_kept.lock_is ∙ ap (class_lock config) new_number
+
+  -- the pass has seen all of it, after all that it had seen before
+  pub class_grew : IsSeenGrowOf config class before after old.class new.class.history
+  class_grew = record {
+    made_with = old_kept.made_with;
+    number_is = number;
+    seen = subst (λ (k : ℕ). IsPrefix (list_at before.seen k) (class_told old.class.history)) old_lock behind.seen;
+    now = ap (λ (k : ℕ). list_at after.seen k) (sym new_lock) ∙ told;
+    sound = subst (λ (n : ClassNo). ClassKeeps (setting_of config) n new.class.history (stripes_seen (list_at after.seen))) new_number (class_sees table config new after all new_kept).keeps;
+  }
+
+  -- where the call failed for a full history, the pass has seen it
+  pub full_seen : MayFailSeen config new.sight new.class HistoryFull → HasSeenShort config after
+  full_seen (inl lack) =
+      short_of config after new.lock new.class.number new.class.history new_kept.lock_is new_kept.is told (subst (λ (n : ℕ). n < length new.class.history + 2) new_kept.made_with.max_events lack)
+  full_seen (inr short) = short_seen config new.sight after all short
+
+  -- the fault of a call
+  pub fails_full : {T : Type 0} (r : Result T Fault) → IfErr r (MayFailSeen config new.sight new.class) → r ≡ Err HistoryFull → HasSeenShort config after
+  fails_full r may is = full_seen (subst (λ (x : Result _ Fault). IfErr x (MayFailSeen config new.sight new.class)) is may)
+
+  -- the class was juggled
+  pub juggled_so : (who : Who) (moment : ℕ) (r : Result Moves Fault)
+      → IfOk r (λ moves. (xs : List Answer) × IsJuggle (rounds old.class who moment config) old.class.history xs new.class.history moves) → IfOk r (IsJuggledBy config class before after who moment)
+  juggled_so who moment (Ok moves) made = record {
+    old = old.class;
+    own = grows.events;
+    answers = made.0;
+    grew = subst (IsSeenGrowOf config class before after old.class) grows.history_is class_grew;
+    juggle = subst (λ (history : List ClassEvent). IsJuggle (rounds old.class who moment config) old.class.history made.0 history moves) grows.history_is made.1;
+  }
+  juggled_so who moment (Err fault) made = tt

@@ -1,0 +1,350 @@
+-- One try on the classes that a command holds: what it may still want, and that a refusal was earned.
+use Rattle.std.proofs.Common.{◌≡◌, ◌≢◌, ◌≤◌, ◌<◌, ◌+◌, ◌++◌, ◌∷◌, ◌⊎◌, [], ℕ, List, Bool, true, false, Result, Ok, Err, inl, inr, length, refl, sym, ap, ◌∙◌, subst, arith}
+use Rattle.std.specs.Prelude.{◌==◌, Option, Some, None, IfOk, IfSome, IsSomeAnd, if◌then◌else◌, slice_get}
+use Rattle.std.proofs.lemmas.Bool.Decides.{nat_tests}
+use Rattle.mc_item.specs.{Answer.Row, Command.key_of, Item.link_of_item, Stripe.link_of}
+use Rattle.mc_item.specs.declared.{answer.Need.Need, command.Command.Command, class_event.ClassEvent.ClassEvent, config.Config.Config, fault.Fault.Fault}
+use Rattle.mc_item.specs.declared.{item.ClassNo.ClassNo, item.Item.Item, item.Link.Link, item.StripeNo.StripeNo, item.Who.Who, reply.Reply.Reply}
+use Rattle.mc_item.specs.declared.{reply.Room.Room}
+use Rattle.mc_item.specs.declared.answer.Need.TheVariants as needs
+use Rattle.mc_item.specs.declared.reply.Room.TheVariants as rooms
+use Rattle.atomic_table.specs.Seated.{TableId}
+use Rattle.mc_rule.specs.Lists.{count_of, lists_of}
+use Rattle.mc_rule.proofs.EventPlaceLemmas.{at_place}
+use Rattle.mc_segment.specs.{ClassCalls.Makes, ClassCalls.refused_event, ClassState.ClassView, ClassState.with_room}
+use Rattle.mc_evidence.specs.Seen.{classes_seen}
+use Rattle.mc_board.specs.Histories.{Grows, list_at}
+use Rattle.mc_board.specs.declared.rule.Sight.{Sight}
+use Rattle.mc_stripe.specs.{Plan.fate_of, StripeState.Stripe, Trying.item_of, Trying.row_at}
+use Rattle.mc_stripe.specs.Wanting.{Covers, Holds, IsCrowded, IsTaken, IsWanting, LacksPlace, LacksRoom, changes_at, classes_for, home_class, links_at, other_class}
+use Rattle.mc_stripe.specs.declared.{wanting.Classes.Classes, fate.Fate.Fate, wanting.Given.Given, wanting.Home.Home, wanting.Other.Other, wanting.Want.Want}
+use Rattle.mc_stripe.specs.declared.{trying.Turn.Turn}
+use Rattle.mc_stripe.specs.declared.fate.Fate.TheVariants as fates
+use Rattle.mc_stripe.specs.declared.wanting.Want.TheVariants as wants
+use Rattle.mc_pull.specs.Attempt.{GivesHome, IsNoted, IsReady, LeavesPlaces, OffersHome, OffersOther}
+use Rattle.mc_pull.specs.declared.{attempting.Tried.Tried, attempting.Tried.TheVariants.Made, attempting.Tried.TheVariants.Wants}
+use Rattle.mc_store.specs.{Callers.answered_at, Earned.HasGivenUp, Earned.IsEarnedAt, Earned.IsEarnedIn, Locked.IsLockedClass, Passes.CallerView}
+use Rattle.mc_store.specs.{Serving.HasSeenShort, Serving.IsShort, Sides.ClassSide, Sides.StripeSide, Sides.class_told, Trying.IsMadeBy, Trying.IsTriedUnder}
+use Rattle.mc_store.specs.{Trying.Stay}
+use Rattle.mc_store.specs.Held.{IsMadeIn, IsRefusedAt, IsStillFull, IsTriedOn, MayWant, Suffice, WantsAlone, WantsChunk, nothing}
+use Rattle.mc_store.proofs.{CommandLemmas.not_dead, EarnedRefusalLemmas.earned_sees, NeededClassLemmas.fresh_classes, ShortHistoryLemmas.short_class, ShortHistoryLemmas.short_grows}
+
+pub some_none : {A : Type 0} (a : A) (o : Option A) → o ≡ Some a → o ≡ None → ⊥
+some_none a o is none = absurd (cc (is, none))
+
+-- what suffices to a command that holds nothing suffices to any
+holds_none : (held o : Option ClassNo) → Holds None o → Holds held o
+holds_none held None none = tt
+holds_none held (Some class) none = absurd (cc none)
+
+pub covers_more : (given : Given) (wanted : Classes) → Covers nothing wanted → Covers given wanted
+covers_more given wanted covers = (holds_none (home_class given) wanted.home covers.0, holds_none (other_class given) wanted.other covers.1)
+
+-- what a try under locks came to, on classes of these numbers
+module _ (config : Config) (s : Stripe) (own_new : StripeSide) (caller caller_new : CallerView) (made : Command) (turn : Turn) (given : Given) (cs ds : List ClassSide) (home other : Option ClassNo) (AnyFull : Type 0)
+    (for_home : home_class given ≡ home) (for_other : other_class given ≡ other) where
+  abbrev IsLacking : Want → Type 0
+  IsLacking want = IsWanting given (key_of made) (item_of s made) turn.moment (row_at s made turn.moment) want
+
+  may_want : (Stay cs ds → LacksRoom given (key_of made) (item_of s made) turn.moment (row_at s made turn.moment) → AnyFull)
+      → (Stay cs ds → (class : ClassNo) → IsCrowded given (key_of made) (item_of s made) turn.moment (row_at s made turn.moment) class → IsShort config own_new)
+      → (want : Want) → Stay cs ds → IsLacking want → MayWant config s own_new made turn.moment home other AnyFull want
+  may_want full short (wants.Burial link) stay lacking = lacking
+  may_want full short (wants.Classes classes) stay lacking =
+      let wanted = classes_for (key_of made) (item_of s made) (row_at s made turn.moment) in (
+        (lacking.0, lacking.1, λ covers. lacking.2 (covers_more given classes covers)),
+        λ suffice. lacking.2 (subst (Covers given) (sym lacking.1) (
+          subst (λ (o : Option ClassNo). Holds o wanted.home) (sym for_home) suffice.for_version,
+          subst (λ (o : Option ClassNo). Holds o wanted.other) (sym for_other) suffice.for_item,
+        )),
+      )
+  may_want full short wants.Room stay lacking = full stay lacking
+  may_want full short (wants.Place class) stay lacking = short stay class lacking
+
+  pub tried_on : ((room : Room) → IsTaken given (row_at s made turn.moment).need room → IsEarnedIn config s.site.stripe turn.who turn.moment (key_of made) own_new.sight room)
+      → (Stay cs ds → LacksRoom given (key_of made) (item_of s made) turn.moment (row_at s made turn.moment) → AnyFull)
+      → (Stay cs ds → (class : ClassNo) → IsCrowded given (key_of made) (item_of s made) turn.moment (row_at s made turn.moment) class → IsShort config own_new)
+      → (r : Result Tried Fault) → IfOk r (IsTriedUnder s own_new.stripe caller caller_new made turn given cs ds) → IfOk r (IsTriedOn config s own_new caller caller_new made turn home other AnyFull)
+  tried_on earned full short (Ok (Made reply)) tried = record { alive = tried.uses.alive; room = tried.room; made_is = tried.made_is; noted = tried.noted; earned = earned tried.room tried.uses.taken }
+  tried_on earned full short (Ok (Wants want)) tried = (tried.0, tried.1, may_want full short want tried.2 tried.3)
+  tried_on earned full short (Err fault) tried = tt
+
+-- a chunk is wanted of the class of a new version that is held
+pub wants_chunk : (s : Stripe) (made : Command) (moment : ℕ) (given : Given) (class : ClassNo) (other : Option ClassNo) → home_class given ≡ Some class → other_class given ≡ other → LacksRoom given (key_of made) (item_of s made) moment (row_at s made moment)
+    → WantsChunk class other s made moment
+wants_chunk s made moment given class other for_home for_other lacks =
+    let key = key_of made in
+    let wanted = classes_for key (item_of s made) (row_at s made moment) in
+    let fate = fate_of key (item_of s made) ((row_at s made moment).answer rooms.Keep).change in
+    let home = subst (λ (o : Option ClassNo). Holds o wanted.home) for_home lacks.covers.0 in
+    let fresh = subst (λ (w : Classes). Holds (Some class) w.home) (fresh_classes (row_at s made moment).need (link_of_item (item_of s made)) fate lacks.class lacks.fresh) home in
+    let same : lacks.class ≡ class = cc fresh in
+    record {
+      suffice = record { alive = lacks.alive; for_version = home; for_item = subst (λ (o : Option ClassNo). Holds o wanted.other) for_other lacks.covers.1 };
+      fresh = lacks.fresh ∙ ap (λ (n : ClassNo). needs.Fresh n) same;
+    }
+
+-- a room that is taken was earned where the class that gives it says so
+module _ (config : Config) (s : Stripe) (turn : Turn) (key : List ℕ) (v : ClassView) (refused : Option ℕ) (mid end : Sight) (heard : classes_seen config.stripes (list_at mid.seen) v.number ≡ v.history) (more : Grows mid end) (at : IsRefusedAt config s turn key v refused) where
+  by_place : (place : ℕ) (o : Option ℕ) → IsRefusedAt config s turn key v o → o ≡ Some place → IsEarnedAt config (record { 0 = s.site.stripe }) v.number turn.who turn.moment key place v.history
+  by_place place None earned is = absurd (cc is)
+  by_place place (Some other) earned is =
+      let same : other ≡ place = cc is in
+      subst (λ (p : ℕ). IsEarnedAt config (record { 0 = s.site.stripe }) v.number turn.who turn.moment key p v.history) same earned
+
+  gives_earned : (room : Room) → GivesHome v refused turn.who room → IsEarnedIn config s.site.stripe turn.who turn.moment key end room
+  gives_earned rooms.Keep gives = tt
+  gives_earned (rooms.At link) gives = tt
+  gives_earned (rooms.Refused class place) gives =
+      earned_sees config s.site.stripe turn.who turn.moment key mid end (rooms.Refused class place) more
+      (subst (λ (n : ClassNo). IsEarnedAt config (record { 0 = s.site.stripe }) n turn.who turn.moment key place (classes_seen config.stripes (list_at mid.seen) n)) (sym gives.0)
+      (subst (λ (h : List ClassEvent). IsEarnedAt config (record { 0 = s.site.stripe }) v.number turn.who turn.moment key place h) (sym heard) (by_place place refused at gives.1)))
+
+  kept_earned : (room : Room) → room ≡ rooms.Keep → IsEarnedIn config s.site.stripe turn.who turn.moment key end room
+  kept_earned room is = rw is tt
+
+  pub taken_earned : (given : Given) (need : Need) (room : Room) → IfSome given.home (OffersHome v refused turn.who) → IsTaken given need room → IsEarnedIn config s.site.stripe turn.who turn.moment key end room
+  taken_earned given (needs.Fresh class) room offers taken = by given.home offers taken.0
+    where
+      by : (o : Option Home) → IfSome o (OffersHome v refused turn.who) → IsSomeAnd o (λ h. (h.class ≡ class) × (h.room ≡ room)) → IsEarnedIn config s.site.stripe turn.who turn.moment key end room
+      by None offer is = absurd is
+      by (Some h) offer is = gives_earned room (subst (GivesHome v refused turn.who) is.1 offer.room)
+  taken_earned given needs.Nothing room offers taken = kept_earned room taken
+  taken_earned given needs.Same room offers taken = kept_earned room taken
+  taken_earned given needs.TooLarge room offers taken = kept_earned room taken
+
+-- without a class for a new version no room is a refusal
+pub none_earned : (config : Config) (s : Stripe) (turn : Turn) (key : List ℕ) (sight : Sight) (given : Given) (need : Need) (room : Room) → given.home ≡ None → IsTaken given need room → IsEarnedIn config s.site.stripe turn.who turn.moment key sight room
+none_earned config s turn key sight given (needs.Fresh class) room none taken = absurd (subst (λ (o : Option Home). IsSomeAnd o (λ h. (h.class ≡ class) × (h.room ≡ room))) none taken.0)
+none_earned config s turn key sight given needs.Nothing room none taken = rw taken tt
+none_earned config s turn key sight given needs.Same room none taken = rw taken tt
+none_earned config s turn key sight given needs.TooLarge room none taken = rw taken tt
+
+-- a class's history has less than two places left
+abbrev pub HasFew : ClassView → Type 0
+HasFew v = v.max_events < length v.history + 2
+
+-- a class that gives no room is full
+not_less : (a b : ℕ) → (a < b → ⊥) → b ≤ a
+not_less a b none = grind (arith, none)
+
+pub keeps_full : (config : Config) (sight : Sight) (was v v_new : ClassView) (refused : Option ℕ) (who : Who) (o : Option Home) → IfSome o (OffersHome v refused who) → v ≡ with_room was v.room → v_new ≡ with_room v v_new.room
+    → (HasFew v → HasSeenShort config sight) → IsSomeAnd o (λ h. h.room ≡ rooms.Keep) → IsStillFull config sight refused was v_new
+keeps_full config sight was v v_new refused who None offers readied stay short keeps = absurd keeps
+keeps_full config sight was v v_new refused who (Some h) offers readied stay short keeps =
+    let gives = subst (GivesHome v refused who) keeps offers.room in
+    let full = not_less (count_of (lists_of v.history)) v.chunks gives.1 in
+    record {
+      none = gives.0;
+      was_full = subst (λ (x : ClassView). x.chunks ≤ count_of (lists_of x.history)) readied full;
+      full = subst (λ (x : ClassView). x.chunks ≤ count_of (lists_of x.history)) (sym stay) full;
+      history_is = ap (λ (x : ClassView). x.history) stay ∙ ap (λ (x : ClassView). x.history) readied;
+      number_is = ap (λ (x : ClassView). x.number) stay ∙ ap (λ (x : ClassView). x.number) readied;
+      short = λ few. short (subst (λ (x : ClassView). x.max_events < length x.history + 2) stay few);
+    }
+
+-- where the classes that are held suffice no burial is wanted
+pub no_burial : (s : Stripe) (command : Command) (moment : ℕ) (home other : Option ClassNo) → Suffice home other s command moment → (link : Link) → WantsAlone s command moment (wants.Burial link) → ⊥
+no_burial s command moment home other suffice link wanted = some_none link _ wanted (not_dead (item_of s command) moment suffice.alive)
+
+-- but a place, or a chunk
+module _ (config : Config) (s : Stripe) (own_new : StripeSide) (command : Command) (moment : ℕ) (home other : Option ClassNo) (AnyFull : Type 0) (suffice : Suffice home other s command moment) where
+  pub wants_place : (want : Want) → MayWant config s own_new command moment home other AnyFull want → (want ≡ wants.Room → ⊥) → IsShort config own_new
+  wants_place wants.Room may not = absurd (not refl)
+  wants_place (wants.Place class) may not = may
+  wants_place (wants.Burial link) may not = absurd (no_burial s command moment home other suffice link may)
+  wants_place (wants.Classes classes) may not = absurd (may.1 suffice)
+
+-- ---- a class that lacks a place is short
+
+link_one : (class : ClassNo) (o : Option Link) → links_at class o ≤ 1
+link_one class None = omega arith
+link_one class (Some link) = by (link.class.0 == class.0)
+  where
+    by : (b : Bool) → (if b then 1 else 0) ≤ 1
+    by true = omega arith
+    by false = omega arith
+
+changes_two : (class : ClassNo) (room : Room) (fate : Fate) → changes_at class room fate ≤ 2
+changes_two class room fates.Untouched = omega arith
+changes_two class room (fates.Renewed cost expiry old) =
+    let a = link_one class (link_of room) in
+    let b = link_one class old in
+    omega (arith, a, b)
+changes_two class room (fates.Goes link) =
+    let a = link_one class (Some link) in
+    omega (arith, a)
+changes_two class room (fates.Woken link) = omega arith
+
+-- one change at most, in a class that gives no room
+changes_one : (class : ClassNo) (room : Room) (fate : Fate) → links_at class (link_of room) ≡ 0 → changes_at class room fate ≤ 1
+changes_one class room fates.Untouched none = omega arith
+changes_one class room (fates.Renewed cost expiry old) none =
+    let b = link_one class old in
+    omega (arith, none, b)
+changes_one class room (fates.Goes link) none =
+    let a = link_one class (Some link) in
+    omega (arith, a)
+changes_one class room (fates.Woken link) none = omega arith
+
+home_lacks : (v : ClassView) (places changes : ℕ) → LeavesPlaces 2 v places → places < changes → changes ≤ 2 → v.max_events < length v.history + 2
+home_lacks v places changes leaves less few =
+    let all = leaves.all (omega (arith, less, few)) in
+    omega (arith, all, less, few)
+
+other_lacks : (v : ClassView) (places changes : ℕ) → LeavesPlaces 1 v places → places < changes → changes ≤ 1 → v.max_events < length v.history + 2
+other_lacks v places changes leaves less few =
+    let all = leaves.all (omega (arith, less, few)) in
+    omega (arith, all, less, few)
+
+-- a room that is taken is none of another class's
+apart_link : (class other : ClassNo) → other ≢ class → (other.0 == class.0) ≡ false
+apart_link class other apart = by (other.0 == class.0) refl
+  where
+    by : (b : Bool) → (other.0 == class.0) ≡ b → (other.0 == class.0) ≡ false
+    by false is = is
+    by true is =
+        let same : other.0 ≡ class.0 = grind (arith, nat_tests) in
+        absurd (apart (ap (λ (n : ℕ). record { 0 = n }) same))
+
+link_apart : (class : ClassNo) (v : ClassView) (refused : Option ℕ) (who : Who) (room : Room) → v.number ≢ class → GivesHome v refused who room → links_at class (link_of room) ≡ 0
+link_apart class v refused who rooms.Keep apart gives = refl
+link_apart class v refused who (rooms.Refused c place) apart gives = refl
+link_apart class v refused who (rooms.At link) apart gives =
+    ap (λ (b : Bool). if b then 1 else 0) (apart_link class link.class (λ same. apart (sym (ap (λ (l : Link). l.class) gives.0) ∙ same)))
+
+no_link : (class : ClassNo) (room : Room) → room ≡ rooms.Keep → links_at class (link_of room) ≡ 0
+no_link class room is = rw is refl
+
+taken_apart : (class : ClassNo) (given : Given) (need : Need) (room : Room) → IfSome given.home (λ h. (v : ClassView) × (refused : Option ℕ) × (who : Who) × (v.number ≢ class) × OffersHome v refused who h) → IsTaken given need room
+    → links_at class (link_of room) ≡ 0
+taken_apart class given (needs.Fresh fresh) room apart taken = by given.home apart taken.0
+  where
+    by : (o : Option Home) → IfSome o (λ h. (v : ClassView) × (refused : Option ℕ) × (who : Who) × (v.number ≢ class) × OffersHome v refused who h) → IsSomeAnd o (λ h. (h.class ≡ fresh) × (h.room ≡ room)) → links_at class (link_of room) ≡ 0
+    by None offer is = absurd is
+    by (Some h) offer is = link_apart class offer.0 offer.1 offer.2 room offer.3 (subst (GivesHome offer.0 offer.1 offer.2) is.1 offer.4.room)
+taken_apart class given needs.Nothing room apart taken = no_link class room taken
+taken_apart class given needs.Same room apart taken = no_link class room taken
+taken_apart class given needs.TooLarge room apart taken = no_link class room taken
+
+home_few : (v : ClassView) (refused : Option ℕ) (who : Who) (room : Room) (fate : Fate) (class : ClassNo) (o : Option Home) → IfSome o (OffersHome v refused who) → IsSomeAnd o (λ h. (h.class ≡ class) × (h.places < changes_at class room fate)) → HasFew v
+home_few v refused who room fate class None offers lacks = absurd lacks
+home_few v refused who room fate class (Some h) offers lacks = home_lacks v h.places (changes_at class room fate) offers.places lacks.1 (changes_two class room fate)
+
+other_few : (w : ClassView) (room : Room) (fate : Fate) (class : ClassNo) (o : Option Other) → links_at w.number (link_of room) ≡ 0 → IfSome o (OffersOther w) → IsSomeAnd o (λ e. (e.class ≡ class) × (e.places < changes_at class room fate)) → HasFew w
+other_few w room fate class None none offers lacks = absurd lacks
+other_few w room fate class (Some e) none offers lacks =
+    let at : class ≡ w.number = sym lacks.0 ∙ offers.class_is in
+    other_lacks w e.places (changes_at class room fate) offers.places lacks.1 (changes_one class room fate (subst (λ (n : ClassNo). links_at n (link_of room) ≡ 0) (sym at) none))
+
+module _ (given : Given) (key : List ℕ) (found : Option Item) (moment : ℕ) (row : Row) (class : ClassNo) (crowded : IsCrowded given key found moment row class) where
+  abbrev fate : Fate
+  fate = fate_of key found (row.answer crowded.room).change
+
+  -- that of a new version alone is held
+  pub crowded_home : (v : ClassView) (refused : Option ℕ) (who : Who) → given.other ≡ None → IfSome given.home (OffersHome v refused who) → HasFew v
+  crowded_home v refused who none offers = by crowded.lacks
+    where
+      by : LacksPlace given crowded.room fate class → HasFew v
+      by (inl lacks) = home_few v refused who crowded.room fate class given.home offers lacks
+      by (inr lacks) = absurd (subst (λ (o : Option Other). IsSomeAnd o (λ e. (e.class ≡ class) × (e.places < changes_at class crowded.room fate))) none lacks)
+
+  -- that of an item alone
+  pub crowded_other : (w : ClassView) → given.home ≡ None → IfSome given.other (OffersOther w) → HasFew w
+  crowded_other w none offers = by crowded.lacks
+    where
+      apart : IfSome given.home (λ h. (v : ClassView) × (refused : Option ℕ) × (who : Who) × (v.number ≢ w.number) × OffersHome v refused who h)
+      apart = subst (λ (o : Option Home). IfSome o (λ h. (v : ClassView) × (refused : Option ℕ) × (who : Who) × (v.number ≢ w.number) × OffersHome v refused who h)) (sym none) tt
+
+      by : LacksPlace given crowded.room fate class → HasFew w
+      by (inl lacks) = absurd (subst (λ (o : Option Home). IsSomeAnd o (λ e. (e.class ≡ class) × (e.places < changes_at class crowded.room fate))) none lacks)
+      by (inr lacks) = other_few w crowded.room fate class given.other (taken_apart w.number given row.need crowded.room apart crowded.taken) offers lacks
+
+  -- both
+  pub crowded_both : (v w : ClassView) (refused : Option ℕ) (who : Who) → v.number ≢ w.number → IfSome given.home (OffersHome v refused who) → IfSome given.other (OffersOther w) → HasFew v ⊎ HasFew w
+  crowded_both v w refused who far home other = by crowded.lacks
+    where
+      apart : (o : Option Home) → IfSome o (OffersHome v refused who) → IfSome o (λ h. (v : ClassView) × (refused : Option ℕ) × (who : Who) × (v.number ≢ w.number) × OffersHome v refused who h)
+      apart None offers = tt
+      apart (Some h) offers = (v, refused, who, far, offers)
+
+      by : LacksPlace given crowded.room fate class → HasFew v ⊎ HasFew w
+      by (inl lacks) = inl (home_few v refused who crowded.room fate class given.home home lacks)
+      by (inr lacks) = inr (other_few w crowded.room fate class given.other (taken_apart w.number given row.need crowded.room (apart given.home home) crowded.taken) other lacks)
+
+-- ---- what is offered
+
+-- a class that is ready has room for what it offers
+pub home_fits : (v : ClassView) (h : Home) (refused : Option ℕ) (who : Who) → IsReady v → OffersHome v refused who h → h.places ≤ v.room
+home_fits v h refused who ready offers = ready h.places offers.places.few offers.places.fits
+
+pub other_fits : (w : ClassView) (o : Other) → IsReady w → OffersOther w o → o.places ≤ w.room
+other_fits w o ready offers =
+    let few = offers.places.few in
+    ready o.places (omega (arith, few)) offers.places.fits
+
+-- a refusal that is known stands in its class's history
+pub noted_of : (config : Config) (s : Stripe) (turn : Turn) (key : List ℕ) (v : ClassView) (refused : Option ℕ) → IsRefusedAt config s turn key v refused → IsNoted refused turn.who v
+noted_of config s turn key v None at = tt
+noted_of config s turn key v (Some place) at = subst (λ (p : ℕ). slice_get v.history p ≡ Some (refused_event turn.who)) (sym at.place_is) (at_place v.history at.before (refused_event turn.who) at.refused)
+
+-- a class that the stripe has met and that then made room for events is as it was
+pub readied : (was met side : ClassSide) → met ≡ record was { sight = met.sight } → side ≡ record met { class = with_room met.class side.class.room } → side ≡ record was { class = with_room was.class side.class.room; sight = met.sight }
+readied was met side lent same = same ∙ ap (λ (x : ClassSide). record x { class = with_room x.class side.class.room }) lent
+
+-- a class that the stripe has met, and that made room for events
+module _ (table : TableId) (config : Config) (was side : ClassSide) (sight : Sight) (room : ℕ) (is : side ≡ record was { class = with_room was.class room; sight = sight }) where
+  pub readied_class : side.class ≡ with_room was.class side.class.room
+  readied_class = ap (λ (x : ClassSide). x.class) is ∙ ap (λ (n : ℕ). with_room was.class n) (sym (ap (λ (x : ClassSide). x.class.room) is))
+
+  pub same_number : side.class.number ≡ was.class.number
+  same_number = ap (λ (x : ClassSide). x.class.number) is
+
+  -- it was seen to be short
+  pub short_seen : (mid end : Sight) → IsLockedClass table config side → list_at mid.seen was.lock ≡ class_told was.class.history → Grows mid end → HasFew side.class → HasSeenShort config end
+  short_seen mid end kept told more few =
+      short_grows config mid end more
+      (short_class table config side mid side.class kept.held (subst (λ (x : ClassSide). list_at mid.seen x.lock ≡ class_told x.class.history) (sym is) told) refl refl few)
+
+  -- and its history is what the stripe has seen of it
+  pub heard_of : (mid : Sight) → classes_seen config.stripes (list_at mid.seen) was.class.number ≡ was.class.history → classes_seen config.stripes (list_at mid.seen) side.class.number ≡ side.class.history
+  heard_of mid heard = subst (λ (x : ClassSide). classes_seen config.stripes (list_at mid.seen) x.class.number ≡ x.class.history) (sym is) heard
+
+  pub refused_of : (s : Stripe) (turn : Turn) (key : List ℕ) (refused : Option ℕ) → IsRefusedAt config s turn key was.class refused → IsRefusedAt config s turn key side.class refused
+  refused_of s turn key refused at = subst (λ (x : ClassSide). IsRefusedAt config s turn key x.class refused) (sym is) at
+
+-- ---- what is left to do
+
+-- a class that is full and has no place for its refusal is short, as the stripe has seen
+pub refuse_short : (config : Config) (own : StripeSide) (v v_new : ClassView) → (v.max_events < length v.history + 2 → HasSeenShort config own.sight) → v_new ≡ with_room v v_new.room → v_new.max_events ≤ length v_new.history → IsShort config own
+refuse_short config own v v_new short same full =
+    let limit : v_new.max_events ≡ v.max_events = ap (λ (x : ClassView). x.max_events) same in
+    let long : length v_new.history ≡ length v.history = ap (λ (x : ClassView). length x.history) same in
+    inr (short (omega (arith, limit, long, full)))
+
+-- a refusal that is noted now was earned, where a chunk was looked for in vain
+pub earned_now : (config : Config) (number : StripeNo) (turn : Turn) (key : List ℕ) (v v_new : ClassView) (place : ℕ) → Makes v v_new (refused_event turn.who) → place ≡ length v.history → HasGivenUp config number v.number turn.who turn.moment key v.history
+    → IsEarnedAt config number v_new.number turn.who turn.moment key place v_new.history
+earned_now config number turn key v v_new place makes at given_up =
+    subst (λ (n : ClassNo). IsEarnedAt config number n turn.who turn.moment key place v_new.history) (sym (ap (λ (x : ClassView). x.number) makes)) (record {
+      before = v.history;
+      refused = record { later = []; is = ap (λ (x : ClassView). x.history) makes };
+      place_is = at;
+      searched = given_up;
+    })
+
+-- a command that was made, of a caller that had noted nothing
+pub made_caller : (config : Config) (s : Stripe) (own_new : StripeSide) (caller mid caller_new : CallerView) (made : Command) (turn : Turn) (reply : Reply) → mid ≡ caller → IsMadeIn config s own_new mid caller_new made turn reply
+    → IsMadeIn config s own_new caller caller_new made turn reply
+made_caller config s own_new caller mid caller_new made turn reply same was = subst (λ (x : CallerView). IsMadeIn config s own_new x caller_new made turn reply) same was
+
+-- a command that was made on its stripe alone
+pub made_alone : (config : Config) (s : Stripe) (own_new : StripeSide) (caller mid caller_new : CallerView) (made : Command) (turn : Turn) (reply : Reply) → mid ≡ caller → IsMadeBy s own_new.stripe mid caller_new made turn nothing reply
+    → IsMadeIn config s own_new caller caller_new made turn reply
+made_alone config s own_new caller mid caller_new made turn reply same by = record {
+  alive = by.uses.alive;
+  room = by.room;
+  made_is = by.made_is;
+  noted = by.noted ∙ ap (λ (x : CallerView). record x { calls = x.calls ++ answered_at s.site.stripe (length s.history) ∷ [] }) same;
+  earned = none_earned config s turn (key_of made) own_new.sight nothing (row_at s made turn.moment).need by.room refl by.uses.taken;
+}

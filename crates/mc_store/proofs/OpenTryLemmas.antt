@@ -1,0 +1,312 @@
+-- A try of a command whose stripe and classes are out of their locks: what the locks keep behind it.
+use Rattle.std.proofs.Common.{◌≡◌, ◌≢◌, ◌<◌, ◌++◌, ◌∷◌, [], ℕ, List, Bool, true, false, Result, Ok, Err, length, refl, sym, ap, ◌∙◌, subst}
+use Rattle.std.specs.Prelude.{IfOk, IsErrOf, OnErr, OnOk}
+use mathlib.Core.List.{IsPrefix}
+use Rattle.atomic_table.specs.Seated.{TableId}
+use Rattle.mc_item.specs.Stripe.{IsLegal}
+use Rattle.mc_item.specs.declared.{answer.Site.Site, command.Command.Command, config.Config.Config, fault.Fault.Fault, fault.Fault.TheVariants.HistoryFull}
+use Rattle.mc_item.specs.declared.reply.Room.TheVariants as rooms
+use Rattle.mc_rule.specs.Lawful.{IsLawfulHistoryByLists}
+use Rattle.mc_board.specs.{Histories.Grows, Histories.list_at, Histories.with_seen, Views.OwnerView, Views.SeenView}
+use Rattle.mc_board.specs.declared.rule.Sight.{Sight}
+use Rattle.mc_board.proofs.PrefixLemmas.{prefix_self}
+use Rattle.mc_segment.specs.ClassState.{ClassView, with_room}
+use Rattle.mc_stripe.specs.{StripeCalls.KeepsSite, StripeState.Stripe}
+use Rattle.mc_stripe.specs.declared.{wanting.Given.Given, trying.Turn.Turn}
+use Rattle.mc_pull.specs.declared.attempting.Tried.{Tried}
+use Rattle.mc_pull.specs.{Agreeing.AgreeNow, Agreeing.KeepsAgreements, Attempt.IsTriedBy, Attempt.MayTryOn, Lent.EachPair, Perform.Call, Perform.call}
+use Rattle.mc_pull.specs.{Performed.IsPerformed, Performed.IsUntouched, Performed.MayRefuseCall, Performed.ClassStays, Sight.BacksStill, Sight.KeepsSights, Sight.SuitsStill}
+use Rattle.mc_pull.specs.Growth as classes
+use Rattle.mc_pull.specs.Question as made
+use Rattle.mc_store.specs.{Callers.AreCalled, Callers.answered_at, Callers.asked_for, Callers.calls_told, Passes.CallerView, Passes.HasAsked, Passes.HasCalled}
+use Rattle.mc_store.specs.Locked.{HasBegunAs, IsHeldClass, IsLockedClass, IsLockedStripe, caller_place, locks_for}
+use Rattle.mc_store.specs.{Made.GainsOwn, Performing.IsRefusedIn, Serving.IsShort, Serving.class_side, Sides.ClassSide, Sides.StripeSide, Sides.class_told}
+use Rattle.mc_store.specs.{Sides.stripe_told, Trying.IsTriedUnder, Trying.Stay, Trying.is_made}
+use Rattle.mc_store.proofs.{SeenStripeLemmas.on_err_more, CallerLemmas.called_performed, LentClassLemmas.lent_grow, LentClassLemmas.own_behind, OwnEventLemmas.gains_performed}
+use Rattle.mc_store.proofs.{OwnEventLemmas.locked_told, OwnEventLemmas.noted_called, LockKeepsLemmas.grows_trans, LockKeepsLemmas.seen_on, LockKeepsLemmas.stripe_sees}
+use Rattle.mc_store.proofs.SyncedLemmas.{lent_more, lent_said, own_more, own_said, stripe_side}
+use Rattle.mc_store.proofs.SyncedCommandLemmas.{alone_end, class_end, one_end, one_short, two_end, two_short}
+use Rattle.mc_store.proofs.TryStepLemmas.{call_at, kept_at, performed_at, refusal_at, refused_at, result_of, seen_at, stay_of, under_tried, unless, untouched_at, when}
+
+-- ---- out of the locks
+
+-- a stripe out of its lock, its tokens apart from it: what the lock kept, what lay in it, and what was handed in
+pub record IsOpenStripe (table : TableId) (config : Config) (owner : OwnerView) (seen : SeenView) (s : Stripe) (side own : StripeSide) : Type 0 where
+  pub kept : IsLockedStripe table config (stripe_side owner seen s)
+  pub side_is : stripe_side owner seen s ≡ side
+  pub is : stripe_side owner seen s ≡ own
+
+pub open_stripe : (table : TableId) (config : Config) (owner : OwnerView) (seen : SeenView) (s : Stripe) (side own : StripeSide) → stripe_side owner seen s ≡ side → IsLockedStripe table config side → side ≡ own
+    → IsOpenStripe table config owner seen s side own
+open_stripe table config owner seen s side own is kept view = record { kept = subst (IsLockedStripe table config) (sym is) kept; side_is = is; is = is ∙ view }
+
+-- the same of a class
+pub record IsOpenClass (table : TableId) (config : Config) (owner : OwnerView) (seen : SeenView) (v : ClassView) (class : ClassSide) : Type 0 where
+  pub kept : IsLockedClass table config (class_side owner seen v)
+  pub is : class_side owner seen v ≡ class
+
+pub open_class : (table : TableId) (config : Config) (owner : OwnerView) (seen : SeenView) (v : ClassView) (side class : ClassSide) → class_side owner seen v ≡ side → IsLockedClass table config side → side ≡ class
+    → IsOpenClass table config owner seen v class
+open_class table config owner seen v side class is kept view = record { kept = subst (IsLockedClass table config) (sym is) kept; is = is ∙ view }
+
+-- ---- the try
+
+-- a command was tried on an open stripe and classes: it was made on them, or nothing was
+pub record IsStep (table : TableId) (config : Config) (command : Command) (turn : Turn) (given : Given) (owner : OwnerView) (seen : SeenView) (s s_new : Stripe) (vs ws : List ClassView) (t : Result Tried Fault) : Type 0 where
+  pub kept : IsLockedStripe table config (stripe_side owner seen s)
+  pub may : MayTryOn s vs command turn given
+  pub tried : IfOk t (IsTriedBy config s s_new command turn given vs ws)
+  pub err : OnErr t (IsUntouched s s_new vs ws)
+  pub site : KeepsSite s s_new
+
+module _ {table : TableId} {config : Config} {owner : OwnerView} {seen : SeenView} {s : Stripe} {side own : StripeSide} (opened : IsOpenStripe table config owner seen s side own)
+    {command : Command} {turn : Turn} {given : Given} {s_new : Stripe} (t : Result Tried Fault) (site : KeepsSite s s_new) where
+  pub step_on : (vs ws : List ClassView) → MayTryOn own.stripe vs command turn given → (made.IsStripeOf config s → IfOk t (IsTriedBy config s s_new command turn given vs ws)) → OnErr t (IsUntouched s s_new vs ws)
+      → IsStep table config command turn given owner seen s s_new vs ws t
+  step_on vs ws may tried err = record {
+    kept = opened.kept;
+    may = subst (λ (x : StripeSide). MayTryOn x.stripe vs command turn given) (sym opened.is) may;
+    tried = tried opened.kept.made_with;
+    err = err;
+    site = site;
+  }
+
+  module _ {owner_of : OwnerView} {seen_of : SeenView} {v : ClassView} {class : ClassSide} (open_of : IsOpenClass table config owner_of seen_of v class) (w : ClassView) where
+    pub step_one : MayTryOn own.stripe (class.class ∷ []) command turn given → ((c : Config) → made.IsStripeOf c s → made.IsClassOf c v → IfOk t (IsTriedBy c s s_new command turn given (v ∷ []) (w ∷ [])))
+        → OnErr t (IsUntouched s s_new (v ∷ []) (w ∷ [])) → IsStep table config command turn given owner seen s s_new (v ∷ []) (w ∷ []) t
+    step_one may tried err =
+        step_on (v ∷ []) (w ∷ []) (subst (λ (x : ClassSide). MayTryOn own.stripe (x.class ∷ []) command turn given) (sym open_of.is) may) (λ is. tried config is open_of.kept.held.made_with) err
+
+    pub step_two : {owner_b : OwnerView} {seen_b : SeenView} {v_b : ClassView} {beside : ClassSide} (open_b : IsOpenClass table config owner_b seen_b v_b beside) (w_b : ClassView) → MayTryOn own.stripe (class.class ∷ beside.class ∷ []) command turn given
+        → ((c : Config) → made.IsStripeOf c s → made.IsClassOf c v → made.IsClassOf c v_b → IfOk t (IsTriedBy c s s_new command turn given (v ∷ v_b ∷ []) (w ∷ w_b ∷ [])))
+        → OnErr t (IsUntouched s s_new (v ∷ v_b ∷ []) (w ∷ w_b ∷ [])) → IsStep table config command turn given owner seen s s_new (v ∷ v_b ∷ []) (w ∷ w_b ∷ []) t
+    step_two {v_b = v_b} {beside = beside} open_b w_b may tried err =
+        step_on (v ∷ v_b ∷ []) (w ∷ w_b ∷ [])
+        (subst (λ (x : ClassSide). MayTryOn own.stripe (x.class ∷ v_b ∷ []) command turn given) (sym open_of.is) (subst (λ (x : ClassSide). MayTryOn own.stripe (class.class ∷ x.class ∷ []) command turn given) (sym open_b.is) may))
+        (λ is. tried config is open_of.kept.held.made_with open_b.kept.held.made_with) err
+
+-- a class that was lent, before the try and behind it
+pub record IsLent (table : TableId) (config : Config) (turn : Turn) (s s_new : Stripe) (owner : OwnerView) (seen : SeenView) (v w : ClassView) : Type 0 where
+  pub kept : IsLockedClass table config (class_side owner seen v)
+  pub grows : classes.Grows v w
+  pub gains : GainsOwn turn.who turn.moment v.history w.history
+  pub agrees : AgreeNow w s_new
+  pub backs : BacksStill s.site v w
+  pub suits : SuitsStill s.site v w
+
+-- the caller has noted where its command was answered, if it was, and this has seen so
+pub record IsKnown (config : Config) (command : Command) (turn : Turn) (s s_new : Stripe) (t : Result Tried Fault) (sight noting : Sight) (caller caller_new : CallerView) : Type 0 where
+  pub more : Grows sight noting
+  pub called : AreCalled (locks_for config) config.callers s_new.site.stripe s_new.history (list_at noting.seen)
+  pub begun : HasCalled caller_new turn.who turn.moment (asked_for command turn.moment)
+  pub noted : is_made t ≡ true → caller_new ≡ record caller { calls = caller.calls ++ answered_at s.site.stripe (length s.history) ∷ [] }
+  pub unnoted : is_made t ≡ false → caller_new ≡ caller
+
+module _ {table : TableId} {config : Config} {command : Command} {turn : Turn} {given : Given} {owner : OwnerView} {seen : SeenView} {s s_new : Stripe} {vs ws : List ClassView} {t : Result Tried Fault}
+    (step : IsStep table config command turn given owner seen s s_new vs ws t) where
+  abbrev call_in : Call
+  call_in = call_at config s s_new command turn given vs ws t step.tried
+
+  made_in : OnOk (result_of t) (IsPerformed s s_new call_in vs ws)
+  made_in = performed_at config s s_new command turn given vs ws t step.tried
+
+  none_in : OnErr (result_of t) (IsUntouched s s_new vs ws)
+  none_in = untouched_at config s s_new command turn given vs ws t step.tried step.err
+
+  kept_in : KeepsAgreements call_in s s_new vs ws
+  kept_in = kept_at config s s_new command turn given vs ws step.site t step.tried step.err
+
+  seen_in : KeepsSights call_in s s_new vs ws
+  seen_in = seen_at config s s_new command turn given vs ws step.site t step.tried step.err
+
+  refused_in : IsRefusedIn call_in.room vs
+  refused_in = refused_at config s s_new command turn given vs ws step.may.refused step.may.offered t step.tried
+
+  gain_in : EachPair (λ v w. GainsOwn turn.who turn.moment v.history w.history) vs ws
+  gain_in = gains_performed s s_new call_in vs ws (result_of t) made_in none_in
+
+  -- the classes have only grown
+  pub grow_in : EachPair (λ v w. classes.Grows v w) vs ws
+  grow_in = lent_grow s s_new call_in vs ws (result_of t) made_in none_in
+
+  -- and so has the stripe, of which the board may lack the last events
+  pub stripe_lacks : owner.history ≡ stripe_told s.history → IsPrefix owner.history (stripe_told s_new.history)
+  stripe_lacks told = own_behind s s_new call_in vs ws owner.history told (result_of t) made_in none_in
+
+  pub known_in : {side own : StripeSide} → IsOpenStripe table config owner seen s side own → {noting : Sight} {caller caller_new : CallerView} {place : ℕ} {done : Bool} → HasAsked caller turn.who command turn.moment
+      → place ≡ length side.stripe.history → done ≡ is_made t → Grows seen.sight noting → (done ≡ true → caller.number < config.callers)
+      → (done ≡ true → list_at noting.seen (caller_place config caller.number) ≡ calls_told caller_new.calls) → (done ≡ true → caller_new ≡ record caller { calls = caller.calls ++ answered_at s_new.site.stripe place ∷ [] })
+      → (done ≡ false → caller_new ≡ caller) → IsKnown config command turn s s_new t seen.sight noting caller caller_new
+  known_in opened {noting = noting} {caller = caller} {caller_new = caller_new} {place = place} {done = done} asked at_side is more of told noted unnoted =
+      let at : place ≡ length s.history = at_side ∙ sym (ap (λ (x : StripeSide). length x.stripe.history) opened.side_is) in
+      let on = λ (P : Type 0) (f : done ≡ true → P). when P t (λ yes. f (is ∙ yes)) in
+      let so = on (caller_new ≡ record caller { calls = caller.calls ++ answered_at s_new.site.stripe place ∷ [] }) noted in
+      record {
+        more = more;
+        called = called_performed config s s_new call_in vs ws seen.sight noting caller caller_new place asked at step.site more (result_of t) made_in none_in (on (caller.number < config.callers) of)
+            (on (list_at noting.seen (caller_place config caller.number) ≡ calls_told caller_new.calls) told) so step.kept.called;
+        begun = noted_called caller caller_new turn.who command turn.moment s_new.site.stripe place asked (result_of t) so (unless (caller_new ≡ caller) t (λ no. unnoted (is ∙ no)));
+        noted = λ yes.
+            noted (is ∙ yes) ∙ ap (λ (x : Site). record caller { calls = caller.calls ++ answered_at x.stripe place ∷ [] }) step.site.site
+            ∙ ap (λ (n : ℕ). record caller { calls = caller.calls ++ answered_at s.site.stripe n ∷ [] }) at;
+        unnoted = λ no. unnoted (is ∙ no);
+      }
+
+module _ {table : TableId} {config : Config} {command : Command} {turn : Turn} {given : Given} {owner : OwnerView} {seen : SeenView} {s s_new : Stripe} {v w : ClassView} {vs ws : List ClassView} {t : Result Tried Fault}
+    (step : IsStep table config command turn given owner seen s s_new (v ∷ vs) (w ∷ ws) t) {owner_of : OwnerView} {seen_of : SeenView} {class : ClassSide} (open_of : IsOpenClass table config owner_of seen_of v class) where
+  pub first_lent : IsLent table config turn s s_new owner_of seen_of v w
+  first_lent = record {
+    kept = open_of.kept;
+    grows = (grow_in step).0;
+    gains = (gain_in step).0;
+    agrees = (kept_in step).own.0 step.may.met.0;
+    backs = (seen_in step).backed.0;
+    suits = (seen_in step).suited.0;
+  }
+
+module _ {table : TableId} {config : Config} {command : Command} {turn : Turn} {given : Given} {owner : OwnerView} {seen : SeenView} {s s_new : Stripe} {u x v w : ClassView} {vs ws : List ClassView} {t : Result Tried Fault}
+    (step : IsStep table config command turn given owner seen s s_new (u ∷ v ∷ vs) (x ∷ w ∷ ws) t) {owner_of : OwnerView} {seen_of : SeenView} {class : ClassSide} (open_of : IsOpenClass table config owner_of seen_of v class) where
+  pub second_lent : IsLent table config turn s s_new owner_of seen_of v w
+  second_lent = record {
+    kept = open_of.kept;
+    grows = (grow_in step).1.0;
+    gains = (gain_in step).1.0;
+    agrees = (kept_in step).own.1.0 step.may.met.1.0;
+    backs = (seen_in step).backed.1.0;
+    suits = (seen_in step).suited.1.0;
+  }
+
+-- ---- behind it
+
+-- what holds of a try that made nothing holds of one that failed
+failed : (P : Type 0) (t : Result Tried Fault) → (is_made t ≡ false → P) → OnErr t P
+failed P (Ok came_to) there = tt
+failed P (Err fault) there = there refl
+
+-- the stripe as it is left, once it has seen so much
+pub record IsLeft (owner : OwnerView) (s_new : Stripe) (noting : Sight) (own : StripeSide) (sight : Sight) : Type 0 where
+  pub is : own ≡ record { board = owner.board; lock = owner.lock; stripe = s_new; sight = sight }
+  pub more : Grows noting sight
+
+-- the board has its events
+pub left_first : {owner owner_new : OwnerView} {s_new : Stripe} (noting : Sight) → owner_new ≡ record owner { history = stripe_told s_new.history }
+    → IsLeft owner s_new noting (record { board = owner_new.board; lock = owner_new.lock; stripe = s_new; sight = noting }) noting
+left_first {s_new = s_new} noting caught = record {
+  is = ap (λ (o : OwnerView). record { board = o.board; lock = o.lock; stripe = s_new; sight = noting }) caught;
+  more = record { at = λ lock. prefix_self (list_at noting.seen lock) };
+}
+
+-- a class tells it its history
+pub left_told : {table : TableId} {config : Config} {turn : Turn} {owner owner_of owner_told : OwnerView} {seen_of : SeenView} {s s_new : Stripe} {v w : ClassView} {noting sight : Sight} {own own_new : StripeSide}
+    → IsLeft owner s_new noting own sight → IsLent table config turn s s_new owner_of seen_of v w → owner_told ≡ record owner_of { history = class_told w.history }
+    → own_new ≡ record own { sight = with_seen own.sight owner_told.lock (class_told w.history) } → Grows own.sight own_new.sight
+    → IsLeft owner s_new noting own_new (with_seen sight owner_of.lock (class_told w.history))
+left_told {owner = owner} {owner_of = owner_of} {owner_told = owner_told} {seen_of = seen_of} {s_new = s_new} {v = v} {w = w} {noting = noting} {sight = sight} {own = own} {own_new = own_new} left lent caught told more =
+    let before : StripeSide = record { board = owner.board; lock = owner.lock; stripe = s_new; sight = sight } in
+    let was = class_side owner_of seen_of v in
+    let told_by = class_side owner_told seen_of w in
+    let told_is : told_by ≡ class_side owner_of seen_of w = ap (λ (o : OwnerView). class_side o seen_of w) caught in
+    record {
+      is = own_said before own own_new s_new was told_by w left.is told_is told;
+      more = grows_trans noting sight (with_seen sight owner_of.lock (class_told w.history)) left.more (own_more before own own_new s_new was told_by w left.is told_is told more);
+    }
+
+-- nothing happens to it
+pub left_same : {owner : OwnerView} {s_new : Stripe} {noting sight : Sight} {own own_new : StripeSide} → IsLeft owner s_new noting own sight → own_new ≡ own → IsLeft owner s_new noting own_new sight
+left_same left same = record { is = same ∙ left.is; more = left.more }
+
+module _ {table : TableId} {config : Config} {command : Command} {turn : Turn} {given : Given} {owner : OwnerView} {seen : SeenView} {s s_new : Stripe} {vs ws : List ClassView} {t : Result Tried Fault}
+    (step : IsStep table config command turn given owner seen s s_new vs ws t) {noting : Sight} {caller caller_new : CallerView} (known : IsKnown config command turn s s_new t seen.sight noting caller caller_new) where
+  -- the stripe before the try, with what was noted of it
+  abbrev own_seen : StripeSide
+  own_seen = record { board = owner.board; lock = owner.lock; stripe = s; sight = noting }
+
+  kept_seen : IsLockedStripe table config own_seen
+  kept_seen = stripe_sees table config (stripe_side owner seen s) noting known.more step.kept
+
+  -- a class, when the stripe has told it its history, and the caller its own
+  pub class_left : {owner_of owner_told : OwnerView} {seen_of : SeenView} {v w : ClassView} {own_told : StripeSide} {sight : Sight} {first mid last : ClassSide} → IsLegal s_new.site s_new.history
+      → IsLent table config turn s s_new owner_of seen_of v w → owner_told ≡ record owner_of { history = class_told w.history } → first ≡ class_side owner_told seen_of w → IsLawfulHistoryByLists w.chunks w.rule w.history
+      → IsLeft owner s_new noting own_told sight → mid ≡ record first { sight = with_seen first.sight own_told.lock (stripe_told own_told.stripe.history) } → Grows first.sight mid.sight
+      → last ≡ record mid { sight = last.sight } → Grows mid.sight last.sight → HasBegunAs config last.sight turn.who turn.moment (asked_for command turn.moment) → IsLockedClass table config last
+  class_left {owner_of = owner_of} {owner_told = owner_told} {seen_of = seen_of} {v = v} {w = w} {own_told = own_told} {sight = sight} {first = first} {mid = mid} {last = last} legal lent caught same lawful left told more learnt grows begun =
+      let was = class_side owner_of seen_of v in
+      let own_end : StripeSide = record { board = owner.board; lock = owner.lock; stripe = s_new; sight = sight } in
+      let first_is : first ≡ class_side owner_of seen_of w = same ∙ ap (λ (o : OwnerView). class_side o seen_of w) caught in
+      let held = subst (IsHeldClass table config) (sym (lent_said was first mid w own_told own_end first_is left.is told))
+      (class_end table config own_seen kept_seen s_new (call_in step) step.site legal known.called was w lent.kept.held lent.grows lawful lent.agrees lent.backs lent.suits
+      (lent_more was first mid w own_told own_end first_is left.is told more)) in
+      locked_told table config was first mid last turn.who turn.moment lent.kept
+      (subst (λ (x : ClassSide). GainsOwn turn.who turn.moment v.history x.class.history) (sym first_is) lent.gains)
+      (ap (λ (x : ClassSide). x.class.number) first_is ∙ ap (λ (x : ClassView). x.number) lent.grows.same) (ap (λ (x : ClassSide). x.sight) first_is) (ap (λ (x : ClassSide). x.class) told) more held learnt grows
+      (record { command = command; begun = begun })
+
+  -- the stripe has seen all that it had, and what a try came to
+  pub left_sees : {side own own_new : StripeSide} {sight : Sight} → IsOpenStripe table config owner seen s side own → IsLeft owner s_new noting own_new sight → Grows own.sight own_new.sight
+  left_sees {own = own} {own_new = own_new} {sight = sight} opened left =
+      seen_on own seen.sight noting (record { board = owner.board; lock = owner.lock; stripe = s_new; sight = sight }) own_new (ap (λ (x : StripeSide). x.sight) opened.is) known.more left.more left.is
+
+  pub left_err : {side own own_new : StripeSide} {sight : Sight} → IsOpenStripe table config owner seen s side own → IsLeft owner s_new noting own_new sight → OnErr t (own_new.stripe.history ≡ own.stripe.history)
+  left_err opened left =
+      on_err_more t _ _ (λ (none : IsUntouched s s_new vs ws). ap (λ (x : StripeSide). x.stripe.history) left.is ∙ none.stripe ∙ ap (λ (x : StripeSide). x.stripe.history) opened.is) step.err
+
+  pub left_unnoted : {caller_last : CallerView} → caller_last ≡ caller_new → OnErr t (caller_last ≡ caller)
+  left_unnoted {caller_last = caller_last} same = failed (caller_last ≡ caller) t (λ no. same ∙ known.unnoted no)
+
+  pub left_tried : {side own own_new : StripeSide} {sight : Sight} {caller_last : CallerView} → IsOpenStripe table config owner seen s side own → IsLeft owner s_new noting own_new sight → caller_last ≡ caller_new
+      → (cs ds : List ClassSide) → (IsUntouched s s_new vs ws → Stay cs ds) → IfOk t (IsTriedUnder own.stripe own_new.stripe caller caller_last command turn given cs ds)
+  left_tried {own = own} {own_new = own_new} {caller_last = caller_last} opened left same cs ds stay =
+      subst (λ (k : CallerView). IfOk t (IsTriedUnder own.stripe own_new.stripe caller k command turn given cs ds)) (sym same)
+      (subst (λ (x : StripeSide). IfOk t (IsTriedUnder own.stripe x.stripe caller caller_new command turn given cs ds)) (sym left.is)
+      (subst (λ (x : StripeSide). IfOk t (IsTriedUnder x.stripe s_new caller caller_new command turn given cs ds)) opened.is
+      (under_tried config s s_new command turn given vs ws caller caller_new cs ds t step.tried known.noted known.unnoted stay)))
+
+-- a class that stayed
+pub left_stays : {table : TableId} {config : Config} {owner_of : OwnerView} {seen_of : SeenView} {v w : ClassView} {class : ClassSide} → IsOpenClass table config owner_of seen_of v class → (last : ClassSide) → last.class ≡ w → ClassStays v w
+    → last.class ≡ with_room class.class last.class.room
+left_stays {v = v} {w = w} {class = class} opened last is stays = stay_of last.class w v class.class is stays (ap (λ (x : ClassSide). x.class) opened.is)
+
+-- ---- the stripe alone
+
+module _ {table : TableId} {config : Config} {command : Command} {turn : Turn} {given : Given} {owner : OwnerView} {seen : SeenView} {s s_new : Stripe} {t : Result Tried Fault}
+    (step : IsStep table config command turn given owner seen s s_new [] [] t) {noting : Sight} {caller caller_new : CallerView} (known : IsKnown config command turn s s_new t seen.sight noting caller caller_new) where
+  pub alone_left : {own_new : StripeSide} → IsLegal s_new.site s_new.history → IsLeft owner s_new noting own_new noting → IsLockedStripe table config own_new
+  alone_left legal left =
+      subst (IsLockedStripe table config) (sym left.is) (alone_end table config (own_seen step known) (kept_seen step known) s_new (call_in step) step.site legal known.called (refused_in step) (seen_in step))
+
+-- ---- with one class
+
+module _ {table : TableId} {config : Config} {command : Command} {turn : Turn} {given : Given} {owner owner_of : OwnerView} {seen seen_of : SeenView} {s s_new : Stripe} {v w : ClassView} {t : Result Tried Fault}
+    (step : IsStep table config command turn given owner seen s s_new (v ∷ []) (w ∷ []) t) {noting : Sight} {caller caller_new : CallerView} (known : IsKnown config command turn s s_new t seen.sight noting caller caller_new)
+    (lent : IsLent table config turn s s_new owner_of seen_of v w) {own_new : StripeSide} (left : IsLeft owner s_new noting own_new (with_seen noting owner_of.lock (class_told w.history))) (legal : IsLegal s_new.site s_new.history) where
+  pub one_left : IsLockedStripe table config own_new
+  one_left =
+      subst (IsLockedStripe table config) (sym left.is)
+      (one_end table config (own_seen step known) (kept_seen step known) s_new (call_in step) step.site legal known.called (class_side owner_of seen_of v) w lent.kept.held lent.grows lent.agrees (refused_in step) (seen_in step) left.more)
+
+  pub one_full : (IsErrOf t HistoryFull → MayRefuseCall s (call turn.who command turn.moment rooms.Keep) (v ∷ []) HistoryFull) → t ≡ Err HistoryFull → IsShort config own_new
+  one_full refusal full =
+      subst (IsShort config) (sym left.is)
+      (one_short table config (own_seen step known) (kept_seen step known) s_new (call_in step) step.site legal known.called (class_side owner_of seen_of v) w lent.kept.held lent.grows (result_of t) (none_in step)
+      (refusal_at config s s_new command turn given (v ∷ []) (w ∷ []) t step.tried refusal) (ap result_of full))
+
+-- ---- with two
+
+module _ {table : TableId} {config : Config} {command : Command} {turn : Turn} {given : Given} {owner owner_of owner_b : OwnerView} {seen seen_of seen_b : SeenView} {s s_new : Stripe} {v w v_b w_b : ClassView} {t : Result Tried Fault}
+    (step : IsStep table config command turn given owner seen s s_new (v ∷ v_b ∷ []) (w ∷ w_b ∷ []) t) {noting : Sight} {caller caller_new : CallerView} (known : IsKnown config command turn s s_new t seen.sight noting caller caller_new)
+    (lent : IsLent table config turn s s_new owner_of seen_of v w) (lent_b : IsLent table config turn s s_new owner_b seen_b v_b w_b) {own_new : StripeSide}
+    (left : IsLeft owner s_new noting own_new (with_seen (with_seen noting owner_of.lock (class_told w.history)) owner_b.lock (class_told w_b.history))) (legal : IsLegal s_new.site s_new.history) where
+  away : v.number.0 ≢ v_b.number.0
+  away e = step.may.distinct.0.0 (ap (λ (n : ℕ). record v.number { 0 = n }) e)
+
+  pub two_left : IsLockedStripe table config own_new
+  two_left =
+      subst (IsLockedStripe table config) (sym left.is)
+      (two_end table config (own_seen step known) (kept_seen step known) s_new (call_in step) step.site legal known.called (class_side owner_of seen_of v) w lent.kept.held lent.grows
+      (class_side owner_b seen_b v_b) w_b lent_b.kept.held lent_b.grows away lent.agrees lent_b.agrees (refused_in step) (seen_in step) left.more)
+
+  pub two_full : (IsErrOf t HistoryFull → MayRefuseCall s (call turn.who command turn.moment rooms.Keep) (v ∷ v_b ∷ []) HistoryFull) → t ≡ Err HistoryFull → IsShort config own_new
+  two_full refusal full =
+      subst (IsShort config) (sym left.is)
+      (two_short table config (own_seen step known) (kept_seen step known) s_new (call_in step) step.site legal known.called (class_side owner_of seen_of v) w lent.kept.held lent.grows
+      (class_side owner_b seen_b v_b) w_b lent_b.kept.held lent_b.grows away (result_of t) (none_in step) (refusal_at config s s_new command turn given (v ∷ v_b ∷ []) (w ∷ w_b ∷ []) t step.tried refusal) (ap result_of full))

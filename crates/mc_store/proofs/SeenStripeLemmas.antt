@@ -1,0 +1,141 @@
+-- What a pass has seen of a stripe behind a call.
+use Rattle.std.proofs.Common.{◌≡◌, ◌<◌, ℕ, List, inl, inr, arith, Result, Ok, Err, refl, sym, ap, ◌∙◌, subst, ◌++◌, ◌∷◌, [], ◌≤◌, ◌+◌, length, length-append, ◌^◌, Some}
+use Rattle.std.specs.Prelude.{IfOk, IsErrOf, OnErr}
+use mathlib.Core.List.{IsPrefix}
+use Rattle.atomic_table.specs.Seated.{TableId}
+use Rattle.mc_item.specs.declared.{answer.Site.Site, call_event.CallEvent.CallEvent, command.Command.Command, config.Config.Config, fault.Fault.Fault, fault.Fault.TheVariants.HistoryFull}
+use Rattle.mc_item.specs.declared.{item.Who.Who, reply.Reply.Reply, event.Event.Event, event.Event.TheVariants.Call, stripe_event.Did.Did}
+use Rattle.mc_board.specs.Histories.{Grows, HasSeen, list_at}
+use Rattle.mc_board.specs.declared.rule.Sight.{Sight}
+use Rattle.mc_evidence.specs.{Locks.StripeKeeps, Seen.classes_seen}
+use Rattle.mc_evidence.proofs.{LockLemmas.stripe_sees_more, SeenLemmas.classes_grow}
+use Rattle.mc_stripe.specs.{StripeCalls.KeepsSite, StripeState.Stripe}
+use Rattle.mc_stripe.specs.declared.trying.Turn.{Turn}
+use Rattle.mc_store.specs.{Held.Ends, Locked.IsLockedStripe, Locked.setting_of, Serving.HasSeenShort, Serving.IsShort, Sides.StripeSide, Sides.stripe_told}
+use Rattle.mc_store.specs.Calls.{IsCutBy, IsRepliedBy, IsSeenGrow}
+use Rattle.mc_store.proofs.{EarnedRefusalLemmas.told_sees, ShortHistoryLemmas.short_grows, ShortHistoryLemmas.short_stripe, SyncedStepLemmas.map_length}
+use Rattle.mc_store.specs.Callers.{asked_for, answered_at, turns_of, calls_told, moment_of}
+use Rattle.mc_store.specs.Passes.{CallerView, PassView, HasAsked, HasCalled, caller_of, next_who}
+use Rattle.mc_item.specs.declared.call_event.CallEvent.TheVariants.{Answered, Asked, Crawled, Juggled}
+
+-- what a command shares with its pass: how it was answered or broken off, by what the pass had seen before and has seen behind it; and
+-- that a full history was seen
+pub record IsShared (config : Config) (number : ℕ) (before after : Sight) (calls calls_new : List CallEvent) (who : Who) (command : Command) (moment : ℕ) (r : Result Reply Fault) : Type 0 where
+  pub replied : IfOk r (IsRepliedBy config number before after calls calls_new who command moment)
+  pub cut : OnErr r (IsCutBy config number before after calls calls_new who command moment)
+  pub full : IsErrOf r HistoryFull → HasSeenShort config after
+
+module _ {table : TableId} {config : Config} {number : ℕ} {old new : StripeSide} (before : Sight) {after : Sight} (old_kept : IsLockedStripe table config old) (new_kept : IsLockedStripe table config new)
+    (number_is : old.stripe.site.stripe ≡ number) (seen : HasSeen (stripe_told old.stripe.history) before old.lock) (told : list_at after.seen new.lock ≡ stripe_told new.stripe.history) (grows : Grows new.sight after) where
+  seen_grow : KeepsSite old.stripe new.stripe → IsSeenGrow config number before after old.stripe new.stripe
+  seen_grow site =
+      let number_new : new.stripe.site.stripe ≡ number = ap (λ (t : Site). t.stripe) site.site ∙ number_is in record {
+        made_with = old_kept.made_with;
+        number_is = number_is;
+        site = site;
+        seen = subst (λ (k : ℕ). IsPrefix (list_at before.seen k) (stripe_told old.stripe.history)) (old_kept.lock_is ∙ number_is) seen;
+        now = ap (λ (k : ℕ). list_at after.seen k) (sym (new_kept.lock_is ∙ number_new)) ∙ told;
+        sound = subst (λ (k : ℕ). StripeKeeps (setting_of config) k new.stripe.history (classes_seen config.stripes (list_at after.seen))) number_new
+            (stripe_sees_more (setting_of config) new.stripe.site.stripe new.stripe.history (classes_seen config.stripes (list_at new.sight.seen)) (classes_seen config.stripes (list_at after.seen))
+            (classes_grow config.stripes (list_at new.sight.seen) (list_at after.seen) grows.at) new_kept.keeps);
+      }
+
+  -- where a history was short, it was seen so
+  short_shared : IsShort config new → HasSeenShort config after
+  short_shared (inl short) =
+      let below : new.stripe.site.stripe < config.stripes = new_kept.of in
+      let lock : new.lock ≡ new.stripe.site.stripe = new_kept.lock_is in
+      short_stripe config new.lock after new.stripe.history new.stripe.limit (omega (arith, below, lock)) new_kept.made_with.limit told short
+  short_shared (inr was) = short_grows config new.sight after grows was
+
+  -- a command that ended under the lock of its stripe is shared so with its pass
+  pub shared_by : {caller caller_new : CallerView} {command : Command} {turn : Turn} (r : Result Reply Fault) (calls : List CallEvent) → Ends config old.stripe new caller caller_new command turn r → caller.calls ≡ calls ++ asked_for command turn.moment ∷ []
+      → IsShared config number before after calls caller_new.calls turn.who command turn.moment r
+  shared_by {command = command} {turn = turn} (Ok reply) calls ends asked =
+      let was = ends.replied in
+      let did : Did = record { who = turn.who; command = command; moment = turn.moment; reply = was.answered.reply; room = was.answered.room } in record {
+        replied = record {
+          old = old.stripe;
+          new = new.stripe;
+          grew = seen_grow ends.site;
+          replied = record {
+            place = was.place;
+            answered = was.answered;
+            reply_is = was.reply_is;
+            noted = was.noted ∙ ap (λ (l : List CallEvent). l ++ answered_at old.stripe.site.stripe was.place ∷ []) asked;
+            earned = told_sees config old.stripe.site new.sight after did grows was.earned;
+          };
+        };
+        cut = tt;
+        full = λ e. absurd (cc e);
+      }
+  shared_by (Err fault) calls ends asked = record {
+    replied = tt;
+    cut = record { old = old.stripe; new = new.stripe; grew = seen_grow ends.site; cut = ends.cut; noted = ap (λ (v : CallerView). v.calls) ends.unnoted ∙ asked };
+    full = λ e. short_shared (ends.full e);
+  }
+
+-- what is told of each failure, in other words
+pub on_err_more : {X : Type 0} (r : Result X Fault) (P Q : Type 0) → (P → Q) → OnErr r P → OnErr r Q
+on_err_more (Ok x) P Q more p = tt
+on_err_more (Err f) P Q more p = more p
+
+-- an answer is no turn
+turns_answered : (calls : List CallEvent) (stripe place : ℕ) → turns_of (calls ++ answered_at stripe place ∷ []) ≡ turns_of calls
+turns_answered [] stripe place = refl
+turns_answered (Asked a ∷ calls) stripe place = ap (λ (l : List CallEvent). Asked a ∷ l) (turns_answered calls stripe place)
+turns_answered (Juggled w ∷ calls) stripe place = ap (λ (l : List CallEvent). Juggled w ∷ l) (turns_answered calls stripe place)
+turns_answered (Crawled w ∷ calls) stripe place = ap (λ (l : List CallEvent). Crawled w ∷ l) (turns_answered calls stripe place)
+turns_answered (Answered a ∷ calls) stripe place = turns_answered calls stripe place
+
+-- a command adds no turn to its caller's history once it was asked for, and at most its answer
+pub turns_kept : {config : Config} {s : Stripe} {own_new : StripeSide} {caller caller_new : CallerView} {command : Command} {turn : Turn} (r : Result Reply Fault) → Ends config s own_new caller caller_new command turn r
+    → (turns_of caller_new.calls ≡ turns_of caller.calls) × (length caller_new.calls ≤ length caller.calls + 1)
+turns_kept {s = s} {caller = caller} {caller_new = caller_new} (Ok reply) ends =
+    let is = ends.replied.noted in
+    let place = ends.replied.place in
+    let long = length-append caller.calls (answered_at s.site.stripe place ∷ []) in
+    let all : length caller_new.calls ≡ length (caller.calls ++ answered_at s.site.stripe place ∷ []) = ap (λ (l : List CallEvent). length l) is in
+    (ap turns_of is ∙ turns_answered caller.calls s.site.stripe place, omega (arith, all, long))
+turns_kept (Err fault) ends =
+    (ap (λ (v : CallerView). turns_of v.calls) ends.unnoted, omega (arith, ap (λ (v : CallerView). length v.calls) ends.unnoted))
+
+turns_both : (xs ys : List CallEvent) → length (turns_of (xs ++ ys)) ≡ length (turns_of xs) + length (turns_of ys)
+turns_both [] ys = omega arith
+turns_both (Asked a ∷ xs) ys = omega (arith, turns_both xs ys)
+turns_both (Juggled w ∷ xs) ys = omega (arith, turns_both xs ys)
+turns_both (Crawled w ∷ xs) ys = omega (arith, turns_both xs ys)
+turns_both (Answered a ∷ xs) ys = turns_both xs ys
+
+-- a call is one event, and takes one turn
+pub turn_taken : (calls es : List CallEvent) (told : List Event) (turn : ℕ) → length (turns_of es) ≡ 1 → calls_told es ≡ told → length told ≡ 1 → length (turns_of calls) ≡ turn → length calls ≤ turn + turn
+    → (length (turns_of (calls ++ es)) ≡ turn + 1) × (length (calls ++ es) < (turn + 1) + (turn + 1))
+turn_taken calls es told turn one is single turns few =
+    let both = turns_both calls es in
+    let long = length-append calls es in
+    let event : length es ≡ 1 = sym (map_length Call es) ∙ (ap (λ (l : List Event). length l) is ∙ single) in
+    (omega (arith, both, one, turns), omega (arith, long, event, few))
+
+-- what always holds holds of a failure
+pub on_err_always : {X E P : Type 0} (r : Result X E) → P → OnErr r P
+on_err_always (Ok x) p = tt
+on_err_always (Err e) p = p
+
+-- a call that a pass has just begun stands at the end of its caller's history
+pub called_now : (old now : PassView) (call : CallEvent) (who : Who) (moment : ℕ) → now.caller ≡ old.caller → now.calls ≡ old.calls ++ call ∷ [] → who ≡ next_who old → length (turns_of old.calls) ≡ old.turn → moment_of call ≡ Some moment
+    → HasCalled (caller_of now) who moment call
+called_now old now call who moment caller calls is turns handed = record {
+  number = ap (λ (w : Who). w.caller) is ∙ sym caller;
+  begun = record { begun = record { before = old.calls; call = call; behind = []; split = calls; turn_is = turns ∙ sym (ap (λ (w : Who). w.turn) is); handed = handed }; call_is = refl };
+}
+
+-- and a command is the last that it asked for
+pub asked_now : (old now : PassView) (command : Command) (who : Who) (moment : ℕ) → now ≡ record old { turn = old.turn + 1; calls = old.calls ++ asked_for command moment ∷ [] } → who ≡ next_who old → length (turns_of old.calls) ≡ old.turn
+    → length now.calls < now.turn + now.turn → now.turn < 2 ^ 63 → HasAsked (caller_of now) who command moment
+asked_now old now command who moment turn is turns room few = record {
+  number = ap (λ (w : Who). w.caller) is ∙ sym (ap (λ (p : PassView). p.caller) turn);
+  before = old.calls;
+  last = ap (λ (p : PassView). p.calls) turn;
+  turn = turns ∙ sym (ap (λ (w : Who). w.turn) is);
+  room = omega (arith, room, few);
+}
