@@ -31,7 +31,8 @@ appends counts slots id owned e room s k homes at fits =
         counted = λ j lt. ⊎_elim
             (λ (same : j ≡ owned.lock). subst (λ (i : ℕ). slice_index words (first_word counts i) ≡ length (added owned.lock e k.history i)) (sym same)
             (ap (slice_index words) (sym mine.word) ∙ (get_or-set_same s.words owned.word next 0 within ∙ (now ∙ ap length longer))))
-            (λ (apart : j ≢ owned.lock). get_or-set_other s.words owned.word (first_word counts j) next 0 (λ (same : first_word counts j ≡ owned.word). words_apart counts j owned.lock lt mine.lock apart (same ∙ mine.word))
+            (λ (apart : j ≢ owned.lock). get_or-set_other s.words owned.word (first_word counts j) next 0
+            (λ (same : first_word counts j ≡ owned.word). words_apart counts j owned.lock lt mine.lock apart (same ∙ mine.word))
             ∙ (k.counted j lt ∙ ap length (sym (added_else owned.lock e k.history j apart))))
             (same_or_not j owned.lock);
         known = known_set (ledger counts words (added owned.lock e k.history) k.owner) s.views id (views.Owner (owned_with owned e))

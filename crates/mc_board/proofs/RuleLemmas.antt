@@ -46,11 +46,14 @@ pub IsBehind-added : (lock : ℕ) (e : Event) (h : ℕ → List Event) (s : Sigh
 IsBehind-added lock e h s b =
     record {
       seen = λ j. ⊎_elim
-          (λ (same : j ≡ lock). subst (λ (k : ℕ). IsPrefix (list_at s.seen k) (added lock e h k)) (sym same) (subst (IsPrefix (list_at s.seen lock)) (sym (added_here lock e h)) (prefix_more (list_at s.seen lock) (h lock) (e ∷ []) (b.seen lock))))
+          (λ (same : j ≡ lock). subst (λ (k : ℕ). IsPrefix (list_at s.seen k) (added lock e h k)) (sym same)
+          (subst (IsPrefix (list_at s.seen lock)) (sym (added_here lock e h)) (prefix_more (list_at s.seen lock) (h lock) (e ∷ []) (b.seen lock))))
           (λ (n : j ≢ lock). subst (IsPrefix (list_at s.seen j)) (sym (added_else lock e h j n)) (b.seen j))
           (same_or_not j lock);
       noted = λ j. ⊎_elim
-          (λ (same : j ≡ lock). subst (λ (k : ℕ). number_at s.noted k ≤ length (added lock e h k)) (sym same) (subst (λ (l : List Event). number_at s.noted lock ≤ length l) (sym (added_here lock e h)) (let m = b.noted lock in omega (arith, m, length-append (h lock) (e ∷ [])))))
+          (λ (same : j ≡ lock). subst (λ (k : ℕ). number_at s.noted k ≤ length (added lock e h k)) (sym same)
+          (subst (λ (l : List Event). number_at s.noted lock ≤ length l) (sym (added_here lock e h)) (let m = b.noted lock in
+          omega (arith, m, length-append (h lock) (e ∷ [])))))
           (λ (n : j ≢ lock). subst (λ (l : List Event). number_at s.noted j ≤ length l) (sym (added_else lock e h j n)) (b.noted j))
           (same_or_not j lock);
     }

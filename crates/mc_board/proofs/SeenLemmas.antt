@@ -58,7 +58,8 @@ pub IsBehind-with_seen : (h : ℕ → List Event) (s : Sight) (lock : ℕ) (xs :
 IsBehind-with_seen h s lock xs b is =
     record {
       seen = λ j. ⊎_elim
-          (λ (same : j ≡ lock). subst (λ (k : ℕ). IsPrefix (list_at (with_list_at s.seen lock xs) k) (h k)) (sym same) (subst (λ l. IsPrefix l (h lock)) (sym (list_at_same s.seen lock xs)) (subst (IsPrefix xs) is (prefix_self xs))))
+          (λ (same : j ≡ lock). subst (λ (k : ℕ). IsPrefix (list_at (with_list_at s.seen lock xs) k) (h k)) (sym same)
+          (subst (λ l. IsPrefix l (h lock)) (sym (list_at_same s.seen lock xs)) (subst (IsPrefix xs) is (prefix_self xs))))
           (λ (apart : j ≢ lock). subst (λ l. IsPrefix l (h j)) (sym (list_at_other s.seen lock j xs apart)) (b.seen j))
           (same_or_not j lock);
       noted = b.noted;

@@ -140,7 +140,8 @@ begins counts =
     one (suc seat) v e = absurd (some-ne-none v (sym e))
 
 -- the same of words that are known to be these
-pub begins_as : (counts : Counts) (locks : ℕ) (words : List ℕ) → locks_of counts ≡ locks → replicate ((locks + 1) * line_words) 0 ≡ words → Law counts (record { words = words; homes = []; views = opening_of counts ∷ [] })
+pub begins_as : (counts : Counts) (locks : ℕ) (words : List ℕ) → locks_of counts ≡ locks → replicate ((locks + 1) * line_words) 0 ≡ words
+    → Law counts (record { words = words; homes = []; views = opening_of counts ∷ [] })
 begins_as counts locks words all zeros =
     subst (λ (ws : List ℕ). Law counts (record { words = ws; homes = []; views = opening_of counts ∷ [] })) (ap (λ n. replicate ((n + 1) * line_words) 0) all ∙ zeros) (begins counts)
 

@@ -35,7 +35,8 @@ by_entry : (q : Crawl) (c : ClassView) (cache : Cache) (o : Option Entry) (e : E
 by_entry q c cache None e is = absurd (none_some is)
 by_entry q c cache (Some e') e is = by_item c.number q.number q.moment c.rule (lists_of c.history) e' (cache.items e'.key)
 
-kind_by : (q : Crawl) (c : ClassView) (e : Entry) (stripe : _) (j : Option Judged) → entry_of q.number (lists_of c.history) ≡ Some e → IsJudgedIf q.config stripe c (asked_by q) j → IsKindIf q stripe c j (kind_answered q.moment j)
+kind_by : (q : Crawl) (c : ClassView) (e : Entry) (stripe : _) (j : Option Judged) → entry_of q.number (lists_of c.history) ≡ Some e
+    → IsJudgedIf q.config stripe c (asked_by q) j → IsKindIf q stripe c j (kind_answered q.moment j)
 kind_by q c e stripe None is judged = refl
 kind_by q c e stripe (Some j) is judged = record {
   judged = judged;
@@ -74,7 +75,8 @@ told_alive q Never = told_nothing q kinds.NoExpiry (λ h. refl)
 told_alive q (At end) = told_left q (nat_lt 3599 (end - q.moment)) ((end - q.moment) / 60)
 
 told_tests : (q : Crawl) (c : ClassView) (at : ℕ) (expiry : Expiry) (linked dead : Bool)
-    → Told q (done_class_events c (asked_by q) at (if linked then (if dead then done.Reclaimed else done.Alive expiry) else done.Stranger)) (if linked then (if dead then kinds.Reclaimed else kind_alive q.moment expiry) else kinds.Passed)
+    → Told q (done_class_events c (asked_by q) at (if linked then (if dead then done.Reclaimed else done.Alive expiry) else done.Stranger)) (if linked then
+    (if dead then kinds.Reclaimed else kind_alive q.moment expiry) else kinds.Passed)
 told_tests q c at expiry true true = record { each = ((refl, refl), tt); count = λ h. refl }
 told_tests q c at expiry true false = told_alive q expiry
 told_tests q c at expiry false dead = told_nothing q kinds.Passed (λ h. refl)

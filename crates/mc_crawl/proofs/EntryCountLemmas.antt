@@ -74,4 +74,14 @@ links_few c =
     let warm = links_in_long c Warm in
     let cold = links_in_long c Cold in
     let temp = links_in_long c Temp in
-    omega (arith, hot, warm, cold, temp, length-append ((links_in c Hot ++ links_in c Warm) ++ links_in c Cold) (links_in c Temp), length-append (links_in c Hot ++ links_in c Warm) (links_in c Cold), length-append (links_in c Hot) (links_in c Warm), lists_few c.history)
+    omega (
+      arith,
+      hot,
+      warm,
+      cold,
+      temp,
+      length-append ((links_in c Hot ++ links_in c Warm) ++ links_in c Cold) (links_in c Temp),
+      length-append (links_in c Hot ++ links_in c Warm) (links_in c Cold),
+      length-append (links_in c Hot) (links_in c Warm),
+      lists_few c.history,
+    )

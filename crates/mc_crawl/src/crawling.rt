@@ -2,7 +2,8 @@
 ghost use Rattle.std.specs.Prelude.{◌≡◌, ◌+◌, ◌++◌, ◌∷◌, [], IfOk, IfErr, OnOk, OnErr};
 ghost use Rattle.mc_rule.specs.{Lists.lists_of, Lawful.IsListed};
 ghost use Rattle.mc_segment.specs.ClassState.{with_room};
-ghost use Rattle.mc_pull.specs.{Growth.GainsEvents, Growth.KeepsSince, Looks.answer_by, Looks.events_if, Looks.IsJudgedIf, Question.HasKeyOf, Question.IsClassOf};
+ghost use Rattle.mc_pull.specs.{Growth.GainsEvents, Growth.KeepsSince, Looks.answer_by, Looks.events_if, Looks.IsJudgedIf, Question.HasKeyOf};
+ghost use Rattle.mc_pull.specs.{Question.IsClassOf};
 ghost use Rattle.mc_pull.specs.{Settled.class_with, Walker.walker_of};
 ghost use Rattle.mc_crawl.specs.Crawl.{crawl, asked_by, IsCrawled, Reclaims};
 ghost use Rattle.mc_crawl.specs.{CrawlCount.counted_as, CrawlCount.IsBalanced, CrawlCount.MayCount, CrawlKind.IsCounted};
@@ -30,7 +31,8 @@ fn look_at<G: Gate>(
     requires config { IsClassOf config.now class.old }
     requires gate { G.serves gate.old config.now class.old }
     ensures answer { IfOk result (λ judged. G.answers gate.new ≡ G.answers gate.old ++ answer_by stripe judged ∷ []) }
-    ensures class { IfOk result (λ judged. class.new ≡ class_with class.old (events_if class.old (asked_by (crawl who number moment config.now)) judged) class.new.room) }
+    ensures class { IfOk result (λ judged. class.new ≡ class_with class.old (events_if class.old (asked_by (crawl who number moment config.now)) judged)
+        class.new.room) }
     ensures judged { IfOk result (λ judged. IsJudgedIf config.now stripe class.old (asked_by (crawl who number moment config.now)) judged) }
     ensures err { OnErr result ((class.new ≡ with_room class.old class.new.room) × (G.answers gate.new ≡ G.answers gate.old)) }
     ensures fault { IfErr result (G.faults gate.new class.new) }
@@ -90,11 +92,14 @@ pub fn crawl_one<G: Gate>(
     requires config { IsClassOf config.now class.old }
     requires gate { G.serves gate.old config.now class.old }
     requires counts { MayCount histogram.old }
-    ensures crawled { OnOk result ((k : Kind) × IsCrawled (crawl who link.number moment config.now) class.old class.new (G.answers gate.old) (G.answers gate.new) k × (histogram.new ≡ counted_as k histogram.old)) }
+    ensures crawled { OnOk result ((k : Kind)
+        × IsCrawled (crawl who link.number moment config.now) class.old class.new (G.answers gate.old) (G.answers gate.new) k
+        × (histogram.new ≡ counted_as k histogram.old)) }
     ensures seen { OnOk result (histogram.new.seen ≡ histogram.old.seen + 1) }
     ensures balanced { IsBalanced histogram.old → IsBalanced histogram.new }
     ensures reclaims { OnOk result (Reclaims who moment class.old.history class.new.history histogram.old.reclaimed histogram.new.reclaimed) }
-    ensures err { OnErr result ((class.new ≡ with_room class.old class.new.room) × (G.answers gate.new ≡ G.answers gate.old) × (histogram.new ≡ histogram.old)) }
+    ensures err { OnErr result ((class.new ≡ with_room class.old class.new.room) × (G.answers gate.new ≡ G.answers gate.old)
+        × (histogram.new ≡ histogram.old)) }
     ensures grows { GainsEvents class.old class.new }
     ensures fault { IfErr result (G.faults gate.new class.new) }
     ensures holds { G.references gate.new ≡ G.references gate.old }

@@ -26,11 +26,14 @@ pub fn crawl_lone(
     requires config { IsClassOf config.now class.old }
     requires gate { Serves gate.old.number.0 gate.old.stripe.now config.now }
     requires counts { MayCount histogram.old }
-    ensures crawled { OnOk result ((k : Kind) × IsCrawled (crawl who link.number moment config.now) class.old class.new gate.old.answers.now.items gate.new.answers.now.items k × (histogram.new ≡ counted_as k histogram.old)) }
+    ensures crawled { OnOk result ((k : Kind)
+        × IsCrawled (crawl who link.number moment config.now) class.old class.new gate.old.answers.now.items gate.new.answers.now.items k
+        × (histogram.new ≡ counted_as k histogram.old)) }
     ensures seen { OnOk result (histogram.new.seen ≡ histogram.old.seen + 1) }
     ensures balanced { IsBalanced histogram.old → IsBalanced histogram.new }
     ensures reclaims { OnOk result (Reclaims who moment class.old.history class.new.history histogram.old.reclaimed histogram.new.reclaimed) }
-    ensures err { OnErr result ((class.new ≡ with_room class.old class.new.room) × (gate.new.answers.now.items ≡ gate.old.answers.now.items) × (histogram.new ≡ histogram.old)) }
+    ensures err { OnErr result ((class.new ≡ with_room class.old class.new.room) × (gate.new.answers.now.items ≡ gate.old.answers.now.items)
+        × (histogram.new ≡ histogram.old)) }
     ensures grows { GainsEvents class.old class.new }
     ensures fault { IfErr result (MayFail class.new gate.new.stripe.now) }
     ensures same_reference { gate.new.stripe.ghost_name ≡ gate.old.stripe.ghost_name }

@@ -134,12 +134,14 @@ replied_turns old new asked stripe place noted =
     ap turns_of noted ∙ (turns_of-append (old ++ asked ∷ []) (answered_at stripe place ∷ []) ∙ (append-nil (turns_of (old ++ asked ∷ [])) ∙ turns_of-append old (asked ∷ [])))
 
 -- a command that was answered was made to its end
-pub replied_may : (config : Config) (old new : PassView) (command : Command) (moment : ℕ) (r : Result Reply Fault) → MayCall config old → new.caller ≡ old.caller → OnOk r (new.turn ≡ old.turn + 1) → Grows old.sight new.sight
+pub replied_may : (config : Config) (old new : PassView) (command : Command) (moment : ℕ) (r : Result Reply Fault) → MayCall config old
+    → new.caller ≡ old.caller → OnOk r (new.turn ≡ old.turn + 1) → Grows old.sight new.sight
     → IfOk r (IsRepliedBy config (stripe_number config.stripes command) old.sight new.sight old.calls new.calls (record { caller = old.caller; turn = old.turn }) command moment) → OnOk r (MayCall config new)
 replied_may config old new command moment (Ok reply) may caller turn grows by =
     let asked = asked_for command moment in
     may_more config old new asked may caller turn grows (replied_turns old.calls new.calls asked by.old.site.stripe by.replied.place by.replied.noted)
-    (made_between config (histories_seen config old.sight) (histories_seen config new.sight) _ asked (replied_between config old.sight new.sight old.calls new.calls (next_who old) command moment reply may.some grows by) refl)
+    (made_between config (histories_seen config old.sight) (histories_seen config new.sight) _ asked
+    (replied_between config old.sight new.sight old.calls new.calls (next_who old) command moment reply may.some grows by) refl)
 replied_may config old new command moment (Err fault) may caller turn grows by = tt
 
 -- and so was juggling
@@ -157,13 +159,15 @@ pub crawled_may : (config : Config) (old new : PassView) (class : ClassNo) (mome
     → IfOk r (IsCrawledBy config class old.sight new.sight (record { caller = old.caller; turn = old.turn }) moment) → OnOk r (MayCall config new)
 crawled_may config old new class moment (Ok histogram) may is caller turn noted grows by =
     may_more config old new (crawling_of class moment) may caller turn grows (ap turns_of noted ∙ turns_of-append old.calls (crawling_of class moment ∷ []))
-    (made_between config (histories_seen config old.sight) (histories_seen config new.sight) _ (crawling_of class moment) (crawled_between config class old.sight new.sight (next_who old) moment histogram is grows by) refl)
+    (made_between config (histories_seen config old.sight) (histories_seen config new.sight) _ (crawling_of class moment)
+    (crawled_between config class old.sight new.sight (next_who old) moment histogram is grows by) refl)
 crawled_may config old new class moment (Err fault) may is caller turn noted grows by = tt
 
 -- ---- what a closed store has
 
 -- an event's moment is that of its call
-moment_of_call : (stripe place : ℕ) (event : StripeEvent) (call : CallEvent) (behind : List CallEvent) (moment handed : ℕ) → moment_of call ≡ Some moment → moment_of call ≡ Some handed → IsOf stripe place event call behind moment
+moment_of_call : (stripe place : ℕ) (event : StripeEvent) (call : CallEvent) (behind : List CallEvent) (moment handed : ℕ) → moment_of call ≡ Some moment
+    → moment_of call ≡ Some handed → IsOf stripe place event call behind moment
     → IsAtMoment event handed
 moment_of_call stripe place (events.Did did) call behind moment handed is also own = let asked = ap moment_of own.0 in cc
 moment_of_call stripe place (events.Lost lost) call behind moment handed is also own =
@@ -189,7 +193,8 @@ has_calls config final pass all own grow made = record {
 }
 
 -- where no call of a pass was broken off, each event that names its caller has its call
-pub whole_turns : (config : Config) (final : FinalView) (pass : PassView) → AreStripes final.board config final.stripes → AreItsOwn pass final.stripes → Grow config (histories_seen config pass.sight) (histories_left final)
+pub whole_turns : (config : Config) (final : FinalView) (pass : PassView) → AreStripes final.board config final.stripes → AreItsOwn pass final.stripes
+    → Grow config (histories_seen config pass.sight) (histories_left final)
     → MayCall config pass → AreWholeTurns config pass.caller (histories_left final)
 whole_turns config final pass all own grow may = record {
   at = λ number place event below found by.
@@ -198,12 +203,14 @@ whole_turns config final pass all own grow may = record {
       let called = own.each number s.0 place event s.1 (ap (λ (h : List StripeEvent). slice_get h place) (sym there) ∙ found) by in
       let begun = called.begun in
       let at = turn_at pass.calls begun.before begun.call begun.behind (who_of event).turn called.moment begun.split begun.turn_is begun.handed in
-      let made = made_later config (histories_seen config pass.sight) (histories_left final) (record { caller = pass.caller; turn = (who_of event).turn }) begun.call grow (may.made.each (who_of event).turn begun.call at) in
+      let made = made_later config (histories_seen config pass.sight) (histories_left final) (record { caller = pass.caller; turn = (who_of event).turn })
+      begun.call grow (may.made.each (who_of event).turn begun.call at) in
       record {
         call = made.exchange;
         stands = made.stands;
         who_is = who_by (who_of event) pass.caller by ∙ sym made.who_is;
-        moment_is = moment_of_call number place event begun.call begun.behind called.moment made.exchange.moment begun.handed (ap moment_of made.call_is ∙ moment_of_call_event made.exchange.call made.exchange.moment) called.own;
+        moment_is = moment_of_call number place event begun.call begun.behind called.moment made.exchange.moment begun.handed (ap moment_of made.call_is
+            ∙ moment_of_call_event made.exchange.call made.exchange.moment) called.own;
       };
 }
 

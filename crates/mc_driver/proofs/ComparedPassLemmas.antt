@@ -23,7 +23,8 @@ module _ {S K : Type 0} (coming : S → List ℕ) (reads : S → ℕ) (taken : K
   works_as limits moments notes notes' caller outcome (Upkeep keeper) (Script left) follows works = works
 
   -- however a work ended, some calls of it are known
-  works_some : (limits : Limits) (moments : List ℕ) (notes : List Exchange → Type 0) (caller : ℕ) (outcome : Outcome) (work work' : Work S K) → Works coming reads taken writes limits moments notes caller outcome work work'
+  works_some : (limits : Limits) (moments : List ℕ) (notes : List Exchange → Type 0) (caller : ℕ) (outcome : Outcome) (work work' : Work S K)
+      → Works coming reads taken writes limits moments notes caller outcome work work'
       → (calls : List Exchange) × notes calls
   works_some limits moments notes caller outcome (Script ends) (Script left) works =
       leaves_some limits (coming ends.source) (coming left.source) (taken ends.sink) (taken left.sink) notes caller outcome works.0

@@ -32,7 +32,8 @@ module _ {K : Type 0} (taken : K → List ℕ) (writes : K → ℕ) where
     many = length-map scripts shown
 
     script_shown : (i : ℕ) (d : ToAndFrom) (outcome : Outcome) → i < length (map shown scripts)
-        → IsScriptLeft (λ (s : List ℕ). s) (λ s. 0) (λ (p : Printed). p.bytes) (λ p. p.misses) config (histories_left final) i (slice_index_or (map shown scripts) i d) (slice_index_or (map shown ends) i d) (slice_index_or ended i outcome)
+        → IsScriptLeft (λ (s : List ℕ). s) (λ s. 0) (λ (p : Printed). p.bytes) (λ p. p.misses) config (histories_left final) i
+        (slice_index_or (map shown scripts) i d) (slice_index_or (map shown ends) i d) (slice_index_or ended i outcome)
     script_shown i d outcome within =
         let below : i < length scripts = omega (arith, within, many) in
         let e = an_item scripts i below in
@@ -67,6 +68,7 @@ module _ {K : Type 0} (taken : K → List ℕ) (writes : K → ℕ) where
     are = subst (cut.AreScripts (limits_of config) input) (sym (first_shown scripts ∙ from)) are;
     fresh = All-map (λ (s : ToAndFrom). s.1.bytes ≡ []) shown scripts fresh;
     left = map shown ends;
-    run = subst (λ n. AreRun (with_callers n config) moments (map shown scripts) (map shown ends) ended final) (sym (length-map scripts shown)) (all_shown (with_callers (length scripts) config) moments scripts ends ended final left);
+    run = subst (λ n. AreRun (with_callers n config) moments (map shown scripts) (map shown ends) ended final) (sym (length-map scripts shown))
+        (all_shown (with_callers (length scripts) config) moments scripts ends ended final left);
     texts = sym (flat_map-map (λ (s : ToAndFrom). s.1.bytes) shown ends);
   }

@@ -28,7 +28,8 @@ module _ {S K : Type 0} (coming : S → List ℕ) (reads : S → ℕ) (taken : K
 
   -- each caller has, where each of their jobs was done
   pub worked_at : {X : Type 0} (pass_of : X → PassView) (work_in : X → Work S K) (outcome_of : X → Outcome) (jobs done : List X) (callers : ℕ) → length done ≡ length jobs → ArePasses callers (map pass_of jobs)
-      → ((i : ℕ) (d : X) → i < length jobs → HasWorked coming reads taken writes config limits moments (pass_of (slice_index_or jobs i d)) (pass_of (slice_index_or done i d)) (outcome_of (slice_index_or done i d)) (work_in (slice_index_or jobs i d)) (work_in (slice_index_or done i d)))
+      → ((i : ℕ) (d : X) → i < length jobs → HasWorked coming reads taken writes config limits moments (pass_of (slice_index_or jobs i d))
+      (pass_of (slice_index_or done i d)) (outcome_of (slice_index_or done i d)) (work_in (slice_index_or jobs i d)) (work_in (slice_index_or done i d)))
       → (i : ℕ) → i < callers → HasWorkedAt (map work_in jobs) (map work_in done) (map pass_of done) (map outcome_of done) i
   worked_at {X = X} pass_of work_in outcome_of jobs done callers same passes each i below =
       let begun = passes.each i below in
@@ -39,7 +40,8 @@ module _ {S K : Type 0} (coming : S → List ℕ) (reads : S → ℕ) (taken : K
       let left = get_or_from_slice_get done i h.0 g.0 h.1 in
       let first : pass_of g.0 ≡ new_pass i = some_is (sym (slice_get-map pass_of jobs i ∙ ap (option_map pass_of) g.1) ∙ begun) in
       let has = each i g.0 inside in
-      let has' = subst (λ (x : X). HasWorked coming reads taken writes config limits moments (pass_of x) (pass_of (slice_index_or done i g.0)) (outcome_of (slice_index_or done i g.0)) (work_in x) (work_in (slice_index_or done i g.0))) job has in
+      let has' = subst (λ (x : X). HasWorked coming reads taken writes config limits moments (pass_of x) (pass_of (slice_index_or done i g.0))
+      (outcome_of (slice_index_or done i g.0)) (work_in x) (work_in (slice_index_or done i g.0))) job has in
       let has'' = subst (λ (x : X). HasWorked coming reads taken writes config limits moments (pass_of g.0) (pass_of x) (outcome_of x) (work_in g.0) (work_in x)) left has' in
       record {
         work = work_in g.0;
@@ -81,7 +83,8 @@ module _ {S K : Type 0} where
       absurd (cc first.1)
 
   -- there are as many sources and sinks as scripts, where two works of upkeep follow them
-  pub ends_many : (works : List (Work S K)) (n : ℕ) (one two : Keeper) → AreScripts works n → slice_get works n ≡ Some (Upkeep one) → slice_get works (suc n) ≡ Some (Upkeep two) → length works ≡ suc (suc n) → length (ends_in works) ≡ n
+  pub ends_many : (works : List (Work S K)) (n : ℕ) (one two : Keeper) → AreScripts works n → slice_get works n ≡ Some (Upkeep one)
+      → slice_get works (suc n) ≡ Some (Upkeep two) → length works ≡ suc (suc n) → length (ends_in works) ≡ n
   ends_many [] n one two all first second long = absurd (cc)
   ends_many (Upkeep keeper ∷ Upkeep other ∷ []) zero one two all first second long = refl
   ends_many (Upkeep keeper ∷ Script ends ∷ works) zero one two all first second long = absurd (cc)

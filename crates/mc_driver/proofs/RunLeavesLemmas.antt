@@ -107,7 +107,8 @@ module _ (config : Config) (final : FinalView) (all : AreStripes final.board con
             let g = get_some final.stripes number (omega (arith, below, all.many)) in
             let there : stripe_histories final.stripes number ≡ g.0.stripe.history = ap stripe_history g.1 in
             let at = at_later _ (stripe_histories final.stripes number) pass.caller _ _
-            (left_grows.stripes number below) (subst (λ (t : Sight). AreAt (stripe_events (list_at t.seen number)) pass.caller (places_in number pass.calls) (calls_at config.stripes number calls)) is (noted.at number below)) in
+            (left_grows.stripes number below) (subst (λ (t : Sight). AreAt (stripe_events (list_at t.seen number)) pass.caller (places_in number pass.calls)
+            (calls_at config.stripes number calls)) is (noted.at number below)) in
             only_these pass.caller (stripe_histories final.stripes number) (places_in number pass.calls) (calls_at config.stripes number calls) (noted.rising number below) at
             (λ place did found by. called_place number place pass.calls
             did (own.each number g.0 place (events.Did did) g.1 (ap (λ (h : List StripeEvent). slice_get h place) (sym there) ∙ found) by));

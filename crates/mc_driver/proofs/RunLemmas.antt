@@ -34,13 +34,15 @@ some_is e = cc
 
 module _ {S K : Type 0} (coming : S → List ℕ) (reads : S → ℕ) (taken : K → List ℕ) (writes : K → ℕ) (config : Config) (moments : List ℕ) where
   -- a script leaves a script
-  script_works : (notes : List Exchange → Type 0) (caller : ℕ) (outcome : Outcome) (ends : Both S K) (work' : Work S K) → Works coming reads taken writes (limits_of config) moments notes caller outcome (Script ends) work'
+  script_works : (notes : List Exchange → Type 0) (caller : ℕ) (outcome : Outcome) (ends : Both S K) (work' : Work S K)
+      → Works coming reads taken writes (limits_of config) moments notes caller outcome (Script ends) work'
       → (left : Both S K) × (work' ≡ Script left) × Works coming reads taken writes (limits_of config) moments notes caller outcome (Script ends) (Script left)
   script_works notes caller outcome ends (Script left) works = (left, refl, works)
   script_works notes caller outcome ends (Upkeep keeper) works = absurd works
 
   -- and upkeep leaves upkeep
-  upkeep_works : (notes : List Exchange → Type 0) (caller : ℕ) (outcome : Outcome) (keeper : Keeper) (work' : Work S K) → Works coming reads taken writes (limits_of config) moments notes caller outcome (Upkeep keeper) work'
+  upkeep_works : (notes : List Exchange → Type 0) (caller : ℕ) (outcome : Outcome) (keeper : Keeper) (work' : Work S K)
+      → Works coming reads taken writes (limits_of config) moments notes caller outcome (Upkeep keeper) work'
       → (work' ≡ Upkeep keeper) × KeepsUp outcome (limits_of config) (work_of keeper moments) notes caller
   upkeep_works notes caller outcome keeper (Script left) works = absurd works
   upkeep_works notes caller outcome keeper (Upkeep left) works = (ap (λ (k : Keeper). Upkeep k) works.0, works.1)
@@ -86,7 +88,8 @@ module _ {S K : Type 0} (coming : S → List ℕ) (reads : S → ℕ) (taken : K
         (subst (λ (o : Outcome). IsScriptLeft coming reads taken writes config (histories_left final) i (slice_index_or scripts i d) (s.0.source, s.0.sink) o) (sym how) (record { leaves = s.2.0; counted = s.2.1 }))
 
     -- what upkeep leaves, as the work at this place
-    kept_left : (i : ℕ) (keeper : Keeper) (outcome : Outcome) → i < length scripts + 2 → slice_get (works_of scripts) i ≡ Some (Upkeep keeper) → IsKeptUp keeper config moments i (slice_index_or ended i outcome) (histories_left final)
+    kept_left : (i : ℕ) (keeper : Keeper) (outcome : Outcome) → i < length scripts + 2 → slice_get (works_of scripts) i ≡ Some (Upkeep keeper)
+        → IsKeptUp keeper config moments i (slice_index_or ended i outcome) (histories_left final)
     kept_left i keeper outcome below there =
         let w = worked i below in
         let k = upkeep_works (AreItsCalls config i (histories_left final)) i w.outcome keeper w.work' (left_at i below (Upkeep keeper) there) in
@@ -118,7 +121,8 @@ module _ {S K : Type 0} (coming : S → List ℕ) (reads : S → ℕ) (taken : K
         let crawler : slice_get (works_of scripts) (length scripts + 1) ≡ Some (Upkeep Crawler) = subst (λ (n : ℕ). slice_get (works_of scripts) n ≡ Some (Upkeep Crawler)) next (crawler_at scripts) in
         record {
           each = λ i d outcome below.
-              subst (λ (es : List (S × K)). IsScriptLeft coming reads taken writes config (histories_left final) i (slice_index_or scripts i d) (slice_index_or es i d) (slice_index_or ended i outcome)) (sym is) (script_left i d outcome below);
+              subst (λ (es : List (S × K)). IsScriptLeft coming reads taken writes config (histories_left final) i (slice_index_or scripts i d)
+              (slice_index_or es i d) (slice_index_or ended i outcome)) (sym is) (script_left i d outcome below);
           maintained = λ outcome. kept_left (length scripts) Maintainer outcome (omega arith) (maintainer_at scripts);
           crawled = λ outcome. kept_left (length scripts + 1) Crawler outcome (omega arith) crawler;
           idle = λ none. record {
@@ -151,7 +155,8 @@ module _ {S K : Type 0} (coming : S → List ℕ) (reads : S → ℕ) (taken : K
   -- a run's jobs, done, leave it
   pub run_left : {X : Type 0} (pass_of : X → PassView) (work_in : X → Work S K) (outcome_of : X → Outcome) (jobs done : List X) (scripts : List (S × K)) (final : FinalView)
       → AreStripes final.board config final.stripes → AreClasses final.board config final.classes → length done ≡ length jobs → ArePasses config.callers (map pass_of jobs) → map work_in jobs ≡ works_of scripts
-      → ((i : ℕ) (d : X) → i < length jobs → HasWorked coming reads taken writes config (limits_of config) moments (pass_of (slice_index_or jobs i d)) (pass_of (slice_index_or done i d)) (outcome_of (slice_index_or done i d)) (work_in (slice_index_or jobs i d)) (work_in (slice_index_or done i d)))
+      → ((i : ℕ) (d : X) → i < length jobs → HasWorked coming reads taken writes config (limits_of config) moments (pass_of (slice_index_or jobs i d))
+      (pass_of (slice_index_or done i d)) (outcome_of (slice_index_or done i d)) (work_in (slice_index_or jobs i d)) (work_in (slice_index_or done i d)))
       → ((k : ℕ) (p : PassView) → slice_get (map pass_of done) k ≡ Some p → IsCompared p final) → config.callers ≡ length scripts + 2 → IsStore config final
       → IsRunDone coming reads taken writes config moments scripts (ends_in (map work_in done)) (map outcome_of done) final
   run_left {X = X} pass_of work_in outcome_of jobs done scripts final all all_classes same passes works each compared callers store =
@@ -160,7 +165,8 @@ module _ {S K : Type 0} (coming : S → List ℕ) (reads : S → ℕ) (taken : K
       let worked : (i : ℕ) → i < length scripts + 2 → HasWorkedAt coming reads taken writes config (limits_of config) moments (works_of scripts) (map work_in done) (map pass_of done) (map outcome_of done) i =
       λ i below. subst (λ (ws : List (Work S K)). HasWorkedAt coming reads taken writes config (limits_of config) moments ws (map work_in done) (map pass_of done) (map outcome_of done) i) works
       (worked_at coming reads taken writes config (limits_of config) moments pass_of work_in outcome_of jobs done (length scripts + 2) same passes' each i below) in
-      is_left scripts (map work_in done) (map pass_of done) (map outcome_of done) final all all_classes worked compared (ends_in (map work_in done)) refl callers (omega (arith, many, length-map done outcome_of)) (omega (arith, many, length-map done work_in)) store
+      is_left scripts (map work_in done) (map pass_of done) (map outcome_of done) final all all_classes worked compared (ends_in (map work_in done)) refl
+      callers (omega (arith, many, length-map done outcome_of)) (omega (arith, many, length-map done work_in)) store
 
 -- what is written back over all of a vector is all of it
 pub written_back : {X : Type 0} (old new : List X) (n : ℕ) → n ≡ length old → length new ≡ length old → take n (new ++ drop (length new) old) ≡ new

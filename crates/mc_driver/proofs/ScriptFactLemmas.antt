@@ -62,7 +62,8 @@ module _ (limits : Limits) (start taken : List ℕ) (notes notes' : List Exchang
   leaves_as Output bytes left leaves = broken_as bytes left leaves
 
 -- however a run ended, some calls of it are known
-pub leaves_some : (limits : Limits) (bytes left start taken : List ℕ) (notes : List Exchange → Type 0) (caller : ℕ) (outcome : Outcome) → Leaves outcome limits bytes left start taken notes caller → (calls : List Exchange) × notes calls
+pub leaves_some : (limits : Limits) (bytes left start taken : List ℕ) (notes : List Exchange → Type 0) (caller : ℕ) (outcome : Outcome)
+    → Leaves outcome limits bytes left start taken notes caller → (calls : List Exchange) × notes calls
 leaves_some limits bytes left start taken notes caller Done leaves = (_, leaves.calls)
 leaves_some limits bytes left start taken notes caller Input leaves = (_, leaves.run.calls)
 leaves_some limits bytes left start taken notes caller Memory (inl stopped) = (_, stopped.calls)

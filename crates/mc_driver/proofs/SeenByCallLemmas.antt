@@ -54,7 +54,8 @@ replied_between config before after calls calls_new who command moment reply som
         last = λ class place is room.
             let at : by.old.site.stripe ≡ number = by.grew.number_is in
             subst (λ (r : Reply). IsLastResort config (record { 0 = number }) class place ((histories_seen config after).classes class) (answered_command who command moment r answered.room)) by.replied.reply_is
-            (subst (λ (n : ℕ). IsLastResort config (record { 0 = n }) class place ((histories_seen config after).classes class) (answered_command who command moment answered.reply answered.room)) at (by.replied.earned.last class place room));
+            (subst (λ (n : ℕ). IsLastResort config (record { 0 = n }) class place ((histories_seen config after).classes class)
+            (answered_command who command moment answered.reply answered.room)) at (by.replied.earned.last class place room));
       };
       evidence = subst (λ (h : List StripeEvent). StripeKeeps (setting_of config) number h (histories_seen config after).classes) (sym now) by.grew.sound;
     }

@@ -104,7 +104,8 @@ replied_adds config old new command moment reply may same grows by = record {
     stand = stand_more config nothing_seen (histories_seen config old.sight) (histories_seen config new.sight) calls _ noted.stand
         (replied_between config old.sight new.sight old.calls new.calls (next_who old) command moment reply may.some grows by);
     at = λ n below.
-        subst (λ (k : ℕ). AreAt (stripe_events (list_at new.sight.seen n)) k (places_in n new.calls) (calls_at config.stripes n (calls ++ exchange old.caller old.turn (Asks command) moment (Replied reply) ∷ []))) (sym same)
+        subst (λ (k : ℕ). AreAt (stripe_events (list_at new.sight.seen n)) k (places_in n new.calls)
+        (calls_at config.stripes n (calls ++ exchange old.caller old.turn (Asks command) moment (Replied reply) ∷ []))) (sym same)
         (noted_at config old new command moment reply by calls noted grows n below);
     rising = λ n below. noted_rising config old new command moment reply by calls noted grows n below;
     made = made_but_last config old new (asked_for command moment ∷ []) may same grows (replied_turns old.calls new.calls (asked_for command moment) by.old.site.stripe by.replied.place by.replied.noted) (omega arith);
@@ -127,7 +128,8 @@ kept_at config old new calls more caller same grows noted n below none =
     (at_later _ _ old.caller _ _ ((seen_grow config old.sight new.sight grows).stripes n below) (noted.at n below))))
 
 -- juggling is noted too
-pub juggled_adds : (config : Config) (old new : PassView) (class : ClassNo) (moment : ℕ) (moves : Moves) → MayCall config old → IsClass (setting_of config) class → new.caller ≡ old.caller → new.calls ≡ old.calls ++ juggling_of class moment ∷ [] → Grows old.sight new.sight
+pub juggled_adds : (config : Config) (old new : PassView) (class : ClassNo) (moment : ℕ) (moves : Moves) → MayCall config old
+    → IsClass (setting_of config) class → new.caller ≡ old.caller → new.calls ≡ old.calls ++ juggling_of class moment ∷ [] → Grows old.sight new.sight
     → IsJuggledBy config class old.sight new.sight (record { caller = old.caller; turn = old.turn }) moment moves
     → AddsCalls (AreNoted config old) (AreNoted config new) (exchange old.caller old.turn (Juggles class) moment (Moved moves) ∷ [])
 juggled_adds config old new class moment moves may is caller noted_as grows by = let same = kept_places old new moment (juggling_of class moment) refl noted_as in record {
@@ -141,7 +143,8 @@ juggled_adds config old new class moment moves may is caller noted_as grows by =
 }
 
 -- and so is a crawl
-pub crawled_adds : (config : Config) (old new : PassView) (class : ClassNo) (moment : ℕ) (histogram : Histogram) → MayCall config old → IsClass (setting_of config) class → new.caller ≡ old.caller → new.calls ≡ old.calls ++ crawling_of class moment ∷ [] → Grows old.sight new.sight
+pub crawled_adds : (config : Config) (old new : PassView) (class : ClassNo) (moment : ℕ) (histogram : Histogram) → MayCall config old
+    → IsClass (setting_of config) class → new.caller ≡ old.caller → new.calls ≡ old.calls ++ crawling_of class moment ∷ [] → Grows old.sight new.sight
     → IsCrawledBy config class old.sight new.sight (record { caller = old.caller; turn = old.turn }) moment histogram
     → AddsCalls (AreNoted config old) (AreNoted config new) (exchange old.caller old.turn (Crawls class) moment (Counted histogram) ∷ [])
 crawled_adds config old new class moment histogram may is caller noted_as grows by = let same = kept_places old new moment (crawling_of class moment) refl noted_as in record {
@@ -191,25 +194,29 @@ replied_ok config old new command moment (Ok reply) may same grows by = replied_
 replied_ok config old new command moment (Err fault) may same grows by = tt
 
 -- juggling is noted where it was done
-pub juggled_ok : (config : Config) (old new : PassView) (class : ClassNo) (moment : ℕ) (r : Result Moves Fault) → MayCall config old → IsClass (setting_of config) class → new.caller ≡ old.caller → OnOk r (new.calls ≡ old.calls ++ juggling_of class moment ∷ []) → Grows old.sight new.sight
+pub juggled_ok : (config : Config) (old new : PassView) (class : ClassNo) (moment : ℕ) (r : Result Moves Fault) → MayCall config old
+    → IsClass (setting_of config) class → new.caller ≡ old.caller → OnOk r (new.calls ≡ old.calls ++ juggling_of class moment ∷ []) → Grows old.sight new.sight
     → IfOk r (IsJuggledBy config class old.sight new.sight (record { caller = old.caller; turn = old.turn }) moment)
     → IfOk r (λ moves. AddsCalls (AreNoted config old) (AreNoted config new) (exchange old.caller old.turn (Juggles class) moment (Moved moves) ∷ []))
 juggled_ok config old new class moment (Ok moves) may is caller same grows by = juggled_adds config old new class moment moves may is caller same grows by
 juggled_ok config old new class moment (Err fault) may is caller same grows by = tt
 
 -- and what went wrong adds none
-pub juggling_failed : (config : Config) (old new : PassView) (class : ClassNo) (moment : ℕ) (r : Result Moves Fault) → MayCall config old → new.caller ≡ old.caller → OnErr r (IsCut old new (juggling_of class moment)) → Grows old.sight new.sight
+pub juggling_failed : (config : Config) (old new : PassView) (class : ClassNo) (moment : ℕ) (r : Result Moves Fault) → MayCall config old
+    → new.caller ≡ old.caller → OnErr r (IsCut old new (juggling_of class moment)) → Grows old.sight new.sight
     → OnErr r (AddsCalls (AreNoted config old) (AreNoted config new) [])
 juggling_failed config old new class moment (Ok x) may caller cut grows = tt
 juggling_failed config old new class moment (Err fault) may caller cut grows = none_adds config old new moment (juggling_of class moment) refl may caller cut grows
 
-pub crawling_failed : (config : Config) (old new : PassView) (class : ClassNo) (moment : ℕ) (r : Result Histogram Fault) → MayCall config old → new.caller ≡ old.caller → OnErr r (IsCut old new (crawling_of class moment)) → Grows old.sight new.sight
+pub crawling_failed : (config : Config) (old new : PassView) (class : ClassNo) (moment : ℕ) (r : Result Histogram Fault) → MayCall config old
+    → new.caller ≡ old.caller → OnErr r (IsCut old new (crawling_of class moment)) → Grows old.sight new.sight
     → OnErr r (AddsCalls (AreNoted config old) (AreNoted config new) [])
 crawling_failed config old new class moment (Ok x) may caller cut grows = tt
 crawling_failed config old new class moment (Err fault) may caller cut grows = none_adds config old new moment (crawling_of class moment) refl may caller cut grows
 
 -- a crawl is noted where it was made
-pub crawled_ok : (config : Config) (old new : PassView) (class : ClassNo) (moment : ℕ) (r : Result Histogram Fault) → MayCall config old → IsClass (setting_of config) class → new.caller ≡ old.caller → OnOk r (new.calls ≡ old.calls ++ crawling_of class moment ∷ []) → Grows old.sight new.sight
+pub crawled_ok : (config : Config) (old new : PassView) (class : ClassNo) (moment : ℕ) (r : Result Histogram Fault) → MayCall config old
+    → IsClass (setting_of config) class → new.caller ≡ old.caller → OnOk r (new.calls ≡ old.calls ++ crawling_of class moment ∷ []) → Grows old.sight new.sight
     → IfOk r (IsCrawledBy config class old.sight new.sight (record { caller = old.caller; turn = old.turn }) moment)
     → IfOk r (λ histogram. AddsCalls (AreNoted config old) (AreNoted config new) (exchange old.caller old.turn (Crawls class) moment (Counted histogram) ∷ []))
 crawled_ok config old new class moment (Ok histogram) may is caller same grows by = crawled_adds config old new class moment histogram may is caller same grows by

@@ -122,10 +122,12 @@ stands_as_later config seen old new who moment (Asks command) (Replied reply) gr
     (NotesCommand-append config number (seen.stripes number) (old.stripes number) longer.0 old.classes new.classes who command moment reply grow.classes stands)
 stands_as_later config seen old new who moment (Juggles class) (Moved moves) grow placed stands =
     let longer = grow.classes class placed in
-    subst (λ (h : List ClassEvent). NotesJuggling config (seen.classes class) h who class moment moves) longer.1 (NotesJuggling-append config (seen.classes class) (old.classes class) longer.0 who class moment moves stands)
+    subst (λ (h : List ClassEvent). NotesJuggling config (seen.classes class) h who class moment moves) longer.1
+    (NotesJuggling-append config (seen.classes class) (old.classes class) longer.0 who class moment moves stands)
 stands_as_later config seen old new who moment (Crawls class) (Counted histogram) grow placed stands =
     let longer = grow.classes class placed in
-    subst (λ (h : List ClassEvent). NotesCrawling config (seen.classes class) h who class moment histogram) longer.1 (NotesCrawling-append config (seen.classes class) (old.classes class) longer.0 who class moment histogram stands)
+    subst (λ (h : List ClassEvent). NotesCrawling config (seen.classes class) h who class moment histogram) longer.1
+    (NotesCrawling-append config (seen.classes class) (old.classes class) longer.0 who class moment histogram stands)
 stands_as_later config seen old new who moment (Asks command) (Moved moves) grow placed stands = absurd stands
 stands_as_later config seen old new who moment (Asks command) (Counted histogram) grow placed stands = absurd stands
 stands_as_later config seen old new who moment (Juggles class) (Counted histogram) grow placed stands = absurd stands
@@ -160,7 +162,8 @@ NotesJuggling-less config less seen history who class moment moves begins noted 
   juggled = noted.juggled;
 }
 
-NotesCrawling-less : (config : Config) (less seen history : List ClassEvent) (who : Who) (class : ClassNo) (moment : ℕ) (histogram : Histogram) → IsPrefix less seen → NotesCrawling config seen history who class moment histogram
+NotesCrawling-less : (config : Config) (less seen history : List ClassEvent) (who : Who) (class : ClassNo) (moment : ℕ) (histogram : Histogram)
+    → IsPrefix less seen → NotesCrawling config seen history who class moment histogram
     → NotesCrawling config less history who class moment histogram
 NotesCrawling-less config less seen history who class moment histogram begins noted = record {
   at = noted.at;

@@ -35,11 +35,13 @@ pub record HasCalls (config : Config) (caller : ℕ) (histories : Histories) : T
 
 -- nobody but the first so many callers made an event on any stripe
 pub record AreByCallers (stripes callers : ℕ) (histories : Histories) : Type 0 where
-  pub at : (number place : ℕ) (event : StripeEvent) → number < stripes → slice_get (histories.stripes number) place ≡ Some event → (who_of event).caller < callers
+  pub at : (number place : ℕ) (event : StripeEvent) → number < stripes → slice_get (histories.stripes number) place ≡ Some event
+      → (who_of event).caller < callers
 
 -- none of the events of these stripes names this caller
 pub record MadeNone (caller : ℕ) (stripes : List StripeSide) : Type 0 where
-  pub at : (k place : ℕ) (s : StripeSide) (event : StripeEvent) → slice_get stripes k ≡ Some s → slice_get s.stripe.history place ≡ Some event → (who_of event).caller ≡ caller → ⊥
+  pub at : (k place : ℕ) (s : StripeSide) (event : StripeEvent) → slice_get stripes k ≡ Some s → slice_get s.stripe.history place ≡ Some event
+      → (who_of event).caller ≡ caller → ⊥
 
 -- a pass was compared with the store that is left: what it has seen is a beginning, and the events in its caller's name were called
 pub record IsCompared (pass : PassView) (final : FinalView) : Type 0 where

@@ -66,7 +66,8 @@ pub record AreMadeButLast (config : Config) (histories : Histories) (caller : �
 -- has the places of just those that are the stripe's commands; of the calls in that history at most the last was broken off
 pub record AreNoted (config : Config) (pass : PassView) (calls : List Exchange) : Type 0 where
   pub stand : Stand config nothing_seen (histories_seen config pass.sight) calls
-  pub at : (number : ℕ) → number < config.stripes → AreAt (stripes_seen (list_at pass.sight.seen) number) pass.caller (places_in number pass.calls) (calls_at config.stripes number calls)
+  pub at : (number : ℕ) → number < config.stripes
+      → AreAt (stripes_seen (list_at pass.sight.seen) number) pass.caller (places_in number pass.calls) (calls_at config.stripes number calls)
   pub rising : (number : ℕ) → number < config.stripes → AreRising 0 (places_in number pass.calls)
   pub made : AreMadeButLast config (histories_seen config pass.sight) pass.caller pass.calls
 

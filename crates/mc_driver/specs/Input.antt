@@ -40,7 +40,8 @@ pub record IsRunOf (config : Config) (moments input printed : List ℕ) (ended :
 -- why an input isn't run: it is cut into more than 62 scripts, or the configuration isn't sound for so many, or memory was wanting
 abbrev pub IsUnrun : RunFault → Config → List ℕ → Type 0
 IsUnrun refusals.Scripts config input = (scripts : List (List ℕ)) × cut.AreScripts (limits_of config) input scripts × (62 < length scripts)
-IsUnrun refusals.Configuration config input = (scripts : List (List ℕ)) × cut.AreScripts (limits_of config) input scripts × (IsRunnable (length scripts) config → ⊥)
+IsUnrun refusals.Configuration config input = (scripts : List (List ℕ)) × cut.AreScripts (limits_of config) input scripts
+    × (IsRunnable (length scripts) config → ⊥)
 IsUnrun refusals.NoMemory config input = Unit {0}
 
 -- an input is answered: it is run, every caller is done, and what its scripts print stands behind what the writer held

@@ -11,7 +11,8 @@ use Rattle.mc_driver.specs.Run.{HasFull, IsStore, callers_at_work, histories_lef
 -- what upkeep at these moments leaves, by how it ended: its calls stand in the histories in turn, and on stripes its caller
 -- made no command
 abbrev pub IsKeptUp : Keeper → Config → List ℕ → ℕ → Outcome → Histories → Type 0
-IsKeptUp keeper config moments caller outcome histories = KeepsUp outcome (limits_of config) (work_of keeper moments) (AreItsCalls config caller histories) caller
+IsKeptUp keeper config moments caller outcome histories =
+    KeepsUp outcome (limits_of config) (work_of keeper moments) (AreItsCalls config caller histories) caller
 
 -- of this many scripts and of upkeep, the maintainer and the crawler are done
 pub record AreKeepersDone (scripts : ℕ) (ended : List Outcome) : Type 0 where
@@ -28,11 +29,15 @@ module _ {S K : Type 0} (coming : S → List ℕ) (reads : S → ℕ) (taken : K
   pub record IsRunDone (config : Config) (moments : List ℕ) (scripts ends : List (S × K)) (ended : List Outcome) (final : FinalView) : Type 0 where
     pub each : (i : ℕ) (d : S × K) (outcome : Outcome) → i < length scripts
         → IsScriptLeft config (histories_left final) i (slice_index_or scripts i d) (slice_index_or ends i d) (slice_index_or ended i outcome)
-    pub maintained : (outcome : Outcome) → IsKeptUp Maintainer config moments (length scripts) (slice_index_or ended (length scripts) outcome) (histories_left final)
-    pub crawled : (outcome : Outcome) → IsKeptUp Crawler config moments (length scripts + 1) (slice_index_or ended (length scripts + 1) outcome) (histories_left final)
+    pub maintained : (outcome : Outcome) → IsKeptUp Maintainer config moments (length scripts) (slice_index_or ended (length scripts) outcome)
+        (histories_left final)
+    pub crawled : (outcome : Outcome) → IsKeptUp Crawler config moments (length scripts + 1) (slice_index_or ended (length scripts + 1) outcome)
+        (histories_left final)
     pub idle : moments ≡ [] → AreKeepersDone (length scripts) ended
-    pub full : (i : ℕ) (outcome : Outcome) → i < length scripts + 2 → slice_index_or ended i outcome ≡ outcomes.HistoryFull → HasFull config (histories_left final)
-    pub whole : (i : ℕ) (outcome : Outcome) → i < length scripts + 2 → slice_index_or ended i outcome ≡ outcomes.Done → AreWholeTurns config i (histories_left final)
+    pub full : (i : ℕ) (outcome : Outcome) → i < length scripts + 2 → slice_index_or ended i outcome ≡ outcomes.HistoryFull
+        → HasFull config (histories_left final)
+    pub whole : (i : ℕ) (outcome : Outcome) → i < length scripts + 2 → slice_index_or ended i outcome ≡ outcomes.Done
+        → AreWholeTurns config i (histories_left final)
     pub called : (i : ℕ) → i < length scripts + 2 → HasCalls config i (histories_left final)
     pub by : AreByCallers config.stripes (callers_at_work (length scripts) moments) (histories_left final)
     pub many : length ended ≡ length scripts + 2

@@ -43,13 +43,15 @@ answered_event who command moment reply room = events.Did (answered_command who 
 -- the history of the stripe of this number of a configuration has this answered command, behind what was seen of it; and a
 -- refusal that the answer cites stands in its class's history, wasn't made at once, and stands behind all rounds of a search by
 -- the same call
-pub record NotesCommand (config : Config) (number : ℕ) (seen history : List StripeEvent) (classes : ClassNo → List ClassEvent) (who : Who) (command : Command) (moment : ℕ) (reply : Reply) : Type 0 where
+pub record NotesCommand (config : Config) (number : ℕ) (seen history : List StripeEvent) (classes : ClassNo
+    → List ClassEvent) (who : Who) (command : Command) (moment : ℕ) (reply : Reply) : Type 0 where
   pub before : List StripeEvent
   pub room : Room
   pub behind : List StripeEvent
   pub past : IsPrefix seen before
   pub split : history ≡ before ++ answered_event who command moment reply room ∷ behind
-  pub earned : (class : ClassNo) → IsClass (setting_of config) class → WasTried (site_in (setting_of config) number) class (classes class) (answered_command who command moment reply room)
+  pub earned : (class : ClassNo) → IsClass (setting_of config) class
+      → WasTried (site_in (setting_of config) number) class (classes class) (answered_command who command moment reply room)
   pub last : (class : ClassNo) (place : ℕ) → IsClass (setting_of config) class → room ≡ rooms.Refused class place
       → IsLastResort config (record { 0 = number }) class place (classes class) (answered_command who command moment reply room)
 
@@ -76,7 +78,8 @@ pub record NotesCrawling (config : Config) (seen history : List ClassEvent) (who
   pub end : List ClassEvent
   pub rest : List ClassEvent
   pub ends : history ≡ end ++ rest
-  pub counted : AreLinksCounted config class (class_told at) (class_told end) who moment (links_of (record (opened config class) { history = at })) no_counts histogram
+  pub counted : AreLinksCounted config class (class_told at) (class_told end) who moment (links_of (record (opened config class) { history = at })) no_counts
+      histogram
   pub balanced : IsBalanced histogram
   pub since : List ClassEvent
   pub since_is : history ≡ seen ++ since

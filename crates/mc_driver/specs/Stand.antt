@@ -42,8 +42,10 @@ abbrev pub StandsAs : Config → Histories → Histories → Who → ℕ → Scr
 StandsAs config seen histories who moment (Asks command) (Replied reply) =
     let number = stripe_number config.stripes command in
     NotesCommand config number (seen.stripes number) (histories.stripes number) histories.classes who command moment reply
-StandsAs config seen histories who moment (Juggles class) (Moved moves) = NotesJuggling config (seen.classes class) (histories.classes class) who class moment moves
-StandsAs config seen histories who moment (Crawls class) (Counted histogram) = NotesCrawling config (seen.classes class) (histories.classes class) who class moment histogram
+StandsAs config seen histories who moment (Juggles class) (Moved moves) =
+    NotesJuggling config (seen.classes class) (histories.classes class) who class moment moves
+StandsAs config seen histories who moment (Crawls class) (Counted histogram) =
+    NotesCrawling config (seen.classes class) (histories.classes class) who class moment histogram
 StandsAs config seen histories who moment (Asks command) (Moved moves) = ⊥
 StandsAs config seen histories who moment (Asks command) (Counted histogram) = ⊥
 StandsAs config seen histories who moment (Juggles class) (Replied reply) = ⊥

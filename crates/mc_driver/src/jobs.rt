@@ -42,7 +42,8 @@ fn run_job<'a, N: Named, S: Source, K: Sink>(
     requires first { IsAtStart N.config job.old.calls.pass }
     requires early { All (λ moment. moment ≤ 2 ^ 62) moments.now }
     requires classes { AllThere (IsClass (setting_of N.config)) limits }
-    ensures { HasWorked S.coming S.failures K.taken K.failures N.config limits moments.now job.old.calls.pass job.new.calls.pass job.new.outcome job.old.work job.new.work }
+    ensures { HasWorked S.coming S.failures K.taken K.failures N.config limits moments.now job.old.calls.pass job.new.calls.pass job.new.outcome job.old.work
+        job.new.work }
 {
     let calls = &mut job.calls;
     job.outcome = match &mut job.work {
@@ -73,7 +74,8 @@ pub(crate) fn run_jobs<
     requires classes { AllThere (IsClass (setting_of N.config)) limits }
     ensures many { length jobs.new ≡ length jobs.old }
     ensures each { (i : ℕ) (d : Job N S K) → i < length jobs.old → HasWorked S.coming S.failures K.taken K.failures N.config limits moments.now
-        (slice_index_or jobs.old i d).calls.pass (slice_index_or jobs.new i d).calls.pass (slice_index_or jobs.new i d).outcome (slice_index_or jobs.old i d).work (slice_index_or jobs.new i d).work }
+        (slice_index_or jobs.old i d).calls.pass (slice_index_or jobs.new i d).calls.pass (slice_index_or jobs.new i d).outcome
+        (slice_index_or jobs.old i d).work (slice_index_or jobs.new i d).work }
 {
     thread::for_each_mut(
         rt,
@@ -150,11 +152,13 @@ impl<N: Named, S: Source, K: Sink> Ended<N, S, K> {
 
     // A job more.
     fn end_one(&mut self, job: Job<'_, N, S, K>)
-        requires room { (vec_len self.old.passes < vec_capacity self.old.passes) × (vec_len self.old.outcomes < vec_capacity self.old.outcomes) × (vec_len self.old.ends < vec_capacity self.old.ends) }
+        requires room { (vec_len self.old.passes < vec_capacity self.old.passes) × (vec_len self.old.outcomes < vec_capacity self.old.outcomes)
+            × (vec_len self.old.ends < vec_capacity self.old.ends) }
         ensures passes { self.new.passes.items ≡ self.old.passes.items ++ job.entry.calls.pass ∷ [] }
         ensures outcomes { self.new.outcomes.items ≡ self.old.outcomes.items ++ job.entry.outcome ∷ [] }
         ensures ends { self.new.ends.items ≡ self.old.ends.items ++ ends_in (job.entry.work ∷ []) }
-        ensures room { (vec_capacity self.new.passes ≡ vec_capacity self.old.passes) × (vec_capacity self.new.outcomes ≡ vec_capacity self.old.outcomes) × (vec_capacity self.new.ends ≡ vec_capacity self.old.ends) }
+        ensures room { (vec_capacity self.new.passes ≡ vec_capacity self.old.passes) × (vec_capacity self.new.outcomes ≡ vec_capacity self.old.outcomes)
+            × (vec_capacity self.new.ends ≡ vec_capacity self.old.ends) }
     {
         let Job {
             calls,
@@ -172,7 +176,8 @@ impl<N: Named, S: Source, K: Sink> Ended<N, S, K> {
     /// All jobs, in order; there has to be room for them.
     pub(crate) fn end_all(&mut self, jobs: Vec<Job<'_, N, S, K>>)
         requires none { (self.old.passes.items ≡ []) × (self.old.outcomes.items ≡ []) × (self.old.ends.items ≡ []) }
-        requires room { (length jobs.items ≤ vec_capacity self.old.passes) × (length jobs.items ≤ vec_capacity self.old.outcomes) × (length jobs.items ≤ vec_capacity self.old.ends) }
+        requires room { (length jobs.items ≤ vec_capacity self.old.passes) × (length jobs.items ≤ vec_capacity self.old.outcomes)
+            × (length jobs.items ≤ vec_capacity self.old.ends) }
         ensures passes { self.new.passes.items ≡ map (λ job. job.calls.pass) jobs.entry.items }
         ensures outcomes { self.new.outcomes.items ≡ map (λ job. job.outcome) jobs.entry.items }
         ensures ends { self.new.ends.items ≡ ends_in (map (λ job. job.work) jobs.entry.items) }

@@ -114,7 +114,8 @@ fn run_named<N: Named + Send + Sync, S: Source + Send, K: Sink + Send, R: Thread
     requires seen { seen ≡ record { board = N.board.table; sight = blind } }
     requires callers { N.config.callers ≡ length scripts.items + 2 }
     requires early { All (λ moment. moment ≤ 2 ^ 62) upkeep.now }
-    ensures { IfOk result (λ run. IsRunDone S.coming S.failures K.taken K.failures N.config upkeep.now scripts.items run.ends.items run.outcomes.items run.ledger) }
+    ensures { IfOk result (λ run. IsRunDone S.coming S.failures K.taken K.failures N.config upkeep.now scripts.items run.ends.items run.outcomes.items
+        run.ledger) }
 {
     let limits = limits_for(&config);
     let threads = threads_for(scripts.len(), upkeep.len());
@@ -186,9 +187,11 @@ pub fn run_scripts<S: Source + Send, K: Sink + Send, R: Threads + Wait + Sync>(
     // moment; and however it ended, each is of one of its calls, all of which but the last stand in the histories. And
     // nobody else made an event on a stripe.
     ensures full { IfOk result (λ run. (i : ℕ) (outcome : Outcome) → i < length scripts.items + 2
-        → slice_index_or run.outcomes.items i outcome ≡ outcomes.HistoryFull → HasFull (with_callers (length scripts.items) config) (histories_left run.ledger)) }
+        → slice_index_or run.outcomes.items i outcome ≡ outcomes.HistoryFull
+        → HasFull (with_callers (length scripts.items) config) (histories_left run.ledger)) }
     ensures whole { IfOk result (λ run. (i : ℕ) (outcome : Outcome) → i < length scripts.items + 2
-        → slice_index_or run.outcomes.items i outcome ≡ outcomes.Done → AreWholeTurns (with_callers (length scripts.items) config) i (histories_left run.ledger)) }
+        → slice_index_or run.outcomes.items i outcome ≡ outcomes.Done
+        → AreWholeTurns (with_callers (length scripts.items) config) i (histories_left run.ledger)) }
     ensures called { IfOk result (λ run. (i : ℕ) → i < length scripts.items + 2
         → HasCalls (with_callers (length scripts.items) config) i (histories_left run.ledger)) }
     ensures by { IfOk result (λ run. AreByCallers config.stripes (callers_at_work (length scripts.items) upkeep.now) (histories_left run.ledger)) }

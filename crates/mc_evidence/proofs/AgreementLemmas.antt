@@ -56,7 +56,8 @@ module _ (site : Site) (rule : Rule) (class : ClassNo) (stripe : List StripeEven
       agree_pair (cooled_as e.who key) (entries.Shifted e) (cooling_keeps site rule class stripe history agree.evidence key e one active at)
       (λ g x there of_x. subst (IsCitedIn site class (stripe ++ cooled_as e.who key ∷ []) e.number e.at (SuitsMove e.why e.moment)) (key_found e.number history key g x one.entry there)
       (subst (λ (p : ℕ). IsCitedIn site class (stripe ++ cooled_as e.who key ∷ []) e.number p (SuitsMove e.why e.moment) key) (sym at)
-      (cites_now site class stripe (stripe ++ cooled_as e.who key ∷ []) (cooled_as e.who key) e.number key (SuitsMove e.why e.moment) refl (with_link (item_after site stripe key) (link_to class e.number) (SuitsMove e.why e.moment) one.item suits))))
+      (cites_now site class stripe (stripe ++ cooled_as e.who key ∷ []) (cooled_as e.who key) e.number key (SuitsMove e.why e.moment) refl
+      (with_link (item_after site stripe key) (link_to class e.number) (SuitsMove e.why e.moment) one.item suits))))
       (move_is_only chunks rule site class stripe history key e agree.evidence.backed lawful one.entry of at)
 
   -- a move that clears no mark

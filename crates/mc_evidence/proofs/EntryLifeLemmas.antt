@@ -37,7 +37,8 @@ module _ (chunks : ℕ) (rule : Rule) where
   kept_after : (n : ℕ) (h : List ClassEvent) (e : ClassEvent) (o : Option (Seg × Entry)) → found n (lists_after (lists_of h) e) ≡ o → kept n (h ++ e ∷ []) ≡ option_map (λ (p : Seg × Entry). (p.1.key, p.1.cost)) o
   kept_after n h e o is = ap (λ l. option_map (λ (p : Seg × Entry). (p.1.key, p.1.cost)) (found n l)) (lists_of-push h e) ∙ ap (option_map (λ (p : Seg × Entry). (p.1.key, p.1.cost))) is
 
-  pub kept_linked : (n : ℕ) (h : List ClassEvent) (e : Linked) → IsNumbered h → IsLawfulByLists chunks rule h (events.Linked e) → e.number ≡ n → (kept n h ≡ None) × (kept n (h ++ events.Linked e ∷ []) ≡ Some (e.key, e.cost))
+  pub kept_linked : (n : ℕ) (h : List ClassEvent) (e : Linked) → IsNumbered h → IsLawfulByLists chunks rule h (events.Linked e) → e.number ≡ n
+      → (kept n h ≡ None) × (kept n (h ++ events.Linked e ∷ []) ≡ Some (e.key, e.cost))
   kept_linked n h e inv may same =
       let none = inv.unnamed n (subst (λ m. is_named m h ≡ false) same may.1) in (
         ap (option_map (λ (p : Seg × Entry). (p.1.key, p.1.cost))) (nowhere n (lists_of h) none),
@@ -61,7 +62,9 @@ module _ (chunks : ℕ) (rule : Rule) where
   kept_shifted n h e inv may same =
       let there = is_some_of (find e.number (list_of (lists_of h) e.from_seg)) may.0 in
       let at : find n (list_of (lists_of h) e.from_seg) ≡ Some there.0 = subst (λ m. find m (list_of (lists_of h) e.from_seg) ≡ Some there.0) same there.1 in
-      let now = subst (λ m. found n (moved m e.from_seg e.to_seg e.why e.moment (lists_of h)) ≡ Some (e.to_seg, record (there.0) { time = time_after e.why e.moment there.0.time })) (sym same) (moved_found n e.from_seg e.to_seg e.why e.moment (lists_of h) there.0 at (inv.once n)) in
+      let now = subst (λ m. found n (moved m e.from_seg e.to_seg e.why e.moment (lists_of h))
+      ≡ Some (e.to_seg, record (there.0) { time = time_after e.why e.moment there.0.time })) (sym same)
+      (moved_found n e.from_seg e.to_seg e.why e.moment (lists_of h) there.0 at (inv.once n)) in
       kept_after n h (events.Shifted e) _ now ∙ sym (ap (option_map (λ (p : Seg × Entry). (p.1.key, p.1.cost))) (found_there n (lists_of h) e.from_seg there.0 at (inv.once n)))
 
   -- what wasn't listed so and now is was linked

@@ -14,10 +14,24 @@ use Rattle.mc_evidence.specs.Example.{class_story, entry_of_set, first_class, fo
 pub story_agrees : Agree small_site small_rule first_class stripe_story class_story
 story_agrees =
     let none = agree_begins small_site small_rule first_class in
-    let one = agree_links small_site small_rule first_class [] [] none (set_of 97 0) (entry_of_set 97 0) record { who = refl; room = refl; key = refl; moment = refl; item = (refl, refl) } (λ n goes. none_some goes.had) in
-    let two_ = agree_links small_site small_rule first_class (items.Did (set_of 97 0) ∷ []) (entries.Linked (entry_of_set 97 0) ∷ []) one (set_of 98 1) (entry_of_set 98 1) record { who = refl; room = refl; key = refl; moment = refl; item = (refl, refl) } (λ n goes. none_some goes.had) in
-    let moved = agree_moved small_site small_rule first_class (items.Did (set_of 97 0) ∷ items.Did (set_of 98 1) ∷ []) (entries.Linked (entry_of_set 97 0) ∷ entries.Linked (entry_of_set 98 1) ∷ []) two_ (97 ∷ []) forced (λ h. h) refl record { item = refl; entry = record { seg = _; entry = _; there = refl; key_is = refl } } (refl, refl) in
-    let gone = agree_evicted small_site small_rule first_class (items.Did (set_of 97 0) ∷ items.Did (set_of 98 1) ∷ []) (entries.Linked (entry_of_set 97 0) ∷ entries.Linked (entry_of_set 98 1) ∷ entries.Shifted forced ∷ []) moved (turn 2) (97 ∷ []) [] 0
+    let one = agree_links small_site small_rule first_class [] [] none (set_of 97 0) (entry_of_set 97 0) record {
+      who = refl;
+      room = refl;
+      key = refl;
+      moment =
+          refl;
+      item = (refl, refl);
+    } (λ n goes. none_some goes.had) in
+    let two_ = agree_links small_site small_rule first_class (items.Did (set_of 97 0) ∷ []) (entries.Linked (entry_of_set 97 0) ∷ []) one (set_of 98 1)
+    (entry_of_set 98 1) record { who = refl; room = refl; key = refl; moment = refl; item = (refl, refl) } (λ n goes. none_some goes.had) in
+    let moved = agree_moved small_site small_rule first_class (items.Did (set_of 97 0) ∷ items.Did (set_of 98 1) ∷ [])
+    (entries.Linked (entry_of_set 97 0) ∷ entries.Linked (entry_of_set 98 1) ∷ []) two_ (97 ∷ []) forced (λ h. h) refl record {
+      item = refl;
+      entry =
+          record { seg = _; entry = _; there = refl; key_is = refl };
+    } (refl, refl) in
+    let gone = agree_evicted small_site small_rule first_class (items.Did (set_of 97 0) ∷ items.Did (set_of 98 1) ∷ [])
+    (entries.Linked (entry_of_set 97 0) ∷ entries.Linked (entry_of_set 98 1) ∷ entries.Shifted forced ∷ []) moved (turn 2) (97 ∷ []) [] 0
     record { item = refl; entry = record { seg = _; entry = _; there = refl; key_is = refl } } in
     agree_links small_site small_rule first_class _ _ gone (set_of 99 2) (entry_of_set 99 2) record { who = refl; room = refl; key = refl; moment = refl; item = (refl, refl) } (λ n goes. none_some goes.had)
 

@@ -120,7 +120,8 @@ module _ (site : Site) (rule : Rule) (class : ClassNo) (stripe : List StripeEven
   -- ---- what a class's event finds
 
   pub linked_finds : (behind : List ClassEvent) (e : Linked) → Stands history behind (entries.Linked e) → IsKeyOf site e.key
-      → Has items.Did stripe (λ before did. (did.room ≡ rooms.At (link_to class e.number)) × IsSomeAnd (item_after site (before ++ items.Did did ∷ []) (key_of did.command)) (λ item. e ≡ linked_for rule e.number did item))
+      → Has items.Did stripe (λ before did. (did.room ≡ rooms.At (link_to class e.number))
+      × IsSomeAnd (item_after site (before ++ items.Did did ∷ []) (key_of did.command)) (λ item. e ≡ linked_for rule e.number did item))
   linked_finds behind e stands of =
       let partner = both.backed behind (entries.Linked e) stands of in
       let did = partner.1 in
@@ -166,7 +167,8 @@ module _ (site : Site) (rule : Rule) (class : ClassNo) (stripe : List StripeEven
         link = subst (λ (k : List ℕ). link_of_item (item_after site partner.0 k) ≡ Some (link_to class e.number)) partner.3.0 pair.item;
       }
 
-  pub shifted_finds : (behind : List ClassEvent) (e : Shifted) (seg : Seg) (entry : Entry) → Stands history behind (entries.Shifted e) → ClearsMark e.why → found e.number (lists_of behind) ≡ Some (seg, entry) → IsKeyOf site entry.key
+  pub shifted_finds : (behind : List ClassEvent) (e : Shifted) (seg : Seg) (entry : Entry) → Stands history behind (entries.Shifted e) → ClearsMark e.why
+      → found e.number (lists_of behind) ≡ Some (seg, entry) → IsKeyOf site entry.key
       → StandsFor site class stripe e.at entry.key e.number (cooled_as e.who entry.key)
   shifted_finds behind e seg entry stands clears there of =
       let partner = both.backed behind (entries.Shifted e) stands clears seg entry there of in

@@ -13,7 +13,8 @@ use Rattle.mc_evidence.proofs.{RowLemmas.held, SizedItemLemmas.key_of_stripe}
 
 -- an entry that is found has its number
 found_number : (n : ℕ) (l : Lists) (s : Seg) (x : Entry) → found n l ≡ Some (s, x) → x.number ≡ n
-found_number n l s x is = by (find n l.hot) (find n l.warm) (find n l.cold) (find n l.temp) (λ y h. find_number n l.hot y h) (λ y h. find_number n l.warm y h) (λ y h. find_number n l.cold y h) (λ y h. find_number n l.temp y h) is
+found_number n l s x is = by (find n l.hot) (find n l.warm) (find n l.cold) (find n l.temp) (λ y h. find_number n l.hot y h) (λ y h. find_number n l.warm y h)
+    (λ y h. find_number n l.cold y h) (λ y h. find_number n l.temp y h) is
   where
     same : (t : Seg) (y : Entry) → ◌≡◌ {A = Option (Seg × Entry)} (Some (t, y)) (Some (s, x)) → y.number ≡ n → x.number ≡ n
     same t y h is = ap (λ (p : Seg × Entry). p.1.number) (sym (some_same (t, y) (s, x) h)) ∙ is

@@ -25,7 +25,9 @@ use Rattle.mc_evidence.specs.Made.{cooled_as, evicted_as, lost_at, lost_to, recl
 
 -- a stripe's lock, one event later
 pub stripe_step : (setting : Setting) (s : ℕ) (own : List StripeEvent) (seen more : ClassNo → List ClassEvent) (e : StripeEvent) → ((class : ClassNo) → IsPrefix (seen class) (more class)) → StripeKeeps setting s own seen
-    → MayHappen (site_in setting s) (cache_of (site_in setting s) own) own e → ((class : ClassNo) → IsClass setting class → HasTrace (site_in setting s) setting.rule class (more class) own e) → StripeKeeps setting s (own ++ e ∷ []) more
+    → MayHappen (site_in setting s) (cache_of (site_in setting s) own) own e
+    → ((class : ClassNo) → IsClass setting class → HasTrace (site_in setting s) setting.rule class (more class) own e)
+    → StripeKeeps setting s (own ++ e ∷ []) more
 stripe_step setting s own seen more e grows keeps may told =
     let later = stripe_sees_more setting s own seen more grows keeps in
     record {
@@ -35,7 +37,9 @@ stripe_step setting s own seen more e grows keeps may told =
 
 -- a class's lock, one event later
 pub class_step : (setting : Setting) (class : ClassNo) (own : List ClassEvent) (seen more : ℕ → List StripeEvent) (x : ClassEvent) → ((s : ℕ) → IsPrefix (seen s) (more s)) → ClassKeeps setting class own seen
-    → IsLawfulByLists (setting.chunks class) setting.rule own x → ClearsOnce own x → ((s : ℕ) → s < setting.stripes → IsBacked (site_in setting s) setting.rule class (more s) own x) → ((s : ℕ) → s < setting.stripes → IsSuited (site_in setting s) class (more s) own x)
+    → IsLawfulByLists (setting.chunks class) setting.rule own x → ClearsOnce own x
+    → ((s : ℕ) → s < setting.stripes → IsBacked (site_in setting s) setting.rule class (more s) own x)
+    → ((s : ℕ) → s < setting.stripes → IsSuited (site_in setting s) class (more s) own x)
     → ClassKeeps setting class (own ++ x ∷ []) more
 class_step setting class own seen more x grows keeps may only backed suited =
     let later = class_sees_more setting class own seen more grows keeps in
@@ -110,12 +114,15 @@ module _ (setting : Setting) (s : ℕ) (class : ClassNo) (stripe : List StripeEv
             (subst (λ (h : List ClassEvent). Has entries.Evicted h (λ behind x. IsEviction (site_in setting s) class stripe lost behind x)) (sym sees) (history, e, last_stands history (entries.Evicted e), pair)) c),
         class_step setting class history seen_of more_of (entries.Evicted e) held.grows_of held.class_keeps may tt
             (λ t t_of. by_stripe setting history number key s (λ u k. Has items.Lost (more_of u) (λ before x. (x.key ≡ k) × IsEviction (site_in setting u) class before x history e)) one.entry of_key
-            (subst (λ (h : List StripeEvent). Has items.Lost h (λ before x. (x.key ≡ key) × IsEviction (site_in setting s) class before x history e)) (sym sees_of) (stripe, lost, last_stands stripe (items.Lost lost), (refl, pair))) t)
+            (subst (λ (h : List StripeEvent). Has items.Lost h (λ before x. (x.key ≡ key) × IsEviction (site_in setting s) class before x history e))
+            (sym sees_of) (stripe, lost, last_stands stripe (items.Lost lost), (refl, pair))) t)
             (λ t t_of. tt),
       )
 
   -- a reclaimed entry with its loss
-  pub reclaiming_step : (who : Who) (key : List ℕ) (number moment : ℕ) → Belong (site_in setting s) class stripe history key number → IsDead (item_after (site_in setting s) stripe key) moment → IsKeyOf (site_in setting s) key → IsLawfulByLists (setting.chunks class) setting.rule history (reclaimed_as who number moment (length stripe))
+  pub reclaiming_step : (who : Who) (key : List ℕ) (number moment : ℕ) → Belong (site_in setting s) class stripe history key number
+      → IsDead (item_after (site_in setting s) stripe key) moment → IsKeyOf (site_in setting s) key
+      → IsLawfulByLists (setting.chunks class) setting.rule history (reclaimed_as who number moment (length stripe))
       → more class ≡ history ++ reclaimed_as who number moment (length stripe) ∷ [] → more_of s ≡ stripe ++ lost_at who key moment ∷ []
       → StripeKeeps setting s (stripe ++ lost_at who key moment ∷ []) more × ClassKeeps setting class (history ++ reclaimed_as who number moment (length stripe) ∷ []) more_of
   reclaiming_step who key number moment one dead of_key may sees sees_of =
@@ -127,9 +134,11 @@ module _ (setting : Setting) (s : ℕ) (class : ClassNo) (stripe : List StripeEv
             (subst (λ (h : List ClassEvent). Has entries.Reclaimed h (λ behind x. IsReclaiming (site_in setting s) class stripe lost x)) (sym sees) (history, e, last_stands history (entries.Reclaimed e), pair)) c),
         class_step setting class history seen_of more_of (entries.Reclaimed e) held.grows_of held.class_keeps may tt
             (λ t t_of. by_stripe setting history number key s (λ u k. Has items.Lost (more_of u) (λ before x. (x.key ≡ k) × IsReclaiming (site_in setting u) class before x e)) one.entry of_key
-            (subst (λ (h : List StripeEvent). Has items.Lost h (λ before x. (x.key ≡ key) × IsReclaiming (site_in setting s) class before x e)) (sym sees_of) (stripe, lost, last_stands stripe (items.Lost lost), (refl, pair))) t)
+            (subst (λ (h : List StripeEvent). Has items.Lost h (λ before x. (x.key ≡ key) × IsReclaiming (site_in setting s) class before x e)) (sym sees_of)
+            (stripe, lost, last_stands stripe (items.Lost lost), (refl, pair))) t)
             (λ t t_of. by_stripe setting history number key s (λ u k. IsCitedIn (site_in setting u) class (more_of u) number (length stripe) (λ item. is_dead item moment ≡ true) k) one.entry of_key
-            (cites_now (site_in setting s) class stripe (more_of s) _ number key (λ item. is_dead item moment ≡ true) sees_of (with_link (item_after (site_in setting s) stripe key) (link_to class number) (λ item. is_dead item moment ≡ true) one.item dead)) t),
+            (cites_now (site_in setting s) class stripe (more_of s) _ number key (λ item. is_dead item moment ≡ true) sees_of
+            (with_link (item_after (site_in setting s) stripe key) (link_to class number) (λ item. is_dead item moment ≡ true) one.item dead)) t),
       )
 
   -- an active entry's move, or a hit's, with its cooling
@@ -140,7 +149,8 @@ module _ (setting : Setting) (s : ℕ) (class : ClassNo) (stripe : List StripeEv
       → StripeKeeps setting s (stripe ++ cooled_as e.who key ∷ []) more × ClassKeeps setting class (history ++ entries.Shifted e ∷ []) more_of
   cooling_step of saw_of key e active at one marked suits of_key may sees sees_of =
       let backed : Each (IsBacked (site_in setting s) setting.rule class stripe) history =
-      subst (λ (h : List StripeEvent). Each (IsBacked (site_in setting s) setting.rule class h) history) saw_of.1 (all_backed_later (site_in setting s) setting.rule class (seen_of s) saw_of.0 history (held.class_keeps.backed s of)) in
+      subst (λ (h : List StripeEvent). Each (IsBacked (site_in setting s) setting.rule class h) history) saw_of.1
+      (all_backed_later (site_in setting s) setting.rule class (seen_of s) saw_of.0 history (held.class_keeps.backed s of)) in
       let cooled : Cooled = record { who = e.who; key = key } in
       let pair : IsCooling (site_in setting s) class stripe cooled e = record { who = refl; item = one.item; why = active; at = at } in (
         stripe_step setting s stripe seen more (items.Cooled cooled) held.grows held.stripe_keeps marked
@@ -149,10 +159,12 @@ module _ (setting : Setting) (s : ℕ) (class : ClassNo) (stripe : List StripeEv
         class_step setting class history seen_of more_of (entries.Shifted e) held.grows_of held.class_keeps may
             (move_is_only (setting.chunks class) setting.rule (site_in setting s) class stripe history key e backed held.class_keeps.lawful one.entry of_key at)
             (λ t t_of why. by_stripe setting history e.number key s (λ u k. Has items.Cooled (more_of u) (λ before x. (x.key ≡ k) × IsCooling (site_in setting u) class before x e)) one.entry of_key
-            (subst (λ (h : List StripeEvent). Has items.Cooled h (λ before x. (x.key ≡ key) × IsCooling (site_in setting s) class before x e)) (sym sees_of) (stripe, cooled, last_stands stripe (items.Cooled cooled), (refl, pair))) t)
+            (subst (λ (h : List StripeEvent). Has items.Cooled h (λ before x. (x.key ≡ key) × IsCooling (site_in setting s) class before x e)) (sym sees_of)
+            (stripe, cooled, last_stands stripe (items.Cooled cooled), (refl, pair))) t)
             (λ t t_of. by_stripe setting history e.number key s (λ u k. IsCitedIn (site_in setting u) class (more_of u) e.number e.at (SuitsMove e.why e.moment) k) one.entry of_key
             (subst (λ (p : ℕ). IsCitedIn (site_in setting s) class (more_of s) e.number p (SuitsMove e.why e.moment) key) (sym at)
-            (cites_now (site_in setting s) class stripe (more_of s) _ e.number key (SuitsMove e.why e.moment) sees_of (with_link (item_after (site_in setting s) stripe key) (link_to class e.number) (SuitsMove e.why e.moment) one.item suits))) t),
+            (cites_now (site_in setting s) class stripe (more_of s) _ e.number key (SuitsMove e.why e.moment) sees_of
+            (with_link (item_after (site_in setting s) stripe key) (link_to class e.number) (SuitsMove e.why e.moment) one.item suits))) t),
       )
 
 module _ (setting : Setting) (s : ℕ) (class : ClassNo) (stripe : List StripeEvent) (history : List ClassEvent) (seen_of more_of : ℕ → List StripeEvent)
@@ -167,11 +179,14 @@ module _ (setting : Setting) (s : ℕ) (class : ClassNo) (stripe : List StripeEv
       (λ t t_of. by_stripe setting history e.number key s (λ u k. IsCitedIn (site_in setting u) class (more_of u) e.number e.at (SuitsMove e.why e.moment) k) one.entry of_key
       (subst (λ (p : ℕ). IsCitedIn (site_in setting s) class (more_of s) e.number p (SuitsMove e.why e.moment) key) (sym at)
       (subst (λ (h : List StripeEvent). IsSomeAnd (cited_in (site_in setting s) h key (length stripe)) Q) (sym sees_of)
-      (subst (λ (o : Option Item). IsSomeAnd o Q) (sym (cited_now (site_in setting s) stripe key)) (with_link (item_after (site_in setting s) stripe key) (link_to class e.number) (SuitsMove e.why e.moment) one.item suits)))) t)
+      (subst (λ (o : Option Item). IsSomeAnd o Q) (sym (cited_now (site_in setting s) stripe key))
+      (with_link (item_after (site_in setting s) stripe key) (link_to class e.number) (SuitsMove e.why e.moment) one.item suits)))) t)
 
-module _ (setting : Setting) (s : ℕ) (class : ClassNo) (stripe : List StripeEvent) (history : List ClassEvent) (seen_of more_of : ℕ → List StripeEvent) (class_keeps : ClassKeeps setting class history seen_of) (grows_of : SeesMore seen_of more_of) where
+module _ (setting : Setting) (s : ℕ) (class : ClassNo) (stripe : List StripeEvent) (history : List ClassEvent) (seen_of more_of : ℕ
+    → List StripeEvent) (class_keeps : ClassKeeps setting class history seen_of) (grows_of : SeesMore seen_of more_of) where
   -- a new entry, for a command of the stripe
-  pub linking_step : (did : Did) (e : Linked) → IsLinking (site_in setting s) setting.rule class stripe did e → IsKeyOf (site_in setting s) e.key → IsLawfulByLists (setting.chunks class) setting.rule history (entries.Linked e)
+  pub linking_step : (did : Did) (e : Linked) → IsLinking (site_in setting s) setting.rule class stripe did e → IsKeyOf (site_in setting s) e.key
+      → IsLawfulByLists (setting.chunks class) setting.rule history (entries.Linked e)
       → more_of s ≡ stripe ++ items.Did did ∷ [] → ClassKeeps setting class (history ++ entries.Linked e ∷ []) more_of
   linking_step did e pair of_key may sees_of =
       class_step setting class history seen_of more_of (entries.Linked e) grows_of class_keeps may tt
@@ -185,7 +200,8 @@ module _ (setting : Setting) (s : ℕ) (class : ClassNo) (stripe : List StripeEv
   unlinking_step did e pair entry of_key may sees_of =
       class_step setting class history seen_of more_of (entries.Unlinked e) grows_of class_keeps may tt
       (λ t t_of. by_stripe setting history e.number (key_of did.command) s (λ u k. Has items.Did (more_of u) (λ before x. (key_of x.command ≡ k) × IsUnlinking (site_in setting u) class before x e)) entry of_key
-      (subst (λ (h : List StripeEvent). Has items.Did h (λ before x. (key_of x.command ≡ key_of did.command) × IsUnlinking (site_in setting s) class before x e)) (sym sees_of) (stripe, did, last_stands stripe (items.Did did), (refl, pair))) t)
+      (subst (λ (h : List StripeEvent). Has items.Did h (λ before x. (key_of x.command ≡ key_of did.command)
+      × IsUnlinking (site_in setting s) class before x e)) (sym sees_of) (stripe, did, last_stands stripe (items.Did did), (refl, pair))) t)
       (λ t t_of. tt)
 
 module _ (setting : Setting) (class : ClassNo) (history : List ClassEvent) (seen_of more_of : ℕ → List StripeEvent) (class_keeps : ClassKeeps setting class history seen_of) (grows_of : SeesMore seen_of more_of) where

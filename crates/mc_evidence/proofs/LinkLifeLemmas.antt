@@ -57,24 +57,30 @@ module _ (site : Site) where
   holds_push key h e P p = subst (λ (c : Cache). P (c.items key)) (sym (cache_of-push site h e)) p
 
   -- what a command leaves of its key's item
-  leaves : (h : List StripeEvent) (did : Did) → LeavesLink (key_of did.command) (item_after site h (key_of did.command)) (row_of site (cache_of site h).versions (item_after site h (key_of did.command)) did.command did.moment)
+  leaves : (h : List StripeEvent) (did : Did)
+      → LeavesLink (key_of did.command) (item_after site h (key_of did.command))
+      (row_of site (cache_of site h).versions (item_after site h (key_of did.command)) did.command did.moment)
   leaves h did = row_leaves site (cache_of site h).versions (item_after site h (key_of did.command)) did.command did.moment
 
   -- a command without a chunk leaves its key's item, or none
   without_chunk : (h : List StripeEvent) (did : Did) → IsNoChunk did.room → IsGoneOrSame (key_of did.command) (item_after site h (key_of did.command)) (item_after site (h ++ events.Did did ∷ []) (key_of did.command))
   without_chunk h did none =
       holds_push (key_of did.command) h (events.Did did) (λ o. IsGoneOrSame (key_of did.command) (item_after site h (key_of did.command)) o)
-      (by_key (λ o. IsGoneOrSame (key_of did.command) (item_after site h (key_of did.command)) o) (cache_of site h) (key_of did.command) (key_of did.command) (answer_of site (cache_of site h) did.command did.moment did.room).change
+      (by_key (λ o. IsGoneOrSame (key_of did.command) (item_after site h (key_of did.command)) o) (cache_of site h) (key_of did.command) (key_of did.command)
+      (answer_of site (cache_of site h) did.command did.moment did.room).change
       (λ same. (leaves h did).without did.room none)
       (λ apart. absurd (apart refl)))
 
   -- a command with a chunk leaves its key an item with that link
-  pub with_link : (h : List StripeEvent) (did : Did) (link : Link) → MayDo site (cache_of site h) h did → did.room ≡ rooms.At link → IsSomeAnd (item_after site (h ++ events.Did did ∷ []) (key_of did.command)) (λ item. item.link ≡ link)
+  pub with_link : (h : List StripeEvent) (did : Did) (link : Link) → MayDo site (cache_of site h) h did → did.room ≡ rooms.At link
+      → IsSomeAnd (item_after site (h ++ events.Did did ∷ []) (key_of did.command)) (λ item. item.link ≡ link)
   with_link h did link may is =
       let fits = fits_fresh _ link h (subst (λ r. Fits (row_of site (cache_of site h).versions (item_after site h (key_of did.command)) did.command did.moment).need r h) is may.fits) in
       holds_push (key_of did.command) h (events.Did did) (λ o. IsSomeAnd o (λ item. item.link ≡ link))
       (by_key (λ o. IsSomeAnd o (λ item. item.link ≡ link)) (cache_of site h) (key_of did.command) (key_of did.command) (answer_of site (cache_of site h) did.command did.moment did.room).change
-      (λ same. subst (λ r. IsSomeAnd (changed (item_after site h (key_of did.command)) ((row_of site (cache_of site h).versions (item_after site h (key_of did.command)) did.command did.moment).answer r).change) (λ item. item.link ≡ link)) (sym is) ((leaves h did).with_chunk link fits))
+      (λ same. subst (λ r. IsSomeAnd (changed (item_after site h (key_of did.command))
+      ((row_of site (cache_of site h).versions (item_after site h (key_of did.command)) did.command did.moment).answer r).change)
+      (λ item. item.link ≡ link)) (sym is) ((leaves h did).with_chunk link fits))
       (λ apart. absurd (apart refl)))
 
   -- the link of a chunk that a command was given is new
@@ -92,7 +98,9 @@ module _ (site : Site) where
       (by_key (λ o. o ≡ item_after site h key) (cache_of site h) (key_of did.command) key (answer_of site (cache_of site h) did.command did.moment did.room).change (λ same. absurd (apart same)) (λ other. refl))
 
   -- a loss leaves the item, where it has another key, and else none
-  pub after_loss : (key : List ℕ) (h : List StripeEvent) (lost : Lost) → ((lost.key ≢ key) × (item_after site (h ++ events.Lost lost ∷ []) key ≡ item_after site h key)) ⊎ ((lost.key ≡ key) × (item_after site (h ++ events.Lost lost ∷ []) key ≡ None))
+  pub after_loss : (key : List ℕ) (h : List StripeEvent) (lost : Lost)
+      → ((lost.key ≢ key) × (item_after site (h ++ events.Lost lost ∷ []) key ≡ item_after site h key))
+      ⊎ ((lost.key ≡ key) × (item_after site (h ++ events.Lost lost ∷ []) key ≡ None))
   after_loss key h lost =
       let P : Option Item → Type 0 = λ o. ((lost.key ≢ key) × (o ≡ item_after site h key)) ⊎ ((lost.key ≡ key) × (o ≡ None)) in
       holds_push key h (events.Lost lost) P
@@ -120,7 +128,8 @@ module _ (site : Site) where
       elim leaves [ inl gone ↦ none_some (sym (ap link_of_item gone) ∙ has) | inr same ↦ now (same ∙ was) ]
 
   -- what a key didn't hold so and does was given
-  pub rise : (key : List ℕ) (link : Link) (cost : ℕ) (h : List StripeEvent) (e : StripeEvent) → MayHappen site (cache_of site h) h e → holds key h ≢ Some (link, cost) → holds key (h ++ e ∷ []) ≡ Some (link, cost) → IsGiftOf key link e
+  pub rise : (key : List ℕ) (link : Link) (cost : ℕ) (h : List StripeEvent) (e : StripeEvent) → MayHappen site (cache_of site h) h e
+      → holds key h ≢ Some (link, cost) → holds key (h ++ e ∷ []) ≡ Some (link, cost) → IsGiftOf key link e
   rise key link cost h (events.Did did) may was now =
       elim (same_key (key_of did.command) key) [
         | inl apart ↦ absurd (was (sym (ap (held key) (other_key key h did apart)) ∙ now))

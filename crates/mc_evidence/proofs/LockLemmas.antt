@@ -11,15 +11,18 @@ use Rattle.mc_evidence.proofs.{CitedItemLemmas.all_suited_later, ItemsAreEntries
 use Rattle.mc_evidence.specs.{Locks.AreLentTogether, Locks.ClassKeeps, Locks.StripeKeeps, Setting.Setting, Setting.site_in}
 
 -- a stripe's lock keeps what it keeps when more of the classes is seen
-pub stripe_sees_more : (setting : Setting) (s : ℕ) (own : List StripeEvent) (seen more : ClassNo → List ClassEvent) → ((class : ClassNo) → IsPrefix (seen class) (more class)) → StripeKeeps setting s own seen → StripeKeeps setting s own more
+pub stripe_sees_more : (setting : Setting) (s : ℕ) (own : List StripeEvent) (seen more : ClassNo → List ClassEvent)
+    → ((class : ClassNo) → IsPrefix (seen class) (more class)) → StripeKeeps setting s own seen → StripeKeeps setting s own more
 stripe_sees_more setting s own seen more grows keeps = record {
   legal = keeps.legal;
   told = λ class is.
-      subst (λ (h : List ClassEvent). Each (HasTrace (site_in setting s) setting.rule class h) own) (grows class).1 (all_told_later (site_in setting s) setting.rule class (seen class) (grows class).0 own (keeps.told class is));
+      subst (λ (h : List ClassEvent). Each (HasTrace (site_in setting s) setting.rule class h) own) (grows class).1
+      (all_told_later (site_in setting s) setting.rule class (seen class) (grows class).0 own (keeps.told class is));
 }
 
 -- a class's lock keeps what it keeps when more of the stripes is seen
-pub class_sees_more : (setting : Setting) (class : ClassNo) (own : List ClassEvent) (seen more : ℕ → List StripeEvent) → ((s : ℕ) → IsPrefix (seen s) (more s)) → ClassKeeps setting class own seen → ClassKeeps setting class own more
+pub class_sees_more : (setting : Setting) (class : ClassNo) (own : List ClassEvent) (seen more : ℕ → List StripeEvent) → ((s : ℕ) → IsPrefix (seen s) (more s))
+    → ClassKeeps setting class own seen → ClassKeeps setting class own more
 class_sees_more setting class own seen more grows keeps = record {
   lawful = keeps.lawful;
   once = keeps.once;
@@ -41,12 +44,15 @@ class_begins setting class seen = record {
   suited = λ s of before e t. absurd (none_stands before e t);
 }
 
-module _ (setting : Setting) (s : ℕ) (class : ClassNo) (stripe : List StripeEvent) (history : List ClassEvent) (seen : ClassNo → List ClassEvent) (seen_of : ℕ → List StripeEvent) (lent : AreLentTogether setting s class stripe history seen seen_of) where
+module _ (setting : Setting) (s : ℕ) (class : ClassNo) (stripe : List StripeEvent) (history : List ClassEvent) (seen : ClassNo → List ClassEvent) (seen_of : ℕ
+    → List StripeEvent) (lent : AreLentTogether setting s class stripe history seen seen_of) where
   -- what the two locks keep between them, each told the other's whole history
   pub between : AreEvidence (site_in setting s) setting.rule class stripe history
   between = record {
-    told = subst (λ (h : List ClassEvent). Each (HasTrace (site_in setting s) setting.rule class h) stripe) lent.saw.1 (all_told_later (site_in setting s) setting.rule class (seen class) lent.saw.0 stripe (lent.stripe_keeps.told class lent.is));
-    backed = subst (λ (h : List StripeEvent). Each (IsBacked (site_in setting s) setting.rule class h) history) lent.saw_of.1 (all_backed_later (site_in setting s) setting.rule class (seen_of s) lent.saw_of.0 history (lent.class_keeps.backed s lent.of));
+    told = subst (λ (h : List ClassEvent). Each (HasTrace (site_in setting s) setting.rule class h) stripe) lent.saw.1
+        (all_told_later (site_in setting s) setting.rule class (seen class) lent.saw.0 stripe (lent.stripe_keeps.told class lent.is));
+    backed = subst (λ (h : List StripeEvent). Each (IsBacked (site_in setting s) setting.rule class h) history) lent.saw_of.1
+        (all_backed_later (site_in setting s) setting.rule class (seen_of s) lent.saw_of.0 history (lent.class_keeps.backed s lent.of));
   }
 
 -- an entry that is lent with its key's stripe is no stranger
@@ -54,4 +60,5 @@ pub no_stranger : (setting : Setting) (s : ℕ) (class : ClassNo) (stripe : List
     → AreLentTogether setting s class stripe history seen seen_of → (number : ℕ) (seg : Seg) (entry : Entry) → found number (lists_of history) ≡ Some (seg, entry) → IsKeyOf (site_in setting s) entry.key
     → HasItem (site_in setting s) class stripe number entry
 no_stranger setting s class stripe history seen seen_of lent number seg entry is of =
-    item_of_entry (site_in setting s) setting.rule class (setting.chunks class) stripe history number seg entry lent.stripe_keeps.legal lent.class_keeps.lawful (between setting s class stripe history seen seen_of lent) is of
+    item_of_entry (site_in setting s) setting.rule class (setting.chunks class) stripe history number seg entry lent.stripe_keeps.legal lent.class_keeps.lawful
+    (between setting s class stripe history seen seen_of lent) is of

@@ -47,18 +47,43 @@ module _ (site : Site) where
       let later = stays_or_lost key item (pre ++ events.Lost lost ∷ []) es none in
       elim (after_loss site key pre lost) [
         | inl apart ↦ moved (events.Lost lost) (later (subst (IsThere item) (sym apart.1) there))
-        | inr same ↦ inr record { mid = []; lost = lost; stands = record { later = es; is = refl }; key_is = same.0; had = subst (λ (h : List StripeEvent). IsThere item (item_after site h key)) (sym (append-nil pre)) there }
+        | inr same ↦ inr record {
+          mid = [];
+          lost = lost;
+          stands = record { later = es; is = refl };
+          key_is = same.0;
+          had =
+              subst (λ (h : List StripeEvent). IsThere item (item_after site h key)) (sym (append-nil pre)) there;
+        }
       ]
     where
-      moved : (e : StripeEvent) → IsThere item (item_after site ((pre ++ e ∷ []) ++ es) key) ⊎ WasLostIn site (pre ++ e ∷ []) es key item → IsThere item (item_after site (pre ++ e ∷ es) key) ⊎ WasLostIn site pre (e ∷ es) key item
+      moved : (e : StripeEvent) → IsThere item (item_after site ((pre ++ e ∷ []) ++ es) key) ⊎ WasLostIn site (pre ++ e ∷ []) es key item
+          → IsThere item (item_after site (pre ++ e ∷ es) key) ⊎ WasLostIn site pre (e ∷ es) key item
       moved e (inl there) = inl (subst (λ (h : List StripeEvent). IsThere item (item_after site h key)) (append_assoc pre (e ∷ []) es) there)
-      moved e (inr w) = inr record { mid = e ∷ w.mid; lost = w.lost; stands = record { later = w.stands.later; is = ap (λ (t : List StripeEvent). e ∷ t) w.stands.is }; key_is = w.key_is; had = subst (λ (h : List StripeEvent). IsThere item (item_after site h key)) (append_assoc pre (e ∷ []) w.mid) w.had }
+      moved e (inr w) = inr record {
+        mid = e ∷ w.mid;
+        lost = w.lost;
+        stands =
+            record { later = w.stands.later; is = ap (λ (t : List StripeEvent). e ∷ t) w.stands.is };
+        key_is = w.key_is;
+        had =
+            subst (λ (h : List StripeEvent). IsThere item (item_after site h key)) (append_assoc pre (e ∷ []) w.mid) w.had;
+      }
   stays_or_lost key item pre (events.Cooled cooled ∷ es) none there =
       moved (events.Cooled cooled) (stays_or_lost key item (pre ++ events.Cooled cooled ∷ []) es none (after_cooled key pre cooled item there))
     where
-      moved : (e : StripeEvent) → IsThere item (item_after site ((pre ++ e ∷ []) ++ es) key) ⊎ WasLostIn site (pre ++ e ∷ []) es key item → IsThere item (item_after site (pre ++ e ∷ es) key) ⊎ WasLostIn site pre (e ∷ es) key item
+      moved : (e : StripeEvent) → IsThere item (item_after site ((pre ++ e ∷ []) ++ es) key) ⊎ WasLostIn site (pre ++ e ∷ []) es key item
+          → IsThere item (item_after site (pre ++ e ∷ es) key) ⊎ WasLostIn site pre (e ∷ es) key item
       moved e (inl there) = inl (subst (λ (h : List StripeEvent). IsThere item (item_after site h key)) (append_assoc pre (e ∷ []) es) there)
-      moved e (inr w) = inr record { mid = e ∷ w.mid; lost = w.lost; stands = record { later = w.stands.later; is = ap (λ (t : List StripeEvent). e ∷ t) w.stands.is }; key_is = w.key_is; had = subst (λ (h : List StripeEvent). IsThere item (item_after site h key)) (append_assoc pre (e ∷ []) w.mid) w.had }
+      moved e (inr w) = inr record {
+        mid = e ∷ w.mid;
+        lost = w.lost;
+        stands =
+            record { later = w.stands.later; is = ap (λ (t : List StripeEvent). e ∷ t) w.stands.is };
+        key_is = w.key_is;
+        had =
+            subst (λ (h : List StripeEvent). IsThere item (item_after site h key)) (append_assoc pre (e ∷ []) w.mid) w.had;
+      }
 
   -- what cooling leaves was there, but for its marks
   before_cooled : (key : List ℕ) (h : List StripeEvent) (cooled : Cooled) (item : Item) → IsSomeAnd (item_after site (h ++ events.Cooled cooled ∷ []) key) (λ other. IsSameItem other item)
@@ -66,7 +91,8 @@ module _ (site : Site) where
   before_cooled key h cooled item =
       holds_push site key h (events.Cooled cooled) (λ o. IsSomeAnd o (λ other. IsSameItem other item) → IsSomeAnd (item_after site h key) (λ other. IsSameItem other item))
       (by_key (λ o. IsSomeAnd o (λ other. IsSameItem other item) → IsSomeAnd (item_after site h key) (λ other. IsSameItem other item)) (cache_of site h) cooled.key key (cooled_change (item_after site h cooled.key))
-      (λ same. subst (λ (k : List ℕ). IsSomeAnd (changed (item_after site h k) (cooled_change (item_after site h k))) (λ other. IsSameItem other item) → IsSomeAnd (item_after site h key) (λ other. IsSameItem other item)) (sym same) (by (item_after site h key)))
+      (λ same. subst (λ (k : List ℕ). IsSomeAnd (changed (item_after site h k) (cooled_change (item_after site h k))) (λ other. IsSameItem other item)
+      → IsSomeAnd (item_after site h key) (λ other. IsSameItem other item)) (sym same) (by (item_after site h key)))
       (λ apart there. there))
     where
       by : (o : Option Item) → IsSomeAnd (changed o (cooled_change o)) (λ other. IsSameItem other item) → IsSomeAnd o (λ other. IsSameItem other item)

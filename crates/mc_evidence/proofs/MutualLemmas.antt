@@ -66,7 +66,9 @@ module _ (site : Site) (rule : Rule) (class : ClassNo) (chunks : ℕ) (stripe : 
     began : Turns NotHeld Held stripe → Turns NotKept Kept history
     began t =
         let link = linked_as n key cost t.before t.e t.stands (stripes.rise_at site key (link_to class n) cost stripe legal t) t.now in
-        let now = kept_linked chunks rule n link.0 link.1 (numbered chunks rule link.0 (lawful_before chunks rule history link.0 (entries.Linked link.1) lawful link.2)) (lawful_at chunks rule history link.0 (entries.Linked link.1) lawful link.2) link.3.0 in
+        let now = kept_linked chunks rule n link.0 link.1 (numbered chunks rule link.0
+        (lawful_before chunks rule history link.0 (entries.Linked link.1) lawful link.2))
+        (lawful_at chunks rule history link.0 (entries.Linked link.1) lawful link.2) link.3.0 in
         record {
           before = link.0;
           e = entries.Linked link.1;
@@ -87,12 +89,14 @@ module _ (site : Site) (rule : Rule) (class : ClassNo) (chunks : ℕ) (stripe : 
             let room : did.room ≡ rooms.At (link_to class n) = pair.room ∙ ap (λ (m : ℕ). rooms.At (link_to class m)) is.0 in
             let may = legal_at site stripe partner.0 (items.Did did) legal partner.2 in
             let of_key : key_of did.command ≡ key = sym pair.key ∙ is.1 in
-            let there = held_at (key_of did.command) (item_after site (partner.0 ++ items.Did did ∷ []) (key_of did.command)) (link_to class n) e.cost _ pair.item (with_link site partner.0 did (link_to class n) may room) in
+            let there = held_at (key_of did.command) (item_after site (partner.0 ++ items.Did did ∷ []) (key_of did.command)) (link_to class n) e.cost _
+            pair.item (with_link site partner.0 did (link_to class n) may room) in
             record {
               before = partner.0;
               e = items.Did did;
               stands = partner.2;
-              was = λ h. stripes.held_named site key (link_to class n) cost partner.0 (legal_before site stripe partner.0 (items.Did did) legal partner.2) h (stripes.link_new site partner.0 did (link_to class n) may room);
+              was = λ h. stripes.held_named site key (link_to class n) cost partner.0 (legal_before site stripe partner.0 (items.Did did) legal partner.2) h
+                  (stripes.link_new site partner.0 did (link_to class n) may room);
               now =
                   subst (λ (k : List ℕ). holds site k (partner.0 ++ items.Did did ∷ []) ≡ Some (link_to class n, e.cost)) of_key there
                   ∙ ap (λ (c : ℕ). Some (link_to class n, c)) is.2;
@@ -127,14 +131,18 @@ module _ (site : Site) (rule : Rule) (class : ClassNo) (chunks : ℕ) (stripe : 
             → HasLossTrace site class history before lost cause → Turns Kept NotKept history
         lost_so before lost (Taken other place) s was is partner =
             let e = partner.1 in
-            let number : e.number ≡ n = same_some class e.number n (sym partner.3.item ∙ subst (λ (k : List ℕ). link_of_item (item_after site before k) ≡ Some (link_to class n)) (sym is) (held_link key (item_after site before key) (link_to class n) cost was)) in
+            let number : e.number ≡ n = same_some class e.number n (sym partner.3.item
+            ∙ subst (λ (k : List ℕ). link_of_item (item_after site before k) ≡ Some (link_to class n)) (sym is)
+            (held_link key (item_after site before key) (link_to class n) cost was)) in
             let may = lawful_at chunks rule history partner.0 (entries.Evicted e) lawful partner.2 in
             let inv = numbered chunks rule partner.0 (lawful_before chunks rule history partner.0 (entries.Evicted e) lawful partner.2) in
             class_ends before (items.Lost lost) partner.0 (entries.Evicted e) s partner.2 was number
             (in_cold n (lists_of partner.0) (find n (lists_of partner.0).cold) refl (subst (λ m. IsSome (find m (lists_of partner.0).cold)) number may.0) (inv.once n))
         lost_so before lost (Expired moment) s was is partner =
             let e = partner.1 in
-            let number : e.number ≡ n = same_some class e.number n (sym partner.3.item ∙ subst (λ (k : List ℕ). link_of_item (item_after site before k) ≡ Some (link_to class n)) (sym is) (held_link key (item_after site before key) (link_to class n) cost was)) in
+            let number : e.number ≡ n = same_some class e.number n (sym partner.3.item
+            ∙ subst (λ (k : List ℕ). link_of_item (item_after site before k) ≡ Some (link_to class n)) (sym is)
+            (held_link key (item_after site before key) (link_to class n) cost was)) in
             let may = lawful_at chunks rule history partner.0 (entries.Reclaimed e) lawful partner.2 in
             class_ends before (items.Lost lost) partner.0 (entries.Reclaimed e) s partner.2 was number
             (listed_by n (lists_of partner.0) (found n (lists_of partner.0)) refl (subst (λ m. IsSome (found m (lists_of partner.0))) number may))

@@ -89,7 +89,8 @@ module _ (chunks : ℕ) (rule : Rule) where
       ]
 
   -- a number's entry has one key at all times
-  one_key : (n : ℕ) (h b1 : List ClassEvent) (e1 : ClassEvent) (s t : Seg) (x y : Entry) → IsLawfulHistoryByLists chunks rule h → Stands h b1 e1 → found n (lists_of b1) ≡ Some (s, x) → found n (lists_of h) ≡ Some (t, y) → x.key ≡ y.key
+  one_key : (n : ℕ) (h b1 : List ClassEvent) (e1 : ClassEvent) (s t : Seg) (x y : Entry) → IsLawfulHistoryByLists chunks rule h → Stands h b1 e1
+      → found n (lists_of b1) ≡ Some (s, x) → found n (lists_of h) ≡ Some (t, y) → x.key ≡ y.key
   one_key n h b1 e1 s t x y lawful at there now =
       let first = was_linked chunks rule n x.key x.cost b1 (lawful_before chunks rule h b1 e1 lawful at) (kept_by n b1 s x there) in
       let second = was_linked chunks rule n y.key y.cost h lawful (kept_by n h t y now) in

@@ -85,7 +85,8 @@ module _ (site : Site) (stripe : List StripeEvent) (legal : IsLegal site stripe)
   one_giver rule class first second did other e s t p q = (given_once first second did other (link_to class e.number) s t p.room q.room).0
 
   -- what an item holds of a link it holds from the one event that gave it
-  one_holder : (link : Link) (b1 b2 : List StripeEvent) (e1 e2 : StripeEvent) (k1 k2 : List ℕ) (c1 c2 : ℕ) → Stands stripe b1 e1 → Stands stripe b2 e2 → holds site k1 b1 ≡ Some (link, c1) → holds site k2 b2 ≡ Some (link, c2)
+  one_holder : (link : Link) (b1 b2 : List StripeEvent) (e1 e2 : StripeEvent) (k1 k2 : List ℕ) (c1 c2 : ℕ) → Stands stripe b1 e1 → Stands stripe b2 e2
+      → holds site k1 b1 ≡ Some (link, c1) → holds site k2 b2 ≡ Some (link, c2)
       → (k1 ≡ k2) × (c1 ≡ c2)
   one_holder link b1 b2 e1 e2 k1 k2 c1 c2 s1 s2 h1 h2 =
       let g1 = was_given site k1 link c1 b1 (legal_before site stripe b1 e1 legal s1) h1 in
@@ -121,7 +122,8 @@ module _ (site : Site) (stripe : List StripeEvent) (legal : IsLegal site stripe)
       let one = one_holder link first second (items.Did did) (items.Did other) key (key_of other.command) old.0 new.0 s t old.1 new.1 in
       let now : holds site key second ≡ Some (link, old.0) =
       subst (λ (k : List ℕ). holds site k second ≡ Some (link, old.0)) (sym one.0) (new.1 ∙ ap (λ (c : ℕ). Some (link, c)) (sym one.1)) in
-      lasts (NotHeld site key link old.0) (Held site key link old.0) (which_held site key link old.0) (held_apart site key link old.0) (λ k. none_some k) second (held_once site key link old.0 second (legal_before site stripe second (items.Did other) legal t)) now
+      lasts (NotHeld site key link old.0) (Held site key link old.0) (which_held site key link old.0) (held_apart site key link old.0) (λ k. none_some k) second
+      (held_once site key link old.0 second (legal_before site stripe second (items.Did other) legal t)) now
       record {
         before = first;
         e = items.Did did;

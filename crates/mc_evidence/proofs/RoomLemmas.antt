@@ -27,10 +27,12 @@ new_entry site rule class number stripe did may room = by (item_after site (stri
       room = room;
       key = refl;
       moment = refl;
-      item = subst (λ (x : Option Item). IsSomeAnd x (λ y. (cost_of (key_of did.command) item.value ≡ cost_of (key_of did.command) y.value) × (segment_for rule did.moment item.expiry ≡ segment_for rule did.moment y.expiry))) (sym (is ∙ some)) (refl, refl);
+      item = subst (λ (x : Option Item). IsSomeAnd x (λ y. (cost_of (key_of did.command) item.value ≡ cost_of (key_of did.command) y.value)
+          × (segment_for rule did.moment item.expiry ≡ segment_for rule did.moment y.expiry))) (sym (is ∙ some)) (refl, refl);
     }
 
-    by : (o : Option Item) → item_after site (stripe ++ items.Did did ∷ []) (key_of did.command) ≡ o → IsSomeAnd o (λ item. item.link ≡ link_to class number) → IsSomeAnd o (λ item. IsLinking site rule class stripe did (linked_for rule number did item))
+    by : (o : Option Item) → item_after site (stripe ++ items.Did did ∷ []) (key_of did.command) ≡ o → IsSomeAnd o (λ item. item.link ≡ link_to class number)
+        → IsSomeAnd o (λ item. IsLinking site rule class stripe did (linked_for rule number did item))
     by None is h = absurd h
     by (Some item) is h = there (Some item) item is refl
 
@@ -42,7 +44,8 @@ IsRefused room = (class : ClassNo) × (place : ℕ) × (room ≡ rooms.Refused c
 abbrev Refuses : List StripeEvent → Room → Row → Type 0
 Refuses before room row = Fits row.need room before → replies.NoRoom ≡ (row.answer room).reply → IsRefused room
 
-fresh_refuses : (before : List StripeEvent) (room : Room) (class : ClassNo) (reply : Reply) (version : Link → Item) (refused : Answer) → (reply ≡ replies.NoRoom → ⊥) → Refuses before room (fresh class reply version refused)
+fresh_refuses : (before : List StripeEvent) (room : Room) (class : ClassNo) (reply : Reply) (version : Link → Item) (refused : Answer)
+    → (reply ≡ replies.NoRoom → ⊥) → Refuses before room (fresh class reply version refused)
 fresh_refuses before (rooms.At link) class reply version refused other fits is = absurd (other (sym is))
 fresh_refuses before rooms.Keep class reply version refused other fits is = absurd fits
 fresh_refuses before (rooms.Refused c place) class reply version refused other fits is = (c, place, refl)
@@ -95,6 +98,7 @@ module _ (before : List StripeEvent) (room : Room) where
   row_refuses site n found (Delete key) moment = delete_refuses found
 
 -- a command that was answered that no chunk was found was refused one
-pub was_refused : (site : Site) (stripe : List StripeEvent) (did : Did) → MayDo site (cache_of site stripe) stripe did → did.reply ≡ replies.NoRoom → (class : ClassNo) × (place : ℕ) × (did.room ≡ rooms.Refused class place)
+pub was_refused : (site : Site) (stripe : List StripeEvent) (did : Did) → MayDo site (cache_of site stripe) stripe did → did.reply ≡ replies.NoRoom
+    → (class : ClassNo) × (place : ℕ) × (did.room ≡ rooms.Refused class place)
 was_refused site stripe did may reply =
     row_refuses stripe did.room site (cache_of site stripe).versions (item_after site stripe (key_of did.command)) did.command did.moment may.fits (sym reply ∙ may.reply)

@@ -33,7 +33,8 @@ module _ (sizes : List ℕ) (small : AreSmall sizes) where
   store_small key (Some class) (Cas unique) (Some item) version most =
       by_test (LeavesSmall key (Some item)) (item.cas == unique) _ _ (λ same link is. most class refl link) (λ link is. absurd is)
 
-  grown_small : (site : Site) (n : ℕ) (key : List ℕ) (item : Item) (number : ℕ) (class : Option ClassNo) → ((c : ClassNo) → class ≡ Some c → cost_of key (decimal number) ≤ 2 ^ 20) → LeavesSmall key (Some item) (grown_row site n item number class)
+  grown_small : (site : Site) (n : ℕ) (key : List ℕ) (item : Item) (number : ℕ) (class : Option ClassNo)
+      → ((c : ClassNo) → class ≡ Some c → cost_of key (decimal number) ≤ 2 ^ 20) → LeavesSmall key (Some item) (grown_row site n item number class)
   grown_small site n key item number None most = λ link is. absurd is
   grown_small site n key item number (Some class) most = λ link is. most class refl
 
@@ -79,7 +80,8 @@ module _ (site : Site) (small : AreSmall site.sizes) where
 
 -- ---- readers
 
-reader_link : (site : Site) (n : ℕ) (found : Option Item) (command : Command) (moment : ℕ) (room : Room) → IsReader command → link_of_item (changed found ((row_of site n found command moment).answer room).change) ≡ link_of_item found
+reader_link : (site : Site) (n : ℕ) (found : Option Item) (command : Command) (moment : ℕ) (room : Room) → IsReader command
+    → link_of_item (changed found ((row_of site n found command moment).answer room).change) ≡ link_of_item found
 reader_link site n None (Get key) moment room is = refl
 reader_link site n (Some item) (Get key) moment room is = refl
 reader_link site n found (Store verb key flags exptime value) moment room is = absurd is

@@ -31,7 +31,8 @@ listed n l P some each = by (found n l) refl some
 
 module _ (setting : Setting) (stripes : ℕ → List StripeEvent) (some : 0 < setting.stripes) (class : ClassNo) where
   -- what each stripe tells of a class's event the store tells
-  suits : (behind : List ClassEvent) (e : ClassEvent) → ((s : ℕ) → s < setting.stripes → IsSuited (site_in setting s) class (stripes s) behind e) → IsNumbered behind → IsLawfulByLists (setting.chunks class) setting.rule behind e
+  suits : (behind : List ClassEvent) (e : ClassEvent) → ((s : ℕ) → s < setting.stripes → IsSuited (site_in setting s) class (stripes s) behind e)
+      → IsNumbered behind → IsLawfulByLists (setting.chunks class) setting.rule behind e
       → SuitsItem class (cited_of setting stripes) behind e
   suits behind (entries.Linked e) each inv may = tt
   suits behind (entries.Unlinked e) each inv may = tt
@@ -68,7 +69,8 @@ locks_sound setting stripes classes seen seen_of some stripes_keep classes_keep 
   lawful = λ class is.
       let lawful = (classes_keep class is).lawful in
       lawful_whole setting stripes some class [] (classes class)
-      (λ before e there. suits setting stripes some class before e (λ s of. suited s class of is before e there) (numbered (setting.chunks class) setting.rule before (lawful_before (setting.chunks class) setting.rule (classes class) before e lawful there))
+      (λ before e there. suits setting stripes some class before e (λ s of. suited s class of is before e there)
+      (numbered (setting.chunks class) setting.rule before (lawful_before (setting.chunks class) setting.rule (classes class) before e lawful there))
       (lawful_at (setting.chunks class) setting.rule (classes class) before e lawful there))
       lawful;
   once = λ class is. (classes_keep class is).once;

@@ -59,4 +59,5 @@ stripe_story = items.Did (set_of 97 0) ∷ items.Did (set_of 98 1) ∷ lost_to f
 -- the class's history: before its third entry the first goes to COLD, and is evicted there
 abbrev pub class_story : List ClassEvent
 class_story =
-    entries.Linked (entry_of_set 97 0) ∷ entries.Linked (entry_of_set 98 1) ∷ entries.Shifted forced ∷ evicted_as (turn 2) 0 [] 2 ∷ entries.Linked (entry_of_set 99 2) ∷ []
+    entries.Linked (entry_of_set 97 0) ∷ entries.Linked (entry_of_set 98 1) ∷ entries.Shifted forced ∷ evicted_as (turn 2) 0 [] 2
+    ∷ entries.Linked (entry_of_set 99 2) ∷ []

@@ -24,7 +24,8 @@ abbrev pub SeesMore : {K E : Type 0} → (K → List E) → (K → List E) → T
 SeesMore {K = K} seen more = (k : K) → IsPrefix (seen k) (more k)
 
 -- a stripe and a class that are lent together: each lock keeps what it keeps, and has seen a beginning of the other's history
-pub record AreLentTogether (setting : Setting) (s : ℕ) (class : ClassNo) (stripe : List StripeEvent) (history : List ClassEvent) (seen : ClassNo → List ClassEvent) (seen_of : ℕ → List StripeEvent) : Type 0 where
+pub record AreLentTogether (setting : Setting) (s : ℕ) (class : ClassNo) (stripe : List StripeEvent) (history : List ClassEvent) (seen : ClassNo
+    → List ClassEvent) (seen_of : ℕ → List StripeEvent) : Type 0 where
   pub of : s < setting.stripes
   pub is : IsClass setting class
   pub stripe_keeps : StripeKeeps setting s stripe seen
@@ -33,14 +34,16 @@ pub record AreLentTogether (setting : Setting) (s : ℕ) (class : ClassNo) (stri
   pub saw_of : IsPrefix (seen_of s) stripe
 
 -- a stripe's and a class's lock keep what they keep, and come to see no less of the others
-pub record AreHeld (setting : Setting) (s : ℕ) (class : ClassNo) (stripe : List StripeEvent) (history : List ClassEvent) (seen more : ClassNo → List ClassEvent) (seen_of more_of : ℕ → List StripeEvent) : Type 0 where
+pub record AreHeld (setting : Setting) (s : ℕ) (class : ClassNo) (stripe : List StripeEvent) (history : List ClassEvent) (seen more : ClassNo
+    → List ClassEvent) (seen_of more_of : ℕ → List StripeEvent) : Type 0 where
   pub stripe_keeps : StripeKeeps setting s stripe seen
   pub class_keeps : ClassKeeps setting class history seen_of
   pub grows : SeesMore seen more
   pub grows_of : SeesMore seen_of more_of
 
 -- both locks keep what they keep after an event of each, where each is told the other's whole history
-abbrev pub KeepBoth : Setting → ℕ → ClassNo → List StripeEvent → List ClassEvent → StripeEvent → ClassEvent → (ClassNo → List ClassEvent) → (ℕ → List StripeEvent) → Type 0
+abbrev pub KeepBoth : Setting → ℕ → ClassNo → List StripeEvent → List ClassEvent → StripeEvent → ClassEvent → (ClassNo → List ClassEvent)
+    → (ℕ → List StripeEvent) → Type 0
 KeepBoth setting s class stripe history e x more more_of =
     more class ≡ history ++ x ∷ [] → more_of s ≡ stripe ++ e ∷ []
     → StripeKeeps setting s (stripe ++ e ∷ []) more × ClassKeeps setting class (history ++ x ∷ []) more_of

@@ -16,4 +16,5 @@ pub record IsSoundStore (setting : Setting) (stripes : ℕ → List StripeEvent)
   pub legal : (s : ℕ) → s < setting.stripes → IsLegal (site_in setting s) (stripes s)
   pub lawful : (class : ClassNo) → IsClass setting class → IsLawfulHistory class (setting.chunks class) setting.rule (cited_of setting stripes) (classes class)
   pub once : (class : ClassNo) → IsClass setting class → Each ClearsOnce (classes class)
-  pub evidence : (s : ℕ) (class : ClassNo) → s < setting.stripes → IsClass setting class → AreEvidence (site_in setting s) setting.rule class (stripes s) (classes class)
+  pub evidence : (s : ℕ) (class : ClassNo) → s < setting.stripes → IsClass setting class
+      → AreEvidence (site_in setting s) setting.rule class (stripes s) (classes class)

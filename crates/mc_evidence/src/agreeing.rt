@@ -14,13 +14,16 @@ ghost use Rattle.mc_evidence.specs.Made.{IsGivenNone, IsRefusedThere, LetsNoneGo
 /// Each outcome of a judgement: an eviction or a reclaiming with its loss, a move that clears a mark with its cooling, and
 /// a move that clears none.
 pub fn a_judgement_keeps_agreement()
-    ensures evicted { (site : Site) (rule : Rule) (class : ClassNo) (stripe : List StripeEvent) (history : List ClassEvent) → Agree site rule class stripe history
+    ensures evicted { (site : Site) (rule : Rule) (class : ClassNo) (stripe : List StripeEvent) (history : List ClassEvent)
+        → Agree site rule class stripe history
         → (who : Who) (key passed : List ℕ) (number : ℕ) → Belong site class stripe history key number
         → Agree site rule class (stripe ++ lost_to class who key (length history) ∷ []) (history ++ evicted_as who number passed (length stripe) ∷ []) }
-    ensures reclaimed { (site : Site) (rule : Rule) (class : ClassNo) (stripe : List StripeEvent) (history : List ClassEvent) → Agree site rule class stripe history
+    ensures reclaimed { (site : Site) (rule : Rule) (class : ClassNo) (stripe : List StripeEvent) (history : List ClassEvent)
+        → Agree site rule class stripe history
         → (who : Who) (key : List ℕ) (number moment : ℕ) → Belong site class stripe history key number → IsDead (item_after site stripe key) moment
         → Agree site rule class (stripe ++ lost_at who key moment ∷ []) (history ++ reclaimed_as who number moment (length stripe) ∷ []) }
-    ensures cooled { (site : Site) (rule : Rule) (class : ClassNo) (stripe : List StripeEvent) (history : List ClassEvent) → Agree site rule class stripe history
+    ensures cooled { (site : Site) (rule : Rule) (class : ClassNo) (stripe : List StripeEvent) (history : List ClassEvent)
+        → Agree site rule class stripe history
         → (chunks : ℕ) → IsLawfulHistoryByLists chunks rule history
         → (key : List ℕ) (e : Shifted) → ClearsMark e.why → e.at ≡ length stripe → Belong site class stripe history key e.number
         → IsSomeAnd (item_after site stripe key) (SuitsMove e.why e.moment) → IsKeyOf site key
@@ -36,15 +39,18 @@ pub fn a_command_keeps_agreement()
     ensures links { (site : Site) (rule : Rule) (class : ClassNo) (stripe : List StripeEvent) (history : List ClassEvent) → Agree site rule class stripe history
         → (did : Did) (e : Linked) → IsLinking site rule class stripe did e → LetsNoneGo site class stripe did
         → Agree site rule class (stripe ++ items.Did did ∷ []) (history ++ entries.Linked e ∷ []) }
-    ensures unlinks { (site : Site) (rule : Rule) (class : ClassNo) (stripe : List StripeEvent) (history : List ClassEvent) → Agree site rule class stripe history
+    ensures unlinks { (site : Site) (rule : Rule) (class : ClassNo) (stripe : List StripeEvent) (history : List ClassEvent)
+        → Agree site rule class stripe history
         → (did : Did) (x : Unlinked) → IsUnlinking site class stripe did x → IsEntryOf history x.number (key_of did.command)
         → IsGivenNone class did → IsRefusedThere class did history
         → Agree site rule class (stripe ++ items.Did did ∷ []) (history ++ entries.Unlinked x ∷ []) }
-    ensures replaces { (site : Site) (rule : Rule) (class : ClassNo) (stripe : List StripeEvent) (history : List ClassEvent) → Agree site rule class stripe history
+    ensures replaces { (site : Site) (rule : Rule) (class : ClassNo) (stripe : List StripeEvent) (history : List ClassEvent)
+        → Agree site rule class stripe history
         → (did : Did) (e : Linked) (x : Unlinked) → IsLinking site rule class stripe did e → IsUnlinking site class stripe did x
         → IsEntryOf (history ++ entries.Linked e ∷ []) x.number (key_of did.command)
         → Agree site rule class (stripe ++ items.Did did ∷ []) ((history ++ entries.Linked e ∷ []) ++ entries.Unlinked x ∷ []) }
-    ensures neither { (site : Site) (rule : Rule) (class : ClassNo) (stripe : List StripeEvent) (history : List ClassEvent) → Agree site rule class stripe history
+    ensures neither { (site : Site) (rule : Rule) (class : ClassNo) (stripe : List StripeEvent) (history : List ClassEvent)
+        → Agree site rule class stripe history
         → (did : Did) → IsGivenNone class did → LetsNoneGo site class stripe did → IsRefusedThere class did history
         → Agree site rule class (stripe ++ items.Did did ∷ []) history }
 {}
@@ -52,8 +58,10 @@ pub fn a_command_keeps_agreement()
 /// Histories without events agree, and each survey and each refusal of the class keeps agreement.
 pub fn agreement_begins_and_outlasts_surveys()
     ensures begins { (site : Site) (rule : Rule) (class : ClassNo) → Agree site rule class [] [] }
-    ensures surveyed { (site : Site) (rule : Rule) (class : ClassNo) (stripe : List StripeEvent) (history : List ClassEvent) → Agree site rule class stripe history
+    ensures surveyed { (site : Site) (rule : Rule) (class : ClassNo) (stripe : List StripeEvent) (history : List ClassEvent)
+        → Agree site rule class stripe history
         → (e : Surveyed) → Agree site rule class stripe (history ++ entries.Surveyed e ∷ []) }
-    ensures refused { (site : Site) (rule : Rule) (class : ClassNo) (stripe : List StripeEvent) (history : List ClassEvent) → Agree site rule class stripe history
+    ensures refused { (site : Site) (rule : Rule) (class : ClassNo) (stripe : List StripeEvent) (history : List ClassEvent)
+        → Agree site rule class stripe history
         → (e : Refused) → Agree site rule class stripe (history ++ entries.Refused e ∷ []) }
 {}

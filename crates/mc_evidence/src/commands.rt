@@ -13,7 +13,8 @@ ghost use Rattle.mc_evidence.specs.{Made.linked_for, Small.AreSmall, Small.IsRea
 pub fn the_new_entry_is_a_partner()
     ensures { (site : Site) (rule : Rule) (class : ClassNo) (number : ℕ) (stripe : List StripeEvent) (did : Did)
         → MayDo site (cache_of site stripe) stripe did → did.room ≡ rooms.At (link_to class number)
-        → IsSomeAnd (item_after site (stripe ++ items.Did did ∷ []) (key_of did.command)) (λ item. IsLinking site rule class stripe did (linked_for rule number did item)) }
+        → IsSomeAnd (item_after site (stripe ++ items.Did did ∷ []) (key_of did.command))
+        (λ item. IsLinking site rule class stripe did (linked_for rule number did item)) }
 {}
 
 /// What has a class of a checked configuration costs at most 2^20 bytes.
@@ -37,7 +38,8 @@ pub fn new_numbers_are_unnamed()
 /// A command that reads, or that finds no item, takes no link away.
 pub fn readers_spare_links()
     ensures reads { (site : Site) (stripe : List StripeEvent) (did : Did) (link : Link) → IsReader did.command → LetsGo site stripe did link → ⊥ }
-    ensures absent { (site : Site) (stripe : List StripeEvent) (did : Did) (link : Link) → item_after site stripe (key_of did.command) ≡ None → LetsGo site stripe did link → ⊥ }
+    ensures absent { (site : Site) (stripe : List StripeEvent) (did : Did) (link : Link) → item_after site stripe (key_of did.command) ≡ None
+        → LetsGo site stripe did link → ⊥ }
 {}
 
 /// A command that was answered that no chunk was found was refused one.

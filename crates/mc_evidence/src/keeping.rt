@@ -12,10 +12,12 @@ ghost use Rattle.mc_evidence.specs.Made.{IsAlone, IsGivenNone, IsRefusedThere, L
 
 /// An eviction or a reclaiming, with its loss.
 pub fn a_loss_keeps_evidence()
-    ensures evicted { (site : Site) (rule : Rule) (class : ClassNo) (stripe : List StripeEvent) (history : List ClassEvent) → AreEvidence site rule class stripe history
+    ensures evicted { (site : Site) (rule : Rule) (class : ClassNo) (stripe : List StripeEvent) (history : List ClassEvent)
+        → AreEvidence site rule class stripe history
         → (who : Who) (key passed : List ℕ) (number : ℕ) → Belong site class stripe history key number
         → AreEvidence site rule class (stripe ++ lost_to class who key (length history) ∷ []) (history ++ evicted_as who number passed (length stripe) ∷ []) }
-    ensures reclaimed { (site : Site) (rule : Rule) (class : ClassNo) (stripe : List StripeEvent) (history : List ClassEvent) → AreEvidence site rule class stripe history
+    ensures reclaimed { (site : Site) (rule : Rule) (class : ClassNo) (stripe : List StripeEvent) (history : List ClassEvent)
+        → AreEvidence site rule class stripe history
         → (who : Who) (key : List ℕ) (number moment : ℕ) → Belong site class stripe history key number
         → AreEvidence site rule class (stripe ++ lost_at who key moment ∷ []) (history ++ reclaimed_as who number moment (length stripe) ∷ []) }
 {}
@@ -29,18 +31,22 @@ pub fn a_cooling_keeps_evidence()
 
 /// A command, as one class sees it: with a new entry there, with one that goes, with both, or with neither.
 pub fn a_command_keeps_evidence()
-    ensures links { (site : Site) (rule : Rule) (class : ClassNo) (stripe : List StripeEvent) (history : List ClassEvent) → AreEvidence site rule class stripe history
+    ensures links { (site : Site) (rule : Rule) (class : ClassNo) (stripe : List StripeEvent) (history : List ClassEvent)
+        → AreEvidence site rule class stripe history
         → (did : Did) (e : Linked) → IsLinking site rule class stripe did e → LetsNoneGo site class stripe did
         → AreEvidence site rule class (stripe ++ items.Did did ∷ []) (history ++ entries.Linked e ∷ []) }
-    ensures unlinks { (site : Site) (rule : Rule) (class : ClassNo) (stripe : List StripeEvent) (history : List ClassEvent) → AreEvidence site rule class stripe history
+    ensures unlinks { (site : Site) (rule : Rule) (class : ClassNo) (stripe : List StripeEvent) (history : List ClassEvent)
+        → AreEvidence site rule class stripe history
         → (did : Did) (x : Unlinked) → IsUnlinking site class stripe did x → IsEntryOf history x.number (key_of did.command)
         → IsGivenNone class did → IsRefusedThere class did history
         → AreEvidence site rule class (stripe ++ items.Did did ∷ []) (history ++ entries.Unlinked x ∷ []) }
-    ensures replaces { (site : Site) (rule : Rule) (class : ClassNo) (stripe : List StripeEvent) (history : List ClassEvent) → AreEvidence site rule class stripe history
+    ensures replaces { (site : Site) (rule : Rule) (class : ClassNo) (stripe : List StripeEvent) (history : List ClassEvent)
+        → AreEvidence site rule class stripe history
         → (did : Did) (e : Linked) (x : Unlinked) → IsLinking site rule class stripe did e → IsUnlinking site class stripe did x
         → IsEntryOf (history ++ entries.Linked e ∷ []) x.number (key_of did.command)
         → AreEvidence site rule class (stripe ++ items.Did did ∷ []) ((history ++ entries.Linked e ∷ []) ++ entries.Unlinked x ∷ []) }
-    ensures neither { (site : Site) (rule : Rule) (class : ClassNo) (stripe : List StripeEvent) (history : List ClassEvent) → AreEvidence site rule class stripe history
+    ensures neither { (site : Site) (rule : Rule) (class : ClassNo) (stripe : List StripeEvent) (history : List ClassEvent)
+        → AreEvidence site rule class stripe history
         → (did : Did) → IsGivenNone class did → LetsNoneGo site class stripe did → IsRefusedThere class did history
         → AreEvidence site rule class (stripe ++ items.Did did ∷ []) history }
 {}

@@ -24,13 +24,15 @@ pub fn locks_begin()
 
 /// A stripe and a class that are lent together are evidence of each other.
 pub fn lent_states_are_evidence()
-    ensures { (setting : Setting) (s : ℕ) (class : ClassNo) (stripe : List StripeEvent) (history : List ClassEvent) (seen : ClassNo → List ClassEvent) (seen_of : ℕ → List StripeEvent)
+    ensures { (setting : Setting) (s : ℕ) (class : ClassNo) (stripe : List StripeEvent) (history : List ClassEvent) (seen : ClassNo
+        → List ClassEvent) (seen_of : ℕ → List StripeEvent)
         → AreLentTogether setting s class stripe history seen seen_of → AreEvidence (site_in setting s) setting.rule class stripe history }
 {}
 
 /// An entry of a class that is lent with its key's stripe is no stranger: the stripe's item has its link and its cost.
 pub fn a_judged_entry_is_no_stranger()
-    ensures { (setting : Setting) (s : ℕ) (class : ClassNo) (stripe : List StripeEvent) (history : List ClassEvent) (seen : ClassNo → List ClassEvent) (seen_of : ℕ → List StripeEvent)
+    ensures { (setting : Setting) (s : ℕ) (class : ClassNo) (stripe : List StripeEvent) (history : List ClassEvent) (seen : ClassNo
+        → List ClassEvent) (seen_of : ℕ → List StripeEvent)
         → AreLentTogether setting s class stripe history seen seen_of
         → (number : ℕ) (seg : Seg) (entry : Entry) → found number (lists_of history) ≡ Some (seg, entry) → IsKeyOf (site_in setting s) entry.key
         → HasItem (site_in setting s) class stripe number entry }
@@ -39,18 +41,21 @@ pub fn a_judged_entry_is_no_stranger()
 /// Each outcome of a judgement: an eviction or a reclaiming with its loss, a move that clears a mark with its cooling
 /// (where the class had seen no more of the stripe than there was), and a move that clears none.
 pub fn a_judgement_keeps_both_locks()
-    ensures evicted { (setting : Setting) (s : ℕ) (class : ClassNo) (stripe : List StripeEvent) (history : List ClassEvent) (seen more : ClassNo → List ClassEvent) (seen_of more_of : ℕ → List StripeEvent)
+    ensures evicted { (setting : Setting) (s : ℕ) (class : ClassNo) (stripe : List StripeEvent) (history : List ClassEvent) (seen more : ClassNo
+        → List ClassEvent) (seen_of more_of : ℕ → List StripeEvent)
         → AreHeld setting s class stripe history seen more seen_of more_of
         → (who : Who) (key passed : List ℕ) (number : ℕ) → Belong (site_in setting s) class stripe history key number → IsKeyOf (site_in setting s) key
         → IsLawfulByLists (setting.chunks class) setting.rule history (evicted_as who number passed (length stripe))
         → KeepBoth setting s class stripe history (lost_to class who key (length history)) (evicted_as who number passed (length stripe)) more more_of }
-    ensures reclaimed { (setting : Setting) (s : ℕ) (class : ClassNo) (stripe : List StripeEvent) (history : List ClassEvent) (seen more : ClassNo → List ClassEvent) (seen_of more_of : ℕ → List StripeEvent)
+    ensures reclaimed { (setting : Setting) (s : ℕ) (class : ClassNo) (stripe : List StripeEvent) (history : List ClassEvent) (seen more : ClassNo
+        → List ClassEvent) (seen_of more_of : ℕ → List StripeEvent)
         → AreHeld setting s class stripe history seen more seen_of more_of
         → (who : Who) (key : List ℕ) (number moment : ℕ) → Belong (site_in setting s) class stripe history key number
         → IsDead (item_after (site_in setting s) stripe key) moment → IsKeyOf (site_in setting s) key
         → IsLawfulByLists (setting.chunks class) setting.rule history (reclaimed_as who number moment (length stripe))
         → KeepBoth setting s class stripe history (lost_at who key moment) (reclaimed_as who number moment (length stripe)) more more_of }
-    ensures cooled { (setting : Setting) (s : ℕ) (class : ClassNo) (stripe : List StripeEvent) (history : List ClassEvent) (seen more : ClassNo → List ClassEvent) (seen_of more_of : ℕ → List StripeEvent)
+    ensures cooled { (setting : Setting) (s : ℕ) (class : ClassNo) (stripe : List StripeEvent) (history : List ClassEvent) (seen more : ClassNo
+        → List ClassEvent) (seen_of more_of : ℕ → List StripeEvent)
         → AreHeld setting s class stripe history seen more seen_of more_of
         → s < setting.stripes → IsPrefix (seen_of s) stripe
         → (key : List ℕ) (e : Shifted) → ClearsMark e.why → e.at ≡ length stripe → Belong (site_in setting s) class stripe history key e.number
@@ -58,7 +63,8 @@ pub fn a_judgement_keeps_both_locks()
         → IsSomeAnd (item_after (site_in setting s) stripe key) (SuitsMove e.why e.moment) → IsKeyOf (site_in setting s) key
         → IsLawfulByLists (setting.chunks class) setting.rule history (entries.Shifted e)
         → KeepBoth setting s class stripe history (cooled_as e.who key) (entries.Shifted e) more more_of }
-    ensures moved { (setting : Setting) (s : ℕ) (class : ClassNo) (stripe : List StripeEvent) (history : List ClassEvent) (seen_of more_of : ℕ → List StripeEvent)
+    ensures moved { (setting : Setting) (s : ℕ) (class : ClassNo) (stripe : List StripeEvent) (history : List ClassEvent) (seen_of more_of : ℕ
+        → List StripeEvent)
         → ClassKeeps setting class history seen_of → SeesMore seen_of more_of
         → (key : List ℕ) (e : Shifted) → (ClearsMark e.why → ⊥) → e.at ≡ length stripe → Belong (site_in setting s) class stripe history key e.number
         → IsSomeAnd (item_after (site_in setting s) stripe key) (SuitsMove e.why e.moment) → IsKeyOf (site_in setting s) key
@@ -69,41 +75,50 @@ pub fn a_judgement_keeps_both_locks()
 /// A command keeps what its stripe keeps, told by the classes of its new link, of the one that it takes away, and of its
 /// refusal.
 pub fn a_command_keeps_its_stripe()
-    ensures { (setting : Setting) (s : ℕ) (stripe : List StripeEvent) (seen more : ClassNo → List ClassEvent) → StripeKeeps setting s stripe seen → SeesMore seen more
+    ensures { (setting : Setting) (s : ℕ) (stripe : List StripeEvent) (seen more : ClassNo → List ClassEvent) → StripeKeeps setting s stripe seen
+        → SeesMore seen more
         → (did : Did) → MayDo (site_in setting s) (cache_of (site_in setting s) stripe) stripe did
-        → ((link : Link) → did.room ≡ rooms.At link → Has entries.Linked (more link.class) (λ behind e. IsLinking (site_in setting s) setting.rule link.class stripe did e))
-        → ((link : Link) → LetsGo (site_in setting s) stripe did link → Has entries.Unlinked (more link.class) (λ behind e. IsUnlinking (site_in setting s) link.class stripe did e))
+        → ((link : Link) → did.room ≡ rooms.At link
+        → Has entries.Linked (more link.class) (λ behind e. IsLinking (site_in setting s) setting.rule link.class stripe did e))
+        → ((link : Link) → LetsGo (site_in setting s) stripe did link → Has entries.Unlinked (more link.class)
+        (λ behind e. IsUnlinking (site_in setting s) link.class stripe did e))
         → ((c : ClassNo) (place : ℕ) → did.room ≡ rooms.Refused c place → Has entries.Refused (more c) (λ behind e. IsRefusal c did behind e))
         → StripeKeeps setting s (stripe ++ items.Did did ∷ []) more }
 {}
 
 /// A command's events in a class keep what the class keeps, told by the command's stripe; so do surveys and refusals.
 pub fn a_command_keeps_its_classes()
-    ensures linked { (setting : Setting) (s : ℕ) (class : ClassNo) (stripe : List StripeEvent) (history : List ClassEvent) (seen_of more_of : ℕ → List StripeEvent)
+    ensures linked { (setting : Setting) (s : ℕ) (class : ClassNo) (stripe : List StripeEvent) (history : List ClassEvent) (seen_of more_of : ℕ
+        → List StripeEvent)
         → ClassKeeps setting class history seen_of → SeesMore seen_of more_of
         → (did : Did) (e : Linked) → IsLinking (site_in setting s) setting.rule class stripe did e → IsKeyOf (site_in setting s) e.key
         → IsLawfulByLists (setting.chunks class) setting.rule history (entries.Linked e)
         → more_of s ≡ stripe ++ items.Did did ∷ [] → ClassKeeps setting class (history ++ entries.Linked e ∷ []) more_of }
-    ensures unlinked { (setting : Setting) (s : ℕ) (class : ClassNo) (stripe : List StripeEvent) (history : List ClassEvent) (seen_of more_of : ℕ → List StripeEvent)
+    ensures unlinked { (setting : Setting) (s : ℕ) (class : ClassNo) (stripe : List StripeEvent) (history : List ClassEvent) (seen_of more_of : ℕ
+        → List StripeEvent)
         → ClassKeeps setting class history seen_of → SeesMore seen_of more_of
         → (did : Did) (e : Unlinked) → IsUnlinking (site_in setting s) class stripe did e → IsEntryOf history e.number (key_of did.command)
         → IsKeyOf (site_in setting s) (key_of did.command) → IsLawfulByLists (setting.chunks class) setting.rule history (entries.Unlinked e)
         → more_of s ≡ stripe ++ items.Did did ∷ [] → ClassKeeps setting class (history ++ entries.Unlinked e ∷ []) more_of }
     ensures surveyed { (setting : Setting) (class : ClassNo) (history : List ClassEvent) (seen_of more_of : ℕ → List StripeEvent)
         → ClassKeeps setting class history seen_of → SeesMore seen_of more_of
-        → (e : Surveyed) → IsLawfulByLists (setting.chunks class) setting.rule history (entries.Surveyed e) → ClassKeeps setting class (history ++ entries.Surveyed e ∷ []) more_of }
+        → (e : Surveyed) → IsLawfulByLists (setting.chunks class) setting.rule history (entries.Surveyed e)
+        → ClassKeeps setting class (history ++ entries.Surveyed e ∷ []) more_of }
     ensures refused { (setting : Setting) (class : ClassNo) (history : List ClassEvent) (seen_of more_of : ℕ → List StripeEvent)
         → ClassKeeps setting class history seen_of → SeesMore seen_of more_of
-        → (e : Refused) → IsLawfulByLists (setting.chunks class) setting.rule history (entries.Refused e) → ClassKeeps setting class (history ++ entries.Refused e ∷ []) more_of }
+        → (e : Refused) → IsLawfulByLists (setting.chunks class) setting.rule history (entries.Refused e)
+        → ClassKeeps setting class (history ++ entries.Refused e ∷ []) more_of }
 {}
 
 /// A command that replaces an item by one of the same class: its new entry, then its old one.
 pub fn a_replacement_keeps_both_locks()
-    ensures { (setting : Setting) (s : ℕ) (class : ClassNo) (stripe : List StripeEvent) (history : List ClassEvent) (seen more : ClassNo → List ClassEvent) (seen_of more_of : ℕ → List StripeEvent)
+    ensures { (setting : Setting) (s : ℕ) (class : ClassNo) (stripe : List StripeEvent) (history : List ClassEvent) (seen more : ClassNo
+        → List ClassEvent) (seen_of more_of : ℕ → List StripeEvent)
         → AreHeld setting s class stripe history seen more seen_of more_of
         → (did : Did) (e : Linked) (x : Unlinked) → MayDo (site_in setting s) (cache_of (site_in setting s) stripe) stripe did
         → IsLinking (site_in setting s) setting.rule class stripe did e → IsUnlinking (site_in setting s) class stripe did x
         → IsEntryOf history x.number (key_of did.command) → IsLawfulByLists (setting.chunks class) setting.rule history (entries.Linked e)
         → more class ≡ (history ++ entries.Linked e ∷ []) ++ entries.Unlinked x ∷ [] → more_of s ≡ stripe ++ items.Did did ∷ []
-        → StripeKeeps setting s (stripe ++ items.Did did ∷ []) more × ClassKeeps setting class ((history ++ entries.Linked e ∷ []) ++ entries.Unlinked x ∷ []) more_of }
+        → StripeKeeps setting s (stripe ++ items.Did did ∷ []) more
+        × ClassKeeps setting class ((history ++ entries.Linked e ∷ []) ++ entries.Unlinked x ∷ []) more_of }
 {}

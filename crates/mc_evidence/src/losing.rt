@@ -16,7 +16,8 @@ pub fn between_commands_items_only_go()
 /// An item that was there and is gone, with no command between, was lost in between: it was dead at the loss's moment, or
 /// its entry was evicted by the same call, as the loss says, near COLD's tail in a full class.
 pub fn each_loss_has_its_cause()
-    ensures { (site : Site) (rule : Rule) (chunks : ClassNo → ℕ) (classes : ClassNo → List ClassEvent) (before between later : List StripeEvent) (key : List ℕ) (item : Item)
+    ensures { (site : Site) (rule : Rule) (chunks : ClassNo → ℕ) (classes : ClassNo
+        → List ClassEvent) (before between later : List StripeEvent) (key : List ℕ) (item : Item)
         → IsLegal site (before ++ (between ++ later)) → AreNoCommands between
         → AreEvidence site rule item.link.class (before ++ (between ++ later)) (classes item.link.class)
         → IsLawfulHistoryByLists (chunks item.link.class) rule (classes item.link.class)
@@ -26,7 +27,8 @@ pub fn each_loss_has_its_cause()
 
 /// An item that never dies stays, the same but for its marks, while no command stands between and its class is never full.
 pub fn a_living_item_stays_while_chunks_are_free()
-    ensures { (site : Site) (rule : Rule) (chunks : ClassNo → ℕ) (classes : ClassNo → List ClassEvent) (before between later : List StripeEvent) (key : List ℕ) (item : Item)
+    ensures { (site : Site) (rule : Rule) (chunks : ClassNo → ℕ) (classes : ClassNo
+        → List ClassEvent) (before between later : List StripeEvent) (key : List ℕ) (item : Item)
         → IsLegal site (before ++ (between ++ later)) → AreNoCommands between
         → AreEvidence site rule item.link.class (before ++ (between ++ later)) (classes item.link.class)
         → IsLawfulHistoryByLists (chunks item.link.class) rule (classes item.link.class)

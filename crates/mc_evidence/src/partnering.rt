@@ -30,7 +30,8 @@ pub fn no_mark_is_cleared_again()
 /// No eviction is cited by two losses of a stripe.
 pub fn no_eviction_is_cited_twice()
     ensures { (site : Site) (rule : Rule) (class : ClassNo) (stripe : List StripeEvent) (history : List ClassEvent) → AreEvidence site rule class stripe history
-        → (first second : List StripeEvent) (lost other : Lost) (n m place : ℕ) → Stands stripe first (items.Lost lost) → Stands stripe second (items.Lost other)
+        → (first second : List StripeEvent) (lost other : Lost) (n m place : ℕ) → Stands stripe first (items.Lost lost)
+        → Stands stripe second (items.Lost other)
         → lost.cause ≡ Taken class place → other.cause ≡ Taken class place
         → link_of_item (item_after site first lost.key) ≡ Some (link_to class n) → link_of_item (item_after site second other.key) ≡ Some (link_to class m)
         → first ≡ second }
@@ -38,24 +39,30 @@ pub fn no_eviction_is_cited_twice()
 
 /// The cited item of a reclaimed entry was dead, and that of a hit was ACTIVE: their partners tell it.
 pub fn cited_items_of_partners_suit()
-    ensures reclaimed { (site : Site) (rule : Rule) (class : ClassNo) (stripe : List StripeEvent) → IsLegal site stripe → (behind : List ClassEvent) (e : Reclaimed)
+    ensures reclaimed { (site : Site) (rule : Rule) (class : ClassNo) (stripe : List StripeEvent) → IsLegal site stripe
+        → (behind : List ClassEvent) (e : Reclaimed)
         → IsBacked site rule class stripe behind (entries.Reclaimed e) → IsSuited site class stripe behind (entries.Reclaimed e) }
-    ensures hit { (site : Site) (rule : Rule) (class : ClassNo) (stripe : List StripeEvent) → IsLegal site stripe → (behind : List ClassEvent) (e : Shifted) → e.why ≡ Hit
+    ensures hit { (site : Site) (rule : Rule) (class : ClassNo) (stripe : List StripeEvent) → IsLegal site stripe
+        → (behind : List ClassEvent) (e : Shifted) → e.why ≡ Hit
         → IsBacked site rule class stripe behind (entries.Shifted e) → IsSuited site class stripe behind (entries.Shifted e) }
 {}
 
 /// Two events of a class that are partners of one event of a stripe are one.
 pub fn a_class_event_is_the_only_partner()
-    ensures linked { (site : Site) (rule : Rule) (class : ClassNo) (before : List StripeEvent) (history first second : List ClassEvent) (chunks : ℕ) → IsLawfulHistoryByLists chunks rule history
+    ensures linked { (site : Site) (rule : Rule) (class : ClassNo) (before : List StripeEvent) (history first second : List ClassEvent) (chunks : ℕ)
+        → IsLawfulHistoryByLists chunks rule history
         → (did : Did) (e x : Linked) → Stands history first (entries.Linked e) → Stands history second (entries.Linked x)
         → IsLinking site rule class before did e → IsLinking site rule class before did x → first ≡ second }
-    ensures unlinked { (site : Site) (rule : Rule) (class : ClassNo) (before : List StripeEvent) (history first second : List ClassEvent) (chunks : ℕ) → IsLawfulHistoryByLists chunks rule history
+    ensures unlinked { (site : Site) (rule : Rule) (class : ClassNo) (before : List StripeEvent) (history first second : List ClassEvent) (chunks : ℕ)
+        → IsLawfulHistoryByLists chunks rule history
         → (did : Did) (e x : Unlinked) → Stands history first (entries.Unlinked e) → Stands history second (entries.Unlinked x)
         → IsUnlinking site class before did e → IsUnlinking site class before did x → first ≡ second }
-    ensures evicted { (site : Site) (rule : Rule) (class : ClassNo) (before : List StripeEvent) (history first second : List ClassEvent) (chunks : ℕ) → IsLawfulHistoryByLists chunks rule history
+    ensures evicted { (site : Site) (rule : Rule) (class : ClassNo) (before : List StripeEvent) (history first second : List ClassEvent) (chunks : ℕ)
+        → IsLawfulHistoryByLists chunks rule history
         → (lost : Lost) (e x : Evicted) → Stands history first (entries.Evicted e) → Stands history second (entries.Evicted x)
         → IsEviction site class before lost first e → IsEviction site class before lost second x → first ≡ second }
-    ensures reclaimed { (site : Site) (rule : Rule) (class : ClassNo) (before : List StripeEvent) (history first second : List ClassEvent) (chunks : ℕ) → IsLawfulHistoryByLists chunks rule history
+    ensures reclaimed { (site : Site) (rule : Rule) (class : ClassNo) (before : List StripeEvent) (history first second : List ClassEvent) (chunks : ℕ)
+        → IsLawfulHistoryByLists chunks rule history
         → (lost : Lost) (e x : Reclaimed) → Stands history first (entries.Reclaimed e) → Stands history second (entries.Reclaimed x)
         → IsReclaiming site class before lost e → IsReclaiming site class before lost x → first ≡ second }
     ensures shifted { (site : Site) (class : ClassNo) (before : List StripeEvent) (history first second : List ClassEvent) → Each ClearsOnce history
@@ -69,10 +76,12 @@ pub fn a_class_event_is_the_only_partner()
 /// Two events of a stripe that are partners of one event of a class are one; but for a refusal, which says no more than
 /// whose call it was.
 pub fn a_stripe_event_is_the_only_partner()
-    ensures linked { (site : Site) (rule : Rule) (class : ClassNo) (stripe : List StripeEvent) → IsLegal site stripe → (first second : List StripeEvent) (did other : Did) (e : Linked)
+    ensures linked { (site : Site) (rule : Rule) (class : ClassNo) (stripe : List StripeEvent)
+        → IsLegal site stripe → (first second : List StripeEvent) (did other : Did) (e : Linked)
         → Stands stripe first (items.Did did) → Stands stripe second (items.Did other)
         → IsLinking site rule class first did e → IsLinking site rule class second other e → first ≡ second }
-    ensures unlinked { (site : Site) (class : ClassNo) (stripe : List StripeEvent) → IsLegal site stripe → (first second : List StripeEvent) (did other : Did) (e : Unlinked)
+    ensures unlinked { (site : Site) (class : ClassNo) (stripe : List StripeEvent)
+        → IsLegal site stripe → (first second : List StripeEvent) (did other : Did) (e : Unlinked)
         → Stands stripe first (items.Did did) → Stands stripe second (items.Did other)
         → IsUnlinking site class first did e → IsUnlinking site class second other e → first ≡ second }
     ensures evicted { (site : Site) (class : ClassNo) (stripe first second : List StripeEvent) (behind : List ClassEvent) (lost other : Lost) (e : Evicted)

@@ -30,7 +30,8 @@ pub fn a_pass_that_saw_it_has_the_partners()
 /// Where each list that a token has seen is a beginning of another's, so is each stripe's and each class's history in it;
 /// and what a lock was told of its own events is its history.
 pub fn seen_lists_show_histories()
-    ensures classes { (stripes : ℕ) (a b : ℕ → List Event) → ((lock : ℕ) → IsPrefix (a lock) (b lock)) → SeesMore (classes_seen stripes a) (classes_seen stripes b) }
+    ensures classes { (stripes : ℕ) (a b : ℕ → List Event) → ((lock : ℕ) → IsPrefix (a lock) (b lock))
+        → SeesMore (classes_seen stripes a) (classes_seen stripes b) }
     ensures stripes { (a b : ℕ → List Event) → ((lock : ℕ) → IsPrefix (a lock) (b lock)) → SeesMore (stripes_seen a) (stripes_seen b) }
     ensures own_class { (es : List ClassEvent) → class_events (map Class es) ≡ es }
     ensures own_stripe { (es : List StripeEvent) → stripe_events (map Stripe es) ≡ es }

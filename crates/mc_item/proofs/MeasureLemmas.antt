@@ -48,7 +48,8 @@ too_large digits i n at is large =
     none_for_large digits (omega (arith, step, grows, is))
 
 -- where nothing is left, the number is read
-pub all_read : (digits : List ℕ) (i n : ℕ) → 0 < length digits → length digits ≤ i → number_from n (drop i digits) ≡ number_from 0 digits → list_all is_digit (drop i digits) ≡ list_all is_digit digits → n < 2 ^ 64 → Some n ≡ number_in digits
+pub all_read : (digits : List ℕ) (i n : ℕ) → 0 < length digits → length digits ≤ i → number_from n (drop i digits) ≡ number_from 0 digits
+    → list_all is_digit (drop i digits) ≡ list_all is_digit digits → n < 2 ^ 64 → Some n ≡ number_in digits
 all_read digits i n some end is all small =
     let same = sym (at_drop_all (number_from n) digits i end) ∙ is in
     let each = sym all ∙ at_drop_all (list_all is_digit) digits i end in
@@ -89,5 +90,6 @@ numeral_is_number value digits rest front back few spaces =
     let all : list_all is_digit digits ≡ true = ap (list_all is_digit) front ∙ front_digits value in
     let least : nat_le (length digits) 20 ≡ true = le-leb (length digits) 20 few in
     let left : list_all (λ byte. byte == 32) (drop (length digits) value) ≡ true = ap (list_all (λ byte. byte == 32)) (sym back) ∙ spaces in
-    tests (nat_lt 0 (length digits)) (list_all is_digit digits) (nat_le (length digits) 20) (nat_lt (number_of digits) (2 ^ 64)) (list_all (λ byte. byte == 32) (drop (length digits) value)) (Some (number_of digits)) all least left
+    tests (nat_lt 0 (length digits)) (list_all is_digit digits) (nat_le (length digits) 20) (nat_lt (number_of digits) (2 ^ 64))
+    (list_all (λ byte. byte == 32) (drop (length digits) value)) (Some (number_of digits)) all least left
     ∙ ap (λ (t : List ℕ). if nat_lt 0 (length t) && nat_le (length t) 20 && nat_lt (number_of t) (2 ^ 64) && list_all (λ byte. byte == 32) (drop (length t) value) then Some (number_of t) else None) front

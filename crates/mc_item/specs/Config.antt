@@ -1,5 +1,6 @@
 -- Configurations: which are sound, and the usual one (own).
-use Rattle.std.specs.Prelude.{ℕ, ◌+◌, ◌*◌, ◌/◌, ◌^◌, ◌<◌, ◌≤◌, ◌==◌, ◌&&◌, ◌||◌, List, [], ◌∷◌, Bool, true, not, nat_le, nat_lt, if◌then◌else◌, Option, Some, None, length, replicate, zero, suc}
+use Rattle.std.specs.Prelude.{ℕ, ◌+◌, ◌*◌, ◌/◌, ◌^◌, ◌<◌, ◌≤◌, ◌==◌, ◌&&◌, ◌||◌, List, [], ◌∷◌, Bool, true, not, nat_le, nat_lt, if◌then◌else◌, Option, Some}
+use Rattle.std.specs.Prelude.{None, length, replicate, zero, suc}
 use Rattle.std.specs.Prelude.{false, ◌≡◌}
 use Rattle.std.specs.List.{All, list_all}
 use Rattle.mc_item.specs.declared.{config.Config.Config, config.ConfigFault.ConfigFault}

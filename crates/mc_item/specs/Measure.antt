@@ -1,5 +1,6 @@
 -- How large an item is, which slab class holds it, which stripe has its key, and which values are numbers.
-use Rattle.std.specs.Prelude.{ℕ, ◌+◌, ◌-◌, ◌*◌, ◌%◌, ◌^◌, ◌<◌, ◌≤◌, ◌&&◌, List, [], ◌∷◌, Bool, nat_le, nat_lt, if◌then◌else◌, Option, Some, None, length, get_or, drop, position, fold, take_while, bit_xor, ◌==◌}
+use Rattle.std.specs.Prelude.{ℕ, ◌+◌, ◌-◌, ◌*◌, ◌%◌, ◌^◌, ◌<◌, ◌≤◌, ◌&&◌, List, [], ◌∷◌, Bool, nat_le, nat_lt, if◌then◌else◌, Option, Some, None, length}
+use Rattle.std.specs.Prelude.{get_or, drop, position, fold, take_while, bit_xor, ◌==◌}
 use Rattle.std.specs.{List.list_all, Option.option_map}
 use Rattle.mc_item.specs.declared.{answer.Need.Need, item.ClassNo.ClassNo, item.StripeNo.StripeNo}
 use Rattle.mc_item.specs.declared.answer.Need.TheVariants.{Nothing, Same, Fresh, TooLarge}

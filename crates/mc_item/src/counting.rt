@@ -247,7 +247,8 @@ impl Site {
         room: Room,
     ) -> Result<Answer, NoMemory>
         requires cas { answers.cas_of self.now versions < 2 ^ 64 }
-        requires known { IfSome known (λ class. (answers.count_row self.now versions key.now (answers.stepped step) (option_copied found)).need ≡ needs.Fresh class) }
+        requires known { IfSome known (λ class. (answers.count_row self.now versions key.now (answers.stepped step) (option_copied found)).need
+            ≡ needs.Fresh class) }
         ensures { IfOk result (λ a. a ≡ (answers.count_row self.now versions key.now (answers.stepped step) (option_copied found.entry)).answer room) }
     {
         match found {

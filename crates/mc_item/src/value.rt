@@ -41,7 +41,8 @@ impl Held {
     // in memory of their own; else nothing changes.
     #[inline(always)]
     fn put_padded(&mut self, text: &[u8]) -> bool
-        ensures done { result ≡ true → (length text.now ≤ length (held_bytes self.old)) × (held_bytes self.new ≡ text.now ++ replicate (length (held_bytes self.old) - length text.now) 32) }
+        ensures done { result ≡ true → (length text.now ≤ length (held_bytes self.old))
+            × (held_bytes self.new ≡ text.now ++ replicate (length (held_bytes self.old) - length text.now) 32) }
         ensures same { result ≡ false → held_bytes self.new ≡ held_bytes self.old }
     {
         match self {

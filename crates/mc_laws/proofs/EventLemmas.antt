@@ -107,7 +107,8 @@ pub read_back : (site : Site) (before between : List StripeEvent) (set got : Did
     → got.reply ≡ replies.Value flags value (cas_of site (cache_of site before).versions)
 read_back site before between set got key flags exptime value is_set stored others is_get legal =
     let first = legal_on site empty_cache [] before (events.Did set ∷ (between ++ events.Did got ∷ [])) legal in
-    let stored_row : ((store_row (class_of site.sizes (cost_of key value)) Set ((cache_of site before).items key) (version_of site (cache_of site before).versions flags value (expiry_of exptime set.moment))).answer set.room).reply ≡ replies.Stored =
+    let stored_row : ((store_row (class_of site.sizes (cost_of key value)) Set ((cache_of site before).items key)
+    (version_of site (cache_of site before).versions flags value (expiry_of exptime set.moment))).answer set.room).reply ≡ replies.Stored =
     ap (λ (c : Command). (answer_of site (cache_of site before) c set.moment set.room).reply) (sym is_set) ∙ sym first.0.reply ∙ stored in
     let left = set_leaves (class_of site.sizes (cost_of key value)) ((cache_of site before).items key) (version_of site (cache_of site before).versions flags value (expiry_of exptime set.moment)) set.room stored_row in
     let there : (cache_after site (cache_of site before) (events.Did set)).items key ≡ Some (version_of site (cache_of site before).versions flags value (expiry_of exptime set.moment) left.0) =

@@ -28,5 +28,6 @@ pub fn cooling_shows_nothing()
         → let warm = cache_from site cache later in
         let cool = cache_from site (cache_after site cache (events.Cooled cooled)) later in
         ((answer_of site cool command moment room).reply ≡ (answer_of site warm command moment room).reply)
-        × ((row_of site cool.versions (cool.items (key_of command)) command moment).need ≡ (row_of site warm.versions (warm.items (key_of command)) command moment).need) }
+        × ((row_of site cool.versions (cool.items (key_of command)) command moment).need
+        ≡ (row_of site warm.versions (warm.items (key_of command)) command moment).need) }
 {}

@@ -1,5 +1,6 @@
 -- Which numbers the parts between a text's commas spell, and which list they are.
-use Rattle.std.proofs.Common.{◌≡◌, ◌≤◌, ◌<◌, ℕ, ◌+◌, ◌^◌, Bool, true, false, ◌&&◌, cond, eqb, nat_lt, List, [], ◌∷◌, ◌++◌, Some, None, Option, length, map, drop, get_or, refl, subst, sym, ap, ◌∙◌, ◌⊎◌, inl, inr, append-nil, arith}
+use Rattle.std.proofs.Common.{◌≡◌, ◌≤◌, ◌<◌, ℕ, ◌+◌, ◌^◌, Bool, true, false, ◌&&◌, cond, eqb, nat_lt, List, [], ◌∷◌, ◌++◌, Some, None, Option, length, map}
+use Rattle.std.proofs.Common.{drop, get_or, refl, subst, sym, ap, ◌∙◌, ◌⊎◌, inl, inr, append-nil, arith}
 use Rattle.std.proofs.lemmas.{Bool.Decides.nat_tests, Bool.cases_lt, List.at_drop_all, List.drop_more}
 use Rattle.std.proofs.lemmas.List.Splits.{slice_split_none, slice_split_at, slice_split_first}
 use Rattle.std.proofs.lemmas.List.Sums.{AllPass-from_list_all, split_at_first, fails_before_first, passes_at_first}
@@ -89,7 +90,8 @@ not_numbers (m ∷ ms) [] behind is = cc
 not_numbers (m ∷ ms) (n ∷ ns) behind is = not_numbers ms ns behind (cc)
 
 -- what a part adds to the numbers before it
-next_part : (numbers : List ℕ) (parts : List (List ℕ)) (i : ℕ) (part : List ℕ) → i < length parts → part ≡ get_or parts i part → map Some numbers ++ map number_in (drop i parts) ≡ map Some numbers ++ number_in part ∷ map number_in (drop (i + 1) parts)
+next_part : (numbers : List ℕ) (parts : List (List ℕ)) (i : ℕ) (part : List ℕ) → i < length parts → part ≡ get_or parts i part
+    → map Some numbers ++ map number_in (drop i parts) ≡ map Some numbers ++ number_in part ∷ map number_in (drop (i + 1) parts)
 next_part numbers parts i part at is =
     ap (λ t. map Some numbers ++ map number_in t) (drop_more parts i part at)
     ∙ ap (λ (t : List ℕ). map Some numbers ++ number_in t ∷ map number_in (drop (i + 1) parts)) (sym is)
@@ -100,7 +102,9 @@ pushed [] n os = refl
 pushed (m ∷ ms) n os = ap (λ (t : List (Option ℕ)). Some m ∷ t) (pushed ms n os)
 
 -- the numbers so far, with the next part's
-pub part_read : (before after : List ℕ) (parts : List (List ℕ)) (i j : ℕ) (part : List ℕ) (n : ℕ) → i < length parts → part ≡ get_or parts i part → number_in part ≡ Some n → after ≡ before ++ n ∷ [] → j ≡ i + 1 → map Some before ++ map number_in (drop i parts) ≡ map number_in parts → map Some after ++ map number_in (drop j parts) ≡ map number_in parts
+pub part_read : (before after : List ℕ) (parts : List (List ℕ)) (i j : ℕ) (part : List ℕ) (n : ℕ) → i < length parts → part ≡ get_or parts i part
+    → number_in part ≡ Some n → after ≡ before ++ n ∷ [] → j ≡ i + 1 → map Some before ++ map number_in (drop i parts) ≡ map number_in parts
+    → map Some after ++ map number_in (drop j parts) ≡ map number_in parts
 part_read before after parts i j part n at is spells more next so_far =
     ap (λ (t : List ℕ). map Some t ++ map number_in (drop j parts)) more
     ∙ ap (λ (t : ℕ). map Some (before ++ n ∷ []) ++ map number_in (drop t parts)) next
@@ -110,14 +114,18 @@ part_read before after parts i j part n at is spells more next so_far =
     ∙ so_far
 
 -- where a part spells no number, the text is no list
-pub part_refused : (numbers text : List ℕ) (i : ℕ) (part : List ℕ) → (i < length (slice_split (λ b. eqb b 44) text)) × (part ≡ get_or (slice_split (λ b. eqb b 44) text) i part) → number_in part ≡ None → map Some numbers ++ map number_in (drop i (slice_split (λ b. eqb b 44) text)) ≡ map number_in (slice_split (λ b. eqb b 44) text) → IsNoList text
+pub part_refused : (numbers text : List ℕ) (i : ℕ) (part : List ℕ) → (i < length (slice_split (λ b. eqb b 44) text))
+    × (part ≡ get_or (slice_split (λ b. eqb b 44) text) i part) → number_in part ≡ None
+    → map Some numbers ++ map number_in (drop i (slice_split (λ b. eqb b 44) text)) ≡ map number_in (slice_split (λ b. eqb b 44) text) → IsNoList text
 part_refused numbers text i part at none so_far =
     λ others list.
     let behind = map number_in (drop (i + 1) (slice_split (λ b. eqb b 44) text)) in
-    not_numbers numbers others behind (ap (λ (o : Option ℕ). map Some numbers ++ o ∷ behind) (sym none) ∙ sym (next_part numbers (slice_split (λ b. eqb b 44) text) i part at.0 at.1) ∙ so_far ∙ parts_of_list others text list)
+    not_numbers numbers others behind (ap (λ (o : Option ℕ). map Some numbers ++ o ∷ behind) (sym none)
+    ∙ sym (next_part numbers (slice_split (λ b. eqb b 44) text) i part at.0 at.1) ∙ so_far ∙ parts_of_list others text list)
 
 -- where no part is left, the text is a list of the numbers
-pub parts_read : (numbers text : List ℕ) (i : ℕ) → length (slice_split (λ b. eqb b 44) text) ≤ i → map Some numbers ++ map number_in (drop i (slice_split (λ b. eqb b 44) text)) ≡ map number_in (slice_split (λ b. eqb b 44) text) → IsListOf text numbers
+pub parts_read : (numbers text : List ℕ) (i : ℕ) → length (slice_split (λ b. eqb b 44) text) ≤ i
+    → map Some numbers ++ map number_in (drop i (slice_split (λ b. eqb b 44) text)) ≡ map number_in (slice_split (λ b. eqb b 44) text) → IsListOf text numbers
 parts_read numbers text i end so_far =
     list_of_parts numbers text (sym so_far ∙ ap (λ (t : List (Option ℕ)). map Some numbers ++ t) (at_drop_all (map number_in) (slice_split (λ b. eqb b 44) text) i end) ∙ append-nil (map Some numbers))
 

@@ -53,7 +53,8 @@ upkeep_rule = record (new_rule (codes "upkeep")) { long = Some (codes "upkeep");
 -- the command `mcseg`: these options and a version
 unfoldable pub mcseg : App
 mcseg =
-    with_rule (with_rule (with_rule (with_rule (with_rule (with_rule (with_rule (record { top = record (new_app (codes "mcseg")).top { has_version = true }; subs = [] })
+    with_rule (with_rule (with_rule (with_rule
+    (with_rule (with_rule (with_rule (record { top = record (new_app (codes "mcseg")).top { has_version = true }; subs = [] })
     stripes_rule) sizes_rule) chunks_rule) temp_rule) temp_ttl_rule) events_rule) upkeep_rule
 
 -- the kinds of refusal that the words earn; none where the command takes them

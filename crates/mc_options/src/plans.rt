@@ -2,7 +2,8 @@
 ghost use Rattle.std.specs.Prelude.{◌≡◌, ℕ, List, IfOk, Err, Option, None, MatchOption};
 ghost use Rattle.std.specs.{Bool.Decides, Option.option_copied, Option.option_map};
 ghost use Rattle.mc_item.specs.Config.{fault_of};
-ghost use Rattle.mc_options.specs.Asked.{AreMoments, AreMomentsNamed, AreNamed, IsBadList, IsFault, IsListOf, IsNoList, NamesNoMoments, NamesNone, asked, fault_number};
+ghost use Rattle.mc_options.specs.Asked.{AreMoments, AreMomentsNamed, AreNamed, IsBadList, IsFault, IsListOf, IsNoList, NamesNoMoments, NamesNone, asked};
+ghost use Rattle.mc_options.specs.Asked.{fault_number};
 ghost use Rattle.mc_options.specs.declared.plans.PlanFault.TheVariants as faults;
 
 use mc_item::{Config, ConfigFault, NoMemory, Numbers, number_of};
@@ -195,7 +196,8 @@ pub fn plan_for(
     upkeep: Option<&[u8]>,
     options: Options,
 ) -> Result<Plan, PlanFault>
-    ensures ok { IfOk result (λ plan. (numbers : Option (List ℕ)) × AreNamed (option_copied sizes.entry) numbers × (plan.config ≡ asked numbers options) × (fault_of plan.config ≡ None)
+    ensures ok { IfOk result (λ plan. (numbers : Option (List ℕ)) × AreNamed (option_copied sizes.entry) numbers × (plan.config ≡ asked numbers options)
+        × (fault_of plan.config ≡ None)
         × AreMomentsNamed (option_copied upkeep.entry) plan.upkeep) }
     ensures list { result ≡ Err faults.List → IsBadList (option_copied sizes.entry) (option_copied upkeep.entry) }
     ensures configuration { (n : ℕ) → result ≡ Err (faults.Configuration n)

@@ -193,7 +193,8 @@ pub fn read_words(alloc: Global, words: &[&str]) -> Result<Plan, WordsFault>
     ensures list { result ≡ Err words_faults.List
         → (refusals (texts words.now) ≡ []) × IsBadList (sizes_in (texts words.now)) (upkeep_in (texts words.now)) }
     ensures configuration { (n : ℕ) → result ≡ Err (words_faults.Configuration n) → (refusals (texts words.now) ≡ [])
-        × ((sizes : Option (List ℕ)) × (upkeep : List ℕ) × (options : Options) × AreAsked (texts words.now) sizes upkeep options × IsFault n (asked sizes options)) }
+        × ((sizes : Option (List ℕ)) × (upkeep : List ℕ) × (options : Options) × AreAsked (texts words.now) sizes upkeep options
+        × IsFault n (asked sizes options)) }
 {
     let matches = command_of(alloc)?.try_get_matches_from(words)?;
     let sizes = matches.get_str("sizes").map(|text| text.as_bytes());

@@ -9,7 +9,8 @@ use Rattle.mc_proto.specs.declared.splitting.First.TheVariants as firsts
 use Rattle.mc_proto.proofs.{FirstLineLemmas.none_alone, ScriptCutLemmas.whole_on}
 
 -- no line ends in what comes
-pub none_ahead : (limits : Limits) (coming front : List ℕ) (o : Option First) (more : List ℕ) → coming ≡ front ++ more → (Lacks 10 front → length front ≤ 65536 → more ≡ []) → LineAsks limits front o → o ≡ None → AsksFirst limits coming firsts.Last
+pub none_ahead : (limits : Limits) (coming front : List ℕ) (o : Option First) (more : List ℕ) → coming ≡ front ++ more
+    → (Lacks 10 front → length front ≤ 65536 → more ≡ []) → LineAsks limits front o → o ≡ None → AsksFirst limits coming firsts.Last
 none_ahead limits coming front o more is all asks told =
     let none : LineAsks limits front None = subst (LineAsks limits front) told asks in
     let whole : coming ≡ front = is ∙ ap (λ t. front ++ t) (all none.0 none.1) ∙ append-nil front in
@@ -25,8 +26,10 @@ stays_on old coming new left whole n is rest all =
     ap (λ t. t ++ left) is ∙ ap (λ t. (old ++ take n coming) ++ t) rest ∙ append_assoc old (take n coming) (drop n coming) ∙ ap (λ t. old ++ t) (take-append-drop n coming) ∙ all
 
 -- the scripts of what lies behind a cut are, with the one before it, those of the whole
-pub cut_on : {S : Type 0} (limits : Limits) (old new : List S) (s : S) (bytes : S → List ℕ) (input stream script coming left : List ℕ) (n : ℕ) → ((ss : List (List ℕ)) → AreScripts limits stream ss → AreScripts limits input (map bytes old ++ ss))
-    → script ++ coming ≡ stream → IsWhole limits script → Spells limits (take n coming) Next → left ≡ drop n coming → bytes s ≡ script → new ≡ old ++ s ∷ [] → (ss : List (List ℕ)) → AreScripts limits left ss → AreScripts limits input (map bytes new ++ ss)
+pub cut_on : {S : Type 0} (limits : Limits) (old new : List S) (s : S) (bytes : S → List ℕ) (input stream script coming left : List ℕ) (n : ℕ)
+    → ((ss : List (List ℕ)) → AreScripts limits stream ss → AreScripts limits input (map bytes old ++ ss))
+    → script ++ coming ≡ stream → IsWhole limits script → Spells limits (take n coming) Next → left ≡ drop n coming → bytes s ≡ script → new ≡ old ++ s ∷ []
+    → (ss : List (List ℕ)) → AreScripts limits left ss → AreScripts limits input (map bytes new ++ ss)
 cut_on limits old new s bytes input stream script coming left n so all whole next rest taken pushed [] are = absurd are
 cut_on limits old new s bytes input stream script coming left n so all whole next rest taken pushed (t ∷ ss) are =
     let is : stream ≡ script ++ (take n coming ++ left) = sym all ∙ ap (λ u. script ++ u) (sym (take-append-drop n coming) ∙ ap (λ u. take n coming ++ u) (sym rest)) in

@@ -59,7 +59,8 @@ begins_before old new front back whole begun is = (
 )
 
 -- the part at a place stands between those before it and those behind it
-pub among : (parts : List TextPart) (i : ℕ) (part : TextPart) → i < length parts → get_or parts i part ≡ part → bytes_of_parts parts ≡ (bytes_of_parts (take i parts) ++ part_bytes part) ++ bytes_of_parts (drop (i + 1) parts)
+pub among : (parts : List TextPart) (i : ℕ) (part : TextPart) → i < length parts → get_or parts i part ≡ part
+    → bytes_of_parts parts ≡ (bytes_of_parts (take i parts) ++ part_bytes part) ++ bytes_of_parts (drop (i + 1) parts)
 among parts i part within is =
     ap (λ (ps : List TextPart). bytes_of_parts ps) (sym (take-append-drop (i + 1) parts))
     ∙ flat_map-append part_bytes (take (i + 1) parts) (drop (i + 1) parts)

@@ -39,7 +39,8 @@ stands_none limits (Skip s left) unread rest st op =
 stands_none limits Closed unread rest st op = absurd (cc)
 stands_none limits Failed unread rest st op = absurd st
 
-pub after_reads : (limits : Limits) (state : State) (unread stream : List ℕ) (requests : List Request) → After limits state unread stream requests → (rest : List ℕ) × Reads limits stream requests rest × StandsForRest limits state unread rest
+pub after_reads : (limits : Limits) (state : State) (unread stream : List ℕ) (requests : List Request) → After limits state unread stream requests
+    → (rest : List ℕ) × Reads limits stream requests rest × StandsForRest limits state unread rest
 after_reads limits state unread stream requests a =
     (a.rest, record { spelt = a.spelt; all = λ op. stands_none limits state unread a.rest a.stands (sym a.closed_is ∙ op) }, a.stands)
 

@@ -32,13 +32,15 @@ tested : {A : Type 0} (f : A → List ℕ) (xs : List A) (i : ℕ) (d : A) → i
     → list_all is_key (get_or (map f xs) i (f d) ∷ drop (i + 1) (map f xs)) ≡ list_all is_key (map f xs)
 tested f xs i d l at = sym (at_drop_more (list_all is_key) (map f xs) i (f d) (omega (arith, length-map xs f))) ∙ at
 
-pub keys_more : {A : Type 0} (f : A → List ℕ) (xs : List A) (i : ℕ) (d : A) → i < length xs → is_key (f (get_or xs i d)) ≡ true → list_all is_key (drop i (map f xs)) ≡ list_all is_key (map f xs) → list_all is_key (drop (i + 1) (map f xs)) ≡ list_all is_key (map f xs)
+pub keys_more : {A : Type 0} (f : A → List ℕ) (xs : List A) (i : ℕ) (d : A) → i < length xs → is_key (f (get_or xs i d)) ≡ true
+    → list_all is_key (drop i (map f xs)) ≡ list_all is_key (map f xs) → list_all is_key (drop (i + 1) (map f xs)) ≡ list_all is_key (map f xs)
 keys_more f xs i d l is at =
     let on : is_key (get_or (map f xs) i (f d)) ≡ true = ap is_key (get_or_map f xs i d) ∙ is in
     let t = tested f xs i d l at in
     rw on at t
 
-pub keys_end : {A : Type 0} (f : A → List ℕ) (xs : List A) (i : ℕ) (d : A) → i < length xs → is_key (f (get_or xs i d)) ≡ false → list_all is_key (drop i (map f xs)) ≡ list_all is_key (map f xs) → list_all is_key (map f xs) ≡ false
+pub keys_end : {A : Type 0} (f : A → List ℕ) (xs : List A) (i : ℕ) (d : A) → i < length xs → is_key (f (get_or xs i d)) ≡ false
+    → list_all is_key (drop i (map f xs)) ≡ list_all is_key (map f xs) → list_all is_key (map f xs) ≡ false
 keys_end f xs i d l is at =
     let off : is_key (get_or (map f xs) i (f d)) ≡ false = ap is_key (get_or_map f xs i d) ∙ is in
     let t = tested f xs i d l at in
@@ -57,5 +59,6 @@ refused_keys limits with_cas [] l h = absurd (omega arith)
 refused_keys limits with_cas (k ∷ ks) l h = rw h refl
 
 -- the same where the key of a token was asked for and is none
-pub keys_stop : {A : Type 0} (f : A → List ℕ) (xs : List A) (i : ℕ) (d : A) (key : Option (List ℕ)) → key ≡ key_of_token (f (get_or xs i d)) → key ≡ None → i < length xs → list_all is_key (drop i (map f xs)) ≡ list_all is_key (map f xs) → list_all is_key (map f xs) ≡ false
+pub keys_stop : {A : Type 0} (f : A → List ℕ) (xs : List A) (i : ℕ) (d : A) (key : Option (List ℕ)) → key ≡ key_of_token (f (get_or xs i d)) → key ≡ None
+    → i < length xs → list_all is_key (drop i (map f xs)) ≡ list_all is_key (map f xs) → list_all is_key (map f xs) ≡ false
 keys_stop f xs i d key is none l at = keys_end f xs i d l (key_none (f (get_or xs i d)) (sym none ∙ is)) at

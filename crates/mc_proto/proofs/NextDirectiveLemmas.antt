@@ -112,7 +112,8 @@ table_other limits =
 
 line_other : (limits : Limits) (line : List ℕ) → LacksNext line → says_next (says limits line) ≡ false
 line_other limits =
-    line_holds (λ s. says_next s ≡ false) (λ kind quiet. refl) refl limits LacksNext next_take (λ spaces token rest blank some lack. next_back spaces token (next_front false (spaces ++ token) rest lack)) (table_other limits)
+    line_holds (λ s. says_next s ≡ false) (λ kind quiet. refl) refl limits LacksNext next_take
+    (λ spaces token rest blank some lack. next_back spaces token (next_front false (spaces ++ token) rest lack)) (table_other limits)
 
 spelling_other : (limits : Limits) (bytes : List ℕ) (r : Request) → Spells limits bytes r → LacksNext bytes → IsOther r
 spelling_other limits bytes r (inl p) lack =

@@ -24,7 +24,8 @@ quiet_tokens quiet = if quiet then codes "noreply" ∷ [] else []
 pub behind_verb : (limits : Limits) (word line rest : List ℕ) (args : List (List ℕ)) → tokens line ≡ word ∷ tokens rest → tokens rest ≡ args → tokens_say limits (tokens line) ≡ tokens_say limits (word ∷ args)
 behind_verb limits word line rest args is behind = ap (tokens_say limits) (is ∙ ap (λ (ts : List (List ℕ)). word ∷ ts) behind)
 
-stored_row : (limits : Limits) (verb : Verb) (key k f e n : List ℕ) (flags count : ℕ) (x : ℤ) (quiet : Bool) → key_of_token k ≡ Some key → number_up_to 4294967295 f ≡ Some flags → exptime e ≡ Some x → number_up_to 2147483645 n ≡ Some count
+stored_row : (limits : Limits) (verb : Verb) (key k f e n : List ℕ) (flags count : ℕ) (x : ℤ) (quiet : Bool) → key_of_token k ≡ Some key
+    → number_up_to 4294967295 f ≡ Some flags → exptime e ≡ Some x → number_up_to 2147483645 n ≡ Some count
     → row_says limits (kinds.Key ∷ kinds.Flags ∷ kinds.Exptime ∷ kinds.Bytes ∷ []) Noreply (store limits verb) (k ∷ f ∷ e ∷ n ∷ quiet_tokens quiet)
     ≡ begun limits (record { verb = verb; key = key; flags = flags; exptime = x; count = count; quiet = quiet })
 stored_row limits verb key k f e n flags count x false a b c d = rw (a, b, c, d) refl

@@ -1,5 +1,6 @@
 -- Where a stream is cut into scripts.
-use Rattle.std.proofs.Common.{All, ◌≡◌, ◌++◌, ◌∷◌, [], ◌+◌, ◌<◌, ◌≤◌, ℕ, List, length, refl, ap, sym, ◌∙◌, arith, append_assoc, append-nil, take, drop, get_or, Bool, true, false, subst, inl, take-append-drop, length-drop}
+use Rattle.std.proofs.Common.{All, ◌≡◌, ◌++◌, ◌∷◌, [], ◌+◌, ◌<◌, ◌≤◌, ℕ, List, length, refl, ap, sym, ◌∙◌, arith, append_assoc, append-nil, take, drop, get_or}
+use Rattle.std.proofs.Common.{Bool, true, false, subst, inl, take-append-drop, length-drop}
 use Rattle.std.specs.Prelude.{if◌then◌else◌, nat_eq}
 use Rattle.std.specs.Cmp.Lexicographic.{pointwise}
 use Rattle.std.proofs.Math.Seq.{take-add}
@@ -218,7 +219,8 @@ cut_reads limits stream script rest end rs cut r =
       all = λ off. r.all (closed_behind cut.whole.requests (Next ∷ rs) cut.whole.reads_on off);
     })
 
-one_more : (limits : Limits) (stream script second rest : List ℕ) (ss : List (List ℕ)) (rss : List (List Request)) (end : List ℕ) → IsCutAtNext limits stream script rest → ReadAlone limits (second ∷ ss) rss end → Reads limits rest (with_next rss) end
+one_more : (limits : Limits) (stream script second rest : List ℕ) (ss : List (List ℕ)) (rss : List (List Request)) (end : List ℕ)
+    → IsCutAtNext limits stream script rest → ReadAlone limits (second ∷ ss) rss end → Reads limits rest (with_next rss) end
     → (all : List (List Request)) × (last : List ℕ) × ReadAlone limits (script ∷ second ∷ ss) all last × Reads limits stream (with_next all) last
 one_more limits stream script second rest ss [] end cut alone r = absurd alone
 one_more limits stream script second rest ss (rs ∷ rss) end cut alone r =

@@ -52,7 +52,8 @@ go_on limits q qs rs m n x y false is e lq lr sq sr hx hy more =
     more (λ f. hx (ap (λ (b : Bool). if b then true else closed qs) is ∙ f)) (λ f. hy (ap (λ (b : Bool). if b then true else closed rs) is ∙ f))
 
 -- the same of two readings
-same_readings : (limits : Limits) (stream other : List ℕ) (qs rs : List Request) (x y : List ℕ) → stream ≡ other → Spelt limits stream qs x → Spelt limits other rs y → (closed qs ≡ false → BeginsNone limits x) → (closed rs ≡ false → BeginsNone limits y) → (qs ≡ rs) × (x ≡ y)
+same_readings : (limits : Limits) (stream other : List ℕ) (qs rs : List Request) (x y : List ℕ) → stream ≡ other → Spelt limits stream qs x
+    → Spelt limits other rs y → (closed qs ≡ false → BeginsNone limits x) → (closed rs ≡ false → BeginsNone limits y) → (qs ≡ rs) × (x ≡ y)
 same_readings limits s o [] [] x y e p q hx hy = (refl, sym p ∙ e ∙ q)
 same_readings limits s o [] (r ∷ rs) x y e p q hx hy = absurd (hx refl q.0 q.1 r (sym p ∙ e ∙ q.2) q.3)
 same_readings limits s o (r ∷ rs) [] x y e p q hx hy = absurd (hy refl p.0 p.1 r (sym q ∙ sym e ∙ p.2) p.3)

@@ -41,7 +41,8 @@ line_step limits u stream rs b true is a =
     subst (λ (c : ℕ). Somewhere limits (stream ++ c ∷ [])) (sym (eqb-true b 10 is)) (lf_step limits u stream rs (says limits u) a refl)
 line_step limits u stream rs b false is a = line_byte limits u stream rs b a (eqb-false b 10 is) (cases_lt (length u) 65536)
 
-block_step : (limits : Limits) (u block stream : List ℕ) (rs : List Request) (s : Start) (b : ℕ) → After limits (Block s block) u stream rs → (length block + 1 < s.count + 2) ⊎ (s.count + 2 ≤ length block + 1) → Somewhere limits (stream ++ b ∷ [])
+block_step : (limits : Limits) (u block stream : List ℕ) (rs : List Request) (s : Start) (b : ℕ) → After limits (Block s block) u stream rs
+    → (length block + 1 < s.count + 2) ⊎ (s.count + 2 ≤ length block + 1) → Somewhere limits (stream ++ b ∷ [])
 block_step limits u block stream rs s b a (inl l) =
     (Block s (block ++ b ∷ []), [], rs, block_more limits u [] block stream (b ∷ []) rs s a (omega arith))
 block_step limits u block stream rs s b a (inr l) =
@@ -98,5 +99,6 @@ goes_on limits came whole more rest other (r ∷ rs) (q ∷ qs) is p t none =
     same_ahead limits r q rs qs (closes q) refl cut.2 p.4 t.4
     (λ stays. goes_on limits p.1 t.1 more rest other rs qs (sym cut.1) p.5 t.5 (λ f. none (ap (λ (b : Bool). if b then true else closed qs) stays ∙ f)))
 
-pub reading_on : (limits : Limits) (came more rest other : List ℕ) (requests all : List Request) → Spelt limits came requests rest → Reads limits (came ++ more) all other → (others : List Request) × (all ≡ requests ++ others)
+pub reading_on : (limits : Limits) (came more rest other : List ℕ) (requests all : List Request) → Spelt limits came requests rest
+    → Reads limits (came ++ more) all other → (others : List Request) × (all ≡ requests ++ others)
 reading_on limits came more rest other requests all p r = goes_on limits came (came ++ more) more rest other requests all refl p r.spelt r.all

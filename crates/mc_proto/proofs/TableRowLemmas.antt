@@ -54,7 +54,8 @@ module _ (P : Said → Type 0) (refused : (kind : Kind) (quiet : Bool) → P (ba
       rw not (rows_hold Q rows verb args more q)
 
   -- it holds of what a line says that begins so, where its front and its verb begin so too
-  module _ (Q : List ℕ → Type 0) (front : (n : ℕ) (line : List ℕ) → Q line → Q (take n line)) (verb : (spaces token rest : List ℕ) → AreSpaces spaces → 0 < length token → Q (spaces ++ token ++ rest) → Q token) (rows : HoldsOfRows P Q (table limits)) where
+  module _ (Q : List ℕ → Type 0) (front : (n : ℕ) (line : List ℕ) → Q line → Q (take n line)) (verb : (spaces token rest : List ℕ) → AreSpaces spaces
+      → 0 < length token → Q (spaces ++ token ++ rest) → Q token) (rows : HoldsOfRows P Q (table limits)) where
     tokens_hold : (line : List ℕ) (ts : List (List ℕ)) → AreTokens line ts → Q line → P (tokens_say limits ts)
     tokens_hold line [] made q = none
     tokens_hold line (t ∷ ts) made q = rows_hold Q (table limits) t ts rows (verb made.1.spaces t made.0 made.1.blank made.1.some (subst Q made.1.whole q))

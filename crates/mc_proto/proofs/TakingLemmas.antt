@@ -1,5 +1,6 @@
 -- What each part of a piece makes of the reading so far.
-use Rattle.std.proofs.Common.{◌≡◌, ◌++◌, ◌∷◌, [], ◌+◌, ◌<◌, ◌≤◌, ℕ, List, length, refl, ap, sym, ◌∙◌, arith, append_assoc, take, drop, get_or, Bool, true, false, subst, inl, inr, take-append-drop, append-nil, length-append, ◌-◌, length-drop}
+use Rattle.std.proofs.Common.{◌≡◌, ◌++◌, ◌∷◌, [], ◌+◌, ◌<◌, ◌≤◌, ℕ, List, length, refl, ap, sym, ◌∙◌, arith, append_assoc, take, drop, get_or, Bool, true}
+use Rattle.std.proofs.Common.{false, subst, inl, inr, take-append-drop, append-nil, length-append, ◌-◌, length-drop}
 use Rattle.std.specs.Prelude.{if◌then◌else◌, nat_eq, option_to_list}
 use Rattle.std.specs.Cmp.Lexicographic.{pointwise}
 use Rattle.std.proofs.Math.Seq.{take-add}
@@ -23,7 +24,8 @@ pub parts : (b c : Bool) → (if b then true else c) ≡ false → (b ≡ false)
 parts true c e = absurd (cc)
 parts false c e = (refl, e)
 
-pub spelt_push : (limits : Limits) (stream : List ℕ) (rs : List Request) (rest bytes more : List ℕ) (r : Request) → Spelt limits stream rs rest → closed rs ≡ false → rest ≡ bytes ++ more → Spells limits bytes r → Spelt limits stream (rs ++ r ∷ []) more
+pub spelt_push : (limits : Limits) (stream : List ℕ) (rs : List Request) (rest bytes more : List ℕ) (r : Request) → Spelt limits stream rs rest
+    → closed rs ≡ false → rest ≡ bytes ++ more → Spells limits bytes r → Spelt limits stream (rs ++ r ∷ []) more
 spelt_push limits stream [] rest bytes more r e c is sp = (bytes, more, e ∙ is, sp, λ h. refl, refl)
 spelt_push limits stream (q ∷ rs) rest bytes more r s c is sp =
     let two = parts (closes q) (closed rs) c in
@@ -95,7 +97,8 @@ is_line : (u piece : List ℕ) (end : ℕ) → Lacks 10 u → end < length piece
 is_line u piece end lu l lack short = record { one = lacks_both 10 u (take end piece) lu lack; short = omega (arith, length-append u (take end piece), length-take-le end piece (omega arith)) }
 
 -- a line that is a request, which may close the reader
-pub line_asks : (limits : Limits) (next : State) (u stream piece : List ℕ) (rs : List Request) (end : ℕ) (r : Request) → After limits Line u stream rs → end < length piece → get_or piece end 0 ≡ 10 → Lacks 10 (take end piece) → length u + end ≤ 65536
+pub line_asks : (limits : Limits) (next : State) (u stream piece : List ℕ) (rs : List Request) (end : ℕ) (r : Request) → After limits Line u stream rs
+    → end < length piece → get_or piece end 0 ≡ 10 → Lacks 10 (take end piece) → length u + end ≤ 65536
     → said.Whole r ≡ says limits (u ++ take end piece) → StandsForRest limits next [] [] → closes r ≡ is_closed next → After limits next [] (stream ++ take (end + 1) piece) (rs ++ r ∷ [])
 line_asks limits next u stream piece rs end r a l lf lack short is st fine =
     answers limits Line next u [] stream (take (end + 1) piece) rs r ((u ++ take end piece) ++ 10 ∷ []) [] a refl
@@ -103,20 +106,23 @@ line_asks limits next u stream piece rs end r a l lf lack short is st fine =
     (inl (record { line = u ++ take end piece; block = []; whole = refl; is_line = is_line u piece end a.stands.1 l lack short; long = ap wanted is; means = ap (λ (s : Said). request_asked s []) is }))
     st fine
 
-pub line_blocks : (limits : Limits) (u stream piece : List ℕ) (rs : List Request) (end : ℕ) (s : Start) → After limits Line u stream rs → end < length piece → get_or piece end 0 ≡ 10 → Lacks 10 (take end piece) → length u + end ≤ 65536
+pub line_blocks : (limits : Limits) (u stream piece : List ℕ) (rs : List Request) (end : ℕ) (s : Start) → After limits Line u stream rs → end < length piece
+    → get_or piece end 0 ≡ 10 → Lacks 10 (take end piece) → length u + end ≤ 65536
     → said.Block s ≡ says limits (u ++ take end piece) → After limits (Block s []) [] (stream ++ take (end + 1) piece) rs
 line_blocks limits u stream piece rs end s a l lf lack short is =
     goes limits Line (Block s []) u [] stream (take (end + 1) piece) rs a
     (u ++ take end piece, line_whole a.rest u piece end a.stands.0 l lf, is_line u piece end a.stands.1 l lack short, sym is, omega arith) refl
 
-pub line_skips : (limits : Limits) (u stream piece : List ℕ) (rs : List Request) (end : ℕ) (s : Start) → After limits Line u stream rs → end < length piece → get_or piece end 0 ≡ 10 → Lacks 10 (take end piece) → length u + end ≤ 65536
+pub line_skips : (limits : Limits) (u stream piece : List ℕ) (rs : List Request) (end : ℕ) (s : Start) → After limits Line u stream rs → end < length piece
+    → get_or piece end 0 ≡ 10 → Lacks 10 (take end piece) → length u + end ≤ 65536
     → said.Skip s ≡ says limits (u ++ take end piece) → After limits (Skip s (s.count + 2)) [] (stream ++ take (end + 1) piece) rs
 line_skips limits u stream piece rs end s a l lf lack short is =
     goes limits Line (Skip s (s.count + 2)) u [] stream (take (end + 1) piece) rs a
     (u ++ take end piece, [], line_whole a.rest u piece end a.stands.0 l lf, is_line u piece end a.stands.1 l lack short, sym is, omega arith, omega arith) refl
 
 -- a line that is whole, whatever it says
-pub line_done : (limits : Limits) (u v stream piece : List ℕ) (rs : List Request) (end : ℕ) (x : Said) → After limits Line u stream rs → end < length piece → get_or piece end 0 ≡ 10 → Lacks 10 (take end piece) → length u + end ≤ 65536
+pub line_done : (limits : Limits) (u v stream piece : List ℕ) (rs : List Request) (end : ℕ) (x : Said) → After limits Line u stream rs → end < length piece
+    → get_or piece end 0 ≡ 10 → Lacks 10 (take end piece) → length u + end ≤ 65536
     → x ≡ says limits (u ++ take end piece) → IsFine limits x → v ≡ [] → After limits (state_after x) v (stream ++ take (end + 1) piece) (rs ++ option_to_list (request_after x))
 line_done limits u v stream piece rs end (said.Whole r) a l lf lack short is fine none = rw none (line_asks limits Line u stream piece rs end r a l lf lack short is (refl, tt, omega arith) fine.0)
 line_done limits u v stream piece rs end (said.Block s) a l lf lack short is fine none = rw (none, append-nil rs) (line_blocks limits u stream piece rs end s a l lf lack short is)
@@ -153,7 +159,8 @@ block_done limits u v block stream piece rs s n a le long none =
     (refl, tt, omega arith) (stored_open s (block ++ take n piece) (pointwise nat_eq (drop s.count (block ++ take n piece)) (13 ∷ 10 ∷ []))))
 
 -- a block behind a line in the same piece, where the piece cuts it
-pub first_more : (limits : Limits) (stream piece : List ℕ) (rs : List Request) (s : Start) (begin : ℕ) → After limits (Block s []) [] (stream ++ take begin piece) rs → begin ≤ length piece → length piece < begin + (s.count + 2)
+pub first_more : (limits : Limits) (stream piece : List ℕ) (rs : List Request) (s : Start) (begin : ℕ)
+    → After limits (Block s []) [] (stream ++ take begin piece) rs → begin ≤ length piece → length piece < begin + (s.count + 2)
     → After limits (Block s (drop begin piece)) [] (stream ++ take (length piece) piece) rs
 first_more limits stream piece rs s begin a within l =
     let behind = drop begin piece in

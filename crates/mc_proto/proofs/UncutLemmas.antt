@@ -45,7 +45,8 @@ behind n front back le =
     (ap (λ k. take k (front ++ back)) is ∙ take-append-add front back (n - length front), ap (λ k. drop k (front ++ back)) is ∙ drop-append-add front back (n - length front))
 
 -- the piece that was reached is passed to its end, and the next one reached
-module _ (done piece part next rest behind_it : List ℕ) (begin at left : ℕ) (low : begin ≤ at) (high : at ≤ length piece) (is : part ≡ drop begin piece) (split : rest ≡ next ++ behind_it) (far : length piece - at < left) where
+module _ (done piece part next rest behind_it : List ℕ) (begin at left : ℕ) (low : begin ≤ at) (high : at ≤ length piece) (is : part ≡ drop begin piece)
+    (split : rest ≡ next ++ behind_it) (far : length piece - at < left) where
   room : length (drop at piece) ≡ length piece - at
   room = length-drop at piece
 
@@ -53,7 +54,8 @@ module _ (done piece part next rest behind_it : List ℕ) (begin at left : ℕ) 
   step_passed =
       let two = behind left (drop at piece) rest (omega (arith, room)) in
       all_bytes done piece part (take (left - (length piece - at)) (next ++ behind_it)) begin at low high is
-      ∙ ap (λ t. (done ++ drop begin (take at piece)) ++ t) (ap (λ n. drop at piece ++ take (left - n) (next ++ behind_it)) (sym room) ∙ ap (λ t. drop at piece ++ take (left - length (drop at piece)) t) (sym split) ∙ sym two.0)
+      ∙ ap (λ t. (done ++ drop begin (take at piece)) ++ t) (ap (λ n. drop at piece ++ take (left - n) (next ++ behind_it)) (sym room)
+      ∙ ap (λ t. drop at piece ++ take (left - length (drop at piece)) t) (sym split) ∙ sym two.0)
 
   pub step_coming : drop (left - (length piece - at)) (next ++ behind_it) ≡ drop left (drop at piece ++ rest)
   step_coming =
@@ -64,7 +66,8 @@ module _ (done piece part next rest behind_it : List ℕ) (begin at left : ℕ) 
   step_fits fits = omega (arith, room, length-append (drop at piece) rest, ap length split)
 
 -- the same, in the words of the loop that does it
-pub stepped : (done all piece part next rest left_over : List ℕ) (begin none at left len : ℕ) → all ≡ done ++ part → none ≡ 0 → len ≡ length piece → begin ≤ at → at ≤ length piece → part ≡ drop begin piece → rest ≡ next ++ left_over → len - at < left
+pub stepped : (done all piece part next rest left_over : List ℕ) (begin none at left len : ℕ) → all ≡ done ++ part → none ≡ 0 → len ≡ length piece → begin ≤ at
+    → at ≤ length piece → part ≡ drop begin piece → rest ≡ next ++ left_over → len - at < left
     → (all ++ drop none []) ++ take (left - (len - at)) (next ++ left_over) ≡ (done ++ drop begin (take at piece)) ++ take left (drop at piece ++ rest)
 stepped done all piece part next rest left_over begin none at left len pushed zero_is len_is low high is split far =
     ap (λ n. (all ++ drop n []) ++ take (left - (len - at)) (next ++ left_over)) zero_is ∙ ap (λ t. t ++ take (left - (len - at)) (next ++ left_over)) (append-nil all ∙ pushed)
@@ -75,4 +78,5 @@ pub end_passed : (done piece rest : List ℕ) (begin at left : ℕ) → begin �
     → done ++ drop begin (take (at + left) piece) ≡ (done ++ drop begin (take at piece)) ++ take left (drop at piece ++ rest)
 end_passed done piece rest begin at left low high near =
     ap (λ t. done ++ drop begin t) (take-add at left piece) ∙ ap (λ t. done ++ t) (drop-append-le begin (take at piece) (take left (drop at piece)) (omega (arith, length-take-le at piece high)))
-    ∙ sym (append_assoc done (drop begin (take at piece)) (take left (drop at piece))) ∙ ap (λ t. (done ++ drop begin (take at piece)) ++ t) (sym (take-append-le left (drop at piece) rest (omega (arith, length-drop at piece))))
+    ∙ sym (append_assoc done (drop begin (take at piece)) (take left (drop at piece)))
+    ∙ ap (λ t. (done ++ drop begin (take at piece)) ++ t) (sym (take-append-le left (drop at piece) rest (omega (arith, length-drop at piece))))

@@ -1,4 +1,5 @@
--- The kinds of tokens: what each stands for, and which fault a token that isn't of its kind makes (protocol.txt, "Commands"; the limits are this profile's own).
+-- The kinds of tokens: what each stands for, and which fault a token that isn't of its kind makes (protocol.txt, "Commands"; the limits are this profile's
+-- own).
 use Rattle.std.specs.Prelude.{ℕ, ◌-◌, ◌^◌, List, Option, ℤ}
 use Rattle.mc_proto.specs.Lines.{key_of_token, number_up_to, exptime, target_of}
 use Rattle.mc_proto.specs.declared.{request.Limits.Limits, request.LineFault.LineFault, request.Target.Target}

@@ -1,5 +1,6 @@
 -- Lines, their tokens, and what tokens say: words, keys, numbers, exptimes and slab classes (protocol.txt; the limits are this profile's own).
-use Rattle.std.specs.Prelude.{ℕ, ◌-◌, ◌<◌, ◌≡◌, ◌==◌, ◌&&◌, List, [], ◌∷◌, ◌++◌, Bool, true, false, if◌then◌else◌, Option, Some, None, length, get_or, take, nat_lt, nat_le, nat_eq, is_none, codes, ℤ, pos, neg_ℤ}
+use Rattle.std.specs.Prelude.{ℕ, ◌-◌, ◌<◌, ◌≡◌, ◌==◌, ◌&&◌, List, [], ◌∷◌, ◌++◌, Bool, true, false, if◌then◌else◌, Option, Some, None, length, get_or, take}
+use Rattle.std.specs.Prelude.{nat_lt, nat_le, nat_eq, is_none, codes, ℤ, pos, neg_ℤ}
 use Rattle.std.specs.{Cmp.Lexicographic.pointwise, List.list_all, Option.option_map}
 use Rattle.mc_item.specs.{Key.key_fault_of, Measure.is_digit, Measure.number_of}
 use Rattle.mc_proto.specs.declared.{request.Limits.Limits, request.Target.Target, request.Target.TheVariants.All, request.Target.TheVariants.Class}

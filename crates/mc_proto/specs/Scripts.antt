@@ -50,7 +50,8 @@ ReadAlone limits (script ∷ scripts) [] rest = ⊥
 ReadAlone limits (script ∷ []) (requests ∷ []) rest = Reads limits script requests rest
 ReadAlone limits (script ∷ []) (requests ∷ next ∷ more) rest = ⊥
 ReadAlone limits (script ∷ second ∷ scripts) (requests ∷ []) rest = ⊥
-ReadAlone limits (script ∷ second ∷ scripts) (requests ∷ next ∷ more) rest = Reads limits script requests [] × ReadAlone limits (second ∷ scripts) (next ∷ more) rest
+ReadAlone limits (script ∷ second ∷ scripts) (requests ∷ next ∷ more) rest = Reads limits script requests []
+    × ReadAlone limits (second ∷ scripts) (next ∷ more) rest
 
 -- what stands first in a stream: so many bytes that spell a request, which begins the next script or goes on with this
 -- one; or nothing behind which a script could begin

@@ -1,4 +1,5 @@
--- The table of request lines, and the one rule that reads a line by it (protocol.txt, "Commands"; the directives and which fault comes first are this profile's own).
+-- The table of request lines, and the one rule that reads a line by it (protocol.txt, "Commands"; the directives and which fault comes first are this profile's
+-- own).
 use Rattle.std.specs.Prelude.{ℕ, ◌+◌, List, [], ◌∷◌, Bool, true, false, if◌then◌else◌, Option, Some, None, length, nat_lt, codes, ℤ}
 use Rattle.std.specs.{List.list_all, Option.option_map, Option.unwrap_or}
 use Rattle.mc_item.specs.declared.{command.Command.Command, command.Verb.Verb}

@@ -28,7 +28,8 @@ pub fn count(up: bool, key: Key, delta: u64, quiet: bool) -> Said
 
 /// The lines incr and decr: key and delta.
 pub fn count_line(alloc: Global, up: bool, args: &[&[u8]]) -> Result<Said, NoMemory>
-    ensures value { (limits : Limits) → IfOk result (λ s. s ≡ row_says limits (kinds.Key ∷ kinds.Delta ∷ []) Noreply (table.count up) (map (λ t. t.now) args.now)) }
+    ensures value { (limits : Limits) → IfOk result (λ s. s ≡ row_says limits (kinds.Key ∷ kinds.Delta ∷ []) Noreply (table.count up)
+        (map (λ t. t.now) args.now)) }
     ensures fine { (limits : Limits) → IfOk result (λ s. IsFine limits s) }
 {
     let [key, delta, rest @ ..] = args else {
@@ -48,7 +49,8 @@ pub fn count_line(alloc: Global, up: bool, args: &[&[u8]]) -> Result<Said, NoMem
 
 /// The line touch: key and exptime.
 pub fn touch_line(alloc: Global, args: &[&[u8]]) -> Result<Said, NoMemory>
-    ensures value { (limits : Limits) → IfOk result (λ s. s ≡ row_says limits (kinds.Key ∷ kinds.NewExptime ∷ []) Noreply (λ key e quiet. table.one quiet (commands.Touch key e)) (map (λ t. t.now) args.now)) }
+    ensures value { (limits : Limits) → IfOk result (λ s. s ≡ row_says limits (kinds.Key ∷ kinds.NewExptime ∷ []) Noreply
+        (λ key e quiet. table.one quiet (commands.Touch key e)) (map (λ t. t.now) args.now)) }
     ensures fine { (limits : Limits) → IfOk result (λ s. IsFine limits s) }
 {
     let [key, e, rest @ ..] = args else {
@@ -68,7 +70,8 @@ pub fn touch_line(alloc: Global, args: &[&[u8]]) -> Result<Said, NoMemory>
 
 /// The line delete: key.
 pub fn delete_line(alloc: Global, args: &[&[u8]]) -> Result<Said, NoMemory>
-    ensures value { (limits : Limits) → IfOk result (λ s. s ≡ row_says limits (kinds.Key ∷ []) Noreply (λ key quiet. table.one quiet (commands.Delete key)) (map (λ t. t.now) args.now)) }
+    ensures value { (limits : Limits) → IfOk result (λ s. s ≡ row_says limits (kinds.Key ∷ []) Noreply (λ key quiet. table.one quiet (commands.Delete key))
+        (map (λ t. t.now) args.now)) }
     ensures fine { (limits : Limits) → IfOk result (λ s. IsFine limits s) }
 {
     let [key, rest @ ..] = args else {

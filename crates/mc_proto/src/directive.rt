@@ -18,7 +18,8 @@ const MAX_MOMENT: u64 = 4_611_686_018_427_387_904;
 
 /// The line %at: a moment.
 pub fn at_line(args: &[&[u8]]) -> Said
-    ensures value { (limits : Limits) → result ≡ row_says limits (kinds.Moment ∷ []) Nothing (λ moment. said.Whole (requests.At moment)) (map (λ t. t.now) args.now) }
+    ensures value { (limits : Limits) → result ≡ row_says limits (kinds.Moment ∷ []) Nothing (λ moment. said.Whole (requests.At moment))
+        (map (λ t. t.now) args.now) }
     ensures fine { (limits : Limits) → IsFine limits result }
 {
     let [moment] = args else {

@@ -17,7 +17,8 @@ use std::alloc::Global;
 // A line of one key, where the token can be one.
 #[inline(always)]
 fn get_said(key: Option<Key>, with_cas: bool) -> Said
-    ensures value { (limits : Limits) (token : List ℕ) → key ≡ lines.key_of token → result ≡ row_says limits [] table.Keys (λ keys. said.Whole (requests.Get keys with_cas)) (token ∷ []) }
+    ensures value { (limits : Limits) (token : List ℕ) → key ≡ lines.key_of token
+        → result ≡ row_says limits [] table.Keys (λ keys. said.Whole (requests.Get keys with_cas)) (token ∷ []) }
     ensures fine { (limits : Limits) → IsFine limits result }
 {
     match key {
@@ -32,7 +33,8 @@ fn get_said(key: Option<Key>, with_cas: bool) -> Said
 /// The lines get, and gets, whose values are shown with their cas numbers.
 #[inline(never)]
 pub fn get_line(alloc: Global, with_cas: bool, tokens: &[&[u8]]) -> Result<Said, NoMemory>
-    ensures value { (limits : Limits) → IfOk result (λ s. s ≡ row_says limits [] table.Keys (λ keys. said.Whole (requests.Get keys with_cas)) (map (λ t. t.now) tokens.now)) }
+    ensures value { (limits : Limits) → IfOk result (λ s. s ≡ row_says limits [] table.Keys (λ keys. said.Whole (requests.Get keys with_cas))
+        (map (λ t. t.now) tokens.now)) }
     ensures fine { (limits : Limits) → IfOk result (λ s. IsFine limits s) }
 {
     if tokens.is_empty() {

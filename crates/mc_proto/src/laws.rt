@@ -1,6 +1,7 @@
 //! Laws of the grammar: a line is its tokens, how a stream reads depends on its bytes alone, and each stream reads in one way.
 ghost use Rattle.std.specs.Prelude.{◌≡◌, ◌++◌, ℕ, List};
-ghost use Rattle.mc_proto.specs.{Grammar.Spells, Grammar.Spelt, Grammar.Reads, Lines.AreTokens, Lines.tokens, Reader.After, Reader.StandsForRest, Scripts.AreScripts};
+ghost use Rattle.mc_proto.specs.{Grammar.Spells, Grammar.Spelt, Grammar.Reads, Lines.AreTokens, Lines.tokens, Reader.After, Reader.StandsForRest};
+ghost use Rattle.mc_proto.specs.{Scripts.AreScripts};
 ghost use Rattle.mc_proto.specs.{Scripts.ReadAlone, Scripts.with_next};
 ghost use Rattle.mc_proto.specs.declared.{request.Limits.Limits, request.Request.Request, state.State.State};
 
@@ -17,7 +18,8 @@ pub fn no_spelling_begins_another()
 
 /// A stream reads in one way at most.
 pub fn one_reading()
-    ensures { (limits : Limits) (stream rest others : List ℕ) (qs rs : List Request) → Reads limits stream qs rest → Reads limits stream rs others → (qs ≡ rs) × (rest ≡ others) }
+    ensures { (limits : Limits) (stream rest others : List ℕ) (qs rs : List Request) → Reads limits stream qs rest → Reads limits stream rs others
+        → (qs ≡ rs) × (rest ≡ others) }
 {}
 
 /// Each stream reads in some way.
@@ -27,12 +29,14 @@ pub fn every_stream_reads()
 
 /// Where a reader stands, the stream so far reads as the requests so far, and the rest is what the reader keeps.
 pub fn after_is_reading()
-    ensures { (limits : Limits) (state : State) (unread stream : List ℕ) (requests : List Request) → After limits state unread stream requests → ((rest : List ℕ) × Reads limits stream requests rest × StandsForRest limits state unread rest) }
+    ensures { (limits : Limits) (state : State) (unread stream : List ℕ) (requests : List Request) → After limits state unread stream requests
+        → ((rest : List ℕ) × Reads limits stream requests rest × StandsForRest limits state unread rest) }
 {}
 
 /// The requests of a longer stream begin with those of a shorter one.
 pub fn reading_goes_on()
-    ensures { (limits : Limits) (came more rest other : List ℕ) (requests all : List Request) → Spelt limits came requests rest → Reads limits (came ++ more) all other
+    ensures { (limits : Limits) (came more rest other : List ℕ) (requests all : List Request) → Spelt limits came requests rest
+        → Reads limits (came ++ more) all other
         → ((others : List Request) × (all ≡ requests ++ others)) }
 {}
 

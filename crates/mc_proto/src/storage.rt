@@ -42,7 +42,8 @@ fn stored_said(
     count: &[u8],
     quiet: bool,
 ) -> Said
-    ensures value { result ≡ kinds_say limits quiet (kinds.Flags ∷ kinds.Exptime ∷ kinds.Bytes ∷ []) Noreply (table.store limits verb key) (flags.now ∷ e.now ∷ count.now ∷ []) }
+    ensures value { result ≡ kinds_say limits quiet (kinds.Flags ∷ kinds.Exptime ∷ kinds.Bytes ∷ []) Noreply (table.store limits verb key)
+        (flags.now ∷ e.now ∷ count.now ∷ []) }
     ensures fine { IsFine limits result }
 {
     let Some(flags) = number_up_to(MAX_FLAGS, flags) else {
@@ -75,7 +76,8 @@ pub fn store_line(
     verb: Verb,
     args: &[&[u8]],
 ) -> Result<Said, NoMemory>
-    ensures value { IfOk result (λ s. s ≡ row_says limits (kinds.Key ∷ kinds.Flags ∷ kinds.Exptime ∷ kinds.Bytes ∷ []) Noreply (table.store limits verb) (map (λ t. t.now) args.now)) }
+    ensures value { IfOk result (λ s. s ≡ row_says limits (kinds.Key ∷ kinds.Flags ∷ kinds.Exptime ∷ kinds.Bytes ∷ []) Noreply (table.store limits verb)
+        (map (λ t. t.now) args.now)) }
     ensures fine { IfOk result (λ s. IsFine limits s) }
 {
     let [key, flags, e, count, rest @ ..] = args else {
@@ -101,7 +103,8 @@ fn cas_said(
     unique: &[u8],
     quiet: bool,
 ) -> Said
-    ensures value { result ≡ kinds_say limits quiet (kinds.Flags ∷ kinds.Exptime ∷ kinds.Bytes ∷ kinds.CasNumber ∷ []) Noreply (λ flags e n unique. table.store limits (verbs.Cas unique) key flags e n) (flags.now ∷ e.now ∷ count.now ∷ unique.now ∷ []) }
+    ensures value { result ≡ kinds_say limits quiet (kinds.Flags ∷ kinds.Exptime ∷ kinds.Bytes ∷ kinds.CasNumber ∷ []) Noreply
+        (λ flags e n unique. table.store limits (verbs.Cas unique) key flags e n) (flags.now ∷ e.now ∷ count.now ∷ unique.now ∷ []) }
     ensures fine { IsFine limits result }
 {
     let Some(unique) = number_up_to(u64::MAX, unique) else {
@@ -112,7 +115,8 @@ fn cas_said(
 
 /// The line cas: key, flags, exptime, bytes and cas number.
 pub fn cas_line(alloc: Global, limits: Limits, args: &[&[u8]]) -> Result<Said, NoMemory>
-    ensures value { IfOk result (λ s. s ≡ row_says limits (kinds.Key ∷ kinds.Flags ∷ kinds.Exptime ∷ kinds.Bytes ∷ kinds.CasNumber ∷ []) Noreply (λ key flags e n unique. table.store limits (verbs.Cas unique) key flags e n) (map (λ t. t.now) args.now)) }
+    ensures value { IfOk result (λ s. s ≡ row_says limits (kinds.Key ∷ kinds.Flags ∷ kinds.Exptime ∷ kinds.Bytes ∷ kinds.CasNumber ∷ []) Noreply
+        (λ key flags e n unique. table.store limits (verbs.Cas unique) key flags e n) (map (λ t. t.now) args.now)) }
     ensures fine { IfOk result (λ s. IsFine limits s) }
 {
     let [key, flags, e, count, unique, rest @ ..] = args else {

@@ -147,7 +147,8 @@ fn take_begun<P: Piece>(
     ensures taken { IfOk result (λ n. (0 < n) × (n ≤ length (P.unread piece.now))) }
     ensures sound { OnOk result (IsSoundReader state.new []) }
     ensures moderate { (limits : Limits) → OnOk result (All (IsModerate limits) requests.old.items → All (IsModerate limits) requests.new.items) }
-    ensures reads { IfOk result (λ n. (limits : Limits) (stream : List ℕ) (before : List Request) → After limits (State.Block start []) [] (stream ++ take begin (P.unread piece.now)) (before ++ requests.old.items)
+    ensures reads { IfOk result (λ n. (limits : Limits) (stream : List ℕ) (before : List Request)
+        → After limits (State.Block start []) [] (stream ++ take begin (P.unread piece.now)) (before ++ requests.old.items)
         → After limits state.new [] (stream ++ take n (P.unread piece.now)) (before ++ requests.new.items)) }
 {
     let wanted = start.count as usize + 2;
@@ -234,7 +235,8 @@ fn take_block(
     ensures taken { IfOk result (λ n. (0 < n) × (n ≤ length piece.now)) }
     ensures sound { OnOk result (IsSoundReader state.new []) }
     ensures moderate { (limits : Limits) → OnOk result (All (IsModerate limits) requests.old.items → All (IsModerate limits) requests.new.items) }
-    ensures reads { IfOk result (λ n. (limits : Limits) (stream : List ℕ) (before : List Request) → After limits (State.Block start part) [] stream (before ++ requests.old.items)
+    ensures reads { IfOk result (λ n. (limits : Limits) (stream : List ℕ) (before : List Request)
+        → After limits (State.Block start part) [] stream (before ++ requests.old.items)
         → After limits state.new [] (stream ++ take n piece.now) (before ++ requests.new.items)) }
 {
     let PartialBlock { mut bytes } = part;
@@ -263,7 +265,8 @@ fn take_skipped(
     ensures taken { IfOk result (λ n. (0 < n) × (n ≤ length piece.now)) }
     ensures sound { OnOk result (IsSoundReader state.new []) }
     ensures moderate { (limits : Limits) → OnOk result (All (IsModerate limits) requests.old.items → All (IsModerate limits) requests.new.items) }
-    ensures reads { IfOk result (λ n. (limits : Limits) (stream : List ℕ) (before : List Request) → After limits (State.Skip start left) [] stream (before ++ requests.old.items)
+    ensures reads { IfOk result (λ n. (limits : Limits) (stream : List ℕ) (before : List Request)
+        → After limits (State.Skip start left) [] stream (before ++ requests.old.items)
         → After limits state.new [] (stream ++ take n piece.now) (before ++ requests.new.items)) }
 {
     let count = piece.len() as u64;

@@ -168,7 +168,8 @@ fn push_line(out: &mut Vec<u8>, value: &[u8]) -> Result<(), NoMemory>
 
 // Adds a value after its key, without a cas number.
 fn push_plain_tail(out: &mut Vec<u8>, flags: u32, value: &[u8]) -> Result<(), NoMemory>
-    ensures ok { OnOk result (out.new.items ≡ out.old.items ++ (codes " " ++ decimal flags ++ codes " " ++ decimal (length value.now) ++ texts.crlf ++ value.now ++ texts.crlf)) }
+    ensures ok { OnOk result (out.new.items ≡ out.old.items ++ (codes " " ++ decimal flags ++ codes " " ++ decimal (length value.now) ++ texts.crlf ++ value.now
+        ++ texts.crlf)) }
     ensures err { OnErr result (out.new.items ≡ out.old.items) }
 {
     let before = out.len();
@@ -184,7 +185,8 @@ fn push_plain_tail(out: &mut Vec<u8>, flags: u32, value: &[u8]) -> Result<(), No
 
 // Adds a value after its key, with its cas number.
 fn push_cas_tail(out: &mut Vec<u8>, flags: u32, value: &[u8], cas: u64) -> Result<(), NoMemory>
-    ensures ok { OnOk result (out.new.items ≡ out.old.items ++ (codes " " ++ decimal flags ++ codes " " ++ decimal (length value.now) ++ codes " " ++ decimal cas ++ texts.crlf ++ value.now ++ texts.crlf)) }
+    ensures ok { OnOk result (out.new.items ≡ out.old.items ++ (codes " " ++ decimal flags ++ codes " " ++ decimal (length value.now) ++ codes " "
+        ++ decimal cas ++ texts.crlf ++ value.now ++ texts.crlf)) }
     ensures err { OnErr result (out.new.items ≡ out.old.items) }
 {
     let mut for_flags = Buffer::new();
@@ -210,7 +212,8 @@ pub(crate) fn push_value_line(
     cas: u64,
     with_cas: bool,
 ) -> Result<(), NoMemory>
-    ensures ok { OnOk result (out.new.items ≡ out.old.items ++ (codes " " ++ decimal flags ++ codes " " ++ decimal len ++ texts.cas_text with_cas cas ++ texts.crlf)) }
+    ensures ok { OnOk result (out.new.items ≡ out.old.items ++ (codes " " ++ decimal flags ++ codes " " ++ decimal len ++ texts.cas_text with_cas cas
+        ++ texts.crlf)) }
     ensures err { OnErr result (out.new.items ≡ out.old.items) }
 {
     let mut for_flags = Buffer::new();

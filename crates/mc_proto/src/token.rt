@@ -1,5 +1,6 @@
 //! The tokens of a line, and what they say.
-ghost use Rattle.std.specs.Prelude.{◌≡◌, ◌+◌, ◌-◌, ◌<◌, ◌≤◌, ◌^◌, ◌++◌, ℕ, IfOk, IfSome, IsTrue, All, MatchOption, length, take, drop, get_or, map, ◌∷◌, [], ℤ, List, Some, true, pos};
+ghost use Rattle.std.specs.Prelude.{◌≡◌, ◌+◌, ◌-◌, ◌<◌, ◌≤◌, ◌^◌, ◌++◌, ℕ, IfOk, IfSome, IsTrue, All, MatchOption, length, take, drop, get_or, map, ◌∷◌, [], ℤ};
+ghost use Rattle.std.specs.Prelude.{List, Some, true, pos};
 ghost use Rattle.std.specs.List.{list_all};
 ghost use Rattle.mc_item.specs.Measure.{is_digit};
 ghost use Rattle.mc_proto.specs.Lines as lines;
@@ -186,7 +187,8 @@ fn ends_token(bytes: &[u8], count: usize) -> bool
 /// lines nothing is said.
 #[inline(always)]
 pub fn next_number(line: &[u8]) -> Option<(u64, &[u8])>
-    ensures { IfSome result (λ x. (t : List ℕ) × (tokens line.now ≡ t ∷ tokens x.1.now) × (lines.number 20 t ≡ Some x.0) × (lines.exptime t ≡ Some (pos x.0)) × (x.0 < 10 ^ 18)) }
+    ensures { IfSome result (λ x. (t : List ℕ) × (tokens line.now ≡ t ∷ tokens x.1.now) × (lines.number 20 t ≡ Some x.0) × (lines.exptime t ≡ Some (pos x.0))
+        × (x.0 < 10 ^ 18)) }
 {
     let begin = spaces_end(line);
     let (_spaces, rest) = line.split_at(begin);

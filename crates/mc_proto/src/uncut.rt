@@ -51,7 +51,8 @@ fn hold(pieces: &VecDeque<Vec<u8>>, count: usize) -> bool
 
 // The beginning of a line, and what pieces have of it: its whole rest, as much as no line can have, or all of them.
 fn line_on(alloc: Global, begin: &[u8], pieces: &VecDeque<Vec<u8>>) -> Result<Vec<u8>, NoMemory>
-    ensures { IfOk result (λ line. (more : List ℕ) × (begin.now ++ flat_map (λ p. p.items) pieces.now.items ≡ line.items ++ more) × (Lacks 10 line.items → length line.items ≤ 65536 → more ≡ [])) }
+    ensures { IfOk result (λ line. (more : List ℕ) × (begin.now ++ flat_map (λ p. p.items) pieces.now.items ≡ line.items ++ more)
+        × (Lacks 10 line.items → length line.items ≤ 65536 → more ≡ [])) }
 {
     let mut line = Vec::from_slice(alloc, begin)?;
     for piece in pieces.iter() {
@@ -129,7 +130,8 @@ impl Uncut {
     /// A copy of the bytes that come, up to the end of a line or a piece: they have a line's end, or more bytes than a
     /// line can have, or they are all.
     pub fn line(&self, alloc: Global) -> Result<Vec<u8>, NoMemory>
-        ensures { IfOk result (λ line. (more : List ℕ) × (self.now.coming ≡ line.items ++ more) × (Lacks 10 line.items → length line.items ≤ 65536 → more ≡ [])) }
+        ensures { IfOk result (λ line. (more : List ℕ) × (self.now.coming ≡ line.items ++ more)
+            × (Lacks 10 line.items → length line.items ≤ 65536 → more ≡ [])) }
     {
         line_on(alloc, self.piece.as_slice().split_at(self.at).1, &self.rest)
     }

@@ -127,7 +127,8 @@ module _ (v : ClassView) (key : List ℕ) (room : Room) where
 
 -- what a hit wakes is what a part of its command moves
 pub warms_part : (s : Stripe) (command : Command) (moment : ℕ) (v : ClassView) (room : Room) → IsAlive (item_of s command) moment
-    → is_warming (part_for v (key_of command) room (fate_of (key_of command) (item_of s command) ((row_at s command moment).answer room).change)) ≡ is_warming (hit_part v (entry_number v (key_of command) (woken_by s command moment)))
+    → is_warming (part_for v (key_of command) room (fate_of (key_of command) (item_of s command) ((row_at s command moment).answer room).change))
+    ≡ is_warming (hit_part v (entry_number v (key_of command) (woken_by s command moment)))
 warms_part s (Get key) moment v room alive = by (item_of s (Get key)) alive
   where
     by : (found : Option Item) → IsAlive found moment
@@ -137,11 +138,13 @@ warms_part s (Get key) moment v room alive = by (item_of s (Get key)) alive
 warms_part s (Touch key exptime) moment v room alive = by (item_of s (Touch key exptime)) alive
   where
     by : (found : Option Item) → IsAlive found moment
-        → is_warming (part_for v key room (fate_of key found ((row_of s.site (cache_now s).versions found (Touch key exptime) moment).answer room).change)) ≡ is_warming (hit_part v (entry_number v key (woken_link found moment)))
+        → is_warming (part_for v key room (fate_of key found ((row_of s.site (cache_now s).versions found (Touch key exptime) moment).answer room).change))
+        ≡ is_warming (hit_part v (entry_number v key (woken_link found moment)))
     by None alive = refl
     by (Some item) alive = hit_alive v key room item moment alive
 warms_part s (Store verb key flags exptime value) moment v room alive =
-    cold_of_none v key room _ _ (store_no_hit room (class_of s.site.sizes (cost_of key value)) verb (item_of s (Store verb key flags exptime value)) (version_of s.site (cache_now s).versions flags value (expiry_of exptime moment)))
+    cold_of_none v key room _ _ (store_no_hit room (class_of s.site.sizes (cost_of key value)) verb (item_of s (Store verb key flags exptime value))
+    (version_of s.site (cache_now s).versions flags value (expiry_of exptime moment)))
 warms_part s (Huge verb key) moment v room alive = cold_of_none v key room _ _ (let_go_no_hit verb)
 warms_part s (Incr key delta) moment v room alive = by (item_of s (Incr key delta))
   where
@@ -380,7 +383,9 @@ module _ (s : Stripe) (vs : List ClassView) (command : Command) (turn : Turn) (g
           subst (λ (r : Room). AreLent vs room (fate_of (key_of command) (item_of s command) ((row_at s command turn.moment).answer r).change)) (sym is)
           (fate_lent _ (not_renewed (item_of s command) _ at) held)
 
-      lent_need : (need : Need) → IsTaken given need room → Covers given (wanting.classes_of need (link_of_item (item_of s command)) (fate_of (key_of command) (item_of s command) ((row_at s command turn.moment).answer rooms.Keep).change)) → Lent
+      lent_need : (need : Need) → IsTaken given need room
+          → Covers given (wanting.classes_of need (link_of_item (item_of s command))
+          (fate_of (key_of command) (item_of s command) ((row_at s command turn.moment).answer rooms.Keep).change)) → Lent
       lent_need (needs.Fresh class) taken covers =
           lent_by (item_of s command) _ (room_lent class room (taken_of class room taken)) (beside_lent class covers.0 (link_of_item (item_of s command)) covers.1)
       lent_need needs.Nothing taken covers = kept_lent taken covers.1
@@ -442,7 +447,8 @@ module _ (s : Stripe) (vs : List ClassView) (command : Command) (turn : Turn) (g
       ready_at : (v : ClassView) → IsSomeAnd given.home (OffersHome v may.refused turn.who) ⊎ IsSomeAnd given.other (OffersOther v) → HasRoomFor given v → (n : ℕ) → n ≤ changes_at v.number room fate → Ready v n
       ready_at v offers has n few = by given.home given.other offers has.0 has.1 uses.places.home uses.places.other
         where
-          by : (h : Option Home) (o : Option Other) → IsSomeAnd h (OffersHome v may.refused turn.who) ⊎ IsSomeAnd o (OffersOther v) → IfSome h (λ h. h.class ≡ v.number → h.places ≤ v.room) → IfSome o (λ o. o.class ≡ v.number → o.places ≤ v.room)
+          by : (h : Option Home) (o : Option Other) → IsSomeAnd h (OffersHome v may.refused turn.who) ⊎ IsSomeAnd o (OffersOther v)
+              → IfSome h (λ h. h.class ≡ v.number → h.places ≤ v.room) → IfSome o (λ o. o.class ≡ v.number → o.places ≤ v.room)
               → IfSome h (λ h. changes_at h.class room fate ≤ h.places) → IfSome o (λ o. changes_at o.class room fate ≤ o.places) → Ready v n
           by (Some h) o (inl offers) room_h room_o places_h places_o =
               let most : changes_at v.number room fate ≤ h.places = subst (λ (c : ClassNo). changes_at c room fate ≤ h.places) offers.class_is places_h in

@@ -118,7 +118,8 @@ module _ (s : Stripe) (c : Call) (legal : IsLegal s.site s.history) (may : MayAn
 
   -- ---- the number of the entry that a class has of the key
   module _ (v : ClassView) (lawful : IsLawfulHistoryByLists v.chunks v.rule v.history) (agree : Agree s.site v.rule v.number s.history v.history) where
-    is_entry : (item : Item) (m : ℕ) → item.link ≡ link_to v.number m → (o : Option (Seg × Entry)) → found m (lists_of v.history) ≡ o → IsSomeAnd o (λ there. IsEntryFor (key s c) item there.1) → IsEntryOf v.history m (key s c)
+    is_entry : (item : Item) (m : ℕ) → item.link ≡ link_to v.number m → (o : Option (Seg × Entry)) → found m (lists_of v.history) ≡ o
+        → IsSomeAnd o (λ there. IsEntryFor (key s c) item there.1) → IsEntryOf v.history m (key s c)
     is_entry item m link None is has = absurd has
     is_entry item m link (Some (seg, e)) is has = record { seg = seg; entry = e; there = is; key_is = has.key_is }
 

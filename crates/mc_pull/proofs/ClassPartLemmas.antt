@@ -24,7 +24,8 @@ use Rattle.mc_pull.specs.declared.parts.Part.TheVariants as parts
 use Rattle.mc_pull.specs.{Agreeing.HasRefusal, Performed.did_event, Performed.events_in, Performed.part_in}
 use Rattle.mc_pull.specs.Parts.{gone_part, hit_part, is_cold, is_here, is_warming, new_part, entry_number, part_events, part_for}
 use Rattle.mc_pull.specs.Perform.{Call, MayAnswer, IsRoomOf, answer_to, item_before}
-use Rattle.mc_pull.proofs.CallItemLemmas.{AgreesWith, Finds, KeepsLink, after_is, entry, entry_stays, finds, kept_link, did, given_none, goes, key, may_do, not_held, noted, placed, refused_there, spared_if_apart, spared_if_kept, still_agrees}
+use Rattle.mc_pull.proofs.CallItemLemmas.{AgreesWith, Finds, KeepsLink, after_is, entry, entry_stays, finds, kept_link, did, given_none, goes, key, may_do}
+use Rattle.mc_pull.proofs.CallItemLemmas.{not_held, noted, placed, refused_there, spared_if_apart, spared_if_kept, still_agrees}
 use Rattle.mc_pull.proofs.{NewVersionLemmas.IsPlaced, PerformLemmas.active_after}
 
 module _ (s : Stripe) (c : Call) (legal : IsLegal s.site s.history) (may : MayAnswer s c) where
@@ -63,7 +64,8 @@ module _ (s : Stripe) (c : Call) (legal : IsLegal s.site s.history) (may : MayAn
         one_goes : (m : ℕ) → part_by change ≡ parts.Unlinks m → link_of_item (item_before s c) ≡ Some (link_to v.number m) → link_of_item (changed (item_before s c) change) ≢ Some (link_to v.number m)
             → IsGivenNone v.number (did s c) → IsRefusedThere v.number (did s c) v.history → Made (part_by change)
         one_goes m is had gone none refused =
-            quiet (parts.Unlinks m) is refl (agree_unlinks s.site v.rule v.number s.history v.history agree (did s c) (record { who = c.who; number = m }) (unlinking m had gone) (entry s c legal may v lawful agree m had) none refused)
+            quiet (parts.Unlinks m) is refl (agree_unlinks s.site v.rule v.number s.history v.history agree (did s c) (record { who = c.who; number = m })
+            (unlinking m had gone) (entry s c legal may v lawful agree m had) none refused)
 
         kept : link_of_item (changed (item_before s c) change) ≡ link_of_item (item_before s c) → KeepsLink s c
         kept same = ap (λ (x : Change). link_of_item (changed (item_before s c) x)) change_is ∙ same
@@ -107,7 +109,8 @@ module _ (s : Stripe) (c : Call) (legal : IsLegal s.site s.history) (may : MayAn
       goes_by change_is none =
           elim (finds s c legal may v lawful agree) [
             | inl has ↦ one_goes changes.Goes change_is has.0 (gone_is (item_before s c) ∙ ap gone_part has.2) has.1 (λ is. none_some is) (given_none s c legal may v.number v.history none) refused
-            | inr lacks ↦ none_comes changes.Goes change_is (gone_is (item_before s c) ∙ ap gone_part lacks.1) (given_none s c legal may v.number v.history none) (spared_if_apart s c legal may v.number v.history lacks.0) refused
+            | inr lacks ↦ none_comes changes.Goes change_is (gone_is (item_before s c)
+                ∙ ap gone_part lacks.1) (given_none s c legal may v.number v.history none) (spared_if_apart s c legal may v.number v.history lacks.0) refused
           ]
 
       -- a hit's part moves nothing, or the entry of the item
@@ -147,7 +150,8 @@ module _ (s : Stripe) (c : Call) (legal : IsLegal s.site s.history) (may : MayAn
         replaced m had is = not_held s c legal may (link_to v.number m) (room ∙ ap rooms.At (some_same _ _ is)) had
 
         -- the part, where the new link is of the class or isn't, and the old one's number is found or isn't
-        renewed_is : (here : Bool) (o : Option ℕ) → is_here v c.room ≡ here → entry_number v (key s c) (link_of_item (item_before s c)) ≡ o → part_by (changes.Renewed item) ≡ new_part (key s c) (cost_of (key s c) item.value) item.expiry here o
+        renewed_is : (here : Bool) (o : Option ℕ) → is_here v c.room ≡ here → entry_number v (key s c) (link_of_item (item_before s c)) ≡ o
+            → part_by (changes.Renewed item) ≡ new_part (key s c) (cost_of (key s c) item.value) item.expiry here o
         renewed_is here o here_is old_is =
             ap (λ (b : Bool). new_part (key s c) (cost_of (key s c) item.value) item.expiry b (entry_number v (key s c) (link_of_item (item_before s c)))) here_is
             ∙ ap (new_part (key s c) (cost_of (key s c) item.value) item.expiry here) old_is

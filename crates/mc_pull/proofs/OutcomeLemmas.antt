@@ -112,7 +112,8 @@ taken_by c who number moment (Walk s mode passed) e item may is =
     (here.listed, here.full, here.near)
 taken_by c who number moment Dead e item may is = absurd (dead_evicts (is_dead item moment) item is)
 
-taken_item : (c : ClassView) (q : Question) (e : Entry) (o : Option Item) → MayJudge c q → IsSomeAnd o (λ item. (has_link c.number q.number item ≡ true) × (done_by c.rule (lists_of c.history) q.moment q.judge e item ≡ done.Evicted))
+taken_item : (c : ClassView) (q : Question) (e : Entry) (o : Option Item) → MayJudge c q
+    → IsSomeAnd o (λ item. (has_link c.number q.number item ≡ true) × (done_by c.rule (lists_of c.history) q.moment q.judge e item ≡ done.Evicted))
     → IsIn Cold q.number (lists_of c.history) × IsFull c.chunks (lists_of c.history) × IsNearTail q.number (lists_of c.history).cold (passed_of q.judge)
 taken_item c q e None may h = absurd h
 taken_item c q e (Some item) may h = taken_by c q.who q.number q.moment q.judge e item may h.1

@@ -55,7 +55,8 @@ events_same v room who moment at (parts.Warms number) = refl
 pub made_in : (v mid last : ClassView) (who : Who) (moment at now : ℕ) (part here : Part) → mid ≡ with_room v mid.room → last ≡ class_with mid (part_events mid who moment at part) last.room → part ≡ here → at ≡ now
     → last ≡ class_with v (part_events v who moment now here) last.room
 made_in v mid last who moment at now part here same made part_is at_is =
-    let first : last ≡ class_with (with_room v mid.room) (part_events (with_room v mid.room) who moment at part) last.room = made ∙ ap (λ (x : ClassView). class_with x (part_events x who moment at part) last.room) same in
+    let first : last ≡ class_with (with_room v mid.room) (part_events (with_room v mid.room) who moment at part) last.room = made
+    ∙ ap (λ (x : ClassView). class_with x (part_events x who moment at part) last.room) same in
     first ∙ (ap (λ (es : List ClassEvent). class_with v es last.room) (events_same v mid.room who moment at part)
     ∙ (ap (λ (p : Part). class_with v (part_events v who moment at p) last.room) part_is ∙ ap (λ (n : ℕ). class_with v (part_events v who moment n here) last.room) at_is))
 

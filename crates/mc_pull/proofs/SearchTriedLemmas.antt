@@ -1,5 +1,6 @@
 -- A search for a chunk that found none has tried: its walks took, moved or reclaimed an entry, or passed all that they looked at.
-use Rattle.std.proofs.Common.{length, ◌≡◌, ◌≢◌, ℕ, zero, suc, ◌+◌, ◌<◌, ◌≤◌, ◌&&◌, ◌⊎◌, if◌then◌else◌, List, [], ◌∷◌, ◌++◌, Bool, true, false, Some, None, Option, inl, inr, refl, sym, ap, ◌∙◌, subst, arith, append_assoc, reverse, nat_eq}
+use Rattle.std.proofs.Common.{length, ◌≡◌, ◌≢◌, ℕ, zero, suc, ◌+◌, ◌<◌, ◌≤◌, ◌&&◌, ◌⊎◌, if◌then◌else◌, List, [], ◌∷◌, ◌++◌, Bool, true, false, Some, None}
+use Rattle.std.proofs.Common.{Option, inl, inr, refl, sym, ap, ◌∙◌, subst, arith, append_assoc, reverse, nat_eq}
 use Rattle.std.specs.Prelude.{IsSomeAnd, nat_lt, nat_le, not}
 use Rattle.std.proofs.lemmas.{Bool.Decides.nat_tests, List.append-nil, List.length-append, List.length-reverse, Option.slice_get_within}
 use Rattle.mc_item.specs.{Cache.Cache, Item.is_dead, Measure.stripe_of}
@@ -81,7 +82,9 @@ run_tried p w (a ∷ xs) =
 
 pub walk_tried : (r : Rounds) (s : Seg) (mode : Mode) (before after : List ClassEvent) (xs : List Answer) (pulled : Pulled) → Walks r s mode before xs after pulled → Tried r.who before after
 walk_tried r s mode before after xs pulled walk =
-    subst (λ (h : List ClassEvent). Tried r.who before h) (sym walk.history_is) (run_tried (pull (class_at r.class before) s mode r.who r.moment r.config) (start_of (pull (class_at r.class before) s mode r.who r.moment r.config)) xs)
+    subst (λ (h : List ClassEvent). Tried r.who before h) (sym walk.history_is)
+    (run_tried (pull (class_at r.class before) s mode r.who r.moment r.config) (start_of (pull (class_at r.class before) s mode r.who r.moment r.config))
+    xs)
 
 -- ---- an entry that was had and is no stranger leaves an event, where an item is wanted
 -- an outcome that makes an event of the class
@@ -133,7 +136,9 @@ module _ (s : Seg) (mode : Mode) (wanting : IsWanting s mode) where
 
   with_item : (class : _) (number moment : ℕ) (rule : Rule) (l : Lists) (passed : List ℕ) (e : Entry) (o : Option Item) → IsDoneSo (done_if class number o (done_by rule l moment (Walk s mode passed) e))
   with_item class number moment rule l passed e None = inr refl
-  with_item class number moment rule l passed e (Some item) = with_link (has_link class number item) (done_by rule l moment (Walk s mode passed) e item) (wanting (is_dead item moment) item.marks.active (is_due rule l s mode moment e))
+  with_item class number moment rule l passed e (Some item) =
+      with_link (has_link class number item) (done_by rule l moment (Walk s mode passed) e item)
+      (wanting (is_dead item moment) item.marks.active (is_due rule l s mode moment e))
 
   with_entry : (c : ClassView) (cache : Cache) (who : Who) (number : ℕ) (passed : List ℕ) (moment : ℕ) (o : Option Entry) → IsDoneSo (done_with c cache (question who number (Walk s mode passed) moment) o)
   with_entry c cache who number passed moment None = inr refl

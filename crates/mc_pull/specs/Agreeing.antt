@@ -15,7 +15,8 @@ AgreeNow c s = Agree s.site c.rule c.number s.history c.history
 -- the histories agree still, where they agreed before: the class's with the stripe's, and each other class's, which gained nothing
 pub record KeepsAgreement (c c_new : ClassView) (s s_new : Stripe) : Type 0 where
   pub own : AgreeNow c s → AgreeNow c_new s_new
-  pub others : (other : ClassNo) (rule : Rule) (history : List ClassEvent) → other ≢ c.number → Agree s.site rule other s.history history → Agree s.site rule other s_new.history history
+  pub others : (other : ClassNo) (rule : Rule) (history : List ClassEvent) → other ≢ c.number → Agree s.site rule other s.history history
+      → Agree s.site rule other s_new.history history
 
 -- a refusal of this class that a room names is an event of this caller's call in the class's history
 abbrev pub HasRefusal : Who → Room → ClassNo → List ClassEvent → Type 0
@@ -30,4 +31,5 @@ IsApart number vs = OfEachClass (λ v. number ≢ v.number) vs
 -- gained nothing and has the refusal that the call's room may name
 pub record KeepsAgreements (c : Call) (s s_new : Stripe) (vs ws : List ClassView) : Type 0 where
   pub own : EachPair (λ v w. AgreeNow v s → AgreeNow w s_new) vs ws
-  pub others : (other : ClassNo) (rule : Rule) (history : List ClassEvent) → IsApart other vs → HasRefusal c.who c.room other history → Agree s.site rule other s.history history → Agree s.site rule other s_new.history history
+  pub others : (other : ClassNo) (rule : Rule) (history : List ClassEvent) → IsApart other vs → HasRefusal c.who c.room other history
+      → Agree s.site rule other s.history history → Agree s.site rule other s_new.history history

@@ -102,7 +102,8 @@ pub record MayMakePart (v : ClassView) (key : List ℕ) (room : Room) (fate : Fa
   pub place : ClassHasPlaces v (places_of (part_for v key room fate))
 
 -- a command was made in a room, of what it was given, as it may be made on these classes, and this is its reply
-pub record IsMadeOn (config : Config) (s s_new : Stripe) (command : Command) (turn : Turn) (given : Given) (vs ws : List ClassView) (reply : Reply) : Type 0 where
+pub record IsMadeOn (config : Config) (s s_new : Stripe) (command : Command) (turn : Turn) (given : Given) (vs ws : List ClassView) (reply : Reply) : Type
+    0 where
   pub room : Room
   pub fate : Fate
   pub uses : Uses given (key_of command) (item_of s command) turn.moment (row_at s command turn.moment) room fate

@@ -17,7 +17,8 @@ KeepsSurveys {S} keeps w =
 
 -- a gate serves a class still when it has a survey of it more, and whatever its room is
 pub record OutlastsSurveys {S : Type 0} (serves : S → Config → ClassView → Type 0) : Type 0 where
-  pub survey : (gate : S) (config : Config) (c : ClassView) (who : Who) (moment room : ℕ) → serves gate config c → serves gate config (class_with c (surveyed_event c who moment ∷ []) room)
+  pub survey : (gate : S) (config : Config) (c : ClassView) (who : Who) (moment room : ℕ) → serves gate config c
+      → serves gate config (class_with c (surveyed_event c who moment ∷ []) room)
   pub room : (gate : S) (config : Config) (c : ClassView) (room : ℕ) → serves gate config c → serves gate config (with_room c room)
 
 -- the survey of a class with this history

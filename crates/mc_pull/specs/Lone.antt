@@ -39,4 +39,5 @@ pub record StripeGrows (w : Walker) (old new : Stripe) : Type 0 where
 pub record Walked (w : Walker) (s : Stripe) (history : List ClassEvent) (s_new : Stripe) (history_new : List ClassEvent) : Type 0 where
   pub grows : StripeGrows w s s_new
   pub own : Agree s.site w.rule w.class s.history history → Agree s.site w.rule w.class s_new.history history_new
-  pub others : (other : ClassNo) (rule : Rule) (entries : List ClassEvent) → other ≢ w.class → Agree s.site rule other s.history entries → Agree s.site rule other s_new.history entries
+  pub others : (other : ClassNo) (rule : Rule) (entries : List ClassEvent) → other ≢ w.class → Agree s.site rule other s.history entries
+      → Agree s.site rule other s_new.history entries

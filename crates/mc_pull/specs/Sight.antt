@@ -31,6 +31,7 @@ pub record KeepsSight (c c_new : ClassView) (s s_new : Stripe) : Type 0 where
 
 -- a call keeps what is seen of each class that it isn't lent, where that has the refusal that its room may name, and of each other stripe
 pub record KeepsSights (c : Call) (s s_new : Stripe) (vs ws : List ClassView) : Type 0 where
-  pub told : (other : ClassNo) (rule : Rule) (seen : List ClassEvent) → IsApart other vs → HasRefusal c.who c.room other seen → TellsStill s s_new rule other seen
+  pub told : (other : ClassNo) (rule : Rule) (seen : List ClassEvent) → IsApart other vs → HasRefusal c.who c.room other seen
+      → TellsStill s s_new rule other seen
   pub backed : EachPair (BacksStill s.site) vs ws
   pub suited : EachPair (SuitsStill s.site) vs ws

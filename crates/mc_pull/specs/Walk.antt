@@ -82,7 +82,8 @@ run p w (a ∷ xs) = run p (step p w a) xs
 -- was done is what the rule makes of the entry by a state of that stripe
 pub record IsAnswer (p : Pull) (w : Way) (a : Answer) : Type 0 where
   pub goes : is_going p w ≡ true
-  pub asks : IsSomeAnd (next_entry p w) (λ e. (a.stripe ≡ stripe_of e.key p.config.stripes) × IsJudgedIf p.config a.stripe (class_at p.class w.history) (question_at p w e) a.judged)
+  pub asks : IsSomeAnd (next_entry p w) (λ e. (a.stripe ≡ stripe_of e.key p.config.stripes)
+      × IsJudgedIf p.config a.stripe (class_at p.class w.history) (question_at p w e) a.judged)
 
 -- each of these answers was asked for on the way
 abbrev pub IsAlong : Pull → Way → List Answer → Type 0

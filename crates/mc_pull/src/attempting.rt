@@ -7,7 +7,8 @@ ghost use Rattle.mc_item.specs.declared.{config.Config.Config, fault.Fault.TheVa
 ghost use Rattle.mc_item.specs.declared.reply.Room.TheVariants as rooms;
 ghost use Rattle.mc_segment.specs.ClassState.{with_room};
 ghost use Rattle.mc_stripe.specs.StripeCalls.{KeepsSite};
-ghost use Rattle.mc_pull.specs.Attempt.{GivesHome, HasFree, HasRoomFor, IsNoted, IsReady, IsReadyFor, IsSmallFate, IsTriedBy, LeavesPlaces, MayMakePart, MayTryOn, OffersHome, OffersOther};
+ghost use Rattle.mc_pull.specs.Attempt.{GivesHome, HasFree, HasRoomFor, IsNoted, IsReady, IsReadyFor, IsSmallFate, IsTriedBy, LeavesPlaces, MayMakePart};
+ghost use Rattle.mc_pull.specs.Attempt.{MayTryOn, OffersHome, OffersOther};
 ghost use Rattle.mc_pull.specs.Parts as words;
 ghost use Rattle.mc_pull.specs.{Parts.MayMake, Parts.part_for, Perform.call, Performed.IsUntouched, Performed.MayRefuseCall, Question.IsClassOf};
 ghost use Rattle.mc_pull.specs.{Question.IsStripeOf, Settled.class_with};
@@ -130,7 +131,8 @@ fn wake(
 ) -> Result<Prepared, Fault>
     ensures ready { IfOk result (IsReadyFor class.old class.new command.now woken) }
     ensures same { class.new ≡ with_room class.old class.new.room }
-    ensures full { IsErrOf result HistoryFull → (words.is_warming (words.hit_part class.old (words.number_in class.old (key_of command.now) woken)) ≡ true) × (class.old.max_events < length class.old.history + 1) }
+    ensures full { IsErrOf result HistoryFull → (words.is_warming (words.hit_part class.old (words.number_in class.old (key_of command.now) woken)) ≡ true)
+        × (class.old.max_events < length class.old.history + 1) }
 {
     let warms = hit_part(class, number_in(class, command.key(), woken)).is_warming();
     if warms {
@@ -199,7 +201,8 @@ fn cooled_key(
 #[inline(always)]
 pub fn attempt_none(stripe: &mut StripeState, command: &Command, turn: Turn) -> Result<Tried, Fault>
     requires may { MayTryOn stripe.old [] command.now turn (record { home = None; other = None }) }
-    ensures tried { (config : Config) → IsStripeOf config stripe.old → IfOk result (IsTriedBy config stripe.old stripe.new command.now turn (record { home = None; other = None }) [] []) }
+    ensures tried { (config : Config) → IsStripeOf config stripe.old
+        → IfOk result (IsTriedBy config stripe.old stripe.new command.now turn (record { home = None; other = None }) [] []) }
     ensures err { OnErr result (IsUntouched stripe.old stripe.new [] []) }
     ensures refusal { IsErrOf result HistoryFull → MayRefuseCall stripe.old (call turn.who command.now turn.moment rooms.Keep) [] HistoryFull }
     ensures site { KeepsSite stripe.old stripe.new }
@@ -227,7 +230,8 @@ pub fn attempt_one(
 ) -> Result<Tried, Fault>
     requires may { MayTryOn stripe.old (class.old ∷ []) command.now turn given }
     requires room { HasRoomFor given class.old }
-    ensures tried { (config : Config) → IsStripeOf config stripe.old → IsClassOf config class.old → IfOk result (IsTriedBy config stripe.old stripe.new command.now turn given (class.old ∷ []) (class.new ∷ [])) }
+    ensures tried { (config : Config) → IsStripeOf config stripe.old → IsClassOf config class.old
+        → IfOk result (IsTriedBy config stripe.old stripe.new command.now turn given (class.old ∷ []) (class.new ∷ [])) }
     ensures err { OnErr result (IsUntouched stripe.old stripe.new (class.old ∷ []) (class.new ∷ [])) }
     ensures refusal { IsErrOf result HistoryFull → MayRefuseCall stripe.old (call turn.who command.now turn.moment rooms.Keep) (class.old ∷ []) HistoryFull }
     ensures site { KeepsSite stripe.old stripe.new }
@@ -268,9 +272,11 @@ pub fn attempt_two(
 ) -> Result<Tried, Fault>
     requires may { MayTryOn stripe.old (home.old ∷ other.old ∷ []) command.now turn given }
     requires room { HasRoomFor given home.old × HasRoomFor given other.old }
-    ensures tried { (config : Config) → IsStripeOf config stripe.old → IsClassOf config home.old → IsClassOf config other.old → IfOk result (IsTriedBy config stripe.old stripe.new command.now turn given (home.old ∷ other.old ∷ []) (home.new ∷ other.new ∷ [])) }
+    ensures tried { (config : Config) → IsStripeOf config stripe.old → IsClassOf config home.old → IsClassOf config other.old
+        → IfOk result (IsTriedBy config stripe.old stripe.new command.now turn given (home.old ∷ other.old ∷ []) (home.new ∷ other.new ∷ [])) }
     ensures err { OnErr result (IsUntouched stripe.old stripe.new (home.old ∷ other.old ∷ []) (home.new ∷ other.new ∷ [])) }
-    ensures refusal { IsErrOf result HistoryFull → MayRefuseCall stripe.old (call turn.who command.now turn.moment rooms.Keep) (home.old ∷ other.old ∷ []) HistoryFull }
+    ensures refusal { IsErrOf result HistoryFull
+        → MayRefuseCall stripe.old (call turn.who command.now turn.moment rooms.Keep) (home.old ∷ other.old ∷ []) HistoryFull }
     ensures site { KeepsSite stripe.old stripe.new }
 {
     home.law();

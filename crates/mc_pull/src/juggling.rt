@@ -3,9 +3,11 @@ ghost use Rattle.std.specs.Prelude.{◌≡◌, ◌≤◌, ◌+◌, ◌++◌, ◌
 ghost use Rattle.mc_item.specs.declared.{config.Config.Config, lists.Seg.TheVariants.Temp};
 ghost use Rattle.mc_segment.specs.{ClassCalls.surveyed_event, ClassState.with_room};
 ghost use Rattle.mc_pull.specs.declared.{judge.Mode.TheVariants.Plain, looking.Answer.Answer};
-ghost use Rattle.mc_pull.specs.{Growth.GainsEvents, Growth.KeepsSince, Pulled.none_pulled, Pulled.sum_of, Question.IsClassOf, Question.IsSurveyIn, Refusal.MayFailAlone};
+ghost use Rattle.mc_pull.specs.{Growth.GainsEvents, Growth.KeepsSince, Pulled.none_pulled, Pulled.sum_of, Question.IsClassOf, Question.IsSurveyIn};
+ghost use Rattle.mc_pull.specs.{Refusal.MayFailAlone};
 ghost use Rattle.mc_pull.specs.{Rounds.rounds, Rounds.Walks, Settled.class_with, Walker.walker_of};
-ghost use Rattle.mc_pull.specs.Juggle.{juggling, survey_at, history_surveyed, KeepsSurveys, OutlastsSurveys, PullsWarm, IsJuggleRound, IsJuggled, JugglesTemp, JugglesRounds, IsJuggle};
+ghost use Rattle.mc_pull.specs.Juggle.{juggling, survey_at, history_surveyed, KeepsSurveys, OutlastsSurveys, PullsWarm, IsJuggleRound, IsJuggled, JugglesTemp};
+ghost use Rattle.mc_pull.specs.Juggle.{JugglesRounds, IsJuggle};
 
 use crate::judge::Mode;
 use crate::looking::Gate;
@@ -32,7 +34,8 @@ fn pull_warm<G: Gate>(
     requires survey { IsSurveyIn class.old.history who moment survey }
     requires config { IsClassOf config.now class.old }
     requires gate { G.serves gate.old config.now class.old }
-    ensures walk { IfOk result (λ pulled. (xs : List Answer) × (G.answers gate.new ≡ G.answers gate.old ++ xs) × PullsWarm (rounds class.old who moment config.now) survey did class.old.history xs class.new.history pulled) }
+    ensures walk { IfOk result (λ pulled. (xs : List Answer) × (G.answers gate.new ≡ G.answers gate.old ++ xs)
+        × PullsWarm (rounds class.old who moment config.now) survey did class.old.history xs class.new.history pulled) }
     ensures few { IfOk result (λ pulled. sum_of pulled ≤ 5) }
     ensures grows { GainsEvents class.old class.new }
     ensures fault { IfErr result (G.faults gate.new class.new) }
@@ -60,7 +63,8 @@ fn juggle_round<G: Gate>(
     requires survey { IsSurveyIn class.old.history who moment survey }
     requires config { IsClassOf config.now class.old }
     requires gate { G.serves gate.old config.now class.old }
-    ensures round { IfOk result (λ sum. (xs : List Answer) × (G.answers gate.new ≡ G.answers gate.old ++ xs) × IsJuggleRound (rounds class.old who moment config.now) survey class.old.history xs class.new.history sum) }
+    ensures round { IfOk result (λ sum. (xs : List Answer) × (G.answers gate.new ≡ G.answers gate.old ++ xs)
+        × IsJuggleRound (rounds class.old who moment config.now) survey class.old.history xs class.new.history sum) }
     ensures few { IfOk result (λ sum. sum_of sum ≤ 15) }
     ensures grows { GainsEvents class.old class.new }
     ensures fault { IfErr result (G.faults gate.new class.new) }
@@ -91,7 +95,8 @@ fn juggle_rounds<G: Gate>(
     requires survey { IsSurveyIn class.old.history who moment survey }
     requires config { IsClassOf config.now class.old }
     requires gate { G.serves gate.old config.now class.old }
-    ensures juggled { IfOk result (λ sum. (xs : List Answer) × (G.answers gate.new ≡ G.answers gate.old ++ xs) × IsJuggled (IsJuggleRound (rounds class.old who moment config.now) survey) (juggling class.old.history total) xs (juggling class.new.history sum)) }
+    ensures juggled { IfOk result (λ sum. (xs : List Answer) × (G.answers gate.new ≡ G.answers gate.old ++ xs)
+        × IsJuggled (IsJuggleRound (rounds class.old who moment config.now) survey) (juggling class.old.history total) xs (juggling class.new.history sum)) }
     ensures few { IfOk result (λ sum. sum_of sum ≤ 10000) }
     ensures grows { GainsEvents class.old class.new }
     ensures fault { IfErr result (G.faults gate.new class.new) }
@@ -125,7 +130,9 @@ fn temp_rounds<G: Gate>(
     requires survey { IsSurveyIn class.old.history who moment survey }
     requires config { IsClassOf config.now class.old }
     requires gate { G.serves gate.old config.now class.old }
-    ensures juggled { IfOk result (λ sum. (xs : List Answer) × (G.answers gate.new ≡ G.answers gate.old ++ xs) × IsJuggled (Walks (rounds class.old who moment config.now) Temp (Plain survey)) (juggling class.old.history none_pulled) xs (juggling class.new.history sum)) }
+    ensures juggled { IfOk result (λ sum. (xs : List Answer) × (G.answers gate.new ≡ G.answers gate.old ++ xs)
+        × IsJuggled (Walks (rounds class.old who moment config.now) Temp (Plain survey)) (juggling class.old.history none_pulled) xs
+        (juggling class.new.history sum)) }
     ensures few { IfOk result (λ sum. sum_of sum ≤ 2500) }
     ensures grows { GainsEvents class.old class.new }
     ensures fault { IfErr result (G.faults gate.new class.new) }
@@ -173,7 +180,8 @@ fn juggle_temp<G: Gate>(
     requires gate { G.serves gate.old config.now class.old }
     requires surveys { KeepsSurveys G.keeps (walker_of class.old who moment) }
     requires outlasts { OutlastsSurveys G.serves }
-    ensures temp { IfOk result (λ sum. (xs : List Answer) × (G.answers gate.new ≡ G.answers gate.old ++ xs) × JugglesTemp (rounds class.old who moment config.now) config.now.temp class.old.history xs (juggling class.new.history sum)) }
+    ensures temp { IfOk result (λ sum. (xs : List Answer) × (G.answers gate.new ≡ G.answers gate.old ++ xs)
+        × JugglesTemp (rounds class.old who moment config.now) config.now.temp class.old.history xs (juggling class.new.history sum)) }
     ensures few { IfOk result (λ sum. sum_of sum ≤ 2500) }
     ensures grows { GainsEvents class.old class.new }
     ensures fault { IfErr result (λ fault. G.faults gate.new class.new fault ⊎ MayFailAlone class.new fault) }
@@ -203,7 +211,8 @@ fn juggle_rest<G: Gate>(
     requires gate { G.serves gate.old config.now class.old }
     requires surveys { KeepsSurveys G.keeps (walker_of class.old who moment) }
     requires outlasts { OutlastsSurveys G.serves }
-    ensures rest { IfOk result (λ sum. (xs : List Answer) × (G.answers gate.new ≡ G.answers gate.old ++ xs) × JugglesRounds (rounds class.old who moment config.now) (juggling class.old.history total) xs (juggling class.new.history sum)) }
+    ensures rest { IfOk result (λ sum. (xs : List Answer) × (G.answers gate.new ≡ G.answers gate.old ++ xs)
+        × JugglesRounds (rounds class.old who moment config.now) (juggling class.old.history total) xs (juggling class.new.history sum)) }
     ensures few { IfOk result (λ sum. sum_of sum ≤ 10000) }
     ensures grows { GainsEvents class.old class.new }
     ensures fault { IfErr result (λ fault. G.faults gate.new class.new fault ⊎ MayFailAlone class.new fault) }
@@ -232,7 +241,8 @@ pub fn juggle<G: Gate>(
     requires gate { G.serves gate.old config.now class.old }
     requires surveys { KeepsSurveys G.keeps (walker_of class.old who moment) }
     requires outlasts { OutlastsSurveys G.serves }
-    ensures juggle { IfOk result (λ moves. (xs : List Answer) × (G.answers gate.new ≡ G.answers gate.old ++ xs) × IsJuggle (rounds class.old who moment config.now) class.old.history xs class.new.history moves) }
+    ensures juggle { IfOk result (λ moves. (xs : List Answer) × (G.answers gate.new ≡ G.answers gate.old ++ xs)
+        × IsJuggle (rounds class.old who moment config.now) class.old.history xs class.new.history moves) }
     ensures few { IfOk result (λ moves. moves.reclaimed + moves.moved ≤ 10000) }
     ensures grows { GainsEvents class.old class.new }
     ensures fault { IfErr result (λ fault. G.faults gate.new class.new fault ⊎ MayFailAlone class.new fault) }

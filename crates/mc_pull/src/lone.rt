@@ -1,6 +1,7 @@
 //! A gate that is lent one stripe, and has no other.
 ghost use Rattle.std.specs.Prelude.{◌≡◌, ◌≤◌, ◌+◌, ◌++◌, List, IfOk, IfErr};
-ghost use Rattle.mc_pull.specs.{Growth.GainsEvents, Juggle.IsJuggle, Lone.Serves, Lone.Walked, Question.IsClassOf, Refusal.MayFail, Rounds.rounds, Rounds.IsRoom};
+ghost use Rattle.mc_pull.specs.{Growth.GainsEvents, Juggle.IsJuggle, Lone.Serves, Lone.Walked, Question.IsClassOf, Refusal.MayFail, Rounds.rounds};
+ghost use Rattle.mc_pull.specs.{Rounds.IsRoom};
 ghost use Rattle.mc_pull.specs.{Walker.walker_of};
 ghost use Rattle.mc_pull.specs.declared.looking.Answer.{Answer};
 
@@ -66,7 +67,8 @@ impl<'a> Lone<'a> {
     ) -> Result<bool, Fault>
         requires config { IsClassOf config.now class.old }
         requires gate { Serves self.old.number.0 self.old.stripe.now config.now }
-        ensures room { IfOk result (λ found. (xs : List Answer) × (self.new.answers.now.items ≡ self.old.answers.now.items ++ xs) × IsRoom (rounds class.old who moment config.now) class.old.history xs class.new.history found) }
+        ensures room { IfOk result (λ found. (xs : List Answer) × (self.new.answers.now.items ≡ self.old.answers.now.items ++ xs)
+            × IsRoom (rounds class.old who moment config.now) class.old.history xs class.new.history found) }
         ensures fault { IfErr result (MayFail class.new self.new.stripe.now) }
         ensures grows { GainsEvents class.old class.new }
         ensures same_reference { self.new.stripe.ghost_name ≡ self.old.stripe.ghost_name }
@@ -87,7 +89,8 @@ impl<'a> Lone<'a> {
     ) -> Result<Moves, Fault>
         requires config { IsClassOf config.now class.old }
         requires gate { Serves self.old.number.0 self.old.stripe.now config.now }
-        ensures juggle { IfOk result (λ moves. (xs : List Answer) × (self.new.answers.now.items ≡ self.old.answers.now.items ++ xs) × IsJuggle (rounds class.old who moment config.now) class.old.history xs class.new.history moves) }
+        ensures juggle { IfOk result (λ moves. (xs : List Answer) × (self.new.answers.now.items ≡ self.old.answers.now.items ++ xs)
+            × IsJuggle (rounds class.old who moment config.now) class.old.history xs class.new.history moves) }
         ensures few { IfOk result (λ moves. moves.reclaimed + moves.moved ≤ 10000) }
         ensures fault { IfErr result (MayFail class.new self.new.stripe.now) }
         ensures grows { GainsEvents class.old class.new }

@@ -60,7 +60,8 @@ fn look_at<G: Gate>(
     requires key { HasKeyOf stripe config.now class.old (question who number judge.now moment) }
     requires gate { G.serves gate.old config.now class.old }
     ensures answer { IfOk result (λ judged. G.answers gate.new ≡ G.answers gate.old ++ answer_by stripe judged ∷ []) }
-    ensures class { IfOk result (λ judged. class.new ≡ class_with class.old (events_if class.old (question who number judge.now moment) judged) class.new.room) }
+    ensures class { IfOk result (λ judged. class.new ≡ class_with class.old (events_if class.old (question who number judge.now moment) judged)
+        class.new.room) }
     ensures judged { IfOk result (λ judged. IsJudgedIf config.now stripe class.old (question who number judge.now moment) judged) }
     ensures err { OnErr result ((class.new ≡ with_room class.old class.new.room) × (G.answers gate.new ≡ G.answers gate.old)) }
     ensures fault { IfErr result (G.faults gate.new class.new) }
@@ -94,8 +95,10 @@ fn look_next<G: Gate>(
     requires walk { MayWalk class.old seg mode who moment }
     requires config { IsClassOf config.now class.old }
     requires gate { G.serves gate.old config.now class.old }
-    ensures answer { IfOk result (λ a. IsAnswer (pull class.old seg mode who moment config.now) (way class.old.history left pulled false) a × (G.answers gate.new ≡ G.answers gate.old ++ a ∷ [])) }
-    ensures class { IfOk result (λ a. class.new.history ≡ (step (pull class.old seg mode who moment config.now) (way class.old.history left pulled false) a).history) }
+    ensures answer { IfOk result (λ a. IsAnswer (pull class.old seg mode who moment config.now) (way class.old.history left pulled false) a
+        × (G.answers gate.new ≡ G.answers gate.old ++ a ∷ [])) }
+    ensures class { IfOk result (λ a. class.new.history
+        ≡ (step (pull class.old seg mode who moment config.now) (way class.old.history left pulled false) a).history) }
     ensures grows { GainsEvents class.old class.new }
     ensures err { OnErr result ((class.new.history ≡ class.old.history) × (G.answers gate.new ≡ G.answers gate.old)) }
     ensures fault { IfErr result (G.faults gate.new class.new) }
@@ -136,8 +139,10 @@ pub fn pull_tail<G: Gate>(
     requires walk { MayWalk class.old seg mode who moment }
     requires config { IsClassOf config.now class.old }
     requires gate { G.serves gate.old config.now class.old }
-    ensures walk { IfOk result (λ pulled. (xs : List Answer) × (G.answers gate.new ≡ G.answers gate.old ++ xs) × IsWalk (pull class.old seg mode who moment config.now) xs class.new.history pulled) }
-    ensures err { OnErr result ((xs : List Answer) × (G.answers gate.new ≡ G.answers gate.old ++ xs) × IsBrokenWalk (pull class.old seg mode who moment config.now) xs class.new.history) }
+    ensures walk { IfOk result (λ pulled. (xs : List Answer) × (G.answers gate.new ≡ G.answers gate.old ++ xs)
+        × IsWalk (pull class.old seg mode who moment config.now) xs class.new.history pulled) }
+    ensures err { OnErr result ((xs : List Answer) × (G.answers gate.new ≡ G.answers gate.old ++ xs)
+        × IsBrokenWalk (pull class.old seg mode who moment config.now) xs class.new.history) }
     ensures grows { GainsEvents class.old class.new }
     ensures few { IfOk result (λ pulled. sum_of pulled ≤ 5) }
     ensures fault { IfErr result (G.faults gate.new class.new) }

@@ -33,7 +33,8 @@ fn room_round<G: Gate>(
     requires full { words.is_free class.old class.old.history ≡ false }
     requires config { IsClassOf config.now class.old }
     requires gate { G.serves gate.old config.now class.old }
-    ensures round { IfOk result (λ _. (xs : List Answer) × (G.answers gate.new ≡ G.answers gate.old ++ xs) × IsRoomRound (rounds class.old who moment config.now) class.old.history xs class.new.history) }
+    ensures round { IfOk result (λ _. (xs : List Answer) × (G.answers gate.new ≡ G.answers gate.old ++ xs)
+        × IsRoomRound (rounds class.old who moment config.now) class.old.history xs class.new.history) }
     ensures grows { GainsEvents class.old class.new }
     ensures fault { IfErr result (G.faults gate.new class.new) }
     ensures holds { G.references gate.new ≡ G.references gate.old }
@@ -79,7 +80,8 @@ pub fn make_room<G: Gate>(
 ) -> Result<bool, Fault>
     requires config { IsClassOf config.now class.old }
     requires gate { G.serves gate.old config.now class.old }
-    ensures room { IfOk result (λ found. (xs : List Answer) × (G.answers gate.new ≡ G.answers gate.old ++ xs) × IsRoom (rounds class.old who moment config.now) class.old.history xs class.new.history found) }
+    ensures room { IfOk result (λ found. (xs : List Answer) × (G.answers gate.new ≡ G.answers gate.old ++ xs)
+        × IsRoom (rounds class.old who moment config.now) class.old.history xs class.new.history found) }
     ensures grows { GainsEvents class.old class.new }
     ensures fault { IfErr result (G.faults gate.new class.new) }
     ensures holds { G.references gate.new ≡ G.references gate.old }

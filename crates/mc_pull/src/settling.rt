@@ -165,7 +165,8 @@ fn settle_cold(
     requires judge { ask.now.judge.now ≡ judges.Walk seg mode passed.now }
     requires asked { IsAsked class.old stripe.now ask.now }
     requires done { done_of class.old (cache_now stripe.now) (question_of ask.now) ≡ done.ToCold }
-    ensures ok { OnOk result (class.new ≡ class_with class.old (done_class_events class.old (question_of ask.now) (length stripe.now.history) done.ToCold) class.new.room) }
+    ensures ok { OnOk result (class.new ≡ class_with class.old (done_class_events class.old (question_of ask.now) (length stripe.now.history) done.ToCold)
+        class.new.room) }
     ensures err { OnErr result (class.new ≡ with_room class.old class.new.room) }
     ensures refusal { MatchResult result (λ _. HasPlaces class.old 1) (MayRefuse class.old 1) }
 {

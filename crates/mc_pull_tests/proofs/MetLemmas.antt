@@ -191,7 +191,8 @@ met_refused config s v v_new w who makes met =
     })
 
 -- an entry of the first class was settled
-pub met_settled : (config : Config) (s s_new : Stripe) (v v_new w : ClassView) (q : Question) (d : Done) → KeepsSite s s_new → IsSettled v v_new s s_new q d → KeepsAgreement v v_new s s_new → AreMet config s v w → AreMet config s_new v_new w
+pub met_settled : (config : Config) (s s_new : Stripe) (v v_new w : ClassView) (q : Question) (d : Done) → KeepsSite s s_new → IsSettled v v_new s s_new q d
+    → KeepsAgreement v v_new s s_new → AreMet config s v w → AreMet config s_new v_new w
 met_settled config s s_new v v_new w q d site settled agreement met =
     met_one config s s_new v w met v_new (record {
       site = site;

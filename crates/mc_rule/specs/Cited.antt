@@ -18,8 +18,10 @@ IsCitedIn site class seen number at P key = IsSomeAnd (cited_in site seen key at
 abbrev pub IsSuited : Site → ClassNo → List StripeEvent → List ClassEvent → ClassEvent → Type 0
 IsSuited site class seen behind (entries.Linked e) = Unit {0}
 IsSuited site class seen behind (entries.Unlinked e) = Unit {0}
-IsSuited site class seen behind (entries.Shifted e) = OfStripe site behind e.number (λ key. IsCitedIn site class seen e.number e.at (SuitsMove e.why e.moment) key)
+IsSuited site class seen behind (entries.Shifted e) =
+    OfStripe site behind e.number (λ key. IsCitedIn site class seen e.number e.at (SuitsMove e.why e.moment) key)
 IsSuited site class seen behind (entries.Evicted e) = Unit {0}
-IsSuited site class seen behind (entries.Reclaimed e) = OfStripe site behind e.number (λ key. IsCitedIn site class seen e.number e.at (λ item. is_dead item e.moment ≡ true) key)
+IsSuited site class seen behind (entries.Reclaimed e) =
+    OfStripe site behind e.number (λ key. IsCitedIn site class seen e.number e.at (λ item. is_dead item e.moment ≡ true) key)
 IsSuited site class seen behind (entries.Surveyed e) = Unit {0}
 IsSuited site class seen behind (entries.Refused e) = Unit {0}

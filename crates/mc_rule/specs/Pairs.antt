@@ -36,7 +36,8 @@ pub record IsLinking (site : Site) (rule : Rule) (class : ClassNo) (before : Lis
   pub room : did.room ≡ rooms.At (link_to class e.number)
   pub key : e.key ≡ key_of did.command
   pub moment : e.moment ≡ did.moment
-  pub item : IsSomeAnd (item_after site (before ++ events.Did did ∷ []) (key_of did.command)) (λ item. (e.cost ≡ cost_of (key_of did.command) item.value) × (e.seg ≡ segment_for rule did.moment item.expiry))
+  pub item : IsSomeAnd (item_after site (before ++ events.Did did ∷ []) (key_of did.command)) (λ item. (e.cost ≡ cost_of (key_of did.command) item.value)
+      × (e.seg ≡ segment_for rule did.moment item.expiry))
 
 -- the item that a command replaced or removed, and its entry
 pub record IsUnlinking (site : Site) (class : ClassNo) (before : List StripeEvent) (did : Did) (e : Unlinked) : Type 0 where

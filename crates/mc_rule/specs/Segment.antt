@@ -1,6 +1,7 @@
 -- The rule of the segments: where a new entry goes, ages, surveys, limits, and who stands near a tail
 -- (own, modelled on new_lru.txt and items.c).
-use Rattle.std.specs.Prelude.{ℕ, ◌+◌, ◌-◌, ◌*◌, ◌/◌, ◌≤◌, ◌≡◌, ◌==◌, ◌&&◌, List, [], ◌∷◌, Bool, nat_lt, nat_le, if◌then◌else◌, Option, Some, None, length, map, reverse}
+use Rattle.std.specs.Prelude.{ℕ, ◌+◌, ◌-◌, ◌*◌, ◌/◌, ◌≤◌, ◌≡◌, ◌==◌, ◌&&◌, List, [], ◌∷◌, Bool, nat_lt, nat_le, if◌then◌else◌, Option, Some, None, length, map}
+use Rattle.std.specs.Prelude.{reverse}
 use Rattle.mc_item.specs.declared.{config.Config.Config, item.Expiry.Expiry, item.Expiry.TheVariants.Never, item.Expiry.TheVariants.At, lists.Entry.Entry}
 use Rattle.mc_item.specs.declared.{lists.Seg.Seg, lists.Seg.TheVariants.Hot, lists.Seg.TheVariants.Warm, lists.Seg.TheVariants.Cold, lists.Seg.TheVariants.Temp}
 use Rattle.mc_rule.specs.Lists.{Lists, bytes_of, from_tail}
@@ -17,7 +18,15 @@ pub record Rule : Type 0 where
 -- the rule of a configuration
 abbrev pub rule_of : Config → Rule
 rule_of c =
-    record { temp = c.temp; temp_ttl = c.temp_ttl; hot_percent = c.hot_percent; warm_percent = c.warm_percent; hot_factor = c.hot_factor; warm_factor = c.warm_factor }
+    record {
+      temp = c.temp;
+      temp_ttl = c.temp_ttl;
+      hot_percent = c.hot_percent;
+      warm_percent = c.warm_percent;
+      hot_factor = c.hot_factor;
+      warm_factor =
+          c.warm_factor;
+    }
 
 -- the segment of a new entry whose item dies at a moment: TEMP where it is in use and the item dies soon
 abbrev pub segment_until : Rule → ℕ → ℕ → Seg

@@ -30,8 +30,10 @@ classes_from-split first n all below =
     ap (classes_from first) is ∙ classes_from-append first n (suc (all - (n + 1)))
 
 -- the call of one class more was made
-pub class_more : {S : Type 0} (call : ClassNo → ScriptCall) (sum_of : List Answer → S) (first n : ℕ) (sums sums' : S) (answer : Answer) (caller caller' turn turn' turn'' moment : ℕ) (notes notes' notes'' : List Exchange → Type 0)
-    → (so_far : SumsUp call sum_of (classes_from first n) sums caller turn turn' moment notes notes') → sums' ≡ sum_of (so_far.answers ++ answer ∷ []) → caller' ≡ caller → IsOfKind (call (record { 0 = first + n })) answer
+pub class_more : {S : Type 0} (call : ClassNo → ScriptCall) (sum_of : List Answer
+    → S) (first n : ℕ) (sums sums' : S) (answer : Answer) (caller caller' turn turn' turn'' moment : ℕ) (notes notes' notes'' : List Exchange → Type 0)
+    → (so_far : SumsUp call sum_of (classes_from first n) sums caller turn turn' moment notes notes') → sums' ≡ sum_of (so_far.answers ++ answer ∷ [])
+    → caller' ≡ caller → IsOfKind (call (record { 0 = first + n })) answer
     → AddsCalls notes' notes'' (exchange caller' turn' (call (record { 0 = first + n })) moment answer ∷ []) → turn'' ≡ turn' + 1
     → SumsUp call sum_of (classes_from first (n + 1)) sums' caller turn turn'' moment notes notes''
 class_more call sum_of first n sums sums' answer caller caller' turn turn' turn'' moment notes notes' notes'' so_far added same kind noted next =

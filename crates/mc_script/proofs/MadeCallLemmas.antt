@@ -113,7 +113,9 @@ breaks_later fault calls others further answers caller caller' turn turn' moment
       noted = adds_same notes notes'' _ _
           (ap (λ (n : ℕ). exchanges caller turn moment calls answers ++ exchanges n turn' moment others second.answers) same
           ∙ ap (λ (n : ℕ). exchanges caller turn moment calls answers ++ exchanges caller n moment others second.answers) first.turns
-          ∙ ap (λ (t : List Exchange). exchanges caller turn moment calls answers ++ t) (exchanges-front caller (turn + length calls) moment others further second.answers (part_few fault (length second.answers) (length others) second.part))
+          ∙ ap (λ (t : List Exchange). exchanges caller turn moment calls answers ++ t)
+          (exchanges-front caller (turn + length calls) moment others further second.answers
+          (part_few fault (length second.answers) (length others) second.part))
           ∙ sym (exchanges-append caller turn moment calls (others ++ further) answers second.answers first.long))
           (adds_both notes notes' notes'' (exchanges caller turn moment calls answers) (exchanges caller' turn' moment others second.answers) first.noted second.noted);
     }
@@ -222,7 +224,8 @@ keys_all all keys with_cas caller turn turn' moment notes notes' text text' text
     subst (λ (ks : List (List ℕ)). Answers limits (requests.Get ks with_cas) caller turn turn' moment notes notes' text text'') (sym whole) made
 
 -- one key failed behind others
-pub keys_fail : (all keys : List (List ℕ)) (key : List ℕ) (others : List (List ℕ)) (fault : Fault) (with_cas : Bool) (caller caller' turn turn' moment : ℕ) (notes notes' notes'' : List Exchange → Type 0) (text text' : List ℕ)
+pub keys_fail : (all keys : List (List ℕ)) (key : List ℕ) (others : List (List ℕ)) (fault : Fault) (with_cas : Bool) (caller caller' turn turn' moment : ℕ)
+    (notes notes' notes'' : List Exchange → Type 0) (text text' : List ℕ)
     → all ≡ keys ++ key ∷ others → HasKeys keys with_cas caller turn turn' moment notes notes' text text' → caller' ≡ caller
     → FailsKey fault key caller' turn' moment notes' notes''
     → (limits : Limits) → Fails fault limits (requests.Get all with_cas) caller turn moment notes notes''

@@ -66,7 +66,8 @@ answered_more limits before start taken text text' request notes notes' caller t
 }
 
 -- a part of what is gathered was printed
-pub printed_more : (limits : Limits) (before : List Answered) (start taken text taken' text' : List ℕ) (notes : List Exchange → Type 0) (caller turn moment : ℕ) → HasAnswered limits before start taken text notes caller turn moment
+pub printed_more : (limits : Limits) (before : List Answered) (start taken text taken' text' : List ℕ) (notes : List Exchange → Type 0) (caller turn moment : ℕ)
+    → HasAnswered limits before start taken text notes caller turn moment
     → ((more : List ℕ) × (taken' ≡ taken ++ more) × (text ≡ more ++ text')) → HasAnswered limits before start taken' text' notes caller turn moment
 printed_more limits before start taken text taken' text' notes caller turn moment has by = record {
   whole = has.whole;
@@ -96,7 +97,8 @@ failed fault limits before start taken text text' request notes notes' caller tu
 }
 
 -- the sink took only a beginning
-pub torn : (limits : Limits) (before : List Answered) (start taken text taken' : List ℕ) (notes : List Exchange → Type 0) (caller turn moment : ℕ) → HasAnswered limits before start taken text notes caller turn moment → IsBeginning taken taken' text
+pub torn : (limits : Limits) (before : List Answered) (start taken text taken' : List ℕ) (notes : List Exchange → Type 0) (caller turn moment : ℕ)
+    → HasAnswered limits before start taken text notes caller turn moment → IsBeginning taken taken' text
     → HasTorn limits before start taken' notes caller
 torn limits before start taken text taken' notes caller turn moment has by = record {
   whole = has.whole;
@@ -129,7 +131,8 @@ went_none limits before start taken text notes caller turn moment has = record {
 }
 
 -- one request more was answered
-pub went_further : (limits : Limits) (yielded : List Request) (request : Request) (before : List Answered) (start taken text text' : List ℕ) (notes notes' : List Exchange → Type 0) (caller caller' turn turn' moment moment' : ℕ)
+pub went_further : (limits : Limits) (yielded : List Request) (request : Request) (before : List Answered) (start taken text text' : List ℕ)
+    (notes notes' : List Exchange → Type 0) (caller caller' turn turn' moment moment' : ℕ)
     → Went limits yielded before start taken text notes caller turn moment → caller' ≡ caller → Answers limits request caller' turn turn' moment notes notes' text text' → moment' ≡ moment_after moment request
     → Went limits (yielded ++ request ∷ []) before start taken text' notes' caller turn' moment'
 went_further limits yielded request before start taken text text' notes notes' caller caller' turn turn' moment moment' went same by next =
@@ -142,7 +145,8 @@ went_further limits yielded request before start taken text text' notes notes' c
     }
 
 -- and some of what is gathered was printed
-pub went_printed : (limits : Limits) (yielded : List Request) (before : List Answered) (start taken text taken' text' : List ℕ) (notes : List Exchange → Type 0) (caller turn moment : ℕ) → Went limits yielded before start taken text notes caller turn moment
+pub went_printed : (limits : Limits) (yielded : List Request) (before : List Answered) (start taken text taken' text' : List ℕ) (notes : List Exchange
+    → Type 0) (caller turn moment : ℕ) → Went limits yielded before start taken text notes caller turn moment
     → ((more : List ℕ) × (taken' ≡ taken ++ more) × (text ≡ more ++ text')) → Went limits yielded before start taken' text' notes caller turn moment
 went_printed limits yielded before start taken text taken' text' notes caller turn moment went by = record {
   added = went.added;
@@ -151,7 +155,8 @@ went_printed limits yielded before start taken text taken' text' notes caller tu
 }
 
 -- the script ended here
-pub goes_ended : (limits : Limits) (requests yielded : List Request) (request : Request) (rest : List Request) (before : List Answered) (start taken text : List ℕ) (notes : List Exchange → Type 0) (caller turn moment : ℕ)
+pub goes_ended : (limits : Limits) (requests yielded : List Request) (request : Request) (rest : List Request) (before : List Answered)
+    (start taken text : List ℕ) (notes : List Exchange → Type 0) (caller turn moment : ℕ)
     → requests ≡ yielded ++ request ∷ rest → NoneEnds yielded → ends request ≡ true → Went limits yielded before start taken text notes caller turn moment
     → Goes progress.Ended limits requests before start taken text notes caller turn moment
 goes_ended limits requests yielded request rest before start taken text notes caller turn moment split own last went = record {
@@ -178,7 +183,8 @@ goes_more limits requests yielded before start taken text notes caller turn mome
 }
 
 -- a request failed for want of memory
-pub goes_memory : (limits : Limits) (requests yielded : List Request) (request : Request) (rest : List Request) (before : List Answered) (start taken text text' : List ℕ) (notes notes' : List Exchange → Type 0) (caller caller' turn moment turn' moment' : ℕ)
+pub goes_memory : (limits : Limits) (requests yielded : List Request) (request : Request) (rest : List Request) (before : List Answered)
+    (start taken text text' : List ℕ) (notes notes' : List Exchange → Type 0) (caller caller' turn moment turn' moment' : ℕ)
     → requests ≡ yielded ++ request ∷ rest → NoneEnds yielded → ends request ≡ false → Went limits yielded before start taken text notes caller turn moment
     → caller' ≡ caller → Fails faults.NoMemory limits request caller' turn moment notes notes' → text' ≡ text → Goes progress.Memory limits requests before start taken text' notes' caller turn' moment'
 goes_memory limits requests yielded request rest before start taken text text' notes notes' caller caller' turn moment turn' moment' split own not went is by same = record {
@@ -188,11 +194,13 @@ goes_memory limits requests yielded request rest before start taken text text' n
   split = split;
   own = own;
   asked = went.asked;
-  state = failed faults.NoMemory limits (before ++ went.added) start taken text text' request notes notes' caller turn moment went.state (subst (λ (n : ℕ). Fails faults.NoMemory limits request n turn moment notes notes') is by) same not;
+  state = failed faults.NoMemory limits (before ++ went.added) start taken text text' request notes notes' caller turn moment went.state
+      (subst (λ (n : ℕ). Fails faults.NoMemory limits request n turn moment notes notes') is by) same not;
 }
 
 -- a request failed since the history is full
-pub goes_full : (limits : Limits) (requests yielded : List Request) (request : Request) (rest : List Request) (before : List Answered) (start taken text text' : List ℕ) (notes notes' : List Exchange → Type 0) (caller caller' turn moment turn' moment' : ℕ)
+pub goes_full : (limits : Limits) (requests yielded : List Request) (request : Request) (rest : List Request) (before : List Answered)
+    (start taken text text' : List ℕ) (notes notes' : List Exchange → Type 0) (caller caller' turn moment turn' moment' : ℕ)
     → requests ≡ yielded ++ request ∷ rest → NoneEnds yielded → ends request ≡ false → Went limits yielded before start taken text notes caller turn moment
     → caller' ≡ caller → Fails faults.HistoryFull limits request caller' turn moment notes notes' → text' ≡ text → Goes progress.Full limits requests before start taken text' notes' caller turn' moment'
 goes_full limits requests yielded request rest before start taken text text' notes notes' caller caller' turn moment turn' moment' split own not went is by same = record {
@@ -202,11 +210,13 @@ goes_full limits requests yielded request rest before start taken text text' not
   split = split;
   own = own;
   asked = went.asked;
-  state = failed faults.HistoryFull limits (before ++ went.added) start taken text text' request notes notes' caller turn moment went.state (subst (λ (n : ℕ). Fails faults.HistoryFull limits request n turn moment notes notes') is by) same not;
+  state = failed faults.HistoryFull limits (before ++ went.added) start taken text text' request notes notes' caller turn moment went.state
+      (subst (λ (n : ℕ). Fails faults.HistoryFull limits request n turn moment notes notes') is by) same not;
 }
 
 -- or the sink failed
-pub goes_torn : (limits : Limits) (requests yielded : List Request) (request : Request) (rest : List Request) (before : List Answered) (start taken text taken' text' : List ℕ) (notes : List Exchange → Type 0) (caller turn moment turn' moment' : ℕ)
+pub goes_torn : (limits : Limits) (requests yielded : List Request) (request : Request) (rest : List Request) (before : List Answered)
+    (start taken text taken' text' : List ℕ) (notes : List Exchange → Type 0) (caller turn moment turn' moment' : ℕ)
     → requests ≡ yielded ++ request ∷ rest → NoneEnds (yielded ++ request ∷ []) → Went limits (yielded ++ request ∷ []) before start taken text notes caller turn moment
     → IsBeginning taken taken' text → Goes progress.Output limits requests before start taken' text' notes caller turn' moment'
 goes_torn limits requests yielded request rest before start taken text taken' text' notes caller turn moment turn' moment' split own went by = record {

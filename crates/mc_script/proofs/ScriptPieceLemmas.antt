@@ -68,7 +68,8 @@ come_read limits bytes left done added front back more come split own asked =
       rest = read.0;
       reads = read.1;
       own_are = own_requests-append come.requests added come.own ∙ ap (λ (t : List Request). come.requests ++ own_requests t) split ∙ ap (λ (t : List Request). come.requests ++ t) (own_requests-append front back own)
-          ∙ sym (append_assoc come.requests front (own_requests back)) ∙ ap (λ (t : List Request). (t ++ front) ++ own_requests back) (sym come.asked) ∙ ap (λ (t : List Request). (requests_of done ++ t) ++ own_requests back) (sym asked)
+          ∙ sym (append_assoc come.requests front (own_requests back)) ∙ ap (λ (t : List Request). (t ++ front) ++ own_requests back) (sym come.asked)
+          ∙ ap (λ (t : List Request). (requests_of done ++ t) ++ own_requests back) (sym asked)
           ∙ ap (λ (t : List Request). t ++ own_requests back) (sym (requests_of-append done more));
     }
 
@@ -87,7 +88,8 @@ piece_ended limits bytes left start taken text taken' notes caller turn moment d
       reads = whole.2;
       asked = requests_of-append done g.added ∙ ap (λ (t : List Request). t ++ requests_of g.added) come.asked ∙ ap (λ (t : List Request). come.requests ++ t) (g.asked ∙ sym (append-nil g.front))
           ∙ ap (λ (t : List Request). come.requests ++ (g.front ++ t)) (sym (own_requests-ends g.back on.0 g.state.0))
-          ∙ ap (λ (t : List Request). come.requests ++ t) (sym (own_requests-append g.front (g.back ++ on.0) g.own)) ∙ sym (own_requests-append come.requests (g.front ++ (g.back ++ on.0)) come.own) ∙ ap own_requests (sym cut_at);
+          ∙ ap (λ (t : List Request). come.requests ++ t) (sym (own_requests-append g.front (g.back ++ on.0) g.own))
+          ∙ sym (own_requests-append come.requests (g.front ++ (g.back ++ on.0)) come.own) ∙ ap own_requests (sym cut_at);
       whole = g.state.1.whole;
       texts = now_printed g.state.1.printed start taken text taken' (texts_of (done ++ g.added)) g.state.1.took g.state.1.texts out;
       calls = g.state.1.notes_all;
@@ -108,7 +110,8 @@ piece_goes_on limits start taken text taken' text' notes caller turn moment done
 
 -- a request failed, and the texts before it are out
 failed_stops : (fault : Fault) (limits : Limits) (bytes left start taken text taken' : List ℕ) (notes : List Exchange → Type 0) (caller : ℕ) (done : List Answered) (back : List Request)
-    → HasRead limits bytes left (requests_of done ++ own_requests back) → FailsHere fault limits back done start taken text notes caller → taken' ≡ taken ++ text → HasStopped fault limits bytes left start taken' notes caller
+    → HasRead limits bytes left (requests_of done ++ own_requests back) → FailsHere fault limits back done start taken text notes caller
+    → taken' ≡ taken ++ text → HasStopped fault limits bytes left start taken' notes caller
 failed_stops fault limits bytes left start taken text taken' notes caller done [] read has out = absurd has
 failed_stops fault limits bytes left start taken text taken' notes caller done (r ∷ rs) read has out = record {
   answered = done;
@@ -125,7 +128,8 @@ failed_stops fault limits bytes left start taken text taken' notes caller done (
 
 -- a request failed, and then the sink
 failed_breaks : (fault : Fault) (limits : Limits) (bytes left start taken text taken' : List ℕ) (notes : List Exchange → Type 0) (caller : ℕ) (done : List Answered) (back : List Request)
-    → HasRead limits bytes left (requests_of done ++ own_requests back) → FailsHere fault limits back done start taken text notes caller → IsBeginning taken taken' text → HasBroken limits bytes left start taken' notes caller
+    → HasRead limits bytes left (requests_of done ++ own_requests back) → FailsHere fault limits back done start taken text notes caller
+    → IsBeginning taken taken' text → HasBroken limits bytes left start taken' notes caller
 failed_breaks fault limits bytes left start taken text taken' notes caller done [] read has by = absurd has
 failed_breaks fault limits bytes left start taken text taken' notes caller done (r ∷ rs) read has by = record {
   answered = done;
@@ -140,7 +144,8 @@ failed_breaks fault limits bytes left start taken text taken' notes caller done 
 
 -- requests were answered, and then the sink failed
 answered_breaks : (limits : Limits) (bytes left start taken text taken' : List ℕ) (notes : List Exchange → Type 0) (caller turn moment : ℕ) (done : List Answered) (back : List Request)
-    → HasRead limits bytes left (requests_of done ++ own_requests back) → HasAnswered limits done start taken text notes caller turn moment → IsBeginning taken taken' text → HasBroken limits bytes left start taken' notes caller
+    → HasRead limits bytes left (requests_of done ++ own_requests back) → HasAnswered limits done start taken text notes caller turn moment
+    → IsBeginning taken taken' text → HasBroken limits bytes left start taken' notes caller
 answered_breaks limits bytes left start taken text taken' notes caller turn moment done back read has by = record {
   answered = done;
   back = own_requests back;
@@ -170,21 +175,24 @@ piece_torn limits bytes left start taken text notes caller turn moment done adde
 
 -- a request failed for want of memory
 pub piece_memory : (limits : Limits) (bytes left start taken text taken' : List ℕ) (notes : List Exchange → Type 0) (caller turn moment : ℕ) (done : List Answered) (added : List Request)
-    → HasCome limits bytes left done added → Goes progress.Memory limits added done start taken text notes caller turn moment → taken' ≡ taken ++ text → HasStopped faults.NoMemory limits bytes left start taken' notes caller
+    → HasCome limits bytes left done added → Goes progress.Memory limits added done start taken text notes caller turn moment → taken' ≡ taken ++ text
+    → HasStopped faults.NoMemory limits bytes left start taken' notes caller
 piece_memory limits bytes left start taken text taken' notes caller turn moment done added come g out =
     failed_stops faults.NoMemory limits bytes left start taken text taken' notes caller (done ++ g.added) g.back
     (come_read limits bytes left done added g.front g.back g.added come g.split g.own g.asked) g.state out
 
 -- or since the history is full
 pub piece_full : (limits : Limits) (bytes left start taken text taken' : List ℕ) (notes : List Exchange → Type 0) (caller turn moment : ℕ) (done : List Answered) (added : List Request)
-    → HasCome limits bytes left done added → Goes progress.Full limits added done start taken text notes caller turn moment → taken' ≡ taken ++ text → HasStopped faults.HistoryFull limits bytes left start taken' notes caller
+    → HasCome limits bytes left done added → Goes progress.Full limits added done start taken text notes caller turn moment → taken' ≡ taken ++ text
+    → HasStopped faults.HistoryFull limits bytes left start taken' notes caller
 piece_full limits bytes left start taken text taken' notes caller turn moment done added come g out =
     failed_stops faults.HistoryFull limits bytes left start taken text taken' notes caller (done ++ g.added) g.back
     (come_read limits bytes left done added g.front g.back g.added come g.split g.own g.asked) g.state out
 
 -- the sink failed behind a piece
 pub piece_breaks : (p : Progress) (limits : Limits) (bytes left start taken text taken' : List ℕ) (notes : List Exchange → Type 0) (caller turn moment : ℕ) (done : List Answered) (added : List Request)
-    → HasCome limits bytes left done added → Goes p limits added done start taken text notes caller turn moment → (p ≡ progress.Output → ⊥) → IsBeginning taken taken' text → HasBroken limits bytes left start taken' notes caller
+    → HasCome limits bytes left done added → Goes p limits added done start taken text notes caller turn moment → (p ≡ progress.Output → ⊥)
+    → IsBeginning taken taken' text → HasBroken limits bytes left start taken' notes caller
 piece_breaks progress.More limits bytes left start taken text taken' notes caller turn moment done added come g not by =
     answered_breaks limits bytes left start taken text taken' notes caller turn moment (done ++ g.added) g.back (come_read limits bytes left done added g.front g.back g.added come g.split g.own g.asked) g.state.1 by
 piece_breaks progress.Ended limits bytes left start taken text taken' notes caller turn moment done added come g not by =

@@ -9,7 +9,8 @@ use Rattle.mc_script.specs.{Run.HasRunTo, Run.HasStarved, Run.IsOut, Exchanges.E
 use Rattle.mc_script.proofs.ScriptPieceLemmas.{own_requests-all, NoneEnds-append}
 
 -- before the first piece
-pub way_starts : (limits : Limits) (state : State) (unread bytes start text : List ℕ) (notes : List Exchange → Type 0) (caller turn moment : ℕ) → After limits state unread [] [] → text ≡ [] → turn ≡ 0 → moment ≡ first_moment → notes []
+pub way_starts : (limits : Limits) (state : State) (unread bytes start text : List ℕ) (notes : List Exchange → Type 0) (caller turn moment : ℕ)
+    → After limits state unread [] [] → text ≡ [] → turn ≡ 0 → moment ≡ first_moment → notes []
     → IsOnWay limits state unread bytes bytes start start text notes caller turn moment
 way_starts limits state unread bytes start text notes caller turn moment after none first early nothing = record {
   came = [];
@@ -23,12 +24,14 @@ way_starts limits state unread bytes start text notes caller turn moment after n
 }
 
 -- all that was gathered is printed
-all_printed : (limits : Limits) (done : List Answered) (start taken text : List ℕ) (notes : List Exchange → Type 0) (caller turn moment : ℕ) → HasAnswered limits done start taken text notes caller turn moment → text ≡ [] → taken ≡ start ++ texts_of done
+all_printed : (limits : Limits) (done : List Answered) (start taken text : List ℕ) (notes : List Exchange → Type 0) (caller turn moment : ℕ)
+    → HasAnswered limits done start taken text notes caller turn moment → text ≡ [] → taken ≡ start ++ texts_of done
 all_printed limits done start taken text notes caller turn moment has none =
     has.took ∙ ap (λ (t : List ℕ). start ++ t) (sym (append-nil has.printed) ∙ ap (λ (t : List ℕ). has.printed ++ t) (sym none) ∙ has.texts)
 
 -- the next piece may be asked for
-pub way_out : (limits : Limits) (state : State) (unread bytes left start taken text : List ℕ) (notes : List Exchange → Type 0) (caller turn moment : ℕ) → IsOnWay limits state unread bytes left start taken text notes caller turn moment → text ≡ []
+pub way_out : (limits : Limits) (state : State) (unread bytes left start taken text : List ℕ) (notes : List Exchange → Type 0) (caller turn moment : ℕ)
+    → IsOnWay limits state unread bytes left start taken text notes caller turn moment → text ≡ []
     → IsOut limits bytes left start taken
 way_out limits state unread bytes left start taken text notes caller turn moment way none =
     let read = after_reads limits state unread way.came way.requests way.after in
@@ -46,7 +49,8 @@ way_out limits state unread bytes left start taken text notes caller turn moment
     }
 
 -- all requests of the bytes that came were answered
-pub way_done : (limits : Limits) (state : State) (unread bytes left start taken text : List ℕ) (notes : List Exchange → Type 0) (caller turn moment : ℕ) → (way : IsOnWay limits state unread bytes left start taken text notes caller turn moment) → text ≡ []
+pub way_done : (limits : Limits) (state : State) (unread bytes left start taken text : List ℕ) (notes : List Exchange → Type 0) (caller turn moment : ℕ)
+    → (way : IsOnWay limits state unread bytes left start taken text notes caller turn moment) → text ≡ []
     → HasRun limits way.came start taken notes caller
 way_done limits state unread bytes left start taken text notes caller turn moment way none =
     let read = after_reads limits state unread way.came way.requests way.after in
@@ -62,26 +66,30 @@ way_done limits state unread bytes left start taken text notes caller turn momen
     }
 
 -- the source has ended
-pub way_ends : (limits : Limits) (state : State) (unread bytes left start taken text : List ℕ) (notes : List Exchange → Type 0) (caller turn moment : ℕ) → IsOnWay limits state unread bytes left start taken text notes caller turn moment → text ≡ [] → left ≡ []
+pub way_ends : (limits : Limits) (state : State) (unread bytes left start taken text : List ℕ) (notes : List Exchange → Type 0) (caller turn moment : ℕ)
+    → IsOnWay limits state unread bytes left start taken text notes caller turn moment → text ≡ [] → left ≡ []
     → HasRun limits bytes start taken notes caller
 way_ends limits state unread bytes left start taken text notes caller turn moment way none over =
     let all : way.came ≡ bytes = sym (way.split ∙ ap (λ (t : List ℕ). way.came ++ t) over ∙ append-nil way.came) in
     subst (λ (t : List ℕ). HasRun limits t start taken notes caller) all (way_done limits state unread bytes left start taken text notes caller turn moment way none)
 
 -- the source has failed
-pub way_runs_out : (limits : Limits) (state : State) (unread bytes left left' start taken text : List ℕ) (notes : List Exchange → Type 0) (caller turn moment : ℕ) → IsOnWay limits state unread bytes left start taken text notes caller turn moment → text ≡ []
+pub way_runs_out : (limits : Limits) (state : State) (unread bytes left left' start taken text : List ℕ) (notes : List Exchange
+    → Type 0) (caller turn moment : ℕ) → IsOnWay limits state unread bytes left start taken text notes caller turn moment → text ≡ []
     → left' ≡ left → HasRunTo limits bytes left' start taken notes caller
 way_runs_out limits state unread bytes left left' start taken text notes caller turn moment way none same =
     record { came = way.came; split = way.split ∙ ap (λ (t : List ℕ). way.came ++ t) (sym same); run = way_done limits state unread bytes left start taken text notes caller turn moment way none }
 
 -- there was no memory for a piece
-pub way_starves : (limits : Limits) (state : State) (unread bytes left piece later start taken text : List ℕ) (notes : List Exchange → Type 0) (caller turn moment : ℕ) → IsOnWay limits state unread bytes left start taken text notes caller turn moment → text ≡ []
+pub way_starves : (limits : Limits) (state : State) (unread bytes left piece later start taken text : List ℕ) (notes : List Exchange
+    → Type 0) (caller turn moment : ℕ) → IsOnWay limits state unread bytes left start taken text notes caller turn moment → text ≡ []
     → left ≡ piece ++ later → HasStarved limits bytes later start taken notes caller
 way_starves limits state unread bytes left piece later start taken text notes caller turn moment way none cut =
     record { piece = piece; run = way_runs_out limits state unread bytes left (piece ++ later) start taken text notes caller turn moment way none (sym cut) }
 
 -- a piece came
-unfoldable pub way_comes : (limits first second : Limits) (state next : State) (unread later bytes left behind start taken text piece : List ℕ) (notes : List Exchange → Type 0) (caller turn moment : ℕ) (added : List Request)
+unfoldable pub way_comes : (limits first second : Limits) (state next : State) (unread later bytes left behind start taken text piece : List ℕ)
+    (notes : List Exchange → Type 0) (caller turn moment : ℕ) (added : List Request)
     → (way : IsOnWay limits state unread bytes left start taken text notes caller turn moment) → first ≡ limits → second ≡ first
     → ((stream : List ℕ) (requests : List Request) → After first state unread stream requests → After second next later (stream ++ piece) (requests ++ added))
     → left ≡ piece ++ behind → HasCome limits bytes behind way.done added
@@ -91,7 +99,8 @@ way_comes limits first second state next unread later bytes left behind start ta
   state = next;
   unread = later;
   split = way.split ∙ ap (λ (t : List ℕ). way.came ++ t) cut ∙ sym (append_assoc way.came piece behind);
-  after = subst (λ (l : Limits). After l next later (way.came ++ piece) (way.requests ++ added)) (two ∙ one) (step way.came way.requests (subst (λ (l : Limits). After l state unread way.came way.requests) (sym one) way.after));
+  after = subst (λ (l : Limits). After l next later (way.came ++ piece) (way.requests ++ added)) (two
+      ∙ one) (step way.came way.requests (subst (λ (l : Limits). After l state unread way.came way.requests) (sym one) way.after));
   own = way.own;
   asked = way.asked;
 }
@@ -117,7 +126,8 @@ moderate_are limits [] all = tt
 moderate_are limits (r ∷ rs) all = (all 0 r (omega arith), moderate_are limits rs (λ k d below. all (suc k) d (omega arith)))
 
 -- the same taken bytes and caller by other names
-pub answered_at : (limits : Limits) (done : List Answered) (start taken taken' text : List ℕ) (notes : List Exchange → Type 0) (caller caller' turn moment : ℕ) → HasAnswered limits done start taken text notes caller turn moment → taken' ≡ taken → caller' ≡ caller
+pub answered_at : (limits : Limits) (done : List Answered) (start taken taken' text : List ℕ) (notes : List Exchange → Type 0) (caller caller' turn moment : ℕ)
+    → HasAnswered limits done start taken text notes caller turn moment → taken' ≡ taken → caller' ≡ caller
     → HasAnswered limits done start taken' text notes caller' turn moment
 answered_at limits done start taken taken' text notes caller caller' turn moment has same is =
     subst (λ (n : ℕ). HasAnswered limits done start taken' text notes n turn moment) (sym is) (subst (λ (t : List ℕ). HasAnswered limits done start t text notes caller turn moment) (sym same) has)

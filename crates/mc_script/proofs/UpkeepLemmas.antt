@@ -54,7 +54,8 @@ goes_on Crawler = refl
 at_moment : (limits : Limits) (keeper : Keeper) (moments : List ℕ) (notes : List Exchange → Type 0) (caller turn moment : ℕ) → (kept : HasKept limits keeper moments notes caller turn)
     → HasAnswered limits (kept.answered ++ answered (requests.At moment) [] ∷ []) [] [] (kept.text ++ []) notes caller turn moment
 at_moment limits keeper moments notes caller turn moment kept =
-    answered_more limits kept.answered [] [] kept.text (kept.text ++ []) (requests.At moment) notes notes caller turn turn kept.moment moment kept.state (set_moment limits notes caller turn kept.moment moment kept.text) refl
+    answered_more limits kept.answered [] [] kept.text (kept.text ++ []) (requests.At moment) notes notes caller turn turn kept.moment moment kept.state
+    (set_moment limits notes caller turn kept.moment moment kept.text) refl
 
 -- one moment more
 pub kept_more : (limits : Limits) (keeper : Keeper) (moments : List ℕ) (notes notes' : List Exchange → Type 0) (caller caller' turn turn' moment : ℕ)
@@ -73,7 +74,8 @@ kept_more limits keeper moments notes notes' caller caller' turn turn' moment ke
           ∙ sym (work_of-append keeper moments (moment ∷ []));
       text = _;
       moment = moment;
-      state = answered_more limits before [] [] (kept.text ++ []) _ (directive_of keeper) notes notes' caller turn turn' moment moment (at_moment limits keeper moments notes caller turn moment kept) by (sym (keeps_moment keeper moment));
+      state = answered_more limits before [] [] (kept.text ++ []) _ (directive_of keeper) notes notes' caller turn turn' moment moment
+          (at_moment limits keeper moments notes caller turn moment kept) by (sym (keeps_moment keeper moment));
     }
 
 -- a call failed at the next moment
@@ -83,7 +85,8 @@ pub kept_fails : (fault : Fault) (limits : Limits) (keeper : Keeper) (moments la
 kept_fails fault limits keeper moments later all notes notes' caller caller' turn moment kept same fails split =
     let fails' = subst (λ (k : ℕ). Fails fault limits (directive_of keeper) k turn moment notes notes') same fails in
     let before = kept.answered ++ answered (requests.At moment) [] ∷ [] in
-    let f = failed fault limits before [] [] (kept.text ++ []) (kept.text ++ []) (directive_of keeper) notes notes' caller turn moment (at_moment limits keeper moments notes caller turn moment kept) fails' refl (goes_on keeper) in
+    let f = failed fault limits before [] [] (kept.text ++ []) (kept.text ++ []) (directive_of keeper) notes notes' caller turn moment
+    (at_moment limits keeper moments notes caller turn moment kept) fails' refl (goes_on keeper) in
     record {
       answered = before;
       request = directive_of keeper;
@@ -100,7 +103,8 @@ kept_fails fault limits keeper moments later all notes notes' caller caller' tur
     }
 
 -- all of it was done
-pub kept_all : (limits : Limits) (keeper : Keeper) (moments : List ℕ) (notes : List Exchange → Type 0) (caller turn : ℕ) → HasKept limits keeper moments notes caller turn → HasKeptUp limits (work_of keeper moments) notes caller
+pub kept_all : (limits : Limits) (keeper : Keeper) (moments : List ℕ) (notes : List Exchange → Type 0) (caller turn : ℕ)
+    → HasKept limits keeper moments notes caller turn → HasKeptUp limits (work_of keeper moments) notes caller
 kept_all limits keeper moments notes caller turn kept = record { answered = kept.answered; asked = kept.asked; whole = kept.state.whole; calls = kept.state.notes_all }
 
 -- the turn behind requests is that many calls further
@@ -111,7 +115,8 @@ turn_many limits turn (a ∷ more) =
     omega (arith, rest, length-append (calls_of limits a.request) (flat_map (calls_of limits) (requests_of more)))
 
 -- who did all of the work has had a turn for each of its calls
-pub kept_turns : (limits : Limits) (keeper : Keeper) (moments all : List ℕ) (notes : List Exchange → Type 0) (caller turn : ℕ) → HasKept limits keeper moments notes caller turn → moments ≡ all → turn ≡ many_calls limits keeper all
+pub kept_turns : (limits : Limits) (keeper : Keeper) (moments all : List ℕ) (notes : List Exchange → Type 0) (caller turn : ℕ)
+    → HasKept limits keeper moments notes caller turn → moments ≡ all → turn ≡ many_calls limits keeper all
 kept_turns limits keeper moments all notes caller turn kept is =
     let turns = turn_many limits 0 kept.answered in
     let had : turn ≡ length (flat_map (calls_of limits) (requests_of kept.answered)) = omega (arith, kept.state.turn_is, turns) in

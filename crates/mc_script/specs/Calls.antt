@@ -31,7 +31,8 @@ pub record Breaks (fault : Fault) (calls : List ScriptCall) (caller turn moment 
   pub noted : AddsCalls notes notes' (exchanges caller turn moment calls answers)
 
 -- the calls of a request were made, and its text was added
-pub record Answers (limits : Limits) (request : Request) (caller turn turn' moment : ℕ) (notes notes' : List Exchange → Type 0) (text text' : List ℕ) : Type 0 where
+pub record Answers (limits : Limits) (request : Request) (caller turn turn' moment : ℕ) (notes notes' : List Exchange
+    → Type 0) (text text' : List ℕ) : Type 0 where
   pub answers : List Answer
   pub texts : text' ≡ text ++ text_of request answers
   pub makes : MakesCalls (calls_of limits request) answers caller turn turn' moment notes notes'
@@ -41,7 +42,8 @@ abbrev pub Fails : Fault → Limits → Request → ℕ → ℕ → ℕ → (Lis
 Fails fault limits request caller turn moment notes notes' = Breaks fault (calls_of limits request) caller turn moment notes notes'
 
 -- a key was asked for, and its value's text was added, where there is one
-pub record AnswersKey (key : List ℕ) (with_cas : Bool) (caller turn turn' moment : ℕ) (notes notes' : List Exchange → Type 0) (text text' : List ℕ) : Type 0 where
+pub record AnswersKey (key : List ℕ) (with_cas : Bool) (caller turn turn' moment : ℕ) (notes notes' : List Exchange
+    → Type 0) (text text' : List ℕ) : Type 0 where
   pub reply : Reply
   pub texts : text' ≡ text ++ value_text key reply with_cas
   pub makes : MakesCalls (Asks (Get key) ∷ []) (Replied reply ∷ []) caller turn turn' moment notes notes'
@@ -51,7 +53,8 @@ abbrev pub FailsKey : Fault → List ℕ → ℕ → ℕ → ℕ → (List Excha
 FailsKey fault key caller turn moment notes notes' = Breaks fault (Asks (Get key) ∷ []) caller turn moment notes notes'
 
 -- the maintainer or the crawler worked on these classes, in order, and this is the sum of its moves or histograms
-pub record SumsUp {S : Type 0} (call : ClassNo → ScriptCall) (sum_of : List Answer → S) (classes : List ClassNo) (sums : S) (caller turn turn' moment : ℕ) (notes notes' : List Exchange → Type 0) : Type 0 where
+pub record SumsUp {S : Type 0} (call : ClassNo → ScriptCall) (sum_of : List Answer
+    → S) (classes : List ClassNo) (sums : S) (caller turn turn' moment : ℕ) (notes notes' : List Exchange → Type 0) : Type 0 where
   pub answers : List Answer
   pub added : sums ≡ sum_of answers
   pub makes : MakesCalls (map call classes) answers caller turn turn' moment notes notes'

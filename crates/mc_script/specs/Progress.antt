@@ -10,7 +10,8 @@ use Rattle.mc_script.specs.declared.{outcome.Outcome.Outcome, scripting.Progress
 use Rattle.mc_script.specs.declared.scripting.Progress.TheVariants.{More, Ended, Memory, Full, Output}
 
 -- these requests were answered, and their texts are taken or gathered
-pub record HasAnswered (limits : Limits) (answered : List Answered) (start taken text : List ℕ) (notes : List Exchange → Type 0) (caller turn moment : ℕ) : Type 0 where
+pub record HasAnswered (limits : Limits) (answered : List Answered) (start taken text : List ℕ) (notes : List Exchange
+    → Type 0) (caller turn moment : ℕ) : Type 0 where
   pub whole : AreWhole limits answered
   pub printed : List ℕ
   pub took : taken ≡ start ++ printed
@@ -20,7 +21,8 @@ pub record HasAnswered (limits : Limits) (answered : List Answered) (start taken
   pub moment_is : moment ≡ moment_behind first_moment answered
 
 -- these were answered, and the first calls of the next
-pub record HasFailed (fault : Fault) (limits : Limits) (request : Request) (answered : List Answered) (start taken text : List ℕ) (notes : List Exchange → Type 0) (caller : ℕ) : Type 0 where
+pub record HasFailed (fault : Fault) (limits : Limits) (request : Request) (answered : List Answered) (start taken text : List ℕ) (notes : List Exchange
+    → Type 0) (caller : ℕ) : Type 0 where
   pub whole : AreWhole limits answered
   pub printed : List ℕ
   pub took : taken ≡ start ++ printed
@@ -55,14 +57,17 @@ AreModerate limits (r ∷ rs) = IsModerate limits r × AreModerate limits rs
 
 -- how far requests were answered: all, up to one that ends the script, or up to one that failed
 abbrev pub IsProgress : Progress → Limits → List Request → List Answered → List ℕ → List ℕ → List ℕ → (List Exchange → Type 0) → ℕ → ℕ → ℕ → Type 0
-IsProgress More limits back answered start taken text notes caller turn moment = (back ≡ []) × HasAnswered limits answered start taken text notes caller turn moment
-IsProgress Ended limits back answered start taken text notes caller turn moment = EndsHere back × HasAnswered limits answered start taken text notes caller turn moment
+IsProgress More limits back answered start taken text notes caller turn moment = (back ≡ [])
+    × HasAnswered limits answered start taken text notes caller turn moment
+IsProgress Ended limits back answered start taken text notes caller turn moment = EndsHere back
+    × HasAnswered limits answered start taken text notes caller turn moment
 IsProgress Memory limits back answered start taken text notes caller turn moment = FailsHere faults.NoMemory limits back answered start taken text notes caller
 IsProgress Full limits back answered start taken text notes caller turn moment = FailsHere faults.HistoryFull limits back answered start taken text notes caller
 IsProgress Output limits back answered start taken text notes caller turn moment = HasTorn limits answered start taken notes caller
 
 -- some of the requests, the first ones, were answered behind those that were before
-pub record Goes (progress : Progress) (limits : Limits) (requests : List Request) (before : List Answered) (start taken text : List ℕ) (notes : List Exchange → Type 0) (caller turn moment : ℕ) : Type 0 where
+pub record Goes (progress : Progress) (limits : Limits) (requests : List Request) (before : List Answered) (start taken text : List ℕ) (notes : List Exchange
+    → Type 0) (caller turn moment : ℕ) : Type 0 where
   pub front : List Request
   pub back : List Request
   pub added : List Answered
@@ -72,13 +77,15 @@ pub record Goes (progress : Progress) (limits : Limits) (requests : List Request
   pub state : IsProgress progress limits back (before ++ added) start taken text notes caller turn moment
 
 -- so far these requests were answered behind those before
-pub record Went (limits : Limits) (yielded : List Request) (before : List Answered) (start taken text : List ℕ) (notes : List Exchange → Type 0) (caller turn moment : ℕ) : Type 0 where
+pub record Went (limits : Limits) (yielded : List Request) (before : List Answered) (start taken text : List ℕ) (notes : List Exchange
+    → Type 0) (caller turn moment : ℕ) : Type 0 where
   pub added : List Answered
   pub asked : requests_of added ≡ yielded
   pub state : HasAnswered limits (before ++ added) start taken text notes caller turn moment
 
 -- a run between two pieces: what came was read as requests, none of which ends the script, and these were answered
-pub record IsOnWay (limits : Limits) (state : State) (unread bytes left start taken text : List ℕ) (notes : List Exchange → Type 0) (caller turn moment : ℕ) : Type 0 where
+pub record IsOnWay (limits : Limits) (state : State) (unread bytes left start taken text : List ℕ) (notes : List Exchange
+    → Type 0) (caller turn moment : ℕ) : Type 0 where
   pub came : List ℕ
   pub requests : List Request
   pub done : List Answered
@@ -100,7 +107,8 @@ pub record HasCome (limits : Limits) (bytes left : List ℕ) (done : List Answer
   pub asked : requests_of done ≡ requests
 
 -- a piece was answered whole, and its texts are out
-pub record AnswersWhole (limits : Limits) (start taken text : List ℕ) (notes : List Exchange → Type 0) (caller turn moment : ℕ) (done : List Answered) (added : List Request) : Type 0 where
+pub record AnswersWhole (limits : Limits) (start taken text : List ℕ) (notes : List Exchange
+    → Type 0) (caller turn moment : ℕ) (done : List Answered) (added : List Request) : Type 0 where
   pub own : NoneEnds added
   pub out : text ≡ []
   pub now : List Answered
@@ -108,8 +116,10 @@ pub record AnswersWhole (limits : Limits) (start taken text : List ℕ) (notes :
   pub state_of : HasAnswered limits now start taken text notes caller turn moment
 
 -- what a piece leaves: the script goes on, or ends here
-abbrev pub LeavesPiece : Option Outcome → Limits → List ℕ → List ℕ → List ℕ → List ℕ → List ℕ → (List Exchange → Type 0) → ℕ → ℕ → ℕ → List Answered → List Request → Type 0
-LeavesPiece None limits bytes left start taken text notes caller turn moment done added = AnswersWhole limits start taken text notes caller turn moment done added
+abbrev pub LeavesPiece : Option Outcome → Limits → List ℕ → List ℕ → List ℕ → List ℕ → List ℕ → (List Exchange → Type 0) → ℕ → ℕ → ℕ → List Answered
+    → List Request → Type 0
+LeavesPiece None limits bytes left start taken text notes caller turn moment done added =
+    AnswersWhole limits start taken text notes caller turn moment done added
 LeavesPiece (Some outcome) limits bytes left start taken text notes caller turn moment done added = Leaves outcome limits bytes left start taken notes caller
 
 -- the sink failed just where that ended the requests

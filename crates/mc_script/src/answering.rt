@@ -29,7 +29,8 @@ fn answer_key<C: Calls>(
     ensures may { OnOk result (C.may_call calls.new) }
     ensures place { C.place calls.new ≡ C.place calls.old }
     ensures caller { C.caller calls.new ≡ C.caller calls.old }
-    ensures ok { OnOk result (AnswersKey key with_cas (C.caller calls.old) (C.turn calls.old) (C.turn calls.new) moment (C.notes calls.old) (C.notes calls.new) text.old.items text.new.items) }
+    ensures ok { OnOk result (AnswersKey key with_cas (C.caller calls.old) (C.turn calls.old) (C.turn calls.new) moment (C.notes calls.old) (C.notes calls.new)
+        text.old.items text.new.items) }
     ensures err { IfErr result (λ e. FailsKey e key (C.caller calls.old) (C.turn calls.old) moment (C.notes calls.old) (C.notes calls.new)) }
     ensures front { Begins text.old.items text.new.items }
     ensures full { IsErrOf result faults.HistoryFull → C.is_full calls.new }
@@ -58,8 +59,10 @@ fn answer_get<C: Calls>(
     ensures may { OnOk result (C.may_call calls.new) }
     ensures place { C.place calls.new ≡ C.place calls.old }
     ensures caller { C.caller calls.new ≡ C.caller calls.old }
-    ensures ok { (limits : Limits) → OnOk result (Answers limits (requests.Get keys with_cas) (C.caller calls.old) (C.turn calls.old) (C.turn calls.new) moment (C.notes calls.old) (C.notes calls.new) text.old.items text.new.items) }
-    ensures err { (limits : Limits) → IfErr result (λ e. Fails e limits (requests.Get keys with_cas) (C.caller calls.old) (C.turn calls.old) moment (C.notes calls.old) (C.notes calls.new)) }
+    ensures ok { (limits : Limits) → OnOk result (Answers limits (requests.Get keys with_cas) (C.caller calls.old) (C.turn calls.old) (C.turn calls.new) moment
+        (C.notes calls.old) (C.notes calls.new) text.old.items text.new.items) }
+    ensures err { (limits : Limits) → IfErr result (λ e. Fails e limits (requests.Get keys with_cas) (C.caller calls.old) (C.turn calls.old) moment
+        (C.notes calls.old) (C.notes calls.new)) }
     ensures front { Begins text.old.items text.new.items }
     ensures full { IsErrOf result faults.HistoryFull → C.is_full calls.new }
 {
@@ -100,8 +103,10 @@ fn answer_one<C: Calls>(
     ensures may { OnOk result (C.may_call calls.new) }
     ensures place { C.place calls.new ≡ C.place calls.old }
     ensures caller { C.caller calls.new ≡ C.caller calls.old }
-    ensures ok { (limits : Limits) → OnOk result (Answers limits (requests.One command quiet) (C.caller calls.old) (C.turn calls.old) (C.turn calls.new) moment (C.notes calls.old) (C.notes calls.new) text.old.items text.new.items) }
-    ensures err { (limits : Limits) → IfErr result (λ e. Fails e limits (requests.One command quiet) (C.caller calls.old) (C.turn calls.old) moment (C.notes calls.old) (C.notes calls.new)) }
+    ensures ok { (limits : Limits) → OnOk result (Answers limits (requests.One command quiet) (C.caller calls.old) (C.turn calls.old) (C.turn calls.new) moment
+        (C.notes calls.old) (C.notes calls.new) text.old.items text.new.items) }
+    ensures err { (limits : Limits) → IfErr result (λ e. Fails e limits (requests.One command quiet) (C.caller calls.old) (C.turn calls.old) moment
+        (C.notes calls.old) (C.notes calls.new)) }
     ensures front { Begins text.old.items text.new.items }
     ensures full { IsErrOf result faults.HistoryFull → C.is_full calls.new }
 {
@@ -139,7 +144,8 @@ fn answer_whole<C: Calls>(
     ensures moment { OnOk result (moment.new ≡ moment_after moment.old request) }
     ensures place { C.place calls.new ≡ C.place calls.old }
     ensures caller { C.caller calls.new ≡ C.caller calls.old }
-    ensures ok { OnOk result (Answers limits request (C.caller calls.old) (C.turn calls.old) (C.turn calls.new) moment.old (C.notes calls.old) (C.notes calls.new) text.old.items text.new.items) }
+    ensures ok { OnOk result (Answers limits request (C.caller calls.old) (C.turn calls.old) (C.turn calls.new) moment.old (C.notes calls.old)
+        (C.notes calls.new) text.old.items text.new.items) }
     ensures err { IfErr result (λ e. Fails e limits request (C.caller calls.old) (C.turn calls.old) moment.old (C.notes calls.old) (C.notes calls.new)) }
     ensures front { Begins text.old.items text.new.items }
     ensures full { IsErrOf result faults.HistoryFull → C.is_full calls.new }
@@ -177,7 +183,8 @@ pub fn answer_request<C: Calls>(
     ensures moment { OnOk result (moment.new ≡ moment_after moment.old request) }
     ensures place { C.place calls.new ≡ C.place calls.old }
     ensures caller { C.caller calls.new ≡ C.caller calls.old }
-    ensures ok { OnOk result (Answers limits request (C.caller calls.old) (C.turn calls.old) (C.turn calls.new) moment.old (C.notes calls.old) (C.notes calls.new) text.old.items text.new.items) }
+    ensures ok { OnOk result (Answers limits request (C.caller calls.old) (C.turn calls.old) (C.turn calls.new) moment.old (C.notes calls.old)
+        (C.notes calls.new) text.old.items text.new.items) }
     ensures err { IfErr result (λ e. Fails e limits request (C.caller calls.old) (C.turn calls.old) moment.old (C.notes calls.old) (C.notes calls.new)) }
     ensures text { OnErr result (text.new.items ≡ text.old.items) }
     ensures full { IsErrOf result faults.HistoryFull → C.is_full calls.new }

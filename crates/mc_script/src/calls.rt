@@ -36,7 +36,8 @@ pub trait Calls: Drop {
         ensures place { place self.new ≡ place self.old }
         ensures caller { caller self.new ≡ caller self.old }
         ensures turn { OnOk result (turn self.new ≡ turn self.old + 1) }
-        ensures ok { IfOk result (λ reply. AddsCalls (notes self.old) (notes self.new) (exchange (caller self.old) (turn self.old) (Asks command) moment (Replied reply) ∷ [])) }
+        ensures ok { IfOk result (λ reply. AddsCalls (notes self.old) (notes self.new)
+            (exchange (caller self.old) (turn self.old) (Asks command) moment (Replied reply) ∷ [])) }
         ensures err { OnErr result (AddsCalls (notes self.old) (notes self.new) []) }
         ensures full { IsErrOf result faults.HistoryFull → is_full self.new };
 
@@ -49,7 +50,8 @@ pub trait Calls: Drop {
         ensures place { place self.new ≡ place self.old }
         ensures caller { caller self.new ≡ caller self.old }
         ensures turn { OnOk result (turn self.new ≡ turn self.old + 1) }
-        ensures ok { IfOk result (λ moves. AddsCalls (notes self.old) (notes self.new) (exchange (caller self.old) (turn self.old) (Juggles class) moment (Moved moves) ∷ [])) }
+        ensures ok { IfOk result (λ moves. AddsCalls (notes self.old) (notes self.new)
+            (exchange (caller self.old) (turn self.old) (Juggles class) moment (Moved moves) ∷ [])) }
         ensures small { IfOk result (λ moves. (moves.reclaimed < 2 ^ 32) × (moves.moved < 2 ^ 32)) }
         ensures err { OnErr result (AddsCalls (notes self.old) (notes self.new) []) }
         ensures full { IsErrOf result faults.HistoryFull → is_full self.new };
@@ -64,7 +66,8 @@ pub trait Calls: Drop {
         ensures place { place self.new ≡ place self.old }
         ensures caller { caller self.new ≡ caller self.old }
         ensures turn { OnOk result (turn self.new ≡ turn self.old + 1) }
-        ensures ok { IfOk result (λ histogram. AddsCalls (notes self.old) (notes self.new) (exchange (caller self.old) (turn self.old) (Crawls class) moment (Counted histogram) ∷ [])) }
+        ensures ok { IfOk result (λ histogram. AddsCalls (notes self.old) (notes self.new)
+            (exchange (caller self.old) (turn self.old) (Crawls class) moment (Counted histogram) ∷ [])) }
         ensures small { IfOk result (λ histogram. histogram.seen ≤ 2 ^ 32) }
         ensures kinds { IfOk result AddsUp }
         ensures err { OnErr result (AddsCalls (notes self.old) (notes self.new) []) }

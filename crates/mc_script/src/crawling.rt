@@ -26,8 +26,10 @@ fn crawl_from<C: Calls>(
     ensures may { OnOk result (C.may_call calls.new) }
     ensures place { C.place calls.new ≡ C.place calls.old }
     ensures caller { C.caller calls.new ≡ C.caller calls.old }
-    ensures ok { IfOk result (λ histogram. SumsUp Crawls counts_of (classes_from first count) histogram (C.caller calls.old) (C.turn calls.old) (C.turn calls.new) moment (C.notes calls.old) (C.notes calls.new)) }
-    ensures err { IfErr result (λ e. Breaks e (map Crawls (classes_from first count)) (C.caller calls.old) (C.turn calls.old) moment (C.notes calls.old) (C.notes calls.new)) }
+    ensures ok { IfOk result (λ histogram. SumsUp Crawls counts_of (classes_from first count) histogram (C.caller calls.old) (C.turn calls.old)
+        (C.turn calls.new) moment (C.notes calls.old) (C.notes calls.new)) }
+    ensures err { IfErr result (λ e. Breaks e (map Crawls (classes_from first count)) (C.caller calls.old) (C.turn calls.old) moment (C.notes calls.old)
+        (C.notes calls.new)) }
     ensures full { IsErrOf result faults.HistoryFull → C.is_full calls.new }
 {
     let mut sum = Histogram::new();
@@ -53,8 +55,10 @@ pub(crate) fn crawl_target<C: Calls>(
     ensures may { OnOk result (C.may_call calls.new) }
     ensures place { C.place calls.new ≡ C.place calls.old }
     ensures caller { C.caller calls.new ≡ C.caller calls.old }
-    ensures ok { IfOk result (λ histogram. SumsUp Crawls counts_of (classes_named limits target) histogram (C.caller calls.old) (C.turn calls.old) (C.turn calls.new) moment (C.notes calls.old) (C.notes calls.new)) }
-    ensures err { IfErr result (λ e. Breaks e (map Crawls (classes_named limits target)) (C.caller calls.old) (C.turn calls.old) moment (C.notes calls.old) (C.notes calls.new)) }
+    ensures ok { IfOk result (λ histogram. SumsUp Crawls counts_of (classes_named limits target) histogram (C.caller calls.old) (C.turn calls.old)
+        (C.turn calls.new) moment (C.notes calls.old) (C.notes calls.new)) }
+    ensures err { IfErr result (λ e. Breaks e (map Crawls (classes_named limits target)) (C.caller calls.old) (C.turn calls.old) moment (C.notes calls.old)
+        (C.notes calls.new)) }
     ensures full { IsErrOf result faults.HistoryFull → C.is_full calls.new }
 {
     match target {
@@ -81,8 +85,10 @@ pub fn answer_crawl<C: Calls>(
     ensures may { OnOk result (C.may_call calls.new) }
     ensures place { C.place calls.new ≡ C.place calls.old }
     ensures caller { C.caller calls.new ≡ C.caller calls.old }
-    ensures ok { OnOk result (Answers limits (requests.Crawl target) (C.caller calls.old) (C.turn calls.old) (C.turn calls.new) moment (C.notes calls.old) (C.notes calls.new) text.old.items text.new.items) }
-    ensures err { IfErr result (λ e. Fails e limits (requests.Crawl target) (C.caller calls.old) (C.turn calls.old) moment (C.notes calls.old) (C.notes calls.new)) }
+    ensures ok { OnOk result (Answers limits (requests.Crawl target) (C.caller calls.old) (C.turn calls.old) (C.turn calls.new) moment (C.notes calls.old)
+        (C.notes calls.new) text.old.items text.new.items) }
+    ensures err { IfErr result (λ e. Fails e limits (requests.Crawl target) (C.caller calls.old) (C.turn calls.old) moment (C.notes calls.old)
+        (C.notes calls.new)) }
     ensures front { Begins text.old.items text.new.items }
     ensures full { IsErrOf result faults.HistoryFull → C.is_full calls.new }
 {

@@ -26,8 +26,10 @@ fn juggle_from<C: Calls>(
     ensures may { OnOk result (C.may_call calls.new) }
     ensures place { C.place calls.new ≡ C.place calls.old }
     ensures caller { C.caller calls.new ≡ C.caller calls.old }
-    ensures ok { IfOk result (λ moves. SumsUp Juggles moves_of (classes_from first count) moves (C.caller calls.old) (C.turn calls.old) (C.turn calls.new) moment (C.notes calls.old) (C.notes calls.new)) }
-    ensures err { IfErr result (λ e. Breaks e (map Juggles (classes_from first count)) (C.caller calls.old) (C.turn calls.old) moment (C.notes calls.old) (C.notes calls.new)) }
+    ensures ok { IfOk result (λ moves. SumsUp Juggles moves_of (classes_from first count) moves (C.caller calls.old) (C.turn calls.old) (C.turn calls.new)
+        moment (C.notes calls.old) (C.notes calls.new)) }
+    ensures err { IfErr result (λ e. Breaks e (map Juggles (classes_from first count)) (C.caller calls.old) (C.turn calls.old) moment (C.notes calls.old)
+        (C.notes calls.new)) }
     ensures full { IsErrOf result faults.HistoryFull → C.is_full calls.new }
 {
     let mut sums = Moves {
@@ -57,8 +59,10 @@ pub(crate) fn juggle_target<C: Calls>(
     ensures may { OnOk result (C.may_call calls.new) }
     ensures place { C.place calls.new ≡ C.place calls.old }
     ensures caller { C.caller calls.new ≡ C.caller calls.old }
-    ensures ok { IfOk result (λ moves. SumsUp Juggles moves_of (classes_named limits target) moves (C.caller calls.old) (C.turn calls.old) (C.turn calls.new) moment (C.notes calls.old) (C.notes calls.new)) }
-    ensures err { IfErr result (λ e. Breaks e (map Juggles (classes_named limits target)) (C.caller calls.old) (C.turn calls.old) moment (C.notes calls.old) (C.notes calls.new)) }
+    ensures ok { IfOk result (λ moves. SumsUp Juggles moves_of (classes_named limits target) moves (C.caller calls.old) (C.turn calls.old) (C.turn calls.new)
+        moment (C.notes calls.old) (C.notes calls.new)) }
+    ensures err { IfErr result (λ e. Breaks e (map Juggles (classes_named limits target)) (C.caller calls.old) (C.turn calls.old) moment (C.notes calls.old)
+        (C.notes calls.new)) }
     ensures full { IsErrOf result faults.HistoryFull → C.is_full calls.new }
 {
     match target {
@@ -85,8 +89,10 @@ pub fn answer_juggle<C: Calls>(
     ensures may { OnOk result (C.may_call calls.new) }
     ensures place { C.place calls.new ≡ C.place calls.old }
     ensures caller { C.caller calls.new ≡ C.caller calls.old }
-    ensures ok { OnOk result (Answers limits (requests.Juggle target) (C.caller calls.old) (C.turn calls.old) (C.turn calls.new) moment (C.notes calls.old) (C.notes calls.new) text.old.items text.new.items) }
-    ensures err { IfErr result (λ e. Fails e limits (requests.Juggle target) (C.caller calls.old) (C.turn calls.old) moment (C.notes calls.old) (C.notes calls.new)) }
+    ensures ok { OnOk result (Answers limits (requests.Juggle target) (C.caller calls.old) (C.turn calls.old) (C.turn calls.new) moment (C.notes calls.old)
+        (C.notes calls.new) text.old.items text.new.items) }
+    ensures err { IfErr result (λ e. Fails e limits (requests.Juggle target) (C.caller calls.old) (C.turn calls.old) moment (C.notes calls.old)
+        (C.notes calls.new)) }
     ensures front { Begins text.old.items text.new.items }
     ensures full { IsErrOf result faults.HistoryFull → C.is_full calls.new }
 {

@@ -94,7 +94,8 @@ fn answer_all<E: Ends, C: Calls>(
     ensures caller { C.caller calls.new ≡ C.caller calls.old }
     ensures goes { (before : List Answered) (start : List ℕ)
         → HasAnswered limits before start (E.taken ends.old) text.old.items (C.notes calls.old) (C.caller calls.old) (C.turn calls.old) moment.old
-        → Goes result limits requests.items before start (E.taken ends.new) text.new.items (C.notes calls.new) (C.caller calls.old) (C.turn calls.new) moment.new }
+        → Goes result limits requests.items before start (E.taken ends.new) text.new.items (C.notes calls.new) (C.caller calls.old) (C.turn calls.new)
+        moment.new }
     ensures full { result ≡ Progress.Full → C.is_full calls.new }
     ensures written { AreWritten result (E.writes ends.old) (E.writes ends.new) }
     ensures coming { E.coming ends.new ≡ E.coming ends.old }
@@ -146,7 +147,8 @@ fn answer_piece<E: Ends, C: Calls>(
     ensures caller { C.caller calls.new ≡ C.caller calls.old }
     ensures leaves { (bytes start : List ℕ) (done : List Answered) → HasCome limits bytes (E.coming ends.old) done requests.items
         → HasAnswered limits done start (E.taken ends.old) text.old.items (C.notes calls.old) (C.caller calls.old) (C.turn calls.old) moment.old
-        → LeavesPiece result limits bytes (E.coming ends.old) start (E.taken ends.new) text.new.items (C.notes calls.new) (C.caller calls.old) (C.turn calls.new) moment.new done requests.items }
+        → LeavesPiece result limits bytes (E.coming ends.old) start (E.taken ends.new) text.new.items (C.notes calls.new) (C.caller calls.old)
+        (C.turn calls.new) moment.new done requests.items }
     ensures full { result ≡ Some outcomes.HistoryFull → C.is_full calls.new }
     ensures counted { AreCountedSoFar result (E.reads ends.old) (E.reads ends.new) (E.writes ends.old) (E.writes ends.new) }
     ensures coming { E.coming ends.new ≡ E.coming ends.old }
@@ -186,7 +188,8 @@ pub fn run_script<E: Ends, C: Calls>(
     requires classes { AllThere (C.has_class (C.place calls.old)) limits }
     requires asks { (e : E) → IsOut limits (E.coming ends.old) (E.coming e) (E.taken ends.old) (E.taken e)
         → E.reads e ≡ E.reads ends.old → E.writes e ≡ E.writes ends.old → E.over e ≡ E.over ends.old → E.may_ask e }
-    ensures leaves { Leaves result limits (E.coming ends.old) (E.coming ends.new) (E.taken ends.old) (E.taken ends.new) (C.notes calls.new) (C.caller calls.old) }
+    ensures leaves { Leaves result limits (E.coming ends.old) (E.coming ends.new) (E.taken ends.old) (E.taken ends.new) (C.notes calls.new)
+        (C.caller calls.old) }
     ensures counted { AreCounted result (E.reads ends.old) (E.reads ends.new) (E.writes ends.old) (E.writes ends.new) }
     ensures place { C.place calls.new ≡ C.place calls.old }
     ensures caller { C.caller calls.new ≡ C.caller calls.old }

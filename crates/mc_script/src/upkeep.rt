@@ -36,8 +36,10 @@ fn keep_all<C: Calls>(
     ensures may { OnOk result (C.may_call calls.new) }
     ensures place { C.place calls.new ≡ C.place calls.old }
     ensures caller { C.caller calls.new ≡ C.caller calls.old }
-    ensures ok { OnOk result (WorksAll limits keeper (C.caller calls.old) (C.turn calls.old) (C.turn calls.new) moment (C.notes calls.old) (C.notes calls.new)) }
-    ensures err { IfErr result (λ e. Fails e limits (directive_of keeper) (C.caller calls.old) (C.turn calls.old) moment (C.notes calls.old) (C.notes calls.new)) }
+    ensures ok { OnOk result (WorksAll limits keeper (C.caller calls.old) (C.turn calls.old) (C.turn calls.new) moment (C.notes calls.old)
+        (C.notes calls.new)) }
+    ensures err { IfErr result (λ e. Fails e limits (directive_of keeper) (C.caller calls.old) (C.turn calls.old) moment (C.notes calls.old)
+        (C.notes calls.new)) }
     ensures full { IsErrOf result faults.HistoryFull → C.is_full calls.new }
 {
     match keeper {

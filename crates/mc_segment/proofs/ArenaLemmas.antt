@@ -27,7 +27,8 @@ closed f next h l a =
     subst P (sym (whole f next h l a)) a
 
 -- the same, of the lists that contracts see
-pub seen : (slots : Slots) (next : ℕ) (h : Heads) (v : Held) → held (lists_in (slot slots) h) next (spare slots) slots.entries ≡ v → IsArena (slot slots) next h (lists_in (slot slots) h) → IsArena (slot slots) next h v.lists
+pub seen : (slots : Slots) (next : ℕ) (h : Heads) (v : Held) → held (lists_in (slot slots) h) next (spare slots) slots.entries ≡ v
+    → IsArena (slot slots) next h (lists_in (slot slots) h) → IsArena (slot slots) next h v.lists
 seen slots next h v is a =
     let P : Held → Type 0 = λ x. IsArena (slot slots) next h x.lists in
     subst P is a
@@ -36,10 +37,13 @@ found_pure : (o : Option Listed) → found_in Hot (entry_of (part 0 o)) (found_i
 found_pure None = refl
 found_pure (Some p) =
     let x = p.node in
-    elim p.seg as (λ (s : Seg). found_in Hot (entry_of (if code s == 0 then Some x else None)) (found_in Warm (entry_of (if code s == 1 then Some x else None)) (found_in Cold (entry_of (if code s == 2 then Some x else None)) (found_in Temp (entry_of (if code s == 3 then Some x else None)) None))) ≡ Some (s, x.entry))
+    elim p.seg as (λ (s : Seg). found_in Hot (entry_of (if code s == 0 then Some x else None))
+    (found_in Warm (entry_of (if code s == 1 then Some x else None)) (found_in Cold (entry_of (if code s == 2 then Some x else None))
+    (found_in Temp (entry_of (if code s == 3 then Some x else None)) None))) ≡ Some (s, x.entry))
     [ Hot ↦ refl | Warm ↦ refl | Cold ↦ refl | Temp ↦ refl ]
 
-by_found : {a b c d x y z w : Option Entry} → a ≡ x → b ≡ y → c ≡ z → d ≡ w → found_in Hot a (found_in Warm b (found_in Cold c (found_in Temp d None))) ≡ found_in Hot x (found_in Warm y (found_in Cold z (found_in Temp w None)))
+by_found : {a b c d x y z w : Option Entry} → a ≡ x → b ≡ y → c ≡ z → d ≡ w
+    → found_in Hot a (found_in Warm b (found_in Cold c (found_in Temp d None))) ≡ found_in Hot x (found_in Warm y (found_in Cold z (found_in Temp w None)))
 by_found p q r s = cc
 
 -- the four lists after a step on one of them
@@ -49,7 +53,9 @@ pub replaced : (f g : ℕ → Option Listed) (h : Heads) (l : Lists) (s : Seg) (
     → (t : Seg) → AreNodesOf (nodes_of g (code t)) (ends_of (with_ends h s e) t) (list_of (with_list l s es) t)
 replaced f g h l s e es a new other =
     let keep : (t : Seg) → (code s == code t) ≡ false → AreNodesOf (nodes_of g (code t)) (ends_of h t) (list_of l t) = λ t away. chain_cong _ _ _ _ _ _ _ (other t away) (a t) in
-    (elim s as (λ (s : Seg). AreNodesOf (nodes_of g (code s)) e es → ((t : Seg) → (code s == code t) ≡ false → AreNodesOf (nodes_of g (code t)) (ends_of h t) (list_of l t)) → (t : Seg) → AreNodesOf (nodes_of g (code t)) (ends_of (with_ends h s e) t) (list_of (with_list l s es) t)) [
+    (elim s as (λ (s : Seg). AreNodesOf (nodes_of g (code s)) e es → ((t : Seg) → (code s == code t) ≡ false
+    → AreNodesOf (nodes_of g (code t)) (ends_of h t) (list_of l t)) → (t : Seg)
+    → AreNodesOf (nodes_of g (code t)) (ends_of (with_ends h s e) t) (list_of (with_list l s es) t)) [
       | Hot ↦ λ n k. elim [ Hot ↦ n | Warm ↦ k Warm refl | Cold ↦ k Cold refl | Temp ↦ k Temp refl ]
       | Warm ↦ λ n k. elim [ Hot ↦ k Hot refl | Warm ↦ n | Cold ↦ k Cold refl | Temp ↦ k Temp refl ]
       | Cold ↦ λ n k. elim [ Hot ↦ k Hot refl | Warm ↦ k Warm refl | Cold ↦ n | Temp ↦ k Temp refl ]
@@ -101,7 +107,12 @@ module _ (f : ℕ → Option Listed) (next : ℕ) (h : Heads) (l : Lists) (a : I
       let p : Listed = record { seg = s; node = node e None ends.newest } in
       let empty = slot_none e.number none in
       let at : (k q : ℕ) → nodes_of g k q ≡ (if e.number == q then part k (Some p) else apply_newer ends.newest (Some e.number) q (part k (f q))) = λ k q.
-      ap (part k) (new q) ∙ (elim (e.number == q) as (λ (b : Bool). part k (if b then Some p else place_newer ends.newest (Some e.number) q (f q)) ≡ (if b then part k (Some p) else apply_newer ends.newest (Some e.number) q (part k (f q)))) [ true ↦ refl | false ↦ part_newer k ends.newest (Some e.number) q (f q) ]) in
+      ap (part k) (new q) ∙ (elim (e.number == q) as (λ (b : Bool). part k (if b then Some p else place_newer ends.newest (Some e.number) q (f q))
+      ≡ (if b then part k (Some p) else apply_newer ends.newest (Some e.number) q (part k (f q)))) [
+        | true ↦ refl
+        | false ↦
+            part_newer k ends.newest (Some e.number) q (f q)
+      ]) in
       record {
         parts = replaced f g h l s _ (e ∷ list_of l s) a.parts
             (push_chain (nodes_of f (code s)) (nodes_of g (code s)) ends.newest ends.oldest ends.count ends.bytes (list_of l s) e (a.parts s)
@@ -109,7 +120,8 @@ module _ (f : ℕ → Option Listed) (next : ℕ) (h : Heads) (l : Lists) (a : I
             (λ q. at (code s) q ∙ ap (λ (o : Option Node). if e.number == q then o else apply_newer ends.newest (Some e.number) q (part (code s) (f q))) (own_part (Some p) p refl)))
             (λ t away q. at (code t) q ∙ by_eq e.number q (λ b. (if b then part (code t) (Some p) else apply_newer ends.newest (Some e.number) q (part (code t) (f q))) ≡ part (code t) (f q))
             (λ same. other_part (code t) (Some p) p refl away ∙ sym (ap (λ (n : ℕ). part (code t) (f n)) (sym same) ∙ ap (part (code t)) empty))
-            (λ other. untouched (code s) (code t) (points_to q ends.newest) (with_newer (Some e.number)) (f q) away (λ miss. ap (points_to q) (a.parts s).newest_is ∙ first_lacked (list_of l s) q (missing_here s q miss))));
+            (λ other. untouched (code s) (code t) (points_to q ends.newest) (with_newer (Some e.number)) (f q) away
+            (λ miss. ap (points_to q) (a.parts s).newest_is ∙ first_lacked (list_of l s) q (missing_here s q miss))));
         later = λ q past. new q ∙ (ap (λ (b : Bool). if b then Some p else place_newer ends.newest (Some e.number) q (f q)) (not_equal e.number q (λ same. absurd (omega arith)))
             ∙ (ap (place_newer ends.newest (Some e.number) q) (a.later q past) ∙ quiet (points_to q ends.newest) (renewed (Some e.number))));
         count = let c = with_count l s (e ∷ list_of l s) in omega (arith, c, free);
@@ -185,7 +197,8 @@ module _ (f : ℕ → Option Listed) (next : ℕ) (h : Heads) (l : Lists) (a : I
         let s = p.seg in
         let at : (k q : ℕ) → nodes_of g k q ≡ apply_newer x.older x.newer q (apply_older x.newer x.older q (if m == q then None else part k (f q))) = λ k q.
         ap (part k) (new q) ∙ (part_relinked k x.newer x.older q (if m == q then None else f q)
-        ∙ ap (λ (o : Option Node). apply_newer x.older x.newer q (apply_older x.newer x.older q o)) (elim (m == q) as (λ (b : Bool). part k (if b then None else f q) ≡ (if b then None else part k (f q))) [ true ↦ refl | false ↦ refl ])) in
+        ∙ ap (λ (o : Option Node). apply_newer x.older x.newer q (apply_older x.newer x.older q o))
+        (elim (m == q) as (λ (b : Bool). part k (if b then None else f q) ≡ (if b then None else part k (f q))) [ true ↦ refl | false ↦ refl ])) in
         let far : (q : ℕ) → part (code s) (f q) ≡ None → (points_to q x.newer ≡ false) × (points_to q x.older ≡ false) = λ q miss. names_lacked None (list_of l s) m q x here refl (missing_here s q miss) in
         let sums = taken_sums in
         let P : Lists → Type 0 = λ v. (t : Seg) → AreNodesOf (nodes_of g (code t)) (ends_of (with_ends h s (taken_ends (ends_of h s) x.newer x.older x.entry.cost)) t) (list_of v t) in
@@ -193,9 +206,12 @@ module _ (f : ℕ → Option Listed) (next : ℕ) (h : Heads) (l : Lists) (a : I
           parts = subst P unlinked_is (replaced f g h l s _ (without m (list_of l s)) a.parts
               (take_chain (nodes_of f (code s)) (nodes_of g (code s)) _ _ _ _ (list_of l s) m x (a.parts s) own (at (code s)))
               (λ t away q. at (code t) q ∙ by_eq m q (λ b. apply_newer x.older x.newer q (apply_older x.newer x.older q (if b then None else part (code t) (f q))) ≡ part (code t) (f q))
-              (λ same. ap (apply_newer x.older x.newer q) (still (points_to q x.newer) (with_older x.older)) ∙ (still (points_to q x.older) (with_newer x.newer) ∙ sym (ap (λ (n : ℕ). part (code t) (f n)) (sym same) ∙ apart t away)))
-              (λ other. ap (apply_newer x.older x.newer q) (untouched (code s) (code t) (points_to q x.newer) (with_older x.older) (f q) away (λ miss. (far q miss).0)) ∙ untouched (code s) (code t) (points_to q x.older) (with_newer x.newer) (f q) away (λ miss. (far q miss).1))));
-          later = λ q past. new q ∙ (ap (λ (o : Option Listed). place_newer x.older x.newer q (place_older x.newer x.older q o)) (elim (m == q) as (λ (b : Bool). (if b then None else f q) ≡ None) [ true ↦ refl | false ↦ a.later q past ])
+              (λ same. ap (apply_newer x.older x.newer q) (still (points_to q x.newer) (with_older x.older))
+              ∙ (still (points_to q x.older) (with_newer x.newer) ∙ sym (ap (λ (n : ℕ). part (code t) (f n)) (sym same) ∙ apart t away)))
+              (λ other. ap (apply_newer x.older x.newer q) (untouched (code s) (code t) (points_to q x.newer) (with_older x.older) (f q) away
+              (λ miss. (far q miss).0)) ∙ untouched (code s) (code t) (points_to q x.older) (with_newer x.newer) (f q) away (λ miss. (far q miss).1))));
+          later = λ q past. new q ∙ (ap (λ (o : Option Listed). place_newer x.older x.newer q (place_older x.newer x.older q o))
+              (elim (m == q) as (λ (b : Bool). (if b then None else f q) ≡ None) [ true ↦ refl | false ↦ a.later q past ])
               ∙ (ap (place_newer x.older x.newer q) (quiet (points_to q x.newer) (reolded x.older)) ∙ quiet (points_to q x.older) (renewed x.newer)));
           count = omega (arith, sums, a.count);
           bytes = omega (arith, sums, a.bytes);

@@ -49,7 +49,9 @@ node_entry w (e ∷ es) q =
 pub node_head : (v w : Option ℕ) (es : List Entry) (q : ℕ) → node_at w es q ≡ apply_newer (first_number es) w q (node_at v es q)
 node_head v w [] q = refl
 node_head v w (e ∷ es) q =
-    elim (e.number == q) as (λ (b : Bool). (if b then Some (node e w (first_number es)) else node_at (Some e.number) es q) ≡ (if b then option_map (with_newer w) (if b then Some (node e v (first_number es)) else node_at (Some e.number) es q) else (if b then Some (node e v (first_number es)) else node_at (Some e.number) es q)))
+    elim (e.number == q) as (λ (b : Bool). (if b then Some (node e w (first_number es)) else node_at (Some e.number) es q)
+    ≡ (if b then option_map (with_newer w) (if b then Some (node e v (first_number es)) else node_at (Some e.number) es q) else (if b then
+    Some (node e v (first_number es)) else node_at (Some e.number) es q)))
     [ true ↦ refl | false ↦ refl ]
 
 pub by_eq : (a b : ℕ) (P : Bool → Type 0) → (a ≡ b → P true) → (a ≢ b → P false) → P (a == b)
@@ -177,7 +179,10 @@ pushed : (b : Bool) (e : Entry) (w first older : Option ℕ) → (if b then Some
 pushed true e w first older = refl
 pushed false e w first older = refl
 
-fixed : (e : Entry) (w older first : Option ℕ) (b c : Bool) (to : Option ℕ) → c ≡ false → Some (node e w (if b then older else first)) ≡ (if c then option_map (with_newer to) (if b then Some (node e w older) else Some (node e w first)) else (if b then Some (node e w older) else Some (node e w first)))
+fixed : (e : Entry) (w older first : Option ℕ) (b c : Bool) (to : Option ℕ) → c ≡ false
+    → Some (node e w (if b then older else first))
+    ≡ (if c then option_map (with_newer to) (if b then Some (node e w older) else Some (node e w first)) else (if b then
+    Some (node e w older) else Some (node e w first)))
 fixed e w older first true c to h = ap (λ (x : Bool). if x then option_map (with_newer to) (Some (node e w older)) else Some (node e w older)) (sym h)
 fixed e w older first false c to h = ap (λ (x : Bool). if x then option_map (with_newer to) (Some (node e w first)) else Some (node e w first)) (sym h)
 
@@ -190,8 +195,12 @@ taken_before w es m q e x l d other same h =
     let older : points_to q x.older ≡ false = ap (λ k. points_to k x.older) (sym same) ∙ older_lacked (Some e.number) es m e.number x h l in
     let apart : (m == q) ≡ false = not_equal m q (λ k. other (same ∙ sym k)) in
     one ∙ (fixed e w x.older (first_number es) b (points_to q x.older) x.newer older
-    ∙ (ap (λ (t : Bool). if points_to q x.older then option_map (with_newer x.newer) (if t then Some (node e w x.older) else Some (node e w (first_number es))) else (if t then Some (node e w x.older) else Some (node e w (first_number es)))) (sym newer)
-    ∙ (ap (λ (o : Option Node). apply_newer x.older x.newer q o) (pushed (points_to q x.newer) e w (first_number es) x.older) ∙ ap (λ (t : Bool). if t then None else apply_newer x.older x.newer q (apply_older x.newer x.older q (Some (node e w (first_number es))))) (sym apart))))
+    ∙ (ap (λ (t : Bool). if points_to q x.older then option_map (with_newer x.newer) (if t then
+    Some (node e w x.older) else Some (node e w (first_number es))) else (if t then Some (node e w x.older) else Some (node e w (first_number es))))
+    (sym newer)
+    ∙ (ap (λ (o : Option Node). apply_newer x.older x.newer q o) (pushed (points_to q x.newer) e w (first_number es) x.older)
+    ∙ ap (λ (t : Bool). if t then None else apply_newer x.older x.newer q (apply_older x.newer x.older q (Some (node e w (first_number es)))))
+    (sym apart))))
 
 taken_head : (w : Option ℕ) (es : List Entry) (q : ℕ) (e : Entry) → lacks e.number es ≡ true → lacks_name w (e ∷ es) ≡ true
     → node_at w es q ≡ (if e.number == q then None else apply_newer (first_number es) w q (apply_older w (first_number es) q (if e.number == q then Some (node e w (first_number es)) else node_at (Some e.number) es q)))
@@ -207,16 +216,24 @@ taken_nodes w [] m q x d l is = cc
 taken_nodes w (e ∷ es) m q x d l is =
     let p = both_of (lacks e.number es) (distinct es) d in
     by_eq e.number m (λ t. (if t then Some (node e w (first_number es)) else node_at (Some e.number) es m) ≡ Some x
-    → node_at w (if t then es else (e ∷ without m es)) q ≡ (if m == q then None else apply_newer x.older x.newer q (apply_older x.newer x.older q (if e.number == q then Some (node e w (first_number es)) else node_at (Some e.number) es q))))
+    → node_at w (if t then es else (e ∷ without m es)) q ≡ (if m == q then
+    None else apply_newer x.older x.newer q (apply_older x.newer x.older q (if e.number == q then
+    Some (node e w (first_number es)) else node_at (Some e.number) es q))))
     (λ same h.
     let at : node e w (first_number es) ≡ x = cc in
-    let R : Node → Type 0 = λ y. node_at w es q ≡ (if m == q then None else apply_newer y.older y.newer q (apply_older y.newer y.older q (if e.number == q then Some (node e w (first_number es)) else node_at (Some e.number) es q))) in
+    let R : Node → Type 0 = λ y. node_at w es q
+    ≡ (if m == q then None else apply_newer y.older y.newer q (apply_older y.newer y.older q (if e.number == q then
+    Some (node e w (first_number es)) else node_at (Some e.number) es q))) in
     subst R at (
-    let S : ℕ → Type 0 = λ k. node_at w es q ≡ (if k == q then None else apply_newer (first_number es) w q (apply_older w (first_number es) q (if e.number == q then Some (node e w (first_number es)) else node_at (Some e.number) es q))) in
+    let S : ℕ → Type 0 = λ k. node_at w es q
+    ≡ (if k == q then None else apply_newer (first_number es) w q (apply_older w (first_number es) q (if e.number == q then
+    Some (node e w (first_number es)) else node_at (Some e.number) es q))) in
     subst S same (taken_head w es q e p.0 l)
     ))
     (λ other h.
-    by_eq e.number q (λ t. (if t then Some (node e w (first_number (without m es))) else node_at (Some e.number) (without m es) q) ≡ (if m == q then None else apply_newer x.older x.newer q (apply_older x.newer x.older q (if t then Some (node e w (first_number es)) else node_at (Some e.number) es q))))
+    by_eq e.number q (λ t. (if t then Some (node e w (first_number (without m es))) else node_at (Some e.number) (without m es) q)
+    ≡ (if m == q then None else apply_newer x.older x.newer q (apply_older x.newer x.older q (if t then
+    Some (node e w (first_number es)) else node_at (Some e.number) es q))))
     (λ same. taken_before w es m q e x p.0 p.1 other same h)
     (λ away. taken_nodes (Some e.number) es m q x p.1 p.0 h))
     is
@@ -240,7 +257,8 @@ is_after (Some _) older k h = refl
 taken_last : (w : Option ℕ) (es : List Entry) (m : ℕ) (x : Node) → node_at w es m ≡ Some x → last_from w (without m es) ≡ (end_of (x.older) (x.newer) (last_from w es))
 taken_last w [] m x is = cc
 taken_last w (e ∷ es) m x is =
-    by_eq e.number m (λ t. (if t then Some (node e w (first_number es)) else node_at (Some e.number) es m) ≡ Some x → last_from w (if t then es else (e ∷ without m es)) ≡ (end_of (x.older) (x.newer) (last_from (Some e.number) es)))
+    by_eq e.number m (λ t. (if t then Some (node e w (first_number es)) else node_at (Some e.number) es m) ≡ Some x
+    → last_from w (if t then es else (e ∷ without m es)) ≡ (end_of (x.older) (x.newer) (last_from (Some e.number) es)))
     (λ same h. let at : node e w (first_number es) ≡ x = cc in ends_there w e es ∙ ap (λ (y : Node). end_of (y.older) (y.newer) (last_from (Some e.number) es)) at)
     (λ other h. taken_last (Some e.number) es m x h)
     is
@@ -256,7 +274,9 @@ taken_newest (e ∷ es) m x is =
 pub taken_length : (w : Option ℕ) (es : List Entry) (m : ℕ) (x : Node) → node_at w es m ≡ Some x → (length (without m es) + 1 ≡ length es) × (cost_sum (without m es) + x.entry.cost ≡ cost_sum es)
 taken_length w [] m x is = cc
 taken_length w (e ∷ es) m x is =
-    by_eq e.number m (λ t. (if t then Some (node e w (first_number es)) else node_at (Some e.number) es m) ≡ Some x → (length (if t then es else (e ∷ without m es)) + 1 ≡ suc (length es)) × (cost_sum (if t then es else (e ∷ without m es)) + x.entry.cost ≡ e.cost + cost_sum es))
+    by_eq e.number m (λ t. (if t then Some (node e w (first_number es)) else node_at (Some e.number) es m) ≡ Some x
+    → (length (if t then es else (e ∷ without m es)) + 1 ≡ suc (length es))
+    × (cost_sum (if t then es else (e ∷ without m es)) + x.entry.cost ≡ e.cost + cost_sum es))
     (λ same h.
     let at : node e w (first_number es) ≡ x = cc in
     let cost : e.cost ≡ x.entry.cost = ap (λ (y : Node). y.entry.cost) at in
@@ -286,7 +306,8 @@ nothing true false F G = refl
 nothing false true F G = refl
 nothing false false F G = refl
 
-gone : (b : Bool) (x : Node) (q : ℕ) (o : Option Node) → apply_newer x.older x.newer q (apply_older x.newer x.older q (if b then None else o)) ≡ (if b then None else apply_newer x.older x.newer q (apply_older x.newer x.older q o))
+gone : (b : Bool) (x : Node) (q : ℕ) (o : Option Node) → apply_newer x.older x.newer q (apply_older x.newer x.older q (if b then None else o))
+    ≡ (if b then None else apply_newer x.older x.newer q (apply_older x.newer x.older q o))
 gone true x q o = nothing (points_to q x.newer) (points_to q x.older) (with_older x.older) (with_newer x.newer)
 gone false x q o = refl
 

@@ -86,7 +86,8 @@ nothing_found l s o h =
     subst P (sym h) tt
 
 -- the same of a look from the tail, by its place from the head
-pub found_tail : (l : Lists) (s : Seg) (j : ℕ) (o : Option Entry) → (j < length (list_of l s) → o ≡ slice_get (list_of l s) (length (list_of l s) - 1 - j)) → (length (list_of l s) ≤ j → o ≡ None) → ((q : ℕ) → times_in q l ≤ 1)
+pub found_tail : (l : Lists) (s : Seg) (j : ℕ) (o : Option Entry) → (j < length (list_of l s) → o ≡ slice_get (list_of l s) (length (list_of l s) - 1 - j))
+    → (length (list_of l s) ≤ j → o ≡ None) → ((q : ℕ) → times_in q l ≤ 1)
     → IfSome o (λ e. (find e.number (list_of l s) ≡ Some e) × (found e.number l ≡ Some (s, e)))
 found_tail l s j o within past once =
     elim (cases_lt j (length (list_of l s))) [ inl less ↦ found_read l s _ o (within less) once | inr more ↦ nothing_found l s o (past more) ]

@@ -73,7 +73,9 @@ pub untouched : (s k : ℕ) (b : Bool) (F : Node → Node) (o : Option Listed) �
 untouched s k b F None apart h = still b F
 untouched s k b F (Some p) apart h =
     by_eq (code p.seg) k (λ t. (if b then option_map F (if t then Some p.node else None) else (if t then Some p.node else None)) ≡ (if t then Some p.node else None))
-    (λ same. unless b F (Some p.node) (h (other_part s (Some p) p refl (not_equal (code p.seg) s (λ eq. false≢true (sym apart ∙ (ap (λ (n : ℕ). n == k) (sym eq ∙ same) ∙ by_eq k k (λ (t : Bool). t ≡ true) (λ _. refl) (λ not. absurd (not refl)))))))))
+    (λ same. unless b F (Some p.node) (h (other_part s (Some p) p refl (not_equal (code p.seg) s
+    (λ eq. false≢true (sym apart ∙ (ap (λ (n : ℕ). n == k) (sym eq ∙ same)
+    ∙ by_eq k k (λ (t : Bool). t ≡ true) (λ _. refl) (λ not. absurd (not refl)))))))))
     (λ other. still b F)
 
 -- a number that was taken out has an empty slot
@@ -119,7 +121,8 @@ pub at_most : (o : Option Listed) → one_if (part 0 o) + one_if (part 1 o) + on
 at_most None = omega arith
 at_most (Some p) =
     let x = p.node in
-    elim p.seg as (λ (s : Seg). one_if (if code s == 0 then Some x else None) + one_if (if code s == 1 then Some x else None) + one_if (if code s == 2 then Some x else None) + one_if (if code s == 3 then Some x else None) ≤ 1)
+    elim p.seg as (λ (s : Seg). one_if (if code s == 0 then Some x else None) + one_if (if code s == 1 then Some x else None)
+    + one_if (if code s == 2 then Some x else None) + one_if (if code s == 3 then Some x else None) ≤ 1)
     [ Hot ↦ omega arith | Warm ↦ omega arith | Cold ↦ omega arith | Temp ↦ omega arith ]
 
 times_lacked : (q : ℕ) (es : List Entry) → lacks q es ≡ true → times q es ≡ 0

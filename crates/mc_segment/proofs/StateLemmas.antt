@@ -101,7 +101,9 @@ not_to_come n next q below above = not_equal n q (λ same. absurd (omega arith))
 
 -- ---- a class without events
 -- the last test of a configuration was passed where all were
-all_passed : (a b c d e f g : Bool) → (if not a then Some Stripes else (if not b then Some Sizes else (if not c then Some Chunks else (if not d then Some Percent else (if not e then Some Factor else (if not f then Some Callers else (if not g then Some Events else None))))))) ≡ None → g ≡ true
+all_passed : (a b c d e f g : Bool) → (if not a then Some Stripes else (if not b then
+    Some Sizes else (if not c then Some Chunks else (if not d then Some Percent else (if not e then
+    Some Factor else (if not f then Some Callers else (if not g then Some Events else None))))))) ≡ None → g ≡ true
 all_passed false b c d e f g h = cc
 all_passed true false c d e f g h = cc
 all_passed true true false d e f g h = cc
@@ -113,7 +115,9 @@ all_passed true true true true true true true h = refl
 
 pub sound_events : (c : Config) → fault_of c ≡ None → c.max_events ≤ 2 ^ 32
 sound_events c sound =
-    let events : are_events c.max_events ≡ true = all_passed (are_stripes c.stripes) (are_sizes c.sizes) (are_chunks c.chunks (length c.sizes)) (are_percents c.hot_percent c.warm_percent) (are_factors c.hot_factor c.warm_factor c.temp_ttl) (are_callers c.callers) (are_events c.max_events) sound in
+    let events : are_events c.max_events ≡ true =
+    all_passed (are_stripes c.stripes) (are_sizes c.sizes) (are_chunks c.chunks (length c.sizes)) (are_percents c.hot_percent c.warm_percent)
+    (are_factors c.hot_factor c.warm_factor c.temp_ttl) (are_callers c.callers) (are_events c.max_events) sound in
     grind (arith, nat_tests)
 
 pub opened_is : (h : Held) (chunks max_events : ℕ) (rule : Rule) (history : List ClassEvent) → h.lists ≡ no_lists → h.next ≡ 0 → history ≡ [] → max_events ≤ 2 ^ 32 → IsReplay h chunks max_events rule history

@@ -61,7 +61,13 @@ pushed_ends x n cost = record { newest = Some n; oldest = end_of x.newest (Some 
 
 -- the ends of a list once a number of this cost, which stood between these two, is gone
 abbrev pub taken_ends : Ends → Option ℕ → Option ℕ → ℕ → Ends
-taken_ends x newer older cost = record { newest = end_of newer older x.newest; oldest = end_of older newer x.oldest; count = x.count - 1; bytes = x.bytes - cost }
+taken_ends x newer older cost = record {
+  newest = end_of newer older x.newest;
+  oldest = end_of older newer x.oldest;
+  count = x.count - 1;
+  bytes =
+      x.bytes - cost;
+}
 
 -- the entries that are met from the newest on
 abbrev pub walk_in : (ℕ → Option Listed) → ℕ → Ends → List Entry

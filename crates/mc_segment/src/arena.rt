@@ -191,7 +191,8 @@ impl Arena {
         ensures left { IfSome result (λ p. with_list self.old.lists p.0 (without number (list_of self.old.lists p.0)) ≡ unlinked number self.old.lists) }
         ensures lists { self.new.lists ≡ unlinked number self.old.lists }
         ensures gone { found number self.new.lists ≡ None }
-        ensures sums { IfSome result (λ p. (p.1.number ≡ number) × (number < self.old.next) × (count_of self.new.lists + 1 ≡ count_of self.old.lists) × (all_bytes self.new.lists + p.1.cost ≡ all_bytes self.old.lists)) }
+        ensures sums { IfSome result (λ p. (p.1.number ≡ number) × (number < self.old.next) × (count_of self.new.lists + 1 ≡ count_of self.old.lists)
+            × (all_bytes self.new.lists + p.1.cost ≡ all_bytes self.old.lists)) }
         ensures slot { keeps ≡ true → IfSome result (λ p. HasSlot self.new number) }
         ensures fits { IfSome result (λ p. (count_of self.new.lists < self.new.next) × (all_bytes self.new.lists + p.1.cost ≤ 2 ^ 20 * self.new.next)) }
         ensures next { self.new.next ≡ self.old.next }

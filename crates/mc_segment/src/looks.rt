@@ -26,7 +26,8 @@ impl Arena {
 
     /// The j-th entry from a list's tail.
     pub fn from_tail(&self, seg: Seg, j: u64) -> Option<&Entry>
-        ensures inside { j < length (list_of self.now.lists seg) → option_copied result ≡ slice_get (list_of self.now.lists seg) (length (list_of self.now.lists seg) - 1 - j) }
+        ensures inside { j < length (list_of self.now.lists seg) → option_copied result
+            ≡ slice_get (list_of self.now.lists seg) (length (list_of self.now.lists seg) - 1 - j) }
         ensures outside { length (list_of self.now.lists seg) ≤ j → result ≡ None }
     {
         let mut at = self.heads.of(seg).oldest;

@@ -100,7 +100,8 @@ impl ClassState {
     /// The entry that is one place newer than that of a number in its list: the next one on a way from the tail. There
     /// is none past the newest, and none of a number that is in no list.
     pub fn next_newer(&self, number: u64) -> Option<&Entry>
-        ensures newer { (s : Seg) (j : ℕ) (e : Entry) → Rattle.mc_rule.specs.Lists.from_tail (list_of (lists_of self.now.history) s) j ≡ Some e → e.number ≡ number
+        ensures newer { (s : Seg) (j : ℕ) (e : Entry) → Rattle.mc_rule.specs.Lists.from_tail (list_of (lists_of self.now.history) s) j ≡ Some e
+            → e.number ≡ number
             → option_copied result ≡ Rattle.mc_rule.specs.Lists.from_tail (list_of (lists_of self.now.history) s) (j + 1) }
         ensures absent { found number (lists_of self.now.history) ≡ None → result ≡ None }
     {
@@ -141,8 +142,10 @@ impl ClassState {
     pub fn law(&self)
         ensures once { (q : ℕ) → times_in q (lists_of self.now.history) ≤ 1 }
         ensures below { (q : ℕ) → entries_linked self.now.history ≤ q → found q (lists_of self.now.history) ≡ None }
-        ensures inside { (s : Seg) (q : ℕ) → Rattle.mc_rule.specs.Lists.segment_of q (lists_of self.now.history) ≡ Some s → IsIn s q (lists_of self.now.history) }
-        ensures lists { (s : Seg) (q : ℕ) → IsIn s q (lists_of self.now.history) → Rattle.mc_rule.specs.Lists.segment_of q (lists_of self.now.history) ≡ Some s }
+        ensures inside { (s : Seg) (q : ℕ) → Rattle.mc_rule.specs.Lists.segment_of q (lists_of self.now.history) ≡ Some s
+            → IsIn s q (lists_of self.now.history) }
+        ensures lists { (s : Seg) (q : ℕ) → IsIn s q (lists_of self.now.history)
+            → Rattle.mc_rule.specs.Lists.segment_of q (lists_of self.now.history) ≡ Some s }
         ensures fresh { (q : ℕ) → entries_linked self.now.history ≤ q → is_named q self.now.history ≡ false }
         ensures lawful { IsLawfulHistoryByLists self.now.chunks self.now.rule self.now.history }
         ensures places { (length self.now.history ≤ self.now.max_events) × (self.now.max_events ≤ 2 ^ 32) }

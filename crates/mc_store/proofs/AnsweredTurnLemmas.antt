@@ -50,7 +50,8 @@ tail_same : (x y : CallEvent) (xs ys : List CallEvent) → x ∷ xs ≡ y ∷ ys
 tail_same x y xs ys e = cc e
 
 -- behind the call of a turn stands one list
-behind_same : (bs cs : List CallEvent) (x y : CallEvent) (xs ys : List CallEvent) (m n : ℕ) → bs ++ x ∷ xs ≡ cs ++ y ∷ ys → length (turns_of bs) ≡ length (turns_of cs) → moment_of x ≡ Some m → moment_of y ≡ Some n → xs ≡ ys
+behind_same : (bs cs : List CallEvent) (x y : CallEvent) (xs ys : List CallEvent) (m n : ℕ) → bs ++ x ∷ xs ≡ cs ++ y ∷ ys
+    → length (turns_of bs) ≡ length (turns_of cs) → moment_of x ≡ Some m → moment_of y ≡ Some n → xs ≡ ys
 behind_same [] [] x y xs ys m n e same one two = tail_same x y xs ys e
 behind_same [] (c ∷ cs) x y xs ys m n e same one two =
     let first : x ≡ c = head_same x c xs (cs ++ y ∷ ys) e in
@@ -79,12 +80,14 @@ answer_same k j p q e =
     (ap (λ (a : kinds.Answered). a.stripe.0) same, ap (λ (a : kinds.Answered). a.place) same)
 
 -- no turn is answered twice
-pub answered_once : (final : FinalView) (pass : PassView) (number place number_too place_too : ℕ) (s s_too : StripeSide) (did did_too : Did) → AreItsOwn pass final.stripes → did.who.caller ≡ pass.caller → did_too.who ≡ did.who
+pub answered_once : (final : FinalView) (pass : PassView) (number place number_too place_too : ℕ) (s s_too : StripeSide) (did did_too : Did)
+    → AreItsOwn pass final.stripes → did.who.caller ≡ pass.caller → did_too.who ≡ did.who
     → slice_get final.stripes number ≡ Some s → slice_get s.stripe.history place ≡ Some (events.Did did)
     → slice_get final.stripes number_too ≡ Some s_too → slice_get s_too.stripe.history place_too ≡ Some (events.Did did_too) → (number ≡ number_too) × (place ≡ place_too)
 answered_once final pass number place number_too place_too s s_too did did_too own by same there at there_too at_too =
     let one = own.each number s place (events.Did did) there at by in
     let two = own.each number_too s_too place_too (events.Did did_too) there_too at_too (ap (λ (w : Who). w.caller) same ∙ by) in
     let turns : length (turns_of one.begun.before) ≡ length (turns_of two.begun.before) = one.begun.turn_is ∙ (ap (λ (w : Who). w.turn) (sym same) ∙ sym two.begun.turn_is) in
-    let behind = behind_same one.begun.before two.begun.before one.begun.call two.begun.call one.begun.behind two.begun.behind one.moment two.moment (sym one.begun.split ∙ two.begun.split) turns one.begun.handed two.begun.handed in
+    let behind = behind_same one.begun.before two.begun.before one.begun.call two.begun.call one.begun.behind two.begun.behind one.moment two.moment
+    (sym one.begun.split ∙ two.begun.split) turns one.begun.handed two.begun.handed in
     answer_same number number_too place place_too (next_same (answered_at number place) (answered_at number_too place_too) one.begun.behind two.begun.behind one.own.1 two.own.1 behind)

@@ -210,7 +210,9 @@ module _ (config : Config) (stripe : ℕ) where
   Called history sight = AreCalled (locks_for config) config.callers stripe history (list_at sight.seen)
 
   -- more is seen
-  pub called_sees : (history : List StripeEvent) (old new : Sight) → Grows old new → AreCalled (locks_for config) config.callers stripe history (list_at old.seen) → AreCalled (locks_for config) config.callers stripe history (list_at new.seen)
+  pub called_sees : (history : List StripeEvent) (old new : Sight) → Grows old new
+      → AreCalled (locks_for config) config.callers stripe history (list_at old.seen)
+      → AreCalled (locks_for config) config.callers stripe history (list_at new.seen)
   called_sees history old new more all = record {
     each = λ place event at.
         let lock = locks_for config + (who_of event).caller in
@@ -237,7 +239,8 @@ moment_made w (Expired dead) is = is
 moment_made w (Taken class place) is = tt
 
 -- a walker's event was called
-event_called : (config : Config) (stripe place : ℕ) (sight : Sight) (w : Walker) (event : StripeEvent) → HasBegun config sight w.who w.moment → IsWalkersEvent w event → WasCalled config stripe place event (list_at sight.seen)
+event_called : (config : Config) (stripe place : ℕ) (sight : Sight) (w : Walker) (event : StripeEvent) → HasBegun config sight w.who w.moment
+    → IsWalkersEvent w event → WasCalled config stripe place event (list_at sight.seen)
 event_called config stripe place sight w (events.Did did) begun made = absurd made
 event_called config stripe place sight w (events.Lost lost) begun made =
     let here : HasBegun config sight lost.who w.moment = subst (λ (who : Who). HasBegun config sight who w.moment) (sym made.0) begun in
@@ -265,7 +268,8 @@ called_walked config w s s_new old new grows more begun all =
     (called_sees config s.site.stripe s.history old new more all))
 
 -- a stripe on which a command was made or wasn't, and where it was answered, its caller has noted it and told the stripe
-module _ (config : Config) (s s_new : states.Stripe) (c : words.Call) (vs ws : List ClassView) (old new : Sight) (caller caller_new : CallerView) (place : ℕ) (asked : HasAsked caller c.who c.command c.moment) (at : place ≡ length s.history)
+module _ (config : Config) (s s_new : states.Stripe) (c : words.Call) (vs ws : List ClassView) (old new : Sight) (caller caller_new : CallerView) (place : ℕ)
+    (asked : HasAsked caller c.who c.command c.moment) (at : place ≡ length s.history)
     (site : KeepsSite s s_new) (more : Grows old new) where
   abbrev seen_calls : ℕ → List CallEvent
   seen_calls number = call_events (list_at new.seen (caller_place config number))

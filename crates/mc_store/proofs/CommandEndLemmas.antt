@@ -22,7 +22,8 @@ module _ (config : Config) (command : Command) (turn : Turn) where
   EndsBy s own_new caller caller_new result = Ends config s own_new caller caller_new command turn result
 
   -- a walk in the class that is needed is a search
-  pub searched_walk : (s s_new : Stripe) (class : ClassNo) → IsAlive (item_of s command) turn.moment → (row_at s command turn.moment).need ≡ needs.Fresh class → IsWalked config turn class s s_new → IsSearched config turn.who command turn.moment s s_new
+  pub searched_walk : (s s_new : Stripe) (class : ClassNo) → IsAlive (item_of s command) turn.moment → (row_at s command turn.moment).need ≡ needs.Fresh class
+      → IsWalked config turn class s s_new → IsSearched config turn.who command turn.moment s s_new
   searched_walk s s_new class alive fresh walk =
       let need = ap (λ (o : Option Item). (row_of s.site (cache_now s).versions o command turn.moment).need) (visible_alive turn.moment (item_of s command) alive) ∙ fresh in
       (walk.walked, subst (λ (n : Need). IsSearch config turn.who turn.moment n walk.walked) (sym need) walk.each, walk.history_is)
@@ -30,7 +31,8 @@ module _ (config : Config) (command : Command) (turn : Turn) where
   -- behind a search
   module _ (s mid : Stripe) (alive : IsAlive (item_of s command) turn.moment) (searched : IsSearched config turn.who command turn.moment s mid) (site : KeepsSite s mid) where
     -- the command was made
-    pub ends_made : (end : StripeSide) (caller caller_new : CallerView) (reply : Reply) → IsStripeOf config s → KeepsSite mid end.stripe → IsMadeIn config mid end caller caller_new command turn reply → EndsBy s end caller caller_new (Ok reply)
+    pub ends_made : (end : StripeSide) (caller caller_new : CallerView) (reply : Reply) → IsStripeOf config s → KeepsSite mid end.stripe
+        → IsMadeIn config mid end caller caller_new command turn reply → EndsBy s end caller caller_new (Ok reply)
     ends_made end caller caller_new reply made_with more made = record {
       replied = replied_behind config turn.who command turn.moment s mid alive searched end.stripe end.sight made.room reply caller.calls caller_new.calls site made.made_is (ap (λ (x : CallerView). x.calls) made.noted)
           (earned_told config s.site end.sight turn.who command turn.moment (answer_to mid (call turn.who command turn.moment made.room)).reply made.room made_with.stripes
@@ -46,7 +48,8 @@ module _ (config : Config) (command : Command) (turn : Turn) where
         ok_full r is = cc is
 
     -- it was broken off
-    pub ends_cut : (end : StripeSide) (caller caller_new : CallerView) (fault : Fault) → KeepsSite mid end.stripe → end.stripe.history ≡ mid.history → caller_new ≡ caller → (fault ≡ HistoryFull → IsShort config end) → EndsBy s end caller caller_new (Err fault)
+    pub ends_cut : (end : StripeSide) (caller caller_new : CallerView) (fault : Fault) → KeepsSite mid end.stripe → end.stripe.history ≡ mid.history
+        → caller_new ≡ caller → (fault ≡ HistoryFull → IsShort config end) → EndsBy s end caller caller_new (Err fault)
     ends_cut end caller caller_new fault more same unnoted full = record {
       replied = tt;
       cut = cut_behind config turn.who command turn.moment s mid alive searched end.stripe same;
@@ -60,13 +63,15 @@ module _ (config : Config) (command : Command) (turn : Turn) where
         err_fault a b is = cc is
 
     -- with a fault that was handed on
-    pub ends_err : (end : StripeSide) (caller caller_new : CallerView) (r : Result Reply Fault) (fault : Fault) → IsErrAnd r (λ x. x ≡ fault) → KeepsSite mid end.stripe → end.stripe.history ≡ mid.history → caller_new ≡ caller → (fault ≡ HistoryFull → IsShort config end)
+    pub ends_err : (end : StripeSide) (caller caller_new : CallerView) (r : Result Reply Fault) (fault : Fault) → IsErrAnd r (λ x. x ≡ fault)
+        → KeepsSite mid end.stripe → end.stripe.history ≡ mid.history → caller_new ≡ caller → (fault ≡ HistoryFull → IsShort config end)
         → EndsBy s end caller caller_new r
     ends_err end caller caller_new (Ok reply) fault is more same unnoted full = absurd is
     ends_err end caller caller_new (Err e) fault is more same unnoted full = ends_cut end caller caller_new e more same unnoted (λ at. full (sym is ∙ at))
 
   -- before anything of it happened
-  pub ends_early : (s : Stripe) (end : StripeSide) (caller caller_new : CallerView) (r : Result Reply Fault) (fault : Fault) → IsErrAnd r (λ x. x ≡ fault) → KeepsSite s end.stripe → end.stripe.history ≡ s.history → caller_new ≡ caller → (fault ≡ HistoryFull → IsShort config end)
+  pub ends_early : (s : Stripe) (end : StripeSide) (caller caller_new : CallerView) (r : Result Reply Fault) (fault : Fault) → IsErrAnd r (λ x. x ≡ fault)
+      → KeepsSite s end.stripe → end.stripe.history ≡ s.history → caller_new ≡ caller → (fault ≡ HistoryFull → IsShort config end)
       → EndsBy s end caller caller_new r
   ends_early s end caller caller_new (Ok reply) fault is site same unnoted full = absurd is
   ends_early s end caller caller_new (Err e) fault is site same unnoted full = record {
@@ -83,7 +88,9 @@ module _ (config : Config) (command : Command) (turn : Turn) where
 
   -- on a stripe of the same history
   module _ (s mid : Stripe) (site : KeepsSite s mid) (same : mid.history ≡ s.history) where
-    replied_same : (end : Stripe) (sight : Sight) (calls calls_new : List CallEvent) (reply : Reply) → IsReplied config turn.who command turn.moment mid end sight calls calls_new reply → IsReplied config turn.who command turn.moment s end sight calls calls_new reply
+    replied_same : (end : Stripe) (sight : Sight) (calls calls_new : List CallEvent) (reply : Reply)
+        → IsReplied config turn.who command turn.moment mid end sight calls calls_new reply
+        → IsReplied config turn.who command turn.moment s end sight calls calls_new reply
     replied_same end sight calls calls_new reply r =
         let a = r.answered in
         record {
@@ -171,7 +178,8 @@ module _ (s s_new : Stripe) (site : KeepsSite s s_new) (same : s_new.history ≡
   searched_same config who t searched = (searched.0, searched.1, same ∙ searched.2)
 
 -- what was buried, as the stripe was before it had seen more
-pub buried_now : (s told mid : Stripe) (who : Who) (command : Command) (moment : ℕ) (link : Link) (key : List ℕ) → told ≡ s → key ≡ key_of command → dead_link (item_of s command) moment ≡ Some link → mid.history ≡ told.history ++ burial who key moment (Some link)
+pub buried_now : (s told mid : Stripe) (who : Who) (command : Command) (moment : ℕ) (link : Link) (key : List ℕ) → told ≡ s → key ≡ key_of command
+    → dead_link (item_of s command) moment ≡ Some link → mid.history ≡ told.history ++ burial who key moment (Some link)
     → mid.history ≡ s.history ++ burial who (key_of command) moment (dead_link (item_of s command) moment)
 buried_now s told mid who command moment link key same key_is dead lost =
     lost

@@ -150,7 +150,8 @@ pub so_far_none : (config : Config) (class : ClassNo) (before after : Sight) (wh
 so_far_none config class before after who moment links h none taken = record { snapshot = taken.0; links_are = taken.1; counted = (taken.2, none) }
 
 -- one more
-pub so_far_more : (config : Config) (class : ClassNo) (a b c : Sight) (who : Who) (moment : ℕ) (links done more : List Link) (link : Link) (h h_new : Histogram) → CountsSoFar config class a b who moment links done h → Grows b c
+pub so_far_more : (config : Config) (class : ClassNo) (a b c : Sight) (who : Who) (moment : ℕ) (links done more : List Link) (link : Link) (h h_new : Histogram)
+    → CountsSoFar config class a b who moment links done h → Grows b c
     → IsLinkCounted config class (list_at b.seen (class_lock config class)) (list_at c.seen (class_lock config class)) who moment link h h_new → done ++ link ∷ [] ≡ more
     → CountsSoFar config class a c who moment links more h_new
 unfolding snapshot_later
@@ -163,7 +164,8 @@ so_far_more config class a b c who moment links done more link h h_new some grow
 }
 
 -- all of them, and so the class was crawled
-pub so_far_all : (config : Config) (class : ClassNo) (before after : Sight) (who : Who) (moment : ℕ) (links done : List Link) (h : Histogram) → CountsSoFar config class before after who moment links done h → done ≡ links → h.seen ≡ length links
+pub so_far_all : (config : Config) (class : ClassNo) (before after : Sight) (who : Who) (moment : ℕ) (links done : List Link) (h : Histogram)
+    → CountsSoFar config class before after who moment links done h → done ≡ links → h.seen ≡ length links
     → IsBalanced h → ShowsReclaims config class before after who moment 0 h.reclaimed → IsSeenSound config class after → IsCrawledBy config class before after who moment h
 so_far_all config class before after who moment links done h all is count balanced reclaims sound = record {
   snapshot = record {

@@ -59,7 +59,8 @@ stands_more seen more before e begins stands = record {
 }
 
 -- what was earned stays so as more is seen
-earned_more : (config : Config) (number : StripeNo) (class : ClassNo) (who : Who) (moment : ℕ) (key : List ℕ) (place : ℕ) (seen more : List ClassEvent) → IsPrefix seen more → IsEarnedAt config number class who moment key place seen
+earned_more : (config : Config) (number : StripeNo) (class : ClassNo) (who : Who) (moment : ℕ) (key : List ℕ) (place : ℕ) (seen more : List ClassEvent)
+    → IsPrefix seen more → IsEarnedAt config number class who moment key place seen
     → IsEarnedAt config number class who moment key place more
 earned_more config number class who moment key place seen more begins earned = record {
   before = earned.before;
@@ -68,7 +69,8 @@ earned_more config number class who moment key place seen more begins earned = r
   searched = earned.searched;
 }
 
-pub earned_sees : (config : Config) (number : ℕ) (who : Who) (moment : ℕ) (key : List ℕ) (a b : Sight) (room : Room) → Grows a b → IsEarnedIn config number who moment key a room → IsEarnedIn config number who moment key b room
+pub earned_sees : (config : Config) (number : ℕ) (who : Who) (moment : ℕ) (key : List ℕ) (a b : Sight) (room : Room) → Grows a b
+    → IsEarnedIn config number who moment key a room → IsEarnedIn config number who moment key b room
 earned_sees config number who moment key a b rooms.Keep grows earned = tt
 earned_sees config number who moment key a b (rooms.At link) grows earned = tt
 earned_sees config number who moment key a b (rooms.Refused class place) grows earned =
@@ -86,7 +88,8 @@ near_none site stripes seg history same none = λ j few. by j few (from_tail (li
     by j few (Some e) is = λ of. none j e few is (ap (λ (n : ℕ). stripe_of e.key n) (sym same) ∙ of)
 
 -- a room that is none is no refusal
-pub earned_keep : (config : Config) (site : Site) (sight : Sight) (who : Who) (command : Command) (moment : ℕ) (reply : Reply) → IsEarned config site sight (record { who = who; command = command; moment = moment; reply = reply; room = rooms.Keep })
+pub earned_keep : (config : Config) (site : Site) (sight : Sight) (who : Who) (command : Command) (moment : ℕ) (reply : Reply)
+    → IsEarned config site sight (record { who = who; command = command; moment = moment; reply = reply; room = rooms.Keep })
 earned_keep config site sight who command moment reply = record {
   tried = λ class place is. absurd (kept class place is);
   last = λ class place is. absurd (kept class place is);
@@ -96,7 +99,8 @@ earned_keep config site sight who command moment reply = record {
     kept class place is = cc
 
 -- whatever was earned wasn't made at once
-pub earned_told : (config : Config) (site : Site) (sight : Sight) (who : Who) (command : Command) (moment : ℕ) (reply : Reply) (room : Room) → site.stripes ≡ config.stripes → IsEarnedIn config site.stripe who moment (key_of command) sight room
+pub earned_told : (config : Config) (site : Site) (sight : Sight) (who : Who) (command : Command) (moment : ℕ) (reply : Reply) (room : Room)
+    → site.stripes ≡ config.stripes → IsEarnedIn config site.stripe who moment (key_of command) sight room
     → IsEarned config site sight (record { who = who; command = command; moment = moment; reply = reply; room = room })
 earned_told config site sight who command moment reply rooms.Keep same earned = earned_keep config site sight who command moment reply
 earned_told config site sight who command moment reply (rooms.At link) same earned = record {
@@ -121,9 +125,11 @@ earned_told config site sight who command moment reply (rooms.Refused own at) sa
     did = record { who = who; command = command; moment = moment; reply = reply; room = rooms.Refused own at }
 
     IsSo : ClassNo → Type 0
-    IsSo class = Has entries.Refused (classes_seen config.stripes (list_at sight.seen) class) (λ behind e. IsRefusal class did behind e × (HasTried behind who (key_of command) ⊎ (NoneNear site (lists_of behind).cold × NoneNear site (lists_of behind).hot)))
+    IsSo class = Has entries.Refused (classes_seen config.stripes (list_at sight.seen) class) (λ behind e. IsRefusal class did behind e
+        × (HasTried behind who (key_of command) ⊎ (NoneNear site (lists_of behind).cold × NoneNear site (lists_of behind).hot)))
 
-    searched : HasSearched config.stripes (record { 0 = site.stripe }) who (key_of command) earned.before → HasTried earned.before who (key_of command) ⊎ (NoneNear site (lists_of earned.before).cold × NoneNear site (lists_of earned.before).hot)
+    searched : HasSearched config.stripes (record { 0 = site.stripe }) who (key_of command) earned.before
+        → HasTried earned.before who (key_of command) ⊎ (NoneNear site (lists_of earned.before).cold × NoneNear site (lists_of earned.before).hot)
     searched (inl tried) = inl tried
     searched (inr none) = inr (near_none site config.stripes Cold earned.before same none.0, near_none site config.stripes Hot earned.before same none.1)
 

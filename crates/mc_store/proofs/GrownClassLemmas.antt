@@ -17,7 +17,8 @@ use Rattle.mc_store.specs.{Locked.setting_of, Serving.HasSeenShort, Serving.MayF
 use Rattle.mc_store.proofs.{GateLemmas.short_seen, LockKeepsLemmas.class_sees, SyncedStepLemmas.short_of}
 
 -- what a class's lock keeps is seen by whoever was told of it all
-pub seen_sound : (table : TableId) (config : Config) (class : ClassNo) (after : Sight) (s : ClassSide) → IsHeldClass table config s → s.class.number ≡ class → list_at after.seen s.lock ≡ class_told s.class.history → Grows s.sight after
+pub seen_sound : (table : TableId) (config : Config) (class : ClassNo) (after : Sight) (s : ClassSide) → IsHeldClass table config s → s.class.number ≡ class
+    → list_at after.seen s.lock ≡ class_told s.class.history → Grows s.sight after
     → IsSeenSound config class after
 seen_sound table config class after s kept number told all = record {
   history = s.class.history;

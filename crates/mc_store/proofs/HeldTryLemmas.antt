@@ -70,7 +70,8 @@ module _ (config : Config) (s : Stripe) (own_new : StripeSide) (caller caller_ne
   tried_on earned full short (Err fault) tried = tt
 
 -- a chunk is wanted of the class of a new version that is held
-pub wants_chunk : (s : Stripe) (made : Command) (moment : ℕ) (given : Given) (class : ClassNo) (other : Option ClassNo) → home_class given ≡ Some class → other_class given ≡ other → LacksRoom given (key_of made) (item_of s made) moment (row_at s made moment)
+pub wants_chunk : (s : Stripe) (made : Command) (moment : ℕ) (given : Given) (class : ClassNo) (other : Option ClassNo) → home_class given ≡ Some class
+    → other_class given ≡ other → LacksRoom given (key_of made) (item_of s made) moment (row_at s made moment)
     → WantsChunk class other s made moment
 wants_chunk s made moment given class other for_home for_other lacks =
     let key = key_of made in
@@ -85,7 +86,8 @@ wants_chunk s made moment given class other for_home for_other lacks =
     }
 
 -- a room that is taken was earned where the class that gives it says so
-module _ (config : Config) (s : Stripe) (turn : Turn) (key : List ℕ) (v : ClassView) (refused : Option ℕ) (mid end : Sight) (heard : classes_seen config.stripes (list_at mid.seen) v.number ≡ v.history) (more : Grows mid end) (at : IsRefusedAt config s turn key v refused) where
+module _ (config : Config) (s : Stripe) (turn : Turn) (key : List ℕ) (v : ClassView) (refused : Option ℕ) (mid end : Sight)
+    (heard : classes_seen config.stripes (list_at mid.seen) v.number ≡ v.history) (more : Grows mid end) (at : IsRefusedAt config s turn key v refused) where
   by_place : (place : ℕ) (o : Option ℕ) → IsRefusedAt config s turn key v o → o ≡ Some place → IsEarnedAt config (record { 0 = s.site.stripe }) v.number turn.who turn.moment key place v.history
   by_place place None earned is = absurd (cc is)
   by_place place (Some other) earned is =
@@ -114,7 +116,8 @@ module _ (config : Config) (s : Stripe) (turn : Turn) (key : List ℕ) (v : Clas
   taken_earned given needs.TooLarge room offers taken = kept_earned room taken
 
 -- without a class for a new version no room is a refusal
-pub none_earned : (config : Config) (s : Stripe) (turn : Turn) (key : List ℕ) (sight : Sight) (given : Given) (need : Need) (room : Room) → given.home ≡ None → IsTaken given need room → IsEarnedIn config s.site.stripe turn.who turn.moment key sight room
+pub none_earned : (config : Config) (s : Stripe) (turn : Turn) (key : List ℕ) (sight : Sight) (given : Given) (need : Need) (room : Room) → given.home ≡ None
+    → IsTaken given need room → IsEarnedIn config s.site.stripe turn.who turn.moment key sight room
 none_earned config s turn key sight given (needs.Fresh class) room none taken = absurd (subst (λ (o : Option Home). IsSomeAnd o (λ h. (h.class ≡ class) × (h.room ≡ room))) none taken.0)
 none_earned config s turn key sight given needs.Nothing room none taken = rw taken tt
 none_earned config s turn key sight given needs.Same room none taken = rw taken tt
@@ -128,7 +131,8 @@ HasFew v = v.max_events < length v.history + 2
 not_less : (a b : ℕ) → (a < b → ⊥) → b ≤ a
 not_less a b none = grind (arith, none)
 
-pub keeps_full : (config : Config) (sight : Sight) (was v v_new : ClassView) (refused : Option ℕ) (who : Who) (o : Option Home) → IfSome o (OffersHome v refused who) → v ≡ with_room was v.room → v_new ≡ with_room v v_new.room
+pub keeps_full : (config : Config) (sight : Sight) (was v v_new : ClassView) (refused : Option ℕ) (who : Who) (o : Option Home)
+    → IfSome o (OffersHome v refused who) → v ≡ with_room was v.room → v_new ≡ with_room v v_new.room
     → (HasFew v → HasSeenShort config sight) → IsSomeAnd o (λ h. h.room ≡ rooms.Keep) → IsStillFull config sight refused was v_new
 keeps_full config sight was v v_new refused who None offers readied stay short keeps = absurd keeps
 keeps_full config sight was v v_new refused who (Some h) offers readied stay short keeps =
@@ -216,22 +220,26 @@ link_apart class v refused who (rooms.At link) apart gives =
 no_link : (class : ClassNo) (room : Room) → room ≡ rooms.Keep → links_at class (link_of room) ≡ 0
 no_link class room is = rw is refl
 
-taken_apart : (class : ClassNo) (given : Given) (need : Need) (room : Room) → IfSome given.home (λ h. (v : ClassView) × (refused : Option ℕ) × (who : Who) × (v.number ≢ class) × OffersHome v refused who h) → IsTaken given need room
+taken_apart : (class : ClassNo) (given : Given) (need : Need) (room : Room)
+    → IfSome given.home (λ h. (v : ClassView) × (refused : Option ℕ) × (who : Who) × (v.number ≢ class) × OffersHome v refused who h) → IsTaken given need room
     → links_at class (link_of room) ≡ 0
 taken_apart class given (needs.Fresh fresh) room apart taken = by given.home apart taken.0
   where
-    by : (o : Option Home) → IfSome o (λ h. (v : ClassView) × (refused : Option ℕ) × (who : Who) × (v.number ≢ class) × OffersHome v refused who h) → IsSomeAnd o (λ h. (h.class ≡ fresh) × (h.room ≡ room)) → links_at class (link_of room) ≡ 0
+    by : (o : Option Home) → IfSome o (λ h. (v : ClassView) × (refused : Option ℕ) × (who : Who) × (v.number ≢ class) × OffersHome v refused who h)
+        → IsSomeAnd o (λ h. (h.class ≡ fresh) × (h.room ≡ room)) → links_at class (link_of room) ≡ 0
     by None offer is = absurd is
     by (Some h) offer is = link_apart class offer.0 offer.1 offer.2 room offer.3 (subst (GivesHome offer.0 offer.1 offer.2) is.1 offer.4.room)
 taken_apart class given needs.Nothing room apart taken = no_link class room taken
 taken_apart class given needs.Same room apart taken = no_link class room taken
 taken_apart class given needs.TooLarge room apart taken = no_link class room taken
 
-home_few : (v : ClassView) (refused : Option ℕ) (who : Who) (room : Room) (fate : Fate) (class : ClassNo) (o : Option Home) → IfSome o (OffersHome v refused who) → IsSomeAnd o (λ h. (h.class ≡ class) × (h.places < changes_at class room fate)) → HasFew v
+home_few : (v : ClassView) (refused : Option ℕ) (who : Who) (room : Room) (fate : Fate) (class : ClassNo) (o : Option Home)
+    → IfSome o (OffersHome v refused who) → IsSomeAnd o (λ h. (h.class ≡ class) × (h.places < changes_at class room fate)) → HasFew v
 home_few v refused who room fate class None offers lacks = absurd lacks
 home_few v refused who room fate class (Some h) offers lacks = home_lacks v h.places (changes_at class room fate) offers.places lacks.1 (changes_two class room fate)
 
-other_few : (w : ClassView) (room : Room) (fate : Fate) (class : ClassNo) (o : Option Other) → links_at w.number (link_of room) ≡ 0 → IfSome o (OffersOther w) → IsSomeAnd o (λ e. (e.class ≡ class) × (e.places < changes_at class room fate)) → HasFew w
+other_few : (w : ClassView) (room : Room) (fate : Fate) (class : ClassNo) (o : Option Other) → links_at w.number (link_of room) ≡ 0 → IfSome o (OffersOther w)
+    → IsSomeAnd o (λ e. (e.class ≡ class) × (e.places < changes_at class room fate)) → HasFew w
 other_few w room fate class None none offers lacks = absurd lacks
 other_few w room fate class (Some e) none offers lacks =
     let at : class ≡ w.number = sym lacks.0 ∙ offers.class_is in
@@ -289,7 +297,8 @@ noted_of config s turn key v None at = tt
 noted_of config s turn key v (Some place) at = subst (λ (p : ℕ). slice_get v.history p ≡ Some (refused_event turn.who)) (sym at.place_is) (at_place v.history at.before (refused_event turn.who) at.refused)
 
 -- a class that the stripe has met and that then made room for events is as it was
-pub readied : (was met side : ClassSide) → met ≡ record was { sight = met.sight } → side ≡ record met { class = with_room met.class side.class.room } → side ≡ record was { class = with_room was.class side.class.room; sight = met.sight }
+pub readied : (was met side : ClassSide) → met ≡ record was { sight = met.sight } → side ≡ record met { class = with_room met.class side.class.room }
+    → side ≡ record was { class = with_room was.class side.class.room; sight = met.sight }
 readied was met side lent same = same ∙ ap (λ (x : ClassSide). record x { class = with_room x.class side.class.room }) lent
 
 -- a class that the stripe has met, and that made room for events
@@ -316,14 +325,16 @@ module _ (table : TableId) (config : Config) (was side : ClassSide) (sight : Sig
 -- ---- what is left to do
 
 -- a class that is full and has no place for its refusal is short, as the stripe has seen
-pub refuse_short : (config : Config) (own : StripeSide) (v v_new : ClassView) → (v.max_events < length v.history + 2 → HasSeenShort config own.sight) → v_new ≡ with_room v v_new.room → v_new.max_events ≤ length v_new.history → IsShort config own
+pub refuse_short : (config : Config) (own : StripeSide) (v v_new : ClassView) → (v.max_events < length v.history + 2 → HasSeenShort config own.sight)
+    → v_new ≡ with_room v v_new.room → v_new.max_events ≤ length v_new.history → IsShort config own
 refuse_short config own v v_new short same full =
     let limit : v_new.max_events ≡ v.max_events = ap (λ (x : ClassView). x.max_events) same in
     let long : length v_new.history ≡ length v.history = ap (λ (x : ClassView). length x.history) same in
     inr (short (omega (arith, limit, long, full)))
 
 -- a refusal that is noted now was earned, where a chunk was looked for in vain
-pub earned_now : (config : Config) (number : StripeNo) (turn : Turn) (key : List ℕ) (v v_new : ClassView) (place : ℕ) → Makes v v_new (refused_event turn.who) → place ≡ length v.history → HasGivenUp config number v.number turn.who turn.moment key v.history
+pub earned_now : (config : Config) (number : StripeNo) (turn : Turn) (key : List ℕ) (v v_new : ClassView) (place : ℕ) → Makes v v_new (refused_event turn.who)
+    → place ≡ length v.history → HasGivenUp config number v.number turn.who turn.moment key v.history
     → IsEarnedAt config number v_new.number turn.who turn.moment key place v_new.history
 earned_now config number turn key v v_new place makes at given_up =
     subst (λ (n : ClassNo). IsEarnedAt config number n turn.who turn.moment key place v_new.history) (sym (ap (λ (x : ClassView). x.number) makes)) (record {
@@ -334,12 +345,14 @@ earned_now config number turn key v v_new place makes at given_up =
     })
 
 -- a command that was made, of a caller that had noted nothing
-pub made_caller : (config : Config) (s : Stripe) (own_new : StripeSide) (caller mid caller_new : CallerView) (made : Command) (turn : Turn) (reply : Reply) → mid ≡ caller → IsMadeIn config s own_new mid caller_new made turn reply
+pub made_caller : (config : Config) (s : Stripe) (own_new : StripeSide) (caller mid caller_new : CallerView) (made : Command) (turn : Turn) (reply : Reply)
+    → mid ≡ caller → IsMadeIn config s own_new mid caller_new made turn reply
     → IsMadeIn config s own_new caller caller_new made turn reply
 made_caller config s own_new caller mid caller_new made turn reply same was = subst (λ (x : CallerView). IsMadeIn config s own_new x caller_new made turn reply) same was
 
 -- a command that was made on its stripe alone
-pub made_alone : (config : Config) (s : Stripe) (own_new : StripeSide) (caller mid caller_new : CallerView) (made : Command) (turn : Turn) (reply : Reply) → mid ≡ caller → IsMadeBy s own_new.stripe mid caller_new made turn nothing reply
+pub made_alone : (config : Config) (s : Stripe) (own_new : StripeSide) (caller mid caller_new : CallerView) (made : Command) (turn : Turn) (reply : Reply)
+    → mid ≡ caller → IsMadeBy s own_new.stripe mid caller_new made turn nothing reply
     → IsMadeIn config s own_new caller caller_new made turn reply
 made_alone config s own_new caller mid caller_new made turn reply same by = record {
   alive = by.uses.alive;

@@ -68,11 +68,15 @@ module _ (table : TableId) (config : Config) (own : StripeSide) (own_kept : IsLo
         known = λ stranger. known c s_lent config q agree lawful legal (judged_listed c q may) own_now.made_with.stripes keyed (sym is ∙ stranger);
       })
 
-  module _ (s_new : Stripe) (c_new : ClassView) (site : KeepsSite s_lent s_new) (grows : classes.Grows c c_new) (legal : IsLegal s_new.site s_new.history) (lawful : IsLawfulHistoryByLists c_new.chunks c_new.rule c_new.history)
+  module _ (s_new : Stripe) (c_new : ClassView) (site : KeepsSite s_lent s_new) (grows : classes.Grows c c_new) (legal : IsLegal s_new.site s_new.history)
+      (lawful : IsLawfulHistoryByLists c_new.chunks c_new.rule c_new.history)
       (agreement : KeepsAgreement c c_new s_lent s_new) (still : KeepsSight c c_new s_lent s_new)
-      (lent_up : OwnerView) (stripe_up : lent_up ≡ record lent_owner { history = stripe_told s_new.history }) (owner_new owner_last : OwnerView) (class_up : owner_new ≡ record owner_told { history = class_told c_new.history })
-      (same_new : owner_last ≡ owner_new) (lent_last : SeenView) (told_new : lent_last ≡ record lent_seen { sight = with_seen lent_seen.sight owner_new.lock owner_new.history }) (more_new : Grows lent_seen.sight lent_last.sight)
-      (own_last : StripeSide) (last : SeenView) (same_of_new : own_last ≡ stripe_side lent_up lent_last s_new) (told_of_new : last ≡ record heard { sight = with_seen heard.sight lent_up.lock (stripe_told s_new.history) })
+      (lent_up : OwnerView) (stripe_up : lent_up ≡ record lent_owner { history = stripe_told s_new.history }) (owner_new owner_last : OwnerView)
+      (class_up : owner_new ≡ record owner_told { history = class_told c_new.history })
+      (same_new : owner_last ≡ owner_new) (lent_last : SeenView) (told_new : lent_last
+      ≡ record lent_seen { sight = with_seen lent_seen.sight owner_new.lock owner_new.history }) (more_new : Grows lent_seen.sight lent_last.sight)
+      (own_last : StripeSide) (last : SeenView) (same_of_new : own_last ≡ stripe_side lent_up lent_last s_new)
+      (told_of_new : last ≡ record heard { sight = with_seen heard.sight lent_up.lock (stripe_told s_new.history) })
       (more_of_new : Grows heard.sight last.sight) where
     owner_is : owner_last ≡ record owner { history = class_told c_new.history }
     owner_is = same_new ∙ (class_up ∙ ap (λ (o : OwnerView). record o { history = class_told c_new.history }) (same ∙ up))

@@ -205,7 +205,8 @@ module _ (table : TableId) (config : Config) (lent lent_new : ClassSide) (kept :
 
   -- a step of the class alone, of which no stripe is asked anything
   pub class_alone : Each ClearsOnce lent_new.class.history
-      → ((t : Site) (seen : List StripeEvent) → Bears t lent.class.rule lent.class.number seen lent.class.history → Bears t lent.class.rule lent.class.number seen lent_new.class.history) → IsHeldClass table config lent_new
+      → ((t : Site) (seen : List StripeEvent) → Bears t lent.class.rule lent.class.number seen lent.class.history
+      → Bears t lent.class.rule lent.class.number seen lent_new.class.history) → IsHeldClass table config lent_new
   class_alone once still = class_put once (λ n of. still (site_in (setting_of config) n) (seen_of n) (bore n of))
 
   -- a step with a stripe, which was told to the class behind it

@@ -95,7 +95,8 @@ module _ (key : List ℕ) where
   first_of None class other there = there
   first_of (Some link) class other there = there.0
 
-  pub other_link : (need : Need) (found : Option Item) (change : Change) (other : ClassNo) → (classes_of need (link_of_item found) (fate_of key found change)).other ≡ Some other → IsSomeAnd (link_of_item found) (λ link. link.class ≡ other)
+  pub other_link : (need : Need) (found : Option Item) (change : Change) (other : ClassNo)
+      → (classes_of need (link_of_item found) (fate_of key found change)).other ≡ Some other → IsSomeAnd (link_of_item found) (λ link. link.class ≡ other)
   other_link (needs.Fresh class) found change other is = first_of (link_of_item found) class other (beside_link class (link_of_item found) other is)
   other_link needs.Nothing found change other is = fate_link found change other is
   other_link needs.Same found change other is = fate_link found change other is
@@ -111,7 +112,9 @@ module _ (key : List ℕ) where
 -- the class of an item that is wanted is one of the store's
 pub other_class : (config : Config) (s : Stripe) → IsStripeOf config s → IsLegal s.site s.history → (command : Command) (moment : ℕ) (other : ClassNo)
     → (classes_for (key_of command) (item_of s command) (row_at s command moment)).other ≡ Some other → IsClass (setting_of config) other
-other_class config s made legal command moment other is = by (item_of s command) refl (other_link (key_of command) (row_at s command moment).need (item_of s command) ((row_at s command moment).answer rooms.Keep).change other is)
+other_class config s made legal command moment other is =
+    by (item_of s command) refl (other_link (key_of command) (row_at s command moment).need (item_of s command)
+    ((row_at s command moment).answer rooms.Keep).change other is)
   where
     by : (found : Option Item) → item_of s command ≡ found → IsSomeAnd (link_of_item found) (λ link. link.class ≡ other) → IsClass (setting_of config) other
     by None at there = absurd there
@@ -174,8 +177,10 @@ module _ (marks : Marks) (item : Item) where
   number_marked site n key None = refl
   number_marked site n key (Some number) = by (nat_le (length (decimal number)) (length item.value))
     where
-      by : (b : Bool) → (if b then plain needs.Same (replies.Number number) (changes.Counted (padded (decimal number) (length item.value)) (cas_of site n)) else grown_row site n (marked marks item) number (class_of site.sizes (cost_of key (decimal number)))).need
-          ≡ (if b then plain needs.Same (replies.Number number) (changes.Counted (padded (decimal number) (length item.value)) (cas_of site n)) else grown_row site n item number (class_of site.sizes (cost_of key (decimal number)))).need
+      by : (b : Bool) → (if b then plain needs.Same (replies.Number number) (changes.Counted (padded (decimal number) (length item.value)) (cas_of site n)) else
+          grown_row site n (marked marks item) number (class_of site.sizes (cost_of key (decimal number)))).need
+          ≡ (if b then plain needs.Same (replies.Number number) (changes.Counted (padded (decimal number) (length item.value)) (cas_of site n)) else grown_row
+          site n item number (class_of site.sizes (cost_of key (decimal number)))).need
       by true = refl
       by false = grown_marked site n number (class_of site.sizes (cost_of key (decimal number)))
 
@@ -200,7 +205,9 @@ module _ (home other : Option ClassNo) (site : Site) (n : ℕ) (command : Comman
   same_covers item marks is covers =
       let key = key_of command in
       let old = fresh_classes (need_at (Some item)) (Some item.link) (fate_of key (Some item) ((row_of site n (Some item) command moment).answer rooms.Keep).change) class is in
-      let new = fresh_classes (need_at (Some (marked marks item))) (Some item.link) (fate_of key (Some (marked marks item)) ((row_of site n (Some (marked marks item)) command moment).answer rooms.Keep).change) class (need_marked marks item site n command moment ∙ is) in
+      let new = fresh_classes (need_at (Some (marked marks item))) (Some item.link)
+      (fate_of key (Some (marked marks item)) ((row_of site n (Some (marked marks item)) command moment).answer rooms.Keep).change) class
+      (need_marked marks item site n command moment ∙ is) in
       subst (λ (w : Classes). Holds home w.home × Holds other w.other) (sym new) (subst (λ (w : Classes). Holds home w.home × Holds other w.other) old covers)
 
   pub behind_covers : (found new : Option Item) → IsBehind found new → need_at found ≡ needs.Fresh class → CoverOf found → CoverOf new
@@ -230,7 +237,8 @@ module _ (config : Config) (turn : Turn) (class : ClassNo) (s s_new : Stripe) (s
       by None is = tt
       by (Some item) is = was_there s.site key item s.history walk.walked (none walk.walked walk.each) (sym moved ∙ is)
 
-  pub suffice_behind : (home other : Option ClassNo) (command : Command) → home ≡ Some class → (row_at s command turn.moment).need ≡ needs.Fresh class → Suffice home other s command turn.moment → Suffice home other s_new command turn.moment
+  pub suffice_behind : (home other : Option ClassNo) (command : Command) → home ≡ Some class → (row_at s command turn.moment).need ≡ needs.Fresh class
+      → Suffice home other s command turn.moment → Suffice home other s_new command turn.moment
   suffice_behind home other command at is suffice =
       let key = key_of command in
       let covers = behind_covers home other s.site (cache_now s).versions command turn.moment class at (item_of s command) (item_of s_new command) (item_behind key) is (suffice.for_version, suffice.for_item) in
@@ -263,18 +271,21 @@ module _ (table : TableId) (config : Config) (own : StripeSide) (kept : IsLocked
       by (Some item) is same = by_item item is (is_dead item moment) same
 
   -- so is that of an item, where it is wanted
-  pub other_if : (command : Command) (moment : ℕ) (o : Option ClassNo) → (classes_for (key_of command) (item_of own.stripe command) (row_at own.stripe command moment)).other ≡ o → IfSome o (λ n. IsClass (setting_of config) n)
+  pub other_if : (command : Command) (moment : ℕ) (o : Option ClassNo)
+      → (classes_for (key_of command) (item_of own.stripe command) (row_at own.stripe command moment)).other ≡ o → IfSome o (λ n. IsClass (setting_of config) n)
   other_if command moment None is = tt
   other_if command moment (Some other) is = other_class config own.stripe kept.made_with legal_own command moment other is
 
 -- that of a new version, where it is wanted
-pub home_class : (config : Config) (s : Stripe) → IsStripeOf config s → (command : Command) (moment : ℕ) (class : ClassNo) → (classes_for (key_of command) (item_of s command) (row_at s command moment)).home ≡ Some class → IsClass (setting_of config) class
+pub home_class : (config : Config) (s : Stripe) → IsStripeOf config s → (command : Command) (moment : ℕ) (class : ClassNo)
+    → (classes_for (key_of command) (item_of s command) (row_at s command moment)).home ≡ Some class → IsClass (setting_of config) class
 home_class config s made command moment class is =
     fresh_class config s made command moment class
     (home_fresh (row_at s command moment).need (link_of_item (item_of s command)) (fate_of (key_of command) (item_of s command) ((row_at s command moment).answer rooms.Keep).change) class is)
 
 -- that of an item is wanted only where it is another
-pub home_apart : (s : Stripe) (command : Command) (moment : ℕ) (wanted : Classes) (class : ClassNo) → wanted ≡ classes_for (key_of command) (item_of s command) (row_at s command moment) → wanted.home ≡ Some class → wanted.other ≡ Some class → ⊥
+pub home_apart : (s : Stripe) (command : Command) (moment : ℕ) (wanted : Classes) (class : ClassNo)
+    → wanted ≡ classes_for (key_of command) (item_of s command) (row_at s command moment) → wanted.home ≡ Some class → wanted.other ≡ Some class → ⊥
 home_apart s command moment wanted class is home other =
     let key = key_of command in
     let fate = fate_of key (item_of s command) ((row_at s command moment).answer rooms.Keep).change in

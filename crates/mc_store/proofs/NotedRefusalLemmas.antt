@@ -32,7 +32,8 @@ module _ {T : Type 0} (v w : ClassView) (who : Who) where
   refusal_does P old new (Ok x) makes err = subst P (sym (ap (λ (c : ClassView). c.history) makes)) new
   refusal_does P old new (Err f) makes err = subst P (sym (ap (λ (c : ClassView). c.history) err.0)) old
 
-pub refused_after : {T : Type 0} (table : TableId) (config : Config) (lent lent_new : ClassSide) (who : Who) → IsHeldClass table config lent → lent_new.board ≡ lent.board → lent_new.lock ≡ lent.lock → seen.Grows lent.sight lent_new.sight
+pub refused_after : {T : Type 0} (table : TableId) (config : Config) (lent lent_new : ClassSide) (who : Who) → IsHeldClass table config lent
+    → lent_new.board ≡ lent.board → lent_new.lock ≡ lent.lock → seen.Grows lent.sight lent_new.sight
     → IsLawfulHistoryByLists lent_new.class.chunks lent_new.class.rule lent_new.class.history
     → (r : Result T Fault) → OnOk r (Makes lent.class lent_new.class (refused_event who)) → OnErr r (Stays lent.class lent_new.class) → IsHeldClass table config lent_new
 refused_after table config lent lent_new who kept board lock more lawful r makes err =

@@ -52,7 +52,8 @@ open_class table config owner seen v side class is kept view = record { kept = s
 -- ---- the try
 
 -- a command was tried on an open stripe and classes: it was made on them, or nothing was
-pub record IsStep (table : TableId) (config : Config) (command : Command) (turn : Turn) (given : Given) (owner : OwnerView) (seen : SeenView) (s s_new : Stripe) (vs ws : List ClassView) (t : Result Tried Fault) : Type 0 where
+pub record IsStep (table : TableId) (config : Config) (command : Command) (turn : Turn) (given : Given) (owner : OwnerView) (seen : SeenView) (s s_new : Stripe)
+    (vs ws : List ClassView) (t : Result Tried Fault) : Type 0 where
   pub kept : IsLockedStripe table config (stripe_side owner seen s)
   pub may : MayTryOn s vs command turn given
   pub tried : IfOk t (IsTriedBy config s s_new command turn given vs ws)
@@ -77,12 +78,15 @@ module _ {table : TableId} {config : Config} {owner : OwnerView} {seen : SeenVie
     step_one may tried err =
         step_on (v ∷ []) (w ∷ []) (subst (λ (x : ClassSide). MayTryOn own.stripe (x.class ∷ []) command turn given) (sym open_of.is) may) (λ is. tried config is open_of.kept.held.made_with) err
 
-    pub step_two : {owner_b : OwnerView} {seen_b : SeenView} {v_b : ClassView} {beside : ClassSide} (open_b : IsOpenClass table config owner_b seen_b v_b beside) (w_b : ClassView) → MayTryOn own.stripe (class.class ∷ beside.class ∷ []) command turn given
+    pub step_two : {owner_b : OwnerView} {seen_b : SeenView} {v_b : ClassView} {beside : ClassSide}
+        (open_b : IsOpenClass table config owner_b seen_b v_b beside) (w_b : ClassView)
+        → MayTryOn own.stripe (class.class ∷ beside.class ∷ []) command turn given
         → ((c : Config) → made.IsStripeOf c s → made.IsClassOf c v → made.IsClassOf c v_b → IfOk t (IsTriedBy c s s_new command turn given (v ∷ v_b ∷ []) (w ∷ w_b ∷ [])))
         → OnErr t (IsUntouched s s_new (v ∷ v_b ∷ []) (w ∷ w_b ∷ [])) → IsStep table config command turn given owner seen s s_new (v ∷ v_b ∷ []) (w ∷ w_b ∷ []) t
     step_two {v_b = v_b} {beside = beside} open_b w_b may tried err =
         step_on (v ∷ v_b ∷ []) (w ∷ w_b ∷ [])
-        (subst (λ (x : ClassSide). MayTryOn own.stripe (x.class ∷ v_b ∷ []) command turn given) (sym open_of.is) (subst (λ (x : ClassSide). MayTryOn own.stripe (class.class ∷ x.class ∷ []) command turn given) (sym open_b.is) may))
+        (subst (λ (x : ClassSide). MayTryOn own.stripe (x.class ∷ v_b ∷ []) command turn given) (sym open_of.is)
+        (subst (λ (x : ClassSide). MayTryOn own.stripe (class.class ∷ x.class ∷ []) command turn given) (sym open_b.is) may))
         (λ is. tried config is open_of.kept.held.made_with open_b.kept.held.made_with) err
 
 -- a class that was lent, before the try and behind it
@@ -135,7 +139,8 @@ module _ {table : TableId} {config : Config} {command : Command} {turn : Turn} {
 
   pub known_in : {side own : StripeSide} → IsOpenStripe table config owner seen s side own → {noting : Sight} {caller caller_new : CallerView} {place : ℕ} {done : Bool} → HasAsked caller turn.who command turn.moment
       → place ≡ length side.stripe.history → done ≡ is_made t → Grows seen.sight noting → (done ≡ true → caller.number < config.callers)
-      → (done ≡ true → list_at noting.seen (caller_place config caller.number) ≡ calls_told caller_new.calls) → (done ≡ true → caller_new ≡ record caller { calls = caller.calls ++ answered_at s_new.site.stripe place ∷ [] })
+      → (done ≡ true → list_at noting.seen (caller_place config caller.number) ≡ calls_told caller_new.calls)
+      → (done ≡ true → caller_new ≡ record caller { calls = caller.calls ++ answered_at s_new.site.stripe place ∷ [] })
       → (done ≡ false → caller_new ≡ caller) → IsKnown config command turn s s_new t seen.sight noting caller caller_new
   known_in opened {noting = noting} {caller = caller} {caller_new = caller_new} {place = place} {done = done} asked at_side is more of told noted unnoted =
       let at : place ≡ length s.history = at_side ∙ sym (ap (λ (x : StripeSide). length x.stripe.history) opened.side_is) in
@@ -153,7 +158,8 @@ module _ {table : TableId} {config : Config} {command : Command} {turn : Turn} {
       }
 
 module _ {table : TableId} {config : Config} {command : Command} {turn : Turn} {given : Given} {owner : OwnerView} {seen : SeenView} {s s_new : Stripe} {v w : ClassView} {vs ws : List ClassView} {t : Result Tried Fault}
-    (step : IsStep table config command turn given owner seen s s_new (v ∷ vs) (w ∷ ws) t) {owner_of : OwnerView} {seen_of : SeenView} {class : ClassSide} (open_of : IsOpenClass table config owner_of seen_of v class) where
+    (step : IsStep table config command turn given owner seen s s_new (v ∷ vs) (w ∷ ws) t) {owner_of : OwnerView} {seen_of : SeenView} {class : ClassSide}
+    (open_of : IsOpenClass table config owner_of seen_of v class) where
   pub first_lent : IsLent table config turn s s_new owner_of seen_of v w
   first_lent = record {
     kept = open_of.kept;
@@ -164,8 +170,10 @@ module _ {table : TableId} {config : Config} {command : Command} {turn : Turn} {
     suits = (seen_in step).suited.0;
   }
 
-module _ {table : TableId} {config : Config} {command : Command} {turn : Turn} {given : Given} {owner : OwnerView} {seen : SeenView} {s s_new : Stripe} {u x v w : ClassView} {vs ws : List ClassView} {t : Result Tried Fault}
-    (step : IsStep table config command turn given owner seen s s_new (u ∷ v ∷ vs) (x ∷ w ∷ ws) t) {owner_of : OwnerView} {seen_of : SeenView} {class : ClassSide} (open_of : IsOpenClass table config owner_of seen_of v class) where
+module _ {table : TableId} {config : Config} {command : Command} {turn : Turn} {given : Given} {owner : OwnerView} {seen : SeenView} {s s_new : Stripe}
+    {u x v w : ClassView} {vs ws : List ClassView} {t : Result Tried Fault}
+    (step : IsStep table config command turn given owner seen s s_new (u ∷ v ∷ vs) (x ∷ w ∷ ws) t) {owner_of : OwnerView} {seen_of : SeenView}
+    {class : ClassSide} (open_of : IsOpenClass table config owner_of seen_of v class) where
   pub second_lent : IsLent table config turn s s_new owner_of seen_of v w
   second_lent = record {
     kept = open_of.kept;
@@ -229,7 +237,8 @@ module _ {table : TableId} {config : Config} {command : Command} {turn : Turn} {
       → IsLent table config turn s s_new owner_of seen_of v w → owner_told ≡ record owner_of { history = class_told w.history } → first ≡ class_side owner_told seen_of w → IsLawfulHistoryByLists w.chunks w.rule w.history
       → IsLeft owner s_new noting own_told sight → mid ≡ record first { sight = with_seen first.sight own_told.lock (stripe_told own_told.stripe.history) } → Grows first.sight mid.sight
       → last ≡ record mid { sight = last.sight } → Grows mid.sight last.sight → HasBegunAs config last.sight turn.who turn.moment (asked_for command turn.moment) → IsLockedClass table config last
-  class_left {owner_of = owner_of} {owner_told = owner_told} {seen_of = seen_of} {v = v} {w = w} {own_told = own_told} {sight = sight} {first = first} {mid = mid} {last = last} legal lent caught same lawful left told more learnt grows begun =
+  class_left {owner_of = owner_of} {owner_told = owner_told} {seen_of = seen_of} {v = v} {w = w} {own_told = own_told} {sight = sight} {first = first} {mid =
+      mid} {last = last} legal lent caught same lawful left told more learnt grows begun =
       let was = class_side owner_of seen_of v in
       let own_end : StripeSide = record { board = owner.board; lock = owner.lock; stripe = s_new; sight = sight } in
       let first_is : first ≡ class_side owner_of seen_of w = same ∙ ap (λ (o : OwnerView). class_side o seen_of w) caught in
@@ -262,7 +271,8 @@ module _ {table : TableId} {config : Config} {command : Command} {turn : Turn} {
       (under_tried config s s_new command turn given vs ws caller caller_new cs ds t step.tried known.noted known.unnoted stay)))
 
 -- a class that stayed
-pub left_stays : {table : TableId} {config : Config} {owner_of : OwnerView} {seen_of : SeenView} {v w : ClassView} {class : ClassSide} → IsOpenClass table config owner_of seen_of v class → (last : ClassSide) → last.class ≡ w → ClassStays v w
+pub left_stays : {table : TableId} {config : Config} {owner_of : OwnerView} {seen_of : SeenView} {v w : ClassView} {class : ClassSide}
+    → IsOpenClass table config owner_of seen_of v class → (last : ClassSide) → last.class ≡ w → ClassStays v w
     → last.class ≡ with_room class.class last.class.room
 left_stays {v = v} {w = w} {class = class} opened last is stays = stay_of last.class w v class.class is stays (ap (λ (x : ClassSide). x.class) opened.is)
 
@@ -277,12 +287,15 @@ module _ {table : TableId} {config : Config} {command : Command} {turn : Turn} {
 -- ---- with one class
 
 module _ {table : TableId} {config : Config} {command : Command} {turn : Turn} {given : Given} {owner owner_of : OwnerView} {seen seen_of : SeenView} {s s_new : Stripe} {v w : ClassView} {t : Result Tried Fault}
-    (step : IsStep table config command turn given owner seen s s_new (v ∷ []) (w ∷ []) t) {noting : Sight} {caller caller_new : CallerView} (known : IsKnown config command turn s s_new t seen.sight noting caller caller_new)
-    (lent : IsLent table config turn s s_new owner_of seen_of v w) {own_new : StripeSide} (left : IsLeft owner s_new noting own_new (with_seen noting owner_of.lock (class_told w.history))) (legal : IsLegal s_new.site s_new.history) where
+    (step : IsStep table config command turn given owner seen s s_new (v ∷ []) (w ∷ []) t) {noting : Sight} {caller caller_new : CallerView}
+    (known : IsKnown config command turn s s_new t seen.sight noting caller caller_new)
+    (lent : IsLent table config turn s s_new owner_of seen_of v w) {own_new : StripeSide}
+    (left : IsLeft owner s_new noting own_new (with_seen noting owner_of.lock (class_told w.history))) (legal : IsLegal s_new.site s_new.history) where
   pub one_left : IsLockedStripe table config own_new
   one_left =
       subst (IsLockedStripe table config) (sym left.is)
-      (one_end table config (own_seen step known) (kept_seen step known) s_new (call_in step) step.site legal known.called (class_side owner_of seen_of v) w lent.kept.held lent.grows lent.agrees (refused_in step) (seen_in step) left.more)
+      (one_end table config (own_seen step known) (kept_seen step known) s_new (call_in step) step.site legal known.called (class_side owner_of seen_of v) w
+      lent.kept.held lent.grows lent.agrees (refused_in step) (seen_in step) left.more)
 
   pub one_full : (IsErrOf t HistoryFull → MayRefuseCall s (call turn.who command turn.moment rooms.Keep) (v ∷ []) HistoryFull) → t ≡ Err HistoryFull → IsShort config own_new
   one_full refusal full =
@@ -292,8 +305,10 @@ module _ {table : TableId} {config : Config} {command : Command} {turn : Turn} {
 
 -- ---- with two
 
-module _ {table : TableId} {config : Config} {command : Command} {turn : Turn} {given : Given} {owner owner_of owner_b : OwnerView} {seen seen_of seen_b : SeenView} {s s_new : Stripe} {v w v_b w_b : ClassView} {t : Result Tried Fault}
-    (step : IsStep table config command turn given owner seen s s_new (v ∷ v_b ∷ []) (w ∷ w_b ∷ []) t) {noting : Sight} {caller caller_new : CallerView} (known : IsKnown config command turn s s_new t seen.sight noting caller caller_new)
+module _ {table : TableId} {config : Config} {command : Command} {turn : Turn} {given : Given} {owner owner_of owner_b : OwnerView}
+    {seen seen_of seen_b : SeenView} {s s_new : Stripe} {v w v_b w_b : ClassView} {t : Result Tried Fault}
+    (step : IsStep table config command turn given owner seen s s_new (v ∷ v_b ∷ []) (w ∷ w_b ∷ []) t) {noting : Sight} {caller caller_new : CallerView}
+    (known : IsKnown config command turn s s_new t seen.sight noting caller caller_new)
     (lent : IsLent table config turn s s_new owner_of seen_of v w) (lent_b : IsLent table config turn s s_new owner_b seen_b v_b w_b) {own_new : StripeSide}
     (left : IsLeft owner s_new noting own_new (with_seen (with_seen noting owner_of.lock (class_told w.history)) owner_b.lock (class_told w_b.history))) (legal : IsLegal s_new.site s_new.history) where
   away : v.number.0 ≢ v_b.number.0
@@ -309,4 +324,5 @@ module _ {table : TableId} {config : Config} {command : Command} {turn : Turn} {
   two_full refusal full =
       subst (IsShort config) (sym left.is)
       (two_short table config (own_seen step known) (kept_seen step known) s_new (call_in step) step.site legal known.called (class_side owner_of seen_of v) w lent.kept.held lent.grows
-      (class_side owner_b seen_b v_b) w_b lent_b.kept.held lent_b.grows away (result_of t) (none_in step) (refusal_at config s s_new command turn given (v ∷ v_b ∷ []) (w ∷ w_b ∷ []) t step.tried refusal) (ap result_of full))
+      (class_side owner_b seen_b v_b) w_b lent_b.kept.held lent_b.grows away (result_of t) (none_in step)
+      (refusal_at config s s_new command turn given (v ∷ v_b ∷ []) (w ∷ w_b ∷ []) t step.tried refusal) (ap result_of full))

@@ -81,7 +81,8 @@ gains_settled c c_new s s_new q (Err fault) settled err = gains_none q.who q.mom
 
 -- a command's events in a class are its own
 own_part : (s : Stripe) (c : Call) (v : ClassView) → AreOwnEvents c.who c.moment (performed.events_in s c v)
-own_part s c v = events_so (AreOwnEvents c.who c.moment) s c v tt (λ key cost expiry. ((refl, refl), tt)) (λ key cost expiry number. ((refl, refl), ((refl, tt), tt))) (λ number. ((refl, tt), tt)) (λ number at. ((refl, refl), tt))
+own_part s c v = events_so (AreOwnEvents c.who c.moment) s c v tt (λ key cost expiry. ((refl, refl), tt))
+    (λ key cost expiry number. ((refl, refl), ((refl, tt), tt))) (λ number. ((refl, tt), tt)) (λ number at. ((refl, refl), tt))
 
 module _ (s s_new : Stripe) (c : Call) where
   part_gains : (v w : ClassView) → GainsPart s c v w → GainsOwn c.who c.moment v.history w.history
@@ -98,7 +99,8 @@ module _ (s s_new : Stripe) (c : Call) where
   each_gains R more (x ∷ xs) (y ∷ ys) each = (more x y each.0, each_gains R more xs ys each.1)
 
   -- classes that were lent to a command, whether it was made or not
-  pub gains_performed : {T : Type 0} (vs ws : List ClassView) (r : Result T Fault) → OnOk r (IsPerformed s s_new c vs ws) → OnErr r (IsUntouched s s_new vs ws) → EachPair (λ v w. GainsOwn c.who c.moment v.history w.history) vs ws
+  pub gains_performed : {T : Type 0} (vs ws : List ClassView) (r : Result T Fault) → OnOk r (IsPerformed s s_new c vs ws) → OnErr r (IsUntouched s s_new vs ws)
+      → EachPair (λ v w. GainsOwn c.who c.moment v.history w.history) vs ws
   gains_performed vs ws (Ok x) made err = each_gains (λ v w. GainsPart s c v w) (λ v w g. part_gains v w g) vs ws made.classes
   gains_performed vs ws (Err f) made err = each_gains (λ v w. performed.Stays v w) (λ v w g. stays_gains v w g) vs ws err.classes
 
@@ -165,7 +167,8 @@ module _ (config : Config) (class : ClassNo) where
   }
 
   -- a call's own event was called
-  own_called : (sight : Sight) (who : Who) (moment : ℕ) (call : CallEvent) (event : ClassEvent) → HasBegunAs config sight who moment call → SuitsCall class event call → IsOwnEvent who moment event → WasMade config class event sight
+  own_called : (sight : Sight) (who : Who) (moment : ℕ) (call : CallEvent) (event : ClassEvent) → HasBegunAs config sight who moment call
+      → SuitsCall class event call → IsOwnEvent who moment event → WasMade config class event sight
   own_called sight who moment call event begun suits own =
       let here : HasBegunAs config sight (maker_of event) moment call = subst (λ (w : Who). HasBegunAs config sight w moment call) (sym own.0) begun in
       (here.of, record { moment = moment; begun = here.begun.begun; timed = own.1; own = subst (SuitsCall class event) (sym here.begun.call_is) suits })
@@ -216,7 +219,8 @@ locked_commanded table config old new who moment kept held number begun more gai
 -- behind a step of which it told the stripe it was told of it, and of the command
 pub locked_told : (table : TableId) (config : Config) (old first mid new : ClassSide) (who : Who) (moment : ℕ) → IsLockedClass table config old → GainsOwn who moment old.class.history first.class.history
     → first.class.number ≡ old.class.number → first.sight ≡ old.sight
-    → mid.class ≡ first.class → Grows first.sight mid.sight → IsHeldClass table config mid → new ≡ record mid { sight = new.sight } → Grows mid.sight new.sight → HasBegunCommand config new.sight who moment → IsLockedClass table config new
+    → mid.class ≡ first.class → Grows first.sight mid.sight → IsHeldClass table config mid → new ≡ record mid { sight = new.sight } → Grows mid.sight new.sight
+    → HasBegunCommand config new.sight who moment → IsLockedClass table config new
 locked_told table config old first mid new who moment kept gains number same told more held learnt grows begun =
     subst (IsLockedClass table config) (sym learnt)
     (locked_commanded table config old (record mid { sight = new.sight }) who moment kept (class_sees table config mid new.sight grows held) (ap (λ (v : ClassView). v.number) told ∙ number) begun

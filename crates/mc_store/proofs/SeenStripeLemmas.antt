@@ -26,7 +26,8 @@ pub record IsShared (config : Config) (number : ℕ) (before after : Sight) (cal
   pub full : IsErrOf r HistoryFull → HasSeenShort config after
 
 module _ {table : TableId} {config : Config} {number : ℕ} {old new : StripeSide} (before : Sight) {after : Sight} (old_kept : IsLockedStripe table config old) (new_kept : IsLockedStripe table config new)
-    (number_is : old.stripe.site.stripe ≡ number) (seen : HasSeen (stripe_told old.stripe.history) before old.lock) (told : list_at after.seen new.lock ≡ stripe_told new.stripe.history) (grows : Grows new.sight after) where
+    (number_is : old.stripe.site.stripe ≡ number) (seen : HasSeen (stripe_told old.stripe.history) before old.lock)
+    (told : list_at after.seen new.lock ≡ stripe_told new.stripe.history) (grows : Grows new.sight after) where
   seen_grow : KeepsSite old.stripe new.stripe → IsSeenGrow config number before after old.stripe new.stripe
   seen_grow site =
       let number_new : new.stripe.site.stripe ≡ number = ap (λ (t : Site). t.stripe) site.site ∙ number_is in record {
@@ -49,7 +50,8 @@ module _ {table : TableId} {config : Config} {number : ℕ} {old new : StripeSid
   short_shared (inr was) = short_grows config new.sight after grows was
 
   -- a command that ended under the lock of its stripe is shared so with its pass
-  pub shared_by : {caller caller_new : CallerView} {command : Command} {turn : Turn} (r : Result Reply Fault) (calls : List CallEvent) → Ends config old.stripe new caller caller_new command turn r → caller.calls ≡ calls ++ asked_for command turn.moment ∷ []
+  pub shared_by : {caller caller_new : CallerView} {command : Command} {turn : Turn} (r : Result Reply Fault) (calls : List CallEvent)
+      → Ends config old.stripe new caller caller_new command turn r → caller.calls ≡ calls ++ asked_for command turn.moment ∷ []
       → IsShared config number before after calls caller_new.calls turn.who command turn.moment r
   shared_by {command = command} {turn = turn} (Ok reply) calls ends asked =
       let was = ends.replied in
@@ -122,7 +124,8 @@ on_err_always (Ok x) p = tt
 on_err_always (Err e) p = p
 
 -- a call that a pass has just begun stands at the end of its caller's history
-pub called_now : (old now : PassView) (call : CallEvent) (who : Who) (moment : ℕ) → now.caller ≡ old.caller → now.calls ≡ old.calls ++ call ∷ [] → who ≡ next_who old → length (turns_of old.calls) ≡ old.turn → moment_of call ≡ Some moment
+pub called_now : (old now : PassView) (call : CallEvent) (who : Who) (moment : ℕ) → now.caller ≡ old.caller → now.calls ≡ old.calls ++ call ∷ []
+    → who ≡ next_who old → length (turns_of old.calls) ≡ old.turn → moment_of call ≡ Some moment
     → HasCalled (caller_of now) who moment call
 called_now old now call who moment caller calls is turns handed = record {
   number = ap (λ (w : Who). w.caller) is ∙ sym caller;
@@ -130,7 +133,8 @@ called_now old now call who moment caller calls is turns handed = record {
 }
 
 -- and a command is the last that it asked for
-pub asked_now : (old now : PassView) (command : Command) (who : Who) (moment : ℕ) → now ≡ record old { turn = old.turn + 1; calls = old.calls ++ asked_for command moment ∷ [] } → who ≡ next_who old → length (turns_of old.calls) ≡ old.turn
+pub asked_now : (old now : PassView) (command : Command) (who : Who) (moment : ℕ)
+    → now ≡ record old { turn = old.turn + 1; calls = old.calls ++ asked_for command moment ∷ [] } → who ≡ next_who old → length (turns_of old.calls) ≡ old.turn
     → length now.calls < now.turn + now.turn → now.turn < 2 ^ 63 → HasAsked (caller_of now) who command moment
 asked_now old now command who moment turn is turns room few = record {
   number = ap (λ (w : Who). w.caller) is ∙ sym (ap (λ (p : PassView). p.caller) turn);

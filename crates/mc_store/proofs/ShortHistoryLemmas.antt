@@ -84,7 +84,8 @@ any_short s c cs_new (v ∷ vs) (w ∷ ws) (inl full) there stays = record { pla
 any_short s c cs_new (v ∷ vs) (w ∷ ws) (inr more) there stays = any_short s c cs_new vs ws more there.1 stays.1
 
 -- a full history is short
-full_short : (s s_new : Stripe) (c : Call) (cs_new vs ws : List ClassView) → KeepsSite s s_new → EachPair (λ v w. IsAt cs_new w) vs ws → IsUntouched s s_new vs ws → MayRefuseCall s c vs HistoryFull → IsShortIn s_new cs_new
+full_short : (s s_new : Stripe) (c : Call) (cs_new vs ws : List ClassView) → KeepsSite s s_new → EachPair (λ v w. IsAt cs_new w) vs ws
+    → IsUntouched s s_new vs ws → MayRefuseCall s c vs HistoryFull → IsShortIn s_new cs_new
 full_short s s_new c cs_new vs ws site there untouched may = by may
   where
     same : s_new.limit ≡ s.limit
@@ -160,7 +161,8 @@ short_class table config side sight v kept told limit_is history_is short = reco
 }
 
 -- a stripe whose whole history was seen has less than two places left
-pub short_stripe : (config : Config) (lock : ℕ) (sight : Sight) (history : List StripeEvent) (limit : ℕ) → lock < locks_for config → limit ≡ config.max_events → list_at sight.seen lock ≡ stripe_told history → limit < length history + 2
+pub short_stripe : (config : Config) (lock : ℕ) (sight : Sight) (history : List StripeEvent) (limit : ℕ) → lock < locks_for config → limit ≡ config.max_events
+    → list_at sight.seen lock ≡ stripe_told history → limit < length history + 2
     → HasSeenShort config sight
 short_stripe config lock sight history limit of limit_is told short = record {
   lock = lock;

@@ -11,7 +11,10 @@ use Rattle.mc_store.proofs.{OwnEventLemmas.locked_sees, LockKeepsLemmas.heard_cl
 -- first the stripe is told, then the class
 module _ (table : TableId) (config : Config) (own own_first own_new : StripeSide) (lent lent_first lent_new : ClassSide) (kept : IsLockedStripe table config own) (kept_of : IsLockedClass table config lent)
     (same_of : lent_first ≡ lent) (told : own_first ≡ record own { sight = with_seen own.sight lent.lock (class_told lent.class.history) }) (more : Grows own.sight own_first.sight)
-    (same : own_new ≡ own_first) (told_of : lent_new ≡ record lent_first { sight = with_seen lent_first.sight own_first.lock (stripe_told own_first.stripe.history) }) (more_of : Grows lent_first.sight lent_new.sight) where
+    (same : own_new ≡ own_first) (told_of : lent_new ≡ record lent_first {
+      sight =
+          with_seen lent_first.sight own_first.lock (stripe_told own_first.stripe.history);
+    }) (more_of : Grows lent_first.sight lent_new.sight) where
   abbrev hears : Sight
   hears = with_seen own.sight lent.lock (class_told lent.class.history)
 

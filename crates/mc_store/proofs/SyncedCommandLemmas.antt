@@ -125,7 +125,8 @@ module _ (table : TableId) (config : Config) (own : StripeSide) (kept : IsLocked
           )
           (apart_tells c own.stripe s_new (low.class ∷ high.class ∷ []) (v ∷ w ∷ []) refused sight)
 
-      pub two_short : {T : Type 0} (r : Result T Fault) → OnErr r (IsUntouched own.stripe s_new (low.class ∷ high.class ∷ []) (v ∷ w ∷ [])) → IfErr r (MayRefuseCall own.stripe c (low.class ∷ high.class ∷ [])) → r ≡ Err HistoryFull
+      pub two_short : {T : Type 0} (r : Result T Fault) → OnErr r (IsUntouched own.stripe s_new (low.class ∷ high.class ∷ []) (v ∷ w ∷ []))
+          → IfErr r (MayRefuseCall own.stripe c (low.class ∷ high.class ∷ [])) → r ≡ Err HistoryFull
           → IsShort config (record own { stripe = s_new; sight = hears_both })
       two_short r err refusal is = ⊎_elim
           (λ short. inl short)

@@ -226,5 +226,6 @@ module _ (table : TableId) (config : Config) (own : StripeSide) (lent : ClassSid
 pub stripe_heard : (table : TableId) (config : Config) (own : StripeSide) → IsLockedStripe table config own → (s : Stripe) (owner : OwnerView) (seen seen_new : SeenView) → stripe_side owner seen s ≡ own
     → (own_last : StripeSide) (sight : Sight) → own_last ≡ record (stripe_side owner seen_new s) { sight = sight } → Grows seen.sight own_last.sight → IsLockedStripe table config own_last
 stripe_heard table config own kept s owner seen seen_new own_is own_last sight told more =
-    let last : own_last ≡ record (stripe_side owner seen s) { sight = own_last.sight } = told ∙ ap (λ (t : Sight). record { board = owner.board; lock = owner.lock; stripe = s; sight = t }) (sym (ap (λ (x : StripeSide). x.sight) told)) in
+    let last : own_last ≡ record (stripe_side owner seen s) { sight = own_last.sight } = told
+    ∙ ap (λ (t : Sight). record { board = owner.board; lock = owner.lock; stripe = s; sight = t }) (sym (ap (λ (x : StripeSide). x.sight) told)) in
     subst (IsLockedStripe table config) (sym last) (stripe_sees table config (stripe_side owner seen s) own_last.sight more (subst (IsLockedStripe table config) (sym own_is) kept))

@@ -42,7 +42,8 @@ module _ (given : Given) (refused : Option ℕ) (who : Who) (vs : List ClassView
   one_of class place h (v ∷ ws) (inl offers) is = inl (subst (GivesHome v refused who) is offers.room).0
   one_of class place h (v ∷ ws) (inr later) is = inr (one_of class place h ws later is)
 
-  refused_home : (class : ClassNo) (place : ℕ) (o : Option Home) → IfSome o (λ h. IsAny (λ v. OffersHome v refused who h) vs) → (of : ClassNo) → IsSomeAnd o (λ h. (h.class ≡ of) × (h.room ≡ rooms.Refused class place)) → IsOneOf class vs
+  refused_home : (class : ClassNo) (place : ℕ) (o : Option Home) → IfSome o (λ h. IsAny (λ v. OffersHome v refused who h) vs) → (of : ClassNo)
+      → IsSomeAnd o (λ h. (h.class ≡ of) × (h.room ≡ rooms.Refused class place)) → IsOneOf class vs
   refused_home class place None offers of is = absurd is
   refused_home class place (Some h) offers of is = one_of class place h vs offers is.1
 

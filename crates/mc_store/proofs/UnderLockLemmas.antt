@@ -49,7 +49,15 @@ module _ (config : Config) (who : Who) (command : Command) (moment : ℕ) where
     }
 
     pub replied_behind : (end : Stripe) (sight : Sight) (room : Room) (reply : Reply) (calls calls_new : List CallEvent) → KeepsSite s last → IsMadeOnStripe last end (call who command moment room) reply
-        → calls_new ≡ calls ++ answered_at last.site.stripe (length last.history) ∷ [] → IsEarned config s.site sight (record { who = who; command = command; moment = moment; reply = (answer_to last (call who command moment room)).reply; room = room }) → IsReplied config who command moment s end sight calls calls_new reply
+        → calls_new ≡ calls ++ answered_at last.site.stripe (length last.history) ∷ []
+        → IsEarned config s.site sight (record {
+          who = who;
+          command = command;
+          moment = moment;
+          reply =
+              (answer_to last (call who command moment room)).reply;
+          room = room;
+        }) → IsReplied config who command moment s end sight calls calls_new reply
     replied_behind end sight room reply calls calls_new site made noted earned = record {
       place = length last.history;
       answered = record {
@@ -87,7 +95,8 @@ module _ (config : Config) (who : Who) (command : Command) (moment : ℕ) where
     joined : (before : List StripeEvent) → mid.history ++ before ≡ s.history ++ (gone ++ before)
     joined before = ap (λ (h : List StripeEvent). h ++ before) buried_is ∙ append_assoc s.history gone before
 
-    pub replied_from : (end : Stripe) (sight : Sight) (calls calls_new : List CallEvent) (reply : Reply) → IsReplied config who command moment mid end sight calls calls_new reply → IsReplied config who command moment s end sight calls calls_new reply
+    pub replied_from : (end : Stripe) (sight : Sight) (calls calls_new : List CallEvent) (reply : Reply)
+        → IsReplied config who command moment mid end sight calls calls_new reply → IsReplied config who command moment s end sight calls calls_new reply
     replied_from end sight calls calls_new reply r =
         let a = r.answered in
         record {

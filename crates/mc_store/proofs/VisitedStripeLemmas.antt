@@ -57,7 +57,8 @@ grown_alive w s s_new key grows alive =
     (alive_behind s.site key w.moment s.history grows.events (no_commands w grows.events grows.each) alive))
 
 -- one thing after another
-pub looked_both : (stripes : ℕ) (w : Walker) (s mid : Stripe) (xs ys zs : List Answer) (a b c : List ClassEvent) → HasLooked stripes w s xs ys a b → StripeGrows w s mid → HasLooked stripes w mid ys zs b c → HasLooked stripes w s xs zs a c
+pub looked_both : (stripes : ℕ) (w : Walker) (s mid : Stripe) (xs ys zs : List Answer) (a b c : List ClassEvent) → HasLooked stripes w s xs ys a b
+    → StripeGrows w s mid → HasLooked stripes w mid ys zs b c → HasLooked stripes w s xs zs a c
 looked_both stripes w s mid xs ys zs a b c first grows more =
     let number : mid.site.stripe ≡ s.site.stripe = ap (λ (t : Site). t.stripe) grows.site.site in
     record {
@@ -170,7 +171,8 @@ module _ (c : ClassView) (q : Question) where
   events_others key at done.Stranger other = tt
 
   -- ---- a visit of another stripe
-  away : (config : Config) (w : Walker) (s : Stripe) (stripe : StripeNo) (xs xs_new : List Answer) (history_new : List ClassEvent) (j : Option Judged) → MayJudge c q → HasKeyOf stripe config c q → stripe ≢ record { 0 = s.site.stripe }
+  away : (config : Config) (w : Walker) (s : Stripe) (stripe : StripeNo) (xs xs_new : List Answer) (history_new : List ClassEvent) (j : Option Judged)
+      → MayJudge c q → HasKeyOf stripe config c q → stripe ≢ record { 0 = s.site.stripe }
       → xs_new ≡ xs ++ answer_by stripe j ∷ [] → history_new ≡ c.history ++ events_if c q j → HasLooked config.stripes w s xs xs_new c.history history_new
   away config w s stripe xs xs_new history_new j may keyed apart answered is = record {
     answers = answer_by stripe j ∷ [];
@@ -209,7 +211,8 @@ module _ (c : ClassView) (q : Question) where
       → (HasKeyOf (record { 0 = learnt.site.stripe }) config c q → IsSomeAnd j (IsKnown c learnt q)) → IsSomeAnd j (IsKnown c s q)
   known_at config config_at s learnt stripe j names same at keyed told =
       subst (λ (t : Stripe). IsSomeAnd j (IsKnown c t q)) same
-      (told (subst (λ (k : Config). HasKeyOf (record { 0 = learnt.site.stripe }) k c q) names (subst (λ (n : StripeNo). HasKeyOf n config_at c q) (at ∙ sym (ap (λ (t : Stripe). record { 0 = t.site.stripe }) same)) keyed)))
+      (told (subst (λ (k : Config). HasKeyOf (record { 0 = learnt.site.stripe }) k c q) names
+      (subst (λ (n : StripeNo). HasKeyOf n config_at c q) (at ∙ sym (ap (λ (t : Stripe). record { 0 = t.site.stripe }) same)) keyed)))
 
   pub looked_here : (config : Config) (s : Stripe) (stripe : StripeNo) (xs xs_new : List Answer) (history_new : List ClassEvent) (j : Option Judged) → IsSomeAnd j (IsKnown c s q)
       → xs_new ≡ xs ++ answer_by stripe j ∷ [] → history_new ≡ c.history ++ events_if c q j → HasLooked config.stripes (walker_of c q.who q.moment) s xs xs_new c.history history_new
@@ -245,8 +248,11 @@ try_for who key history before (entries.Surveyed e) stands tries other = absurd 
 try_for who key history before (entries.Refused e) stands tries other = absurd tries
 
 -- whoever tried, and reclaimed no entry of its own key, has tried for it
-pub tried_for : (stripes : ℕ) (number : StripeNo) (who : Who) (key : List ℕ) (before after es : List ClassEvent) → IsTried stripes number who before after → after ≡ before ++ es → AreOfOthers key before es → HasSearched stripes number who key after
-tried_for stripes number who key before after es tried is others = by tried.tries tried.history_is tried.each tried.none (subst (AreOfOthers key before) (append_cancel_left before es tried.tries (sym is ∙ tried.history_is)) others)
+pub tried_for : (stripes : ℕ) (number : StripeNo) (who : Who) (key : List ℕ) (before after es : List ClassEvent) → IsTried stripes number who before after
+    → after ≡ before ++ es → AreOfOthers key before es → HasSearched stripes number who key after
+tried_for stripes number who key before after es tried is others =
+    by tried.tries tried.history_is tried.each tried.none (subst (AreOfOthers key before) (append_cancel_left before es tried.tries (sym is ∙ tried.history_is))
+    others)
   where
     by : (ts : List ClassEvent) → after ≡ before ++ ts → AreTries who ts
         → (ts ≡ [] → IsNoneNear stripes number segs.Cold after × IsNoneNear stripes number segs.Hot after) → AreOfOthers key before ts → HasSearched stripes number who key after
@@ -265,7 +271,8 @@ full_vain config v v_new who moment xs there grows room full =
 -- and has tried for each key of the stripe at hand whose item isn't dead, by rounds that asked it wherever they came upon it
 pub tried_any : (config config_at : Config) (c : ClassView) (who : Who) (moment : ℕ) (s : Stripe) (xs xs_new ys : List Answer) (h_new : List ClassEvent) (there : Bool) → config_at ≡ config
     → ((r : Rounds) (before after : List ClassEvent) (answers : List Answer) (number : StripeNo) → IsRoom r before answers after false → AreHad number answers → IsTried r.config.stripes number r.who before after)
-    → HasLooked config.stripes (walker_of c who moment) s xs xs_new c.history h_new → xs_new ≡ xs ++ ys → IsRoom (rounds c who moment config_at) c.history ys h_new there → there ≡ false → IsSearchInVain config c s who moment h_new
+    → HasLooked config.stripes (walker_of c who moment) s xs xs_new c.history h_new → xs_new ≡ xs ++ ys
+    → IsRoom (rounds c who moment config_at) c.history ys h_new there → there ≡ false → IsSearchInVain config c s who moment h_new
 tried_any config config_at c who moment s xs xs_new ys h_new there names law looked answered room vain =
     let number : StripeNo = record { 0 = s.site.stripe } in
     let had = subst (λ (l : List Answer). AreHad number l) (append_cancel_left xs looked.answers ys (sym looked.answers_are ∙ answered)) looked.had in

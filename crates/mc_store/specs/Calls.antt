@@ -15,7 +15,8 @@ use Rattle.mc_store.specs.{Sides.class_told, Sides.stripe_told}
 
 -- a command was answered with this reply, and its caller's history has one event more, which says where the answer stands; a
 -- refusal that the answer cites was earned: it stands behind a search by the same call, by what is seen of its class
-pub record IsReplied (config : Config) (who : Who) (command : Command) (moment : ℕ) (s s_new : Stripe) (sight : Sight) (calls calls_new : List CallEvent) (reply : Reply) : Type 0 where
+pub record IsReplied (config : Config) (who : Who) (command : Command) (moment : ℕ) (s s_new : Stripe) (sight : Sight) (calls calls_new : List CallEvent)
+    (reply : Reply) : Type 0 where
   pub place : ℕ
   pub answered : IsAnswered config who command moment s s_new place
   pub reply_is : answered.reply ≡ reply
@@ -35,7 +36,8 @@ pub record IsSeenGrow (config : Config) (number : ℕ) (before after : Sight) (s
 
 -- a command was answered with this reply at one point of its stripe's growing history, after all that the pass had seen; its
 -- caller's history has two events more: that the command was asked for, and where the answer stands
-pub record IsRepliedBy (config : Config) (number : ℕ) (before after : Sight) (calls calls_new : List CallEvent) (who : Who) (command : Command) (moment : ℕ) (reply : Reply) : Type 0 where
+pub record IsRepliedBy (config : Config) (number : ℕ) (before after : Sight) (calls calls_new : List CallEvent) (who : Who) (command : Command) (moment : ℕ)
+    (reply : Reply) : Type 0 where
   pub old : Stripe
   pub new : Stripe
   pub grew : IsSeenGrow config number before after old new
@@ -43,7 +45,8 @@ pub record IsRepliedBy (config : Config) (number : ℕ) (before after : Sight) (
 
 -- a command was broken off: nothing of it stands in its stripe's history but what leads up to it, and its caller's history has
 -- one event more, that it was asked for
-pub record IsCutBy (config : Config) (number : ℕ) (before after : Sight) (calls calls_new : List CallEvent) (who : Who) (command : Command) (moment : ℕ) : Type 0 where
+pub record IsCutBy (config : Config) (number : ℕ) (before after : Sight) (calls calls_new : List CallEvent) (who : Who) (command : Command) (moment : ℕ) : Type
+    0 where
   pub old : Stripe
   pub new : Stripe
   pub grew : IsSeenGrow config number before after old new

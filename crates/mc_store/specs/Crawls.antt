@@ -21,7 +21,8 @@ abbrev pub HasReclaims : Who → ℕ → ℕ → List Event → Type 0
 HasReclaims who moment many [] = many ≡ 0
 HasReclaims who moment many (Stripe e ∷ es) = HasReclaims who moment many es
 HasReclaims who moment many (Call e ∷ es) = HasReclaims who moment many es
-HasReclaims who moment many (Class e ∷ es) = HasReclaims who moment many es ⊎ (IsReclaim who moment e × ((fewer : ℕ) × (many ≡ fewer + 1) × HasReclaims who moment fewer es))
+HasReclaims who moment many (Class e ∷ es) = HasReclaims who moment many es
+    ⊎ (IsReclaim who moment e × ((fewer : ℕ) × (many ≡ fewer + 1) × HasReclaims who moment fewer es))
 
 -- past what a pass had seen of a class it has seen as many such events as a count has risen
 pub record ShowsReclaims (config : Config) (class : ClassNo) (before after : Sight) (who : Who) (moment count_before count_after : ℕ) : Type 0 where
@@ -57,7 +58,8 @@ pub record CountsLink (config : Config) (c c_new : ClassView) (who : Who) (momen
   pub counts : histogram_new ≡ counted_as kind histogram
 
 -- a link was counted under its class's lock: the class had all that was seen of it before, and all that it has then is seen
-pub record IsLinkCounted (config : Config) (class : ClassNo) (seen seen_new : List Event) (who : Who) (moment : ℕ) (link : Link) (histogram histogram_new : Histogram) : Type 0 where
+pub record IsLinkCounted (config : Config) (class : ClassNo) (seen seen_new : List Event) (who : Who) (moment : ℕ) (link : Link)
+    (histogram histogram_new : Histogram) : Type 0 where
   pub old : ClassView
   pub new : ClassView
   pub made_with : IsClassOf config old
@@ -70,7 +72,8 @@ pub record IsLinkCounted (config : Config) (class : ClassNo) (seen seen_new : Li
 abbrev pub AreLinksCounted : Config → ClassNo → List Event → List Event → Who → ℕ → List Link → Histogram → Histogram → Type 0
 AreLinksCounted config class seen seen_new who moment [] histogram histogram_new = (seen_new ≡ seen) × (histogram_new ≡ histogram)
 AreLinksCounted config class seen seen_new who moment (link ∷ links) histogram histogram_new =
-    (between : List Event) × (middle : Histogram) × IsLinkCounted config class seen between who moment link histogram middle × AreLinksCounted config class between seen_new who moment links middle histogram_new
+    (between : List Event) × (middle : Histogram) × IsLinkCounted config class seen between who moment link histogram middle
+    × AreLinksCounted config class between seen_new who moment links middle histogram_new
 
 -- a class was crawled: the links that it had at one point were counted one after another, from nothing on; what was reclaimed
 -- the pass has seen, and the class whole
@@ -79,4 +82,5 @@ pub record IsCrawledBy (config : Config) (class : ClassNo) (before after : Sight
   pub balanced : IsBalanced histogram
   pub reclaims : ShowsReclaims config class before after who moment 0 histogram.reclaimed
   pub sound : IsSeenSound config class after
-  pub counted : AreLinksCounted config class (class_told snapshot.history) (list_at after.seen (class_lock config class)) who moment snapshot.links no_counts histogram
+  pub counted : AreLinksCounted config class (class_told snapshot.history) (list_at after.seen (class_lock config class)) who moment snapshot.links no_counts
+      histogram

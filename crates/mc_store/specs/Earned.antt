@@ -43,11 +43,13 @@ pub record HasGoneThrough (config : Config) (number : StripeNo) (class : ClassNo
 
 -- a call for a key of a stripe has looked for a chunk of a class in vain: it has searched, and gone through all rounds
 abbrev pub HasGivenUp : Config → StripeNo → ClassNo → Who → ℕ → List ℕ → List ClassEvent → Type 0
-HasGivenUp config number class who moment key history = HasSearched config.stripes number who key history × HasGoneThrough config number class who moment history
+HasGivenUp config number class who moment key history = HasSearched config.stripes number who key history
+    × HasGoneThrough config number class who moment history
 
 -- the event at a place of a class's history, as it is seen, is a refusal of this call, which had looked for a chunk in vain
 -- before it
-pub record IsEarnedAt (config : Config) (number : StripeNo) (class : ClassNo) (who : Who) (moment : ℕ) (key : List ℕ) (place : ℕ) (seen : List ClassEvent) : Type 0 where
+pub record IsEarnedAt (config : Config) (number : StripeNo) (class : ClassNo) (who : Who) (moment : ℕ) (key : List ℕ) (place : ℕ) (seen : List ClassEvent) :
+    Type 0 where
   pub before : List ClassEvent
   pub refused : Stands seen before (refused_event who)
   pub place_is : place ≡ length before
@@ -55,7 +57,8 @@ pub record IsEarnedAt (config : Config) (number : StripeNo) (class : ClassNo) (w
 
 -- where a room is a refusal, that is such an event, by what is seen of its class
 abbrev pub IsEarnedIn : Config → ℕ → Who → ℕ → List ℕ → Sight → Room → Type 0
-IsEarnedIn config number who moment key sight (rooms.Refused class place) = IsEarnedAt config (record { 0 = number }) class who moment key place (classes_seen config.stripes (list_at sight.seen) class)
+IsEarnedIn config number who moment key sight (rooms.Refused class place) =
+    IsEarnedAt config (record { 0 = number }) class who moment key place (classes_seen config.stripes (list_at sight.seen) class)
 IsEarnedIn config number who moment key sight (rooms.At link) = Unit {0}
 IsEarnedIn config number who moment key sight rooms.Keep = Unit {0}
 
@@ -71,4 +74,5 @@ pub record IsLastResort (config : Config) (number : StripeNo) (class : ClassNo) 
 -- its class
 pub record IsEarned (config : Config) (site : Site) (sight : Sight) (did : Did) : Type 0 where
   pub tried : (class : ClassNo) → WasTried site class (classes_seen config.stripes (list_at sight.seen) class) did
-  pub last : (class : ClassNo) (place : ℕ) → did.room ≡ rooms.Refused class place → IsLastResort config (record { 0 = site.stripe }) class place (classes_seen config.stripes (list_at sight.seen) class) did
+  pub last : (class : ClassNo) (place : ℕ) → did.room ≡ rooms.Refused class place
+      → IsLastResort config (record { 0 = site.stripe }) class place (classes_seen config.stripes (list_at sight.seen) class) did

@@ -14,7 +14,8 @@ answered_did who command moment reply room = record { who = who; command = comma
 
 -- a reply is borne out by the stripes that a closed store leaves: the final history of its stripe is legal, and has the command
 -- with this reply in one event, behind all that the caller had seen of it before the call
-pub record IsBorneOut (config : Config) (stripes : List StripeSide) (number : ℕ) (before : Sight) (who : Who) (command : Command) (moment : ℕ) (reply : Reply) : Type 0 where
+pub record IsBorneOut (config : Config) (stripes : List StripeSide) (number : ℕ) (before : Sight) (who : Who) (command : Command) (moment : ℕ) (reply : Reply) :
+    Type 0 where
   pub legal : IsLegal (site_in (setting_of config) number) (stripe_histories stripes number)
   pub place : ℕ
   pub room : Room

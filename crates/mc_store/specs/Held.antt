@@ -16,7 +16,8 @@ use Rattle.mc_pull.specs.declared.attempting.Tried.{Tried}
 use Rattle.mc_pull.specs.declared.attempting.Tried.TheVariants as tried
 use Rattle.mc_pull.specs.{Lone.AreMadeBy, Perform.call}
 use Rattle.mc_store.specs.{Callers.answered_at, Calls.IsReplied, Commands.IsCut, Commands.walker_in, Earned.HasGivenUp, Earned.IsEarnedAt, Earned.IsEarnedIn}
-use Rattle.mc_store.specs.{Passes.CallerView, Passes.HasAsked, Performing.IsMadeOnStripe, Serving.HasSeenShort, Serving.IsShort, Sides.ClassSide, Sides.StripeSide}
+use Rattle.mc_store.specs.{Passes.CallerView, Passes.HasAsked, Performing.IsMadeOnStripe, Serving.HasSeenShort, Serving.IsShort, Sides.ClassSide}
+use Rattle.mc_store.specs.{Sides.StripeSide}
 
 -- a class's number
 abbrev pub class_number : ClassSide → ClassNo
@@ -55,11 +56,13 @@ pub record WantsChunk (class : ClassNo) (other : Option ClassNo) (s : Stripe) (c
 
 -- where the class of a new version noted a refusal, it had looked for a chunk in vain before it
 abbrev pub IsRefusedAt : Config → Stripe → Turn → List ℕ → ClassView → Option ℕ → Type 0
-IsRefusedAt config s turn key v refused = IfSome refused (λ place. IsEarnedAt config (record { 0 = s.site.stripe }) v.number turn.who turn.moment key place v.history)
+IsRefusedAt config s turn key v refused =
+    IfSome refused (λ place. IsEarnedAt config (record { 0 = s.site.stripe }) v.number turn.who turn.moment key place v.history)
 
 -- a command whose item isn't dead was made in a room, and where that is a refusal it was earned; its caller has noted where its
 -- answer stands
-pub record IsMadeIn (config : Config) (s : Stripe) (own_new : StripeSide) (caller caller_new : CallerView) (made : Command) (turn : Turn) (reply : Reply) : Type 0 where
+pub record IsMadeIn (config : Config) (s : Stripe) (own_new : StripeSide) (caller caller_new : CallerView) (made : Command) (turn : Turn) (reply : Reply) : Type
+    0 where
   pub alive : IsAlive (item_of s made) turn.moment
   pub room : Room
   pub made_is : IsMadeOnStripe s own_new.stripe (call turn.who made turn.moment room) reply
@@ -84,7 +87,8 @@ module _ (config : Config) (s : Stripe) (own_new : StripeSide) (command : Comman
   MayWant (wants.Classes classes) = WantsAlone s command moment (wants.Classes classes) × (Suffice home other s command moment → ⊥)
 
 -- what a try on the classes that are held came to
-abbrev pub IsTriedOn : Config → (s : Stripe) (own_new : StripeSide) (caller caller_new : CallerView) → Command → Turn → (home other : Option ClassNo) → Type 0 → Tried → Type 0
+abbrev pub IsTriedOn : Config → (s : Stripe) (own_new : StripeSide) (caller caller_new : CallerView) → Command → Turn → (home other : Option ClassNo) → Type 0
+    → Tried → Type 0
 IsTriedOn config s own_new caller caller_new command turn home other AnyFull (tried.Made reply) = IsMadeIn config s own_new caller caller_new command turn reply
 IsTriedOn config s own_new caller caller_new command turn home other AnyFull (tried.Wants want) =
     (own_new.stripe.history ≡ s.history) × (caller_new ≡ caller) × MayWant config s own_new command turn.moment home other AnyFull want
@@ -102,7 +106,8 @@ HasGivenUpAny config s turn v =
     → HasGivenUp config (record { 0 = s.site.stripe }) v.number turn.who turn.moment key v.history
 
 -- how a command ends under the lock of its stripe: it was answered, or it was broken off, with nothing of it but what leads up to it
-pub record Ends (config : Config) (s : Stripe) (own_new : StripeSide) (caller caller_new : CallerView) (command : Command) (turn : Turn) (result : Result Reply Fault) : Type 0 where
+pub record Ends (config : Config) (s : Stripe) (own_new : StripeSide) (caller caller_new : CallerView) (command : Command) (turn : Turn)
+    (result : Result Reply Fault) : Type 0 where
   pub replied : IfOk result (IsReplied config turn.who command turn.moment s own_new.stripe own_new.sight caller.calls caller_new.calls)
   pub cut : OnErr result (IsCut config turn.who command turn.moment s own_new.stripe)
   pub unnoted : OnErr result (caller_new ≡ caller)

@@ -42,4 +42,5 @@ pub record HasLooked (stripes : ℕ) (w : Walker) (s : Stripe) (xs xs_new : List
   pub had : AreHad (record { 0 = s.site.stripe }) answers
   pub events : List ClassEvent
   pub history_is : history_new ≡ history ++ events
-  pub others : (key : List ℕ) → stripe_of key stripes ≡ record { 0 = s.site.stripe } → IsAlive ((cache_now s).items key) w.moment → AreOfOthers key history events
+  pub others : (key : List ℕ) → stripe_of key stripes ≡ record { 0 = s.site.stripe } → IsAlive ((cache_now s).items key) w.moment
+      → AreOfOthers key history events

@@ -39,4 +39,5 @@ Stay (c ∷ cs) (d ∷ ds) = (d.class ≡ with_room c.class d.class.room) × Sta
 abbrev pub IsTriedUnder : (s s_new : Stripe) (caller caller_new : CallerView) → Command → Turn → Given → (cs ds : List ClassSide) → Tried → Type 0
 IsTriedUnder s s_new caller caller_new command turn given cs ds (tried.Made reply) = IsMadeBy s s_new caller caller_new command turn given reply
 IsTriedUnder s s_new caller caller_new command turn given cs ds (tried.Wants want) =
-    (s_new.history ≡ s.history) × (caller_new ≡ caller) × Stay cs ds × IsWanting given (key_of command) (item_of s command) turn.moment (row_at s command turn.moment) want
+    (s_new.history ≡ s.history) × (caller_new ≡ caller) × Stay cs ds
+    × IsWanting given (key_of command) (item_of s command) turn.moment (row_at s command turn.moment) want

@@ -99,7 +99,8 @@ impl<N: Named> Caller<N> {
         ensures same { self.new ≡ self.old }
         ensures stripe { stripe.new ≡ record stripe.old { sight = stripe.new.sight } }
         ensures grows { Grows stripe.old.sight stripe.new.sight }
-        ensures begun { (who : Who) (moment : ℕ) (call : CallEvent) → HasCalled self.old who moment call → HasBegunAs N.config stripe.new.sight who moment call }
+        ensures begun { (who : Who) (moment : ℕ) (call : CallEvent) → HasCalled self.old who moment call
+            → HasBegunAs N.config stripe.new.sight who moment call }
     {
         self.tell(board, &mut stripe.side.seen);
     }

@@ -45,8 +45,11 @@ impl<N: Named> Store<N> {
         moment: u64,
     ) -> Result<Reply, Fault>
         requires early { moment ≤ 2 ^ 62 }
-        ensures replied { IfOk result (IsRepliedBy N.config (stripe_of (key_of command) N.config.stripes).0 pass.old.sight pass.new.sight pass.old.calls pass.new.calls (next_who pass.old) command moment) }
-        ensures cut { OnErr result ((pass.new ≡ pass.old) ⊎ IsCutBy N.config (stripe_of (key_of command) N.config.stripes).0 pass.old.sight pass.new.sight pass.old.calls pass.new.calls (next_who pass.old) command moment) }
+        ensures replied { IfOk result (IsRepliedBy N.config (stripe_of (key_of command) N.config.stripes).0 pass.old.sight pass.new.sight pass.old.calls
+            pass.new.calls (next_who pass.old) command moment) }
+        ensures cut { OnErr result ((pass.new ≡ pass.old)
+            ⊎ IsCutBy N.config (stripe_of (key_of command) N.config.stripes).0 pass.old.sight pass.new.sight pass.old.calls pass.new.calls (next_who pass.old)
+            command moment) }
         ensures grows { Grows pass.old.sight pass.new.sight }
         ensures caller { pass.new.caller ≡ pass.old.caller }
         ensures turn { OnOk result (pass.new.turn ≡ pass.old.turn + 1) }

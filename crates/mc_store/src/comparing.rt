@@ -54,7 +54,8 @@ pub(crate) fn compare_calls<N: Named>(
     requires board { board.now.table ≡ N.board.table }
     requires stripes { AreStripesOn N.board.table stripes.old.items }
     ensures same { (stripes.new.items ≡ stripes.old.items) × (caller.new ≡ caller.old) }
-    ensures behind { (k : ℕ) (s : StripeSide) → slice_get stripes.old.items k ≡ Some s → HasSeen (calls_told caller.old.calls) s.sight (caller_place N.config caller.old.number) }
+    ensures behind { (k : ℕ) (s : StripeSide) → slice_get stripes.old.items k ≡ Some s
+        → HasSeen (calls_told caller.old.calls) s.sight (caller_place N.config caller.old.number) }
 {
     for i in 0..stripes.len() {
         compare_call(board, &mut stripes[i], caller);
@@ -79,7 +80,8 @@ pub(crate) fn compare_class_calls<N: Named>(
     requires board { board.now.table ≡ N.board.table }
     requires classes { AreClassesOn N.board.table classes.old.items }
     ensures same { (classes.new.items ≡ classes.old.items) × (caller.new ≡ caller.old) }
-    ensures behind { (k : ℕ) (s : ClassSide) → slice_get classes.old.items k ≡ Some s → HasSeen (calls_told caller.old.calls) s.sight (caller_place N.config caller.old.number) }
+    ensures behind { (k : ℕ) (s : ClassSide) → slice_get classes.old.items k ≡ Some s
+        → HasSeen (calls_told caller.old.calls) s.sight (caller_place N.config caller.old.number) }
 {
     for i in 0..classes.len() {
         compare_class_call(board, &mut classes[i], caller);

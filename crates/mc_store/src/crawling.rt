@@ -101,7 +101,8 @@ impl<N: Named> Store<N> {
         class: ClassNo,
     ) -> Result<Vec<Link>, Fault>
         requires class { IsClass (setting_of N.config) class }
-        ensures links { IfOk result (λ links. (snapshot : IsSnapshot N.config class pass.old.sight pass.new.sight (length links.items)) × (snapshot.links ≡ links.items) × (list_at pass.new.sight.seen (class_lock N.config class) ≡ class_told snapshot.history)) }
+        ensures links { IfOk result (λ links. (snapshot : IsSnapshot N.config class pass.old.sight pass.new.sight (length links.items))
+            × (snapshot.links ≡ links.items) × (list_at pass.new.sight.seen (class_lock N.config class) ≡ class_told snapshot.history)) }
         ensures few { IfOk result (λ links. length links.items ≤ 2 ^ 32) }
         ensures sound { OnOk result (IsSeenSound N.config class pass.new.sight) }
         ensures grows { Grows pass.old.sight pass.new.sight }
@@ -134,7 +135,8 @@ impl<N: Named> Store<N> {
         ensures seen { OnOk result (histogram.new.seen ≡ histogram.old.seen + 1) }
         ensures balanced { IsBalanced histogram.old → IsBalanced histogram.new }
         ensures reclaims { OnOk result (ShowsReclaims N.config class pass.old.sight pass.new.sight who moment histogram.old.reclaimed histogram.new.reclaimed) }
-        ensures counted { OnOk result (IsLinkCounted N.config class (list_at pass.old.sight.seen (class_lock N.config class)) (list_at pass.new.sight.seen (class_lock N.config class)) who moment link histogram.old histogram.new) }
+        ensures counted { OnOk result (IsLinkCounted N.config class (list_at pass.old.sight.seen (class_lock N.config class))
+            (list_at pass.new.sight.seen (class_lock N.config class)) who moment link histogram.old histogram.new) }
         ensures sound { IsSeenSound N.config class pass.new.sight }
         ensures grows { Grows pass.old.sight pass.new.sight }
         ensures same { pass.new ≡ record pass.old { sight = pass.new.sight } }

@@ -59,7 +59,8 @@ impl<'a, N: Named> Trying<'a, N> {
         requires names { config.now ≡ N.config }
         requires served { IsServed N.board.table N.config self.old.owner.now self.old.seen.now class.old }
         requires begun { HasBegun N.config self.old.seen.now.sight self.old.who self.old.moment }
-        ensures juggle { IfOk result (λ moves. (xs : List Answer) × IsJuggle (rounds class.old who moment config.now) class.old.history xs class.new.history moves) }
+        ensures juggle { IfOk result (λ moves. (xs : List Answer)
+            × IsJuggle (rounds class.old who moment config.now) class.old.history xs class.new.history moves) }
         ensures few { IfOk result (λ moves. moves.reclaimed + moves.moved ≤ 10000) }
         ensures grows { GainsEvents class.old class.new }
         ensures fault { IfErr result (MayFailSeen N.config self.new.seen.now.sight class.new) }
@@ -78,7 +79,8 @@ impl<'a, N: Named> Gate for Trying<'a, N> {
 
     ghost answers = { λ g. g.answers.now.items };
 
-    ghost serves = { λ g config c. (config ≡ N.config) × IsServed N.board.table N.config g.owner.now g.seen.now c × HasBegun N.config g.seen.now.sight g.who g.moment };
+    ghost serves = { λ g config c. (config ≡ N.config) × IsServed N.board.table N.config g.owner.now g.seen.now c
+        × HasBegun N.config g.seen.now.sight g.who g.moment };
 
     ghost references = { λ g. g.owner.ghost_name ∷ g.seen.ghost_name ∷ [] };
 
@@ -134,13 +136,17 @@ impl<'a, 'b, N: Named> Gate for Holding<'a, 'b, N> {
 
     ghost answers = { λ g. g.others.answers.now.items };
 
-    ghost serves = { λ g config c. (config ≡ N.config) × IsServed N.board.table N.config g.others.owner.now g.others.seen.now c × HasBegun N.config g.others.seen.now.sight g.others.who g.others.moment };
+    ghost serves = { λ g config c. (config ≡ N.config) × IsServed N.board.table N.config g.others.owner.now g.others.seen.now c
+        × HasBegun N.config g.others.seen.now.sight g.others.who g.others.moment };
 
     ghost references = { λ g. g.own.ghost_name ∷ g.others.owner.ghost_name ∷ g.others.seen.ghost_name ∷ [] };
 
     ghost faults = { λ g c. MayFailSeen N.config g.others.seen.now.sight c };
 
-    ghost keeps = { λ w g begun h history. StripeGrows w g.own.now.stripe h.own.now.stripe × (IsOfCall w g.others.who g.others.moment → IsOfCall w h.others.who h.others.moment × HasLooked N.config.stripes w g.own.now.stripe g.others.answers.now.items h.others.answers.now.items begun history) × WalksOwn w.who w.moment g.others.seen.now.sight h.others.seen.now.sight begun history };
+    ghost keeps = { λ w g begun h history. StripeGrows w g.own.now.stripe h.own.now.stripe
+        × (IsOfCall w g.others.who g.others.moment → IsOfCall w h.others.who h.others.moment
+        × HasLooked N.config.stripes w g.own.now.stripe g.others.answers.now.items h.others.answers.now.items begun history)
+        × WalksOwn w.who w.moment g.others.seen.now.sight h.others.seen.now.sight begun history };
 
     fn visit(&mut self, stripe: StripeNo, look: &mut Look<'_>) -> Result<bool, Fault> {
         if !self.lends(stripe, look) {
@@ -169,8 +175,10 @@ impl<'a, 'b, N: Named> Gate for Holding<'a, 'b, N> {
 impl<'a, 'b, N: Named> Holding<'a, 'b, N> {
     // Whether a look is the gate's own call's, and asks for the stripe that the gate is lent.
     fn lends(&self, stripe: StripeNo, look: &Look<'_>) -> bool
-        ensures own { result ≡ true → (stripe ≡ record { 0 = self.now.own.now.stripe.site.stripe }) × (look.now.ask.who ≡ self.now.others.who) × (look.now.ask.moment ≡ self.now.others.moment) }
-        ensures other { result ≡ false → look.now.ask.who ≡ self.now.others.who → look.now.ask.moment ≡ self.now.others.moment → stripe ≢ record { 0 = self.now.own.now.stripe.site.stripe } }
+        ensures own { result ≡ true → (stripe ≡ record { 0 = self.now.own.now.stripe.site.stripe }) × (look.now.ask.who ≡ self.now.others.who)
+            × (look.now.ask.moment ≡ self.now.others.moment) }
+        ensures other { result ≡ false → look.now.ask.who ≡ self.now.others.who → look.now.ask.moment ≡ self.now.others.moment
+            → stripe ≢ record { 0 = self.now.own.now.stripe.site.stripe } }
     {
         self.own.side().number() == stripe && !self.others.is_foreign(look)
     }
@@ -189,7 +197,8 @@ impl<'a, 'b, N: Named> Holding<'a, 'b, N> {
         requires names { config.now ≡ N.config }
         requires served { IsServed N.board.table N.config self.old.others.owner.now self.old.others.seen.now class.old }
         requires begun { HasBegun N.config self.old.others.seen.now.sight self.old.others.who self.old.others.moment }
-        ensures room { IfOk result (λ found. (xs : List Answer) × IsRoom (rounds class.old who moment config.now) class.old.history xs class.new.history found) }
+        ensures room { IfOk result (λ found. (xs : List Answer)
+            × IsRoom (rounds class.old who moment config.now) class.old.history xs class.new.history found) }
         ensures grows { GainsEvents class.old class.new }
         ensures fault { IfErr result (MayFailSeen N.config self.new.others.seen.now.sight class.new) }
         ensures own_reference { self.new.own.ghost_name ≡ self.old.own.ghost_name }
@@ -198,7 +207,8 @@ impl<'a, 'b, N: Named> Holding<'a, 'b, N> {
         ensures served { IsServed N.board.table N.config self.new.others.owner.now self.new.others.seen.now class.new }
         ensures stripe { StripeGrows (walker_of class.old who moment) self.old.own.now.stripe self.new.own.now.stripe }
         ensures walked { WalksOwn who moment self.old.others.seen.now.sight self.new.others.seen.now.sight class.old.history class.new.history }
-        ensures tried { IfOk result (λ found. found ≡ false → IsOfCall (walker_of class.old who moment) self.old.others.who self.old.others.moment → IsSearchInVain N.config class.old self.old.own.now.stripe who moment class.new.history) }
+        ensures tried { IfOk result (λ found. found ≡ false → IsOfCall (walker_of class.old who moment) self.old.others.who self.old.others.moment
+            → IsSearchInVain N.config class.old self.old.own.now.stripe who moment class.new.history) }
     {
         a_search_in_vain_has_tried();
         make_room(alloc, class, who, moment, config, self)

@@ -83,7 +83,9 @@ pub(crate) fn try_home<N: Named>(
     requires called { IsCallOn N.config own.old.stripe caller.old command.now turn }
     requires apart { class_held other.old ≢ Some home.old.class.number }
     requires refused { IsRefusedAt N.config own.old.stripe turn (key_of command.now) home.old.class refused }
-    ensures tried { IfOk result (IsTriedOn N.config own.old.stripe own.new caller.old caller.new command.now turn (Some home.old.class.number) (class_held other.old) (IsStillFull N.config own.new.sight refused home.old.class home.new.class × (class_held other.new ≡ class_held other.old) × WantsChunk home.old.class.number (class_held other.old) own.old.stripe command.now turn.moment)) }
+    ensures tried { IfOk result (IsTriedOn N.config own.old.stripe own.new caller.old caller.new command.now turn (Some home.old.class.number)
+        (class_held other.old) (IsStillFull N.config own.new.sight refused home.old.class home.new.class × (class_held other.new ≡ class_held other.old)
+        × WantsChunk home.old.class.number (class_held other.old) own.old.stripe command.now turn.moment)) }
     ensures err { OnErr result ((own.new.stripe.history ≡ own.old.stripe.history) × (caller.new ≡ caller.old)) }
     ensures sees { Grows own.old.sight own.new.sight }
     ensures site { KeepsSite own.old.stripe own.new.stripe }

@@ -31,9 +31,12 @@ pub(crate) fn judge<N: Named>(
     requires once { look.old.judged ≡ None }
     ensures same_reference { look.new.class.ghost_name ≡ look.old.class.ghost_name }
     ensures had { OnOk result (is_some look.new.judged ≡ true) }
-    ensures class { OnOk result (look.new.class.now ≡ class_with look.old.class.now (events_if look.old.class.now (question_of look.old.ask) look.new.judged) look.new.class.now.room) }
-    ensures judged { OnOk result (IsJudgedIf N.config (record { 0 = stripe.old.stripe.site.stripe }) look.old.class.now (question_of look.old.ask) look.new.judged) }
-    ensures known { OnOk result (HasKeyOf (record { 0 = stripe.old.stripe.site.stripe }) N.config look.old.class.now (question_of look.old.ask) → IsSomeAnd look.new.judged (IsKnown look.old.class.now stripe.old.stripe (question_of look.old.ask))) }
+    ensures class { OnOk result (look.new.class.now ≡ class_with look.old.class.now (events_if look.old.class.now (question_of look.old.ask) look.new.judged)
+        look.new.class.now.room) }
+    ensures judged { OnOk result (IsJudgedIf N.config (record { 0 = stripe.old.stripe.site.stripe }) look.old.class.now (question_of look.old.ask)
+        look.new.judged) }
+    ensures known { OnOk result (HasKeyOf (record { 0 = stripe.old.stripe.site.stripe }) N.config look.old.class.now (question_of look.old.ask)
+        → IsSomeAnd look.new.judged (IsKnown look.old.class.now stripe.old.stripe (question_of look.old.ask))) }
     ensures err { OnErr result (look.new.class.now ≡ with_room look.old.class.now look.new.class.now.room) }
     ensures served { IsServed N.board.table N.config owner.new seen.new look.new.class.now }
     ensures stripe { StripeGrows (walker_of look.old.class.now look.old.ask.who look.old.ask.moment) stripe.old.stripe stripe.new.stripe }

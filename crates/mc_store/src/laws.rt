@@ -15,7 +15,8 @@ ghost use Rattle.mc_store.specs.Finals.{AreClasses, AreItsOwn, AreItsOwnInClasse
 /// Whatever a pass's command was answered, a closed store bears it out: where what the pass has seen since begins the final
 /// histories, the reply stands in one event of its stripe's legal history, behind all that the pass had seen before the call.
 pub fn a_closed_store_bears_out_each_reply()
-    ensures { (config : Config) (final : FinalView) (number : ℕ) (before after last : Sight) (calls calls_new : List CallEvent) (who : Who) (command : Command) (moment : ℕ) (reply : Reply)
+    ensures { (config : Config) (final : FinalView) (number : ℕ) (before after last : Sight) (calls calls_new : List CallEvent) (who : Who) (command : Command)
+        (moment : ℕ) (reply : Reply)
         → number < config.stripes → AreStripes final.board config final.stripes → IsBehindStripes last final.stripes → Grows after last
         → IsRepliedBy config number before after calls calls_new who command moment reply
         → IsBorneOut config final.stripes number before who command moment reply }
@@ -32,7 +33,8 @@ pub fn between_commands_a_closed_store_only_lost()
     ensures cause { (config : Config) (final : FinalView) (number : ℕ) (before between later : List StripeEvent) (key : List ℕ) (item : Item)
         → IsSoundStore (setting_of config) (stripe_histories final.stripes) (class_histories final.classes) → number < config.stripes
         → stripe_histories final.stripes number ≡ before ++ (between ++ later) → AreNoCommands between
-        → item_after (site_in (setting_of config) number) before key ≡ Some item → item_after (site_in (setting_of config) number) (before ++ between) key ≡ None
+        → item_after (site_in (setting_of config) number) before key ≡ Some item
+        → item_after (site_in (setting_of config) number) (before ++ between) key ≡ None
         → WasLost (setting_of config).chunks (class_histories final.classes) between key item }
 {}
 

@@ -42,7 +42,8 @@ pub(crate) fn try_alone<N: Named>(
     requires board { board.now ≡ N.board }
     requires asked { HasAsked caller.old turn.who command.now turn.moment }
     requires may { MayTryOn own.old.stripe [] command.now turn (record { home = None; other = None }) }
-    ensures tried { IfOk result (IsTriedUnder own.old.stripe own.new.stripe caller.old caller.new command.now turn (record { home = None; other = None }) [] []) }
+    ensures tried { IfOk result (IsTriedUnder own.old.stripe own.new.stripe caller.old caller.new command.now turn (record { home = None; other = None }) []
+        []) }
     ensures err { OnErr result (own.new.stripe.history ≡ own.old.stripe.history) }
     ensures unnoted { OnErr result (caller.new ≡ caller.old) }
     ensures sees { Grows own.old.sight own.new.sight }
@@ -133,7 +134,8 @@ pub(crate) fn try_on_two<N: Named>(
     requires asked { HasAsked caller.old turn.who command.now turn.moment }
     requires may { MayTryOn own.old.stripe (home.old.class ∷ other.old.class ∷ []) command.now turn given }
     requires room { HasRoomFor given home.old.class × HasRoomFor given other.old.class }
-    ensures tried { IfOk result (IsTriedUnder own.old.stripe own.new.stripe caller.old caller.new command.now turn given (home.old ∷ other.old ∷ []) (home.new ∷ other.new ∷ [])) }
+    ensures tried { IfOk result (IsTriedUnder own.old.stripe own.new.stripe caller.old caller.new command.now turn given (home.old ∷ other.old ∷ [])
+        (home.new ∷ other.new ∷ [])) }
     ensures err { OnErr result (own.new.stripe.history ≡ own.old.stripe.history) }
     ensures unnoted { OnErr result (caller.new ≡ caller.old) }
     ensures sees { Grows own.old.sight own.new.sight }

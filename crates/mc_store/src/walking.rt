@@ -70,7 +70,8 @@ pub(crate) fn make_room_under<N: Named>(
     moment: u64,
 ) -> Result<bool, Fault>
     requires begun { HasBegunCommand N.config own.old.sight who moment }
-    ensures room { IfOk result (λ found. (xs : List Answer) × IsRoom (rounds class.old.class who moment N.config) class.old.class.history xs class.new.class.history found) }
+    ensures room { IfOk result (λ found. (xs : List Answer)
+        × IsRoom (rounds class.old.class who moment N.config) class.old.class.history xs class.new.class.history found) }
     ensures class { classes.Grows class.old.class class.new.class }
     ensures stripe { StripeGrows (walker_of class.old.class who moment) own.old.stripe own.new.stripe }
     ensures tried { IfOk result (λ found. found ≡ false → IsSearchInVain N.config class.old.class own.old.stripe who moment class.new.class.history) }
@@ -105,7 +106,8 @@ pub(crate) fn juggle_under<N: Named>(
     moment: u64,
 ) -> Result<Moves, Fault>
     requires begun { HasBegunAs N.config class.old.sight who moment (juggling_of class.old.class.number moment) }
-    ensures juggle { IfOk result (λ moves. (xs : List Answer) × IsJuggle (rounds class.old.class who moment N.config) class.old.class.history xs class.new.class.history moves) }
+    ensures juggle { IfOk result (λ moves. (xs : List Answer)
+        × IsJuggle (rounds class.old.class who moment N.config) class.old.class.history xs class.new.class.history moves) }
     ensures few { IfOk result (λ moves. moves.reclaimed + moves.moved ≤ 10000) }
     ensures class { classes.Grows class.old.class class.new.class }
     ensures fault { IfErr result (MayFailSeen N.config class.new.sight class.new.class) }

@@ -11,7 +11,8 @@ use Rattle.mc_stripe.specs.declared.{fate.Fate.Fate, wanting.Given.Given}
 use Rattle.mc_stripe.proofs.StateLemmas.{command_kept}
 
 -- a command that was made by its row, in a room that fits
-pub tried_kept : (given : Given) (site : Site) (limit versions added : ℕ) (history later : List StripeEvent) (items reserved now : List ℕ → Option Item) (who : Who) (command : Command) (key : List ℕ) (moment : ℕ) (row : Row) (room : Room) (reply : Reply) (fate : Fate)
+pub tried_kept : (given : Given) (site : Site) (limit versions added : ℕ) (history later : List StripeEvent) (items reserved now : List ℕ
+    → Option Item) (who : Who) (command : Command) (key : List ℕ) (moment : ℕ) (row : Row) (room : Room) (reply : Reply) (fate : Fate)
     → IsKept site limit history versions items → length history < limit → ((q : List ℕ) → reserved q ≡ items q)
     → key ≡ key_of command → stripe_of key site.stripes ≡ record { 0 = site.stripe }
     → row ≡ row_of site versions (reserved key) command moment

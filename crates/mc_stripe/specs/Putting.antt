@@ -4,7 +4,8 @@ use Rattle.mc_item.specs.{Answer.Row, Answer.let_go, Answer.plain, Cache.changed
 use Rattle.mc_item.specs.Answer as answers
 use Rattle.mc_item.specs.declared.answer.Change.TheVariants as changes
 use Rattle.mc_item.specs.declared.answer.Need.TheVariants as needs
-use Rattle.mc_item.specs.declared.{command.Verb.Verb, item.ClassNo.ClassNo, item.Expiry.Expiry, item.Item.Item, item.Link.Link, reply.Reply.Reply, reply.Room.Room}
+use Rattle.mc_item.specs.declared.{command.Verb.Verb, item.ClassNo.ClassNo, item.Expiry.Expiry, item.Item.Item, item.Link.Link, reply.Reply.Reply}
+use Rattle.mc_item.specs.declared.{reply.Room.Room}
 use Rattle.mc_item.specs.declared.command.Verb.TheVariants.{Set, Add, Replace, Cas}
 use Rattle.mc_item.specs.declared.reply.Reply.TheVariants as replies
 use Rattle.mc_item.specs.declared.reply.Room.TheVariants as rooms
@@ -101,4 +102,9 @@ pub record IsDecided (given : Given) (key : List ℕ) (item : Option Item) (mome
 
 -- what a storage command made that was decided
 abbrev pub made_of : Put → Made
-made_of put = record { done = record { reply = reply_of put.answer; room = put.room; fate = put.fate }; noted = Some (reply_of put.answer); added = versions_added put.answer }
+made_of put = record {
+  done = record { reply = reply_of put.answer; room = put.room; fate = put.fate };
+  noted = Some (reply_of put.answer);
+  added =
+      versions_added put.answer;
+}

@@ -18,4 +18,10 @@ Gains old new event = new.history ≡ old.history ++ event ∷ []
 -- the history gains the event of this command, answered at this moment with this room by what the cache was
 abbrev pub Notes : Stripe → Stripe → Who → Command → ℕ → Room → Type 0
 Notes old new who command moment room =
-    Gains old new (events.Did (record { who = who; command = command; moment = moment; reply = (answer_of old.site (cache_now old) command moment room).reply; room = room }))
+    Gains old new (events.Did (record {
+      who = who;
+      command = command;
+      moment = moment;
+      reply = (answer_of old.site (cache_now old) command moment room).reply;
+      room = room;
+    }))

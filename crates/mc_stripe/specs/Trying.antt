@@ -15,7 +15,8 @@ abbrev pub ItemsStay : (old new : List ℕ → Option Item) → Type 0
 ItemsStay old new = (q : List ℕ) → new q ≡ old q
 
 -- a command of this row was made of the items, with what it is given, and this was replied
-pub record IsMade (given : Given) (old new : List ℕ → Option Item) (key : List ℕ) (row : Row) (moment : ℕ) (room : Room) (reply : Reply) (fate : Fate) : Type 0 where
+pub record IsMade (given : Given) (old new : List ℕ → Option Item) (key : List ℕ) (row : Row) (moment : ℕ) (room : Room) (reply : Reply) (fate : Fate) : Type
+    0 where
   pub uses : Uses given key (old key) moment row room fate
   pub reply_is : reply ≡ (row.answer room).reply
   pub items : Puts old new key (changed (old key) (row.answer room).change)

@@ -51,8 +51,10 @@ fn make(
 ) -> Result<Result<Made, Want>, NoMemory>
     requires cas { cas_of site.now versions < 2 ^ 64 }
     requires moment { moment ≤ 2 ^ 62 }
-    ensures made { IfOk result (λ t. IfOk t (MakesRow keeps given.now (get (pointwise nat_eq) items.old) (get (pointwise nat_eq) items.new) (key_of command.now) (row_of site.now versions (get (pointwise nat_eq) items.old (key_of command.now)) command.now moment) moment)) }
-    ensures wants { IfOk result (λ t. IfErr t (IsLeft given.now (get (pointwise nat_eq) items.old) (get (pointwise nat_eq) items.new) (key_of command.now) moment (row_of site.now versions (get (pointwise nat_eq) items.old (key_of command.now)) command.now moment))) }
+    ensures made { IfOk result (λ t. IfOk t (MakesRow keeps given.now (get (pointwise nat_eq) items.old) (get (pointwise nat_eq) items.new) (key_of command.now)
+        (row_of site.now versions (get (pointwise nat_eq) items.old (key_of command.now)) command.now moment) moment)) }
+    ensures wants { IfOk result (λ t. IfErr t (IsLeft given.now (get (pointwise nat_eq) items.old) (get (pointwise nat_eq) items.new) (key_of command.now)
+        moment (row_of site.now versions (get (pointwise nat_eq) items.old (key_of command.now)) command.now moment))) }
     ensures err { OnErr result (ItemsStay (get (pointwise nat_eq) items.old) (get (pointwise nat_eq) items.new)) }
     ensures spare { spare items.old ≤ spare items.new + 1 }
 {

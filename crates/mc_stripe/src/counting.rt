@@ -19,10 +19,12 @@ use std::hash::RandomState;
 // The room that a need is given, and the class where it is one.
 #[inline(always)]
 fn room_for(need: Need, given: &Given, old: Link) -> Result<(Room, Option<ClassNo>), Want>
-    ensures covers { OnOk result ((class : TheClass) → need ≡ needs.Fresh class → Covers given.now (record { home = Some class; other = class_beside class (Some old) })) }
+    ensures covers { OnOk result ((class : TheClass) → need ≡ needs.Fresh class
+        → Covers given.now (record { home = Some class; other = class_beside class (Some old) })) }
     ensures room { IfOk result (λ r. IsTaken given.now need r.0) }
     ensures class { IfOk result (λ r. IfSome r.1 (λ class. need ≡ needs.Fresh class)) }
-    ensures wants { IfErr result (λ want. (class : TheClass) × (need ≡ needs.Fresh class) × IsLacking given.now (record { home = Some class; other = class_beside class (Some old) }) want) }
+    ensures wants { IfErr result (λ want. (class : TheClass) × (need ≡ needs.Fresh class)
+        × IsLacking given.now (record { home = Some class; other = class_beside class (Some old) }) want) }
 {
     match need {
         Need::Fresh(class) => match given.room(class, Some(old)) {
@@ -45,11 +47,17 @@ fn count_anew(
     given: &Given,
 ) -> Result<Result<Made, Want>, NoMemory>
     requires cas { cas_of site.now versions < 2 ^ 64 }
-    ensures made { (moment : ℕ) → IsAlive (Some item.old) moment → IfOk result (λ t. IfOk t (λ m. Uses given.now key.now (Some item.old) moment (step_row site.now versions key.now step (Some item.old)) m.done.room m.done.fate)) }
-    ensures reply { IfOk result (λ t. IfOk t (λ m. (m.done.reply ≡ ((step_row site.now versions key.now step (Some item.old)).answer m.done.room).reply) × (m.noted ≡ Some m.done.reply))) }
-    ensures item { IfOk result (λ t. IfOk t (λ m. changed (Some item.old) ((step_row site.now versions key.now step (Some item.old)).answer m.done.room).change ≡ Some item.new)) }
-    ensures added { IfOk result (λ t. IfOk t (λ m. m.added ≡ versions_of ((step_row site.now versions key.now step (Some item.old)).answer m.done.room).change)) }
-    ensures wants { (moment : ℕ) → IsAlive (Some item.old) moment → IfOk result (λ t. IfErr t (IsWanting given.now key.now (Some item.old) moment (step_row site.now versions key.now step (Some item.old)))) }
+    ensures made { (moment : ℕ) → IsAlive (Some item.old) moment
+        → IfOk result (λ t. IfOk t (λ m. Uses given.now key.now (Some item.old) moment (step_row site.now versions key.now step (Some item.old)) m.done.room
+        m.done.fate)) }
+    ensures reply { IfOk result (λ t. IfOk t (λ m. (m.done.reply ≡ ((step_row site.now versions key.now step (Some item.old)).answer m.done.room).reply)
+        × (m.noted ≡ Some m.done.reply))) }
+    ensures item { IfOk result (λ t. IfOk t (λ m. changed (Some item.old) ((step_row site.now versions key.now step (Some item.old)).answer m.done.room).change
+        ≡ Some item.new)) }
+    ensures added { IfOk result (λ t. IfOk t
+        (λ m. m.added ≡ versions_of ((step_row site.now versions key.now step (Some item.old)).answer m.done.room).change)) }
+    ensures wants { (moment : ℕ) → IsAlive (Some item.old) moment
+        → IfOk result (λ t. IfErr t (IsWanting given.now key.now (Some item.old) moment (step_row site.now versions key.now step (Some item.old)))) }
     ensures same { IfOk result (λ t. OnErr t (item.new ≡ item.old)) }
     ensures err { OnErr result (item.new ≡ item.old) }
 {
@@ -94,8 +102,10 @@ pub(crate) fn count_item(
     given: &Given,
 ) -> Result<Result<Made, Want>, NoMemory>
     requires cas { cas_of site.now versions < 2 ^ 64 }
-    ensures made { IfOk result (λ t. IfOk t (MakesRow true given.now (get (pointwise nat_eq) items.old) (get (pointwise nat_eq) items.new) key.now (step_row site.now versions key.now step (get (pointwise nat_eq) items.old key.now)) moment)) }
-    ensures wants { IfOk result (λ t. IfErr t (IsLeft given.now (get (pointwise nat_eq) items.old) (get (pointwise nat_eq) items.new) key.now moment (step_row site.now versions key.now step (get (pointwise nat_eq) items.old key.now)))) }
+    ensures made { IfOk result (λ t. IfOk t (MakesRow true given.now (get (pointwise nat_eq) items.old) (get (pointwise nat_eq) items.new) key.now
+        (step_row site.now versions key.now step (get (pointwise nat_eq) items.old key.now)) moment)) }
+    ensures wants { IfOk result (λ t. IfErr t (IsLeft given.now (get (pointwise nat_eq) items.old) (get (pointwise nat_eq) items.new) key.now moment
+        (step_row site.now versions key.now step (get (pointwise nat_eq) items.old key.now)))) }
     ensures err { OnErr result (ItemsStay (get (pointwise nat_eq) items.old) (get (pointwise nat_eq) items.new)) }
     ensures spare { spare items.new ≡ spare items.old }
 {

@@ -20,8 +20,10 @@ pub(crate) fn delete_item(
     moment: u64,
     given: &Given,
 ) -> Result<Made, Want>
-    ensures made { IfOk result (MakesRow true given.now (get (pointwise nat_eq) items.old) (get (pointwise nat_eq) items.new) key.now (delete_row (get (pointwise nat_eq) items.old key.now)) moment) }
-    ensures wants { IfErr result (IsLeft given.now (get (pointwise nat_eq) items.old) (get (pointwise nat_eq) items.new) key.now moment (delete_row (get (pointwise nat_eq) items.old key.now))) }
+    ensures made { IfOk result (MakesRow true given.now (get (pointwise nat_eq) items.old) (get (pointwise nat_eq) items.new) key.now
+        (delete_row (get (pointwise nat_eq) items.old key.now)) moment) }
+    ensures wants { IfErr result (IsLeft given.now (get (pointwise nat_eq) items.old) (get (pointwise nat_eq) items.new) key.now moment
+        (delete_row (get (pointwise nat_eq) items.old key.now))) }
     ensures spare { spare items.old ≤ spare items.new }
 {
     let Some(item) = items.get(key) else {

@@ -16,7 +16,8 @@ use std::hash::RandomState;
 
 // The item's ACTIVE mark goes, where the item is there.
 fn cool_item(items: &mut HashMap<Key, Item, RandomState>, key: &Key)
-    ensures items { (q : List ℕ) → get (pointwise nat_eq) items.new q ≡ (if pointwise nat_eq key.now q then changed (get (pointwise nat_eq) items.old key.now) (cooled_change (get (pointwise nat_eq) items.old key.now)) else get (pointwise nat_eq) items.old q) }
+    ensures items { (q : List ℕ) → get (pointwise nat_eq) items.new q ≡ (if pointwise nat_eq key.now q then
+        changed (get (pointwise nat_eq) items.old key.now) (cooled_change (get (pointwise nat_eq) items.old key.now)) else get (pointwise nat_eq) items.old q) }
     ensures spare { spare items.new ≡ spare items.old }
 {
     if let Some(item) = items.get_mut(key) {

@@ -61,8 +61,10 @@ pub(crate) fn get_item(
     given: &Given,
     keeps: bool,
 ) -> Result<Result<Made, Want>, NoMemory>
-    ensures made { IfOk result (λ t. IfOk t (MakesRow keeps given.now (get (pointwise nat_eq) items.old) (get (pointwise nat_eq) items.new) key.now (get_row (get (pointwise nat_eq) items.old key.now)) moment)) }
-    ensures wants { IfOk result (λ t. IfErr t (IsLeft given.now (get (pointwise nat_eq) items.old) (get (pointwise nat_eq) items.new) key.now moment (get_row (get (pointwise nat_eq) items.old key.now)))) }
+    ensures made { IfOk result (λ t. IfOk t (MakesRow keeps given.now (get (pointwise nat_eq) items.old) (get (pointwise nat_eq) items.new) key.now
+        (get_row (get (pointwise nat_eq) items.old key.now)) moment)) }
+    ensures wants { IfOk result (λ t. IfErr t (IsLeft given.now (get (pointwise nat_eq) items.old) (get (pointwise nat_eq) items.new) key.now moment
+        (get_row (get (pointwise nat_eq) items.old key.now)))) }
     ensures err { OnErr result (ItemsStay (get (pointwise nat_eq) items.old) (get (pointwise nat_eq) items.new)) }
     ensures spare { spare items.new ≡ spare items.old }
 {

@@ -158,7 +158,8 @@ fn let_go(verb: Verb, old: Option<Link>) -> Fate
 fn fate_in(room: Room, verb: Verb, cost: u64, expiry: Expiry, old: Option<Link>) -> Fate
     requires { IsGiven room }
     ensures { (key : List ℕ) (item : Option TheItem) (class : TheClass) (version : TheLink → TheItem) → old ≡ link_of_item item
-        → ((link : TheLink) → (cost ≡ cost_of key (version link).value) × (expiry ≡ (version link).expiry)) → result ≡ fate_of key item ((storing_row class verb version).answer room).change }
+        → ((link : TheLink) → (cost ≡ cost_of key (version link).value) × (expiry ≡ (version link).expiry))
+        → result ≡ fate_of key item ((storing_row class verb version).answer room).change }
 {
     match room {
         Room::At(_) => Fate::Renewed { cost, expiry, old },
@@ -187,8 +188,10 @@ fn decide(
     found: Option<Found>,
     given: &Given,
 ) -> Result<Put, Want>
-    ensures made { (key : List ℕ) (item : Option TheItem) (moment : ℕ) (version : TheLink → TheItem) → KnowsItem found cost expiry key item moment version → IfOk result (IsDecided given.now key item moment (store_row (Some fresh) verb item version) version) }
-    ensures wants { (key : List ℕ) (item : Option TheItem) (moment : ℕ) (version : TheLink → TheItem) → KnowsItem found cost expiry key item moment version → IfErr result (IsWanting given.now key item moment (store_row (Some fresh) verb item version)) }
+    ensures made { (key : List ℕ) (item : Option TheItem) (moment : ℕ) (version : TheLink → TheItem) → KnowsItem found cost expiry key item moment version
+        → IfOk result (IsDecided given.now key item moment (store_row (Some fresh) verb item version) version) }
+    ensures wants { (key : List ℕ) (item : Option TheItem) (moment : ℕ) (version : TheLink → TheItem) → KnowsItem found cost expiry key item moment version
+        → IfErr result (IsWanting given.now key item moment (store_row (Some fresh) verb item version)) }
 {
     if let Some(answer) = declines(verb, cas_in(found)) {
         return Ok(Put {
@@ -243,8 +246,12 @@ pub(crate) fn put_item(
 ) -> Result<Result<Made, Want>, NoMemory>
     requires cas { cas_of site.now versions < 2 ^ 64 }
     requires cost { cost ≡ cost_of key.now content.now.value.now }
-    ensures made { IfOk result (λ t. IfOk t (MakesRow true given.now (get (pointwise nat_eq) items.old) (get (pointwise nat_eq) items.new) key.now (store_row (Some fresh) verb (get (pointwise nat_eq) items.old key.now) (version_of site.now versions content.now.flags content.now.value.now content.now.expiry)) moment)) }
-    ensures wants { IfOk result (λ t. IfErr t (IsLeft given.now (get (pointwise nat_eq) items.old) (get (pointwise nat_eq) items.new) key.now moment (store_row (Some fresh) verb (get (pointwise nat_eq) items.old key.now) (version_of site.now versions content.now.flags content.now.value.now content.now.expiry)))) }
+    ensures made { IfOk result (λ t. IfOk t (MakesRow true given.now (get (pointwise nat_eq) items.old) (get (pointwise nat_eq) items.new) key.now
+        (store_row (Some fresh) verb (get (pointwise nat_eq) items.old key.now)
+        (version_of site.now versions content.now.flags content.now.value.now content.now.expiry)) moment)) }
+    ensures wants { IfOk result (λ t. IfErr t (IsLeft given.now (get (pointwise nat_eq) items.old) (get (pointwise nat_eq) items.new) key.now moment
+        (store_row (Some fresh) verb (get (pointwise nat_eq) items.old key.now)
+        (version_of site.now versions content.now.flags content.now.value.now content.now.expiry)))) }
     ensures err { OnErr result (ItemsStay (get (pointwise nat_eq) items.old) (get (pointwise nat_eq) items.new)) }
     ensures spare { spare items.old ≤ spare items.new + 1 }
 {

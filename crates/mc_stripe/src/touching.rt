@@ -20,8 +20,10 @@ pub(crate) fn touch_item(
     moment: u64,
     given: &Given,
 ) -> Result<Made, Want>
-    ensures made { IfOk result (MakesRow true given.now (get (pointwise nat_eq) items.old) (get (pointwise nat_eq) items.new) key.now (touch_row expiry (get (pointwise nat_eq) items.old key.now)) moment) }
-    ensures wants { IfErr result (IsLeft given.now (get (pointwise nat_eq) items.old) (get (pointwise nat_eq) items.new) key.now moment (touch_row expiry (get (pointwise nat_eq) items.old key.now))) }
+    ensures made { IfOk result (MakesRow true given.now (get (pointwise nat_eq) items.old) (get (pointwise nat_eq) items.new) key.now
+        (touch_row expiry (get (pointwise nat_eq) items.old key.now)) moment) }
+    ensures wants { IfErr result (IsLeft given.now (get (pointwise nat_eq) items.old) (get (pointwise nat_eq) items.new) key.now moment
+        (touch_row expiry (get (pointwise nat_eq) items.old key.now))) }
     ensures spare { spare items.new ≡ spare items.old }
 {
     let Some(item) = items.get_mut(key) else {

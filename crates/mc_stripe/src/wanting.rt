@@ -170,7 +170,8 @@ impl Given {
     #[inline(always)]
     pub(crate) fn item(&self, link: Link) -> Result<(), Want>
         ensures covers { OnOk result (Covers self.now (record { home = None; other = Some link.class })) }
-        ensures lacks { IfErr result (λ want. (want ≡ wants.Classes (record { home = None; other = Some link.class })) × (Covers self.now (record { home = None; other = Some link.class }) → ⊥)) }
+        ensures lacks { IfErr result (λ want. (want ≡ wants.Classes (record { home = None; other = Some link.class }))
+            × (Covers self.now (record { home = None; other = Some link.class }) → ⊥)) }
     {
         let other = Some(link.class);
         if holds(self.other_class(), other) {

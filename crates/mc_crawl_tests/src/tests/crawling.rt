@@ -126,7 +126,11 @@ fn text_of_counts(alloc: Global, histogram: &Histogram) -> Result<String, Fail> 
 }
 
 // The end of a crawl, and what was counted.
-fn text_of_end(alloc: Global, made: Result<(), Fault>, histogram: &Histogram) -> Result<String, Fail> {
+fn text_of_end(
+    alloc: Global,
+    made: Result<(), Fault>,
+    histogram: &Histogram,
+) -> Result<String, Fail> {
     let counts = text_of_counts(alloc, histogram)?;
     match made {
         Ok(()) => Ok(counts),
@@ -135,7 +139,11 @@ fn text_of_end(alloc: Global, made: Result<(), Fault>, histogram: &Histogram) ->
 }
 
 /// Crawls links, and tells what was counted.
-pub(super) fn text_of_crawl(world: &mut World, links: &[Link], moment: u64) -> Result<String, Fail> {
+pub(super) fn text_of_crawl(
+    world: &mut World,
+    links: &[Link],
+    moment: u64,
+) -> Result<String, Fail> {
     let mut histogram = empty();
     let made = crawl(world, links, moment, &mut histogram);
     text_of_end(world.alloc, made, &histogram)
@@ -147,7 +155,11 @@ fn text_of_asked(alloc: Global, counts: &str, gate: &Refusing) -> Result<String,
 }
 
 /// Crawls links through a gate that says no, and tells what was counted, and what the gate answered.
-pub(super) fn text_of_refused(world: &mut World, links: &[Link], moment: u64) -> Result<String, Fail> {
+pub(super) fn text_of_refused(
+    world: &mut World,
+    links: &[Link],
+    moment: u64,
+) -> Result<String, Fail> {
     let alloc = world.alloc;
     let mut histogram = empty();
     let mut gate = Refusing {

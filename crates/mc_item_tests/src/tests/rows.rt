@@ -1,5 +1,8 @@
-//! Parts of the table of commands that can be called alone, each after five versions of stripe 1 of 4: the answer to a count, a new version in an item's place, and a count in place.
-use crate::tests::{AT, GROWN, NO_MARKS, REFUSED, item, key, same, same_bytes, site, text_of, value};
+//! Parts of the table of commands that can be called alone, each after five versions of stripe 1 of 4: the answer to a count, a new version in an item's place,
+//! and a count in place.
+use crate::tests::{
+    AT, GROWN, NO_MARKS, REFUSED, item, key, same, same_bytes, site, text_of, value,
+};
 use mc_item::{ClassNo, Content, Expiry, Item, Key, Link, Marks, Room, Step, Value};
 use std::alloc::Global;
 use std::process::Abort;

@@ -146,7 +146,12 @@ fn survey_reserved<R: Abort>(rt: &R, class: &mut ClassState, moment: u64) -> Sur
 }
 
 // How many of so many surveys at the moment 1000 have the next place and find nothing.
-fn text_of_surveys<R: Abort>(rt: &R, alloc: Global, class: &mut ClassState, surveys: u64) -> String {
+fn text_of_surveys<R: Abort>(
+    rt: &R,
+    alloc: Global,
+    class: &mut ClassState,
+    surveys: u64,
+) -> String {
     let mut right = 0u64;
     for place in 0..surveys {
         let got = text_of_survey(rt, alloc, class, 1000);
@@ -164,7 +169,13 @@ fn text_of_passed<R: Abort>(rt: &R, alloc: Global, class: &ClassState, j: u64) -
     numbers_text(rt, alloc, class.passed(Seg::Hot, j).as_slice())
 }
 
-fn text_of_tail_key<R: Abort>(rt: &R, alloc: Global, class: &ClassState, seg: Seg, j: u64) -> String {
+fn text_of_tail_key<R: Abort>(
+    rt: &R,
+    alloc: Global,
+    class: &ClassState,
+    seg: Seg,
+    j: u64,
+) -> String {
     let entry = class.from_tail(seg, j).expect(rt, "an entry");
     key_text(rt, alloc, &entry.key)
 }

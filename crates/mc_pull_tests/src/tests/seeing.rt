@@ -107,7 +107,11 @@ fn last_of_stripe(alloc: Global, stripe: &StripeState) -> Result<String, Fail> {
 }
 
 /// The events of a class from a place on.
-pub(super) fn text_of_class(alloc: Global, class: &ClassState, from: usize) -> Result<String, Fail> {
+pub(super) fn text_of_class(
+    alloc: Global,
+    class: &ClassState,
+    from: usize,
+) -> Result<String, Fail> {
     let mut got = format!(in alloc; "")?;
     for place in from..class.history().len() {
         let event = text_of_if(alloc, class.history().get(place))?;
@@ -132,7 +136,11 @@ pub(super) fn text_of_stripe(
     Ok(got)
 }
 
-fn text_of_lengths(alloc: Global, class: &ClassState, stripe: &StripeState) -> Result<String, Fail> {
+fn text_of_lengths(
+    alloc: Global,
+    class: &ClassState,
+    stripe: &StripeState,
+) -> Result<String, Fail> {
     let (class, stripe) = events(class, stripe);
     Ok(format!(in alloc; "{class} {stripe}")?)
 }

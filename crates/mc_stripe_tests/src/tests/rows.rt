@@ -103,7 +103,12 @@ fn text_of_misses<R: Abort>(rt: &R, alloc: Global, stripe: &mut StripeState, get
     number_text(rt, alloc, misses)
 }
 
-fn text_of_room<R: Abort>(rt: &R, alloc: Global, stripe: &mut StripeState, events: usize) -> String {
+fn text_of_room<R: Abort>(
+    rt: &R,
+    alloc: Global,
+    stripe: &mut StripeState,
+    events: usize,
+) -> String {
     let made = stripe.reserve(events);
     format!(in alloc; "{made:?}").expect(rt, "a text")
 }

@@ -221,7 +221,11 @@ pub(super) fn want_text<R: Abort>(rt: &R, alloc: Global, want: Want) -> String {
 }
 
 // The text of what a try tells.
-fn text_of_text<R: Abort>(rt: &R, alloc: Global, got: &Result<Result<Done, Want>, Fault>) -> String {
+fn text_of_text<R: Abort>(
+    rt: &R,
+    alloc: Global,
+    got: &Result<Result<Done, Want>, Fault>,
+) -> String {
     match got {
         Ok(Ok(done)) => {
             let reply = reply_text(rt, alloc, &done.reply);

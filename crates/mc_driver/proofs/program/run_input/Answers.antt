@@ -18,7 +18,8 @@ returns-clause-done g c = λ zero.
       final = run.ledger;
       run = subst (λ moments. IsRunOf c.args.plan.config moments input printed run.outcomes.items run.ledger) c.as_slice-upkeep.ensures c.in-Ok.ensures.ok;
       done = subst (All (λ outcome. outcome ≡ Done)) c.as_slice-2.ensures.value (c.say_outcomes-status.ensures.done zero);
-      written = subst (λ ends. Appends (g.W.Write.contents c.args.writer.now) (g.W.Write.contents c.print_scripts.new.writer) (flat_map (λ end. bytes_of_parts end.1.pieces.items) ends)) c.as_slice.ensures.value c.in-Ok-print_scripts.ensures;
+      written = subst (λ ends. Appends (g.W.Write.contents c.args.writer.now) (g.W.Write.contents c.print_scripts.new.writer)
+          (flat_map (λ end. bytes_of_parts end.1.pieces.items) ends)) c.as_slice.ensures.value c.in-Ok-print_scripts.ensures;
     }
 
 pub run_cut-requires-clause-bounded : goal.run_cut-requires-clause-bounded
@@ -41,7 +42,8 @@ returns-clause-broken g c = λ one.
       run = subst (λ moments. IsRunOf c.args.plan.config moments input printed run.outcomes.items run.ledger) c.as_slice-upkeep.ensures c.in-Ok.ensures.ok;
       fault = subst (λ status. IsFirstFault status run.outcomes.items) one
           (subst (IsFirstFault c.say_outcomes-status.result) c.as_slice-2.ensures.value (c.say_outcomes-status.ensures.first (omega (arith, one))));
-      written = subst (λ ends. Appends (g.W.Write.contents c.args.writer.now) (g.W.Write.contents c.print_scripts.new.writer) (flat_map (λ end. bytes_of_parts end.1.pieces.items) ends)) c.as_slice.ensures.value c.in-Ok-print_scripts.ensures;
+      written = subst (λ ends. Appends (g.W.Write.contents c.args.writer.now) (g.W.Write.contents c.print_scripts.new.writer)
+          (flat_map (λ end. bytes_of_parts end.1.pieces.items) ends)) c.as_slice.ensures.value c.in-Ok-print_scripts.ensures;
     })
 
 pub returns-clause-refused : goal.returns-clause-refused

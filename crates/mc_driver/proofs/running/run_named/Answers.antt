@@ -37,7 +37,9 @@ returns g c =
     let left = run_left g.S.Source.coming g.S.Source.failures g.K.Sink.taken g.K.Sink.failures config c.args.upkeep.now (λ job. job.calls.pass) (λ job. job.work) (λ job. job.outcome)
     begun done c.args.scripts.items final all all_classes c.run_jobs.ensures.many passes (ap (λ js. map (λ job. job.work) js) c.as_mut_slice.ensures.value ∙ c.in_ok-jobs.ensures.works)
     (λ i d below.
-    subst (λ l. HasWorked g.S.Source.coming g.S.Source.failures g.K.Sink.taken g.K.Sink.failures config l c.args.upkeep.now (slice_index_or begun i d).calls.pass (slice_index_or done i d).calls.pass (slice_index_or done i d).outcome (slice_index_or begun i d).work (slice_index_or done i d).work)
+    subst (λ l. HasWorked g.S.Source.coming g.S.Source.failures g.K.Sink.taken g.K.Sink.failures config l c.args.upkeep.now
+    (slice_index_or begun i d).calls.pass (slice_index_or done i d).calls.pass (slice_index_or done i d).outcome (slice_index_or begun i d).work
+    (slice_index_or done i d).work)
     limits (c.run_jobs.ensures.each i d below))
     (λ k p found. c.compare_all.ensures.compared k p (ap (λ (ps : List PassView). slice_get ps k) passes_are ∙ found)) c.requires.callers
     (store_left config final all all_classes c.close-ledger.ensures.sound c.close-ledger.ensures.entries) in
@@ -45,5 +47,6 @@ returns g c =
     (sym (c.end_all.ensures.ends ∙ ap (λ js. ends_in (map (λ job. job.work) js)) back))
     (subst (λ os. IsRunDone g.S.Source.coming g.S.Source.failures g.K.Sink.taken g.K.Sink.failures config c.args.upkeep.now c.args.scripts.items (ends_in (map (λ job. job.work) done)) os c.compare_all.new.ledger)
     (sym (c.end_all.ensures.outcomes ∙ ap (λ js. map (λ job. job.outcome) js) back))
-    (subst (λ (f : FinalView). IsRunDone g.S.Source.coming g.S.Source.failures g.K.Sink.taken g.K.Sink.failures config c.args.upkeep.now c.args.scripts.items (ends_in (map (λ job. job.work) done)) (map (λ job. job.outcome) done) f)
+    (subst (λ (f : FinalView). IsRunDone g.S.Source.coming g.S.Source.failures g.K.Sink.taken g.K.Sink.failures config c.args.upkeep.now c.args.scripts.items
+    (ends_in (map (λ job. job.work) done)) (map (λ job. job.outcome) done) f)
     (sym c.compare_all.ensures.same) left))

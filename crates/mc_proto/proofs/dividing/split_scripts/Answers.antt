@@ -18,6 +18,8 @@ loop-uncut-preserved c =
     let next = subst (PassesScript c.args.limits c.pass_script.new.uncut) c.in-Some.is c.in_ok-line.ensures.line in
     record {
       none = c.in_ok-take-2.ensures.none;
-      cut = cut_on c.args.limits at.scripts.items c.push.new.self.items c.in_ok-take.field-0 (λ s. flat_map (λ p. p.items) s.items) (flat_map (λ p. p.items) c.args.input.items) at.uncut.coming cut.passed cut.coming c.take-in-Some.new.self.coming c.in-Some.line at.invariant.cut
-          c.in_ok-line.ensures.stays next.2 next.3 (c.in_ok-take-2.ensures.coming ∙ c.in_ok-pass.ensures.coming ∙ ap (drop c.in-Some.line) c.in_ok-take.ensures.coming) c.in_ok-take.ensures.taken c.in_ok-push.ensures.items;
+      cut = cut_on c.args.limits at.scripts.items c.push.new.self.items c.in_ok-take.field-0 (λ s. flat_map (λ p. p.items) s.items)
+          (flat_map (λ p. p.items) c.args.input.items) at.uncut.coming cut.passed cut.coming c.take-in-Some.new.self.coming c.in-Some.line at.invariant.cut
+          c.in_ok-line.ensures.stays next.2 next.3 (c.in_ok-take-2.ensures.coming ∙ c.in_ok-pass.ensures.coming
+          ∙ ap (drop c.in-Some.line) c.in_ok-take.ensures.coming) c.in_ok-take.ensures.taken c.in_ok-push.ensures.items;
     }

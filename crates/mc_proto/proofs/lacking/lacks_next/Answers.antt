@@ -24,8 +24,10 @@ loop-rest-preserved c =
     let at = c.loop-rest in
     let found = c.in-Some.ensures in
     let high : c.in-Some.at < length c.loop-rest.rest.now = found.0.high in
-    let back : c.split_at-in-loop-rest.result.1.now ≡ drop (suc c.in-Some.at) c.loop-rest.rest.now = c.split_at-in-loop-rest.ensures.back ∙ ap (drop 1) c.split_at.ensures.back ∙ one_more c.in-Some.at c.loop-rest.rest.now in
+    let back : c.split_at-in-loop-rest.result.1.now ≡ drop (suc c.in-Some.at) c.loop-rest.rest.now = c.split_at-in-loop-rest.ensures.back
+    ∙ ap (drop 1) c.split_at.ensures.back ∙ one_more c.in-Some.at c.loop-rest.rest.now in
     record {
-      lacks = λ lack. at.invariant.lacks (next_skip at.behind at.rest.now c.in-Some.at (λ k l. found.0.before k (omega arith) l) high found.1 (c.is_next.ensures.no c.if-is_next.false) (subst (LacksNextBehind true) back lack));
+      lacks = λ lack. at.invariant.lacks (next_skip at.behind at.rest.now c.in-Some.at (λ k l. found.0.before k (omega arith) l) high found.1
+          (c.is_next.ensures.no c.if-is_next.false) (subst (LacksNextBehind true) back lack));
       has = λ lack. subst (LacksNextBehind true) (sym back) (next_left at.behind at.rest.now c.in-Some.at high found.1 (at.invariant.has lack));
     }

@@ -16,7 +16,8 @@ pub loop-piece-preserved : goal.loop-piece-preserved
 loop-piece-preserved c =
     let at = c.loop-piece in
     let piece : c.as_slice.result.now ≡ c.in-Some.piece.now.items = c.as_slice.ensures.value in
-    let after : is_after c.loop-piece.behind c.in-Some.piece.now.items ≡ c.ends_with_percent-behind.result = ap (is_after c.loop-piece.behind) (sym c.as_slice-in-loop-piece.ensures.value) ∙ sym c.ends_with_percent-behind.ensures in
+    let after : is_after c.loop-piece.behind c.in-Some.piece.now.items ≡ c.ends_with_percent-behind.result =
+    ap (is_after c.loop-piece.behind) (sym c.as_slice-in-loop-piece.ensures.value) ∙ sym c.ends_with_percent-behind.ensures in
     let behind : List ℕ = flat_map (λ p. p.items) (deque_iter_rest c.next.new.self) in
     record {
       lacks = λ lack. at.invariant.lacks (subst (LacksNextBehind at.behind) (sym (ap (flat_map (λ p. p.items)) c.in-Some.ensures.steps))

@@ -8,7 +8,9 @@ abbrev pub invariant-loop-alloc : goal.invariant-loop-alloc
 invariant-loop-alloc g l = record {
   sound : IsSoundReader l.state l.line.items;
   moderate : All (IsModerate l.limits) l.requests.items;
-  read : (front : List ℕ) × (g.P.Piece.unread l.fn.piece ≡ front ++ g.P.Piece.unread l.rest) × ((stream : List ℕ) (requests : List Request) → After l.limits l.fn.state l.fn.line.items stream requests → After l.limits l.state l.line.items (stream ++ front) (requests ++ l.requests.items));
+  read : (front : List ℕ) × (g.P.Piece.unread l.fn.piece ≡ front ++ g.P.Piece.unread l.rest)
+      × ((stream : List ℕ) (requests : List Request) → After l.limits l.fn.state l.fn.line.items stream requests
+      → After l.limits l.state l.line.items (stream ++ front) (requests ++ l.requests.items));
 }
 
 abbrev pub decreases-loop-alloc : goal.decreases-loop-alloc

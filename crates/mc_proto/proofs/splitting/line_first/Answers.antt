@@ -32,4 +32,5 @@ returns c = λ more.
     let e = c.line_end-end in
     let l : c.line_end-end.result < length c.args.bytes.now = omega arith in
     let told : c.in_ok-said.said ≡ says c.args.limits (take c.line_end-end.result c.args.bytes.now) = c.in_ok-said.ensures.value ∙ ap (says c.args.limits) c.split_at.ensures.front in
-    more_asked c.args.limits c.args.bytes.now more e.result l (e.ensures.found l) e.ensures.before (omega arith) c.block_len.result c.in_ok-said.said told c.in_ok-said.ensures.fine c.block_len.ensures c.if-says_next.ensures
+    more_asked c.args.limits c.args.bytes.now more e.result l (e.ensures.found l) e.ensures.before (omega arith) c.block_len.result c.in_ok-said.said told
+    c.in_ok-said.ensures.fine c.block_len.ensures c.if-says_next.ensures

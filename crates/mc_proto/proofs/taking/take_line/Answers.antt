@@ -65,7 +65,9 @@ returns-in-Some-clause-reads g c = λ stream before a.
     rw at
     (behind c.args.limits Line _ (stream ++ take (e.result + 1) p) before c.args.requests.now.items
     (Get (c.in-Some.key ∷ []) false ∷ []) _ (c.in_ok-push-2.ensures.items ∙ ap (λ (ks : List (List ℕ)). c.args.requests.now.items ++ Get ks false ∷ []) c.one.ensures)
-    (line_done c.args.limits c.args.line.now.items c.args.line.now.items stream p (before ++ c.args.requests.now.items) e.result (Whole (Get (c.in-Some.key ∷ []) false)) a l (end_found _ p e.result same e.ensures.found l) (end_lacks _ p e.result same e.ensures.before) (omega arith) told fine empty))
+    (line_done c.args.limits c.args.line.now.items c.args.line.now.items stream p (before ++ c.args.requests.now.items) e.result
+    (Whole (Get (c.in-Some.key ∷ []) false)) a l (end_found _ p e.result same e.ensures.found l) (end_lacks _ p e.result same e.ensures.before)
+    (omega arith) told fine empty))
 
 pub returns-in_ok-push-in-Whole-clause-reads : goal.returns-in_ok-push-in-Whole-clause-reads
 returns-in_ok-push-in-Whole-clause-reads g c = λ stream before a.
@@ -80,7 +82,8 @@ returns-in_ok-push-in-Whole-clause-reads g c = λ stream before a.
     let at : c.args.state.now ≡ Line = c.requires.line in
     rw at
     (behind c.args.limits Line _ (stream ++ take (e.result + 1) p) before c.args.requests.now.items (c.in-Whole.request ∷ []) _ c.in_ok-push-in-Whole.ensures.items
-    (line_done c.args.limits c.args.line.now.items c.said_at.new.line.items stream p (before ++ c.args.requests.now.items) e.result (Whole c.in-Whole.request) a l (end_found _ p e.result same e.ensures.found l) (end_lacks _ p e.result same e.ensures.before) (omega arith) told fine c.in_ok-request.ensures.none))
+    (line_done c.args.limits c.args.line.now.items c.said_at.new.line.items stream p (before ++ c.args.requests.now.items) e.result (Whole c.in-Whole.request) a
+    l (end_found _ p e.result same e.ensures.found l) (end_lacks _ p e.result same e.ensures.before) (omega arith) told fine c.in_ok-request.ensures.none))
 
 pub returns-in-Block-clause-moderate : goal.returns-in-Block-clause-moderate
 returns-in-Block-clause-moderate g c = c.take_begun.ensures.moderate c.args.limits
@@ -97,7 +100,8 @@ returns-in-Block-clause-reads g c =
     rw c.in_ok-request.ensures.none
     (ok_follows c.take_begun.result _ _
     (λ n taken stream before a. taken c.args.limits stream before
-    (line_blocks c.args.limits c.args.line.now.items stream p (before ++ c.args.requests.now.items) e.result c.in-Block.start a l (end_found _ p e.result same e.ensures.found l) (end_lacks _ p e.result same e.ensures.before) (omega arith) told))
+    (line_blocks c.args.limits c.args.line.now.items stream p (before ++ c.args.requests.now.items) e.result c.in-Block.start a l
+    (end_found _ p e.result same e.ensures.found l) (end_lacks _ p e.result same e.ensures.before) (omega arith) told))
     c.take_begun.ensures.reads)
 
 pub returns-in-Skip-clause-reads : goal.returns-in-Skip-clause-reads
@@ -110,4 +114,5 @@ returns-in-Skip-clause-reads g c = λ stream before a.
     let front = c.split_at.ensures.front ∙ ap (take e.result) same in
     let told = sym c.in-Skip.is ∙ c.in_ok-request.ensures.value ∙ ap (λ (t : List ℕ). says c.args.limits (c.args.line.now.items ++ t)) front in
     rw c.in_ok-request.ensures.none
-    (line_skips c.args.limits c.args.line.now.items stream p (before ++ c.args.requests.now.items) e.result c.in-Skip.start a l (end_found _ p e.result same e.ensures.found l) (end_lacks _ p e.result same e.ensures.before) (omega arith) told)
+    (line_skips c.args.limits c.args.line.now.items stream p (before ++ c.args.requests.now.items) e.result c.in-Skip.start a l
+    (end_found _ p e.result same e.ensures.found l) (end_lacks _ p e.result same e.ensures.before) (omega arith) told)

@@ -8,4 +8,5 @@ returns-else-end-eq0 c =
     let e = c.token_end-end in
     let s = c.split_at in
     let l = c.split_at-else-end-eq0 in
-    first_token c.args.line.now s.result.1.now l.result.0.now l.result.1.now b.result e.result b.ensures.within b.ensures.before s.ensures.back e.ensures.within e.ensures.before e.ensures.found (omega arith) l.ensures.front l.ensures.back
+    first_token c.args.line.now s.result.1.now l.result.0.now l.result.1.now b.result e.result b.ensures.within b.ensures.before s.ensures.back e.ensures.within
+    e.ensures.before e.ensures.found (omega arith) l.ensures.front l.ensures.back

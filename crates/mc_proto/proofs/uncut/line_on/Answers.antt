@@ -12,6 +12,8 @@ returns-then-end-len c =
     let cut : c.extend_from_slice.new.self.items ≡ c.loop-piece.line.items ++ take (c.line_end-end.result + 1) c.as_slice.result.now =
     c.in_ok-extend_from_slice.ensures.items ∙ ap (λ t. c.loop-piece.line.items ++ t) (c.split_at.ensures.front ∙ ap (take (c.line_end-end.result + 1)) (c.as_slice-then-end-len.ensures.value ∙ sym piece)) in (
       drop (end + 1) c.as_slice.result.now ++ flat_map (λ p. p.items) (deque_iter_rest c.next.new.self),
-      line_left (λ p. p.items) c.args.begin.now old c.extend_from_slice.new.self.items c.as_slice.result.now end c.args.pieces.now.items (deque_iter_rest c.loop-piece.piece-iterator) (deque_iter_rest c.next.new.self) c.in-Some.piece.now c.loop-piece.invariant c.in-Some.ensures.steps piece cut,
+      line_left (λ p. p.items) c.args.begin.now old c.extend_from_slice.new.self.items c.as_slice.result.now end c.args.pieces.now.items
+          (deque_iter_rest c.loop-piece.piece-iterator) (deque_iter_rest c.next.new.self) c.in-Some.piece.now c.loop-piece.invariant c.in-Some.ensures.steps
+          piece cut,
       (λ lack _. absurd (line_ends old c.extend_from_slice.new.self.items c.as_slice.result.now end cut short (c.line_end-end.ensures.found short) lack)),
     )

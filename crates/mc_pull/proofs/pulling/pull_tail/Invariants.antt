@@ -9,7 +9,8 @@ invariant-looks g l =
     OnLooks l.fn.class l.class (g.G.Gate.answers l.fn.gate) (g.G.Gate.answers l.gate) l.seg l.mode l.who l.moment l.config l.left l.pulled
     × MayWalk l.class l.seg l.mode l.who l.moment × IsClassOf l.config l.class × g.G.Gate.serves l.gate l.config l.class
     × (g.G.Gate.references l.gate ≡ g.G.Gate.references l.fn.gate)
-    × ((first : g.row.G.Denot) (begun : List ClassEvent) → g.G.Gate.keeps (walker_of l.fn.class l.who l.moment) first begun l.fn.gate l.fn.class.history → g.G.Gate.keeps (walker_of l.fn.class l.who l.moment) first begun l.gate l.class.history)
+    × ((first : g.row.G.Denot) (begun : List ClassEvent) → g.G.Gate.keeps (walker_of l.fn.class l.who l.moment) first begun l.fn.gate l.fn.class.history
+    → g.G.Gate.keeps (walker_of l.fn.class l.who l.moment) first begun l.gate l.class.history)
 
 abbrev pub decreases-looks : goal.decreases-looks
 decreases-looks g l = l.left

@@ -10,7 +10,8 @@ invariant-rounds g l =
     × (l.left ≤ 10) × GainsEvents l.fn.class l.class
     × IsClassOf l.config l.class × g.G.Gate.serves l.gate l.config l.class
     × (g.G.Gate.references l.gate ≡ g.G.Gate.references l.fn.gate)
-    × ((first : g.row.G.Denot) (begun : List ClassEvent) → g.G.Gate.keeps (walker_of l.fn.class l.who l.moment) first begun l.fn.gate l.fn.class.history → g.G.Gate.keeps (walker_of l.fn.class l.who l.moment) first begun l.gate l.class.history)
+    × ((first : g.row.G.Denot) (begun : List ClassEvent) → g.G.Gate.keeps (walker_of l.fn.class l.who l.moment) first begun l.fn.gate l.fn.class.history
+    → g.G.Gate.keeps (walker_of l.fn.class l.who l.moment) first begun l.gate l.class.history)
 
 abbrev pub decreases-rounds : goal.decreases-rounds
 decreases-rounds g l = l.left

@@ -15,7 +15,9 @@ returns-in_err-push_value_head-clause-err g c =
 
 pub returns-in_err-push_value_tail-in-Value-clause-err : goal.returns-in_err-push_value_tail-in-Value-clause-err
 returns-in_err-push_value_tail-in-Value-clause-err g c =
-    let made = makes_one (Asks (commands.Get c.args.key)) (Replied c.in_ok-reply.reply) (g.C.Calls.caller c.args.calls.now) (g.C.Calls.turn c.args.calls.now) (g.C.Calls.turn c.command.new.self) c.args.moment (g.C.Calls.notes c.args.calls.now) (g.C.Calls.notes c.command.new.self) tt c.in_ok-reply.ensures.ok c.in_ok-reply.ensures.turn in
+    let made = makes_one (Asks (commands.Get c.args.key)) (Replied c.in_ok-reply.reply) (g.C.Calls.caller c.args.calls.now) (g.C.Calls.turn c.args.calls.now)
+    (g.C.Calls.turn c.command.new.self) c.args.moment (g.C.Calls.notes c.args.calls.now) (g.C.Calls.notes c.command.new.self) tt c.in_ok-reply.ensures.ok
+    c.in_ok-reply.ensures.turn in
     let failed : FailsKey faults.NoMemory c.args.key (g.C.Calls.caller c.args.calls.now) (g.C.Calls.turn c.args.calls.now) c.args.moment (g.C.Calls.notes c.args.calls.now) (g.C.Calls.notes c.command.new.self) =
     breaks_end _ _ _ _ _ _ _ _ made in
     search rules

@@ -8,8 +8,11 @@ use Rattle.mc_script.proofs.answering.answer_one.Goals as goal
 
 pub returns-in_err-push_unless-clause-err : goal.returns-in_err-push_unless-clause-err
 returns-in_err-push_unless-clause-err g c = λ limits.
-    let made = makes_one (Asks c.args.command) (Replied c.in_ok-reply.reply) (g.C.Calls.caller c.args.calls.now) (g.C.Calls.turn c.args.calls.now) (g.C.Calls.turn c.command.new.self) c.args.moment (g.C.Calls.notes c.args.calls.now) (g.C.Calls.notes c.command.new.self) tt c.in_ok-reply.ensures.ok c.in_ok-reply.ensures.turn in
-    let failed : Fails faults.NoMemory limits (requests.One c.args.command c.args.quiet) (g.C.Calls.caller c.args.calls.now) (g.C.Calls.turn c.args.calls.now) c.args.moment (g.C.Calls.notes c.args.calls.now) (g.C.Calls.notes c.command.new.self) =
+    let made = makes_one (Asks c.args.command) (Replied c.in_ok-reply.reply) (g.C.Calls.caller c.args.calls.now) (g.C.Calls.turn c.args.calls.now)
+    (g.C.Calls.turn c.command.new.self) c.args.moment (g.C.Calls.notes c.args.calls.now) (g.C.Calls.notes c.command.new.self) tt c.in_ok-reply.ensures.ok
+    c.in_ok-reply.ensures.turn in
+    let failed : Fails faults.NoMemory limits (requests.One c.args.command c.args.quiet) (g.C.Calls.caller c.args.calls.now) (g.C.Calls.turn c.args.calls.now)
+    c.args.moment (g.C.Calls.notes c.args.calls.now) (g.C.Calls.notes c.command.new.self) =
     breaks_end _ _ _ _ _ _ _ _ made in
     search rules
 
@@ -17,5 +20,7 @@ pub returns-clause-ok : goal.returns-clause-ok
 returns-clause-ok g c = λ limits. record {
   answers = Replied c.in_ok-reply.reply ∷ [];
   texts = c.in_ok-push_unless.ensures.ok;
-  makes = makes_one (Asks c.args.command) (Replied c.in_ok-reply.reply) (g.C.Calls.caller c.args.calls.now) (g.C.Calls.turn c.args.calls.now) (g.C.Calls.turn c.command.new.self) c.args.moment (g.C.Calls.notes c.args.calls.now) (g.C.Calls.notes c.command.new.self) tt c.in_ok-reply.ensures.ok c.in_ok-reply.ensures.turn;
+  makes = makes_one (Asks c.args.command) (Replied c.in_ok-reply.reply) (g.C.Calls.caller c.args.calls.now) (g.C.Calls.turn c.args.calls.now)
+      (g.C.Calls.turn c.command.new.self) c.args.moment (g.C.Calls.notes c.args.calls.now) (g.C.Calls.notes c.command.new.self) tt c.in_ok-reply.ensures.ok
+      c.in_ok-reply.ensures.turn;
 }

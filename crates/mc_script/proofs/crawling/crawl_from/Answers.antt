@@ -9,7 +9,8 @@ use Rattle.mc_script.proofs.crawling.crawl_from.Goals as goal
 pub returns-in_err-histogram-clause-err : goal.returns-in_err-histogram-clause-err
 returns-in_err-histogram-clause-err g c =
     let before = c.loop-i.invariant in
-    let made = class_fails Crawls counts_of c.args.first c.loop-i.i c.args.count c.in_err-histogram.field-0.0 c.loop-i.sum (g.C.Calls.caller c.args.calls.now) (g.C.Calls.caller c.loop-i.calls) (g.C.Calls.turn c.args.calls.now) (g.C.Calls.turn c.loop-i.calls) c.args.moment
+    let made = class_fails Crawls counts_of c.args.first c.loop-i.i c.args.count c.in_err-histogram.field-0.0 c.loop-i.sum (g.C.Calls.caller c.args.calls.now)
+    (g.C.Calls.caller c.loop-i.calls) (g.C.Calls.turn c.args.calls.now) (g.C.Calls.turn c.loop-i.calls) c.args.moment
     (g.C.Calls.notes c.args.calls.now) (g.C.Calls.notes c.loop-i.calls) (g.C.Calls.notes c.crawl.new.self) (omega arith) before.crawled before.caller c.in_err-histogram.ensures.err in
     search rules
 
@@ -29,6 +30,8 @@ loop-i-preserved g c =
       seen = omega (arith, before.seen, here.small, ap (λ (h : Histogram). h.seen) same);
       minutes = ap (λ (h : Histogram). length h.minutes) same ∙ sums_long c.loop-i.sum.minutes c.in_ok-histogram.histogram.minutes 60 before.minutes long;
       kinds = subst AddsUp (sym same) (adds_up_both c.loop-i.sum c.in_ok-histogram.histogram (before.minutes ∙ sym long) before.kinds here.kinds);
-      crawled = class_more Crawls counts_of c.args.first c.loop-i.i c.loop-i.sum _ (Counted c.in_ok-histogram.histogram) (g.C.Calls.caller c.args.calls.now) (g.C.Calls.caller c.loop-i.calls) (g.C.Calls.turn c.args.calls.now) (g.C.Calls.turn c.loop-i.calls) (g.C.Calls.turn c.crawl.new.self) c.args.moment
-          (g.C.Calls.notes c.args.calls.now) (g.C.Calls.notes c.loop-i.calls) (g.C.Calls.notes c.crawl.new.self) before.crawled (same ∙ counts_of-push before.crawled.answers c.loop-i.sum c.in_ok-histogram.histogram before.crawled.added) before.caller tt here.ok here.turn;
+      crawled = class_more Crawls counts_of c.args.first c.loop-i.i c.loop-i.sum _ (Counted c.in_ok-histogram.histogram) (g.C.Calls.caller c.args.calls.now)
+          (g.C.Calls.caller c.loop-i.calls) (g.C.Calls.turn c.args.calls.now) (g.C.Calls.turn c.loop-i.calls) (g.C.Calls.turn c.crawl.new.self) c.args.moment
+          (g.C.Calls.notes c.args.calls.now) (g.C.Calls.notes c.loop-i.calls) (g.C.Calls.notes c.crawl.new.self) before.crawled (same
+          ∙ counts_of-push before.crawled.answers c.loop-i.sum c.in_ok-histogram.histogram before.crawled.added) before.caller tt here.ok here.turn;
     }

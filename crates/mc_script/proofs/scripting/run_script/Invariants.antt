@@ -14,5 +14,6 @@ invariant-loop g l = record {
   over : g.E.Ends.over l.ends ≡ g.E.Ends.over l.fn.ends;
   limits : l.reader.limits ≡ l.fn.limits;
   none : l.text.items ≡ [];
-  way : IsOnWay l.fn.limits l.reader.state l.reader.unread (g.E.Ends.coming l.fn.ends) (g.E.Ends.coming l.ends) (g.E.Ends.taken l.fn.ends) (g.E.Ends.taken l.ends) l.text.items (g.C.Calls.notes l.calls) (g.C.Calls.caller l.fn.calls) (g.C.Calls.turn l.calls) l.moment;
+  way : IsOnWay l.fn.limits l.reader.state l.reader.unread (g.E.Ends.coming l.fn.ends) (g.E.Ends.coming l.ends) (g.E.Ends.taken l.fn.ends)
+      (g.E.Ends.taken l.ends) l.text.items (g.C.Calls.notes l.calls) (g.C.Calls.caller l.fn.calls) (g.C.Calls.turn l.calls) l.moment;
 }

@@ -30,9 +30,11 @@ loop-i-preserved g c = record {
   may = c.in-Ok.ensures.may;
   place = c.in-Ok.ensures.place ∙ c.loop-i.invariant.place;
   caller = c.in-Ok.ensures.caller ∙ c.loop-i.invariant.caller;
-  kept = subst (λ ms. HasKept c.args.limits c.args.keeper ms (g.C.Calls.notes c.keep_all.new.calls) (g.C.Calls.caller c.args.calls.now) (g.C.Calls.turn c.keep_all.new.calls)) (taken_more c.args.moments.now c.loop-i.i 0 (omega arith))
+  kept = subst (λ ms. HasKept c.args.limits c.args.keeper ms (g.C.Calls.notes c.keep_all.new.calls) (g.C.Calls.caller c.args.calls.now)
+      (g.C.Calls.turn c.keep_all.new.calls)) (taken_more c.args.moments.now c.loop-i.i 0 (omega arith))
       (kept_more c.args.limits c.args.keeper (take c.loop-i.i c.args.moments.now) (g.C.Calls.notes c.loop-i.calls) (g.C.Calls.notes c.keep_all.new.calls)
-      (g.C.Calls.caller c.args.calls.now) (g.C.Calls.caller c.loop-i.calls) (g.C.Calls.turn c.loop-i.calls) (g.C.Calls.turn c.keep_all.new.calls) (slice_index_or c.args.moments.now c.loop-i.i 0) c.loop-i.invariant.kept c.loop-i.invariant.caller c.in-Ok.ensures.ok);
+      (g.C.Calls.caller c.args.calls.now) (g.C.Calls.caller c.loop-i.calls) (g.C.Calls.turn c.loop-i.calls) (g.C.Calls.turn c.keep_all.new.calls)
+      (slice_index_or c.args.moments.now c.loop-i.i 0) c.loop-i.invariant.kept c.loop-i.invariant.caller c.in-Ok.ensures.ok);
   idle = λ none. absurd (omega (arith, none));
 }
 
@@ -43,7 +45,8 @@ returns-clause-leaves g c =
 
 pub returns-clause-turns : goal.returns-clause-turns
 returns-clause-turns g c = λ done.
-    kept_turns c.args.limits c.args.keeper (take c.loop-i.i c.args.moments.now) c.args.moments.now (g.C.Calls.notes c.loop-i.calls) (g.C.Calls.caller c.args.calls.now) (g.C.Calls.turn c.loop-i.calls) c.loop-i.invariant.kept (take_all c.loop-i.i c.args.moments.now c.loop-i-test.false)
+    kept_turns c.args.limits c.args.keeper (take c.loop-i.i c.args.moments.now) c.args.moments.now (g.C.Calls.notes c.loop-i.calls)
+    (g.C.Calls.caller c.args.calls.now) (g.C.Calls.turn c.loop-i.calls) c.loop-i.invariant.kept (take_all c.loop-i.i c.args.moments.now c.loop-i-test.false)
 
 pub returns-clause-idle : goal.returns-clause-idle
 returns-clause-idle g c = λ none. c.loop-i.invariant.idle (omega (arith, ap length none, c.loop-i.auto.i-end))

@@ -51,13 +51,15 @@ returns-in_err-reply-in-Burial g c =
     let mid = c.bury.new.own.stripe in
     let told = ap (λ (x : StripeSide). x.stripe) c.tell_stripe.ensures.stripe in
     let site = subst (λ (t : Stripe). KeepsSite t mid) told c.bury.ensures.site in
-    let buried = buried_now s c.tell_stripe.new.stripe.stripe mid turn.who command turn.moment c.in-Burial.link c.key.result.now told c.key.ensures (rw c.in-Burial.is at c.requires.wants) c.in_ok-bury-in-Burial.ensures.lost in
+    let buried = buried_now s c.tell_stripe.new.stripe.stripe mid turn.who command turn.moment c.in-Burial.link c.key.result.now told c.key.ensures
+    (rw c.in-Burial.is at c.requires.wants) c.in_ok-bury-in-Burial.ensures.lost in
     let end = c.try_alone.new.own in
     let caller = c.try_alone.new.caller in
     let r = c.from_residual-in_err-reply-in-Burial.result in
     ends_buried config command turn s mid site buried end c.args.caller.now caller r
     (ends_err config command turn mid mid (buried_alive s mid turn.who command turn.moment site buried) (searched_itself config turn.who command turn.moment mid mid refl) (site_itself mid) end c.args.caller.now caller r
-    c.in_err-reply-in-Burial.field-0.0 c.from_residual-in_err-reply-in-Burial.ensures.1 c.try_alone.ensures.site c.in_err-reply-in-Burial.ensures.err (c.in_err-reply-in-Burial.ensures.unnoted ∙ c.tell_stripe.ensures.same)
+    c.in_err-reply-in-Burial.field-0.0 c.from_residual-in_err-reply-in-Burial.ensures.1 c.try_alone.ensures.site c.in_err-reply-in-Burial.ensures.err
+    (c.in_err-reply-in-Burial.ensures.unnoted ∙ c.tell_stripe.ensures.same)
     (λ is. c.try_alone.ensures.full (c.in_err-reply-in-Burial.was ∙ ap Err is)))
 
 pub answer_with-requires-in-Classes-left-clause-begun : goal.answer_with-requires-in-Classes-left-clause-begun
@@ -77,7 +79,8 @@ unreachable-requires g c =
     let mid = c.bury.new.own.stripe in
     let told = ap (λ (x : StripeSide). x.stripe) c.tell_stripe.ensures.stripe in
     let site = subst (λ (t : Stripe). KeepsSite t mid) told c.bury.ensures.site in
-    let buried = buried_now s c.tell_stripe.new.stripe.stripe mid turn.who command turn.moment c.in-Burial.link c.key.result.now told c.key.ensures (rw c.in-Burial.is at c.requires.wants) c.in_ok-bury-in-Burial.ensures.lost in
+    let buried = buried_now s c.tell_stripe.new.stripe.stripe mid turn.who command turn.moment c.in-Burial.link c.key.result.now told c.key.ensures
+    (rw c.in-Burial.is at c.requires.wants) c.in_ok-bury-in-Burial.ensures.lost in
     let tried = rw c.in-Wants.is at c.in_ok-reply-in-Burial.ensures.tried in
     some_none c.in-Burial-left.field-0 _ (rw c.in-Burial-left.is at tried.3) (not_dead (item_of mid command) turn.moment (buried_alive s mid turn.who command turn.moment site buried))
 
@@ -90,11 +93,13 @@ returns-in-Made g c =
     let mid = c.bury.new.own.stripe in
     let told = ap (λ (x : StripeSide). x.stripe) c.tell_stripe.ensures.stripe in
     let site = subst (λ (t : Stripe). KeepsSite t mid) told c.bury.ensures.site in
-    let buried = buried_now s c.tell_stripe.new.stripe.stripe mid turn.who command turn.moment c.in-Burial.link c.key.result.now told c.key.ensures (rw c.in-Burial.is at c.requires.wants) c.in_ok-bury-in-Burial.ensures.lost in
+    let buried = buried_now s c.tell_stripe.new.stripe.stripe mid turn.who command turn.moment c.in-Burial.link c.key.result.now told c.key.ensures
+    (rw c.in-Burial.is at c.requires.wants) c.in_ok-bury-in-Burial.ensures.lost in
     let end = c.try_alone.new.own in
     let caller = c.try_alone.new.caller in
     ends_buried config command turn s mid site buried end c.args.caller.now caller (Ok c.in-Made.reply)
-    (ends_made config command turn mid mid (buried_alive s mid turn.who command turn.moment site buried) (searched_itself config turn.who command turn.moment mid mid refl) (site_itself mid) end c.args.caller.now caller c.in-Made.reply
+    (ends_made config command turn mid mid (buried_alive s mid turn.who command turn.moment site buried)
+    (searched_itself config turn.who command turn.moment mid mid refl) (site_itself mid) end c.args.caller.now caller c.in-Made.reply
     (stripe_made config s mid site c.law.ensures.made_with) c.try_alone.ensures.site
     (made_alone config mid end c.args.caller.now c.tell_stripe.new.self caller command turn c.in-Made.reply c.tell_stripe.ensures.same (rw c.in-Made.is at c.in_ok-reply-in-Burial.ensures.tried)))
 
@@ -108,7 +113,8 @@ returns-in-Classes-left g c =
     let last = c.try_alone.new.own.stripe in
     let told = ap (λ (x : StripeSide). x.stripe) c.tell_stripe.ensures.stripe in
     let site = subst (λ (t : Stripe). KeepsSite t mid) told c.bury.ensures.site in
-    let buried = buried_now s c.tell_stripe.new.stripe.stripe mid turn.who command turn.moment c.in-Burial.link c.key.result.now told c.key.ensures (rw c.in-Burial.is at c.requires.wants) c.in_ok-bury-in-Burial.ensures.lost in
+    let buried = buried_now s c.tell_stripe.new.stripe.stripe mid turn.who command turn.moment c.in-Burial.link c.key.result.now told c.key.ensures
+    (rw c.in-Burial.is at c.requires.wants) c.in_ok-bury-in-Burial.ensures.lost in
     let tried = rw c.in-Wants.is at c.in_ok-reply-in-Burial.ensures.tried in
     let with = c.answer_with-in-Classes-left in
     let end = with.new.own in

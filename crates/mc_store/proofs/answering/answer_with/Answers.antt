@@ -16,7 +16,8 @@ lock_both-guard-requires-clause-other g c =
 
 pub lock_class-guard-requires : goal.lock_class-guard-requires
 lock_class-guard-requires g c =
-    rw c.in-Some-other.is at (other_if g.N.Named.board.table g.N.Named.config c.args.own.now c.law.ensures c.args.command.now c.args.turn.moment c.args.wanted.other (ap (λ (w : Classes). w.other) (sym c.requires.wanted.1)))
+    rw c.in-Some-other.is at (other_if g.N.Named.board.table g.N.Named.config c.args.own.now c.law.ensures c.args.command.now c.args.turn.moment
+    c.args.wanted.other (ap (λ (w : Classes). w.other) (sym c.requires.wanted.1)))
 
 pub answer_at_home-requires-clause-apart : goal.answer_at_home-requires-clause-apart
 answer_at_home-requires-clause-apart g c = λ same.

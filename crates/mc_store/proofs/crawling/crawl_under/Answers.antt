@@ -18,7 +18,8 @@ invariant_of-class g c =
     let call = crawling_of old.class.number c.args.moment in
     let begun = subst (λ (x : ClassSide). HasBegunAs config x.sight c.args.who c.args.moment (crawling_of x.class.number c.args.moment)) (sym (c.side.view_is ∙ c.class.view_is)) c.requires.begun in
     subst (IsLockedClass table config) (sym (ap (λ (o : OwnerView). class_side o made.new.self.seen.now made.new.class) c.catch_up_class.ensures))
-    (locked_gains table config old new c.args.who c.args.moment call (subst (IsLockedClass table config) (sym c.side.view_is) c.class.invariant) made.ensures.served.kept (ap (λ (v : ClassView). v.number) made.ensures.grows.same)
+    (locked_gains table config old new c.args.who c.args.moment call (subst (IsLockedClass table config) (sym c.side.view_is) c.class.invariant)
+    made.ensures.served.kept (ap (λ (v : ClassView). v.number) made.ensures.grows.same)
     (begun_as_sees config old.sight new.sight c.args.who c.args.moment call made.ensures.walked.sees begun) made.ensures.walked.sees made_so.0 made_so.1)
 
 pub returns-clause-counted : goal.returns-clause-counted

@@ -47,7 +47,8 @@ returns-in_err-reply g c =
     let mid = c.search.new.own.stripe in
     let alive = c.requires.wants.suffice.alive in
     let searched = searched_walk config command c.args.turn s mid c.args.home.now.class.number alive c.requires.wants.fresh c.search.ensures.walked in
-    ends_err config command c.args.turn s mid alive searched c.search.ensures.site c.try_home.new.own c.args.caller.now c.try_home.new.caller c.from_residual-in_err-reply.result c.in_err-reply.field-0.0 c.from_residual-in_err-reply.ensures.1
+    ends_err config command c.args.turn s mid alive searched c.search.ensures.site c.try_home.new.own c.args.caller.now c.try_home.new.caller
+    c.from_residual-in_err-reply.result c.in_err-reply.field-0.0 c.from_residual-in_err-reply.ensures.1
     c.try_home.ensures.site c.in_err-reply.ensures.err.0 c.in_err-reply.ensures.err.1 (λ is. c.try_home.ensures.full (c.in_err-reply.was ∙ ap Err is))
 
 pub returns-in-Made : goal.returns-in-Made
@@ -58,7 +59,8 @@ returns-in-Made g c =
     let mid = c.search.new.own.stripe in
     let alive = c.requires.wants.suffice.alive in
     let searched = searched_walk config command c.args.turn s mid c.args.home.now.class.number alive c.requires.wants.fresh c.search.ensures.walked in
-    ends_made config command c.args.turn s mid alive searched c.search.ensures.site c.try_home.new.own c.args.caller.now c.try_home.new.caller c.in-Made.reply c.law.ensures.made_with c.try_home.ensures.site (rw c.in-Made.is at c.in_ok-reply.ensures.tried)
+    ends_made config command c.args.turn s mid alive searched c.search.ensures.site c.try_home.new.own c.args.caller.now c.try_home.new.caller c.in-Made.reply
+    c.law.ensures.made_with c.try_home.ensures.site (rw c.in-Made.is at c.in_ok-reply.ensures.tried)
 
 pub refuse-requires-clause-begun : goal.refuse-requires-clause-begun
 refuse-requires-clause-begun g c =
@@ -173,4 +175,6 @@ returns-in-Wants-2 g c =
     let searched = searched_walk config command turn s mid class alive c.requires.wants.fresh c.search.ensures.walked in
     ends_cut config command turn s last alive (searched_same mid last site same command turn.moment config turn.who s searched) (site_both s mid last c.search.ensures.site site)
     c.try_home-in-Room.new.own c.args.caller.now c.try_home-in-Room.new.caller HistoryFull c.try_home-in-Room.ensures.site again.0 (again.1 ∙ tried.1)
-    (λ is. wants_place config last c.try_home-in-Room.new.own c.args.command.now turn.moment (Some c.refuse.new.lent.class.number) (class_held c.try_home.new.other) _ again_suffice c.in-Wants-2.field-0 again.2 (λ room. some_none c.in_ok-place-in-Room.place _ refl (rw room at again.2).0.none))
+    (λ is. wants_place config last c.try_home-in-Room.new.own c.args.command.now turn.moment (Some c.refuse.new.lent.class.number)
+    (class_held c.try_home.new.other) _ again_suffice c.in-Wants-2.field-0 again.2
+    (λ room. some_none c.in_ok-place-in-Room.place _ refl (rw room at again.2).0.none))

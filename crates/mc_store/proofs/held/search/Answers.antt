@@ -14,5 +14,6 @@ returns-clause-tried g c = λ full key own alive.
     let vain = full_vain config was new who moment found.ensures.room.0 found.field-0 c.make_room_under.ensures.class found.ensures.room.1 full in
     let in_vain = found.ensures.tried vain in (
       in_vain.any key own alive,
-      gone_through config (record { 0 = c.args.own.now.stripe.site.stripe }) was new.number who moment new.history c.side.ensures.kept.held.made_with (sym (ap (λ (v : ClassView). v.number) c.make_room_under.ensures.class.same)) in_vain.rounds_are,
+      gone_through config (record { 0 = c.args.own.now.stripe.site.stripe }) was new.number who moment new.history c.side.ensures.kept.held.made_with
+          (sym (ap (λ (v : ClassView). v.number) c.make_room_under.ensures.class.same)) in_vain.rounds_are,
     )

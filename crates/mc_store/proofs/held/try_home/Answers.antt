@@ -7,7 +7,8 @@ use Rattle.mc_stripe.specs.{StripeState.Stripe, Trying.item_of, Trying.row_at}
 use Rattle.mc_stripe.specs.declared.wanting.Given.{Given}
 use Rattle.mc_pull.specs.{Agreeing.AgreeNow, Attempt.IsNoted, Attempt.OffersHome, Attempt.OffersOther}
 use Rattle.mc_store.specs.{Held.class_held, Held.class_number, Sides.ClassSide, Sides.StripeSide, Trying.IsTriedUnder}
-use Rattle.mc_store.proofs.HeldTryLemmas.{crowded_both, crowded_home, heard_of, home_fits, keeps_full, noted_of, other_fits, readied, readied_class, refused_of, same_number, short_seen, taken_earned, tried_on, wants_chunk}
+use Rattle.mc_store.proofs.HeldTryLemmas.{crowded_both, crowded_home, heard_of, home_fits, keeps_full, noted_of, other_fits, readied, readied_class, refused_of}
+use Rattle.mc_store.proofs.HeldTryLemmas.{same_number, short_seen, taken_earned, tried_on, wants_chunk}
 use Rattle.mc_store.proofs.LockKeepsLemmas.{grows_trans}
 use Rattle.mc_store.proofs.held.try_home.Goals as goal
 
@@ -23,7 +24,9 @@ offer_home-requires g c =
     let at : c.state.result.now ≡ side.class = c.state.ensures ∙ ap (λ (x : ClassSide). x.class) c.side.ensures.value in
     record {
       noted = subst (λ (v : ClassView). IsNoted c.args.refused c.args.turn.who v) (sym at)
-          (noted_of g.N.Named.config s c.args.turn key side.class c.args.refused (refused_of g.N.Named.board.table g.N.Named.config was side c.meet.new.lent.sight side.class.room is s c.args.turn key c.args.refused c.requires.refused));
+          (noted_of g.N.Named.config s c.args.turn key side.class c.args.refused
+          (refused_of g.N.Named.board.table g.N.Named.config was side c.meet.new.lent.sight side.class.room is s c.args.turn key c.args.refused
+          c.requires.refused));
     }
 
 pub try_on_one-requires-clause-may : goal.try_on_one-requires-clause-may
@@ -108,7 +111,9 @@ offer_home-requires-in-Some g c =
     let at : c.state-in-Some.result.now ≡ side.class = c.state-in-Some.ensures ∙ ap (λ (x : ClassSide). x.class) c.side-in-Some.ensures.value in
     record {
       noted = subst (λ (v : ClassView). IsNoted c.args.refused c.args.turn.who v) (sym at)
-          (noted_of g.N.Named.config s c.args.turn key side.class c.args.refused (refused_of g.N.Named.board.table g.N.Named.config was side c.meet-in-Some.new.lent.sight side.class.room is s c.args.turn key c.args.refused c.requires.refused));
+          (noted_of g.N.Named.config s c.args.turn key side.class c.args.refused
+          (refused_of g.N.Named.board.table g.N.Named.config was side c.meet-in-Some.new.lent.sight side.class.room is s c.args.turn key c.args.refused
+          c.requires.refused));
     }
 
 pub try_on_two-requires-clause-may : goal.try_on_two-requires-clause-may
@@ -133,7 +138,8 @@ try_on_two-requires-clause-may g c =
     let offers_b = subst (λ (v : ClassView). OffersOther v c.offer_other.result) at_b c.offer_other.ensures in
     let number_b : class_held c.args.other.now ≡ Some beside.class.number = ap class_held c.in-Some.is ∙ ap (λ (x : ClassSide). Some (class_number x)) (sym c.deref_mut-beside.ensures.value) in
     let far : side.class.number ≢ side_b.class.number = λ e. c.requires.apart (number_b
-    ∙ ap (λ (n : ClassNo). Some n) (sym (same_number table config beside side_b c.meet-in-Some-2.new.lent.sight side_b.class.room is_b) ∙ (sym e ∙ same_number table config was side c.meet-in-Some.new.lent.sight side.class.room is))) in
+    ∙ ap (λ (n : ClassNo). Some n) (sym (same_number table config beside side_b c.meet-in-Some-2.new.lent.sight side_b.class.room is_b)
+    ∙ (sym e ∙ same_number table config was side c.meet-in-Some.new.lent.sight side.class.room is))) in
     record {
       stripe = ap (λ (n : ℕ). stripe_of key n) c.law-in-Some.ensures.made_with.stripes ∙ (c.requires.called.own ∙ ap (λ (t : Stripe). record { 0 = t.site.stripe }) (sym same));
       moment = c.requires.called.early;
@@ -164,7 +170,8 @@ try_on_two-requires-clause-room g c =
     let offers_b = subst (λ (v : ClassView). OffersOther v c.offer_other.result) at_b c.offer_other.ensures in
     let number_b : class_held c.args.other.now ≡ Some beside.class.number = ap class_held c.in-Some.is ∙ ap (λ (x : ClassSide). Some (class_number x)) (sym c.deref_mut-beside.ensures.value) in
     let far : side.class.number ≢ side_b.class.number = λ e. c.requires.apart (number_b
-    ∙ ap (λ (n : ClassNo). Some n) (sym (same_number table config beside side_b c.meet-in-Some-2.new.lent.sight side_b.class.room is_b) ∙ (sym e ∙ same_number table config was side c.meet-in-Some.new.lent.sight side.class.room is))) in (
+    ∙ ap (λ (n : ClassNo). Some n) (sym (same_number table config beside side_b c.meet-in-Some-2.new.lent.sight side_b.class.room is_b)
+    ∙ (sym e ∙ same_number table config was side c.meet-in-Some.new.lent.sight side.class.room is))) in (
       (λ same. home_fits side.class c.offer_home-in-Some.result refused who c.in_ok-ready_class-in-Some.ensures.ready offers, λ same. absurd (far (sym same ∙ offers_b.class_is))),
       (λ same. absurd (far (sym offers.class_is ∙ same)), λ same. other_fits side_b.class c.offer_other.result c.in_ok-ready_class-in-Some-2.ensures.ready offers_b),
     )

@@ -33,7 +33,8 @@ returns-clause-tried g c =
     let offers = subst (λ (v : ClassView). OffersOther v offer) at c.offer_other.ensures in
     let is = readied was met side c.meet.ensures.lent c.ready_class.ensures.same in
     let same = ap (λ (x : StripeSide). x.stripe) c.meet.ensures.own in
-    tried_on config s end c.args.caller.now c.try_on_one.new.caller command turn given (side ∷ []) (c.try_on_one.new.class ∷ []) None (Some was.class.number) ⊥ refl (ap (λ (n : ClassNo). Some n) (offers.class_is ∙ same_number table config was side met.sight side.class.room is))
+    tried_on config s end c.args.caller.now c.try_on_one.new.caller command turn given (side ∷ []) (c.try_on_one.new.class ∷ []) None (Some was.class.number) ⊥
+    refl (ap (λ (n : ClassNo). Some n) (offers.class_is ∙ same_number table config was side met.sight side.class.room is))
     (λ room taken. none_earned config s turn (key_of command) end.sight given (row_at s command turn.moment).need room refl taken)
     (λ stay lacks. absurd lacks.none)
     (λ stay class crowded. inr (short_seen table config was side met.sight side.class.room is c.meet.new.own.sight end.sight c.side.ensures.kept c.meet.ensures.told c.try_on_one.ensures.sees

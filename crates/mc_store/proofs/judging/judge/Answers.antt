@@ -104,7 +104,9 @@ pub returns-clause-stripe : goal.returns-clause-stripe
 returns-clause-stripe g c =
     let own_is = ap (λ (l : Inside g.row.N.Denot). l.side) c.stripe-inside.view_is in
     let lent_is = ap (λ (l : Inside g.row.N.Denot). l.side) c.stripe-inside-2.view_is in
-    let first : c.stripe-inside-2.inside.0.0.state ≡ c.args.stripe.now.stripe = ap (λ (x : StripeSide). x.stripe) (lent_is ∙ (c.tell-2.ensures.same ∙ ap (λ (x : StripeSide). record x { sight = c.tell.new.seen.sight }) own_is)) ∙ ap (λ (x : StripeSide). x.stripe) c.stripe.view_is in
+    let first : c.stripe-inside-2.inside.0.0.state ≡ c.args.stripe.now.stripe =
+    ap (λ (x : StripeSide). x.stripe) (lent_is ∙ (c.tell-2.ensures.same ∙ ap (λ (x : StripeSide). record x { sight = c.tell.new.seen.sight }) own_is))
+    ∙ ap (λ (x : StripeSide). x.stripe) c.stripe.view_is in
     let last : c.tell-4.new.self.stripe ≡ c.settle-done.new.stripe = ap (λ (x : StripeSide). x.stripe) c.tell-4.ensures.same in
     let w = walker_of c.args.look.now.class.now c.args.look.now.ask.who c.args.look.now.ask.moment in
     let walked = settle_walked _ _ _ _ (question_of c.args.look.now.ask) c.settle-done.ensures.site c.settle-done.ensures.agreement c.settle-done.result c.settle-done.ensures.settled c.settle-done.ensures.err in

@@ -30,5 +30,6 @@ invariant_of-lent g c =
     let begun = subst (λ (x : StripeSide). HasBegunCommand config x.sight c.args.who moment) (sym c.own.view_is) c.requires.begun.1 in
     locked_told table config old mid mid c.learn.new.self c.args.who moment kept
     (gains_refused raw.state c.refuse-place.new.self c.args.who moment c.refuse-place.result c.refuse-place.ensures.ok c.refuse-place.ensures.err)
-    (ap (λ (v : ClassView). v.number) (refusal_grows raw.state c.refuse-place.new.self c.args.who c.refuse-place.result c.refuse-place.ensures.ok c.refuse-place.ensures.err).same) refl refl none held c.learn.ensures.class c.learn.ensures.grows
+    (ap (λ (v : ClassView). v.number) (refusal_grows raw.state c.refuse-place.new.self c.args.who c.refuse-place.result c.refuse-place.ensures.ok
+    c.refuse-place.ensures.err).same) refl refl none held c.learn.ensures.class c.learn.ensures.grows
     (command_sees config c.own.inside.side.sight c.learn.new.self.sight c.args.who moment c.learn.ensures.learnt begun)

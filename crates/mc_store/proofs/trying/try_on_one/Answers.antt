@@ -1,7 +1,8 @@
 use Rattle.std.proofs.Common.{rules, ◌∷◌, ◌∙◌, [], ap}
 use Rattle.mc_store.specs.Sides.{ClassSide}
 use Rattle.mc_store.proofs.LentClassLemmas.{class_behind}
-use Rattle.mc_store.proofs.OpenTryLemmas.{class_left, first_lent, grow_in, known_in, left_err, left_first, left_same, left_sees, left_stays, left_told, left_tried, left_unnoted, one_full, one_left, open_class, open_stripe, step_one, stripe_lacks}
+use Rattle.mc_store.proofs.OpenTryLemmas.{class_left, first_lent, grow_in, known_in, left_err, left_first, left_same, left_sees, left_stays, left_told}
+use Rattle.mc_store.proofs.OpenTryLemmas.{left_tried, left_unnoted, one_full, one_left, open_class, open_stripe, step_one, stripe_lacks}
 use Rattle.mc_store.proofs.trying.try_on_one.Goals as goal
 
 pub put_if-requires-clause-behind : goal.put_if-requires-clause-behind
@@ -68,7 +69,8 @@ returns g c =
     let end = left_same left c.hear-2.ensures.stripe in
     record {
       tried = left_tried step known own end c.tell_owned.ensures.same (c.args.class.now ∷ []) (c.tell_owned.new.class ∷ []) (λ untouched. (
-        left_stays class c.tell_owned.new.class (ap (λ (x : ClassSide). x.class) c.tell_owned.ensures.class ∙ ap (λ (x : ClassSide). x.class) c.hear-2.ensures.told ∙ ap (λ (x : ClassSide). x.class) c.hear.ensures.class) untouched.classes.0,
+        left_stays class c.tell_owned.new.class (ap (λ (x : ClassSide). x.class) c.tell_owned.ensures.class
+            ∙ ap (λ (x : ClassSide). x.class) c.hear-2.ensures.told ∙ ap (λ (x : ClassSide). x.class) c.hear.ensures.class) untouched.classes.0,
         tt,
       ));
       err = left_err step known own end;

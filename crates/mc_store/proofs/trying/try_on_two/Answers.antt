@@ -1,7 +1,8 @@
 use Rattle.std.proofs.Common.{rules, ◌∷◌, ◌∙◌, [], ap, subst, sym}
 use Rattle.mc_store.specs.{Callers.asked_for, Passes.CallerView, Passes.HasCalled, Sides.ClassSide}
 use Rattle.mc_store.proofs.LentClassLemmas.{class_behind}
-use Rattle.mc_store.proofs.OpenTryLemmas.{class_left, first_lent, grow_in, known_in, left_err, left_first, left_same, left_sees, left_stays, left_told, left_tried, left_unnoted, open_class, open_stripe, second_lent, step_two, stripe_lacks, two_full, two_left}
+use Rattle.mc_store.proofs.OpenTryLemmas.{class_left, first_lent, grow_in, known_in, left_err, left_first, left_same, left_sees, left_stays, left_told}
+use Rattle.mc_store.proofs.OpenTryLemmas.{left_tried, left_unnoted, open_class, open_stripe, second_lent, step_two, stripe_lacks, two_full, two_left}
 use Rattle.mc_store.proofs.trying.try_on_two.Goals as goal
 
 pub put_if-requires-clause-behind : goal.put_if-requires-clause-behind
@@ -12,7 +13,8 @@ put_if-requires-clause-behind g c =
     let tr = c.attempt_two-tried in
     let own = open_stripe g.N.Named.board.table g.N.Named.config raw.owner raw.seen raw.state c.own.inside.side c.args.own.now (ap (λ i. i.side) c.own-inside.view_is) c.own.invariant c.own.view_is in
     let home = open_class g.N.Named.board.table g.N.Named.config raw_home.owner raw_home.seen raw_home.state c.home.inside.side c.args.home.now (ap (λ i. i.side) c.home-inside.view_is) c.home.invariant c.home.view_is in
-    let other = open_class g.N.Named.board.table g.N.Named.config raw_other.owner raw_other.seen raw_other.state c.other.inside.side c.args.other.now (ap (λ i. i.side) c.other-inside.view_is) c.other.invariant c.other.view_is in
+    let other = open_class g.N.Named.board.table g.N.Named.config raw_other.owner raw_other.seen raw_other.state c.other.inside.side c.args.other.now
+    (ap (λ i. i.side) c.other-inside.view_is) c.other.invariant c.other.view_is in
     let step = step_two own tr.result tr.ensures.site home tr.new.home other tr.new.other c.requires.may tr.ensures.tried tr.ensures.err in
     stripe_lacks step c.own-inside.invariant.0
 
@@ -24,7 +26,8 @@ catch_up_class-requires-clause-behind g c =
     let tr = c.attempt_two-tried in
     let own = open_stripe g.N.Named.board.table g.N.Named.config raw.owner raw.seen raw.state c.own.inside.side c.args.own.now (ap (λ i. i.side) c.own-inside.view_is) c.own.invariant c.own.view_is in
     let home = open_class g.N.Named.board.table g.N.Named.config raw_home.owner raw_home.seen raw_home.state c.home.inside.side c.args.home.now (ap (λ i. i.side) c.home-inside.view_is) c.home.invariant c.home.view_is in
-    let other = open_class g.N.Named.board.table g.N.Named.config raw_other.owner raw_other.seen raw_other.state c.other.inside.side c.args.other.now (ap (λ i. i.side) c.other-inside.view_is) c.other.invariant c.other.view_is in
+    let other = open_class g.N.Named.board.table g.N.Named.config raw_other.owner raw_other.seen raw_other.state c.other.inside.side c.args.other.now
+    (ap (λ i. i.side) c.other-inside.view_is) c.other.invariant c.other.view_is in
     let step = step_two own tr.result tr.ensures.site home tr.new.home other tr.new.other c.requires.may tr.ensures.tried tr.ensures.err in
     class_behind raw_home.owner.history raw_home.state tr.new.home c.home-inside.invariant.0 (grow_in step).0
 
@@ -36,7 +39,8 @@ catch_up_class-requires-2-clause-behind g c =
     let tr = c.attempt_two-tried in
     let own = open_stripe g.N.Named.board.table g.N.Named.config raw.owner raw.seen raw.state c.own.inside.side c.args.own.now (ap (λ i. i.side) c.own-inside.view_is) c.own.invariant c.own.view_is in
     let home = open_class g.N.Named.board.table g.N.Named.config raw_home.owner raw_home.seen raw_home.state c.home.inside.side c.args.home.now (ap (λ i. i.side) c.home-inside.view_is) c.home.invariant c.home.view_is in
-    let other = open_class g.N.Named.board.table g.N.Named.config raw_other.owner raw_other.seen raw_other.state c.other.inside.side c.args.other.now (ap (λ i. i.side) c.other-inside.view_is) c.other.invariant c.other.view_is in
+    let other = open_class g.N.Named.board.table g.N.Named.config raw_other.owner raw_other.seen raw_other.state c.other.inside.side c.args.other.now
+    (ap (λ i. i.side) c.other-inside.view_is) c.other.invariant c.other.view_is in
     let step = step_two own tr.result tr.ensures.site home tr.new.home other tr.new.other c.requires.may tr.ensures.tried tr.ensures.err in
     class_behind raw_other.owner.history raw_other.state tr.new.other c.other-inside.invariant.0 (grow_in step).1.0
 
@@ -48,13 +52,15 @@ invariant_of-own g c =
     let tr = c.attempt_two-tried in
     let own = open_stripe g.N.Named.board.table g.N.Named.config raw.owner raw.seen raw.state c.own.inside.side c.args.own.now (ap (λ i. i.side) c.own-inside.view_is) c.own.invariant c.own.view_is in
     let home = open_class g.N.Named.board.table g.N.Named.config raw_home.owner raw_home.seen raw_home.state c.home.inside.side c.args.home.now (ap (λ i. i.side) c.home-inside.view_is) c.home.invariant c.home.view_is in
-    let other = open_class g.N.Named.board.table g.N.Named.config raw_other.owner raw_other.seen raw_other.state c.other.inside.side c.args.other.now (ap (λ i. i.side) c.other-inside.view_is) c.other.invariant c.other.view_is in
+    let other = open_class g.N.Named.board.table g.N.Named.config raw_other.owner raw_other.seen raw_other.state c.other.inside.side c.args.other.now
+    (ap (λ i. i.side) c.other-inside.view_is) c.other.invariant c.other.view_is in
     let step = step_two own tr.result tr.ensures.site home tr.new.home other tr.new.other c.requires.may tr.ensures.tried tr.ensures.err in
     let put = c.put_if in
     let known = known_in step own c.requires.asked c.events-place.ensures c.is_made.ensures put.ensures.grows put.ensures.of put.ensures.told put.ensures.noted put.ensures.unnoted in
     let lent = first_lent step home in
     let beside = second_lent step other in
-    let left = left_told (left_told (left_first put.new.seen.sight put.ensures.owner) lent c.catch_up_class.ensures c.hear.ensures.told c.hear.ensures.grows) beside c.catch_up_class-2.ensures c.hear-2.ensures.told c.hear-2.ensures.grows in
+    let left = left_told (left_told (left_first put.new.seen.sight put.ensures.owner) lent c.catch_up_class.ensures c.hear.ensures.told c.hear.ensures.grows)
+    beside c.catch_up_class-2.ensures c.hear-2.ensures.told c.hear-2.ensures.grows in
     two_left step known lent beside (left_same (left_same left c.hear-3.ensures.stripe) c.hear-4.ensures.stripe) c.history.ensures.legal
 
 pub invariant_of-home : goal.invariant_of-home
@@ -65,13 +71,15 @@ invariant_of-home g c =
     let tr = c.attempt_two-tried in
     let own = open_stripe g.N.Named.board.table g.N.Named.config raw.owner raw.seen raw.state c.own.inside.side c.args.own.now (ap (λ i. i.side) c.own-inside.view_is) c.own.invariant c.own.view_is in
     let home = open_class g.N.Named.board.table g.N.Named.config raw_home.owner raw_home.seen raw_home.state c.home.inside.side c.args.home.now (ap (λ i. i.side) c.home-inside.view_is) c.home.invariant c.home.view_is in
-    let other = open_class g.N.Named.board.table g.N.Named.config raw_other.owner raw_other.seen raw_other.state c.other.inside.side c.args.other.now (ap (λ i. i.side) c.other-inside.view_is) c.other.invariant c.other.view_is in
+    let other = open_class g.N.Named.board.table g.N.Named.config raw_other.owner raw_other.seen raw_other.state c.other.inside.side c.args.other.now
+    (ap (λ i. i.side) c.other-inside.view_is) c.other.invariant c.other.view_is in
     let step = step_two own tr.result tr.ensures.site home tr.new.home other tr.new.other c.requires.may tr.ensures.tried tr.ensures.err in
     let put = c.put_if in
     let known = known_in step own c.requires.asked c.events-place.ensures c.is_made.ensures put.ensures.grows put.ensures.of put.ensures.told put.ensures.noted put.ensures.unnoted in
     let lent = first_lent step home in
     let beside = second_lent step other in
-    let left = left_told (left_told (left_first put.new.seen.sight put.ensures.owner) lent c.catch_up_class.ensures c.hear.ensures.told c.hear.ensures.grows) beside c.catch_up_class-2.ensures c.hear-2.ensures.told c.hear-2.ensures.grows in
+    let left = left_told (left_told (left_first put.new.seen.sight put.ensures.owner) lent c.catch_up_class.ensures c.hear.ensures.told c.hear.ensures.grows)
+    beside c.catch_up_class-2.ensures c.hear-2.ensures.told c.hear-2.ensures.grows in
     class_left step known c.history.ensures.legal lent c.catch_up_class.ensures c.hear.ensures.class c.law.ensures.lawful left c.hear-3.ensures.told c.hear-3.ensures.grows
     c.tell_owned.ensures.class c.tell_owned.ensures.grows (c.tell_owned.ensures.begun _ _ _ known.begun)
 
@@ -83,13 +91,15 @@ invariant_of-other g c =
     let tr = c.attempt_two-tried in
     let own = open_stripe g.N.Named.board.table g.N.Named.config raw.owner raw.seen raw.state c.own.inside.side c.args.own.now (ap (λ i. i.side) c.own-inside.view_is) c.own.invariant c.own.view_is in
     let home = open_class g.N.Named.board.table g.N.Named.config raw_home.owner raw_home.seen raw_home.state c.home.inside.side c.args.home.now (ap (λ i. i.side) c.home-inside.view_is) c.home.invariant c.home.view_is in
-    let other = open_class g.N.Named.board.table g.N.Named.config raw_other.owner raw_other.seen raw_other.state c.other.inside.side c.args.other.now (ap (λ i. i.side) c.other-inside.view_is) c.other.invariant c.other.view_is in
+    let other = open_class g.N.Named.board.table g.N.Named.config raw_other.owner raw_other.seen raw_other.state c.other.inside.side c.args.other.now
+    (ap (λ i. i.side) c.other-inside.view_is) c.other.invariant c.other.view_is in
     let step = step_two own tr.result tr.ensures.site home tr.new.home other tr.new.other c.requires.may tr.ensures.tried tr.ensures.err in
     let put = c.put_if in
     let known = known_in step own c.requires.asked c.events-place.ensures c.is_made.ensures put.ensures.grows put.ensures.of put.ensures.told put.ensures.noted put.ensures.unnoted in
     let lent = first_lent step home in
     let beside = second_lent step other in
-    let left = left_told (left_told (left_first put.new.seen.sight put.ensures.owner) lent c.catch_up_class.ensures c.hear.ensures.told c.hear.ensures.grows) beside c.catch_up_class-2.ensures c.hear-2.ensures.told c.hear-2.ensures.grows in
+    let left = left_told (left_told (left_first put.new.seen.sight put.ensures.owner) lent c.catch_up_class.ensures c.hear.ensures.told c.hear.ensures.grows)
+    beside c.catch_up_class-2.ensures c.hear-2.ensures.told c.hear-2.ensures.grows in
     let begun = subst (λ (k : CallerView). HasCalled k c.args.turn.who c.args.turn.moment (asked_for c.args.command.now c.args.turn.moment)) (sym c.tell_owned.ensures.same) known.begun in
     class_left step known c.history.ensures.legal beside c.catch_up_class-2.ensures c.hear-2.ensures.class c.law-2.ensures.lawful (left_same left c.hear-3.ensures.stripe) c.hear-4.ensures.told c.hear-4.ensures.grows
     c.tell_owned-2.ensures.class c.tell_owned-2.ensures.grows (c.tell_owned-2.ensures.begun _ _ _ begun)
@@ -102,19 +112,23 @@ returns g c =
     let tr = c.attempt_two-tried in
     let own = open_stripe g.N.Named.board.table g.N.Named.config raw.owner raw.seen raw.state c.own.inside.side c.args.own.now (ap (λ i. i.side) c.own-inside.view_is) c.own.invariant c.own.view_is in
     let home = open_class g.N.Named.board.table g.N.Named.config raw_home.owner raw_home.seen raw_home.state c.home.inside.side c.args.home.now (ap (λ i. i.side) c.home-inside.view_is) c.home.invariant c.home.view_is in
-    let other = open_class g.N.Named.board.table g.N.Named.config raw_other.owner raw_other.seen raw_other.state c.other.inside.side c.args.other.now (ap (λ i. i.side) c.other-inside.view_is) c.other.invariant c.other.view_is in
+    let other = open_class g.N.Named.board.table g.N.Named.config raw_other.owner raw_other.seen raw_other.state c.other.inside.side c.args.other.now
+    (ap (λ i. i.side) c.other-inside.view_is) c.other.invariant c.other.view_is in
     let step = step_two own tr.result tr.ensures.site home tr.new.home other tr.new.other c.requires.may tr.ensures.tried tr.ensures.err in
     let put = c.put_if in
     let known = known_in step own c.requires.asked c.events-place.ensures c.is_made.ensures put.ensures.grows put.ensures.of put.ensures.told put.ensures.noted put.ensures.unnoted in
     let lent = first_lent step home in
     let beside = second_lent step other in
-    let left = left_told (left_told (left_first put.new.seen.sight put.ensures.owner) lent c.catch_up_class.ensures c.hear.ensures.told c.hear.ensures.grows) beside c.catch_up_class-2.ensures c.hear-2.ensures.told c.hear-2.ensures.grows in
+    let left = left_told (left_told (left_first put.new.seen.sight put.ensures.owner) lent c.catch_up_class.ensures c.hear.ensures.told c.hear.ensures.grows)
+    beside c.catch_up_class-2.ensures c.hear-2.ensures.told c.hear-2.ensures.grows in
     let end = left_same (left_same left c.hear-3.ensures.stripe) c.hear-4.ensures.stripe in
     record {
       tried = left_tried step known own end (c.tell_owned-2.ensures.same ∙ c.tell_owned.ensures.same) (c.args.home.now ∷ c.args.other.now ∷ []) (c.tell_owned.new.class ∷ c.tell_owned-2.new.class ∷ []) (λ untouched. (
-        left_stays home c.tell_owned.new.class (ap (λ (x : ClassSide). x.class) c.tell_owned.ensures.class ∙ ap (λ (x : ClassSide). x.class) c.hear-3.ensures.told ∙ ap (λ (x : ClassSide). x.class) c.hear.ensures.class) untouched.classes.0,
+        left_stays home c.tell_owned.new.class (ap (λ (x : ClassSide). x.class) c.tell_owned.ensures.class
+            ∙ ap (λ (x : ClassSide). x.class) c.hear-3.ensures.told ∙ ap (λ (x : ClassSide). x.class) c.hear.ensures.class) untouched.classes.0,
         (
-          left_stays other c.tell_owned-2.new.class (ap (λ (x : ClassSide). x.class) c.tell_owned-2.ensures.class ∙ ap (λ (x : ClassSide). x.class) c.hear-4.ensures.told ∙ ap (λ (x : ClassSide). x.class) c.hear-2.ensures.class) untouched.classes.1.0,
+          left_stays other c.tell_owned-2.new.class (ap (λ (x : ClassSide). x.class) c.tell_owned-2.ensures.class
+              ∙ ap (λ (x : ClassSide). x.class) c.hear-4.ensures.told ∙ ap (λ (x : ClassSide). x.class) c.hear-2.ensures.class) untouched.classes.1.0,
           tt,
         ),
       ));

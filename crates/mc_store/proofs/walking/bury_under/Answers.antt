@@ -84,7 +84,9 @@ invariant_of-class g c =
     locked_told g.N.Named.board.table g.N.Named.config (class_side lent.owner lent.seen lent.state) c.hear.new.class c.hear-2.new.self c.learn.new.self who moment
     (subst (IsLockedClass g.N.Named.board.table g.N.Named.config) (sym lent_is) c.class.invariant)
     (subst (λ (v : ClassView). GainsOwn who moment lent.state.history v.history) (sym (ap (λ (x : ClassSide). x.class) c.hear.ensures.class)) gains)
-    (ap (λ (x : ClassSide). x.class.number) c.hear.ensures.class ∙ ap (λ (v : ClassView). v.number) grows.same) (ap (λ (x : ClassSide). x.sight) c.hear.ensures.class) (ap (λ (x : ClassSide). x.class) c.hear-2.ensures.told) c.hear-2.ensures.grows held c.learn.ensures.class c.learn.ensures.grows
+    (ap (λ (x : ClassSide). x.class.number) c.hear.ensures.class ∙ ap (λ (v : ClassView). v.number) grows.same)
+    (ap (λ (x : ClassSide). x.sight) c.hear.ensures.class) (ap (λ (x : ClassSide). x.class) c.hear-2.ensures.told) c.hear-2.ensures.grows held
+    c.learn.ensures.class c.learn.ensures.grows
     (command_sees g.N.Named.config own.seen.sight c.learn.new.self.sight who moment told begun)
 
 pub invariant_of-own-2 : goal.invariant_of-own-2
@@ -131,7 +133,9 @@ invariant_of-class-2 g c =
     locked_told g.N.Named.board.table g.N.Named.config (class_side lent.owner lent.seen lent.state) c.hear.new.class c.hear-2.new.self c.learn.new.self who moment
     (subst (IsLockedClass g.N.Named.board.table g.N.Named.config) (sym lent_is) c.class.invariant)
     (subst (λ (v : ClassView). GainsOwn who moment lent.state.history v.history) (sym (ap (λ (x : ClassSide). x.class) c.hear.ensures.class)) gains)
-    (ap (λ (x : ClassSide). x.class.number) c.hear.ensures.class ∙ ap (λ (v : ClassView). v.number) grows.same) (ap (λ (x : ClassSide). x.sight) c.hear.ensures.class) (ap (λ (x : ClassSide). x.class) c.hear-2.ensures.told) c.hear-2.ensures.grows held c.learn.ensures.class c.learn.ensures.grows
+    (ap (λ (x : ClassSide). x.class.number) c.hear.ensures.class ∙ ap (λ (v : ClassView). v.number) grows.same)
+    (ap (λ (x : ClassSide). x.sight) c.hear.ensures.class) (ap (λ (x : ClassSide). x.class) c.hear-2.ensures.told) c.hear-2.ensures.grows held
+    c.learn.ensures.class c.learn.ensures.grows
     (command_sees g.N.Named.config own.seen.sight c.learn.new.self.sight who moment told begun)
 
 pub returns-in_err-done-clause-full : goal.returns-in_err-done-clause-full

@@ -79,7 +79,8 @@ invariant_of-class g c =
     c.hear.ensures.class
     ∙ (ap (λ (x : SeenView). class_side c.catch_up_class.new.owner x new.class) c.learn.ensures.other ∙ ap (λ (o : OwnerView). class_side o new.seen new.class) c.catch_up_class.ensures) in
     subst (IsLockedClass table config) (sym last)
-    (locked_commanded table config old mid c.args.who c.args.moment (subst (IsLockedClass table config) (sym c.side.view_is) c.class.invariant) made.ensures.served.kept (ap (λ (v : ClassView). v.number) made.ensures.class.same)
+    (locked_commanded table config old mid c.args.who c.args.moment (subst (IsLockedClass table config) (sym c.side.view_is) c.class.invariant)
+    made.ensures.served.kept (ap (λ (v : ClassView). v.number) made.ensures.class.same)
     (command_sees config old.sight mid.sight c.args.who c.args.moment made.ensures.walked.sees begun) made.ensures.walked.sees made.ensures.walked.gains)
 
 pub returns-clause-begun : goal.returns-clause-begun

@@ -23,8 +23,11 @@ returns-in_default-clause-made c =
 pub returns-in-Err-decide-clause-wants : goal.returns-in-Err-decide-clause-wants
 returns-in-Err-decide-clause-wants c =
     let version = version_of c.args.site.now c.args.versions c.args.content.now.flags c.args.content.now.value.now c.args.content.now.expiry in
-    let old = get (pointwise nat_eq) c.args.items.now in
-    (search rules, c.in-Err-decide.ensures.wants c.args.key.now (old c.args.key.now) c.args.moment version (told_of (Some c.in-Some.item.now) c.in-Some.ensures.value (sym c.dead.ensures ∙ c.if-dead.false) (λ link. (c.requires.cost, refl))))
+    let old = get (pointwise nat_eq) c.args.items.now in (
+      search rules,
+      c.in-Err-decide.ensures.wants c.args.key.now (old c.args.key.now) c.args.moment version
+          (told_of (Some c.in-Some.item.now) c.in-Some.ensures.value (sym c.dead.ensures ∙ c.if-dead.false) (λ link. (c.requires.cost, refl))),
+    )
 
 pub returns-clause-made : goal.returns-clause-made
 returns-clause-made c =
@@ -32,4 +35,5 @@ returns-clause-made c =
     let old = get (pointwise nat_eq) c.args.items.now in
     let new = get (pointwise nat_eq) c.match-put-2.items in
     let puts : Puts old new c.args.key.now (item_left c.in-Ok-decide.put.room c.in-Ok-decide.put.fate version (old c.args.key.now)) = search rules in
-    rw c.made-2.ensures (decided_makes old new (c.in-Ok-decide.ensures.made c.args.key.now (old c.args.key.now) c.args.moment version (told_of (Some c.in-Some.item.now) c.in-Some.ensures.value (sym c.dead.ensures ∙ c.if-dead.false) (λ link. (c.requires.cost, refl)))) puts)
+    rw c.made-2.ensures (decided_makes old new (c.in-Ok-decide.ensures.made c.args.key.now (old c.args.key.now) c.args.moment version
+    (told_of (Some c.in-Some.item.now) c.in-Some.ensures.value (sym c.dead.ensures ∙ c.if-dead.false) (λ link. (c.requires.cost, refl)))) puts)

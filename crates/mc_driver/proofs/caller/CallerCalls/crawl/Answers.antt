@@ -4,7 +4,8 @@ use Rattle.mc_driver.proofs.caller.CallerCalls.crawl.Goals as goal
 
 pub returns-clause-ok : goal.returns-clause-ok
 returns-clause-ok g c =
-    crawled_ok g.N.Named.config c.args.self.now.pass c.crawl.new.pass c.args.class c.args.moment c.crawl.result c.requires.may c.requires.there c.crawl.ensures.caller c.crawl.ensures.calls c.crawl.ensures.grows c.crawl.ensures.crawled
+    crawled_ok g.N.Named.config c.args.self.now.pass c.crawl.new.pass c.args.class c.args.moment c.crawl.result c.requires.may c.requires.there
+    c.crawl.ensures.caller c.crawl.ensures.calls c.crawl.ensures.grows c.crawl.ensures.crawled
 
 pub returns-clause-kinds : goal.returns-clause-kinds
 returns-clause-kinds g c =
@@ -15,4 +16,5 @@ returns-clause-err g c = crawling_failed g.N.Named.config c.args.self.now.pass c
 
 pub returns-clause-may : goal.returns-clause-may
 returns-clause-may g c =
-    crawled_may g.N.Named.config c.args.self.now.pass c.crawl.new.pass c.args.class c.args.moment c.crawl.result c.requires.may c.requires.there c.crawl.ensures.caller c.crawl.ensures.turn c.crawl.ensures.calls c.crawl.ensures.grows c.crawl.ensures.crawled
+    crawled_may g.N.Named.config c.args.self.now.pass c.crawl.new.pass c.args.class c.args.moment c.crawl.result c.requires.may c.requires.there
+    c.crawl.ensures.caller c.crawl.ensures.turn c.crawl.ensures.calls c.crawl.ensures.grows c.crawl.ensures.crawled

@@ -8,7 +8,8 @@ use Rattle.mc_driver.proofs.jobs.Ended.end_all.Goals as goal
 
 pub end_one-requires : goal.end_one-requires
 end_one-requires g c =
-    let split = split_at c.args.jobs.items c.loop-job.yielded c.in-Some.job c.into_iter-job-iterator.result c.loop-job.job-iterator c.next.new.self c.into_iter-job-iterator.ensures.into_iter_gives.0 c.loop-job.yielded_by c.in-Some.ensures.steps.0 in
+    let split = split_at c.args.jobs.items c.loop-job.yielded c.in-Some.job c.into_iter-job-iterator.result c.loop-job.job-iterator c.next.new.self
+    c.into_iter-job-iterator.ensures.into_iter_gives.0 c.loop-job.yielded_by c.in-Some.ensures.steps.0 in
     let short = fewer c.args.jobs.items c.loop-job.yielded (into_iter_items c.next.new.self) c.in-Some.job split in
     let before = c.loop-job.invariant in
     record {
@@ -31,15 +32,26 @@ loop-job-preserved g c =
       passes_room = c.end_one.ensures.room.0 ∙ before.passes_room;
       outcomes_room = c.end_one.ensures.room.1 ∙ before.outcomes_room;
       ends_room = c.end_one.ensures.room.2 ∙ before.ends_room;
-      few = omega (arith, before.few, ap length c.end_one.ensures.ends, length-append c.loop-job.self.ends.items (ends_in (c.in-Some.job.work ∷ [])), one_end c.in-Some.job.work, length-append c.loop-job.yielded (c.in-Some.job ∷ []));
+      few = omega (
+        arith,
+        before.few,
+        ap length c.end_one.ensures.ends,
+        length-append c.loop-job.self.ends.items (ends_in (c.in-Some.job.work ∷ [])),
+        one_end c.in-Some.job.work,
+        length-append c.loop-job.yielded (c.in-Some.job ∷ []),
+      );
     }
 
 pub returns-clause-passes : goal.returns-clause-passes
 returns-clause-passes g c =
-    let all = all_taken c.args.jobs.items c.into_iter-job-iterator.result c.loop-job.yielded c.loop-job.job-iterator c.into_iter-job-iterator.ensures.into_iter_gives.0 (c.into_iter-job-iterator.ensures.into_iter_gives.1 ∙ c.args.jobs.ok.0) c.loop-job.yielded_by c.in-None.ensures.steps.0 in
+    let all = all_taken c.args.jobs.items c.into_iter-job-iterator.result c.loop-job.yielded c.loop-job.job-iterator
+    c.into_iter-job-iterator.ensures.into_iter_gives.0 (c.into_iter-job-iterator.ensures.into_iter_gives.1
+    ∙ c.args.jobs.ok.0) c.loop-job.yielded_by c.in-None.ensures.steps.0 in
     c.loop-job.invariant.passes ∙ ap (λ js. map (λ job. job.calls.pass) js) (sym all)
 
 pub returns-clause-outcomes : goal.returns-clause-outcomes
 returns-clause-outcomes g c =
-    let all = all_taken c.args.jobs.items c.into_iter-job-iterator.result c.loop-job.yielded c.loop-job.job-iterator c.into_iter-job-iterator.ensures.into_iter_gives.0 (c.into_iter-job-iterator.ensures.into_iter_gives.1 ∙ c.args.jobs.ok.0) c.loop-job.yielded_by c.in-None.ensures.steps.0 in
+    let all = all_taken c.args.jobs.items c.into_iter-job-iterator.result c.loop-job.yielded c.loop-job.job-iterator
+    c.into_iter-job-iterator.ensures.into_iter_gives.0 (c.into_iter-job-iterator.ensures.into_iter_gives.1
+    ∙ c.args.jobs.ok.0) c.loop-job.yielded_by c.in-None.ensures.steps.0 in
     c.loop-job.invariant.outcomes ∙ ap (λ js. map (λ job. job.outcome) js) (sym all)

@@ -22,7 +22,8 @@ returns-clause-lacks c = λ yes.
     let u = c.self.inside in
     let rest = flat_map (λ p. p.items) c.self.inside.rest.items in
     let is = comes u.piece.items c.as_slice.result.now c.split_at.result.1.now rest c.args.self.now.coming u.at (ap (λ v. v.coming) c.self.view_is) c.as_slice.ensures.value c.split_at.ensures.back in
-    subst LacksNext (sym is) (next_both false c.split_at.result.1.now rest (c.lacks_next.ensures.lacks c.if-not-lacks_next.false) (subst (λ b. LacksNextBehind b rest) c.ends_with_percent.ensures (c.pieces_lack_next.ensures.lacks yes)))
+    subst LacksNext (sym is) (next_both false c.split_at.result.1.now rest (c.lacks_next.ensures.lacks c.if-not-lacks_next.false)
+    (subst (λ b. LacksNextBehind b rest) c.ends_with_percent.ensures (c.pieces_lack_next.ensures.lacks yes)))
 
 pub returns-clause-has : goal.returns-clause-has
 returns-clause-has c = λ lack.

@@ -28,7 +28,9 @@ loop-self-preserved c =
       within = omega arith;
       fits = subst (λ n. at.left - (n - u.at) ≤ length (c.replace-piece.new.dest.items ++ left_over)) (sym len)
           (step_fits done u.piece.items c.in_ok-piece_from.field-0.items c.replace-piece.new.dest.items rest left_over u.begin u.at at.left at.invariant.begins at.invariant.within part split far at.invariant.fits);
-      passed = stepped done (flat_map (λ p. p.items) c.push_back.new.self.items) u.piece.items c.in_ok-piece_from.field-0.items c.replace-piece.new.dest.items rest left_over u.begin c.replace-begin.new.dest u.at at.left c.len-in-loop-self.result pushed none len at.invariant.begins at.invariant.within part split (omega arith)
+      passed = stepped done (flat_map (λ p. p.items) c.push_back.new.self.items) u.piece.items c.in_ok-piece_from.field-0.items c.replace-piece.new.dest.items
+          rest left_over u.begin c.replace-begin.new.dest u.at at.left c.len-in-loop-self.result pushed none len at.invariant.begins at.invariant.within part
+          split (omega arith)
           ∙ at.invariant.passed;
       coming = ap (λ n. drop (at.left - (n - u.at)) (c.replace-piece.new.dest.items ++ left_over)) len
           ∙ step_coming done u.piece.items c.in_ok-piece_from.field-0.items c.replace-piece.new.dest.items rest left_over u.begin u.at at.left at.invariant.begins at.invariant.within part split far ∙ at.invariant.coming;

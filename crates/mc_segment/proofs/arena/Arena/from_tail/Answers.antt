@@ -46,4 +46,5 @@ returns-clause-inside c = λ h.
     let p = (seen c.self.inside.slots _ _ _ c.self.view_is c.self.invariant).parts c.args.seg in
     let same : c.loop.counter ≡ c.args.j = omega arith in
     let here = node_here _ _ _ _ _ _ c.loop.counter c.in_ok-number-2.number c.loop.at p c.loop.invariant.0 c.loop.invariant.1 c.in_ok-number-2.was in
-    entry_is _ _ _ _ _ _ c.loop.counter c.in_ok-number-2.number c.loop.at p c.loop.invariant.0 c.loop.invariant.1 _ c.in_ok-number-2.was (mine (code c.args.seg) _ _ _ here (sym c.in_ok-place-2.ensures)) ∙ ap (λ j. slice_get es (length es - 1 - j)) same
+    entry_is _ _ _ _ _ _ c.loop.counter c.in_ok-number-2.number c.loop.at p c.loop.invariant.0 c.loop.invariant.1 _ c.in_ok-number-2.was
+    (mine (code c.args.seg) _ _ _ here (sym c.in_ok-place-2.ensures)) ∙ ap (λ j. slice_get es (length es - 1 - j)) same

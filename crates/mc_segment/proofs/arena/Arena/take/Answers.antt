@@ -9,7 +9,8 @@ use Rattle.mc_segment.proofs.ArenaLemmas.{slot_below, seen, closed, whole, same_
 use Rattle.mc_segment.proofs.arena.Arena.take.Goals as goal
 
 kept : (c : goal.After-from_residual) → IsArena (slot c.empty.new.slots) c.self.inside.next c.self.inside.heads c.args.self.now.lists
-kept c = same_slots _ _ _ _ (seen c.self.inside.slots _ _ _ c.self.view_is c.self.invariant) (slot c.empty.new.slots) (λ q. c.empty.ensures.slots q ∙ none_slot c.args.number q (slot c.self.inside.slots) (sym c.in_err-place.ensures.place))
+kept c = same_slots _ _ _ _ (seen c.self.inside.slots _ _ _ c.self.view_is c.self.invariant) (slot c.empty.new.slots) (λ q. c.empty.ensures.slots q
+    ∙ none_slot c.args.number q (slot c.self.inside.slots) (sym c.in_err-place.ensures.place))
 
 pub invariant_of-self : goal.invariant_of-self
 invariant_of-self c = closed _ _ _ _ (kept c)
@@ -32,7 +33,9 @@ taken-requires c =
     let is = sym c.in_ok-place.ensures.place in
     subst (λ (x : Ends). (0 < x.count) × (c.in_ok-place.place.node.entry.cost ≤ x.bytes)) (sym c.of-ends.ensures) (length_is _ _ _ _ a c.args.number _ is, cost_fits _ _ _ _ a c.args.number _ is)
 
-relinked : (c : goal.After-set) → (q : ℕ) → slot c.set_newer.new.slots q ≡ place_newer c.in_ok-place.place.node.older c.in_ok-place.place.node.newer q (place_older c.in_ok-place.place.node.newer c.in_ok-place.place.node.older q (if c.args.number == q then None else slot c.self.inside.slots q))
+relinked : (c : goal.After-set) → (q : ℕ) → slot c.set_newer.new.slots q
+    ≡ place_newer c.in_ok-place.place.node.older c.in_ok-place.place.node.newer q
+    (place_older c.in_ok-place.place.node.newer c.in_ok-place.place.node.older q (if c.args.number == q then None else slot c.self.inside.slots q))
 relinked c = λ q.
     let x = c.in_ok-place.place.node in
     c.set_newer.ensures.slots q ∙ ap (place_newer x.older x.newer q) (c.set_older.ensures.slots q ∙ ap (place_older x.newer x.older q) (c.empty.ensures.slots q))
@@ -43,7 +46,8 @@ took c =
     let p = c.in_ok-place.place in
     let x = p.node in
     let a = seen c.self.inside.slots _ _ _ c.self.view_is c.self.invariant in
-    let heads : c.set.new.self ≡ with_ends h p.seg (taken_ends (ends_of h p.seg) x.newer x.older x.entry.cost) = c.set.ensures ∙ ap (with_ends h p.seg) (c.taken.ensures ∙ ap (λ (y : Ends). taken_ends y x.newer x.older x.entry.cost) c.of-ends.ensures) in
+    let heads : c.set.new.self ≡ with_ends h p.seg (taken_ends (ends_of h p.seg) x.newer x.older x.entry.cost) = c.set.ensures
+    ∙ ap (with_ends h p.seg) (c.taken.ensures ∙ ap (λ (y : Ends). taken_ends y x.newer x.older x.entry.cost) c.of-ends.ensures) in
     subst (λ (v : Heads). IsArena (slot c.set_newer.new.slots) c.self.inside.next v (unlinked c.args.number c.args.self.now.lists)) (sym heads)
     (take_arena _ _ h _ a c.args.number p (sym c.in_ok-place.ensures.place) (slot c.set_newer.new.slots) (relinked c))
 

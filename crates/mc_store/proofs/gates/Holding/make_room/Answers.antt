@@ -30,7 +30,8 @@ returns-clause-tried g c =
     let kept = c.make_room.ensures.kept c.args.self.now c.args.class.now.history (grew_itself w own, λ of. (of, first), walked) in
     ok_more c.make_room.result _ (λ (found : Bool). found ≡ false → IsOfCall w c.args.self.now.others.who c.args.self.now.others.moment → IsSearchInVain config c.args.class.now own c.args.who c.args.moment after)
     (λ found made vain of.
-    tried_any config c.args.config.now c.args.class.now c.args.who c.args.moment own xs c.make_room.new.gate.others.answers.now.items made.0 after found c.requires.names c.a_search_in_vain_has_tried.ensures (kept.1 of).1 made.1 made.2 vain)
+    tried_any config c.args.config.now c.args.class.now c.args.who c.args.moment own xs c.make_room.new.gate.others.answers.now.items made.0 after found
+    c.requires.names c.a_search_in_vain_has_tried.ensures (kept.1 of).1 made.1 made.2 vain)
     c.make_room.ensures.room
 
 pub returns-clause-walked : goal.returns-clause-walked

@@ -24,7 +24,8 @@ returns-then-not-lends-clause-kept g c = λ first begun kept.
           let was = kept.1 of in (
             (was.0.0 ∙ sym same.0, was.0.1 ∙ sym same.1),
             looked_both g.N.Named.config.stripes w _ _ _ _ _ _ _ _ was.1 kept.0
-                (looked_away look.class.now q g.N.Named.config w s c.args.stripe c.args.self.now.others.answers.now.items c.visit.new.self.answers.now.items c.visit.new.look.class.now c.visit.new.look.judged c.visit.result
+                (looked_away look.class.now q g.N.Named.config w s c.args.stripe c.args.self.now.others.answers.now.items c.visit.new.self.answers.now.items
+                c.visit.new.look.class.now c.visit.new.look.judged c.visit.result
                 c.requires.judge keyed (c.lends.ensures.other c.if-not-lends.true was.0.0 was.0.1) c.visit.ensures.answer c.visit.ensures.class c.visit.ensures.err),
           ),
       walks_on look.ask.who look.ask.moment _ _ _ _ _ _ kept.2 same.2.sees same.2.gains,
@@ -56,14 +57,16 @@ returns-clause-kept g c = λ first begun kept.
     let w = walker_of look.class.now look.ask.who look.ask.moment in
     let learnt : c.learn.new.self.stripe ≡ s = ap (λ (x : StripeSide). x.stripe) c.learn.ensures.stripe in
     let grows : StripeGrows w s c.judge.new.stripe.stripe = subst (λ (x : Stripe). StripeGrows w x c.judge.new.stripe.stripe) learnt c.judge.ensures.stripe in
-    let known = known_at look.class.now q g.N.Named.config look.ask.config.now s c.learn.new.self.stripe c.args.stripe c.judge.new.look.judged c.requires.gate.0 learnt (c.lends.ensures.own c.if-not-lends.false).0 c.requires.key c.in_ok-judge.ensures.known in
+    let known = known_at look.class.now q g.N.Named.config look.ask.config.now s c.learn.new.self.stripe c.args.stripe c.judge.new.look.judged c.requires.gate.0
+    learnt (c.lends.ensures.own c.if-not-lends.false).0 c.requires.key c.in_ok-judge.ensures.known in
     let answered = c.push_reserved.ensures.items ∙ ap (λ (xs : List Answer). xs ++ answer_by c.args.stripe c.judge.new.look.judged ∷ []) c.reserve.ensures.items in (
       grew_on w _ _ _ kept.0 grows,
       λ of.
           let was = kept.1 of in (
             was.0,
             looked_both g.N.Named.config.stripes w _ _ _ _ _ _ _ _ was.1 kept.0
-                (looked_here look.class.now q g.N.Named.config s c.args.stripe c.args.self.now.others.answers.now.items c.push_reserved.new.self.items c.judge.new.look.class.now.history c.judge.new.look.judged known answered
+                (looked_here look.class.now q g.N.Named.config s c.args.stripe c.args.self.now.others.answers.now.items c.push_reserved.new.self.items
+                c.judge.new.look.class.now.history c.judge.new.look.judged known answered
                 (ap (λ (v : ClassView). v.history) c.in_ok-judge.ensures.class)),
           ),
       walks_on look.ask.who look.ask.moment _ _ _ _ _ _ kept.2 (subst (λ (v : SeenView). Grows v.sight c.judge.new.seen.sight) c.learn.ensures.same c.judge.ensures.sees)

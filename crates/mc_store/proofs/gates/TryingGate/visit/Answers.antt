@@ -12,7 +12,8 @@ use Rattle.mc_store.proofs.gates.TryingGate.visit.Goals as goal
 pub judge-requires-clause-begun : goal.judge-requires-clause-begun
 judge-requires-clause-begun g c =
     begun_sees g.N.Named.config c.args.self.now.seen.now.sight c.learn.new.self.sight c.args.look.now.ask.who c.args.look.now.ask.moment c.learn.ensures.learnt
-    (asked_here g.N.Named.config c.args.self.now.seen.now.sight c.args.self.now.who c.args.look.now.ask.who c.args.self.now.moment c.args.look.now.ask.moment (c.is_foreign.ensures.own c.if-is_foreign.false) c.requires.gate.2)
+    (asked_here g.N.Named.config c.args.self.now.seen.now.sight c.args.self.now.who c.args.look.now.ask.who c.args.self.now.moment c.args.look.now.ask.moment
+    (c.is_foreign.ensures.own c.if-is_foreign.false) c.requires.gate.2)
 
 pub returns-in_err-judge-clause-serves : goal.returns-in_err-judge-clause-serves
 returns-in_err-judge-clause-serves g c = (

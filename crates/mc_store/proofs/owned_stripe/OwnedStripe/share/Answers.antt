@@ -8,7 +8,8 @@ use Rattle.mc_store.proofs.owned_stripe.OwnedStripe.share.Goals as goal
 
 pub returns-clause-told : goal.returns-clause-told
 returns-clause-told c =
-    told_at c.learn.new.self.sight c.self.inside.owner.lock c.self.inside.owner.history c.tell.new.seen.sight c.args.self.now.lock _ (ap (λ (v : SeenView). v.sight) c.tell.ensures.whole) (sym (ap (λ (s : StripeSide). s.lock) c.self.view_is))
+    told_at c.learn.new.self.sight c.self.inside.owner.lock c.self.inside.owner.history c.tell.new.seen.sight c.args.self.now.lock _
+    (ap (λ (v : SeenView). v.sight) c.tell.ensures.whole) (sym (ap (λ (s : StripeSide). s.lock) c.self.view_is))
     (c.self.invariant.0 ∙ ap (λ (s : StripeSide). stripe_told s.stripe.history) c.self.view_is)
 
 pub returns-clause-grows : goal.returns-clause-grows

@@ -14,7 +14,8 @@ own_is : (g : Over) (c : After-compare g) → stripe_of (key_of c.args.command) 
 own_is g c =
     let number : c.stripe_of-number.result ≡ record { 0 = c.compare.new.self.stripe.site.stripe } = ap (λ (n : ℕ). record { 0 = n })
     (sym (ap (λ (x : StripeSide). x.stripe.site.stripe) (c.compare.ensures.same.0 ∙ (c.own.view_is ∙ c.deref_mut-own.ensures.value)) ∙ c.lock_stripe-guard.ensures)) in
-    ap (λ (key : List ℕ). stripe_of key g.N.Named.config.stripes) (sym c.key.ensures) ∙ (ap (λ (config : Config). stripe_of c.key.result.now config.stripes) (sym c.self.invariant.1) ∙ (sym c.stripe_of-number.ensures ∙ number))
+    ap (λ (key : List ℕ). stripe_of key g.N.Named.config.stripes) (sym c.key.ensures)
+    ∙ (ap (λ (config : Config). stripe_of c.key.result.now config.stripes) (sym c.self.invariant.1) ∙ (sym c.stripe_of-number.ensures ∙ number))
 
 -- and the command is called on it
 called : (g : Over) (c : After-compare g) → IsCallOn g.N.Named.config c.compare.new.self.stripe c.pass.inside.caller c.args.command (record { who = c.in_ok-who.who; moment = c.args.moment })
@@ -33,7 +34,8 @@ pub answer-reply-requires : goal.answer-reply-requires
 answer-reply-requires g c = record { called = called g (goal.at.answer-reply-requires g c).After-compare }
 
 -- how the command ended, by either way
-ends : (g : Over) (c : After-share g) → Ends g.N.Named.config c.compare.new.self.stripe c.match-class_for.own c.pass.inside.caller c.match-class_for.pass-inside.caller c.args.command (record { who = c.in_ok-who.who; moment = c.args.moment }) c.match-class_for.reply
+ends : (g : Over) (c : After-share g) → Ends g.N.Named.config c.compare.new.self.stripe c.match-class_for.own c.pass.inside.caller
+    c.match-class_for.pass-inside.caller c.args.command (record { who = c.in_ok-who.who; moment = c.args.moment }) c.match-class_for.reply
 ends g c = elim c.match-class_for.branch [
   | in-Some w ↦ rw (w.own-is, w.pass-inside-is, w.reply-is) w.answer_for-reply.ensures
   | in-None w ↦ rw (w.own-is, w.pass-inside-is, w.reply-is) w.answer-reply.ensures
@@ -45,7 +47,8 @@ rest g c = elim c.match-class_for.branch [ in-Some w ↦ rw w.pass-inside-is | i
 
 -- and what the pass has of it
 shared : (g : Over) (c : goal.After-drop-3 g)
-    → IsShared g.N.Named.config (stripe_of (key_of c.args.command) g.N.Named.config.stripes).0 c.args.pass.now.sight c.share.new.seen.sight c.args.pass.now.calls c.match-class_for.pass-inside.caller.calls (next_who c.args.pass.now) c.args.command c.args.moment c.match-class_for.reply
+    → IsShared g.N.Named.config (stripe_of (key_of c.args.command) g.N.Named.config.stripes).0 c.args.pass.now.sight c.share.new.seen.sight
+    c.args.pass.now.calls c.match-class_for.pass-inside.caller.calls (next_who c.args.pass.now) c.args.command c.args.moment c.match-class_for.reply
 shared g c =
     let config = g.N.Named.config in
     let before = c.args.pass.now.sight in
@@ -60,7 +63,8 @@ shared g c =
     (subst (λ (s : StripeSide). HasSeen (stripe_told s.stripe.history) c.pass.inside.seen.sight s.lock) (sym c.compare.ensures.same.0) c.compare.ensures.behind.seen) in
     let told = subst (λ (s : StripeSide). list_at after.seen s.lock ≡ stripe_told s.stripe.history) c.own-2.view_is c.share.ensures.told in
     let grows = subst (λ (s : StripeSide). Grows s.sight after) c.own-2.view_is c.share.ensures.all in
-    subst (λ (who : Who). IsShared config (stripe_of (key_of c.args.command) config.stripes).0 before after c.args.pass.now.calls c.match-class_for.pass-inside.caller.calls who c.args.command c.args.moment r) c.in_ok-who.ensures.who
+    subst (λ (who : Who). IsShared config (stripe_of (key_of c.args.command) config.stripes).0 before after c.args.pass.now.calls
+    c.match-class_for.pass-inside.caller.calls who c.args.command c.args.moment r) c.in_ok-who.ensures.who
     (shared_by before old_kept new_kept number seen told grows r c.args.pass.now.calls (ends g at.After-share) (ap (λ (p : PassView). p.calls) pass))
 
 pub returns-clause-replied : goal.returns-clause-replied

@@ -22,7 +22,8 @@ loop-i-init g c =
     let grows : Grows pass.sight seen = subst (λ (p : PassView). Grows p.sight seen) turn c.snapshot_of.ensures.grows in (
       ap (λ (h : Histogram). h.seen) none,
       subst IsBalanced (sym none) refl,
-      subst (λ (h : Histogram). ShowsReclaims config c.args.class pass.sight seen c.in_ok-who.who c.args.moment 0 h.reclaimed) (sym none) (shows_none config c.args.class pass.sight seen c.in_ok-who.who c.args.moment 0 grows),
+      subst (λ (h : Histogram). ShowsReclaims config c.args.class pass.sight seen c.in_ok-who.who c.args.moment 0 h.reclaimed) (sym none)
+          (shows_none config c.args.class pass.sight seen c.in_ok-who.who c.args.moment 0 grows),
       so_far_none config c.args.class pass.sight seen c.in_ok-who.who c.args.moment links c.new-histogram.result none
           (subst
           (λ (p : PassView). (snapshot : IsSnapshot config c.args.class p.sight seen (length links)) × (snapshot.links ≡ links) × (list_at seen.seen (class_lock config c.args.class) ≡ class_told snapshot.history)) turn
@@ -58,8 +59,11 @@ loop-i-preserved g c =
       c.in_ok-crawl_link.ensures.seen ∙ ap (λ (n : ℕ). n + 1) i.0,
       c.crawl_link.ensures.balanced i.1,
       shows_both config c.args.class pass.sight c.loop-i.pass.sight new.sight c.in_ok-who.who c.args.moment 0 c.loop-i.histogram.reclaimed c.crawl_link.new.histogram.reclaimed i.2 c.in_ok-crawl_link.ensures.reclaims,
-      so_far_more config c.args.class pass.sight c.loop-i.pass.sight new.sight c.in_ok-who.who c.args.moment c.in_ok-links.links.items (take c.loop-i.i c.in_ok-links.links.items) (take (c.loop-i.i + 1) c.in_ok-links.links.items)
-          c.index.result.now c.loop-i.histogram c.crawl_link.new.histogram i.3 c.crawl_link.ensures.grows c.in_ok-crawl_link.ensures.counted (ap (λ (l : Link). take c.loop-i.i c.in_ok-links.links.items ++ l ∷ []) c.index.ensures ∙ sym (take_more c.in_ok-links.links.items c.loop-i.i c.index.result.now (omega (arith, c.loop-i-test.true, c.len-i-end.ensures)))),
+      so_far_more config c.args.class pass.sight c.loop-i.pass.sight new.sight c.in_ok-who.who c.args.moment c.in_ok-links.links.items
+          (take c.loop-i.i c.in_ok-links.links.items) (take (c.loop-i.i + 1) c.in_ok-links.links.items)
+          c.index.result.now c.loop-i.histogram c.crawl_link.new.histogram i.3 c.crawl_link.ensures.grows c.in_ok-crawl_link.ensures.counted
+          (ap (λ (l : Link). take c.loop-i.i c.in_ok-links.links.items ++ l ∷ []) c.index.ensures
+          ∙ sym (take_more c.in_ok-links.links.items c.loop-i.i c.index.result.now (omega (arith, c.loop-i-test.true, c.len-i-end.ensures)))),
       grows_trans pass.sight c.loop-i.pass.sight new.sight i.4 c.crawl_link.ensures.grows,
       ap (λ (p : PassView). p.caller) c.crawl_link.ensures.same ∙ i.5,
       ap (λ (p : PassView). p.turn) c.crawl_link.ensures.same ∙ i.6,

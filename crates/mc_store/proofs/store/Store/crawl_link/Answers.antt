@@ -109,6 +109,7 @@ returns-clause-counted g c =
     let first = c.args.histogram.now in
     let last = c.crawl_under-done.new.histogram in
     on_ok_more c.crawl_under-done.result (CountsLink config old.class new.class c.args.who c.args.moment c.args.link first last)
-    (IsLinkCounted config c.args.class (list_at c.args.pass.now.sight.seen (class_lock config c.args.class)) (list_at c.share.new.seen.sight.seen (class_lock config c.args.class)) c.args.who c.args.moment c.args.link first last)
+    (IsLinkCounted config c.args.class (list_at c.args.pass.now.sight.seen (class_lock config c.args.class))
+    (list_at c.share.new.seen.sight.seen (class_lock config c.args.class)) c.args.who c.args.moment c.args.link first last)
     (link_counted config c.args.class c.args.pass.now.sight c.share.new.seen.sight c.args.who c.args.moment c.args.link first last old.class new.class grew)
     (subst (λ (v : ClassView). OnOk c.crawl_under-done.result (CountsLink config v new.class c.args.who c.args.moment c.args.link first last)) cls c.crawl_under-done.ensures.counted)

@@ -34,7 +34,8 @@ returns-clause-juggled g c =
     subst (λ (who : Who). IfOk c.juggle_under-moves.result (IsJuggledBy config c.args.class c.args.pass.now.sight c.share.new.seen.sight who c.args.moment)) c.in_ok-who.ensures.who
     (juggled_so table config c.args.class c.args.pass.now.sight c.share.new.seen.sight old new old_kept new_kept number grows behind told all
     c.in_ok-who.who c.args.moment c.juggle_under-moves.result
-    (subst (λ (v : ClassView). IfOk c.juggle_under-moves.result (λ moves. (xs : List Answer) × IsJuggle (rounds v c.in_ok-who.who c.args.moment config) v.history xs new.class.history moves)) cls c.juggle_under-moves.ensures.juggle))
+    (subst (λ (v : ClassView). IfOk c.juggle_under-moves.result (λ moves. (xs : List Answer)
+    × IsJuggle (rounds v c.in_ok-who.who c.args.moment config) v.history xs new.class.history moves)) cls c.juggle_under-moves.ensures.juggle))
 
 pub returns-clause-full : goal.returns-clause-full
 returns-clause-full g c = λ is.
@@ -61,7 +62,8 @@ returns-clause-full g c = λ is.
 pub juggle_under-moves-requires : goal.juggle_under-moves-requires
 juggle_under-moves-requires g c =
     let turn = c.in_ok-who.ensures.turn in
-    let called = called_now c.args.pass.now c.take_turn.new.self (juggling_of c.args.class c.args.moment) c.in_ok-who.who c.args.moment (ap (λ (p : PassView). p.caller) turn) (ap (λ (p : PassView). p.calls) turn) c.in_ok-who.ensures.who c.in_ok-who.ensures.turns refl in
+    let called = called_now c.args.pass.now c.take_turn.new.self (juggling_of c.args.class c.args.moment) c.in_ok-who.who c.args.moment
+    (ap (λ (p : PassView). p.caller) turn) (ap (λ (p : PassView). p.calls) turn) c.in_ok-who.ensures.who c.in_ok-who.ensures.turns refl in
     let call = juggling_of c.args.class c.args.moment in
     let same : c.compare.new.self ≡ c.own.inside.side = c.compare.ensures.same.0 in
     let number : c.tell_class.new.class.class.number ≡ c.args.class =
