@@ -7,15 +7,14 @@ use Rattle.mc_board.specs.declared.{rule.Counts.Counts, rule.Owned.Owned, rule.V
 use Rattle.mc_board.specs.declared.rule.View.TheVariants as views
 use Rattle.mc_board.specs.{Histories.IsBehind, Views.locks_of, Views.first_word, Views.words_of}
 
--- what stands at one moment: the counts, the words, and of each lock its history and the seat of its one owner,
--- if it has been given out
+-- the board between two steps: the counts, the words, and for each lock its history and the seat of its one owner, if given out
 pub record Ledger : Type 0 where
   pub counts : Counts
   pub words : List ℕ
   pub history : ℕ → List Event
   pub owner : ℕ → Option ℕ
 
--- the seat is the one owner of its lock, it knows the lock's word, and it has the whole history
+-- the seat is the one owner of a lock, and knows its word and whole history; what it was shown last is behind the histories
 pub record IsOwner (ledger : Ledger) (seat : ℕ) (owned : Owned) : Type 0 where
   pub owner : ledger.owner owned.lock ≡ some seat
   pub lock : owned.lock < locks_of ledger.counts
@@ -23,8 +22,8 @@ pub record IsOwner (ledger : Ledger) (seat : ℕ) (owned : Owned) : Type 0 where
   pub history : owned.history ≡ ledger.history owned.lock
   pub told : IsBehind ledger.history owned.told
 
--- what holds of a seat by its view. The root is seat 0; a lock that it has not given out has no owner and no event.
--- Of a seat whose view is spent nothing is said
+-- what is true of a seat by its view, if it isn't spent: the root is seat 0, knows the counts, and a lock that it hasn't given
+-- out has no owner and no event; what a token has seen, and what it was shown last, is behind the histories
 abbrev pub Knows : Ledger → ℕ → View → Type 0
 Knows ledger seat (views.Root root) =
     (seat ≡ 0) × (root.counts ≡ ledger.counts)
@@ -39,8 +38,8 @@ CountsHistories ledger =
     (lock : ℕ) → lock < locks_of ledger.counts
     → slice_index ledger.words (first_word ledger.counts lock) ≡ length (ledger.history lock)
 
--- the rule: there is one history for each lock, its length is in the lock's first word, its one owner has it whole,
--- and what any token has seen of it is a beginning
+-- the rule: each lock has one history, whose length is in the lock's first word; its one owner knows all of it, and each token
+-- has seen a beginning of it
 pub record IsGrowing (counts : Counts) (words : List ℕ) (seats : List View) : Type 0 where
   pub history : ℕ → List Event
   pub owner : ℕ → Option ℕ

@@ -6,36 +6,36 @@ use Rattle.mc_board.specs.declared.{rule.Sight.Sight, rule.Known.Known, rule.Vie
 use Rattle.mc_board.specs.declared.rule.View.TheVariants as views
 use Rattle.mc_board.specs.Histories.{Grows}
 
--- a list, and what another has beyond it
+-- a list, followed by what another list has beyond its length
 abbrev pub joined : List Event → List Event → List Event
 joined [] ys = ys
 joined (x ∷ xs) [] = x ∷ xs
 joined (x ∷ xs) (y ∷ ys) = x ∷ joined xs ys
 
--- of each lock the two lists joined
+-- for each lock, the two lists joined
 abbrev pub all_joined : List (List Event) → List (List Event) → List (List Event)
 all_joined [] b = b
 all_joined (x ∷ a) [] = x ∷ a
 all_joined (x ∷ a) (y ∷ b) = joined x y ∷ all_joined a b
 
--- the same, but that what another has seen was seen too; what was noted stays
+-- the sight after learning another: for each lock the two seen lists joined, and what was noted as it was
 abbrev pub with_learned : Sight → Sight → Sight
 with_learned sight other = record { seen = all_joined sight.seen other.seen; noted = sight.noted }
 
--- the token's knowledge with what it was told that another has seen
+-- what a token knows after it has learnt what it was shown
 abbrev pub known_learned : Known → Known
 known_learned known = record known { sight = with_learned known.sight known.told }
 
--- learn: the token has then seen what it was told
+-- learning: a token has then seen what it was shown, and other views stay as they are
 abbrev pub learned_of : View → View
 learned_of (views.Seen known) = views.Seen (known_learned known)
 learned_of v = v
 
--- what a token has seen then is no less than what either had
+-- after learning, a token has seen all that it had seen and all that it was shown
 abbrev pub IsLearned : View → Type 0
 IsLearned (views.Seen known) = Grows known.sight (known_learned known).sight × Grows known.told (known_learned known).sight
 IsLearned v = Unit {0}
 
--- what a learning tells
+-- what learning ensures: the view is the learnt one, in which the token has seen all that either had
 abbrev pub Learned : Step Unit → Me Unit View → ℕ → Me Unit View → Type 0
 Learned step me found after = (after ≡ (learned_of me.0, me.1)) × IsLearned me.0

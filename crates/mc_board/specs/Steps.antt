@@ -1,4 +1,4 @@
--- The kinds of step on the board: what each does to the views, and what it tells (own).
+-- The kinds of step on the board: what each does to the views, and what it ensures (own).
 use Rattle.std.specs.Prelude.{◌≡◌, ℕ, ◌+◌, ◌≤◌, [], ◌∷◌, ◌++◌, length}
 use Rattle.atomic_table.specs.Table.{Me, Step}
 use Rattle.mc_item.specs.declared.event.Event.{Event}
@@ -9,49 +9,49 @@ use Rattle.mc_board.specs.declared.rule.View.TheVariants as views
 use Rattle.mc_board.specs.Histories.{blind, list_at, number_at, with_seen, with_noted, HasSeen, HasNoted, AreInLine}
 use Rattle.mc_board.specs.Views.{first_word}
 
--- an event where a name has none
+-- a default event, for a name that picks none
 abbrev pub some_event : Event
 some_event = events.Class (class_events.Refused (record { who = record { caller = 0; turn = 0 } }))
 
--- an owner's view of its lock. Any other view is that of no lock
+-- what an owner knows, or a default for any other view
 abbrev pub owned_of : View → Owned
 owned_of (views.Owner owned) = owned
 owned_of _ = record { lock = 0; word = 0; history = []; told = blind }
 
--- what a token knows. Any other view knows nothing
+-- what a token knows, or nothing for any other view
 abbrev pub known_of : View → Known
 known_of (views.Seen known) = known
 known_of _ = record { sight = blind; told = blind }
 
--- the view of the first seat: no owner is given out
+-- the root's view at the start, when no owner is given out
 abbrev pub opening_of : Counts → View
 opening_of counts = views.Root (record { counts = counts; given = 0 })
 
--- a token that has seen nothing
+-- the view of a token that has seen nothing
 abbrev pub newcomer : View
 newcomer = views.Seen (record { sight = blind; told = blind })
 
--- a token that has seen this, with nothing to compare
+-- the view of a token that has seen this, and was shown nothing
 abbrev pub seeing : Sight → View
 seeing sight = views.Seen (record { sight = sight; told = blind })
 
--- the owner of a lock whose history is empty
+-- the view of a lock's owner, with an empty history
 abbrev pub owning : ℕ → ℕ → View
 owning lock word = views.Owner (record { lock = lock; word = word; history = []; told = blind })
 
--- the owner with one event more
+-- what an owner knows after one more event
 abbrev pub owned_with : Owned → Event → Owned
 owned_with owned event = record owned { history = owned.history ++ event ∷ [] }
 
--- the owner after it was told what a token has seen
+-- what an owner knows after a token showed it this sight
 abbrev pub owned_told : Owned → Sight → Owned
 owned_told owned sight = record owned { told = sight }
 
--- the token's knowledge with this number noted of the lock
+-- what a token knows after it noted this number for the lock
 abbrev pub known_with : Known → ℕ → ℕ → Known
 known_with known lock number = record known { sight = with_noted known.sight lock number }
 
--- the token's knowledge after it was told what another has seen
+-- what a token knows after another showed it this sight
 abbrev pub known_told : Known → Sight → Known
 known_told known sight = record known { told = sight }
 
@@ -60,7 +60,7 @@ abbrev pub added_to : Event → View → View
 added_to event (views.Owner owned) = views.Owner (owned_with owned event)
 added_to event v = v
 
--- what an append tells: the event stands at the end of the owner's history
+-- what an append ensures: the owner's history has gained the event at its end
 abbrev pub Added : Event → Step Unit → Me Unit View → ℕ → Me Unit View → Type 0
 Added event step me found after = after ≡ (added_to event me.0, me.1)
 
@@ -69,56 +69,56 @@ abbrev pub noted_in : ℕ → ℕ → View → View
 noted_in lock found (views.Seen known) = views.Seen (known_with known lock found)
 noted_in lock found v = v
 
--- the number is no less than what the token has seen and noted of the lock
+-- the number is no less than the length of what the token has seen of the lock, and no less than what it has noted
 abbrev pub IsAsLong : ℕ → ℕ → View → Type 0
 IsAsLong lock found (views.Seen known) =
     (length (list_at known.sight.seen lock) ≤ found) × (number_at known.sight.noted lock ≤ found)
 IsAsLong lock found v = Unit {0}
 
--- what a count tells
+-- what a count ensures: the token has noted the number, which is no less than what it had seen and noted
 abbrev pub Counted : ℕ → Step Unit → Me Unit View → ℕ → Me Unit View → Type 0
 Counted lock step me found after = (after ≡ (noted_in lock found me.0, me.1)) × IsAsLong lock found me.0
 
--- what an owner was told of its own lock is behind its history
+-- what an owner was shown of its own lock is behind its history
 abbrev pub IsOwnerAhead : View → Type 0
 IsOwnerAhead (views.Owner owned) =
     HasSeen owned.history owned.told owned.lock × HasNoted owned.history owned.told owned.lock
 IsOwnerAhead v = Unit {0}
 
--- what a comparison by an owner tells. It changes nothing
+-- what an owner's comparison ensures: nothing changes, and what the owner was shown of its lock is behind its history
 abbrev pub Compared : Step Unit → Me Unit View → ℕ → Me Unit View → Type 0
 Compared step me found after = (after ≡ me) × IsOwnerAhead me.0
 
--- what a token has seen, and what it was told that another has seen, are in line
+-- what a token has seen and what it was shown are in line
 abbrev pub IsInLine : View → Type 0
 IsInLine (views.Seen known) = AreInLine known.sight known.told
 IsInLine v = Unit {0}
 
--- what a meeting tells. It changes nothing
+-- what a meeting ensures: nothing changes, and what the token has seen and what it was shown are in line
 abbrev pub Met : Step Unit → Me Unit View → ℕ → Me Unit View → Type 0
 Met step me found after = (after ≡ me) × IsInLine me.0
 
--- the root after it has given out its next owner
+-- the root's view after it has given out the next owner
 abbrev pub root_after : View → View
 root_after (views.Root root) = views.Root (record root { given = root.given + 1 })
 root_after v = v
 
--- the owner that the root gives out next
+-- the view of the owner that the root gives out next
 abbrev pub next_owner : View → View
 next_owner (views.Root root) = owning root.given (first_word root.counts root.given)
 next_owner v = views.Spent
 
--- split: another token that has seen and noted the same
+-- split: the view of a second token, which has seen and noted the same
 abbrev pub copy_of : View → View
 copy_of (views.Seen known) = seeing known.sight
 copy_of v = views.Spent
 
--- tell: a token that has seen what the owner was told, and the owner's whole history
+-- tell: the view of a token that has seen what the owner was shown, and the owner's whole history
 abbrev pub told_of : View → View
 told_of (views.Owner owned) = seeing (with_seen owned.told owned.lock owned.history)
 told_of v = views.Spent
 
--- a token's copy is taken in, to be compared
+-- join: an owner or a token is shown what a token's copy has seen
 abbrev pub hearing : View → View → View
 hearing (views.Owner owned) (views.Seen other) = views.Owner (owned_told owned other.sight)
 hearing (views.Seen known) (views.Seen other) = views.Seen (known_told known other.sight)

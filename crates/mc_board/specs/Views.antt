@@ -1,4 +1,4 @@
--- What a contract sees of a board, of an owner and of a token that has seen (own).
+-- What a contract sees of a board, an owner and a token (own).
 use Rattle.std.specs.Prelude.{◌≡◌, ℕ, ◌+◌, ◌*◌, ◌<◌, List, [], length, Some, slice_get}
 use Rattle.atomic_table.specs.Seated.{TableId}
 use Rattle.mc_item.specs.declared.event.Event.{Event}
@@ -15,24 +15,24 @@ pub record OwnerView : Type 0 where
   pub lock : ℕ
   pub history : List Event
 
--- a token that has seen: the board's table, and what it has seen and noted
+-- a token: the board's table, and what it has seen and noted
 pub record SeenView : Type 0 where
   pub board : TableId
   pub sight : Sight
 
--- how many locks there are: stripes first, then classes, then callers
+-- the number of locks, which are numbered stripes first, then classes, then callers
 abbrev pub locks_of : Counts → ℕ
 locks_of counts = counts.stripes + counts.classes + counts.callers
 
--- how many words lie between the first words of two locks: those of a cache line, so no two locks write on the same
+-- the words of one lock: a cache line, so that no two locks share one
 abbrev pub line_words : ℕ
 line_words = 8
 
--- the first word of a lock. Word 0 is no lock's: a step that asks for no length reads it
+-- the index of a lock's first word; word 0 belongs to no lock, and is read by steps that need no length
 abbrev pub first_word : Counts → ℕ → ℕ
 first_word counts lock = (lock + 1) * line_words
 
--- how many words there are: a line for each lock, behind a first one that is no lock's
+-- the number of words: a line for each lock, after a first line that belongs to no lock
 abbrev pub words_of : Counts → ℕ
 words_of counts = (locks_of counts + 1) * line_words
 

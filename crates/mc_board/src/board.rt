@@ -1,4 +1,4 @@
-//! The words that all threads share.
+//! The board, which all threads share.
 ghost use Rattle.std.specs.Prelude.{◌≡◌, ◌<◌, ◌≤◌, ◌+◌, ◌*◌, ◌^◌, IfOk, IfErr, []};
 ghost use Rattle.mc_board.specs.{Histories.blind, Views.AreOwners, Views.line_words, Views.locks_of, Views.first_word};
 ghost use Rattle.mc_board.specs.declared.rule.View.TheVariants as views;
@@ -11,7 +11,7 @@ use mc_item::NoMemory;
 use std::alloc::Global;
 use std::marker::Model;
 
-/// The words that all threads share: of each lock the length of its history.
+/// A board: for each lock, an atomic word with the length of its history. Calls on owners and tokens borrow it.
 #[derive(Drop)]
 pub struct Board {
     pub(crate) table: Words,
@@ -33,14 +33,15 @@ impl Model for Board {
 }
 
 impl Board {
-    /// A board with this many locks, and all histories empty. The owners come in the order of the locks. The token
-    /// has seen nothing. It is an error where memory is refused.
+    /// Opens a board with this many locks, whose histories are all empty.
+    /// Returns it with an owner for each lock, in the order of the locks, and a token that has seen nothing.
+    /// Errors: `NoMemory` if an allocation fails, or if the words of so many locks can't be counted in 64 bits.
     pub fn open(alloc: Global, locks: usize) -> Result<(Board, Vec<Owner>, Seen), NoMemory>
         ensures locks { IfOk result (λ r. locks_of r.0.counts ≡ locks) }
         ensures owners { IfOk result (λ r. AreOwners r.0.table locks r.1.items) }
         ensures seen { IfOk result (λ r. r.2 ≡ record { board = r.0.table; sight = blind }) }
     {
-        // Each lock has one word, of whatever kind it is, so all are counted as stripes.
+        // All locks are counted as stripes here, since each has one word, whatever its kind.
         let counts = Counts {
             stripes: locks,
             classes: 0,
@@ -55,7 +56,7 @@ impl Board {
         Ok((board, owners, seen))
     }
 
-    // The first word of a lock.
+    // The index of the word that holds a lock's length. The first line of words belongs to no lock.
     pub(crate) fn first_word(&self, lock: usize) -> usize
         requires { lock < locks_of self.now.counts }
         ensures word { result ≡ first_word self.now.counts lock }
@@ -66,10 +67,10 @@ impl Board {
     }
 }
 
-// How many words lie between the first words of two locks: those of a cache line, of 64 bytes.
+// The words of one lock: a cache line of 64 bytes, so that no two locks share one.
 const LINE: usize = 8;
 
-// How many words this many locks take. It is an error where there can't be so many.
+// The number of words for this many locks. Fails if that is 2^64 or more.
 fn words_for(locks: usize) -> Result<usize, NoMemory>
     ensures ok { IfOk result (λ words. words ≡ (locks + 1) * line_words) }
     ensures err { IfErr result (λ _. 2 ^ 64 ≤ (locks + 1) * line_words) }
@@ -78,7 +79,7 @@ fn words_for(locks: usize) -> Result<usize, NoMemory>
     lines.checked_mul(LINE).ok_or(NoMemory)
 }
 
-// An owner for each lock, in their order.
+// Gives out an owner for each lock, in the order of the locks.
 fn deal(
     alloc: Global,
     board: &Board,

@@ -1,5 +1,6 @@
-//! The board: one growing history for each lock, which can be read without the lock. Its one owner adds to it; each
-//! token has seen a beginning of it. A history stands in proofs alone: the machine keeps its length, in one word.
+//! The board has one growing history for each lock. A lock's one owner adds events, and each token has seen a beginning of them.
+//! A history's length can be read without the lock. At run time it is all that is kept, in one atomic word: the list itself
+//! exists in proofs alone.
 #![tactic(auto)]
 
 mod board;

@@ -1,4 +1,4 @@
-//! Names for what a step is about. Each call of a step picks its own.
+//! Names, in types, for what a step is about: the event that it adds, or the lock that it counts. Each call picks its own.
 use std::marker::Brand;
 
 /// Names the event that one append adds.

@@ -14,7 +14,7 @@ use mc_history::{History, Shows};
 use mc_item::Logged;
 use std::marker::{Brand, Model};
 
-/// The one token that adds to a lock's history, and has it whole.
+/// The only token that can add to a lock's history. It knows the whole history.
 #[derive(Drop)]
 pub struct Owner {
     word: usize,
@@ -43,7 +43,7 @@ impl Model for Owner {
 }
 
 impl Owner {
-    // The owner that the place is. It has no event yet.
+    // Makes an owner from its seat at the table. The history has no event yet.
     pub(crate) fn at(word: usize, place: Place) -> Owner
         requires owner { place.me ≡ (views.Owner (owned_of place.me.0), []) }
         requires word { ((owned_of place.me.0).word ≡ word) × (word < place.table_id.words) }
@@ -61,8 +61,8 @@ impl Owner {
         }
     }
 
-    /// Adds the event at the end of the history, in one atomic step. The history has fewer than 2^64 - 1 events before.
-    /// It takes no memory and waits for nobody.
+    /// Adds the event at the end of the history, in one atomic step. Allocates nothing and never waits.
+    /// Before the call the history has fewer than 2^64 - 1 events.
     #[inline(always)]
     pub fn append<E: Logged>(&mut self, board: &Board, event: &E)
         requires board { self.old.board ≡ board.now.table }
@@ -75,15 +75,14 @@ impl Owner {
         self.events += 1;
     }
 
-    // How many events the history has.
     fn len(&self) -> usize
         ensures { result ≡ length self.now.history }
     {
         self.events
     }
 
-    /// Adds each event of the list, in order, that stands behind those that the history has: the history, which is a
-    /// beginning of the list, then is the list. It has at most 2^32 events. It takes no memory and waits for nobody.
+    /// Adds the events of the list that the history doesn't have yet, in order. Allocates nothing and never waits.
+    /// Before the call the history is a beginning of the list, and after it the two are equal. The list has at most 2^32 events.
     #[inline(always)]
     pub fn catch_up<E: Logged + Drop, S: Shows<E> + Drop>(
         &mut self,
@@ -118,8 +117,8 @@ impl Owner {
         self.events += 1;
     }
 
-    /// Compares the history with a token: what the token has seen of this lock begins the history, and what it has
-    /// noted is at most the history's length. Nothing changes.
+    /// Compares the history with a token. Nothing changes.
+    /// What the token has seen of this lock is a beginning of the history. What it has noted is at most the history's length.
     pub fn compare(&mut self, board: &Board, seen: &mut Seen)
         requires board { (self.old.board ≡ board.now.table) × (seen.old.board ≡ board.now.table) }
         ensures same { (self.new ≡ self.old) × (seen.new ≡ seen.old) }
@@ -129,8 +128,8 @@ impl Owner {
         hear(board, self.word, &mut self.place, seen);
     }
 
-    /// Tells a token the whole history: afterwards it has seen that of this lock, and of all other locks what it had
-    /// seen. What it had seen of this lock begins the history.
+    /// Shows a token this lock's whole history, which the token has then seen. What it has seen of other locks stays.
+    /// What it had seen of this lock was a beginning of the history, and what it has noted is at most the history's length.
     #[inline(always)]
     pub fn tell(&mut self, board: &Board, seen: &mut Seen)
         requires board { (self.old.board ≡ board.now.table) × (seen.old.board ≡ board.now.table) }
@@ -148,7 +147,7 @@ impl Owner {
     }
 }
 
-// The step that adds the event that N names. No byte of what it is named by is read: only proofs need it.
+// Adds the event that `N` names, in one atomic step. Only proofs need `_named_by`: no byte of it is read.
 #[inline(always)]
 fn add<N: NamesEvent, A>(board: &Board, word: usize, place: &mut Place, _named_by: &A)
     requires board { place.old.table_id ≡ board.now.table }
@@ -162,7 +161,7 @@ fn add<N: NamesEvent, A>(board: &Board, word: usize, place: &mut Place, _named_b
     board.table.shared.fetch_add::<Adds<N>>(place, word, 1);
 }
 
-// The owner is told what the token has seen, and compares it with its history.
+// Shows the owner a copy of what the token has seen, and compares it with the owner's history.
 #[inline(always)]
 fn hear(board: &Board, word: usize, place: &mut Place, seen: &mut Seen)
     requires board { (place.old.table_id ≡ board.now.table) × (seen.old.board ≡ board.now.table) }

@@ -1,10 +1,10 @@
-//! The rule of the board, and what a seat at it knows. Of the views no value is ever made.
+//! The rule of the board's table, and the views: what each seat knows. Views exist in proofs alone: no value of one is made.
 use atomic_table::{Seat, Table, TableRule};
 use mc_item::Event;
 use std::alloc::Global;
 use std::collections::LinkedList;
 
-/// How many locks of each kind a board has. They are numbered in this order, from 0.
+/// How many locks of each kind a board has. Locks are numbered in this order, from 0.
 #[derive(Clone, Copy)]
 pub struct Counts {
     pub stripes: usize,
@@ -12,19 +12,19 @@ pub struct Counts {
     pub callers: usize,
 }
 
-/// Of each lock a list that was seen, and a number that was noted.
+/// What a token knows of each lock: the list of events that it has seen, and the length that it has noted.
 pub struct Sight {
     pub seen: LinkedList<LinkedList<Event>>,
     pub noted: LinkedList<u64>,
 }
 
-/// What the root knows: the owners of the locks below `given` are given out.
+/// What the root knows: the counts, and that it has given out the owners of the locks below `given`.
 pub struct Root {
     pub counts: Counts,
     pub given: usize,
 }
 
-/// What an owner knows: its lock and that lock's word, the whole history, and what it was told last, to compare it.
+/// What an owner knows: its lock, that lock's word, and the whole history. `told` is what a token showed it last, to compare.
 pub struct Owned {
     pub lock: usize,
     pub word: usize,
@@ -32,13 +32,13 @@ pub struct Owned {
     pub told: Sight,
 }
 
-/// What a token knows: what it has seen and noted, and what it was told last, to compare it.
+/// What a token knows: what it has seen and noted. `told` is what another token showed it last, to compare.
 pub struct Known {
     pub sight: Sight,
     pub told: Sight,
 }
 
-/// What the four kinds of seat know.
+/// What a seat knows, by its kind. A spent seat was joined into another.
 pub enum View {
     Root(Root),
     Owner(Owned),
@@ -46,7 +46,7 @@ pub enum View {
     Spent,
 }
 
-/// The rule. Its key are the counts.
+/// The rule of the board's table (`IsGrowing`). The table's key is the counts.
 pub struct Law;
 
 impl TableRule<(), View, Counts> for Law {

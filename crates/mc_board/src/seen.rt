@@ -1,4 +1,4 @@
-//! The tokens that have seen.
+//! Tokens: what a thread knows of histories whose locks it doesn't hold.
 ghost use Rattle.std.specs.Prelude.{◌≡◌, ◌<◌, ◌≤◌, [], length};
 ghost use Rattle.mc_board.specs.{Histories.list_at, Histories.number_at, Histories.with_noted, Histories.Grows, Histories.AreInLine, Learning.known_learned};
 ghost use Rattle.mc_board.specs.{Learning.with_learned, Views.locks_of, Views.first_word, Steps.known_of, Steps.known_with, Steps.known_told, Steps.seeing};
@@ -10,7 +10,7 @@ use crate::rule::Place;
 use crate::steps::{Copies, CountsOne, Hears, Learns, Meets};
 use std::marker::{Brand, Model};
 
-/// A token that has seen a beginning of each lock's history, and noted numbers that their lengths have reached.
+/// A token. For each lock it has seen a beginning of the history, and has noted a length that the history has reached.
 #[derive(Drop)]
 pub struct Seen {
     place: Place,
@@ -29,7 +29,7 @@ impl Model for Seen {
 }
 
 impl Seen {
-    // The token that the place is.
+    // Makes a token from its seat at the table.
     pub(crate) fn at(place: Place) -> Seen
         requires { place.me ≡ (views.Seen (known_of place.me.0), []) }
         ensures { result ≡ record { board = place.table_id; sight = (known_of place.me.0).sight } }
@@ -37,7 +37,7 @@ impl Seen {
         Seen { place }
     }
 
-    // A second place that knows what this token has seen and noted.
+    // A second seat, which has seen and noted what this token has.
     pub(crate) fn copy(&mut self, board: &Board) -> Place
         requires { self.old.board ≡ board.now.table }
         ensures same { self.new ≡ self.old }
@@ -46,7 +46,7 @@ impl Seen {
         board.table.shared.split_seat::<Copies>(&mut self.place)
     }
 
-    /// A second token that has seen and noted the same.
+    /// Splits off a second token, which has seen and noted the same.
     pub fn split(&mut self, board: &Board) -> Seen
         requires { self.old.board ≡ board.now.table }
         ensures same { self.new ≡ self.old }
@@ -55,8 +55,8 @@ impl Seen {
         Seen::at(self.copy(board))
     }
 
-    /// The length that the lock's history has at this one atomic step. The token notes it. It takes no memory and
-    /// waits for nobody.
+    /// Reads the length of a lock's history in one atomic step, and notes it. Allocates nothing and never waits.
+    /// The result is no less than the length of what the token has seen of the lock, and no less than what it had noted.
     pub fn count(&mut self, board: &Board, lock: usize) -> u64
         requires board { self.old.board ≡ board.now.table }
         requires lock { lock < locks_of board.now.counts }
@@ -68,8 +68,8 @@ impl Seen {
         read::<Brand>(board, lock, word, &mut self.place)
     }
 
-    /// Learns what another token has seen: of each lock this one has then seen all that either had. What it has noted
-    /// stays. It takes no memory and waits for nobody.
+    /// Learns what another token has seen. Afterwards this token has seen, for each lock, all that either of the two had.
+    /// What it has noted stays, and the other token is unchanged. Allocates nothing and never waits.
     pub fn learn(&mut self, board: &Board, other: &mut Seen)
         requires board { (self.old.board ≡ board.now.table) × (other.old.board ≡ board.now.table) }
         ensures other { other.new ≡ other.old }
@@ -82,7 +82,7 @@ impl Seen {
         take_in(board, &mut self.place, theirs);
     }
 
-    /// Compares two tokens: of each lock what one has seen is a beginning of what the other has. Nothing changes.
+    /// Compares two tokens: for each lock, what one of them has seen is a beginning of what the other has. Nothing changes.
     pub fn meet(&mut self, board: &Board, other: &mut Seen)
         requires board { (self.old.board ≡ board.now.table) × (other.old.board ≡ board.now.table) }
         ensures same { (self.new ≡ self.old) × (other.new ≡ other.old) }
@@ -93,7 +93,7 @@ impl Seen {
     }
 }
 
-// A token is told what another's copy knows, and has then seen that too.
+// Joins another token's copy into this seat, which has then seen all that either had.
 fn take_in(board: &Board, place: &mut Place, copy: Place)
     requires board { (place.old.table_id ≡ board.now.table) × (copy.table_id ≡ board.now.table) }
     requires token { place.old.me ≡ (views.Seen (known_of place.old.me.0), []) }
@@ -108,7 +108,7 @@ fn take_in(board: &Board, place: &mut Place, copy: Place)
     board.table.shared.load::<Learns>(place, 0);
 }
 
-// The step that reads the first word of the lock that N names.
+// Reads the first word of the lock that `N` names, in one atomic step, and notes it.
 fn read<N: NamesLock>(board: &Board, lock: usize, word: usize, place: &mut Place) -> u64
     requires board { place.old.table_id ≡ board.now.table }
     requires lock { lock < locks_of board.now.counts }
@@ -124,7 +124,7 @@ fn read<N: NamesLock>(board: &Board, lock: usize, word: usize, place: &mut Place
     board.table.shared.load::<CountsOne<N>>(place, word)
 }
 
-// A token is told what another's copy knows, and compares it with what it has seen itself.
+// Joins another token's copy into this seat, and compares what the two have seen.
 fn line_up(board: &Board, place: &mut Place, copy: Place)
     requires board { (place.old.table_id ≡ board.now.table) × (copy.table_id ≡ board.now.table) }
     requires token { place.old.me ≡ (views.Seen (known_of place.old.me.0), []) }

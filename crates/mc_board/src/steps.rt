@@ -1,4 +1,4 @@
-//! The kinds of step: what each tells, and how views are cut and joined.
+//! The kinds of step on the board's table: what each ensures, and how views are split and joined.
 use crate::naming::{NamesEvent, NamesLock};
 use crate::rule::View;
 use atomic_table::{Join, Play, Split};
@@ -26,7 +26,7 @@ impl<N: NamesLock> Play<(), View> for CountsOne<N> {
     ghost then = { Counted N.lock };
 }
 
-/// An owner compares what it was told with its history.
+/// An owner compares what a token showed it with its own history.
 pub(crate) struct Compares;
 
 impl Play<(), View> for Compares {
@@ -35,7 +35,7 @@ impl Play<(), View> for Compares {
     ghost then = { Compared };
 }
 
-/// A token compares what it was told with what it has seen.
+/// A token compares what another token showed it with what it has seen itself.
 pub(crate) struct Meets;
 
 impl Play<(), View> for Meets {
@@ -44,7 +44,7 @@ impl Play<(), View> for Meets {
     ghost then = { Met };
 }
 
-/// A token has seen what it was told that another has seen.
+/// A token learns what another token showed it.
 pub(crate) struct Learns;
 
 impl Play<(), View> for Learns {
@@ -75,7 +75,7 @@ impl Split<View> for Deals {
     ghost right = { next_owner };
 }
 
-/// A token is split: the second has seen and noted the same.
+/// A token splits off a second one, which has seen and noted the same.
 pub(crate) struct Copies;
 
 impl Split<View> for Copies {
@@ -86,7 +86,7 @@ impl Split<View> for Copies {
     ghost right = { copy_of };
 }
 
-/// An owner gives out a token that has seen what it was told, and its whole history.
+/// An owner gives out a token that has seen what the owner was shown, and the owner's whole history.
 pub(crate) struct Tells;
 
 impl Split<View> for Tells {
@@ -97,7 +97,7 @@ impl Split<View> for Tells {
     ghost right = { told_of };
 }
 
-/// A token's copy is taken in, to be compared.
+/// A token's copy is joined into an owner or another token, which is thereby shown what the copy has seen.
 pub(crate) struct Hears;
 
 impl Join<View> for Hears {

@@ -15,7 +15,7 @@ use mc_pull::{Gate, Judge, Judged, Look};
 use mc_segment::ClassState;
 use std::alloc::Global;
 
-// One entry is looked at, and asked only whether its item is dead.
+// Looks at one entry through the gate, and asks only whether its item is dead.
 fn look_at<G: Gate>(
     alloc: Global,
     class: &mut ClassState,
@@ -47,7 +47,7 @@ fn look_at<G: Gate>(
     Ok(judged)
 }
 
-// What one link counts as: its entry, where it is in a list, is looked at.
+// What one link counts as. Its entry is looked at, if it is still in a list.
 fn kind_at<G: Gate>(
     alloc: Global,
     class: &mut ClassState,
@@ -75,10 +75,10 @@ fn kind_at<G: Gate>(
     Ok(kind_of(judged, moment))
 }
 
-/// Crawls one link of a class's snapshot. Where its number is in a list still, the stripe of the entry's key is asked for
-/// once, and an item that is dead at the moment goes with its entry. The histogram counts the link as seen and as one
-/// kind more: gone, passed, reclaimed, or by the seconds that its item has to live. No count may pass 2^64 - 1. The
-/// faults are the gate's; the histogram and both histories are then as they were.
+/// Crawls one link of a class's snapshot. If the link's number is still in a list, the gate is asked once for the stripe of the
+/// entry's key. An item that is dead at `moment` is removed with its entry. The histogram counts the link as seen, and as gone,
+/// passed, reclaimed, or by how long its item has left. Each count must be less than 2^64 - 1.
+/// Errors: the gate's faults. The histogram, the class's history and the gate's answers are then unchanged.
 pub fn crawl_one<G: Gate>(
     alloc: Global,
     class: &mut ClassState,

@@ -1,4 +1,4 @@
-//! What a crawl counts a link as.
+//! The kinds that a crawl counts links as.
 ghost use Rattle.std.specs.Prelude.{◌≡◌};
 ghost use Rattle.mc_crawl.specs.{CrawlCount.counted_as, CrawlCount.IsBalanced, CrawlCount.MayCount, CrawlKind.kind_answered, CrawlKind.IsCounted};
 ghost use Rattle.mc_crawl.specs.CrawlKind as words;
@@ -11,22 +11,21 @@ use mc_pull::{Done, Judged};
 pub enum Kind {
     /// Its number is in no list of the class.
     Gone,
-    /// Its stripe was not had, or holds no item of this chunk.
+    /// Its stripe wasn't reached, or has no item with this chunk.
     Passed,
-    /// Its item was dead, and went.
+    /// Its item was dead, and was removed.
     Reclaimed,
-    /// Its item never dies.
+    /// Its item never expires.
     NoExpiry,
-    /// Its item has an hour or more to live.
+    /// Its item has an hour or more left.
     HourPlus,
-    /// Its item has this many whole minutes to live, fewer than 60.
+    /// Its item has this many whole minutes left, fewer than 60.
     Minute(u64),
 }
 
-// The seconds of the longest life that isn't an hour (crawler.c).
+// The longest time, in seconds, that is less than an hour (crawler.c).
 const BELOW_AN_HOUR: u64 = 3599;
 
-// The kind of an item that is alive, by its expiry.
 fn kind_alive(expiry: Expiry, moment: u64) -> Kind
     ensures value { result ≡ words.kind_alive moment expiry }
     ensures counted { IsCounted result }
@@ -42,7 +41,7 @@ fn kind_alive(expiry: Expiry, moment: u64) -> Kind
     }
 }
 
-// The kind of an entry, by what was done with it.
+// The kind of an entry, by what was done with it. A crawl meets only the first three cases.
 fn kind_done(done: Done, moment: u64) -> Kind
     ensures value { result ≡ words.kind_done moment done }
     ensures counted { IsCounted result }
@@ -59,7 +58,7 @@ fn kind_done(done: Done, moment: u64) -> Kind
     }
 }
 
-// The kind of an entry, by what a gate has told.
+// The kind of an entry, by a gate's answer.
 pub(crate) fn kind_of(judged: Option<Judged>, moment: u64) -> Kind
     ensures value { result ≡ kind_answered moment judged }
     ensures counted { IsCounted result }
@@ -70,7 +69,7 @@ pub(crate) fn kind_of(judged: Option<Judged>, moment: u64) -> Kind
     }
 }
 
-// Counts one more link that was seen, as this kind.
+// Counts one more link as seen and as this kind.
 pub(crate) fn count(histogram: &mut Histogram, kind: Kind)
     requires may { MayCount histogram.old }
     requires counted { IsCounted kind }

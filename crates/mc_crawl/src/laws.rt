@@ -1,4 +1,4 @@
-//! Laws of what a crawl counts: contracts alone.
+//! Laws of what a crawl counts. Their contracts say it all; the bodies are empty.
 ghost use Rattle.std.specs.Prelude.{◌≡◌, ◌+◌, ◌*◌, ◌<◌, ◌≤◌, ◌^◌, ◌↔◌, ℕ, true, length};
 ghost use Rattle.mc_item.specs.{Counts.FitsTogether, Counts.added, Counts.no_counts, Item.is_dead};
 ghost use Rattle.mc_item.specs.declared.{counts.Histogram.Histogram, item.Item.Item};
@@ -7,9 +7,9 @@ ghost use Rattle.mc_crawl.specs.CrawlKind.{kind_left, kind_of_item, IsCounted};
 ghost use Rattle.mc_crawl.specs.declared.kind.Kind.{Kind};
 ghost use Rattle.mc_crawl.specs.declared.kind.Kind.TheVariants as kinds;
 
-/// What was seen is the sum of the counts of all kinds: in a histogram of nothing, with one link more, and in the sum of
-/// two, where each kind is counted as often as in both. Where it is, one link more fits as soon as one more fits into
-/// what was seen, and the sum of two fits as soon as their sums of what was seen do.
+/// Shows that `seen` is the sum of the counts of all kinds: in an empty histogram, after one more link, and in the sum of two. A
+/// sum has each kind as often as both have it together. If `seen` is that sum, no other count overflows before it does, neither
+/// with one more link nor in a sum of two.
 pub fn kinds_add_up()
     ensures none { IsBalanced no_counts }
     ensures more { (k : Kind) (h : Histogram) → IsCounted k → length h.minutes ≡ 60 → IsBalanced h → IsBalanced (counted_as k h) }
@@ -19,8 +19,8 @@ pub fn kinds_add_up()
     ensures fits { (a b : Histogram) → IsBalanced a → IsBalanced b → a.seen + b.seen < 2 ^ 64 → FitsTogether a b }
 {}
 
-/// An item counts as reclaimed just where it is dead, and else by the whole minutes that it has to live, or as one with
-/// an hour or more.
+/// Shows that an item counts as reclaimed if and only if it is dead. With 3,600 seconds left or more it counts as an hour or
+/// more, with fewer by its whole minutes.
 pub fn kinds_go_by_minutes()
     ensures dead { (moment : ℕ) (item : Item) → (kind_of_item moment item ≡ kinds.Reclaimed) ↔ (is_dead item moment ≡ true) }
     ensures minute { (left minute : ℕ) → minute < 60 → 60 * minute ≤ left → left < 60 * (minute + 1) → kind_left left ≡ kinds.Minute minute }

@@ -1,5 +1,5 @@
-//! The crawler's parts: a snapshot of a class's links, and the crawl of one link, which reclaims a dead item and counts
-//! what it met in a histogram. Nothing here locks.
+//! The crawler's parts. `snapshot` takes the links of all entries of a class. `crawl_one` looks at one of them, removes a dead
+//! item, and counts what it found in a histogram. Nothing here locks.
 #![tactic(auto)]
 
 mod crawling;

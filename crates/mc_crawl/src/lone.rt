@@ -11,8 +11,8 @@ use mc_pull::Lone;
 use mc_segment::ClassState;
 use std::alloc::Global;
 
-/// Crawls one link, as `crawl_one` does. It says of this gate what the call for any gate can't: that it holds the same
-/// stripe, which has only events of this crawl more, and what agreed with it agrees still.
+/// Crawls one link as `crawl_one` does. As this gate has a single stripe, the contract adds: the gate still holds it, it has
+/// gained only events of this call, and histories that agreed with it still agree.
 pub fn crawl_lone(
     alloc: Global,
     class: &mut ClassState,

@@ -1,4 +1,4 @@
-//! A snapshot of the links of a class.
+//! The snapshot of a class with which a crawl begins.
 ghost use Rattle.std.specs.Prelude.{◌≡◌, ◌≤◌, ◌++◌, ◌^◌, length, IfOk, OnOk};
 ghost use Rattle.mc_rule.specs.Lists.{count_of, lists_of};
 ghost use Rattle.mc_crawl.specs.Snapshot.{links_in, links_of};
@@ -7,7 +7,7 @@ use mc_item::{Link, NoMemory, Seg};
 use mc_segment::ClassState;
 use std::alloc::Global;
 
-// Adds the links of a segment, from its tail.
+// Adds the links of a segment's entries, from its tail on.
 fn push_segment(links: &mut Vec<Link>, class: &ClassState, seg: Seg) -> Result<(), NoMemory>
     ensures { OnOk result (links.new.items ≡ links.old.items ++ links_in class.now seg) }
 {
@@ -25,8 +25,8 @@ fn push_segment(links: &mut Vec<Link>, class: &ClassState, seg: Seg) -> Result<(
     Ok(())
 }
 
-/// The links of all entries of a class: those of HOT, of WARM, of COLD and of TEMP, each list from its tail. They are no
-/// more than a history may have events. `NoMemory` where there is none for the list.
+/// Returns the links of all entries of a class: HOT's, WARM's, COLD's, then TEMP's, each list from its tail on. There are at most
+/// 2^32, as many as a history may have events. Errors: `NoMemory` if memory for the list is refused.
 pub fn snapshot(alloc: Global, class: &ClassState) -> Result<Vec<Link>, NoMemory>
     ensures links { IfOk result (λ links. links.items ≡ links_of class.now) }
     ensures count { IfOk result (λ links. length links.items ≡ count_of (lists_of class.now.history)) }

@@ -1,4 +1,4 @@
--- An input: the scripts that it is cut into, what a run of it leaves, and what the program does with it (own).
+-- An input: the scripts that it is cut into, what holds after they ran, and what the program does with it (own).
 use Rattle.std.specs.Prelude.{ℕ, ◌≡◌, ◌<◌, List, [], Option, IfSome, length, map}
 use Rattle.std.specs.{List.All, List.flat_map, Io.KnownBytes.Appends}
 use Rattle.clap.specs.Words.{Text}
@@ -13,21 +13,20 @@ use Rattle.mc_driver.specs.declared.fault.RunFault.{RunFault}
 use Rattle.mc_driver.specs.declared.fault.RunFault.TheVariants as refusals
 use Rattle.mc_options.specs.declared.plans.Options.{Options}
 
--- what a script has printed, in memory: its bytes, and how often there was no room for more
+-- what a script has printed into memory: its bytes, and how often there was no memory for more
 pub record Printed : Type 0 where
   pub bytes : List ℕ
   pub misses : ℕ
 
--- the bytes of a script that are to come, and what it has printed
+-- a script in memory: its bytes that are still to come, and what it has printed
 abbrev pub ToAndFrom : Type 0
 ToAndFrom = List ℕ × Printed
 
--- scripts in memory are run, with upkeep at these moments: each from its bytes to what it prints, and all on one store
+-- scripts in memory ran on one store, with upkeep at these moments: each from its bytes to what it printed
 abbrev pub AreRun : Config → List ℕ → List ToAndFrom → List ToAndFrom → List Outcome → FinalView → Type 0
 AreRun = IsRunDone (λ bytes. bytes) (λ bytes. 0) (λ printed. printed.bytes) (λ printed. printed.misses)
 
--- a run of an input, with upkeep at these moments: the scripts that it is cut into are run, each from its own bytes and with
--- nothing printed, and what they print, one after the other, is this
+-- the scripts of an input, with nothing printed yet, ran with upkeep at these moments, and printed this, script by script
 pub record IsRunOf (config : Config) (moments input printed : List ℕ) (ended : List Outcome) (final : FinalView) : Type 0 where
   pub scripts : List ToAndFrom
   pub accepted : IsAccepted (length scripts) config
@@ -37,14 +36,14 @@ pub record IsRunOf (config : Config) (moments input printed : List ℕ) (ended :
   pub run : AreRun (with_callers (length scripts) config) moments scripts left ended final
   pub texts : printed ≡ flat_map (λ script. script.1.bytes) left
 
--- why an input isn't run: it is cut into more than 62 scripts, or the configuration isn't sound for so many, or memory was wanting
+-- why an input wasn't run: it has more than 62 scripts, the configuration isn't sound for so many, or memory ran out
 abbrev pub IsUnrun : RunFault → Config → List ℕ → Type 0
 IsUnrun refusals.Scripts config input = (scripts : List (List ℕ)) × cut.AreScripts (limits_of config) input scripts × (62 < length scripts)
 IsUnrun refusals.Configuration config input = (scripts : List (List ℕ)) × cut.AreScripts (limits_of config) input scripts
     × (IsRunnable (length scripts) config → ⊥)
 IsUnrun refusals.NoMemory config input = Unit {0}
 
--- an input is answered: it is run, every caller is done, and what its scripts print stands behind what the writer held
+-- an input was answered: it was run, every caller is done, and what its scripts printed was added to what the writer held
 pub record IsInputAnswered (config : Config) (moments input : List ℕ) (held holds : Option (List ℕ)) : Type 0 where
   pub printed : List ℕ
   pub ended : List Outcome
@@ -53,8 +52,7 @@ pub record IsInputAnswered (config : Config) (moments input : List ℕ) (held ho
   pub done : All (λ outcome. outcome ≡ Done) ended
   pub written : Appends held holds printed
 
--- the words are taken, what they ask for is found, and of all bytes that the reader has to give, with that configuration and
--- at those moments of upkeep, this holds
+-- the command line is accepted, and this holds for the configuration and upkeep that it asks for and all bytes of the reader
 pub record AreHeeded (words : List Text) (coming : Option (List ℕ)) (holds : Config → List ℕ → List ℕ → Type 0) : Type 0 where
   pub taken : command_line.refusals words ≡ []
   pub sizes : Option (List ℕ)
@@ -65,6 +63,6 @@ pub record AreHeeded (words : List Text) (coming : Option (List ℕ)) (holds : C
   pub whole : IfSome coming (λ bytes. input ≡ bytes)
   pub done : holds (asked sizes options) moments input
 
--- the program does its work: all bytes that the reader has to give are answered as the words ask
+-- the program did its work: it answered all bytes that the reader has to give, as the words ask
 abbrev pub HasServed : List Text → Option (List ℕ) → Option (List ℕ) → Option (List ℕ) → Type 0
 HasServed words coming held holds = AreHeeded words coming (λ config moments input. IsInputAnswered config moments input held holds)

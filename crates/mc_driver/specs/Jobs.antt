@@ -1,4 +1,4 @@
--- What the callers of a run work at, and what their work leaves (own).
+-- The work of a run's callers, and what holds after it (own).
 use Rattle.std.specs.Prelude.{ℕ, ◌≡◌, List, [], ◌∷◌, ◌++◌, map}
 use Rattle.mc_item.specs.declared.config.Config.{Config}
 use Rattle.mc_proto.specs.declared.request.Limits.{Limits}
@@ -10,22 +10,22 @@ use Rattle.mc_driver.specs.Caller.{AreNoted, MayCall}
 use Rattle.mc_driver.specs.declared.{jobs.Work.Work, jobs.Work.TheVariants.Script, jobs.Work.TheVariants.Upkeep}
 
 module _ {S K : Type 0} where
-  -- the work of a script: its source and its sink
+  -- the work of a script with this source and this sink
   abbrev pub script_of : S × K → Work S K
   script_of ends = Script (record { source = ends.0; sink = ends.1 })
 
-  -- the works of a run: its scripts in order, then the maintainer's, then the crawler's
+  -- all work of a run: its scripts in order, then the maintainer's upkeep, then the crawler's
   abbrev pub works_of : List (S × K) → List (Work S K)
   works_of scripts = map script_of scripts ++ Upkeep Maintainer ∷ Upkeep Crawler ∷ []
 
-  -- the sources and sinks of those works that are scripts, in order
+  -- the sources and sinks of the scripts among these works, in order
   abbrev pub ends_in : List (Work S K) → List (S × K)
   ends_in [] = []
   ends_in (Script ends ∷ works) = (ends.source, ends.sink) ∷ ends_in works
   ends_in (Upkeep keeper ∷ works) = ends_in works
 
   module _ (coming : S → List ℕ) (reads : S → ℕ) (taken : K → List ℕ) (writes : K → ℕ) where
-    -- what a work leaves, by how it ended: a script's replies and calls, or upkeep at these moments
+    -- what holds after work with this outcome: a script's bytes, calls and failures, or the calls of upkeep at these moments
     abbrev pub Works : Limits → List ℕ → (List Exchange → Type 0) → ℕ → Outcome → Work S K → Work S K → Type 0
     Works limits moments notes caller outcome (Script ends) (Script left) =
         Leaves outcome limits (coming ends.source) (coming left.source) (taken ends.sink) (taken left.sink) notes caller
@@ -35,7 +35,7 @@ module _ {S K : Type 0} where
     Works limits moments notes caller outcome (Script ends) (Upkeep left) = ⊥
     Works limits moments notes caller outcome (Upkeep keeper) (Script left) = ⊥
 
--- the pass of a caller that may make its first call
+-- the pass of a caller that has made no call and may make its first
 pub record IsAtStart (config : Config) (pass : PassView) : Type 0 where
   pub may : MayCall config pass
   pub first : pass.turn ≡ 0
@@ -46,13 +46,13 @@ abbrev pub IsIdle : {S K : Type 0} → List ℕ → Work S K → PassView → Pa
 IsIdle moments (Script ends) pass pass' = Unit {0}
 IsIdle moments (Upkeep keeper) pass pass' = moments ≡ [] → pass' ≡ pass
 
--- upkeep that was done has had a turn for each call of its work
+-- upkeep that is done has taken a turn for each call of its work
 abbrev pub HasHadTurns : {S K : Type 0} → Limits → List ℕ → Outcome → Work S K → PassView → Type 0
 HasHadTurns limits moments outcome (Script ends) pass = Unit {0}
 HasHadTurns limits moments outcome (Upkeep keeper) pass = outcome ≡ outcomes.Done → pass.turn ≡ many_calls limits keeper moments
 
 module _ {S K : Type 0} (coming : S → List ℕ) (reads : S → ℕ) (taken : K → List ℕ) (writes : K → ℕ) where
-  -- a caller has done its work: what is left of it, and what is known of the caller's pass before and behind it
+  -- a caller has worked, with this outcome: what holds of its work and of its pass, before and after
   pub record HasWorked (config : Config) (limits : Limits) (moments : List ℕ) (pass pass' : PassView) (outcome : Outcome) (work work' : Work S K) : Type 0 where
     pub works : Works coming reads taken writes limits moments (AreNoted config pass') pass.caller outcome work work'
     pub caller : pass'.caller ≡ pass.caller

@@ -1,4 +1,4 @@
--- What a run leaves, of each of its callers and of the store (own).
+-- What holds after a run, of each of its callers and of the store (own).
 use Rattle.std.specs.Prelude.{ℕ, ◌≡◌, ◌<◌, ◌+◌, List, [], length, slice_index_or}
 use Rattle.mc_item.specs.declared.config.Config.{Config}
 use Rattle.mc_script.specs.{Run.AreCounted, Run.Leaves, Upkeep.KeepsUp, Upkeep.work_of}
@@ -8,24 +8,23 @@ use Rattle.mc_store.specs.Finals.{FinalView}
 use Rattle.mc_driver.specs.{Called.AreByCallers, Called.AreWholeTurns, Called.HasCalls, Stand.AreItsCalls, Stand.Histories}
 use Rattle.mc_driver.specs.Run.{HasFull, IsStore, callers_at_work, histories_left, limits_of}
 
--- what upkeep at these moments leaves, by how it ended: its calls stand in the histories in turn, and on stripes its caller
--- made no command
+-- what holds after upkeep at these moments with this outcome: the histories have its calls in turn, and no command of its caller
 abbrev pub IsKeptUp : Keeper → Config → List ℕ → ℕ → Outcome → Histories → Type 0
 IsKeptUp keeper config moments caller outcome histories =
     KeepsUp outcome (limits_of config) (work_of keeper moments) (AreItsCalls config caller histories) caller
 
--- of this many scripts and of upkeep, the maintainer and the crawler are done
+-- the maintainer's and the crawler's outcomes, after those of this many scripts, are `Done`
 pub record AreKeepersDone (scripts : ℕ) (ended : List Outcome) : Type 0 where
   pub maintainer : (outcome : Outcome) → slice_index_or ended scripts outcome ≡ outcomes.Done
   pub crawler : (outcome : Outcome) → slice_index_or ended (scripts + 1) outcome ≡ outcomes.Done
 
 module _ {S K : Type 0} (coming : S → List ℕ) (reads : S → ℕ) (taken : K → List ℕ) (writes : K → ℕ) where
-  -- a script's source and sink as they were, as they are left, and how the script ended
+  -- what holds after the script of this caller: its bytes, its calls in the histories, and its failures, by its outcome
   pub record IsScriptLeft (config : Config) (histories : Histories) (caller : ℕ) (ends left : S × K) (outcome : Outcome) : Type 0 where
     pub leaves : Leaves outcome (limits_of config) (coming ends.0) (coming left.0) (taken ends.1) (taken left.1) (AreItsCalls config caller histories) caller
     pub counted : AreCounted outcome (reads ends.0) (reads left.0) (writes ends.1) (writes left.1)
 
-  -- a run is done: scripts with upkeep at these moments, on a store of this configuration
+  -- what holds after a run of scripts, with upkeep at these moments, on a store of this configuration
   pub record IsRunDone (config : Config) (moments : List ℕ) (scripts ends : List (S × K)) (ended : List Outcome) (final : FinalView) : Type 0 where
     pub each : (i : ℕ) (d : S × K) (outcome : Outcome) → i < length scripts
         → IsScriptLeft config (histories_left final) i (slice_index_or scripts i d) (slice_index_or ends i d) (slice_index_or ended i outcome)

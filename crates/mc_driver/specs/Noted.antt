@@ -1,4 +1,4 @@
--- What the histories of a store note: exchanges, each where it was answered, behind what its caller had seen (own).
+-- How the histories of a store note a call with its answer, after all that its caller had seen by then (own).
 use Rattle.std.specs.Prelude.{ℕ, ◌≡◌, List, [], ◌∷◌, ◌++◌}
 use Rattle.std.specs.List.{flat_map}
 use mathlib.Core.List.{IsPrefix}
@@ -18,11 +18,11 @@ use Rattle.mc_item.specs.Counts.{no_counts}
 use Rattle.mc_item.specs.declared.reply.Room.TheVariants as rooms
 use Rattle.mc_store.specs.{Crawls.AreLinksCounted, Crawls.HasReclaims, Earned.IsLastResort, Locked.setting_of, Sides.class_told}
 
--- the exchange that an answered command is, whatever its room
+-- an answered command as an exchange, without its room (the link or the refusal that it was given)
 abbrev pub exchange_of : Did → Exchange
 exchange_of did = record { who = did.who; call = Asks did.command; moment = did.moment; answer = Replied did.reply }
 
--- the exchanges that an event of a stripe notes
+-- the exchange that an event of a stripe notes: one for an answered command, none for a loss or a cleared mark
 abbrev pub exchanges_noted : StripeEvent → List Exchange
 exchanges_noted (events.Did did) = exchange_of did ∷ []
 exchanges_noted (events.Lost lost) = []
@@ -32,17 +32,16 @@ exchanges_noted (events.Cooled cooled) = []
 abbrev pub exchanges_in : List StripeEvent → List Exchange
 exchanges_in history = flat_map exchanges_noted history
 
--- a command that was answered, by its parts
+-- the answered command with these parts
 abbrev pub answered_command : Who → Command → ℕ → Reply → Room → Did
 answered_command who command moment reply room = record { who = who; command = command; moment = moment; reply = reply; room = room }
 
--- the event of a command that was answered
+-- the event of the answered command with these parts
 abbrev pub answered_event : Who → Command → ℕ → Reply → Room → StripeEvent
 answered_event who command moment reply room = events.Did (answered_command who command moment reply room)
 
--- the history of the stripe of this number of a configuration has this answered command, behind what was seen of it; and a
--- refusal that the answer cites stands in its class's history, wasn't made at once, and stands behind all rounds of a search by
--- the same call
+-- a stripe's history has this answered command after what was seen of it. If it cites a refusal, the class's history has that
+-- one, by the same call, made not at once but after all rounds of a search
 pub record NotesCommand (config : Config) (number : ℕ) (seen history : List StripeEvent) (classes : ClassNo
     → List ClassEvent) (who : Who) (command : Command) (moment : ℕ) (reply : Reply) : Type 0 where
   pub before : List StripeEvent
@@ -55,8 +54,7 @@ pub record NotesCommand (config : Config) (number : ℕ) (seen history : List St
   pub last : (class : ClassNo) (place : ℕ) → IsClass (setting_of config) class → room ≡ rooms.Refused class place
       → IsLastResort config (record { 0 = number }) class place (classes class) (answered_command who command moment reply room)
 
--- a class's history has a call's juggling, with these moves, behind what was seen of it: its surveys and the events of its
--- walks stand together
+-- a class's history has a call's juggling with these moves, after what was seen of it: surveys and walks in one unbroken stretch
 pub record NotesJuggling (config : Config) (seen history : List ClassEvent) (who : Who) (class : ClassNo) (moment : ℕ) (moves : Moves) : Type 0 where
   pub before : List ClassEvent
   pub own : List ClassEvent
@@ -66,9 +64,8 @@ pub record NotesJuggling (config : Config) (seen history : List ClassEvent) (who
   pub answers : List GateAnswer
   pub juggled : IsJuggle (rounds (opened config class) who moment config) before answers (before ++ own) moves
 
--- a class's history has a call's crawl, with these counts: the entries that were there at one point, behind what was seen of
--- it, were counted one after another from there on, each as one kind; and what was reclaimed stands behind what was seen, by
--- this call and of its moment
+-- a class's history has a call's crawl: the entries at one point after what was seen, counted one by one, give this histogram.
+-- The events after what was seen have a `Reclaimed` by this call, at this moment, for each that it counts as reclaimed
 pub record NotesCrawling (config : Config) (seen history : List ClassEvent) (who : Who) (class : ClassNo) (moment : ℕ) (histogram : Histogram) : Type 0 where
   pub at : List ClassEvent
   pub behind : List ClassEvent

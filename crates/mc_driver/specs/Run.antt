@@ -1,4 +1,4 @@
--- Which runs are accepted, and the store that one leaves.
+-- Which runs are accepted, and the store that a run leaves.
 use Rattle.std.specs.Prelude.{ℕ, ◌≡◌, ◌<◌, ◌≤◌, ◌+◌, ◌-◌, ◌⊎◌, List, [], ◌∷◌, Some, None, length, slice_get, slice_index}
 use Rattle.mc_item.specs.{Config.fault_of, Stripe.IsLegal}
 use Rattle.mc_item.specs.declared.{answer.Site.Site, config.Config.Config, item.ClassNo.ClassNo}
@@ -13,11 +13,11 @@ use Rattle.mc_driver.specs.declared.fault.RunFault.{RunFault}
 use Rattle.mc_driver.specs.declared.fault.RunFault.TheVariants as refusals
 use Rattle.mc_driver.specs.Stand.{Histories}
 
--- what a reader has to know of a configuration: the size of the last slab class, and how many there are
+-- what a reader of requests needs of a configuration: the size of the last slab class, and the number of classes
 abbrev pub limits_of : Config → Limits
 limits_of config = record { largest = slice_index config.sizes (length config.sizes - 1); classes = length config.sizes }
 
--- the stripe of this number of a configuration
+-- the stripe with this number in a configuration
 abbrev pub site_of : Config → ℕ → Site
 site_of config number = record { stripe = number; stripes = config.stripes; sizes = config.sizes }
 
@@ -39,19 +39,19 @@ with_callers scripts config =
       keeps_events = config.keeps_events;
     }
 
--- so many scripts may be run at once
+-- so many scripts can run at once: 1 to 62
 abbrev pub CanRunAtOnce : ℕ → Type 0
 CanRunAtOnce scripts = (1 ≤ scripts) × (scripts ≤ 62)
 
--- the configuration is sound
+-- the configuration is sound with the callers for so many scripts
 abbrev pub IsRunnable : ℕ → Config → Type 0
 IsRunnable scripts config = fault_of (with_callers scripts config) ≡ None
 
--- so many scripts, and this configuration, may be run
+-- so many scripts can run at once, and the configuration is sound for them
 abbrev pub IsAccepted : ℕ → Config → Type 0
 IsAccepted scripts config = CanRunAtOnce scripts × IsRunnable scripts config
 
--- why they are not: the number of scripts comes first, then the configuration, then memory
+-- why a run is refused: the number of scripts comes first, then the configuration, then memory
 abbrev pub IsRefused : RunFault → ℕ → Config → Type 0
 IsRefused refusals.Scripts scripts config = CanRunAtOnce scripts → ⊥
 IsRefused refusals.Configuration scripts config = CanRunAtOnce scripts × (IsRunnable scripts config → ⊥)
@@ -62,14 +62,14 @@ abbrev pub callers_at_work : ℕ → List ℕ → ℕ
 callers_at_work scripts [] = scripts
 callers_at_work scripts (moment ∷ moments) = scripts + 2
 
--- a stripe of this number of a configuration, with a legal history
+-- this is the stripe with this number in a configuration, and its history is legal
 pub record IsStripe (config : Config) (number : ℕ) (s : Stripe) : Type 0 where
   pub site : s.site ≡ site_of config number
   pub limit : s.limit ≡ config.max_events
   pub keeps_events : s.keeps_events ≡ config.keeps_events
   pub legal : IsLegal s.site s.history
 
--- a class of this number of a configuration
+-- this is the slab class with this number in a configuration
 pub record IsClassNumbered (config : Config) (number : ClassNo) (c : ClassView) : Type 0 where
   pub number_is : c.number ≡ number
   pub made_with : IsClassOf config c
@@ -78,8 +78,8 @@ pub record IsClassNumbered (config : Config) (number : ClassNo) (c : ClassView) 
 abbrev pub histories_left : FinalView → Histories
 histories_left final = record { stripes = stripe_histories final.stripes; classes = class_histories final.classes }
 
--- a store of a configuration as a run leaves it: all stripes and all classes, in the order of their numbers. Each history is
--- legal or lawful, any two are evidence of each other, and the items are exactly the entries
+-- a store of a configuration as a run leaves it: all stripes and classes in the order of their numbers, sound together. Each
+-- history is legal or lawful, a stripe's and a class's are evidence of each other, and the items are exactly the entries
 pub record IsStore (config : Config) (final : FinalView) : Type 0 where
   pub count : length final.stripes ≡ config.stripes
   pub each : (number : ℕ) (s : StripeSide) → slice_get final.stripes number ≡ Some s → IsStripe config number s.stripe
@@ -88,19 +88,19 @@ pub record IsStore (config : Config) (final : FinalView) : Type 0 where
   pub sound : IsSoundStore (setting_of config) (stripe_histories final.stripes) (class_histories final.classes)
   pub entries : AreExactlyEntries (setting_of config) (stripe_histories final.stripes) (class_histories final.classes)
 
--- one of a configuration's stripes has less than two places left in its history
+-- a stripe of a configuration has fewer than two places left in its history
 pub record HasFullStripe (config : Config) (histories : Histories) : Type 0 where
   pub number : ℕ
   pub below : number < config.stripes
   pub full : config.max_events < length (histories.stripes number) + 2
 
--- one of a configuration's classes has less than two places left in its history
+-- a slab class of a configuration has fewer than two places left in its history
 pub record HasFullClass (config : Config) (histories : Histories) : Type 0 where
   pub number : ClassNo
   pub first : 1 ≤ number.0
   pub last : number.0 ≤ length config.sizes
   pub full : config.max_events < length (histories.classes number) + 2
 
--- one of a configuration's histories has less than two places left
+-- a stripe or a slab class of a configuration has fewer than two places left in its history
 abbrev pub HasFull : Config → Histories → Type 0
 HasFull config histories = HasFullStripe config histories ⊎ HasFullClass config histories

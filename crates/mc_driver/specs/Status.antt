@@ -1,4 +1,4 @@
--- What the program's exit status tells where it isn't 0 (own).
+-- What the program's exit status says if it isn't 0 (own).
 use Rattle.std.specs.Prelude.{ℕ, ◌≡◌, ◌≢◌, ◌<◌, ◌⊎◌, List, [], Option, Some, length, slice_index_or, take}
 use Rattle.std.specs.{List.All, Io.KnownBytes.Appends}
 use Rattle.clap.specs.Kinds.{IsAmong}
@@ -15,7 +15,7 @@ use Rattle.mc_options.specs.declared.plans.Options.{Options}
 use Rattle.mc_driver.specs.Input.{AreHeeded, IsRunOf, IsUnrun}
 use Rattle.mc_driver.specs.declared.fault.RunFault.TheVariants as unrun
 
--- the status that tells how a caller ended; a sink in memory fails where memory does
+-- the exit status for a caller's outcome; `Output` gives that of `Memory`, as a sink in memory fails if memory runs out
 abbrev pub status_of : Outcome → ℕ
 status_of Done = 0
 status_of Memory = 1
@@ -23,15 +23,14 @@ status_of HistoryFull = 1
 status_of Output = 1
 status_of Input = 3
 
--- of callers that ended so, in their order, the first that isn't done is told by this status
+-- one caller's outcome has this status, and all callers before it are done
 pub record IsFirstFault (status : ℕ) (ended : List Outcome) : Type 0 where
   pub place : ℕ
   pub within : place < length ended
   pub done : All (λ outcome. outcome ≡ Done) (take place ended)
   pub told : (d : Outcome) → status_of (slice_index_or ended place d) ≡ status
 
--- an input is answered as far as this status tells: it is run, what its scripts print stands behind what the writer held,
--- and the first caller that isn't done is told by the status
+-- an input was run, its scripts' texts were added to what the writer held, and the status is that of the first caller not done
 pub record IsAnsweredInPart (status : ℕ) (config : Config) (moments input : List ℕ) (held holds : Option (List ℕ)) : Type 0 where
   pub printed : List ℕ
   pub ended : List Outcome
@@ -40,7 +39,7 @@ pub record IsAnsweredInPart (status : ℕ) (config : Config) (moments input : Li
   pub fault : IsFirstFault status ended
   pub written : Appends held holds printed
 
--- all bytes that the reader has to give are answered as the words ask, as far as this status tells
+-- the program ran all bytes that the reader has to give, as the words ask, wrote all replies, and gives the first fault's status
 abbrev pub HasServedInPart : ℕ → List Text → Option (List ℕ) → Option (List ℕ) → Option (List ℕ) → Type 0
 HasServedInPart status words coming held holds = AreHeeded words coming (λ config moments input. IsAnsweredInPart status config moments input held holds)
 
@@ -48,7 +47,7 @@ HasServedInPart status words coming held holds = AreHeeded words coming (λ conf
 abbrev pub AreForHelp : List Text → Type 0
 AreForHelp words = IsAmong DisplayHelp (refusals words) ⊎ IsAmong DisplayVersion (refusals words)
 
--- the reader of the command line refuses the words, for what isn't a wish for help or the version
+-- the reader of the command line refuses the words, and they don't ask for help or the version
 pub record AreMistaken (words : List Text) : Type 0 where
   pub kind : ErrorKind
   pub refused : IsAmong kind (refusals words)
@@ -64,8 +63,7 @@ pub record HaveFault (words : List Text) : Type 0 where
   pub fault : ConfigFault
   pub has : fault_of (asked sizes options) ≡ Some fault
 
--- the words are refused: by the reader of the command line, or, where it takes them, for a bad list or the configuration that
--- they ask for
+-- the words are refused: by the reader of the command line, or else for a bad list or a configuration with a fault
 abbrev pub AreRefused : List Text → Type 0
 AreRefused words = AreMistaken words ⊎ ((refusals words ≡ []) × (IsBadList (sizes_in words) (upkeep_in words) ⊎ HaveFault words))
 

@@ -1,4 +1,4 @@
-//! A caller of a store that threads share, as what answers its calls.
+//! A caller of the shared store: answers the calls of a script or of upkeep.
 ghost use Rattle.std.specs.Prelude.{◌≡◌, ◌<◌, ◌-◌, ◌^◌, OnOk, IfErr};
 ghost use Rattle.mc_item.specs.declared.fault.Fault.TheVariants.{NoMemory};
 
@@ -8,7 +8,7 @@ use mc_store::{Named, Pass, Store};
 use std::alloc::Global;
 use std::sync::Wait;
 
-/// A caller of a store, with its pass.
+/// A caller of a store, with its pass (which knows what the caller has seen).
 #[derive(Drop)]
 pub(crate) struct Caller<'a, N: Named> {
     alloc: Global,
@@ -17,21 +17,21 @@ pub(crate) struct Caller<'a, N: Named> {
 }
 
 impl<'a, N: Named> Caller<'a, N> {
-    /// The caller of a pass.
+    /// Creates the caller of a pass.
     pub fn new(alloc: Global, store: &'a Store<N>, pass: Pass<N>) -> Caller<'a, N>
         ensures pass { result.pass ≡ pass }
     {
         Caller { alloc, store, pass }
     }
 
-    /// The pass, as the caller leaves it.
+    /// Returns the pass, as the caller's calls have left it.
     pub fn into_pass(self) -> Pass<N>
         ensures { result ≡ self.entry.pass }
     {
         self.pass
     }
 
-    // Goes on where the pass has a turn left. Nobody has had 2^63 - 1 turns; who had would find no memory for one more.
+    // Checks that the pass has had fewer than 2^63 - 1 turns, and else returns `NoMemory`. No run is that long.
     fn check_turn(&self) -> Result<(), Fault>
         ensures left { OnOk result (self.now.pass.turn < 2 ^ 63 - 1) }
         ensures full { IfErr result (λ fault. fault ≡ NoMemory) }

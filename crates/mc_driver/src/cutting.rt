@@ -1,4 +1,4 @@
-//! Runs of an input: of the scripts that it is cut into.
+//! Cuts an input into its scripts, and runs them.
 ghost use Rattle.std.specs.Prelude.{◌≡◌, ◌≤◌, ◌^◌, IfErr, IfOk};
 ghost use Rattle.std.specs.List.{All, flat_map};
 ghost use Rattle.mc_item.specs.Config.{IsBounded};
@@ -20,7 +20,8 @@ use std::thread::Threads;
 /// How many scripts may run at once.
 pub(crate) const MOST_SCRIPTS: usize = 62;
 
-/// Cuts an input into its scripts, and runs them all at once, with upkeep at these moments.
+/// Cuts an input into its scripts, and runs them all at once, with upkeep at these moments. Returns what the run leaves.
+/// Errors: `Scripts` for more than 62 scripts, `Configuration` if that isn't sound for so many, `NoMemory`.
 pub(crate) fn run_cut<'a, R: Threads + Wait + Sync, L: Ledger + Send + Sync>(
     rt: &'a R,
     alloc: Global,

@@ -8,7 +8,7 @@ use std::alloc::AllocError;
 /// Why no script was run.
 #[derive(Clone, Copy, Debug, PartialEq, Eq)]
 pub enum RunFault {
-    /// A growth was refused.
+    /// An allocation failed.
     NoMemory,
     /// The configuration isn't sound.
     Configuration,

@@ -1,4 +1,4 @@
-//! An input: the scripts that it is cut into, with a source and a sink for each.
+//! Cuts an input into scripts, with a source and a sink for each.
 ghost use Rattle.std.specs.Prelude.{◌≡◌, ◌≤◌, [], IfOk, length, map};
 ghost use Rattle.std.specs.List.{All, flat_map};
 ghost use Rattle.mc_proto.specs.Scripts.{AreScripts};
@@ -11,10 +11,10 @@ use std::collections::VecDeque;
 use std::sync::ledger::{Book, Ledger, Share};
 use std::sync::{Mutex, Wait};
 
-/// How many bytes a piece has at most, so that the requests of so many alone are in memory at once.
+/// How many bytes a piece has at most. A script has only the requests of one piece in memory at a time.
 pub(crate) const PIECE: usize = 65536;
 
-/// The sources of an input's scripts, in order. A piece that lies whole in one script moves to its source.
+/// Cuts an input into its scripts, and returns a source for each, in order. A piece that is whole in one script isn't copied.
 pub(crate) fn sources_of(
     alloc: Global,
     limits: Limits,
@@ -29,7 +29,7 @@ pub(crate) fn sources_of(
     Ok(sources)
 }
 
-/// Scripts of these sources, in order, each with a sink in memory, whose failures stand in one book.
+/// Gives each source, in order, an empty sink in memory. One book counts the failures of all sinks.
 pub(crate) fn scripts_of<'a, R: Wait, L: Ledger>(
     rt: &'a R,
     alloc: Global,

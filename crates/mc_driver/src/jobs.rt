@@ -1,4 +1,4 @@
-//! The callers of a run at work: scripts, the maintainer and the crawler, each on a thread.
+//! Runs the callers of a run: the scripts, the maintainer and the crawler, each on a thread.
 ghost use Rattle.std.specs.Prelude.{◌≡◌, ◌≤◌, ◌<◌, ◌+◌, ◌^◌, ◌++◌, ◌∷◌, [], ℕ, IfOk, length, map, slice_index_or, vec_len, vec_capacity};
 ghost use Rattle.std.specs.List.{All};
 ghost use Rattle.mc_script.specs.Script.{AllThere};
@@ -16,14 +16,14 @@ use std::alloc::Global;
 use std::sync::Wait;
 use std::thread::{self, Threads};
 
-/// What a caller works at: a script, with its source and its sink, or the upkeep of all slab classes.
+/// A caller's work: a script, with its source and its sink, or the upkeep of all slab classes.
 #[derive(Drop)]
 pub(crate) enum Work<S: Drop, K: Drop> {
     Script(Both<S, K>),
     Upkeep(Keeper),
 }
 
-/// A caller of a store, what it works at, and how that ended.
+/// A caller of a store, its work, and how that ended.
 #[derive(Drop)]
 pub(crate) struct Job<'a, N: Named, S: Drop, K: Drop> {
     pub(crate) calls: Caller<'a, N>,
@@ -31,7 +31,7 @@ pub(crate) struct Job<'a, N: Named, S: Drop, K: Drop> {
     pub(crate) outcome: Outcome,
 }
 
-// Does a caller's work.
+// Does a caller's work, and keeps its outcome.
 fn run_job<'a, N: Named, S: Source, K: Sink>(
     rt: &impl Wait,
     alloc: Global,
@@ -52,8 +52,8 @@ fn run_job<'a, N: Named, S: Source, K: Sink>(
     };
 }
 
-/// Does the work of each caller, all at once: each on a thread of its own, where so many may be taken. Where a thread can't
-/// be had, the one that was to start it does its work.
+/// Does the work of all callers at once, on at most `threads` threads.
+/// If a thread can't be started, the one that tried does its work.
 pub(crate) fn run_jobs<
     'a,
     N: Named + Send + Sync,
@@ -87,7 +87,7 @@ pub(crate) fn run_jobs<
     );
 }
 
-// The job of a pass, which is still to be done.
+// Creates the job of a pass, which is still to be done.
 fn job_of<'a, N: Named, S: Source, K: Sink>(
     alloc: Global,
     store: &'a Store<N>,
@@ -104,7 +104,7 @@ fn job_of<'a, N: Named, S: Source, K: Sink>(
     }
 }
 
-/// The jobs of a run: a script for each of the first passes, in order, then the maintainer's and the crawler's.
+/// Creates the jobs of a run, one for each pass in order: the scripts, then the maintainer's, then the crawler's.
 pub(crate) fn jobs_for<'a, N: Named, S: Source, K: Sink>(
     alloc: Global,
     store: &'a Store<N>,
@@ -129,7 +129,7 @@ pub(crate) fn jobs_for<'a, N: Named, S: Source, K: Sink>(
     Ok(jobs)
 }
 
-/// What jobs leave: the passes, how each ended, and the sources and sinks of the scripts, in order.
+/// What jobs leave, in order: the passes, the outcomes, and the sources and sinks of the scripts.
 #[derive(Drop)]
 pub(crate) struct Ended<N: Named, S: Drop, K: Drop> {
     pub(crate) passes: Vec<Pass<N>>,
@@ -138,7 +138,7 @@ pub(crate) struct Ended<N: Named, S: Drop, K: Drop> {
 }
 
 impl<N: Named, S: Source, K: Sink> Ended<N, S, K> {
-    /// Nothing yet, with room for so many jobs.
+    /// Creates an empty `Ended`, with memory reserved for so many jobs.
     pub(crate) fn with_room(alloc: Global, jobs: usize) -> Result<Ended<N, S, K>, NoMemory>
         ensures none { IfOk result (λ ended. (ended.passes.items ≡ []) × (ended.outcomes.items ≡ []) × (ended.ends.items ≡ [])) }
         ensures room { IfOk result (λ ended. (jobs ≤ vec_capacity ended.passes) × (jobs ≤ vec_capacity ended.outcomes) × (jobs ≤ vec_capacity ended.ends)) }
@@ -150,7 +150,7 @@ impl<N: Named, S: Source, K: Sink> Ended<N, S, K> {
         })
     }
 
-    // A job more.
+    // Adds what one job leaves, into memory that is already reserved.
     fn end_one(&mut self, job: Job<'_, N, S, K>)
         requires room { (vec_len self.old.passes < vec_capacity self.old.passes) × (vec_len self.old.outcomes < vec_capacity self.old.outcomes)
             × (vec_len self.old.ends < vec_capacity self.old.ends) }
@@ -173,7 +173,7 @@ impl<N: Named, S: Source, K: Sink> Ended<N, S, K> {
         }
     }
 
-    /// All jobs, in order; there has to be room for them.
+    /// Adds what these jobs leave, in order. `self` must be empty, with memory reserved for them.
     pub(crate) fn end_all(&mut self, jobs: Vec<Job<'_, N, S, K>>)
         requires none { (self.old.passes.items ≡ []) × (self.old.outcomes.items ≡ []) × (self.old.ends.items ≡ []) }
         requires room { (length jobs.items ≤ vec_capacity self.old.passes) × (length jobs.items ≤ vec_capacity self.old.outcomes)

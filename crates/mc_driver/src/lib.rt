@@ -1,4 +1,4 @@
-//! Scripts of requests from bytes to bytes, and the program round them.
+//! Runs scripts of requests at once on one store, and the whole program around them.
 #![tactic(auto)]
 
 mod caller;

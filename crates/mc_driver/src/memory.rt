@@ -12,7 +12,7 @@ use std::marker::Model;
 use std::sync::ledger::{Book, Ledger, Share};
 use std::sync::{Mutex, Wait};
 
-/// A source that gives its pieces one by one, and keeps none that it gave. It never fails.
+/// A source that gives its pieces one by one, and keeps none of those it gave. It never fails.
 #[derive(Drop)]
 pub struct Pieces {
     pieces: VecDeque<Vec<u8>>,
@@ -28,7 +28,7 @@ impl Model for Pieces {
 }
 
 impl Pieces {
-    /// A source of these pieces.
+    /// Creates a source of these pieces.
     pub fn new(pieces: VecDeque<Vec<u8>>) -> Pieces
         ensures { result ≡ flat_map (λ v. v.items) pieces.items }
     {
@@ -46,10 +46,10 @@ impl Source for Pieces {
     }
 }
 
-// So much room a text has that takes the place of one that is kept.
+// How many bytes of room an empty text gets, once the sink has taken the bytes of the full one.
 const ROOM: usize = 81920;
 
-// Keeps a copy of some bytes behind the pieces.
+// Appends a copy of some bytes to the pieces. After an `Err` the pieces are unchanged.
 fn keep_copy(alloc: Global, pieces: &mut Vec<TextPart>, bytes: &[u8]) -> Result<(), NoMemory>
     ensures ok { OnOk result (bytes_of_parts pieces.new.items ≡ bytes_of_parts pieces.old.items ++ bytes.now) }
     ensures err { OnErr result (pieces.new.items ≡ pieces.old.items) }
@@ -60,11 +60,11 @@ fn keep_copy(alloc: Global, pieces: &mut Vec<TextPart>, bytes: &[u8]) -> Result<
     Ok(())
 }
 
-/// A sink that keeps what it takes. It fails where it finds no memory; how often, its share of a ledger says, whose book
-/// all sinks of a run have in common.
+/// A sink that keeps what it takes in memory. It fails if memory runs out, and counts its failures in its share of a ledger.
+/// All sinks of a run have one book of that ledger in common.
 #[derive(Drop)]
 pub struct Kept<'a, R: Wait, L: Ledger> {
-    /// What it has taken, in pieces.
+    /// What the sink has taken, in pieces.
     pub pieces: Vec<TextPart>,
     rt: &'a R,
     alloc: Global,
@@ -74,7 +74,7 @@ pub struct Kept<'a, R: Wait, L: Ledger> {
 }
 
 impl<'a, R: Wait, L: Ledger> Kept<'a, R, L> {
-    /// A sink that has taken nothing.
+    /// Creates a sink that has taken nothing.
     pub fn new(
         rt: &'a R,
         alloc: Global,
@@ -93,7 +93,7 @@ impl<'a, R: Wait, L: Ledger> Kept<'a, R, L> {
         }
     }
 
-    // A failure.
+    // Counts a failure.
     fn fail(&mut self) -> SinkFault
         ensures pieces { self.new.pieces.items ≡ self.old.pieces.items }
         ensures count { self.new.share.amount ≡ self.old.share.amount + 1 }

@@ -1,4 +1,4 @@
-//! Prints what scripts replied.
+//! Prints the replies of scripts.
 ghost use Rattle.std.specs.Prelude.{OnOk};
 ghost use Rattle.std.specs.{List.flat_map, Io.KnownBytes.Appends};
 ghost use Rattle.mc_proto.specs.Gathered.{bytes_of_parts};
@@ -19,7 +19,7 @@ fn print_pieces<W: Write>(writer: &mut W, pieces: &[TextPart]) -> io::Result<()>
     Ok(())
 }
 
-/// Prints what scripts replied, script by script, and hands on what the writer may hold back.
+/// Prints the replies of scripts, script by script, and flushes the writer.
 pub(crate) fn print_scripts<R: Wait, L: Ledger, W: Write>(
     writer: &mut W,
     ends: &[(Pieces, Kept<'_, R, L>)],

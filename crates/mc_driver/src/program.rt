@@ -1,4 +1,4 @@
-//! The program, over any reader and writers.
+//! The whole program, over any reader and writers.
 ghost use Rattle.std.specs.Prelude.{◌≡◌, ◌≢◌, ◌≤◌, ◌<◌, ◌^◌, ◌⊎◌, IsTrue, ◌↔◌, []};
 ghost use Rattle.std.specs.{List.All, List.flat_map, Io.KnownBytes.Keeps};
 ghost use Rattle.clap.specs.Words.{kind_of};
@@ -43,7 +43,7 @@ const INPUT: &[u8] = b"mcseg: input failed\n";
 
 const OUTPUT: &[u8] = b"mcseg: output failed\n";
 
-// A line on standard error; that it fails changes no status.
+// Writes a line to standard error, and returns the status, even if the write fails.
 fn say_line<E: Write>(errors: &mut E, line: &[u8], status: u8) -> u8
     ensures { result ≡ status }
 {
@@ -51,13 +51,13 @@ fn say_line<E: Write>(errors: &mut E, line: &[u8], status: u8) -> u8
     status
 }
 
-// Writes a text, and hands on what a writer may hold back.
+// Writes a text, and flushes the writer.
 fn print_all<W: Write>(writer: &mut W, text: &[u8]) -> io::Result<()> {
     writer.write_all(text)?;
     writer.flush()
 }
 
-// What the reader of the command line says: help and version go to the output, refusals to the errors.
+// Prints what the reader of the command line says: help and version to the output, refusals to standard error.
 fn say_words<W: Write, E: Write>(alloc: Global, error: &Error, writer: &mut W, errors: &mut E) -> u8
     ensures memory { kind_of error.now ≡ OutOfMemory → result ≡ 1 }
     ensures shown { result ≡ 0 → (kind_of error.now ≡ DisplayHelp) ⊎ (kind_of error.now ≡ DisplayVersion) }
@@ -80,7 +80,7 @@ fn say_words<W: Write, E: Write>(alloc: Global, error: &Error, writer: &mut W, e
     }
 }
 
-// What is wrong with a configuration, by its number.
+// Says what is wrong with a configuration, by the fault's number.
 fn say_configuration<E: Write>(alloc: Global, number: u8, errors: &mut E) -> u8
     ensures { (result ≡ 1) ⊎ (result ≡ 2) }
 {
@@ -90,7 +90,7 @@ fn say_configuration<E: Write>(alloc: Global, number: u8, errors: &mut E) -> u8
     }
 }
 
-// The status of a script that ended so, and its line on standard error. A sink in memory fails where memory does.
+// Returns the status of an outcome, and says its fault on standard error. A sink in memory fails only if memory runs out.
 fn say_outcome<E: Write>(outcome: Outcome, errors: &mut E) -> u8
     ensures { result ≡ status_of outcome }
 {
@@ -103,7 +103,7 @@ fn say_outcome<E: Write>(outcome: Outcome, errors: &mut E) -> u8
     }
 }
 
-// The status of a run: what went wrong first decides, in the order of the scripts, then of the maintainer and the crawler.
+// Returns the status of a run: that of the first caller that isn't done. Callers are the scripts, the maintainer, the crawler.
 fn say_outcomes<E: Write>(outcomes: &[Outcome], errors: &mut E) -> u8
     ensures done { result ≡ 0 → All (λ outcome. outcome ≡ Done) outcomes.now }
     ensures first { 0 < result → IsFirstFault result outcomes.now }
@@ -117,7 +117,7 @@ fn say_outcomes<E: Write>(outcomes: &[Outcome], errors: &mut E) -> u8
     0
 }
 
-// Why an input wasn't run.
+// Says why an input wasn't run.
 fn say_fault<E: Write>(fault: RunFault, errors: &mut E) -> u8
     ensures memory { fault ≡ unrun.NoMemory → result ≡ 1 }
     ensures refused { fault ≢ unrun.NoMemory → result ≡ 2 }
@@ -129,7 +129,7 @@ fn say_fault<E: Write>(fault: RunFault, errors: &mut E) -> u8
     }
 }
 
-// Runs the scripts of an input that was read, and prints what they replied.
+// Runs the scripts of an input, and prints their replies.
 fn run_input<R: Threads + Wait + Sync, L: Ledger + Send + Sync, W: Write, E: Write>(
     rt: &R,
     alloc: Global,
@@ -164,20 +164,21 @@ fn run_input<R: Threads + Wait + Sync, L: Ledger + Send + Sync, W: Write, E: Wri
         return say_line(errors, OUTPUT, 3);
     };
     let status = say_outcomes(run.outcomes.as_slice(), errors);
-    // Freeing a history event by event is a tenth of the work: its memory goes with the process.
+    // Freeing the store and the replies piece by piece costs time, and the process is about to end.
     mem::forget(run);
     status
 }
 
-/// The whole program: reads the words and the input, runs the scripts of the input at once, with the upkeep that the
-/// words ask for, prints the scripts' replies in order, and answers the exit status: 0 where all went well, 1 for want of
-/// memory or a full history, 2 for words that are refused or too many scripts, 3 where reading or writing failed. Where
-/// several scripts went wrong the first of them decides, then the maintainer, then the crawler. The words begin with the
-/// program's name. `seed` is that of the store's hash; no reply depends on it. The memory of the store isn't freed: it
-/// goes with the process.
+/// Runs the whole program, and returns the exit status. Reads the command line and the input, runs the input's scripts at once,
+/// with the upkeep asked for, and prints the replies script by script. `words` begin with the program's name.
 ///
-/// Where the words are taken and the status is 0, all that the reader had to give is answered, as the words ask. With
-/// status 1 nothing is written, or all replies up to what went wrong; with status 2 nothing is.
+/// - 0: all went well. All that the reader had to give is answered as the words ask, or help or the version is shown.
+/// - 1: memory ran out, or a history was full. `writer` got nothing, or all replies up to what went wrong.
+/// - 2: the words were refused, or there were more than 62 scripts. `writer` got nothing.
+/// - 3: reading or writing failed.
+///
+/// If several callers went wrong, the first script decides, then the maintainer, then the crawler.
+/// `seed` is for the store's hash, and no reply depends on it. The store's memory isn't freed, as the process is about to end.
 pub fn run_words<T: Threads + Wait + Sync, R: Read, W: Write, E: Write>(
     rt: &T,
     alloc: Global,
@@ -187,17 +188,16 @@ pub fn run_words<T: Threads + Wait + Sync, R: Read, W: Write, E: Write>(
     writer: &mut W,
     errors: &mut E,
 ) -> u8
-    // With status 0 its work is done, or help or the version is shown.
+    // Status 0: the program did its work, or showed help or the version.
     ensures done { result ≡ 0 → refusals (texts words.now) ≡ []
         → HasServed (texts words.now) (R.remaining reader.old) (W.contents writer.old) (W.contents writer.new) }
     ensures shown { result ≡ 0 → (refusals (texts words.now) ≡ []) ⊎ AreForHelp (texts words.now) }
 
-    // With status 1 nothing is written, or the scripts' replies as far as they came before memory was wanting or a
-    // history full.
+    // Status 1: nothing is written, or the scripts' replies up to where memory ran out or a history was full.
     ensures broken { result ≡ 1 → Keeps (W.contents writer.old) (W.contents writer.new)
         ⊎ HasServedInPart 1 (texts words.now) (R.remaining reader.old) (W.contents writer.old) (W.contents writer.new) }
 
-    // With status 2 nothing is written: the words are refused, or there are too many scripts.
+    // Status 2: nothing is written, because the words are refused or there are too many scripts.
     ensures refused { result ≡ 2 → AreRefused (texts words.now) ⊎ HasTooMany (texts words.now) (R.remaining reader.old) }
     ensures kept { result ≡ 2 → Keeps (W.contents writer.old) (W.contents writer.new) }
     ensures few { result ≤ 3 }

@@ -7,10 +7,10 @@ use std::alloc::Global;
 use std::collections::VecDeque;
 use std::io::{self, ErrorKind, Read};
 
-// How many reads may be full, or broken off, before the input has to have ended; one more is a failed read.
+// How many tries one read may take, and how many pieces an input may have. Beyond that, reading fails.
 const MOST_READS: u64 = 1 << 32;
 
-// One read, tried again where a signal broke it off.
+// Reads once, and tries again if a signal interrupts the read.
 fn read_once<R: Read>(reader: &mut R, room: &mut [u8]) -> io::Result<usize>
     ensures fits { IfOk result (λ n. n ≤ length room.old) }
     ensures room { length room.new ≡ length room.old }
@@ -30,7 +30,7 @@ fn read_once<R: Read>(reader: &mut R, room: &mut [u8]) -> io::Result<usize>
     Err(io::Error::from(ErrorKind::TimedOut))
 }
 
-// One read into the room behind what is there.
+// Reads once into the piece, after the bytes that are already there.
 fn read_behind<R: Read>(reader: &mut R, piece: &mut Vec<u8>, filled: usize) -> io::Result<usize>
     requires { filled < length piece.old.items }
     ensures fits { IfOk result (λ n. filled + n ≤ length piece.old.items) }
@@ -42,7 +42,7 @@ fn read_behind<R: Read>(reader: &mut R, piece: &mut Vec<u8>, filled: usize) -> i
     read_once(reader, &mut piece.as_mut_slice()[filled..])
 }
 
-// A piece, which is full unless the reader is at its end.
+// Reads a piece, which is full unless the reader is at its end.
 fn read_piece<R: Read>(alloc: Global, reader: &mut R) -> io::Result<Vec<u8>>
     ensures bytes { IfOk result (λ piece. Consumes (R.remaining reader.old) (R.remaining reader.new) piece.items) }
     ensures end { IfOk result (λ piece. length piece.items < 65536 → IsAtEnd (R.remaining reader.new)) }
@@ -61,7 +61,7 @@ fn read_piece<R: Read>(alloc: Global, reader: &mut R) -> io::Result<Vec<u8>>
     Ok(piece)
 }
 
-// Keeps a piece behind the others, unless it is empty.
+// Appends a piece to the others, unless it is empty.
 fn keep_piece(pieces: &mut VecDeque<Vec<u8>>, piece: Vec<u8>) -> io::Result<()>
     ensures { OnOk result (flat_map (λ v. v.items) pieces.new.items ≡ flat_map (λ v. v.items) pieces.old.items ++ piece.items) }
 {
@@ -71,7 +71,7 @@ fn keep_piece(pieces: &mut VecDeque<Vec<u8>>, piece: Vec<u8>) -> io::Result<()>
     Ok(())
 }
 
-/// Reads to the end, in pieces. A piece that isn't full was cut by the end; a terminal that is asked again would go on.
+/// Reads to the end, in pieces. A piece that isn't full is the last: a terminal that is asked again after its end would go on.
 pub(crate) fn read_pieces<R: Read>(alloc: Global, reader: &mut R) -> io::Result<VecDeque<Vec<u8>>>
     ensures { IfOk result (λ input. IfSome (R.remaining reader.old) (λ bytes. flat_map (λ v. v.items) input.items ≡ bytes)) }
 {

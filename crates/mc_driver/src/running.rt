@@ -1,4 +1,4 @@
-//! Runs of scripts, and what they leave.
+//! Runs scripts at once on one store.
 ghost use Rattle.std.specs.Prelude.{◌≡◌, ◌≢◌, ◌+◌, ◌<◌, ◌≤◌, ◌^◌, ℕ, [], IfOk, IfErr, Some, None, length, slice_index_or, slice_get};
 ghost use Rattle.std.specs.List.{All};
 ghost use Rattle.mc_item.specs.Config.{fault_of, IsBounded, IsSound};
@@ -25,8 +25,7 @@ use std::marker::Brand;
 use std::sync::Wait;
 use std::thread::Threads;
 
-/// What a run of scripts leaves: the store, how each script ended, then how the maintainer and the crawler did, and
-/// the sources and sinks in order.
+/// What a run leaves: the closed store, the outcomes of scripts, maintainer and crawler in this order, and the sources and sinks.
 #[derive(Drop)]
 pub struct Run<S: Drop, K: Drop> {
     pub ledger: Final,
@@ -34,7 +33,7 @@ pub struct Run<S: Drop, K: Drop> {
     pub ends: Vec<(S, K)>,
 }
 
-/// The limits of a configuration's requests.
+/// Returns the limits of a configuration's requests: the size of the last slab class, and the number of classes.
 pub(crate) fn limits_for(config: &Config) -> Limits
     requires { IsBounded config.now }
     ensures { result ≡ limits_of config.now }
@@ -46,7 +45,7 @@ pub(crate) fn limits_for(config: &Config) -> Limits
     }
 }
 
-// The configuration for so many scripts, where it is sound.
+// Gives the configuration the callers for so many scripts, and checks it.
 fn checked(config: Config, scripts: usize) -> Result<Config, RunFault>
     requires { scripts ≤ 62 }
     ensures ok { IfOk result (λ c. (c ≡ with_callers scripts config) × (fault_of c ≡ None) × IsBounded c) }
@@ -60,7 +59,7 @@ fn checked(config: Config, scripts: usize) -> Result<Config, RunFault>
     }
 }
 
-// The board for a store of a configuration.
+// Opens the board for a store of a configuration: a history for each stripe, slab class and caller.
 fn board_for(alloc: Global, config: &Config) -> Result<(Board, Vec<Owner>, Seen), NoMemory>
     requires { IsBounded config.now }
     ensures histories { IfOk result (λ r. locks_of r.0.counts ≡ histories_for config.now) }
@@ -71,7 +70,7 @@ fn board_for(alloc: Global, config: &Config) -> Result<(Board, Vec<Owner>, Seen)
     Board::open(alloc, locks + config.callers as usize)
 }
 
-// Compares passes with a closed store. Nothing changes.
+// Compares passes with the closed store, which stays the same.
 fn compare_all<N: Named>(ledger: &mut Final, passes: &mut Vec<Pass<N>>)
     requires board { ledger.old.board ≡ N.board.table }
     requires stripes { AreStripes N.board.table N.config ledger.old.stripes }
@@ -83,8 +82,7 @@ fn compare_all<N: Named>(ledger: &mut Final, passes: &mut Vec<Pass<N>>)
     }
 }
 
-// How many threads a run may take: one for each caller, the maintainer and the crawler too. One script without upkeep needs
-// none beside the calling one.
+// How many threads a run may use: enough for all callers. One script without upkeep needs only the calling thread.
 fn threads_for(scripts: usize, moments: usize) -> usize
     requires { scripts ≤ 62 }
     ensures some { 0 < result }
@@ -94,8 +92,7 @@ fn threads_for(scripts: usize, moments: usize) -> usize
     if scripts == 1 && moments == 0 { 1 } else { 64 }
 }
 
-// Runs scripts and upkeep as the callers of a new store, on a board and with a configuration that N names, and closes the
-// store.
+// Opens a store on the board and with the configuration that `N` names, runs scripts and upkeep as its callers, and closes it.
 fn run_named<N: Named + Send + Sync, S: Source + Send, K: Sink + Send, R: Threads + Wait + Sync>(
     rt: &R,
     alloc: Global,
@@ -138,14 +135,16 @@ fn run_named<N: Named + Send + Sync, S: Source + Send, K: Sink + Send, R: Thread
     })
 }
 
-/// Runs scripts, from 1 to 62 of them, against a store of this configuration, whose number of callers is set here, all at
-/// once: each on a thread of its own, and where there are moments of upkeep, the maintainer and the crawler, too. Where a
-/// thread can't be had, the one that was to start it does its work. Script i is caller i; of n scripts the maintainer is
-/// caller n, the crawler caller n + 1. Each script's bytes come from its source, and its replies go to its sink. `seed` is
-/// that of the store's hash; no reply depends on it. Moments are whole seconds, at most 2^62.
+/// Runs 1 to 62 scripts at once on a new store of this configuration, closes the store, and returns what the run leaves.
+/// Reads each script from its source, and prints its replies to its sink. If there are moments of upkeep (whole seconds, at most
+/// 2^62), the maintainer and the crawler work beside the scripts.
 ///
-/// The error is `Scripts` for no script or more than 62, else `Configuration` where that isn't sound for so many, else
-/// `NoMemory` where a growth was refused before the first script began.
+/// Of n scripts, script i is caller i, the maintainer is caller n, and the crawler is caller n + 1. The configuration's number of
+/// callers is set here. Each caller has its own thread, unless one script runs without upkeep. If a thread can't be started, the
+/// one that tried does its work. `seed` is for the store's hash, and no reply depends on it.
+///
+/// Errors come before the first script begins: `Scripts` for no script or more than 62. Else `Configuration` if that isn't sound
+/// for so many. Else `NoMemory` if an allocation failed.
 pub fn run_scripts<S: Source + Send, K: Sink + Send, R: Threads + Wait + Sync>(
     rt: &R,
     alloc: Global,
@@ -156,12 +155,12 @@ pub fn run_scripts<S: Source + Send, K: Sink + Send, R: Threads + Wait + Sync>(
 ) -> Result<Run<S, K>, RunFault>
     requires early { All (λ moment. moment ≤ 2 ^ 62) upkeep.now }
 
-    // When it runs, and why else it doesn't.
+    // Which runs are accepted, and why others are refused.
     ensures refused { IfErr result (λ e. IsRefused e (length scripts.items) config) }
     ensures accepted { IfOk result (λ _. IsAccepted (length scripts.items) config) }
 
-    // What each script leaves: which bytes are still to come, what its sink took, which of its calls stand in the
-    // histories, each behind all that the script had seen in those before, and which side failed.
+    // What each script leaves: the bytes still to come, what its sink took, its calls in the histories, and which side
+    // failed. Each call is there after all that the script had seen by then.
     ensures leaves { IfOk result (λ run. (i : ℕ) (ends : S × K) (outcome : Outcome) → i < length scripts.items
         → Leaves (slice_index_or run.outcomes.items i outcome) (limits_of config)
         (S.coming (slice_index_or scripts.items i ends).0) (S.coming (slice_index_or run.ends.items i ends).0)
@@ -172,8 +171,7 @@ pub fn run_scripts<S: Source + Send, K: Sink + Send, R: Threads + Wait + Sync>(
         (S.failures (slice_index_or scripts.items i ends).0) (S.failures (slice_index_or run.ends.items i ends).0)
         (K.failures (slice_index_or scripts.items i ends).1) (K.failures (slice_index_or run.ends.items i ends).1)) }
 
-    // What upkeep leaves: the calls of the maintainer's and of the crawler's work at the moments, in turn. Without moments
-    // both are done.
+    // What upkeep leaves: the calls of maintainer and crawler at these moments, in turn. Without moments both are done.
     ensures maintained { IfOk result (λ run. (outcome : Outcome)
         → IsKeptUp Maintainer (with_callers (length scripts.items) config) upkeep.now (length scripts.items)
         (slice_index_or run.outcomes.items (length scripts.items) outcome) (histories_left run.ledger)) }
@@ -182,10 +180,10 @@ pub fn run_scripts<S: Source + Send, K: Sink + Send, R: Threads + Wait + Sync>(
         (slice_index_or run.outcomes.items (length scripts.items + 1) outcome) (histories_left run.ledger)) }
     ensures idle { IfOk result (λ run. upkeep.now ≡ [] → AreKeepersDone (length scripts.items) run.outcomes.items) }
 
-    // What holds of every caller, the maintainer and the crawler too: where its history was full, one is; where it is done,
-    // each event in its name, on whatever stripe, is of one of its calls, which stands in the histories, at the call's
-    // moment; and however it ended, each is of one of its calls, all of which but the last stand in the histories. And
-    // nobody else made an event on a stripe.
+    // What holds of every caller, maintainer and crawler too. After `HistoryFull` some history has fewer than two places
+    // left. If the caller is done, each of its events on any stripe has its call in the histories, at the same moment.
+    // However it ended, each of its events belongs to one of its calls, and the histories have all of these except perhaps
+    // the last. Nobody else made an event on a stripe.
     ensures full { IfOk result (λ run. (i : ℕ) (outcome : Outcome) → i < length scripts.items + 2
         → slice_index_or run.outcomes.items i outcome ≡ outcomes.HistoryFull
         → HasFull (with_callers (length scripts.items) config) (histories_left run.ledger)) }
@@ -196,7 +194,7 @@ pub fn run_scripts<S: Source + Send, K: Sink + Send, R: Threads + Wait + Sync>(
         → HasCalls (with_callers (length scripts.items) config) i (histories_left run.ledger)) }
     ensures by { IfOk result (λ run. AreByCallers config.stripes (callers_at_work (length scripts.items) upkeep.now) (histories_left run.ledger)) }
 
-    // How much is left: an outcome for each caller, a source and a sink for each script, and the store.
+    // What is left: an outcome for each caller, a source and a sink for each script, and the store.
     ensures outcomes { IfOk result (λ run. length run.outcomes.items ≡ length scripts.items + 2) }
     ensures ends { IfOk result (λ run. length run.ends.items ≡ length scripts.items) }
     ensures store { IfOk result (λ run. IsStore (with_callers (length scripts.items) config) run.ledger) }

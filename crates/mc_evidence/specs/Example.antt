@@ -1,4 +1,4 @@
--- Two chunks, and three sets: for the third the first is forced from HOT to COLD, and evicted.
+-- An example with two chunks and three sets: for the third set, the first entry is forced from HOT to COLD and evicted.
 use Rattle.std.specs.Prelude.{ℕ, List, [], ◌∷◌, false, pos}
 use Rattle.mc_item.specs.declared.{answer.Site.Site, class_event.ClassEvent.ClassEvent, class_event.Linked.Linked, class_event.Shifted.Shifted}
 use Rattle.mc_item.specs.declared.{class_event.Why.TheVariants.Forced, command.Command.TheVariants.Store, command.Verb.TheVariants.Set, item.ClassNo.ClassNo}
@@ -9,7 +9,7 @@ use Rattle.mc_item.specs.declared.stripe_event.StripeEvent.TheVariants as items
 use Rattle.mc_rule.specs.{Pairs.link_to, Segment.Rule}
 use Rattle.mc_evidence.specs.Made.{evicted_as, lost_to}
 
--- one stripe, one size
+-- the stripe of a store with one stripe, and one slab class of size 96
 abbrev pub small_site : Site
 small_site = record { stripe = 0; stripes = 1; sizes = 96 ∷ [] }
 
@@ -17,15 +17,15 @@ small_site = record { stripe = 0; stripes = 1; sizes = 96 ∷ [] }
 abbrev pub small_rule : Rule
 small_rule = record { temp = false; temp_ttl = 61; hot_percent = 20; warm_percent = 40; hot_factor = 20; warm_factor = 200 }
 
--- the class of that size
+-- the slab class of that size
 abbrev pub first_class : ClassNo
 first_class = record { 0 = 1 }
 
--- the n-th call of the one caller
+-- the call of the only caller in turn n
 abbrev pub turn : ℕ → Who
 turn n = record { caller = 0; turn = n }
 
--- a set of a key of one letter to one byte, with the entry of a number
+-- a set of a one-letter key to a one-byte value, with the entry of number n
 abbrev pub set_of : ℕ → ℕ → Did
 set_of letter n =
     record {
@@ -36,27 +36,27 @@ set_of letter n =
       room = At (link_to first_class n);
     }
 
--- its new entry
+-- the new entry of that set
 abbrev pub entry_of_set : ℕ → ℕ → Linked
 entry_of_set letter n = record { who = turn n; number = n; key = letter ∷ []; cost = 66; seg = Hot; moment = 1000 }
 
--- the move of the first entry, for the third set
+-- the move of the first entry to COLD, by the third set's call
 abbrev pub forced : Shifted
 forced = record { who = turn 2; number = 0; from_seg = Hot; to_seg = Cold; why = Forced; moment = 1000; passed = []; at = 2 }
 
--- what stands in the stripe, and in the class, before the eviction: the first item and its entry belong together
+-- the stripe's events before the eviction: two sets
 abbrev pub stripe_before : List StripeEvent
 stripe_before = items.Did (set_of 97 0) ∷ items.Did (set_of 98 1) ∷ []
 
--- the class's part of it
+-- the class's events before the eviction: two new entries, and the move
 abbrev pub class_before : List ClassEvent
 class_before = entries.Linked (entry_of_set 97 0) ∷ entries.Linked (entry_of_set 98 1) ∷ entries.Shifted forced ∷ []
 
--- the stripe's history: the third set takes the first one's chunk
+-- the stripe's whole history: the third set takes the first item's chunk
 abbrev pub stripe_story : List StripeEvent
 stripe_story = items.Did (set_of 97 0) ∷ items.Did (set_of 98 1) ∷ lost_to first_class (turn 2) (97 ∷ []) 3 ∷ items.Did (set_of 99 2) ∷ []
 
--- the class's history: before its third entry the first goes to COLD, and is evicted there
+-- the class's whole history: the first entry moves to COLD and is evicted there, then the third entry is new
 abbrev pub class_story : List ClassEvent
 class_story =
     entries.Linked (entry_of_set 97 0) ∷ entries.Linked (entry_of_set 98 1) ∷ entries.Shifted forced ∷ evicted_as (turn 2) 0 [] 2

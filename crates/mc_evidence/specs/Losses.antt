@@ -1,4 +1,4 @@
--- Between two commands: items only go, each by a loss that has its cause.
+-- What happens to items between two commands: they are only removed, each by a loss that has its cause.
 use Rattle.std.specs.Prelude.{ℕ, ◌≡◌, List, [], ◌∷◌, true, length}
 use Rattle.mc_item.specs.{Cache.marked, Item.is_dead}
 use Rattle.mc_item.specs.declared.{class_event.ClassEvent.ClassEvent, class_event.Evicted.Evicted, item.ClassNo.ClassNo, item.Item.Item, item.Marks.Marks}
@@ -15,12 +15,11 @@ AreNoCommands (items.Did did ∷ es) = ⊥
 AreNoCommands (items.Lost lost ∷ es) = AreNoCommands es
 AreNoCommands (items.Cooled cooled ∷ es) = AreNoCommands es
 
--- an item but for its marks
+-- the items are the same, except perhaps for their marks
 abbrev pub IsSameItem : Item → Item → Type 0
 IsSameItem item other = (marks : Marks) × (other ≡ marked marks item)
 
--- the eviction that took an item's chunk: at the place that the loss cites, by the same call, of the item's entry near COLD's
--- tail, when the class was full
+-- an eviction took the lost item's chunk: at the cited place, by the same call, of its entry, near COLD's tail, in a full class
 pub record IsTaking (chunks cited : ℕ) (item : Item) (lost : Lost) (behind : List ClassEvent) (e : Evicted) : Type 0 where
   pub place : length behind ≡ cited
   pub who : e.who ≡ lost.who
@@ -29,12 +28,12 @@ pub record IsTaking (chunks cited : ℕ) (item : Item) (lost : Lost) (behind : L
   pub cold : IsIn Cold e.number (lists_of behind)
   pub near : IsNearTail e.number (lists_of behind).cold e.passed
 
--- why an item went, in a store with these limits and classes: it was dead at the loss's moment, or its chunk was taken
+-- a loss had its cause: the item was dead at the loss's moment, or its class's history has the eviction that took its chunk
 abbrev pub HadCause : (ClassNo → ℕ) → (ClassNo → List ClassEvent) → Item → Lost → Cause → Type 0
 HadCause chunks classes item lost (Expired moment) = is_dead item moment ≡ true
 HadCause chunks classes item lost (Taken class place) =
     (item.link.class ≡ class) × Has entries.Evicted (classes class) (λ behind e. IsTaking (chunks class) place item lost behind e)
 
--- a key's item was lost by one of these events, with its cause
+-- one of these events is the loss of the key's item, and the loss had its cause
 abbrev pub WasLost : (ClassNo → ℕ) → (ClassNo → List ClassEvent) → List StripeEvent → List ℕ → Item → Type 0
 WasLost chunks classes between key item = Has items.Lost between (λ before lost. (lost.key ≡ key) × HadCause chunks classes item lost lost.cause)

@@ -1,4 +1,4 @@
--- The events that one call makes in both histories.
+-- The events that one call makes in a stripe's and in a slab class's history.
 use Rattle.std.specs.Prelude.{ℕ, ◌≡◌, ◌⊎◌, List, Some}
 use Rattle.mc_item.specs.{Command.key_of, Measure.cost_of}
 use Rattle.mc_item.specs.declared.{answer.Site.Site, class_event.ClassEvent.ClassEvent, class_event.Linked.Linked, item.ClassNo.ClassNo, item.Item.Item}
@@ -10,32 +10,31 @@ use Rattle.mc_item.specs.declared.stripe_event.StripeEvent.TheVariants as items
 use Rattle.mc_rule.specs.{Lists.found, Lists.lists_of, Places.Has, Segment.Rule, Segment.segment_for}
 use Rattle.mc_rule.specs.Pairs.{ClearsMark, IsKeyOf, IsRefusal, LetsGo, link_to}
 
--- an item whose chunk was taken by the event at a place of its class
+-- the loss of an item whose chunk was taken, by the event at this place of its class
 abbrev pub lost_to : ClassNo → Who → List ℕ → ℕ → StripeEvent
 lost_to class who key place = items.Lost (record { who = who; key = key; cause = Taken class place })
 
--- an item that was dead at a moment
+-- the loss of an item that was dead at this moment (time in seconds)
 abbrev pub lost_at : Who → List ℕ → ℕ → StripeEvent
 lost_at who key moment = items.Lost (record { who = who; key = key; cause = Expired moment })
 
--- an item whose ACTIVE mark was cleared
+-- the cooling of an item: its ACTIVE mark was cleared
 abbrev pub cooled_as : Who → List ℕ → StripeEvent
 cooled_as who key = items.Cooled (record { who = who; key = key })
 
--- an entry that was taken near COLD's tail
+-- the eviction of an entry, which cites this place of its stripe
 abbrev pub evicted_as : Who → ℕ → List ℕ → ℕ → ClassEvent
 evicted_as who number passed at = entries.Evicted (record { who = who; number = number; passed = passed; at = at })
 
--- an entry whose item was dead
+-- the reclaiming of an entry whose item was dead at this moment, which cites this place of its stripe
 abbrev pub reclaimed_as : Who → ℕ → ℕ → ℕ → ClassEvent
 reclaimed_as who number moment at = entries.Reclaimed (record { who = who; number = number; moment = moment; at = at })
 
--- the entry of a number has a key of another stripe
+-- the entry of this number, if there is one, has a key of another stripe
 abbrev pub IsOfOthers : Site → List ClassEvent → ℕ → Type 0
 IsOfOthers site history number = (s : Seg) (x : Entry) → found number (lists_of history) ≡ Some (s, x) → IsKeyOf site x.key → ⊥
 
--- an event of a class that needs nothing in a stripe's history: it is for an entry with a key of another stripe, for none, or
--- for a move that clears no mark
+-- a class's event needs no partner in a stripe: it has no entry, another stripe's entry, or is a move that clears no mark
 abbrev pub IsAlone : Site → List ClassEvent → ClassEvent → Type 0
 IsAlone site history (entries.Linked e) = IsKeyOf site e.key → ⊥
 IsAlone site history (entries.Unlinked e) = IsOfOthers site history e.number
@@ -53,11 +52,11 @@ IsGivenNone class did = (n : ℕ) → did.room ≡ rooms.At (link_to class n) �
 abbrev pub LetsNoneGo : Site → ClassNo → List StripeEvent → Did → Type 0
 LetsNoneGo site class before did = (n : ℕ) → LetsGo site before did (link_to class n) → ⊥
 
--- where a command was refused a chunk of a class, the class has its refusal
+-- if a command cites a refusal of a class, the class's history has that refusal
 abbrev pub IsRefusedThere : ClassNo → Did → List ClassEvent → Type 0
 IsRefusedThere class did seen = (place : ℕ) → did.room ≡ rooms.Refused class place → Has entries.Refused seen (λ behind e. IsRefusal class did behind e)
 
--- the new entry for a command's new item
+-- the event of the new entry for a command's new item
 abbrev pub linked_for : Rule → ℕ → Did → Item → Linked
 linked_for rule number did item =
     record {

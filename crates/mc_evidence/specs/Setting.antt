@@ -3,17 +3,17 @@ use Rattle.std.specs.Prelude.{ℕ, ◌<◌, ◌≤◌, List, length}
 use Rattle.mc_item.specs.declared.{answer.Site.Site, item.ClassNo.ClassNo}
 use Rattle.mc_rule.specs.Segment.{Rule}
 
--- how many stripes there are, the classes' sizes, the rule of the segments, and how many chunks each class has
+-- a store's number of stripes, the sizes of its classes, the rule of its segments, and the number of chunks of each class
 pub record Setting : Type 0 where
   pub stripes : ℕ
   pub sizes : List ℕ
   pub rule : Rule
   pub chunks : ClassNo → ℕ
 
--- the site of a stripe
+-- the site of a stripe: its number, the number of stripes, and the sizes of the classes
 abbrev pub site_in : Setting → ℕ → Site
 site_in setting s = record { stripe = s; stripes = setting.stripes; sizes = setting.sizes }
 
--- a class of the store; the first has the number 1
+-- this is the number of one of the store's classes, which count from 1
 abbrev pub IsClass : Setting → ClassNo → Type 0
 IsClass setting class = (0 < class.0) × (class.0 ≤ length setting.sizes)

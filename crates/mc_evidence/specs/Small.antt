@@ -4,11 +4,11 @@ use Rattle.mc_item.specs.Measure.{class_of}
 use Rattle.mc_item.specs.declared.{command.Command.Command, item.ClassNo.ClassNo}
 use Rattle.mc_item.specs.declared.command.Command.TheVariants.{Get, Store, Huge, Incr, Decr, Touch, Delete}
 
--- what has a class among these sizes costs no more than 2^20 bytes
+-- whatever fits a class of these sizes costs at most 2^20 bytes
 pub record AreSmall (sizes : List ℕ) : Type 0 where
   pub most : (cost : ℕ) (class : ClassNo) → class_of sizes cost ≡ Some class → cost ≤ 2 ^ 20
 
--- a command that reads, or changes an item's expiry alone
+-- the command only reads, or only changes an item's expiry
 abbrev pub IsReader : Command → Type 0
 IsReader (Get key) = Unit {0}
 IsReader (Store verb key flags exptime value) = ⊥

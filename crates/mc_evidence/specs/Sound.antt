@@ -5,12 +5,12 @@ use Rattle.mc_item.specs.declared.{class_event.ClassEvent.ClassEvent, item.Class
 use Rattle.mc_rule.specs.{Cited.cited_in, Evidence.AreEvidence, Lawful.IsLawfulHistory, Partners.ClearsOnce, Places.Each}
 use Rattle.mc_evidence.specs.Setting.{IsClass, Setting, site_in}
 
--- what the stripe of a key held under it when it had this many events
+-- the item that a key's stripe held under the key when its history had this many events
 abbrev pub cited_of : Setting → (ℕ → List StripeEvent) → List ℕ → ℕ → Option Item
 cited_of setting stripes key at = cited_in (site_in setting (stripe_of key setting.stripes).0) (stripes (stripe_of key setting.stripes).0) key at
 
--- each stripe's history is legal, each class's is lawful with the items that it cites and clears no mark twice, and any two
--- are evidence of each other
+-- a store is sound: each stripe's history is legal, and each class's is lawful with the items that it cites and clears no mark
+-- twice. A stripe's and a class's are always evidence of each other
 pub record IsSoundStore (setting : Setting) (stripes : ℕ → List StripeEvent) (classes : ClassNo → List ClassEvent) : Type 0 where
   pub some : 0 < setting.stripes
   pub legal : (s : ℕ) → s < setting.stripes → IsLegal (site_in setting s) (stripes s)

@@ -1,5 +1,5 @@
-//! Each outcome of a judgement and each command keeps a stripe's and a class's whole histories in agreement: evidence of
-//! each other, with the items that the class's events cite, and with no mark that is cleared twice.
+//! Each outcome of a judgement and each command keeps a stripe's and a class's whole histories in agreement. That means: they are
+//! evidence of each other, have the items that the class's events cite, and clear no mark twice.
 ghost use Rattle.std.specs.Prelude.{IsSomeAnd, List, [], length, ℕ, ◌++◌, ◌∷◌, ◌≡◌};
 ghost use Rattle.mc_item.specs.{Command.key_of, Stripe.IsDead};
 ghost use Rattle.mc_item.specs.declared.{answer.Site.Site, class_event.ClassEvent.ClassEvent, class_event.Linked.Linked, class_event.Refused.Refused};
@@ -11,8 +11,8 @@ ghost use Rattle.mc_rule.specs.{Agreement.Agree, Belonging.Belong, Belonging.IsE
 ghost use Rattle.mc_rule.specs.{Pairs.ClearsMark, Pairs.IsKeyOf, Pairs.IsLinking, Pairs.IsUnlinking, Pairs.item_after, Segment.Rule};
 ghost use Rattle.mc_evidence.specs.Made.{IsGivenNone, IsRefusedThere, LetsNoneGo, cooled_as, evicted_as, lost_at, lost_to, reclaimed_as};
 
-/// Each outcome of a judgement: an eviction or a reclaiming with its loss, a move that clears a mark with its cooling, and
-/// a move that clears none.
+/// Each outcome of a judgement keeps agreement: an eviction or a reclaiming with its loss, and a move, with its cooling if it
+/// clears a mark.
 pub fn a_judgement_keeps_agreement()
     ensures evicted { (site : Site) (rule : Rule) (class : ClassNo) (stripe : List StripeEvent) (history : List ClassEvent)
         → Agree site rule class stripe history
@@ -34,7 +34,7 @@ pub fn a_judgement_keeps_agreement()
         → Agree site rule class stripe (history ++ entries.Shifted e ∷ []) }
 {}
 
-/// A command, as one class sees it: with a new entry there, with one that goes, with both, or with neither.
+/// A command keeps its stripe and a class in agreement, whether it adds an entry there, removes one, does both, or neither.
 pub fn a_command_keeps_agreement()
     ensures links { (site : Site) (rule : Rule) (class : ClassNo) (stripe : List StripeEvent) (history : List ClassEvent) → Agree site rule class stripe history
         → (did : Did) (e : Linked) → IsLinking site rule class stripe did e → LetsNoneGo site class stripe did
@@ -55,7 +55,7 @@ pub fn a_command_keeps_agreement()
         → Agree site rule class (stripe ++ items.Did did ∷ []) history }
 {}
 
-/// Histories without events agree, and each survey and each refusal of the class keeps agreement.
+/// Empty histories agree, and each survey and each refusal of the class keeps agreement.
 pub fn agreement_begins_and_outlasts_surveys()
     ensures begins { (site : Site) (rule : Rule) (class : ClassNo) → Agree site rule class [] [] }
     ensures surveyed { (site : Site) (rule : Rule) (class : ClassNo) (stripe : List StripeEvent) (history : List ClassEvent)

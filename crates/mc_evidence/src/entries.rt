@@ -1,4 +1,4 @@
-//! The items of a stripe and the entries of a slab class that are evidence of each other.
+//! The law that items are exactly entries, for a stripe and a slab class that are evidence of each other.
 ghost use Rattle.std.specs.Prelude.{List, Some, ℕ, ◌≡◌, ◌≤◌};
 ghost use Rattle.mc_item.specs.Stripe.{IsLegal};
 ghost use Rattle.mc_item.specs.declared.{answer.Site.Site, class_event.ClassEvent.ClassEvent, item.ClassNo.ClassNo, item.Item.Item, lists.Entry.Entry};
@@ -6,8 +6,8 @@ ghost use Rattle.mc_item.specs.declared.{lists.Seg.Seg, stripe_event.StripeEvent
 ghost use Rattle.mc_rule.specs.{Belonging.HasEntry, Belonging.HasItem, Evidence.AreEvidence, Lawful.IsLawfulHistoryByLists, Lists.found, Lists.lists_of};
 ghost use Rattle.mc_rule.specs.{Lists.times_in, Pairs.IsKeyOf, Pairs.item_after, Segment.Rule};
 
-/// An item with a link of the class has its entry there, an entry with a key of the stripe has its item, and a number
-/// stands in the four lists once at the most: so items are exactly entries, with one number, key and cost.
+/// Items are exactly entries, with the same number, key and cost. An item with a link of the class has its entry there. An entry
+/// with a key of the stripe has its item. A number is in the four lists at most once.
 pub fn items_are_exactly_entries()
     ensures items { (site : Site) (rule : Rule) (class : ClassNo) (chunks : ℕ) (stripe : List StripeEvent) (history : List ClassEvent)
         → IsLegal site stripe → IsLawfulHistoryByLists chunks rule history → AreEvidence site rule class stripe history

@@ -1,4 +1,4 @@
-//! What an event of a stripe finds in a class's history that is evidence of it, and an event of the class in the stripe's.
+//! Each event of a stripe finds its partner in the history of a class that is evidence of it, and the other way round.
 ghost use Rattle.std.specs.Prelude.{IsSomeAnd, List, Some, [], length, ℕ, ◌++◌, ◌∷◌, ◌≡◌};
 ghost use Rattle.mc_item.specs.{Command.key_of, Item.link_of_item};
 ghost use Rattle.mc_item.specs.declared.{answer.Site.Site, class_event.ClassEvent.ClassEvent, class_event.Evicted.Evicted, class_event.Linked.Linked};
@@ -13,9 +13,9 @@ ghost use Rattle.mc_rule.specs.Pairs.{ClearsMark, IsKeyOf, LetsGo, item_after, l
 ghost use Rattle.mc_evidence.specs.Finding.{ClearsAt, Occurs, StandsAt, StandsFor, TakesAway};
 ghost use Rattle.mc_evidence.specs.Made.{cooled_as, evicted_as, linked_for, lost_at, lost_to, reclaimed_as};
 
-/// What a stripe's event finds: the entry of a command's new item, with each of its parts; the event that took an old
-/// entry out; the eviction or the reclaiming of a lost item, and the move of a cooled one, which cite its place; and the
-/// refusal at the place that the command cites. All of the same call.
+/// Each event of a stripe finds its partner in the class's history, by the same call. A command finds its new item's entry with
+/// all parts, the event that took the old entry out, and the refusal that it cites. A loss finds its eviction or reclaiming, and
+/// a cooling its move. These cite the place of the loss or the cooling.
 pub fn each_event_of_a_stripe_finds_its_partner()
     ensures linked { (site : Site) (rule : Rule) (class : ClassNo) (stripe : List StripeEvent) (history : List ClassEvent)
         → AreEvidence site rule class stripe history
@@ -47,9 +47,9 @@ pub fn each_event_of_a_stripe_finds_its_partner()
         → StandsAt history place (entries.Refused (record { who = did.who })) }
 {}
 
-/// What a class's event finds, for an entry with a key of the stripe: the command whose new item it is the entry of; the
-/// command that took its link away; the loss that cites its place, the loss at its moment, or the cooling, which stands
-/// at the place that it cites. All of the same call.
+/// Each event of a class, if its entry has a key of the stripe, finds its partner in the stripe's history, by the same call.
+/// A new entry finds the command that left its item, and an unlinked one the command that took its link away. An eviction or a
+/// reclaiming finds its loss, and a move that clears a mark its cooling, at the place that it cites.
 pub fn each_event_of_a_class_finds_its_partner()
     ensures linked { (site : Site) (rule : Rule) (class : ClassNo) (stripe : List StripeEvent) (history : List ClassEvent)
         → AreEvidence site rule class stripe history

@@ -1,4 +1,4 @@
-//! Each pair of events that one call makes keeps evidence, where each side is told the other's whole history.
+//! Each pair of events that one call makes keeps two whole histories evidence of each other.
 ghost use Rattle.std.specs.Prelude.{List, [], length, ℕ, ◌++◌, ◌∷◌, ◌≡◌};
 ghost use Rattle.mc_item.specs.Command.{key_of};
 ghost use Rattle.mc_item.specs.declared.{answer.Site.Site, class_event.ClassEvent.ClassEvent, class_event.Linked.Linked, class_event.Shifted.Shifted};
@@ -10,7 +10,7 @@ ghost use Rattle.mc_rule.specs.{Belonging.Belong, Belonging.IsEntryOf, Evidence.
 ghost use Rattle.mc_rule.specs.Pairs.{ClearsMark, IsLinking, IsUnlinking};
 ghost use Rattle.mc_evidence.specs.Made.{IsAlone, IsGivenNone, IsRefusedThere, LetsNoneGo, cooled_as, evicted_as, lost_at, lost_to, reclaimed_as};
 
-/// An eviction or a reclaiming, with its loss.
+/// An eviction or a reclaiming, with its loss, keeps evidence.
 pub fn a_loss_keeps_evidence()
     ensures evicted { (site : Site) (rule : Rule) (class : ClassNo) (stripe : List StripeEvent) (history : List ClassEvent)
         → AreEvidence site rule class stripe history
@@ -22,14 +22,14 @@ pub fn a_loss_keeps_evidence()
         → AreEvidence site rule class (stripe ++ lost_at who key moment ∷ []) (history ++ reclaimed_as who number moment (length stripe) ∷ []) }
 {}
 
-/// A move that clears an item's mark, with its cooling.
+/// A cooling, which clears an item's ACTIVE mark, keeps evidence together with the move of the item's entry.
 pub fn a_cooling_keeps_evidence()
     ensures { (site : Site) (rule : Rule) (class : ClassNo) (stripe : List StripeEvent) (history : List ClassEvent) → AreEvidence site rule class stripe history
         → (key : List ℕ) (e : Shifted) → Belong site class stripe history key e.number → ClearsMark e.why → e.at ≡ length stripe
         → AreEvidence site rule class (stripe ++ cooled_as e.who key ∷ []) (history ++ entries.Shifted e ∷ []) }
 {}
 
-/// A command, as one class sees it: with a new entry there, with one that goes, with both, or with neither.
+/// A command keeps evidence between its stripe and a class, whether it adds an entry there, removes one, does both, or neither.
 pub fn a_command_keeps_evidence()
     ensures links { (site : Site) (rule : Rule) (class : ClassNo) (stripe : List StripeEvent) (history : List ClassEvent)
         → AreEvidence site rule class stripe history
@@ -51,13 +51,15 @@ pub fn a_command_keeps_evidence()
         → AreEvidence site rule class (stripe ++ items.Did did ∷ []) history }
 {}
 
-/// A survey, a refusal, a move that clears no mark, and any event for an entry with a key of another stripe.
+/// A class's event that needs no partner in the stripe keeps evidence. Such are a survey, a refusal, a move that clears no mark,
+/// and any event for an entry with a key of another stripe.
 pub fn events_of_the_class_alone_keep_evidence()
     ensures { (site : Site) (rule : Rule) (class : ClassNo) (stripe : List StripeEvent) (history : List ClassEvent) → AreEvidence site rule class stripe history
         → (e : ClassEvent) → IsAlone site history e → AreEvidence site rule class stripe (history ++ e ∷ []) }
 {}
 
-/// A loss or a cooling of an item whose link is of another class.
+/// A stripe's event that already has its partner in the class, or needs none there, keeps evidence. A loss of another class's
+/// item needs none.
 pub fn events_of_the_stripe_alone_keep_evidence()
     ensures { (site : Site) (rule : Rule) (class : ClassNo) (stripe : List StripeEvent) (history : List ClassEvent) → AreEvidence site rule class stripe history
         → (e : StripeEvent) → HasTrace site rule class history stripe e → AreEvidence site rule class (stripe ++ e ∷ []) history }

@@ -1,6 +1,7 @@
-//! What the histories of stripes and of slab classes tell of each other: which events are partners, that a stripe's items
-//! are exactly the entries of its keys, and that each loss has its cause. Each law is a contract alone: its function does
-//! nothing, and what it promises is proved of all histories.
+//! Laws about the histories of stripes and slab classes. They say which events are partners, that a stripe's items are exactly
+//! the entries of its keys, and that each loss has its cause. A law is the contract of a function that does nothing. What it says
+//! is proved of all histories. *Partners* are two events that one call makes, one in each history. Two histories are *evidence*
+//! of each other if each event that is about both has its partner in the other.
 #![tactic(auto)]
 
 mod agreeing;

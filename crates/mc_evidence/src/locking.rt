@@ -1,5 +1,5 @@
-//! What a stripe's and a class's lock keep each judgement and each command keeps, where both are lent and each is told the
-//! other's whole history behind it.
+//! Each judgement and each command keeps the invariants of a stripe's and a class's lock (`StripeKeeps`, `ClassKeeps`). Each lock
+//! must have seen the other's whole history after it.
 ghost use Rattle.std.specs.Prelude.{IsSomeAnd, List, Some, [], length, true, ℕ, ◌++◌, ◌<◌, ◌∷◌, ◌≡◌};
 ghost use mathlib.Core.List.{IsPrefix};
 ghost use Rattle.mc_item.specs.{Command.key_of, Stripe.IsDead, Stripe.MayDo, Stripe.cache_of};
@@ -16,20 +16,20 @@ ghost use Rattle.mc_rule.specs.Pairs.{ClearsMark, IsKeyOf, IsLinking, IsRefusal,
 ghost use Rattle.mc_evidence.specs.Locks.{AreHeld, AreLentTogether, ClassKeeps, KeepBoth, SeesMore, StripeKeeps};
 ghost use Rattle.mc_evidence.specs.{Made.cooled_as, Made.evicted_as, Made.lost_at, Made.lost_to, Made.reclaimed_as, Setting.Setting, Setting.site_in};
 
-/// Without events each lock keeps what it keeps.
+/// A lock's invariant holds for an empty history.
 pub fn locks_begin()
     ensures stripe { (setting : Setting) (s : ℕ) (seen : ClassNo → List ClassEvent) → StripeKeeps setting s [] seen }
     ensures class { (setting : Setting) (class : ClassNo) (seen : ℕ → List StripeEvent) → ClassKeeps setting class [] seen }
 {}
 
-/// A stripe and a class that are lent together are evidence of each other.
+/// The histories of a stripe and a class that are lent together are evidence of each other.
 pub fn lent_states_are_evidence()
     ensures { (setting : Setting) (s : ℕ) (class : ClassNo) (stripe : List StripeEvent) (history : List ClassEvent) (seen : ClassNo
         → List ClassEvent) (seen_of : ℕ → List StripeEvent)
         → AreLentTogether setting s class stripe history seen seen_of → AreEvidence (site_in setting s) setting.rule class stripe history }
 {}
 
-/// An entry of a class that is lent with its key's stripe is no stranger: the stripe's item has its link and its cost.
+/// If a class is lent together with the stripe of an entry's key, the stripe has the entry's item, with its link and its cost.
 pub fn a_judged_entry_is_no_stranger()
     ensures { (setting : Setting) (s : ℕ) (class : ClassNo) (stripe : List StripeEvent) (history : List ClassEvent) (seen : ClassNo
         → List ClassEvent) (seen_of : ℕ → List StripeEvent)
@@ -38,8 +38,8 @@ pub fn a_judged_entry_is_no_stranger()
         → HasItem (site_in setting s) class stripe number entry }
 {}
 
-/// Each outcome of a judgement: an eviction or a reclaiming with its loss, a move that clears a mark with its cooling
-/// (where the class had seen no more of the stripe than there was), and a move that clears none.
+/// Each outcome of a judgement keeps the locks' invariants: an eviction or a reclaiming with its loss, and a move, with its
+/// cooling if it clears a mark. For a cooling, what the class had seen of the stripe must be a beginning of its history.
 pub fn a_judgement_keeps_both_locks()
     ensures evicted { (setting : Setting) (s : ℕ) (class : ClassNo) (stripe : List StripeEvent) (history : List ClassEvent) (seen more : ClassNo
         → List ClassEvent) (seen_of more_of : ℕ → List StripeEvent)
@@ -72,8 +72,8 @@ pub fn a_judgement_keeps_both_locks()
         → more_of s ≡ stripe → ClassKeeps setting class (history ++ entries.Shifted e ∷ []) more_of }
 {}
 
-/// A command keeps what its stripe keeps, told by the classes of its new link, of the one that it takes away, and of its
-/// refusal.
+/// A command keeps the invariant of its stripe's lock, if the lock has seen the command's partners. These are its new entry, the
+/// event that took the old entry out, and its refusal.
 pub fn a_command_keeps_its_stripe()
     ensures { (setting : Setting) (s : ℕ) (stripe : List StripeEvent) (seen more : ClassNo → List ClassEvent) → StripeKeeps setting s stripe seen
         → SeesMore seen more
@@ -86,7 +86,8 @@ pub fn a_command_keeps_its_stripe()
         → StripeKeeps setting s (stripe ++ items.Did did ∷ []) more }
 {}
 
-/// A command's events in a class keep what the class keeps, told by the command's stripe; so do surveys and refusals.
+/// A command's events in a class keep the invariant of the class's lock, if the lock has seen the command in its stripe. Surveys
+/// and refusals keep it too.
 pub fn a_command_keeps_its_classes()
     ensures linked { (setting : Setting) (s : ℕ) (class : ClassNo) (stripe : List StripeEvent) (history : List ClassEvent) (seen_of more_of : ℕ
         → List StripeEvent)
@@ -110,7 +111,8 @@ pub fn a_command_keeps_its_classes()
         → ClassKeeps setting class (history ++ entries.Refused e ∷ []) more_of }
 {}
 
-/// A command that replaces an item by one of the same class: its new entry, then its old one.
+/// A command that replaces an item by one of the same class keeps the invariants of both locks. It links the new entry first,
+/// then unlinks the old one.
 pub fn a_replacement_keeps_both_locks()
     ensures { (setting : Setting) (s : ℕ) (class : ClassNo) (stripe : List StripeEvent) (history : List ClassEvent) (seen more : ClassNo
         → List ClassEvent) (seen_of more_of : ℕ → List StripeEvent)

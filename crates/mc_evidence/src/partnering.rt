@@ -1,4 +1,4 @@
-//! What partners are by themselves: the only ones, with the items that they cite.
+//! Laws about partners: each is the only one, and the items that they cite suit them.
 ghost use Rattle.std.specs.Prelude.{List, Some, length, ℕ, ◌≡◌};
 ghost use Rattle.mc_item.specs.{Item.link_of_item, Stripe.IsLegal};
 ghost use Rattle.mc_item.specs.declared.{answer.Site.Site, class_event.ClassEvent.ClassEvent, class_event.Evicted.Evicted, class_event.Linked.Linked};
@@ -12,7 +12,7 @@ ghost use Rattle.mc_rule.specs.{Belonging.IsEntryOf, Cited.IsSuited, Evidence.Ar
 ghost use Rattle.mc_rule.specs.{Lists.unlinked, Partners.ClearsOnce, Partners.Links, Partners.TakesOut, Places.Each, Places.Stands, Segment.Rule};
 ghost use Rattle.mc_rule.specs.Pairs.{IsCooling, IsEviction, IsKeyOf, IsLinking, IsReclaiming, IsRefusal, IsUnlinking, item_after, link_to};
 
-/// In a lawful class a number is linked at one place alone, and is taken out at one place alone.
+/// In a lawful class's history a number is linked at most once, and taken out of the lists at most once.
 pub fn numbers_come_and_go_once()
     ensures comes { (chunks : ℕ) (rule : Rule) (n : ℕ) (history first second : List ClassEvent) (e x : ClassEvent) → IsLawfulHistoryByLists chunks rule history
         → Stands history first e → Stands history second x → Links n e → Links n x → (first ≡ second) × (e ≡ x) }
@@ -20,7 +20,7 @@ pub fn numbers_come_and_go_once()
         → Stands history first e → Stands history second x → TakesOut n e → TakesOut n x → (first ≡ second) × (e ≡ x) }
 {}
 
-/// A move that cites all of its stripe's events clears no mark that an earlier move cleared.
+/// A move that cites the end of its stripe's history clears no mark that an earlier move has cleared.
 pub fn no_mark_is_cleared_again()
     ensures { (chunks : ℕ) (rule : Rule) (site : Site) (class : ClassNo) (stripe : List StripeEvent) (history : List ClassEvent) (key : List ℕ) (e : Shifted)
         → Each (IsBacked site rule class stripe) history → IsLawfulHistoryByLists chunks rule history
@@ -37,7 +37,7 @@ pub fn no_eviction_is_cited_twice()
         → first ≡ second }
 {}
 
-/// The cited item of a reclaimed entry was dead, and that of a hit was ACTIVE: their partners tell it.
+/// By its partner, the item that a reclaiming cites was dead, and the item that a hit's move cites was ACTIVE.
 pub fn cited_items_of_partners_suit()
     ensures reclaimed { (site : Site) (rule : Rule) (class : ClassNo) (stripe : List StripeEvent) → IsLegal site stripe
         → (behind : List ClassEvent) (e : Reclaimed)
@@ -47,7 +47,7 @@ pub fn cited_items_of_partners_suit()
         → IsBacked site rule class stripe behind (entries.Shifted e) → IsSuited site class stripe behind (entries.Shifted e) }
 {}
 
-/// Two events of a class that are partners of one event of a stripe are one.
+/// An event of a stripe has at most one partner of each kind in a class's history.
 pub fn a_class_event_is_the_only_partner()
     ensures linked { (site : Site) (rule : Rule) (class : ClassNo) (before : List StripeEvent) (history first second : List ClassEvent) (chunks : ℕ)
         → IsLawfulHistoryByLists chunks rule history
@@ -73,8 +73,7 @@ pub fn a_class_event_is_the_only_partner()
         → IsRefusal class did first e → IsRefusal class did second x → first ≡ second }
 {}
 
-/// Two events of a stripe that are partners of one event of a class are one; but for a refusal, which says no more than
-/// whose call it was.
+/// An event of a class has at most one partner in a stripe's history. This isn't said of a refusal, which names only its call.
 pub fn a_stripe_event_is_the_only_partner()
     ensures linked { (site : Site) (rule : Rule) (class : ClassNo) (stripe : List StripeEvent)
         → IsLegal site stripe → (first second : List StripeEvent) (did other : Did) (e : Linked)

@@ -1,4 +1,4 @@
-//! Evidence that one history has found in another stays while the other grows.
+//! Evidence that one history has found in another stays as more of the other is seen.
 ghost use Rattle.std.specs.Prelude.{List, map, ℕ, ◌++◌, ◌≡◌};
 ghost use mathlib.Core.List.{IsPrefix};
 ghost use Rattle.mc_item.specs.declared.{answer.Site.Site, class_event.ClassEvent.ClassEvent, event.Event.Event, event.Event.TheVariants.Class};
@@ -7,9 +7,8 @@ ghost use Rattle.mc_rule.specs.{Cited.IsSuited, Evidence.IsBacked, Evidence.HasT
 ghost use Rattle.mc_evidence.specs.{Locks.SeesMore, Locks.StripeKeeps, Refusals.WasTried, Setting.IsClass, Setting.Setting, Setting.site_in};
 ghost use Rattle.mc_evidence.specs.Seen.{class_events, classes_seen, stripe_events, stripes_seen};
 
-/// What events have found in another history as far as it was seen they find in it when more is seen: a stripe's events
-/// in a class's history, a class's events in a stripe's, the items that a class's events cite, and that a refusal wasn't
-/// made at once.
+/// What events have found in the seen part of another history, they still find when more of it is seen. These are partners, the
+/// items that a class's events cite, and that a refusal wasn't made at once.
 pub fn evidence_stays_as_more_is_seen()
     ensures told { (site : Site) (rule : Rule) (class : ClassNo) (seen more : List ClassEvent) (own : List StripeEvent)
         → Each (HasTrace site rule class seen) own → Each (HasTrace site rule class (seen ++ more)) own }
@@ -21,14 +20,14 @@ pub fn evidence_stays_as_more_is_seen()
         → WasTried site class seen did → WasTried site class (seen ++ more) did }
 {}
 
-/// A pass that has seen no less than a stripe's lock has the partners of the stripe's events in its seen lists.
+/// If a pass has seen at least as much of the classes as a stripe's lock, it has seen the partners of the stripe's events.
 pub fn a_pass_that_saw_it_has_the_partners()
     ensures { (setting : Setting) (s : ℕ) (own : List StripeEvent) (seen pass : ClassNo → List ClassEvent) → StripeKeeps setting s own seen → SeesMore seen pass
         → (class : ClassNo) → IsClass setting class → Each (HasTrace (site_in setting s) setting.rule class (pass class)) own }
 {}
 
-/// Where each list that a token has seen is a beginning of another's, so is each stripe's and each class's history in it;
-/// and what a lock was told of its own events is its history.
+/// If each list that a token has seen is a beginning of another token's, so are the histories of stripes and classes in them.
+/// The events of a history, as the board lists them, give the history back.
 pub fn seen_lists_show_histories()
     ensures classes { (stripes : ℕ) (a b : ℕ → List Event) → ((lock : ℕ) → IsPrefix (a lock) (b lock))
         → SeesMore (classes_seen stripes a) (classes_seen stripes b) }

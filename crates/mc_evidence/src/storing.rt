@@ -1,4 +1,4 @@
-//! All stripes and all classes of a store together.
+//! Laws about all stripes and classes of a store together.
 ghost use Rattle.std.specs.Prelude.{List, None, Some, ℕ, ◌++◌, ◌<◌, ◌≡◌, ◌≤◌};
 ghost use Rattle.mc_item.specs.Measure.{stripe_of};
 ghost use Rattle.mc_item.specs.declared.{class_event.ClassEvent.ClassEvent, item.ClassNo.ClassNo, item.Item.Item, lists.Entry.Entry, lists.Seg.Seg};
@@ -7,7 +7,7 @@ ghost use Rattle.mc_rule.specs.{Belonging.HasEntry, Belonging.HasItem, Lists.fou
 ghost use Rattle.mc_evidence.specs.{Locks.ClassKeeps, Locks.HaveSeen, Locks.StripeKeeps, Losses.AreNoCommands, Losses.WasLost, Setting.IsClass};
 ghost use Rattle.mc_evidence.specs.{Setting.Setting, Setting.site_in, Sound.IsSoundStore};
 
-/// Where each lock keeps what it keeps, and of each stripe and class has seen a beginning, the whole store is sound.
+/// If each lock's invariant holds, and each has seen a beginning of the others' histories, the whole store is sound.
 pub fn locks_keep_a_sound_store()
     ensures { (setting : Setting) (stripes : ℕ → List StripeEvent) (classes : ClassNo → List ClassEvent)
         (seen : ℕ → ClassNo → List ClassEvent) (seen_of : ClassNo → ℕ → List StripeEvent) → 0 < setting.stripes
@@ -17,8 +17,8 @@ pub fn locks_keep_a_sound_store()
         → IsSoundStore setting stripes classes }
 {}
 
-/// In a sound store each item has its entry in its link's class, which is one of the store's, each entry has its item in
-/// its key's stripe, and each number stands in its class once at the most.
+/// In a sound store items are exactly entries. Each item has its entry in the class of its link, which is one of the store's.
+/// Each entry has its item in the stripe of its key. Each number is in its class at most once.
 pub fn a_sound_store_has_items_exactly_as_entries()
     ensures items { (setting : Setting) (stripes : ℕ → List StripeEvent) (classes : ClassNo → List ClassEvent) → IsSoundStore setting stripes classes
         → (s : ℕ) (key : List ℕ) (item : Item) → s < setting.stripes → item_after (site_in setting s) (stripes s) key ≡ Some item
@@ -31,7 +31,7 @@ pub fn a_sound_store_has_items_exactly_as_entries()
         → (class : ClassNo) (number : ℕ) → IsClass setting class → times_in number (lists_of (classes class)) ≤ 1 }
 {}
 
-/// In a sound store each item that was there and is gone, with no command between, was lost in between with its cause.
+/// In a sound store, if an item was there and is no longer, with no command between, its loss is in between and had its cause.
 pub fn in_a_sound_store_each_loss_has_its_cause()
     ensures { (setting : Setting) (stripes : ℕ → List StripeEvent) (classes : ClassNo → List ClassEvent) → IsSoundStore setting stripes classes
         → (s : ℕ) (before between later : List StripeEvent) (key : List ℕ) (item : Item) → s < setting.stripes

@@ -8,7 +8,7 @@ pub record Events (E : Type 0) : Type 0 where
   pub room : ℕ
   pub kept : Bool
 
--- a history is told from another by its three parts
+-- a code for histories: a history is determined by these three parts
 abbrev pub events_code : {E : Type 0} → Coded E → Coded (Events E)
 events_code {E} code =
     code_by (List E × (ℕ × Bool)) (coded× (coded_list code) (coded× coded_ℕ coded_bool)) (λ h. (h.items, (h.room, h.kept)))

@@ -1,11 +1,11 @@
-//! A list of events that stands in proofs alone. The machine keeps no byte of it.
+//! A list of events for proofs only. When the program runs it has no bytes.
 ghost use Rattle.std.specs.Prelude.{◌≡◌, ◌++◌, ◌∷◌, []};
 
 use std::marker::Model;
 use std::mem;
 use std::snapshot::Snapshot;
 
-// One event behind those that came before, or none. It is there only while a snapshot of it is taken.
+// A chain of events: empty, or one event after the chain of earlier ones. It exists only while a snapshot of it is taken.
 #[cycle(chain)]
 #[derive(Drop)]
 pub(crate) struct Chain<E> {
@@ -35,7 +35,7 @@ impl<E> Model for Chain<E> {
     ghost size_decreases = { λ a h. Prim.grind (arith, length-append) };
 }
 
-/// A list of events, oldest first, that only clauses see. It has no bytes.
+/// A list of events, oldest first, that only contracts can see. It has no bytes.
 #[derive(Drop)]
 pub(crate) struct GhostList<E> {
     list: Snapshot<Chain<E>>,
@@ -49,11 +49,9 @@ impl<E> Model for GhostList<E> {
     ghost view = { λ t. t.list.value };
 }
 
-// A list has no bytes.
 const _: () = prove!(size_of::<GhostList<u64>>() == 0);
 
 impl<E> GhostList<E> {
-    // The empty list.
     pub(crate) fn new() -> GhostList<E>
         ensures { result ≡ [] }
     {
@@ -63,7 +61,6 @@ impl<E> GhostList<E> {
         }
     }
 
-    // The event comes to the end of the list.
     #[inline(always)]
     pub(crate) fn push(&mut self, event: &E)
         ensures { self.new ≡ self.old ++ event.now ∷ [] }

@@ -1,4 +1,4 @@
-//! The list of a history's events.
+//! A history's events: kept in memory, or let go as they come.
 ghost use Rattle.std.specs.Prelude.{◌≡◌, ◌+◌, ◌<◌, ◌≤◌, [], ◌∷◌, ◌++◌, length, OnOk, IsOk, Some, IfSome, true};
 ghost use Rattle.std.specs.{Option.option_copied, List.slice_get};
 
@@ -7,9 +7,9 @@ use crate::pieces::Pieces;
 use std::alloc::{AllocError, Global};
 use std::marker::Model;
 
-/// What a history is shown of an event that it lets go, which owns nothing of the event.
+/// What a history that lets events go is shown of an event. It needs to own nothing of the event.
 pub trait Shows<E> {
-    /// The event.
+    /// The event that it shows.
     ghost event: { Self → E };
 }
 
@@ -19,9 +19,9 @@ pub(crate) enum Form<E, S> {
     LetGo(LetGo<S>),
 }
 
-/// Events, oldest first: kept in memory, or let go as they come. Those that are kept never move: growing takes memory
-/// for 4,096 more of them, and copies none. Contracts see the events, how many more need no memory, and whether they
-/// are kept.
+/// A list of events, oldest first. It keeps them in memory, or lets each go as it comes and only counts it. Kept events never
+/// move: growing takes memory for 4,096 more and copies none. Contracts see the events, how many more need no memory, and whether
+/// events are kept.
 #[derive(Drop)]
 pub struct History<E, S: Shows<E>> {
     form: Form<E, S>,
@@ -43,7 +43,7 @@ impl<E, S: Shows<E>> Model for History<E, S> {
 }
 
 impl<E: Drop, S: Shows<E> + Drop> History<E, S> {
-    /// A history without events. It takes no memory.
+    /// Returns a history without events, which keeps those that come. It takes no memory.
     pub fn new(alloc: Global) -> History<E, S>
         ensures items { result.items ≡ [] }
         ensures room { result.room ≡ 0 }
@@ -55,7 +55,7 @@ impl<E: Drop, S: Shows<E> + Drop> History<E, S> {
         }
     }
 
-    /// A history without events, which keeps them or lets each go as it comes. One that lets them go never takes memory.
+    /// Returns a history without events. It keeps those that come, or, if `keeps` is false, lets each go and never takes memory.
     pub fn keeping(alloc: Global, keeps: bool) -> History<E, S>
         ensures items { result.items ≡ [] }
         ensures room { result.room ≡ 0 }
@@ -70,7 +70,7 @@ impl<E: Drop, S: Shows<E> + Drop> History<E, S> {
         }
     }
 
-    /// How many events there are.
+    /// Returns the number of events, kept or let go.
     #[inline(always)]
     pub fn len(&self) -> usize
         ensures { result ≡ length self.now.items }
@@ -81,7 +81,7 @@ impl<E: Drop, S: Shows<E> + Drop> History<E, S> {
         }
     }
 
-    /// The event at a place; the first is at place 0. There is none at or behind the end, and none that was let go.
+    /// Returns the event at a place, counted from 0. Returns `None` from the end on, and for events that were let go.
     pub fn get(&self, place: usize) -> Option<&E>
         ensures there { IfSome result (λ event. slice_get self.now.items place ≡ Some event.now) }
         ensures all { self.now.kept ≡ true → option_copied result ≡ slice_get self.now.items place }
@@ -92,7 +92,8 @@ impl<E: Drop, S: Shows<E> + Drop> History<E, S> {
         }
     }
 
-    /// Makes room for n more events. It is an error where memory is refused; the events stay, and so does their room.
+    /// Makes room for `n` more events.
+    /// Errors: `AllocError` if memory is refused or there would be more than 2^63 events. No event changes, and no room is lost.
     #[inline(always)]
     pub fn reserve(&mut self, n: usize) -> Result<(), AllocError>
         ensures items { self.new.items ≡ self.old.items }
@@ -107,7 +108,7 @@ impl<E: Drop, S: Shows<E> + Drop> History<E, S> {
         }
     }
 
-    /// Whether events are kept.
+    /// Returns whether events are kept.
     #[inline(always)]
     pub fn keeps(&self) -> bool
         ensures { result ≡ self.now.kept }
@@ -118,8 +119,8 @@ impl<E: Drop, S: Shows<E> + Drop> History<E, S> {
         }
     }
 
-    /// Adds an event at the end, if there is room for it: one that keeps events is given it, one that lets them go is shown
-    /// it. It takes no memory.
+    /// Adds an event at the end. It takes no memory: there must be room for the event. A history that lets events go only looks
+    /// at `shown`. One that keeps them must be given the `event` too.
     #[inline(always)]
     pub fn push_reserved(&mut self, shown: &S, event: Option<E>)
         requires room { 0 < self.old.room }

@@ -1,4 +1,4 @@
-//! Events that are let go as they come.
+//! Events that are let go as they come, and only counted.
 ghost use Rattle.std.specs.Prelude.{◌≡◌, ◌+◌, ◌<◌, ◌≤◌, ◌∷◌, ◌++◌, [], false, length, OnOk, IsOk};
 ghost use Rattle.mc_history.specs.Events.{Events};
 
@@ -6,10 +6,10 @@ use crate::ghost_list::GhostList;
 use std::alloc::AllocError;
 use std::marker::Model;
 
-/// How many events there can be, so that sums of them are numbers of 64 bits.
+/// The most events that there can be. It keeps all sums within 64 bits.
 const MOST_EVENTS: usize = 1 << 63;
 
-/// Events of which the machine keeps the number alone, and up to which number it has promised room.
+/// Events of which only the number is in memory: there are `len`, and room was promised up to `end`.
 #[derive(Drop)]
 pub(crate) struct LetGo<E> {
     events: GhostList<E>,
@@ -31,7 +31,6 @@ impl<E> Model for LetGo<E> {
 }
 
 impl<E: Drop> LetGo<E> {
-    // No events, and room for none.
     pub(crate) fn new() -> LetGo<E>
         ensures { result ≡ record { items = []; room = 0; kept = false } }
     {
@@ -42,7 +41,6 @@ impl<E: Drop> LetGo<E> {
         }
     }
 
-    // How many events there are.
     #[inline(always)]
     pub(crate) fn len(&self) -> usize
         ensures { result ≡ length self.now.items }
@@ -50,7 +48,7 @@ impl<E: Drop> LetGo<E> {
         self.len
     }
 
-    // Promises room for n more events. It takes no memory: it is an error only where they could not be counted.
+    // Promises room for `n` more events. It takes no memory, and fails only past 2^63 events.
     #[inline(always)]
     pub(crate) fn reserve(&mut self, n: usize) -> Result<(), AllocError>
         ensures items { self.new ≡ record self.old { room = self.new.room } }
@@ -68,7 +66,7 @@ impl<E: Drop> LetGo<E> {
         Ok(())
     }
 
-    // Lets an event go that it is shown. It is the last of the list, if there is room for it.
+    // Lets an event go that it is shown, and counts it. There must be room for it.
     #[inline(always)]
     pub(crate) fn push_shown(&mut self, event: &E)
         requires room { 0 < self.old.room }

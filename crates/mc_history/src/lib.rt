@@ -1,4 +1,4 @@
-//! A history's events in memory: a list that only grows, in pieces, so that no growth copies what stands in it.
+//! A history: a list of events that only grows. Events are kept in pieces, so that growing copies none, or are only counted.
 #![tactic(auto)]
 
 mod ghost_list;

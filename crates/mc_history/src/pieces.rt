@@ -1,4 +1,4 @@
-//! The pieces that a history lies in.
+//! The pieces of memory that a history's events lie in.
 ghost use Rattle.std.specs.Prelude.{◌≡◌, ◌+◌, ◌*◌, ◌^◌, ◌<◌, ◌≤◌, ◌∷◌, ◌++◌, [], length, vec_capacity, OnOk, IsOk};
 ghost use Rattle.std.specs.{Option.option_copied, List.slice_get};
 ghost use Rattle.mc_history.specs.Pieces.{events_of, room_of, ArePiecesSound, ArePiecesKept};
@@ -6,25 +6,23 @@ ghost use Rattle.mc_history.specs.Pieces.{events_of, room_of, ArePiecesSound, Ar
 use std::alloc::{AllocError, Global};
 use std::mem;
 
-/// How many events share a piece.
+/// How many events a piece holds.
 const PIECE_LEN: usize = 4_096;
 
-/// How many places for events there can be, so that sums of them are numbers of 64 bits.
+/// The most places that there can be for events. It keeps all sums within 64 bits.
 const MOST_PLACES: usize = 1 << 63;
 
-/// The pieces of a history. The one that the next event comes into stands apart, so that adding an event touches no
-/// other.
+/// The pieces of a history. The one that takes the next event is a field of its own, so that adding an event touches no other.
 #[derive(Drop)]
 pub(crate) struct Pieces<E> {
-    // The piece that the next event comes into. It has no memory before the first event.
+    // The piece that takes the next event. It has no memory until room is first made.
     last: Vec<E>,
-    // The pieces before it, oldest first.
+    // The full pieces before it, oldest first.
     full: Vec<Vec<E>>,
-    // Pieces without events, where there is more room than in the last.
+    // Empty pieces, for events that the last one has no place for.
     ahead: Vec<Vec<E>>,
 }
 
-// What stands at a place of a list.
 #[inline(always)]
 fn item_at<T>(items: &[T], place: usize) -> Option<&T>
     ensures { option_copied result ≡ slice_get items.now place }
@@ -33,7 +31,7 @@ fn item_at<T>(items: &[T], place: usize) -> Option<&T>
 }
 
 impl<E: Drop> Pieces<E> {
-    // No events, and room for none. It takes no memory.
+    // No events, and no room. It takes no memory.
     pub(crate) fn new(alloc: Global) -> Pieces<E>
         ensures kept { ArePiecesKept result }
         ensures events { events_of result ≡ [] }
@@ -46,7 +44,6 @@ impl<E: Drop> Pieces<E> {
         }
     }
 
-    // How many events there are.
     #[inline(always)]
     pub(crate) fn len(&self) -> usize
         requires kept { ArePiecesKept self.now }
@@ -56,7 +53,6 @@ impl<E: Drop> Pieces<E> {
         PIECE_LEN * self.full.len() + self.last.len()
     }
 
-    // The event at a place.
     pub(crate) fn get(&self, place: usize) -> Option<&E>
         requires kept { ArePiecesKept self.now }
         ensures { option_copied result ≡ slice_get (events_of self.now) place }
@@ -67,7 +63,7 @@ impl<E: Drop> Pieces<E> {
         }
     }
 
-    // How many places the last piece has left.
+    // How many more events the last piece has a place for.
     #[inline(always)]
     pub(crate) fn left(&self) -> usize
         ensures { result + length self.now.last.items ≡ vec_capacity self.now.last }
@@ -83,7 +79,7 @@ impl<E: Drop> Pieces<E> {
         self.left() + PIECE_LEN * self.ahead.len()
     }
 
-    // Makes room for n more events, where the last piece has too little.
+    // Makes room for `n` more events. The usual case, in which the last piece has enough, is inlined.
     #[inline(always)]
     pub(crate) fn reserve(&mut self, alloc: Global, n: usize) -> Result<(), AllocError>
         requires kept { ArePiecesKept self.old }
@@ -99,7 +95,7 @@ impl<E: Drop> Pieces<E> {
         self.make_room(alloc, n)
     }
 
-    // Makes room for n more events, piece by piece until there is enough.
+    // Makes pieces until there is room for `n` more events. It fails if memory is refused, or past 2^63 places.
     #[cold]
     #[inline(never)]
     pub(crate) fn make_room(&mut self, alloc: Global, n: usize) -> Result<(), AllocError>
@@ -119,7 +115,7 @@ impl<E: Drop> Pieces<E> {
         Ok(())
     }
 
-    // Makes a piece ahead, and room for it among the full ones. Where the last has no place left, it becomes the last.
+    // Makes a piece ahead, and a place for it among the full ones. If the last piece has no place left, the new one becomes last.
     fn make_piece(&mut self, alloc: Global) -> Result<(), AllocError>
         requires kept { ArePiecesKept self.old }
         requires few { length (events_of self.old) + room_of self.old < 2 ^ 63 }
@@ -136,8 +132,8 @@ impl<E: Drop> Pieces<E> {
         Ok(())
     }
 
-    // Adds an event at the end, where there is room for it. A piece is turned over when its last event has come, and not
-    // before the next one, which so goes straight to its place.
+    // Adds an event at the end. There must be room for it. If it fills the last piece, the next one becomes the last at once, so
+    // that the next event goes straight to its place.
     #[inline(always)]
     pub(crate) fn push_reserved(&mut self, event: E)
         requires kept { ArePiecesKept self.old }
@@ -150,7 +146,6 @@ impl<E: Drop> Pieces<E> {
         self.turn_if_full();
     }
 
-    // Turns over where the last piece has no place left.
     #[inline(always)]
     fn turn_if_full(&mut self)
         requires sound { ArePiecesSound self.old }
@@ -163,7 +158,7 @@ impl<E: Drop> Pieces<E> {
         }
     }
 
-    // A piece ahead, if there is one, becomes the last. What was the last is full, or has no memory.
+    // The next piece ahead, if there is one, becomes the last. The old last piece is full, or has no memory and is dropped.
     #[cold]
     #[inline(never)]
     fn turn_over(&mut self)

@@ -1,5 +1,5 @@
--- The table of commands, row by row (protocol.txt, by the commands): what a command needs, what it is answered,
--- and what becomes of its key's item, which is absent or alive. Rows marked (own) are this profile's.
+-- The table of commands, row by row (protocol.txt, under each command): what a command needs, its reply, and what happens to its
+-- key's item, which is absent or alive. Rules marked (own) are this project's.
 use Rattle.std.specs.Prelude.{ℕ, ◌+◌, ◌-◌, ◌*◌, ◌%◌, ◌^◌, ◌==◌, List, ◌++◌, nat_le, if◌then◌else◌, Option, Some, None, length, replicate, decimal}
 use Rattle.std.specs.Option.{option_map}
 use Rattle.mc_item.specs.{Item.expiry_of, Item.hit_marks, Item.no_marks, Measure.cost_of, Measure.class_of, Measure.numeral_of}
@@ -13,12 +13,12 @@ use Rattle.mc_item.specs.declared.command.Verb.TheVariants.{Set, Add, Replace, C
 use Rattle.mc_item.specs.declared.reply.Reply.TheVariants as replies
 use Rattle.mc_item.specs.declared.reply.Room.TheVariants as rooms
 
--- a row of the table: what is needed, and for the room that is given the answer
+-- a row of the table: what the command needs, and its answer for each room that it may be given
 pub record Row : Type 0 where
   pub need : Need
   pub answer : Room → Answer
 
--- a reply, and what becomes of the item
+-- the answer with this reply and this change of the item
 abbrev pub answer : Reply → Change → Answer
 answer reply change = record { reply = reply; change = change }
 
@@ -26,13 +26,13 @@ answer reply change = record { reply = reply; change = change }
 abbrev pub plain : Need → Reply → Change → Row
 plain need reply change = record { need = need; answer = λ room. answer reply change }
 
--- the answer for a new version at a link, where the room is one, and else the answer of a refusal
+-- the answer for a room: that for a new version at the link if the room is a link, otherwise that of a refusal
 abbrev pub placed : Room → (Link → Answer) → Answer → Answer
 placed (rooms.At link) there refused = there link
 placed (rooms.Refused class place) there refused = refused
 placed rooms.Keep there refused = refused
 
--- a row that needs a chunk of a class for a new version
+-- a row that needs a chunk of this class: with a link it gives the reply and the new version, otherwise the answer of a refusal
 abbrev pub fresh : ClassNo → Reply → (Link → Item) → Answer → Row
 fresh class reply version refused =
     record {
@@ -40,28 +40,28 @@ fresh class reply version refused =
       answer = λ room. placed room (λ link. answer reply (changes.Renewed (version link))) refused;
     }
 
--- the cas number of a stripe's n-th new version, with n from 0: no two of a stripe are equal
+-- the cas number of a stripe's n-th new version, with n from 0: no two versions of a stripe have the same
 abbrev pub cas_of : Site → ℕ → ℕ
 cas_of site n = n * site.stripes + site.stripe + 1
 
--- a new version: a new cas number, a new link, and no marks
+-- the n-th new version, with these flags, value and expiry, a new cas number, this link, and no marks
 abbrev pub version_of : Site → ℕ → ℕ → List ℕ → Expiry → Link → Item
 version_of site n flags value expiry link =
     record { flags = flags; value = value; expiry = expiry; cas = cas_of site n; link = link; marks = no_marks }
 
--- get: the item, which is hit, or a miss
+-- get: the reply is the item, which is hit, or a miss
 abbrev pub get_row : Option Item → Row
 get_row None = plain needs.Nothing replies.Miss changes.Stays
 get_row (Some item) = plain needs.Nothing (replies.Value item.flags item.value item.cas) (changes.Hit (hit_marks item.marks))
 
--- a set that finds no chunk removes what it would have replaced; the other storage commands change nothing (own)
+-- what a storage command without a chunk does to the old item: set removes it, the others leave it (own)
 abbrev pub let_go : Verb → Change
 let_go Set = changes.Goes
 let_go Add = changes.Stays
 let_go Replace = changes.Stays
 let_go (Cas unique) = changes.Stays
 
--- the storage commands, by the class of the new item's cost, the verb and the item that is there
+-- the storage commands, by the class for the new item's cost (none if it is too large), the verb, and the old item
 abbrev pub store_row : Option ClassNo → Verb → Option Item → (Link → Item) → Row
 store_row None verb found version = plain needs.TooLarge replies.TooLarge (let_go verb)
 store_row (Some class) Set found version = fresh class replies.Stored version (answer replies.NoRoom (let_go Set))
@@ -75,21 +75,21 @@ store_row (Some class) (Cas unique) (Some item) version =
     then fresh class replies.Stored version (answer replies.NoRoom (let_go (Cas unique)))
     else plain needs.Nothing replies.Exists changes.Stays
 
--- a storage command whose block no class can hold
+-- a storage command whose item no class can hold: too large
 abbrev pub huge_row : Verb → Row
 huge_row verb = plain needs.TooLarge replies.TooLarge (let_go verb)
 
--- a text, and spaces up to a length
+-- a text, padded with spaces to a length
 abbrev pub padded : List ℕ → ℕ → List ℕ
 padded text len = text ++ replicate (len - length text) 32
 
--- a number longer than the old value: a new version, by the class of its cost
+-- incr and decr to a number longer than the old value: a new version with the old flags and expiry, by the class for its cost
 abbrev pub grown_row : Site → ℕ → Item → ℕ → Option ClassNo → Row
 grown_row site n item number None = plain needs.TooLarge replies.NoSpace changes.Stays
 grown_row site n item number (Some class) =
     fresh class (replies.Number number) (version_of site n item.flags (decimal number) item.expiry) (answer replies.NoSpace changes.Stays)
 
--- a new number for an item whose value was one: in place where it isn't longer than the old value
+-- incr and decr of an item to this number (none if its value is no number): in place if the number isn't longer than the value
 abbrev pub number_row : Site → ℕ → List ℕ → Item → Option ℕ → Row
 number_row site n key item None = plain needs.Nothing replies.NonNumeric changes.Stays
 number_row site n key item (Some number) =
@@ -97,7 +97,7 @@ number_row site n key item (Some number) =
     then plain needs.Same (replies.Number number) (changes.Counted (padded (decimal number) (length item.value)) (cas_of site n))
     else grown_row site n item number (class_of site.sizes (cost_of key (decimal number)))
 
--- incr and decr: the old number goes to the new one by a step
+-- incr and decr: not found without an item, otherwise by the number after the step
 abbrev pub count_row : Site → ℕ → List ℕ → (ℕ → ℕ) → Option Item → Row
 count_row site n key step None = plain needs.Nothing replies.NotFound changes.Stays
 count_row site n key step (Some item) = number_row site n key item (option_map step (numeral_of item.value))
@@ -107,17 +107,17 @@ abbrev pub touch_row : Expiry → Option Item → Row
 touch_row expiry None = plain needs.Nothing replies.NotFound changes.Stays
 touch_row expiry (Some item) = plain needs.Nothing replies.Touched (changes.Touched expiry (hit_marks item.marks))
 
--- delete
+-- delete: removes the item
 abbrev pub delete_row : Option Item → Row
 delete_row None = plain needs.Nothing replies.NotFound changes.Stays
 delete_row (Some item) = plain needs.Nothing replies.Deleted changes.Goes
 
--- incr wraps at 2^64, decr stops at 0
+-- the number after a step: incr wraps at 2^64, decr stops at 0
 abbrev pub stepped : Step → ℕ → ℕ
 stepped (Up delta) number = (number + delta) % 2 ^ 64
 stepped (Down delta) number = number - delta
 
--- the row of a command at a moment, by the number of versions so far and the item that is there
+-- the row of a command at a moment (a time in seconds), by the number of earlier versions and the item found
 abbrev pub row_of : Site → ℕ → Option Item → Command → ℕ → Row
 row_of site n found (Get key) moment = get_row found
 row_of site n found (Store verb key flags exptime value) moment =

@@ -1,4 +1,4 @@
--- Commands: which key one names.
+-- Commands: which key each one names.
 use Rattle.std.specs.Prelude.{ℕ, List}
 use Rattle.mc_item.specs.declared.command.Command.{Command}
 use Rattle.mc_item.specs.declared.command.Command.TheVariants.{Get, Store, Huge, Incr, Decr, Touch, Delete}

@@ -1,4 +1,4 @@
--- The history of a stripe: which events may happen to its cache, which histories are legal, and what they leave.
+-- The history of a stripe: which events may happen to its cache, which histories are legal, and which cache they leave.
 use Rattle.std.specs.Prelude.{ℕ, ◌≡◌, ◌≢◌, List, [], ◌∷◌, ◌++◌, true, false, Option, Some, None, IsSomeAnd, IfSome}
 use Rattle.mc_item.specs.{Answer.row_of, Command.key_of, Item.is_dead, Measure.stripe_of}
 use Rattle.mc_item.specs.Cache.{Cache, empty_cache, after_change, after_command, answer_of}
@@ -10,25 +10,24 @@ use Rattle.mc_item.specs.declared.answer.Need.TheVariants as needs
 use Rattle.mc_item.specs.declared.reply.Room.TheVariants as rooms
 use Rattle.mc_item.specs.declared.stripe_event.StripeEvent.TheVariants as events
 
--- the link that a room is, where it is one
+-- the link that a room is, if it is one
 abbrev pub link_of : Room → Option Link
 link_of (rooms.At link) = Some link
 link_of rooms.Keep = None
 link_of (rooms.Refused class place) = None
 
--- the link that an event gives to a new version
+-- the link that an event gives to a new version, if it gives one
 abbrev pub link_named : StripeEvent → Option Link
 link_named (events.Did did) = link_of did.room
 link_named (events.Lost lost) = None
 link_named (events.Cooled cooled) = None
 
--- no event of the history gave this link
+-- no event of the history gave this link to a new version
 abbrev pub IsUnnamed : Link → List StripeEvent → Type 0
 IsUnnamed link [] = Unit {0}
 IsUnnamed link (e ∷ es) = (link_named e ≢ Some link) × IsUnnamed link es
 
--- the room that a command is given fits its need: a new link of the class that is needed, or a refusal of that
--- class, and nothing where nothing is needed
+-- the room fits the need: for a chunk, a link of its class that no event `before` gave, or a refusal of its class; otherwise none
 abbrev pub Fits : Need → Room → List StripeEvent → Type 0
 Fits (needs.Fresh class) (rooms.At link) before = (link.class ≡ class) × IsUnnamed link before
 Fits (needs.Fresh class) (rooms.Refused other place) before = other ≡ class
@@ -43,34 +42,34 @@ Fits needs.TooLarge rooms.Keep before = Unit {0}
 Fits needs.TooLarge (rooms.At link) before = ⊥
 Fits needs.TooLarge (rooms.Refused other place) before = ⊥
 
--- an item is alive at a moment, where it is there
+-- the item, if there is one, is alive at a moment (a time in seconds)
 abbrev pub IsAlive : Option Item → ℕ → Type 0
 IsAlive found moment = IfSome found (λ item. is_dead item moment ≡ false)
 
--- an item is there, and dead at a moment
+-- there is an item, and it is dead at a moment
 abbrev pub IsDead : Option Item → ℕ → Type 0
 IsDead found moment = IsSomeAnd found (λ item. is_dead item moment ≡ true)
 
--- a command may be answered so: its key is of this stripe, its item is alive or absent, the room fits the need,
--- and the reply is that of its row
+-- a command may be answered like this: its key is of this stripe, its item is alive or absent, the room fits its row's need, and
+-- the reply is the row's
 pub record MayDo (site : Site) (cache : Cache) (before : List StripeEvent) (did : Did) : Type 0 where
   pub stripe : stripe_of (key_of did.command) site.stripes ≡ record { 0 = site.stripe }
   pub alive : IsAlive (cache.items (key_of did.command)) did.moment
   pub fits : Fits (row_of site cache.versions (cache.items (key_of did.command)) did.command did.moment).need did.room before
   pub reply : did.reply ≡ (answer_of site cache did.command did.moment did.room).reply
 
--- an item may go so: it is there, and dead at the moment, or has a chunk of the class
+-- an item may be lost for this cause: there is one, and it is dead at the moment, or its chunk is of the class
 abbrev pub MayLose : Option Item → Cause → Type 0
 MayLose found (Expired moment) = IsDead found moment
 MayLose found (Taken class place) = IsSomeAnd found (λ item. item.link.class ≡ class)
 
--- the event may happen to the cache that the events before it left
+-- an event may happen to this cache after the events `before`
 abbrev pub MayHappen : Site → Cache → List StripeEvent → StripeEvent → Type 0
 MayHappen site cache before (events.Did did) = MayDo site cache before did
 MayHappen site cache before (events.Lost lost) = MayLose (cache.items lost.key) lost.cause
 MayHappen site cache before (events.Cooled cooled) = IsSomeAnd (cache.items cooled.key) (λ item. item.marks.active ≡ true)
 
--- the marks of an item that is cooled: ACTIVE alone is cleared
+-- the change of an item that is cooled: its ACTIVE mark is cleared, and nothing else
 abbrev pub cooled_change : Option Item → Change
 cooled_change None = Stays
 cooled_change (Some item) = Hit (record { fetched = item.marks.fetched; active = false })
@@ -86,16 +85,16 @@ pub record Steps (site : Site) (before : List StripeEvent) (old : Cache) (event 
   pub may : MayHappen site old before event
   pub leaves : new ≡ cache_after site old event
 
--- the cache that events leave of one
+-- the cache after these events, from this cache on
 abbrev pub cache_from : Site → Cache → List StripeEvent → Cache
 cache_from site cache [] = cache
 cache_from site cache (e ∷ es) = cache_from site (cache_after site cache e) es
 
--- the cache that a history leaves of the empty one
+-- the cache that a history leaves, from the empty cache on
 abbrev pub cache_of : Site → List StripeEvent → Cache
 cache_of site history = cache_from site empty_cache history
 
--- each of these events may happen to the cache that those before it left
+-- from this cache on, after the events `before`, each event may happen to the cache that the ones before it left
 abbrev pub IsLegalFrom : Site → Cache → List StripeEvent → List StripeEvent → Type 0
 IsLegalFrom site cache before [] = Unit {0}
 IsLegalFrom site cache before (e ∷ es) = MayHappen site cache before e × IsLegalFrom site (cache_after site cache e) (before ++ e ∷ []) es

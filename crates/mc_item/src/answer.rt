@@ -1,10 +1,10 @@
-//! The table of commands: what a command needs, what it is answered, and what becomes of its key's item.
+//! The types of the table of commands: what a command needs, its reply, and what happens to its key's item.
 use crate::item::{ClassNo, Expiry, Item, Marks};
 use crate::numbers::ClassSizes;
 use crate::reply::Reply;
 use crate::value::Value;
 
-/// What is fixed for one stripe: its number, how many stripes there are, and the sizes of the slab classes.
+/// The fixed data of one stripe: its number, the number of stripes, and the sizes of the slab classes.
 #[derive(Drop)]
 pub struct Site {
     pub stripe: u32,
@@ -12,37 +12,37 @@ pub struct Site {
     pub sizes: ClassSizes,
 }
 
-/// What a command needs beside its stripe.
+/// What a command needs besides its stripe.
 #[derive(Clone, Copy, Debug, PartialEq, Eq)]
 pub enum Need {
-    /// Nothing: its item stays as large as it was, or goes, or there is none.
+    /// Nothing: its item keeps its value, is removed, or is absent.
     Nothing,
-    /// Nothing: its item changes in place.
+    /// Nothing: the value of its item changes in place.
     Same,
-    /// A chunk of this class, for a new version of its item.
+    /// A chunk of this class for a new version of its item.
     Fresh(ClassNo),
-    /// A chunk larger than there are.
+    /// A chunk that is larger than any class has.
     TooLarge,
 }
 
-/// What becomes of the item of a command's key.
+/// What happens to the item of a command's key.
 #[derive(Debug, Drop)]
 pub enum Change {
-    /// It stays as it is, there or not.
+    /// It stays as it is, present or absent.
     Stays,
-    /// It goes.
+    /// It is removed, if it is present.
     Goes,
-    /// It was hit: these are its marks.
+    /// It was hit, and now has these marks.
     Hit(Marks),
-    /// It was touched: this is its expiry, and these its marks.
+    /// It was touched, and now has this expiry and these marks.
     Touched(Expiry, Marks),
-    /// It has this value in place of its old one, and a new cas number.
+    /// `incr` or `decr` gave it this value and this cas number.
     Counted(Value, u64),
-    /// This is a new version.
+    /// It is replaced by this new version, or stored if it was absent.
     Renewed(Item),
 }
 
-/// A command's reply, and what becomes of its key's item.
+/// A command's reply, and what happens to its key's item.
 #[derive(Debug, Drop)]
 pub struct Answer {
     pub reply: Reply,

@@ -1,29 +1,29 @@
-//! What can happen to a caller.
+//! The events of a caller's history. A moment is a time in seconds.
 use crate::command::Command;
 use crate::item::{ClassNo, StripeNo};
 
-/// The caller asked for a command, at a moment.
+/// The caller asked for a command at a moment.
 #[derive(Drop)]
 pub struct Asked {
     pub command: Command,
     pub moment: u64,
 }
 
-/// The caller worked on a class, at a moment.
+/// The caller asked for a class to be juggled or crawled at a moment.
 #[derive(Drop)]
 pub struct Worked {
     pub class: ClassNo,
     pub moment: u64,
 }
 
-/// The command that the caller asked for last was answered: by the event at this place of this stripe's history.
+/// The caller's last command was answered by the event at this place (the number of earlier ones) of this stripe's history.
 #[derive(Drop)]
 pub struct Answered {
     pub stripe: StripeNo,
     pub place: u64,
 }
 
-/// An event of a caller's history: a call, in whose turn it is handed a moment, or the answer to one.
+/// An event of a caller's history: a call, which has a turn and a moment, or the answer to a command.
 #[derive(Drop)]
 pub enum CallEvent {
     Asked(Asked),
@@ -32,7 +32,7 @@ pub enum CallEvent {
     Answered(Answered),
 }
 
-/// The event of a command that is asked for, where the command itself is still to be made.
+/// An `Asked` event that borrows its command, which is still to be made.
 #[derive(Drop)]
 pub struct Asking<'a> {
     pub command: &'a Command,

@@ -1,24 +1,25 @@
-//! What can happen to a slab class.
+//! The events of a slab class's history. `who` is the call that made the event, and a moment is a time in seconds. `passed` has
+//! the numbers of the entries nearer to the tail. `at` is how many events the stripe of the entry's key had then.
 use crate::item::Who;
 use crate::key::Key;
 use crate::lists::{Passed, Seg};
 
-/// Why an entry went from one list to another (new_lru.txt).
+/// Why an entry was moved to the head of a list (new_lru.txt).
 #[derive(Clone, Copy, Debug, PartialEq, Eq)]
 pub enum Why {
     /// It was hit in COLD.
     Hit,
     /// It was found ACTIVE near its list's tail.
     Active,
-    /// Its list's bytes exceeded the limit of the survey at this place.
+    /// Its list's bytes exceeded the limit that follows from the survey at this place of the history.
     Over(u64),
-    /// Its age exceeded the greatest age of the survey at this place.
+    /// Its age exceeded the greatest age that follows from the survey at this place of the history.
     Old(u64),
     /// The class was full.
     Forced,
 }
 
-/// A new entry stands at the head of a list.
+/// A new entry was linked at the head of a list.
 #[derive(Drop)]
 pub struct Linked {
     pub who: Who,
@@ -29,14 +30,14 @@ pub struct Linked {
     pub moment: u64,
 }
 
-/// An entry went with its item.
+/// An entry was removed because a command replaced or removed its item.
 #[derive(Drop)]
 pub struct Unlinked {
     pub who: Who,
     pub number: u64,
 }
 
-/// An entry went to the head of another list, or of its own.
+/// An entry was moved to the head of another list, or of its own.
 #[derive(Drop)]
 pub struct Shifted {
     pub who: Who,
@@ -49,7 +50,7 @@ pub struct Shifted {
     pub at: u64,
 }
 
-/// An entry was taken near COLD's tail.
+/// An entry near COLD's tail was evicted.
 #[derive(Drop)]
 pub struct Evicted {
     pub who: Who,
@@ -58,7 +59,7 @@ pub struct Evicted {
     pub at: u64,
 }
 
-/// An entry went whose item was dead.
+/// An entry was removed because its item was dead.
 #[derive(Drop)]
 pub struct Reclaimed {
     pub who: Who,
@@ -67,7 +68,7 @@ pub struct Reclaimed {
     pub at: u64,
 }
 
-/// The bytes of HOT, WARM and COLD together, and the age of COLD's tail, at a moment.
+/// A survey: the bytes of HOT, WARM and COLD together, and the age of COLD's tail at a moment.
 #[derive(Drop)]
 pub struct Surveyed {
     pub who: Who,
@@ -76,7 +77,7 @@ pub struct Surveyed {
     pub cold_age: u64,
 }
 
-/// No chunk was found.
+/// No chunk was found for a command.
 #[derive(Drop)]
 pub struct Refused {
     pub who: Who,

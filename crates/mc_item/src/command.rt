@@ -10,22 +10,22 @@ use std::alloc::Global;
 /// The kinds of storage command (protocol.txt, "Storage commands").
 #[derive(Clone, Copy, Debug, PartialEq, Eq)]
 pub enum Verb {
-    /// Stores in any case.
+    /// Stores whether or not there is an item.
     Set,
-    /// Stores where there is no item.
+    /// Stores only if there is no item.
     Add,
-    /// Stores where there is an item.
+    /// Stores only if there is an item.
     Replace,
-    /// Stores where the item has this cas number.
+    /// Stores only if there is an item with this cas number.
     Cas(u64),
 }
 
-/// A command. It names one key. `gets` is `Get`, printed with the cas number.
+/// A command on one key. `gets` is also `Get`: only its printed reply differs, by the cas number.
 #[derive(Debug, Drop)]
 pub enum Command {
     /// Reads an item.
     Get(Key),
-    /// Stores an item, of these flags, exptime and value.
+    /// Stores an item with these flags, exptime and value.
     Store {
         verb: Verb,
         key: Key,
@@ -33,14 +33,14 @@ pub enum Command {
         exptime: i64,
         value: Value,
     },
-    /// A storage command whose block was skipped, since no slab class can hold it.
+    /// A storage command whose block was skipped, since no slab class can hold the item.
     Huge {
         verb: Verb,
         key: Key,
     },
-    /// Adds to a number.
+    /// Adds to the number that is the item's value.
     Incr(Key, u64),
-    /// Takes from a number.
+    /// Subtracts from the number that is the item's value.
     Decr(Key, u64),
     /// Sets an item's exptime.
     Touch(Key, i64),
@@ -49,7 +49,7 @@ pub enum Command {
 }
 
 impl Command {
-    /// The key that the command names.
+    /// Returns the key that the command names.
     pub fn key(&self) -> &Key
         ensures { result.now ≡ key_of self.now }
     {
@@ -64,7 +64,7 @@ impl Command {
         }
     }
 
-    /// An equal command. `NoMemory` is answered where its key or its value found none.
+    /// Returns an equal command. Fails with `NoMemory` if its key or its value can't be copied.
     pub fn copy(&self, alloc: Global) -> Result<Command, NoMemory>
         ensures { IfOk result (λ command. command ≡ self.now) }
     {

@@ -1,4 +1,4 @@
-//! What a store is made with.
+//! The configuration of a store.
 ghost use Rattle.std.specs.Prelude.{◌≡◌, IfOk, MatchOption, MatchResult, Ok, Err};
 ghost use Rattle.std.specs.List.{list_all};
 ghost use Rattle.mc_item.specs.Config.{is_limit, is_size, fault_of, IsBounded, usual_config, usual_sizes};
@@ -7,9 +7,9 @@ use crate::fault::NoMemory;
 use crate::numbers::Numbers;
 use std::alloc::Global;
 
-/// The number of stripes, the slab classes with their sizes and limits, the limits of histories, and whether their
-/// events are kept in memory.
-/// Percents are of the bytes of HOT, WARM and COLD; factors are hundredths of an age.
+/// What a store is made with. `sizes` and `chunks` have one number for each slab class. Percents are of the bytes of HOT, WARM
+/// and COLD. Factors are hundredths of the age of COLD's tail. `temp_ttl` is in seconds. `max_events` limits each history, and
+/// `keeps_events` says whether events are kept in memory.
 #[derive(Drop)]
 pub struct Config {
     pub stripes: u32,
@@ -26,54 +26,50 @@ pub struct Config {
     pub keeps_events: bool,
 }
 
-/// What is wrong with a configuration. The first that fits is answered.
+/// What is wrong with a configuration. Of several faults the first in this order is returned.
 #[derive(Clone, Copy, Debug, PartialEq, Eq)]
 pub enum ConfigFault {
-    /// The number of stripes is no power of two from 1 to 64.
+    /// The number of stripes isn't a power of two from 1 to 64.
     Stripes,
-    /// There are not 1 to 63 sizes, strictly rising, each from 65 to 1,048,576.
+    /// The sizes aren't 1 to 63 strictly rising numbers from 65 to 1,048,576.
     Sizes,
-    /// There are not as many limits as sizes, each from 1 to 1,048,576.
+    /// There isn't one number of chunks for each size, or one isn't from 1 to 1,048,576.
     Chunks,
-    /// A percent is not from 1 to 99, or their sum exceeds 99.
+    /// A percent isn't from 1 to 99, or their sum exceeds 99.
     Percent,
-    /// A factor exceeds 10,000, or the life in TEMP is not from 1 to 2,592,000 seconds.
+    /// A factor exceeds 10,000, or `temp_ttl` isn't from 1 to 2,592,000 seconds.
     Factor,
-    /// There are not 1 to 64 callers.
+    /// The number of callers isn't from 1 to 64.
     Callers,
-    /// A history may not hold 16 to 2^32 events.
+    /// The limit of a history's events isn't from 16 to 2^32.
     Events,
 }
 
-/// The sizes of the 43 usual slab classes (own).
+/// The sizes of the 43 usual slab classes (this project's own).
 const USUAL_SIZES: [u64; 43] = [
     96, 120, 152, 192, 240, 304, 384, 480, 600, 752, 944, 1184, 1480, 1856, 2320, 2904, 3632, 4544,
     5680, 7104, 8880, 11104, 13880, 17352, 21696, 27120, 33904, 42384, 52984, 66232, 82792, 103496,
     129376, 161720, 202152, 252696, 315872, 394840, 493552, 616944, 771184, 963984, 1048576,
 ];
 
-// The usual sizes.
 fn sizes_of(alloc: Global) -> Result<Numbers, NoMemory>
     ensures { IfOk result (λ sizes. sizes ≡ usual_sizes) }
 {
     Ok(Numbers::from_vec(Vec::from_slice(alloc, &USUAL_SIZES)?))
 }
 
-// As many usual limits as there are usual sizes.
 fn chunks_of(alloc: Global) -> Result<Numbers, NoMemory>
     ensures { IfOk result (λ chunks. chunks ≡ Rattle.mc_item.specs.Config.usual_chunks) }
 {
     Ok(Numbers::from_vec(Vec::from_slice(alloc, &[1024; 43])?))
 }
 
-// Whether the sizes rise from 65 to at most 1,048,576.
 fn are_sizes(sizes: &[u64]) -> bool
     ensures { result ≡ Rattle.mc_item.specs.Config.are_sizes sizes.now }
 {
     !sizes.is_empty() && sizes.len() <= 63 && are_in_range(sizes) && is_rising(sizes)
 }
 
-// Whether each number is from 1 to 1,048,576.
 fn are_limits(chunks: &[u64]) -> bool
     ensures { result ≡ list_all is_limit chunks.now }
 {
@@ -82,56 +78,48 @@ fn are_limits(chunks: &[u64]) -> bool
         .all(|limit| 1 <= *limit && *limit <= 1_048_576)
 }
 
-// Whether each number is from 65 to 1,048,576.
 fn are_in_range(sizes: &[u64]) -> bool
     ensures { result ≡ list_all is_size sizes.now }
 {
     sizes.iter().all(|size| 65 <= *size && *size <= 1_048_576)
 }
 
-// Whether there are this many limits, each from 1 to 1,048,576.
 fn are_chunks(chunks: &[u64], classes: usize) -> bool
     ensures { result ≡ Rattle.mc_item.specs.Config.are_chunks chunks.now classes }
 {
     chunks.len() == classes && are_limits(chunks)
 }
 
-// Whether the percents are from 1 to 99, with a sum of at most 99.
 fn are_percents(hot: u64, warm: u64) -> bool
     ensures { result ≡ Rattle.mc_item.specs.Config.are_percents hot warm }
 {
     1 <= hot && hot <= 99 && 1 <= warm && warm <= 99 && hot + warm <= 99
 }
 
-// Whether the factors and the life in TEMP are within their limits.
 fn are_factors(hot: u64, warm: u64, temp_ttl: u64) -> bool
     ensures { result ≡ Rattle.mc_item.specs.Config.are_factors hot warm temp_ttl }
 {
     hot <= 10_000 && warm <= 10_000 && 1 <= temp_ttl && temp_ttl <= 2_592_000
 }
 
-// Whether there may be this many callers.
 fn are_callers(callers: u32) -> bool
     ensures { result ≡ Rattle.mc_item.specs.Config.are_callers callers }
 {
     1 <= callers && callers <= 64
 }
 
-// Whether a history may hold this many events.
 fn are_events(events: u64) -> bool
     ensures { result ≡ Rattle.mc_item.specs.Config.are_events events }
 {
     16 <= events && events <= 1 << 32
 }
 
-// Whether there may be this many stripes.
 fn are_stripes(stripes: u32) -> bool
     ensures { result ≡ Rattle.mc_item.specs.Config.are_stripes stripes }
 {
     matches!(stripes, 1 | 2 | 4 | 8 | 16 | 32 | 64)
 }
 
-// Whether each number is larger than the one before.
 fn is_rising(numbers: &[u64]) -> bool
     ensures { result ≡ Rattle.mc_item.specs.Config.is_rising numbers.now }
 {
@@ -143,8 +131,8 @@ fn is_rising(numbers: &[u64]) -> bool
 }
 
 impl Config {
-    /// One stripe, the 43 usual sizes with 1,024 chunks each, and as many callers as are handed in. `NoMemory` is answered
-    /// where the lists of sizes and chunks found none.
+    /// Returns the usual configuration for this many callers: one stripe, and the 43 usual sizes with 1,024 chunks each. Fails
+    /// with `NoMemory` if there is no memory for the lists of sizes and chunks.
     pub fn usual(alloc: Global, callers: u32) -> Result<Config, NoMemory>
         ensures { IfOk result (λ config. config ≡ usual_config callers) }
     {
@@ -164,7 +152,6 @@ impl Config {
         })
     }
 
-    // What is wrong, if anything is.
     fn fault(&self) -> Option<ConfigFault>
         ensures { result ≡ fault_of self.now }
     {
@@ -187,7 +174,7 @@ impl Config {
         }
     }
 
-    /// The same configuration, or the first thing that is wrong with it. It takes any numbers and no memory.
+    /// Returns the configuration unchanged, or fails with the first thing that is wrong with it. Takes any numbers and no memory.
     pub fn check(self) -> Result<Config, ConfigFault>
         ensures fault { MatchOption (fault_of self) (result ≡ Ok self) (λ fault. result ≡ Err fault) }
         ensures bounded { IfOk result IsBounded }

@@ -1,4 +1,4 @@
-//! The rows of `incr` and `decr`.
+//! The rows of `incr` and `decr` in the table of commands.
 ghost use Rattle.std.specs.Prelude.{◌≡◌, ◌+◌, ◌*◌, ◌<◌, ◌≤◌, ◌^◌, ◌++◌, IfOk, IfSome, IfNone, Some, OnOk, None, length, ℕ, Option, replicate, decimal};
 ghost use Rattle.std.specs.Option.{option_copied, option_map};
 ghost use Rattle.mc_item.specs.Answer as answers;
@@ -20,17 +20,17 @@ use crate::value::Value;
 use itoa::Buffer;
 use std::alloc::Global;
 
-/// Which way a number goes, and how far.
+/// What `incr` or `decr` does to a number.
 #[derive(Clone, Copy, Debug, PartialEq, Eq)]
 pub enum Step {
-    /// Up, and past 2^64 on from 0.
+    /// Adds, and wraps to 0 at 2^64.
     Up(u64),
-    /// Down, to 0 at the least.
+    /// Subtracts, and stops at 0.
     Down(u64),
 }
 
 impl Step {
-    /// The number after the step.
+    /// Returns the number after the step.
     pub fn taken(self, number: u64) -> u64
         ensures { result ≡ answers.stepped self number }
     {
@@ -41,7 +41,7 @@ impl Step {
     }
 }
 
-/// The number after the step, where the value is one.
+/// Returns the number after the step, or `None` if the item's value is no number.
 pub fn counted(item: &Item, step: Step) -> Option<u64>
     ensures { result ≡ option_map (answers.stepped step) (measure.numeral_of item.now.value) }
 {
@@ -51,7 +51,7 @@ pub fn counted(item: &Item, step: Step) -> Option<u64>
     }
 }
 
-/// How many digits a number has.
+/// Returns how many decimal digits a number has: at most 20.
 pub fn digits_len(number: u64) -> usize
     ensures value { result ≡ length (decimal number) }
     ensures few { result ≤ 20 }
@@ -65,7 +65,7 @@ pub fn digits_len(number: u64) -> usize
     if rest >= 10 { len + 1 } else { len }
 }
 
-// The digits of a number, and spaces up to a length.
+// The digits of a number, padded with spaces to a length.
 fn padded_text(alloc: Global, number: u64, len: usize) -> Result<Value, NoMemory>
     ensures { IfOk result (λ v. v ≡ answers.padded (decimal number) len) }
 {
@@ -78,7 +78,6 @@ fn padded_text(alloc: Global, number: u64, len: usize) -> Result<Value, NoMemory
     Value::of(alloc, bytes)
 }
 
-// Spaces at the end.
 fn push_spaces(bytes: &mut Vec<u8>, count: usize) -> Result<(), NoMemory>
     ensures { OnOk result (bytes.new.items ≡ bytes.old.items ++ replicate count 32) }
 {
@@ -89,8 +88,9 @@ fn push_spaces(bytes: &mut Vec<u8>, count: usize) -> Result<(), NoMemory>
 }
 
 impl Item {
-    /// Counts in place, where the value is a number, the new one isn't longer, and no copy of it shares its bytes: the
-    /// number then, with this cas number. Else nothing changes. It takes no memory.
+    /// Counts in place and returns the new number. The value becomes that number, padded with spaces to its old length, and the
+    /// item gets this cas number. Returns `None` and changes nothing if the value is no number, the new one is longer than the
+    /// value, or others share the value's bytes. Takes no memory.
     #[inline(always)]
     pub fn count(&mut self, step: Step, cas: u64) -> Option<u64>
         ensures number { IfSome result (λ number. option_map (answers.stepped step) (measure.numeral_of self.old.value) ≡ Some number) }
@@ -111,7 +111,7 @@ impl Item {
 }
 
 impl Site {
-    // The class of a number's cost.
+    // The class for an item with this key and a value of this many digits.
     fn class_of_digits(&self, key: &Key, digits: usize) -> Option<ClassNo>
         requires { digits ≤ 20 }
         ensures value { result ≡ measure.class_of self.now.sizes (64 + length key.now + digits) }
@@ -120,7 +120,7 @@ impl Site {
         self.class_of(cost(key.bytes().len() as u64, digits as u64))
     }
 
-    // The class of a cost: the one that is known, and else it is sought.
+    // The class for a cost, which is looked up only if it isn't known.
     #[inline(always)]
     fn class_for(&self, known: Option<ClassNo>, cost: u64) -> Option<ClassNo>
         requires { IfSome known (λ class. measure.class_of self.now.sizes cost ≡ Some class) }
@@ -132,7 +132,7 @@ impl Site {
         }
     }
 
-    // What a new number needs.
+    // What the new number needs: nothing if the value is no number.
     fn number_need(&self, key: &Key, item: &Item, counted: Option<u64>) -> Need
         ensures need { (n : ℕ) → result ≡ (answers.number_row self.now n key.now item.now counted).need }
         ensures bound { IsNeedOf self.now.sizes result }
@@ -150,7 +150,7 @@ impl Site {
         }
     }
 
-    /// What `incr` or `decr` needs.
+    /// Returns what `incr` or `decr` needs, by the key's item.
     pub fn count_need(&self, key: &Key, step: Step, found: Option<&Item>) -> Need
         ensures need { (n : ℕ) → result ≡ (answers.count_row self.now n key.now (answers.stepped step) (option_copied found.entry)).need }
         ensures bound { IsNeedOf self.now.sizes result }
@@ -201,7 +201,7 @@ impl Site {
         }
     }
 
-    // The answer for a new number.
+    // The answer for the new number, or for a value that is no number.
     fn number_answer(
         &self,
         alloc: Global,
@@ -234,8 +234,9 @@ impl Site {
         self.grown_answer(alloc, versions, item, number, class, room)
     }
 
-    /// The answer to `incr` or `decr`. Where it is known to need a chunk of a class, that class isn't sought. The cas
-    /// number of a new version is below 2^64. `NoMemory` is answered where the new number's bytes found none.
+    /// Returns the answer to `incr` or `decr`, by the key's item and the room given. `known` is the class of the chunk that it
+    /// needs: if it is given, it isn't looked up. The cas number of a new version must be below 2^64. Fails with `NoMemory` if
+    /// there is no memory for the new number's bytes.
     pub fn count_answer(
         &self,
         alloc: Global,

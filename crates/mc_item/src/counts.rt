@@ -1,34 +1,34 @@
-//! What upkeep counts: the moves of the maintainer, and the histogram of the crawler.
+//! The counts of background work: the maintainer's moves, and the crawler's histogram.
 ghost use Rattle.std.specs.Prelude.{◌≡◌, length};
 ghost use Rattle.mc_item.specs.Counts.{FitsTogether, added, no_counts};
 
-/// How many entries a maintainer's call reclaimed, and how many it moved.
+/// How many entries one call of the maintainer reclaimed, and how many it moved.
 #[derive(Clone, Copy, Debug, PartialEq, Eq)]
 pub struct Moves {
     pub reclaimed: u64,
     pub moved: u64,
 }
 
-/// What a crawl found of a class: how many entries it looked at, and what became of each.
+/// What a crawl of a class found: how many entries it came to, and how many of them had each outcome.
 #[derive(Drop)]
 pub struct Histogram {
-    /// Entries by the whole minutes that they have to live, from 0.
+    /// Entries by the whole minutes that they have left, from 0.
     pub minutes: [u64; 60],
-    /// Entries that have an hour or more to live.
+    /// Entries that have an hour or more left.
     pub hour_plus: u64,
     /// Entries without an expiry.
     pub no_expiry: u64,
-    /// All entries that were asked for.
+    /// All entries that the crawl came to.
     pub seen: u64,
-    /// Entries whose item was dead, and went.
+    /// Entries that were removed with their dead item.
     pub reclaimed: u64,
-    /// Entries that were passed over.
+    /// Entries that the crawl passed over, and so left as they were.
     pub passed: u64,
-    /// Entries that were gone before.
+    /// Entries that were already removed when the crawl came to them.
     pub gone: u64,
 }
 
-// Each number of the first list and that of the other at its place, summed.
+// Adds to each number of the first list the one at the same place of the other.
 fn add_minutes(minutes: &mut [u64], others: &[u64])
     requires same_len { length minutes.old ≡ length others.now }
     requires fit { Rattle.mc_item.specs.Counts.FitInPairs minutes.old others.now }
@@ -40,7 +40,7 @@ fn add_minutes(minutes: &mut [u64], others: &[u64])
 }
 
 impl Histogram {
-    /// A histogram of nothing.
+    /// Returns a histogram of nothing: each count is 0.
     pub fn new() -> Histogram
         ensures { result ≡ no_counts }
     {
@@ -55,7 +55,7 @@ impl Histogram {
         }
     }
 
-    /// Adds the counts of another one. No sum may pass 2^64 - 1.
+    /// Adds the counts of another histogram. No sum may exceed 2^64 - 1.
     pub fn add(&mut self, other: &Histogram)
         requires { FitsTogether self.old other.now }
         ensures { self.new ≡ added self.old other.now }

@@ -1,4 +1,4 @@
-//! What any history can hold.
+//! The events of any history, whether a stripe's, a class's or a caller's.
 use crate::call_event::{Asking, CallEvent};
 use crate::class_event::ClassEvent;
 use crate::stripe_event::StripeEvent;
@@ -11,7 +11,7 @@ pub enum Event {
     Call(CallEvent),
 }
 
-/// What can be told to a board of histories: a kind of event.
+/// A type whose values can be appended to a history on a board (mc_board): `entry` is the event that a value stands for.
 pub trait Logged {
     ghost use Rattle.mc_item.specs.declared.event.Event.{Event};
 

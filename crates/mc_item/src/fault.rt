@@ -1,15 +1,15 @@
-//! Why a call gave up.
+//! Why a call failed.
 ghost use Rattle.std.specs.Prelude.{◌≡◌};
 ghost use Rattle.mc_item.specs.declared.fault.Fault.TheVariants as faults;
 
 use std::alloc::{AllocError, AllocFailed};
 
-/// Why a call that makes events was refused.
+/// Why a call that adds events to histories failed.
 #[derive(Clone, Copy, Debug, PartialEq, Eq)]
 pub enum Fault {
-    /// A growth was refused by the allocator.
+    /// The allocator refused memory.
     NoMemory,
-    /// A history that the call writes has no place left.
+    /// A history that the call adds to is full.
     HistoryFull,
 }
 
@@ -37,7 +37,7 @@ impl From<NoMemory> for Fault {
     }
 }
 
-/// A growth was refused by the allocator, and nothing else can go wrong.
+/// The allocator refused memory. This is the error of calls that can fail in no other way.
 #[derive(Clone, Copy, Debug, PartialEq, Eq)]
 pub struct NoMemory;
 

@@ -1,4 +1,4 @@
-//! Items, and the small numbers round them.
+//! Items, and the small types around them.
 ghost use Rattle.std.specs.Prelude.{◌≡◌, ◌≤◌, ◌^◌};
 ghost use Rattle.mc_item.specs.Item as items;
 
@@ -12,7 +12,7 @@ pub struct StripeNo(pub u32);
 #[derive(Clone, Copy, Debug, PartialEq, Eq)]
 pub struct ClassNo(pub u32);
 
-/// Who made an event: a caller, and the number of its call.
+/// The call that made an event: its caller, and its number among the caller's calls (its turn).
 #[derive(Clone, Copy, Debug, PartialEq, Eq)]
 pub struct Who {
     pub caller: u32,
@@ -26,21 +26,21 @@ pub struct Link {
     pub number: u64,
 }
 
-/// When an item dies: never, or at a moment in seconds.
+/// When an item dies: never, or at a moment. A moment is a time in seconds.
 #[derive(Clone, Copy, Debug, PartialEq, Eq)]
 pub enum Expiry {
     Never,
     At(u64),
 }
 
-/// What hits leave at an item: FETCHED after the first, ACTIVE after the second (new_lru.txt).
+/// The marks that hits set on an item: FETCHED by the first, ACTIVE by the next (new_lru.txt).
 #[derive(Clone, Copy, Debug, PartialEq, Eq)]
 pub struct Marks {
     pub fetched: bool,
     pub active: bool,
 }
 
-/// What the cache holds under a key.
+/// An item: what the cache holds under a key.
 #[derive(Debug, Drop)]
 pub struct Item {
     pub flags: u32,
@@ -51,8 +51,8 @@ pub struct Item {
     pub marks: Marks,
 }
 
-/// The expiry of an exptime at a moment (protocol.txt, "Expiration times"): 0 is never, a negative one at once,
-/// up to 30 days count from the moment, and a larger one is a moment itself. The moment is at most 2^62.
+/// Returns the expiry of an exptime at the moment `now`, at most 2^62 (protocol.txt, "Expiration times"). 0 never expires. A
+/// negative exptime expires at once. One of up to 30 days counts in seconds from `now`. A larger one is itself a moment.
 pub fn expiry_of(exptime: i64, now: u64) -> Expiry
     requires { now ≤ 2 ^ 62 }
     ensures { result ≡ items.expiry_of exptime now }
@@ -71,7 +71,7 @@ pub fn expiry_of(exptime: i64, now: u64) -> Expiry
 }
 
 impl Marks {
-    /// The marks after one more hit.
+    /// Returns the marks after one more hit.
     pub fn hit(self) -> Marks
         ensures { result ≡ items.hit_marks self }
     {
@@ -90,7 +90,7 @@ impl Marks {
 }
 
 impl Item {
-    /// Whether the item is dead at a moment: its expiry is not later.
+    /// Returns whether the item is dead at a moment: it is from the second of its expiry on.
     pub fn dead(&self, moment: u64) -> bool
         ensures { result ≡ items.is_dead self.now moment }
     {

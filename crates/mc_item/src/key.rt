@@ -1,4 +1,4 @@
-//! The names of items.
+//! Keys, the names of items.
 ghost use Rattle.std.specs.Prelude.{◌≡◌, ◌∷◌, [], None, nat_eq, IfOk, IfErr, MatchOption};
 ghost use Rattle.std.specs.{Cmp.partial_equiv_from_equiv, Cmp.Lexicographic.pointwise, Cmp.Lexicographic.nat_list_eq_equiv, Cmp.Rules.hashing, List.list_all};
 ghost use Rattle.std.proofs.Common.{rules};
@@ -12,19 +12,19 @@ use std::fmt::{self, Debug, Formatter, Write};
 use std::hash::{Hash, Hasher};
 use std::marker::Model;
 
-/// The longest key in bytes (protocol.txt, "Keys").
+/// The length of the longest key, in bytes (protocol.txt, "Keys").
 pub const MAX_KEY_LEN: usize = 250;
 
-/// What is wrong with the bytes of a key. The first that fits is answered.
+/// Why bytes don't make a key. Of several faults the first in this order is returned.
 #[derive(Clone, Copy, Debug, PartialEq, Eq)]
 pub enum KeyFault {
-    /// There is no byte.
+    /// There are no bytes.
     Empty,
     /// There are more than 250 bytes.
     TooLong,
-    /// One of the bytes is 0, 10, 13 or 32.
+    /// One of the bytes is NUL, LF, CR or space.
     BadByte,
-    /// The bytes are fine, and there was no memory for them.
+    /// The bytes are a key, but there was no memory for them.
     NoMemory,
 }
 
@@ -39,13 +39,13 @@ impl From<AllocError> for KeyFault {
 /// Where a key's bytes are. A copy of a short key takes no memory.
 #[derive(Drop)]
 pub(crate) enum Named {
-    /// Where the key is.
+    /// Within the key itself.
     Short(ShortBytes),
-    /// Elsewhere, for this key alone.
+    /// In memory of the key's own.
     Long(Vec<u8>),
 }
 
-// Shown as its bytes, wherever they are.
+// Both forms are shown as their bytes.
 impl Debug for Named {
     fn fmt<W: Write>(&self, f: &mut Formatter<W>) -> Result<(), fmt::Error> {
         match self {
@@ -55,7 +55,7 @@ impl Debug for Named {
     }
 }
 
-/// A key: 1 to 250 bytes, none of them 0, 10, 13 or 32. Contracts see it as its bytes.
+/// A key: 1 to 250 bytes, none of them NUL, LF, CR or space. Contracts see it as its bytes.
 #[derive(Debug, Drop)]
 pub struct Key {
     bytes: Named,
@@ -72,21 +72,19 @@ impl Model for Key {
     ghost invariant = { λ k. IsKey (named_bytes k.bytes) };
 }
 
-// Whether a byte may stand in a key.
 fn is_key_byte(byte: u8) -> bool
     ensures { result ≡ Rattle.mc_item.specs.Key.is_key_byte byte }
 {
     !(byte == 0 || byte == 10 || byte == 13 || byte == 32)
 }
 
-// Whether each byte may stand in a key.
 fn are_key_bytes(bytes: &[u8]) -> bool
     ensures { result ≡ list_all Rattle.mc_item.specs.Key.is_key_byte bytes.now }
 {
     bytes.iter().all(|byte| is_key_byte(*byte))
 }
 
-// What is wrong with the bytes, memory left aside.
+// What is wrong with the bytes, apart from memory.
 fn fault_of(bytes: &[u8]) -> Option<KeyFault>
     ensures { result ≡ key_fault_of bytes.now }
 {
@@ -101,7 +99,7 @@ fn fault_of(bytes: &[u8]) -> Option<KeyFault>
     }
 }
 
-// Bytes, where a key has them.
+// Puts the bytes where a key has them: up to 30 within it, more in memory of their own.
 #[inline(always)]
 fn bytes_for(alloc: Global, bytes: &[u8]) -> Result<Named, AllocError>
     ensures { IfOk result (λ n. named_bytes n ≡ bytes.now) }
@@ -114,8 +112,8 @@ fn bytes_for(alloc: Global, bytes: &[u8]) -> Result<Named, AllocError>
 }
 
 impl Key {
-    /// The key of these bytes, 1 to 250 (protocol.txt, "Keys"). The error is the first that is wrong with them, or
-    /// `NoMemory` where they are fine and a key of more than 30 bytes found no memory.
+    /// Makes a key of 1 to 250 bytes (protocol.txt, "Keys"). Fails with the first thing that is wrong with the bytes. A good key
+    /// of more than 30 bytes fails with `NoMemory` if there is no memory for it.
     pub fn of(alloc: Global, bytes: &[u8]) -> Result<Key, KeyFault>
         ensures ok { IfOk result (λ key. (key ≡ bytes.now) × (key_fault_of bytes.now ≡ None)) }
         ensures err { IfErr result (λ fault. MatchOption (key_fault_of bytes.now) (fault ≡ faults.NoMemory) (λ first. fault ≡ first)) }
@@ -128,7 +126,7 @@ impl Key {
         }
     }
 
-    /// The key's bytes.
+    /// Returns the key's bytes.
     pub fn bytes(&self) -> &[u8]
         ensures value { result.now ≡ self.now }
         ensures valid { IsKey self.now }
@@ -139,7 +137,7 @@ impl Key {
         }
     }
 
-    /// An equal key. That of a key of at most 30 bytes takes no memory.
+    /// Returns an equal key. Up to 30 bytes take no memory. Fails with `NoMemory` if more find none.
     #[inline(always)]
     pub fn copy(&self, alloc: Global) -> Result<Key, NoMemory>
         ensures { IfOk result (λ key. key ≡ self.now) }

@@ -1,5 +1,5 @@
-//! Values and rules of the cache: keys, items, commands, replies, events, the configuration, and the sequential
-//! cache that all else is measured by. Nothing here locks, reads or writes.
+//! Values and rules of the cache: keys, items, commands, replies, events, the configuration, and the sequential cache that the
+//! other crates' promises refer to. Nothing here locks, reads or writes.
 #![tactic(auto)]
 
 mod answer;

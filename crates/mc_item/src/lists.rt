@@ -1,10 +1,10 @@
-//! The lists of a slab class, and what they hold.
+//! The segments of a slab class, and the entries of their lists.
 ghost use Rattle.std.specs.Prelude.{◌≡◌, ◌≤◌, length};
 
 use crate::key::Key;
 use std::marker::Model;
 
-/// A segment of a slab class (new_lru.txt): each has a list of its own.
+/// A segment of a slab class (new_lru.txt). Each has its own list.
 #[derive(Clone, Copy, Debug, PartialEq, Eq)]
 pub enum Seg {
     Hot,
@@ -13,7 +13,7 @@ pub enum Seg {
     Temp,
 }
 
-/// What a list holds of an item: the number of its link, its key, its cost in bytes, and a moment.
+/// An item's entry in a list: the number of its link, its key, its cost in bytes, and the second from which its age counts.
 #[derive(Drop)]
 pub struct Entry {
     pub number: u64,
@@ -22,7 +22,7 @@ pub struct Entry {
     pub time: u64,
 }
 
-/// The numbers of at most four entries, from a list's tail. It takes no memory. Contracts see it as a list.
+/// The numbers of at most four entries that a walk passed over, from the tail on. Takes no memory. Contracts see a list.
 #[derive(Drop)]
 pub struct Passed {
     numbers: [u64; 4],
@@ -40,7 +40,7 @@ impl Model for Passed {
 }
 
 impl Passed {
-    /// These numbers.
+    /// Makes the list of these numbers, at most four.
     pub fn of(numbers: &[u64]) -> Passed
         requires { length numbers.now ≤ 4 }
         ensures { result ≡ numbers.now }
@@ -53,7 +53,7 @@ impl Passed {
         }
     }
 
-    /// The numbers.
+    /// Returns the numbers, at most four.
     pub fn as_slice(&self) -> &[u64]
         ensures value { result.now ≡ self.now }
         ensures few { length self.now ≤ 4 }

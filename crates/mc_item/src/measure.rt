@@ -1,4 +1,4 @@
-//! How large an item is, which slab class holds it, which stripe has its key, and which values are numbers.
+//! The size, slab class and stripe of an item, and which values are numbers. Rules marked (own) are this project's.
 ghost use Rattle.std.specs.Prelude.{◌≡◌, ◌+◌, ◌-◌, ◌<◌, ◌≤◌, ◌^◌, ℕ, None, IfSome, IfNone, IsTrue, All, MatchOption, get_or, length, take};
 ghost use Rattle.std.specs.List.{prefix_len, position, list_all};
 ghost use Rattle.std.specs.Prelude.{nat_le, ◌==◌};
@@ -10,7 +10,7 @@ use crate::config::Config;
 use crate::item::{ClassNo, StripeNo};
 use crate::key::Key;
 
-/// What an item takes of a chunk, in bytes: 64, and those of its key and value (own).
+/// Returns how many bytes of a chunk an item takes: 64, and those of its key and value (own). They must be below 2^64.
 pub fn cost(key_len: u64, value_len: u64) -> u64
     requires { 64 + key_len + value_len < 2 ^ 64 }
     ensures { result ≡ 64 + key_len + value_len }
@@ -29,14 +29,13 @@ fn place_of(sizes: &[u64], cost: u64) -> Option<usize>
     sizes.iter().position(|size| cost <= *size)
 }
 
-// Whether each byte is a space.
 fn are_spaces(bytes: &[u8]) -> bool
     ensures { result ≡ list_all (λ byte. byte == 32) bytes.now }
 {
     bytes.iter().all(|byte| *byte == b' ')
 }
 
-/// The least class, from 1, whose size is at least the cost. None where the last size is smaller.
+/// Returns the least class, counted from 1, whose size is at least the cost, or `None` if all sizes (at most 63) are smaller.
 pub fn least_class(sizes: &[u64], cost: u64) -> Option<ClassNo>
     requires { length sizes.now ≤ 63 }
     ensures value { result ≡ measure.class_of sizes.now cost }
@@ -48,7 +47,7 @@ pub fn least_class(sizes: &[u64], cost: u64) -> Option<ClassNo>
     }
 }
 
-/// The least class of a configuration whose size is at least the cost.
+/// Returns the least class of a configuration whose size is at least the cost, or `None` if all sizes (at most 63) are smaller.
 pub fn class_of(config: &Config, cost: u64) -> Option<ClassNo>
     requires { length config.now.sizes ≤ 63 }
     ensures value { result ≡ measure.class_of config.now.sizes cost }
@@ -58,7 +57,8 @@ pub fn class_of(config: &Config, cost: u64) -> Option<ClassNo>
 }
 
 impl Site {
-    /// The least class whose size is at least the cost. Where no size is above 2^20, nor is a cost that has a class.
+    /// Returns the least class whose size is at least the cost, or `None` if each size is smaller. If all sizes are at most 2^20,
+    /// so is each cost that has a class.
     #[inline(always)]
     pub fn class_of(&self, cost: u64) -> Option<ClassNo>
         ensures value { result ≡ measure.class_of self.now.sizes cost }
@@ -73,7 +73,7 @@ const FNV_START: u32 = 2_166_136_261;
 
 const FNV_PRIME: u32 = 16_777_619;
 
-// FNV-1a with 32 bits.
+// The 32-bit hash FNV-1a.
 fn fnv1a(bytes: &[u8]) -> u32
     ensures { result ≡ measure.fnv1a bytes.now }
 {
@@ -82,7 +82,7 @@ fn fnv1a(bytes: &[u8]) -> u32
     })
 }
 
-/// The stripe of a key: its FNV-1a of 32 bits modulo the number of stripes.
+/// Returns the stripe of a key: its 32-bit FNV-1a hash modulo the number of stripes, which isn't 0 (own).
 pub fn stripe_of(key: &Key, stripes: u32) -> StripeNo
     requires { 0 < stripes }
     ensures { result ≡ measure.stripe_of key.now stripes }
@@ -103,7 +103,7 @@ fn digits_end(bytes: &[u8]) -> usize
         .count()
 }
 
-// The number that a text of at most 19 bytes is. So few digits don't wrap.
+// The number that a text of at most 19 bytes spells. So few digits can't overflow.
 #[inline(always)]
 fn short_number_of(digits: &[u8]) -> Option<u64>
     requires few { length digits.now ≤ 19 }
@@ -123,7 +123,7 @@ fn short_number_of(digits: &[u8]) -> Option<u64>
     Some(number)
 }
 
-// The number that a longer text is. Its leading zeros may be many.
+// The number that a longer text spells. It may have any number of leading zeros, so each step is checked.
 #[cold]
 #[inline(never)]
 fn long_number_of(digits: &[u8]) -> Option<u64>
@@ -143,7 +143,7 @@ fn long_number_of(digits: &[u8]) -> Option<u64>
     Some(number)
 }
 
-/// The number below 2^64 that a text is: one digit at least, and digits alone. Leading zeros are fine.
+/// Returns the number below 2^64 that a text of one or more digits spells. Leading zeros are fine. Any other text gives `None`.
 #[inline(always)]
 pub fn number_of(digits: &[u8]) -> Option<u64>
     ensures value { result ≡ measure.number_in digits.now }
@@ -156,7 +156,7 @@ pub fn number_of(digits: &[u8]) -> Option<u64>
     }
 }
 
-/// The number that a value is: 1 to 20 digits of a number below 2^64, then any number of spaces (own).
+/// Returns the number that a value is: 1 to 20 digits of a number below 2^64, then only spaces (own). Other values give `None`.
 pub fn numeral_of(value: &[u8]) -> Option<u64>
     ensures { result ≡ measure.numeral_of value.now }
 {

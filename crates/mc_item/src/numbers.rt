@@ -1,9 +1,9 @@
-//! Lists of numbers: of any length in a configuration, and of at most 63 sizes in a state.
+//! Lists of numbers: of any length in a configuration, and of at most 63 sizes in a stripe's `Site`.
 ghost use Rattle.std.specs.Prelude.{◌≡◌, ◌≤◌, length};
 
 use std::marker::Model;
 
-/// A list of numbers. Contracts see it as one. It is made from a `Vec` without memory.
+/// Any number of numbers. Contracts see them as a list.
 #[derive(Drop)]
 pub struct Numbers {
     numbers: Vec<u64>,
@@ -18,14 +18,14 @@ impl Model for Numbers {
 }
 
 impl Numbers {
-    /// The list of these numbers.
+    /// Makes the list of these numbers. Takes no memory.
     pub fn from_vec(numbers: Vec<u64>) -> Numbers
         ensures { result ≡ numbers.items }
     {
         Numbers { numbers }
     }
 
-    /// The numbers.
+    /// Returns the numbers.
     pub fn as_slice(&self) -> &[u64]
         ensures { result.now ≡ self.now }
     {
@@ -33,10 +33,10 @@ impl Numbers {
     }
 }
 
-/// The most slab classes that there may be.
+/// The most slab classes that a store may have.
 pub const MAX_CLASSES: usize = 63;
 
-/// The sizes of the slab classes, at most 63, which take no memory of their own. Contracts see them as a list.
+/// The sizes of the slab classes, at most 63. They take no memory of their own. Contracts see them as a list.
 #[derive(Drop)]
 pub struct ClassSizes {
     sizes: [u64; 63],
@@ -54,7 +54,7 @@ impl Model for ClassSizes {
 }
 
 impl ClassSizes {
-    /// These sizes.
+    /// Makes the list of these sizes, at most 63.
     pub fn of(sizes: &[u64]) -> ClassSizes
         requires { length sizes.now ≤ 63 }
         ensures { result ≡ sizes.now }
@@ -67,7 +67,7 @@ impl ClassSizes {
         }
     }
 
-    /// The sizes.
+    /// Returns the sizes, at most 63.
     pub fn as_slice(&self) -> &[u64]
         ensures value { result.now ≡ self.now }
         ensures few { length self.now ≤ 63 }

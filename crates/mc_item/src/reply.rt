@@ -1,16 +1,16 @@
-//! What a command is answered, and the room that it was given.
+//! Replies to commands, and the room that a command is given for an item.
 ghost use Rattle.std.specs.Prelude.{◌≡◌, IfOk};
 
 use crate::fault::NoMemory;
 use crate::item::{ClassNo, Link};
 use crate::value::Value;
 
-/// A reply (protocol.txt, by the commands).
+/// A reply to a command (protocol.txt, under each command).
 #[derive(Debug, Drop)]
 pub enum Reply {
     /// The item that was asked for.
     Value { flags: u32, value: Value, cas: u64 },
-    /// There is no item of this key.
+    /// There is no item under this key.
     Miss,
     Stored,
     NotStored,
@@ -20,13 +20,13 @@ pub enum Reply {
     Touched,
     /// The number after `incr` or `decr`.
     Number(u64),
-    /// The value is no number.
+    /// The item's value is no number.
     NonNumeric,
     /// No slab class can hold the item.
     TooLarge,
-    /// No chunk was to be had for a storage command.
+    /// No chunk was found for a storage command.
     NoRoom,
-    /// No chunk was to be had for a longer number, or no slab class can hold it.
+    /// No chunk was found for a longer number, or no slab class can hold it.
     NoSpace,
 }
 
@@ -37,12 +37,12 @@ pub enum Room {
     Keep,
     /// The chunk of this new entry.
     At(Link),
-    /// None was found: the class has the event at this place that says so.
+    /// None was found. The event at this place of the class's history says so.
     Refused { class: ClassNo, place: u64 },
 }
 
 impl Reply {
-    /// An equal reply. `NoMemory` is answered where its value found none.
+    /// Returns an equal reply. Fails with `NoMemory` if its value can't be copied.
     pub fn copy(&self) -> Result<Reply, NoMemory>
         ensures { IfOk result (λ reply. reply ≡ self.now) }
     {

@@ -1,14 +1,14 @@
-//! The bytes of a short key, which lie where the key lies.
+//! The bytes of a short key, which are kept within the key.
 ghost use Rattle.std.specs.Prelude.{◌≡◌, ◌≤◌, ◌↔◌, IsTrue, length, take, drop};
 ghost use Rattle.std.specs.Int.{to_le_bytes, w64};
 
 use std::fmt::{self, Debug, Formatter, Write};
 use std::marker::Model;
 
-/// So many bytes lie where the key lies.
+/// The most bytes that are kept within a key.
 pub(crate) const SHORT_LEN: usize = 30;
 
-/// At most 30 bytes. It takes no memory. Contracts see it as a list.
+/// At most 30 bytes. They take no memory of their own. Contracts see them as a list.
 #[derive(Drop)]
 pub(crate) struct ShortBytes {
     count: u8,
@@ -25,7 +25,7 @@ impl Model for ShortBytes {
     ghost invariant = { λ s. s.count ≤ 30 };
 }
 
-// Eight of the bytes from a place on, as one number.
+// Eight of the bytes from a place on, as one little-endian number.
 #[inline(always)]
 fn word_at(bytes: &[u8; 30], at: usize) -> u64
     requires { at ≤ 22 }
@@ -36,7 +36,7 @@ fn word_at(bytes: &[u8; 30], at: usize) -> u64
     u64::from_le_bytes(word)
 }
 
-// Whether these are the same bytes.
+// Compares eight bytes at a time. The last two words overlap.
 #[inline(always)]
 fn are_same(bytes: &[u8; 30], others: &[u8; 30]) -> bool
     ensures { IsTrue result ↔ (bytes.now ≡ others.now) }
@@ -54,14 +54,14 @@ fn are_same(bytes: &[u8; 30], others: &[u8; 30]) -> bool
 }
 
 impl ShortBytes {
-    /// These bytes.
+    /// Makes the list of these bytes, at most 30.
     #[inline(always)]
     pub(crate) fn of(bytes: &[u8]) -> ShortBytes
         requires { length bytes.now ≤ 30 }
         ensures { result ≡ bytes.now }
     {
         let mut table = [0; 30];
-        // One byte goes alone, so that the compiler clears the whole table and not, by a call, what the copy leaves of it.
+        // The first byte is written by itself, so that the compiler clears the whole table and calls no function for the rest.
         if let Some(first) = bytes.first() {
             table[0] = *first;
         }
@@ -72,7 +72,7 @@ impl ShortBytes {
         }
     }
 
-    /// The same bytes once more.
+    /// Returns a copy of the bytes.
     #[inline(always)]
     pub(crate) fn copy(&self) -> ShortBytes
         ensures { result ≡ self.now }
@@ -83,8 +83,7 @@ impl ShortBytes {
         }
     }
 
-    /// Whether these are the same bytes. Mostly they are, and so are the zeros behind them: then eight are compared at a
-    /// time.
+    /// Returns whether the bytes are the same. Mostly they are, and the zeros after them too, so both tables are compared first.
     #[inline(always)]
     pub(crate) fn equals(&self, other: &ShortBytes) -> bool
         ensures { IsTrue result ↔ (self.now ≡ other.now) }
@@ -97,7 +96,7 @@ impl ShortBytes {
         self.as_slice() == other.as_slice()
     }
 
-    /// The bytes.
+    /// Returns the bytes, at most 30.
     #[inline(always)]
     pub(crate) fn as_slice(&self) -> &[u8]
         ensures value { result.now ≡ self.now }

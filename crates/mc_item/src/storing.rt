@@ -1,4 +1,4 @@
-//! New versions of items: what a command decides of one, its cas number, and one in an item's place.
+//! New versions of items: what a command decides of one, its cas number, and how it replaces an item.
 ghost use Rattle.std.specs.Prelude.{◌≡◌, ◌<◌, ◌^◌, OnOk, OnErr};
 ghost use Rattle.mc_item.specs.Answer as answers;
 
@@ -16,7 +16,7 @@ pub struct Content<'a> {
 }
 
 impl Site {
-    /// The cas number of the n-th new version, from 0.
+    /// Returns the cas number of the stripe's new version after this many others. It must be below 2^64.
     pub fn cas_of(&self, versions: u64) -> u64
         requires { answers.cas_of self.now versions < 2 ^ 64 }
         ensures { result ≡ answers.cas_of self.now versions }
@@ -24,7 +24,8 @@ impl Site {
         versions * u64::from(self.stripes) + u64::from(self.stripe) + 1
     }
 
-    /// A new version in place of an item's. Without memory nothing changes.
+    /// Replaces an item by a new version with this content and link, and without marks. Its cas number must be below 2^64. Fails
+    /// with `NoMemory` if the value can't be copied: the item is then unchanged.
     #[inline(always)]
     pub fn renew(
         &self,

@@ -1,4 +1,4 @@
-//! What can happen to a stripe.
+//! The events of a stripe's history. A moment is a time in seconds.
 use crate::command::Command;
 use crate::item::{ClassNo, Who};
 use crate::key::Key;
@@ -14,16 +14,16 @@ pub struct Did {
     pub room: Room,
 }
 
-/// Why an item went without a command of its key.
+/// Why an item was removed, other than by the answer to a command.
 #[derive(Clone, Copy, Debug, PartialEq, Eq)]
 pub enum Cause {
     /// It was dead at this moment.
     Expired(u64),
-    /// Its chunk was taken: by the event at this place of its class.
+    /// Its chunk was taken, by the eviction at this place of the class's history.
     Taken { class: ClassNo, place: u64 },
 }
 
-/// An item went.
+/// An item was lost: it was removed for this cause.
 #[derive(Drop)]
 pub struct Lost {
     pub who: Who,

@@ -1,4 +1,4 @@
-//! The bytes that an item holds.
+//! Values, the bytes that items hold.
 ghost use Rattle.std.specs.Prelude.{◌≡◌, ◌≤◌, ◌++◌, ◌-◌, IfOk, length, replicate, true, false};
 ghost use Rattle.mc_item.specs.Value.{held_bytes};
 
@@ -14,11 +14,11 @@ use std::sync::Arc;
 pub(crate) enum Held {
     /// In memory of their own.
     Alone(Vec<u8>),
-    /// Within bytes that others share, as those of an input are.
+    /// Within a larger block that others share, such as a piece of the input.
     Within(Bytes),
 }
 
-// Shown as its bytes, wherever they are.
+// Both forms are shown as their bytes.
 impl Debug for Held {
     fn fmt<W: Write>(&self, f: &mut Formatter<W>) -> Result<(), fmt::Error> {
         self.bytes().fmt(f)
@@ -26,7 +26,6 @@ impl Debug for Held {
 }
 
 impl Held {
-    // The bytes.
     #[inline(always)]
     fn bytes(&self) -> &[u8]
         ensures { result.now ≡ held_bytes self.now }
@@ -37,8 +36,8 @@ impl Held {
         }
     }
 
-    // Puts a text in place of the bytes, and spaces up to their number, where it isn't longer than they are and they are
-    // in memory of their own; else nothing changes.
+    // Overwrites the bytes with a text, padded with spaces to their length. Returns false and changes nothing if the text is
+    // longer, or the bytes are within a shared block.
     #[inline(always)]
     fn put_padded(&mut self, text: &[u8]) -> bool
         ensures done { result ≡ true → (length text.now ≤ length (held_bytes self.old))
@@ -52,7 +51,7 @@ impl Held {
     }
 }
 
-/// The bytes of an item's value, which all its copies share. Contracts see it as a list.
+/// The bytes of an item's value. All copies of a value share them. Contracts see it as a list.
 #[derive(Debug, Drop)]
 pub struct Value {
     bytes: Arc<Held>,
@@ -67,7 +66,7 @@ impl Model for Value {
     ghost view = { λ v. held_bytes v.bytes.value };
 }
 
-// Puts a text in place of bytes, and spaces behind it, where it isn't longer than they are.
+// Overwrites bytes with a text, padded with spaces to their length. Returns false and changes nothing if the text is longer.
 #[inline(always)]
 fn put_padded(bytes: &mut [u8], text: &[u8]) -> bool
     ensures done { result ≡ true → (length text.now ≤ length bytes.old) × (bytes.new ≡ text.now ++ replicate (length bytes.old - length text.now) 32) }
@@ -82,7 +81,6 @@ fn put_padded(bytes: &mut [u8], text: &[u8]) -> bool
     true
 }
 
-// Puts a space in place of each byte.
 #[inline(always)]
 fn put_spaces(bytes: &mut [u8])
     ensures { bytes.new ≡ replicate (length bytes.old) 32 }
@@ -91,8 +89,7 @@ fn put_spaces(bytes: &mut [u8])
 }
 
 impl Value {
-    /// The value of these bytes, which aren't copied. `NoMemory` is answered where the count of those who share it found
-    /// none.
+    /// Makes the value of these bytes, without copying them. Fails with `NoMemory` if there is no memory for the reference count.
     pub fn of(alloc: Global, bytes: Vec<u8>) -> Result<Value, NoMemory>
         ensures { IfOk result (λ value. value ≡ bytes.items) }
     {
@@ -101,8 +98,8 @@ impl Value {
         })
     }
 
-    /// The value of bytes that others share, which aren't copied. Their whole block stays in memory as long as the value.
-    /// `NoMemory` is answered where the count of those who share the value found none.
+    /// Makes the value of bytes that others share, without copying them. Their whole block stays in memory as long as the value.
+    /// Fails with `NoMemory` if there is no memory for the reference count.
     pub fn of_part(alloc: Global, bytes: Bytes) -> Result<Value, NoMemory>
         ensures { IfOk result (λ value. value ≡ bytes) }
     {
@@ -111,15 +108,15 @@ impl Value {
         })
     }
 
-    /// The bytes.
+    /// Returns the bytes.
     pub fn bytes(&self) -> &[u8]
         ensures { result.now ≡ self.now }
     {
         self.bytes.bytes()
     }
 
-    /// Puts a text in place of the bytes, and spaces up to their number, where it isn't longer than they are and no
-    /// copy shares them, nor a larger block; else nothing changes. It takes no memory.
+    /// Overwrites the bytes with a text, padded with spaces to their length. Returns false and changes nothing if the text is
+    /// longer, a copy of the value shares the bytes, or they are within a shared block. Takes no memory.
     #[inline(always)]
     pub(crate) fn put_padded(&mut self, text: &[u8]) -> bool
         ensures done { result ≡ true → (length text.now ≤ length self.old) × (self.new ≡ text.now ++ replicate (length self.old - length text.now) 32) }
@@ -131,7 +128,7 @@ impl Value {
         }
     }
 
-    /// An equal value. It has the same bytes in memory; `NoMemory` is answered where no more may share them.
+    /// Returns an equal value, which shares the same bytes in memory. Fails with `NoMemory` if the reference count is full.
     #[inline(always)]
     pub fn copy(&self) -> Result<Value, NoMemory>
         ensures { IfOk result (λ value. value ≡ self.now) }

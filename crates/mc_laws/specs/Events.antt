@@ -1,4 +1,4 @@
--- What the laws of the sequential cache say of events: which key one names, and events that leave a key alone.
+-- What the laws of the sequential cache say of events: which key an event names, and which events leave a key alone.
 use Rattle.std.specs.Prelude.{ℕ, List, [], ◌∷◌, ◌≢◌}
 use Rattle.mc_item.specs.Command.{key_of}
 use Rattle.mc_item.specs.declared.stripe_event.StripeEvent.{StripeEvent}
@@ -10,7 +10,7 @@ key_named (events.Did did) = key_of did.command
 key_named (events.Lost lost) = lost.key
 key_named (events.Cooled cooled) = cooled.key
 
--- each of these events names another key
+-- each of these events names another key than this one
 abbrev pub AreOfOtherKeys : List ℕ → List StripeEvent → Type 0
 AreOfOtherKeys key [] = Unit {0}
 AreOfOtherKeys key (e ∷ es) = (key_named e ≢ key) × AreOfOtherKeys key es

@@ -1,4 +1,4 @@
--- Versions of items: which cas number an event gives, what holds while one version lasts, and who wrote it.
+-- Versions of items: which cas number an event gives, what holds while a version lasts, and which command wrote it.
 use Rattle.std.specs.Prelude.{ℕ, List, [], ◌∷◌, ◌++◌, ◌≡◌, Option, Some, None, IsSomeAnd, decimal, replicate}
 use Rattle.mc_item.specs.{Cache.Cache, Cache.answer_of, Stripe.cache_after}
 use Rattle.mc_item.specs.declared.{answer.Change.Change, answer.Site.Site, command.Command.Command, item.Item.Item, reply.Reply.Reply}
@@ -8,7 +8,7 @@ use Rattle.mc_item.specs.declared.command.Command.TheVariants.{Get, Store, Huge,
 use Rattle.mc_item.specs.declared.reply.Reply.TheVariants as replies
 use Rattle.mc_item.specs.declared.stripe_event.StripeEvent.TheVariants as events
 
--- the cas number that a change gives, where it makes a new version
+-- the cas number that a change gives, if it makes a new version
 abbrev pub number_given : Change → Option ℕ
 number_given Stays = None
 number_given Goes = None
@@ -17,29 +17,28 @@ number_given (Touched expiry marks) = None
 number_given (Counted value cas) = Some cas
 number_given (Renewed item) = Some item.cas
 
--- the cas number that an event gives, where it makes a new version of an item of the cache
+-- the cas number that an event gives in this cache, if it makes a new version
 abbrev pub number_made : Site → Cache → StripeEvent → Option ℕ
 number_made site cache (events.Did did) = number_given (answer_of site cache did.command did.moment did.room).change
 number_made site cache (events.Lost lost) = None
 number_made site cache (events.Cooled cooled) = None
 
--- an item is there, with these flags, this value and this cas number
+-- there is an item with these flags, this value and this cas number
 abbrev pub HoldsItem : Option Item → ℕ → List ℕ → ℕ → Type 0
 HoldsItem found flags value cas = IsSomeAnd found (λ item. (item.flags ≡ flags) × (item.value ≡ value) × (item.cas ≡ cas))
 
--- a key holds one version from a cache on, before and after each of these events
+-- a key holds this version in this cache, and after each of these events
 abbrev pub HoldsThroughout : Site → Cache → List StripeEvent → List ℕ → ℕ → List ℕ → ℕ → Type 0
 HoldsThroughout site cache [] key flags value cas = HoldsItem (cache.items key) flags value cas
 HoldsThroughout site cache (e ∷ es) key flags value cas =
     HoldsItem (cache.items key) flags value cas × HoldsThroughout site (cache_after site cache e) es key flags value cas
 
--- incr or decr, answered a number, wrote its digits, perhaps with spaces behind them, and kept the flags of the old item
+-- incr or decr replied a number, wrote its digits, perhaps with spaces after them, and kept the flags of the old item
 abbrev pub WroteNumber : Option Item → Reply → ℕ → List ℕ → Type 0
 WroteNumber old reply flags value =
     (number spaces : ℕ) × (reply ≡ replies.Number number) × (value ≡ decimal number ++ replicate spaces 32) × IsSomeAnd old (λ item. item.flags ≡ flags)
 
--- a command wrote these flags and this value over an old item: a storage command that was answered Stored its own ones,
--- incr and decr a number; no other command writes
+-- a command wrote these flags and this value over `old`: a storage command that replied Stored its own, incr and decr a number
 abbrev pub Wrote : Option Item → Command → Reply → ℕ → List ℕ → Type 0
 Wrote old (Get key) reply flags value = ⊥
 Wrote old (Store verb key new_flags exptime new_value) reply flags value = (reply ≡ replies.Stored) × (flags ≡ new_flags) × (value ≡ new_value)

@@ -7,8 +7,8 @@ ghost use Rattle.mc_item.specs.declared.reply.Reply.TheVariants as replies;
 ghost use Rattle.mc_item.specs.declared.stripe_event.StripeEvent.TheVariants as events;
 ghost use Rattle.mc_laws.specs.Events.{AreOfOtherKeys};
 
-/// An incr of a number, answered a number and not passing 2^64, answers the sum; and after events of other keys
-/// alone a decr by the same delta answers the number that was there before.
+/// If an incr of a number returns a number, and the sum is below 2^64, it returns the sum. If only events of other keys follow, a
+/// decr by the same delta returns the number that was there before the incr.
 pub fn incr_then_decr_gives_the_number_back()
     ensures { (site : Site) (before between : List StripeEvent) (up down : Did) (key : List ℕ) (number delta told : ℕ)
         → IsSomeAnd ((cache_of site before).items key) (λ item. numeral_of item.value ≡ Some number)

@@ -1,5 +1,5 @@
-//! Laws of the sequential cache, as a user of memcached would say them. Each is a contract alone: its function does
-//! nothing, and what it promises is proved of every cache and every legal history.
+//! Laws of the sequential cache, as a user of memcached would say them. Each law is the contract of a function that does nothing.
+//! It is proved of every cache or every legal history.
 #![tactic(auto)]
 
 mod counting;

@@ -1,4 +1,4 @@
-//! Laws of what is read: who changes an item, and whence a value comes.
+//! Laws of what is read: what changes an item, and where a value comes from.
 ghost use Rattle.std.specs.Prelude.{◌≡◌, ◌≢◌, ◌++◌, ◌∷◌, [], List, ℕ, ℤ};
 ghost use Rattle.mc_item.specs.{Answer.cas_of, Cache.Cache, Cache.after_command, Command.key_of, Stripe.IsLegal, Stripe.cache_of};
 ghost use Rattle.mc_item.specs.declared.{answer.Site.Site, command.Command.Command, reply.Room.Room, stripe_event.Did.Did};
@@ -15,8 +15,8 @@ pub fn other_keys_stay()
         → (after_command site cache command moment room).items other ≡ cache.items other }
 {}
 
-/// After a set that was answered `Stored`, and events of other keys alone, a get of the key answers the flags and
-/// the value of the set, and the cas number of that version.
+/// If only events of other keys follow a set that replied `Stored`, a get of the key returns its flags and value. The cas number
+/// is that of the set's version.
 pub fn set_is_read_back()
     ensures { (site : Site) (before between : List StripeEvent) (set got : Did) (key value : List ℕ) (flags : ℕ) (exptime : ℤ)
         → set.command ≡ commands.Store verbs.Set key flags exptime value → set.reply ≡ replies.Stored
@@ -25,8 +25,8 @@ pub fn set_is_read_back()
         → got.reply ≡ replies.Value flags value (cas_of site (cache_of site before).versions) }
 {}
 
-/// A value that a get answers was written by a command of its key before, and from then on the key held just that
-/// flags, value and cas number.
+/// A value that a get returns was written by an earlier command on its key. From then until the get, the key held just these
+/// flags, this value and this cas number.
 pub fn a_value_is_that_of_its_last_version()
     ensures { (site : Site) (before : List StripeEvent) (got : Did) (key value : List ℕ) (flags cas : ℕ)
         → got.command ≡ commands.Get key → got.reply ≡ replies.Value flags value cas

@@ -3,8 +3,8 @@ ghost use Rattle.std.specs.Prelude.{◌≡◌, ◌++◌, ◌∷◌, [], List};
 ghost use Rattle.mc_item.specs.{Cache.empty_cache, Stripe.IsLegal, Stripe.Steps, Stripe.cache_of};
 ghost use Rattle.mc_item.specs.declared.{answer.Site.Site, stripe_event.StripeEvent.StripeEvent};
 
-/// The history without events is legal and leaves the empty cache; and a history with one event more is legal exactly
-/// where the history is, and the event is a step from the cache that the history leaves to the one that it leaves with it.
+/// The history without events is legal and leaves the empty cache. A longer one is legal exactly if it is legal without its last
+/// event, and that event is a step. The step is from the cache that the shorter history leaves to the one that the longer leaves.
 pub fn a_legal_history_is_a_chain_of_steps()
     ensures begins { (site : Site) → IsLegal site [] × (cache_of site [] ≡ empty_cache) }
     ensures stepped { (site : Site) (history : List StripeEvent) (event : StripeEvent) → IsLegal site (history ++ event ∷ [])

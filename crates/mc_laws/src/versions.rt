@@ -1,4 +1,4 @@
-//! Laws of cas numbers (protocol.txt, "Storage commands" and "Retrieval command", of the cas unique).
+//! Laws of cas numbers (protocol.txt, "Storage commands" and "Retrieval command", on the cas unique).
 ghost use Rattle.std.specs.Prelude.{◌≡◌, ◌<◌, ◌++◌, ◌∷◌, [], List, ℕ, ℤ, Some};
 ghost use Rattle.mc_item.specs.Stripe.{IsLegal, cache_of};
 ghost use Rattle.mc_item.specs.declared.{answer.Site.Site, stripe_event.Did.Did, stripe_event.StripeEvent.StripeEvent};
@@ -17,8 +17,8 @@ pub fn cas_numbers_rise()
         → low < high }
 {}
 
-/// Two gets that answer one cas number answered one version: of one key, with the same flags and value, which the
-/// key held all the time between.
+/// Two gets on a stripe that return the same cas number return the same version: key, flags and value are the same. The key held
+/// that version all the time in between.
 pub fn equal_cas_numbers_are_one_version()
     ensures { (site : Site) (before between : List StripeEvent) (first second : Did) (key other value other_value : List ℕ) (flags other_flags cas : ℕ)
         → 0 < site.stripes
@@ -29,8 +29,7 @@ pub fn equal_cas_numbers_are_one_version()
         × HoldsThroughout site (cache_of site (before ++ events.Did first ∷ [])) between key flags value cas }
 {}
 
-/// A cas that stores, with the number that a get of its key answered, stores over what was read: the key held that
-/// version all the time between.
+/// A cas that stores with the number that a get of its key returned replaces what was read: the key held that version ever since.
 pub fn cas_stores_over_what_was_read()
     ensures { (site : Site) (before between : List StripeEvent) (read swap : Did) (key value new_value : List ℕ) (flags new_flags cas : ℕ) (exptime : ℤ)
         → 0 < site.stripes

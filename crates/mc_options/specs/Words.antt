@@ -1,4 +1,4 @@
--- The words of the command line: what it takes, and the texts that they give for each option (own).
+-- The words of the command line: which options the command takes, and which texts the words give for each (this project's own).
 use Rattle.std.specs.Prelude.{◌^◌, ◌-◌, ℕ, pos, List, [], Bool, Option, Some, None, codes, false, true}
 use Rattle.std.specs.Str.{bytes_eq}
 use Rattle.clap.specs.Words.{App, Kinds, Rule, Text, first_of, matches_of, new_app, new_rule, one_of, with_rule, fault_of as refusals_of}
@@ -6,15 +6,15 @@ use Rattle.clap.specs.declared.builder.action.ArgAction.TheVariants.{Set, SetTru
 use Rattle.clap.specs.declared.builder.value_parser.ValueParser.{ValueParser}
 use Rattle.clap.specs.declared.builder.value_parser.ValueParser.TheVariants as parsers
 
--- the numbers below a limit of at most 2^64, as the reader of the command line sees them
+-- `clap`'s parser for the numbers below a limit of at most 2^64
 abbrev pub numbers_below : ℕ → ValueParser
 numbers_below limit = parsers.Unsigned 0 (limit - 1)
 
--- the numbers below 2^64
+-- `clap`'s parser for the numbers below 2^64
 abbrev pub any_number : ValueParser
 any_number = numbers_below (2 ^ 64)
 
--- the numbers below 2^32, as the reader has them of u32: it takes a minus before a 0 too, and drops it before it reads
+-- `clap`'s parser for a u32, a number below 2^32: it also takes a minus before a 0, and drops it
 abbrev pub any_small_number : ValueParser
 any_small_number = parsers.Signed (pos 0) (pos (2 ^ 32 - 1))
 
@@ -57,7 +57,7 @@ mcseg =
     (with_rule (with_rule (with_rule (record { top = record (new_app (codes "mcseg")).top { has_version = true }; subs = [] })
     stripes_rule) sizes_rule) chunks_rule) temp_rule) temp_ttl_rule) events_rule) upkeep_rule
 
--- the kinds of refusal that the words earn; none where the command takes them
+-- the kinds of error with which `clap` refuses the words, none if the command takes them
 abbrev pub refusals : List Text → Kinds
 refusals words = refusals_of mcseg words
 
@@ -73,7 +73,7 @@ upkeep_in words = first_of (codes "upkeep") (matches_of mcseg words)
 abbrev pub text_in : Text → List Text → Option Text
 text_in name words = one_of name (matches_of mcseg words)
 
--- whether a text is there, and says yes
+-- whether a text is given and says `true`
 abbrev pub is_yes : Option Text → Bool
 is_yes None = false
 is_yes (Some text) = bytes_eq text (codes "true")

@@ -1,13 +1,13 @@
-//! What the program says of itself.
+//! The texts of `--help` and `--version`.
 
-/// The version of the program.
+/// The version that `--version` prints.
 pub const VERSION: &str = "0.1.0";
 
 /// What the program does.
 pub const ABOUT: &str =
     "Answers memcached's storage commands from standard input, as a cache that is empty at first.";
 
-/// All else that a person has to know before the first script.
+/// The rest of `--help`: requests, directives, scripts, limits, exit statuses and an example.
 pub const AFTER: &str = "\
 Requests are those of memcached's classic text protocol. Their replies are printed when the input
 has ended and its scripts have run.

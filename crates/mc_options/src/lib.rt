@@ -1,4 +1,5 @@
-//! What the words of the command line ask for: a store's configuration, and the moments of upkeep.
+//! Makes a plan of the command line: a store's configuration, and the times of upkeep. Upkeep is the work of maintainer and
+//! crawler beside the scripts. The code calls a time, in seconds, a moment.
 #![tactic(auto)]
 
 mod help;

@@ -1,4 +1,4 @@
-//! Plans: what the options ask for.
+//! Makes the plan that the options ask for.
 ghost use Rattle.std.specs.Prelude.{◌≡◌, ℕ, List, IfOk, Err, Option, None, MatchOption};
 ghost use Rattle.std.specs.{Bool.Decides, Option.option_copied, Option.option_map};
 ghost use Rattle.mc_item.specs.Config.{fault_of};
@@ -9,44 +9,42 @@ ghost use Rattle.mc_options.specs.declared.plans.PlanFault.TheVariants as faults
 use mc_item::{Config, ConfigFault, NoMemory, Numbers, number_of};
 use std::alloc::Global;
 
-// How many moments of upkeep there may be.
+// How many times `--upkeep` may name.
 const MOST_MOMENTS: usize = 1000;
 
-// The last moment.
+// The latest time (moment) of upkeep, in seconds.
 const MAX_MOMENT: u64 = 1 << 62;
 
-/// What is asked for: a store's configuration, and the moments of upkeep.
+/// What the command line asks for: a store's configuration, and the times of upkeep.
 #[derive(Drop)]
 pub struct Plan {
     pub config: Config,
     pub upkeep: Numbers,
 }
 
-/// What the options ask for, but those of the sizes and of upkeep: none where an option is absent.
+/// What the options ask for, except `--sizes` and `--upkeep`. `None`: the option is absent.
 #[derive(Clone, Copy, Debug, PartialEq, Eq)]
 pub struct Options {
-    /// How many stripes the store has, instead of 1.
+    /// How many stripes the store has; 1 if absent.
     pub stripes: Option<u32>,
-    /// How many chunks every class has, instead of 1,024.
+    /// How many chunks each class has; 1,024 if absent.
     pub chunks: Option<u64>,
     /// Whether items that expire soon begin in TEMP.
     pub temp: bool,
-    /// Within how many seconds an item expires that begins in TEMP, instead of 61.
+    /// An item begins in TEMP if it expires within this many seconds; 61 if absent.
     pub temp_ttl: Option<u64>,
-    /// How many events a history may count, instead of 1,048,576.
+    /// How many events a history may count; 1,048,576 if absent.
     pub events: Option<u64>,
 }
 
-/// Why there is no plan.
+/// Why no plan is made.
 #[derive(Clone, Copy, Debug, PartialEq, Eq)]
 pub enum PlanFault {
-    /// A list isn't one of numbers below 2^64 with one comma between two, or upkeep has more than 1,000 moments or one
-    /// above 2^62.
+    /// A list isn't decimal numbers below 2^64 with one comma between two, or upkeep has more than 1,000 times or one above 2^62.
     List,
-    /// The configuration has the fault of this number: 1 for its stripes, 2 sizes, 3 chunks, 4 percents, 5 factors,
-    /// 6 callers, 7 events.
+    /// The configuration has the fault of this number: 1 stripes, 2 sizes, 3 chunks, 4 percents, 5 factors, 6 callers, 7 events.
     Configuration(u8),
-    /// A growth was refused.
+    /// Memory was refused.
     NoMemory,
 }
 
@@ -58,7 +56,7 @@ impl From<NoMemory> for PlanFault {
     }
 }
 
-// The numbers of a list with one comma between two.
+// The numbers of a list with one comma between two; `None` if the text isn't such a list.
 fn list_in(alloc: Global, text: &[u8]) -> Result<Option<Vec<u64>>, NoMemory>
     ensures { IfOk result (λ list. MatchOption list (IsNoList text.now) (λ numbers. IsListOf text.now numbers.items)) }
 {
@@ -74,7 +72,7 @@ fn list_in(alloc: Global, text: &[u8]) -> Result<Option<Vec<u64>>, NoMemory>
     Ok(Some(numbers))
 }
 
-// The fault's number, in the order in which faults are looked at.
+// The fault's number, in the order in which faults are checked.
 fn fault_number(fault: ConfigFault) -> u8
     ensures { result ≡ fault_number fault }
 {
@@ -89,7 +87,7 @@ fn fault_number(fault: ConfigFault) -> u8
     }
 }
 
-// The numbers that an option names, where it is given.
+// The numbers of an option's list, if the option is given.
 fn named(alloc: Global, text: Option<&[u8]>) -> Result<Option<Vec<u64>>, PlanFault>
     ensures ok { IfOk result (λ numbers. AreNamed (option_copied text.entry) (option_map (λ v. v.items) numbers)) }
     ensures list { result ≡ Err faults.List → NamesNone (option_copied text.entry) }
@@ -104,14 +102,14 @@ fn named(alloc: Global, text: Option<&[u8]>) -> Result<Option<Vec<u64>>, PlanFau
     }
 }
 
-// Whether these may be moments of upkeep.
+// Whether these may be the times of upkeep.
 fn are_moments(numbers: &[u64]) -> bool
     ensures { Decides result (AreMoments numbers.now) }
 {
     numbers.len() <= MOST_MOMENTS && numbers.iter().all(|moment| *moment <= MAX_MOMENT)
 }
 
-// The moments that the option of upkeep names, none where it isn't given.
+// The times that `--upkeep` names; none if it isn't given.
 fn moments_named(alloc: Global, text: Option<&[u8]>) -> Result<Numbers, PlanFault>
     ensures ok { IfOk result (λ moments. AreMomentsNamed (option_copied text.entry) moments) }
     ensures list { result ≡ Err faults.List → NamesNoMoments (option_copied text.entry) }
@@ -129,7 +127,7 @@ fn moments_named(alloc: Global, text: Option<&[u8]>) -> Result<Numbers, PlanFaul
     }
 }
 
-// The configuration with these sizes and 1,024 chunks for each, where sizes are given.
+// The configuration with these sizes and 1,024 chunks for each, if sizes are given.
 fn with_sizes(alloc: Global, given: Config, sizes: Option<Vec<u64>>) -> Result<Config, NoMemory>
     ensures { IfOk result (λ config. config ≡ Rattle.mc_options.specs.Asked.with_sizes (option_map (λ v. v.items) sizes) given) }
 {
@@ -142,7 +140,7 @@ fn with_sizes(alloc: Global, given: Config, sizes: Option<Vec<u64>>) -> Result<C
     Ok(config)
 }
 
-// The configuration with this many chunks for every class, where a number is given.
+// The configuration with this many chunks for every class, if a number is given.
 fn with_chunks(alloc: Global, given: Config, chunks: Option<u64>) -> Result<Config, NoMemory>
     ensures { IfOk result (λ config. config ≡ Rattle.mc_options.specs.Asked.with_chunks chunks given) }
 {
@@ -169,7 +167,7 @@ fn config_of(alloc: Global, sizes: Option<Vec<u64>>, options: Options) -> Result
     Ok(config)
 }
 
-// The plan of a configuration and of moments of upkeep, where the configuration is sound.
+// The plan of a configuration and of times of upkeep, if the configuration has no fault.
 fn plan_of(config: Config, upkeep: Numbers) -> Result<Plan, PlanFault>
     ensures config { IfOk result (λ plan. (plan.config ≡ config) × (fault_of config ≡ None)) }
     ensures upkeep { IfOk result (λ plan. plan.upkeep ≡ upkeep) }
@@ -182,14 +180,13 @@ fn plan_of(config: Config, upkeep: Numbers) -> Result<Plan, PlanFault>
     }
 }
 
-/// The plan of the options, each of which may be absent: the usual configuration of one stripe and 3 callers, and no
-/// upkeep. `sizes` is the text of the slab classes' sizes in bytes, as "96,1024": decimal numbers with one comma
-/// between two and nothing else, instead of the usual 43; each class has 1,024 chunks. `upkeep` is such a text of the
-/// moments at which the maintainer and the crawler work: at most 1,000, each at most 2^62. What the other options ask
-/// for, `options` says.
+/// Makes the plan that the options ask for. Without options that is the usual configuration, of one stripe and 3 callers, and no
+/// upkeep. `sizes` has the slab classes' sizes in bytes, such as "96,1024", instead of the usual 43. `upkeep` has the times at
+/// which maintainer and crawler work: at most 1,000, each at most 2^62. Both are decimal numbers with one comma between two, and
+/// nothing else. The other options are in `options`; if its `chunks` are absent, each class has 1,024.
 ///
-/// The error is `List` where a text is no such list, whatever the other options are; else `Configuration` where the
-/// sizes or a number are out of their range; and `NoMemory` where a growth was refused.
+/// *Errors*: `List` if a text is no such list, whatever the other options are. Otherwise `Configuration` if the sizes or a number
+/// are out of range. `NoMemory` if memory is refused.
 pub fn plan_for(
     alloc: Global,
     sizes: Option<&[u8]>,

@@ -1,4 +1,4 @@
-//! The words of the command line.
+//! Reads the words of the command line.
 ghost use Rattle.std.specs.Prelude.{◌≡◌, ◌^◌, ℕ, List, [], IfOk, Err, Option, codes, false};
 ghost use Rattle.mc_item.specs.Config.{fault_of};
 ghost use Rattle.clap.specs.Walk.{texts};
@@ -14,17 +14,16 @@ use crate::plans::{Options, Plan, PlanFault, plan_for};
 use clap::{Arg, ArgAction, ArgMatches, Command, Error};
 use std::alloc::{AllocError, Global};
 
-/// What is wrong with the words.
+/// What is wrong with the words of the command line.
 #[derive(Drop)]
 pub enum WordsFault {
-    /// The reader of the command line refused them, or has its help or version to show.
+    /// `clap` refused the words or ran out of memory, or has the help or the version to show.
     Words(Error),
-    /// A list isn't one of numbers below 2^64 with one comma between two, or upkeep has more than 1,000 moments or one
-    /// above 2^62.
+    /// A list isn't decimal numbers below 2^64 with one comma between two, or upkeep has more than 1,000 times or one above 2^62.
     List,
-    /// The configuration has the fault of this number.
+    /// The configuration has the fault of this number, as in `PlanFault`.
     Configuration(u8),
-    /// A growth was refused.
+    /// Memory was refused.
     NoMemory,
 }
 
@@ -56,7 +55,6 @@ impl From<PlanFault> for WordsFault {
     }
 }
 
-// The option of the number of stripes.
 fn stripes_option<'a>(alloc: Global) -> Arg<'a>
     ensures rule { rule_of result ≡ stripes_rule }
     ensures local { result.global ≡ false }
@@ -69,7 +67,6 @@ fn stripes_option<'a>(alloc: Global) -> Arg<'a>
         .help("how many stripes the store has: 1, 2, 4, 8, 16, 32 or 64{n}[default: 1]")
 }
 
-// The option of the slab classes' sizes.
 fn sizes_option<'a>(alloc: Global) -> Arg<'a>
     ensures rule { rule_of result ≡ sizes_rule }
     ensures local { result.global ≡ false }
@@ -83,7 +80,6 @@ fn sizes_option<'a>(alloc: Global) -> Arg<'a>
         )
 }
 
-// The option of the moments of upkeep.
 fn upkeep_option<'a>(alloc: Global) -> Arg<'a>
     ensures rule { rule_of result ≡ upkeep_rule }
     ensures local { result.global ≡ false }
@@ -97,7 +93,7 @@ fn upkeep_option<'a>(alloc: Global) -> Arg<'a>
         )
 }
 
-// An option of one number.
+// An option of this name, which takes one number below 2^64.
 fn number_option<'a>(alloc: Global, name: &'a str, help: &'a str) -> Arg<'a>
     ensures rule { rule_of result ≡ number_rule name.now }
     ensures local { result.global ≡ false }
@@ -110,7 +106,6 @@ fn number_option<'a>(alloc: Global, name: &'a str, help: &'a str) -> Arg<'a>
         .help(help)
 }
 
-// The option that turns TEMP on.
 fn temp_option<'a>(alloc: Global) -> Arg<'a>
     ensures rule { rule_of result ≡ temp_rule }
     ensures local { result.global ≡ false }
@@ -122,7 +117,7 @@ fn temp_option<'a>(alloc: Global) -> Arg<'a>
         .help("items that expire within the seconds of --temp-ttl begin in TEMP,{n}and not in HOT")
 }
 
-// What the command line may have.
+// The command `mcseg` with all its options.
 fn command_of<'a>(alloc: Global) -> Result<Command<'a>, AllocError>
     ensures { IfOk result (λ command. app_of command ≡ mcseg) }
 {
@@ -144,28 +139,28 @@ fn command_of<'a>(alloc: Global) -> Result<Command<'a>, AllocError>
         .arg(upkeep_option(alloc))
 }
 
-// The number of stripes that was given.
+// The number given to `--stripes`, if any.
 fn stripes_at(matches: &ArgMatches) -> Option<u32>
     ensures { IsNumberRead (2 ^ 32) (one_text (found_of matches.now) (codes "stripes")) result }
 {
     matches.get_one::<u32>("stripes")
 }
 
-// The number that an option was given.
+// The number given to the option of this name, if any.
 fn number_at(matches: &ArgMatches, name: &str) -> Option<u64>
     ensures { IsNumberRead (2 ^ 64) (one_text (found_of matches.now) name.now) result }
 {
     matches.get_one::<u64>(name)
 }
 
-// Whether TEMP was turned on.
+// Whether `--temp` was given.
 fn temp_at(matches: &ArgMatches) -> bool
     ensures { IsYesRead (one_text (found_of matches.now) (codes "temp")) result }
 {
     matches.get_flag("temp")
 }
 
-// What the options say.
+// What the options ask for, except `--sizes` and `--upkeep`.
 fn options_of(matches: &ArgMatches) -> Options
     ensures { AreFound (found_of matches.now) result }
 {
@@ -178,12 +173,12 @@ fn options_of(matches: &ArgMatches) -> Options
     }
 }
 
-/// The plan that the words ask for, of which the first is the program's name: the usual configuration and no upkeep,
-/// but for what the options say. A bad list comes before a bad configuration.
+/// Reads the words of the command line, the first of which is the program's name, and makes the plan that they ask for. That is
+/// the usual configuration and no upkeep, changed as the options say.
 ///
-/// The error is `Words` where the command line's reader refuses the words or has its help or version to show, or where
-/// it lacks memory; else `List` where the text of the sizes or of upkeep is no such list; else `Configuration` where
-/// the sizes or a number are out of their range; and `NoMemory` where a growth was refused.
+/// *Errors*: `Words` if `clap` refuses the words, has the help or the version to show, or runs out of memory. Otherwise `List` if
+/// the sizes or the times of upkeep are no list as `plan_for` takes it. Otherwise `Configuration` if the sizes or a number are
+/// out of range. `NoMemory` if memory is refused.
 pub fn read_words(alloc: Global, words: &[&str]) -> Result<Plan, WordsFault>
     ensures config { IfOk result (λ plan. fault_of plan.config ≡ None) }
     ensures taken { IfOk result (λ plan. refusals (texts words.now) ≡ []) }

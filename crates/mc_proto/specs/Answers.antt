@@ -1,4 +1,4 @@
--- Answers to the calls of a request, and the text of a request by them (protocol.txt, by the commands; the directives' texts are this profile's own).
+-- The answers to the calls of a request, and the text that they print (protocol.txt; the texts of directives are this project's).
 use Rattle.std.specs.Prelude.{ℕ, ◌+◌, List, [], ◌∷◌, ◌++◌, if◌then◌else◌}
 use Rattle.mc_item.specs.Counts.{added, no_counts}
 use Rattle.mc_item.specs.declared.{counts.Histogram.Histogram, counts.Moves.Moves, reply.Reply.Reply}
@@ -6,8 +6,7 @@ use Rattle.mc_proto.specs.Text.{end_text, fault_text, histogram_text, moves_text
 use Rattle.mc_proto.specs.declared.request.Request.{Request}
 use Rattle.mc_proto.specs.declared.request.Request.TheVariants as requests
 
--- the answer to a call: a command's reply, how many entries the maintainer reclaimed and moved in a class, or what the
--- crawler counted there
+-- the answer to a call: a command's reply, the maintainer's counts of a class (reclaimed and moved), or the crawler's histogram
 pub data Answer : Type 0 where
   Replied : Reply → Answer
   Moved : Moves → Answer
@@ -20,25 +19,25 @@ replies_of (Replied reply ∷ more) = reply ∷ replies_of more
 replies_of (Moved moves ∷ more) = replies_of more
 replies_of (Counted histogram ∷ more) = replies_of more
 
--- two counts of moves, summed
+-- the sum of two counts of moves
 abbrev pub moves_sum : Moves → Moves → Moves
 moves_sum first second = record { reclaimed = first.reclaimed + second.reclaimed; moved = first.moved + second.moved }
 
--- the moves among answers, summed
+-- the sum of the moves among answers
 abbrev pub moves_of : List Answer → Moves
 moves_of [] = record { reclaimed = 0; moved = 0 }
 moves_of (Replied reply ∷ more) = moves_of more
 moves_of (Moved moves ∷ more) = moves_sum moves (moves_of more)
 moves_of (Counted histogram ∷ more) = moves_of more
 
--- the histograms among answers, summed
+-- the sum of the histograms among answers
 abbrev pub counts_of : List Answer → Histogram
 counts_of [] = no_counts
 counts_of (Replied reply ∷ more) = counts_of more
 counts_of (Moved moves ∷ more) = counts_of more
 counts_of (Counted histogram ∷ more) = added histogram (counts_of more)
 
--- the text of a request by the answers to its calls; nothing where it is quiet
+-- the text that a request prints, by the answers to its calls; nothing if the request is quiet, or is `%at`, `%next` or `quit`
 abbrev pub text_of : Request → List Answer → List ℕ
 text_of (requests.Get keys with_cas) answers = values_text with_cas keys (replies_of answers) ++ end_text
 text_of (requests.One command quiet) answers = if quiet then [] else one_text (replies_of answers)

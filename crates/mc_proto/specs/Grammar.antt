@@ -1,4 +1,5 @@
--- The grammar: what spells a request, and what a stream reads as (protocol.txt; the rules for refused lines are this profile's own).
+-- The grammar: which bytes spell a request, and what a stream reads as (protocol.txt). (own) marks a rule of this project, such
+-- as those for refused lines.
 use Rattle.std.specs.Prelude.{ℕ, ◌+◌, ◌^◌, ◌<◌, ◌≤◌, ◌≡◌, ◌⊎◌, List, [], ◌∷◌, ◌++◌, Bool, true, false, if◌then◌else◌, length, take, drop, nat_eq}
 use Rattle.std.specs.Cmp.Lexicographic.{pointwise}
 use Rattle.mc_item.specs.declared.command.Command.TheVariants as commands
@@ -9,35 +10,35 @@ use Rattle.mc_proto.specs.declared.request.LineFault.TheVariants.{Error, Format,
 use Rattle.mc_proto.specs.declared.request.Request.TheVariants.{Get, One, Bad, At, Next, Juggle, Crawl, Quit}
 use Rattle.mc_proto.specs.declared.state.Said.TheVariants.{Whole, Block, Skip}
 
--- how many bytes follow the line
+-- how many bytes follow a line that says this: none, or its block and CR LF
 abbrev pub wanted : Said → ℕ
 wanted (Whole r) = 0
 wanted (Block s) = s.count + 2
 wanted (Skip s) = s.count + 2
 
--- the request of a block that is kept: it is refused where its last two bytes are not CR LF (own)
+-- the request of a kept block: it stores all bytes but the last two if these are CR LF, and otherwise it is refused (own)
 abbrev pub stored : Start → List ℕ → Request
 stored s block =
     if pointwise nat_eq (drop s.count block) (13 ∷ 10 ∷ [])
     then One (commands.Store s.verb s.key s.flags s.exptime (take s.count block)) s.quiet
     else Bad Chunk s.quiet
 
--- the request of a block that is skipped, whatever its bytes are (own)
+-- the request of a skipped block: a storage command for an item that no class can hold, whatever the bytes are (own)
 abbrev pub skipped : Start → Request
 skipped s = One (commands.Huge s.verb s.key) s.quiet
 
--- the request of a line and its block
+-- the request that a line and its block ask for
 abbrev pub request_asked : Said → List ℕ → Request
 request_asked (Whole r) block = r
 request_asked (Block s) block = stored s block
 request_asked (Skip s) block = skipped s
 
--- a line, of which the LF is no part: at most 65,536 bytes (own)
+-- a line without its LF: it has no LF in it, and at most 65,536 bytes (own)
 pub record IsLine (line : List ℕ) : Type 0 where
   pub one : Lacks 10 line
   pub short : length line < 65537
 
--- a request is spelt by a line, its LF, and the block that the line asks for
+-- the bytes spell the request as a line, its LF, and the block that the line asks for
 pub record ByLine (limits : Limits) (bytes : List ℕ) (r : Request) : Type 0 where
   pub line : List ℕ
   pub block : List ℕ
@@ -46,17 +47,17 @@ pub record ByLine (limits : Limits) (bytes : List ℕ) (r : Request) : Type 0 wh
   pub long : length block ≡ wanted (says limits line)
   pub means : r ≡ request_asked (says limits line) block
 
--- a line that is too long is spelt by 65,537 bytes without an LF; it isn't quiet (own)
+-- the bytes spell the request as a line that is too long: they are 65,537 without an LF, and the request isn't quiet (own)
 pub record ByLength (bytes : List ℕ) (r : Request) : Type 0 where
   pub one : Lacks 10 bytes
   pub long : length bytes ≡ 65537
   pub means : r ≡ Bad LineTooLong false
 
--- these bytes spell a request
+-- these bytes spell this request, as a line and its block or as a line that is too long
 abbrev pub Spells : Limits → List ℕ → Request → Type 0
 Spells limits bytes r = ByLine limits bytes r ⊎ ByLength bytes r
 
--- whether nothing is read after a fault
+-- whether a fault closes the reader, which then reads nothing more
 abbrev pub closing : LineFault → Bool
 closing LineTooLong = true
 closing Error = false
@@ -65,7 +66,7 @@ closing Chunk = false
 closing Delta = false
 closing Exptime = false
 
--- whether nothing is read after a request
+-- whether a request closes the reader
 abbrev pub closes : Request → Bool
 closes (Bad why quiet) = closing why
 closes (Get keys with_cas) = false
@@ -76,32 +77,33 @@ closes (Juggle target) = false
 closes (Crawl target) = false
 closes Quit = false
 
--- whether nothing is read after these requests
+-- whether one of these requests closes the reader
 abbrev pub closed : List Request → Bool
 closed [] = false
 closed (r ∷ rs) = if closes r then true else closed rs
 
--- the stream is one spelling of each request in order, and then the rest
+-- the stream is a spelling of each request, in order, and then the rest; no request follows one that closes the reader
 abbrev pub Spelt : Limits → List ℕ → List Request → List ℕ → Type 0
 Spelt limits stream [] rest = stream ≡ rest
 Spelt limits stream (r ∷ rs) rest =
     (bytes more : List ℕ) × (stream ≡ bytes ++ more) × Spells limits bytes r × (closes r ≡ true → rs ≡ []) × Spelt limits more rs rest
 
--- no beginning of the rest is a spelling
+-- no beginning of the rest spells a request
 abbrev pub BeginsNone : Limits → List ℕ → Type 0
 BeginsNone limits rest = (bytes more : List ℕ) (r : Request) → rest ≡ bytes ++ more → Spells limits bytes r → ⊥
 
--- the stream reads as the requests and the rest: no spelling begins the rest, unless the last request closed the reader
+-- the stream reads as these requests and this rest: it spells the requests, and no beginning of the rest spells one more, unless
+-- a request closed the reader
 pub record Reads (limits : Limits) (stream : List ℕ) (requests : List Request) (rest : List ℕ) : Type 0 where
   pub spelt : Spelt limits stream requests rest
   pub all : closed requests ≡ false → BeginsNone limits rest
 
--- the slab classes that a directive names are among those of the limits
+-- the slab classes that a directive names exist: all, or one from 1 to the number of classes
 abbrev pub AreAmong : Limits → Target → Type 0
 AreAmong limits All = Unit {0}
 AreAmong limits (Class class) = (1 ≤ class.0) × (class.0 ≤ limits.classes)
 
--- a request sets no moment above 2^62, and names no class that isn't there
+-- a request sets no time above 2^62, and names only slab classes that exist
 abbrev pub IsModerate : Limits → Request → Type 0
 IsModerate limits (At moment) = moment ≤ 2 ^ 62
 IsModerate limits (Juggle target) = AreAmong limits target
@@ -112,7 +114,7 @@ IsModerate limits (Bad why quiet) = Unit {0}
 IsModerate limits Next = Unit {0}
 IsModerate limits Quit = Unit {0}
 
--- what each line is: none closes the reader, sets too late a moment or names a class that isn't there, and the bytes of a block have a bound
+-- what a line says is in bounds: its request doesn't close the reader and is moderate, its block has at most 2,147,483,645 bytes
 abbrev pub IsFine : Limits → Said → Type 0
 IsFine limits (Whole r) = (closes r ≡ false) × IsModerate limits r
 IsFine limits (Block s) = s.count ≤ 2147483645

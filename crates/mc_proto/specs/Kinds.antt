@@ -1,11 +1,11 @@
--- The kinds of tokens: what each stands for, and which fault a token that isn't of its kind makes (protocol.txt, "Commands"; the limits are this profile's
--- own).
+-- The kinds of tokens: what a token of each kind stands for, and which fault a malformed one makes (protocol.txt, "Commands"; the
+-- limits are this project's own).
 use Rattle.std.specs.Prelude.{ℕ, ◌-◌, ◌^◌, List, Option, ℤ}
 use Rattle.mc_proto.specs.Lines.{key_of_token, number_up_to, exptime, target_of}
 use Rattle.mc_proto.specs.declared.{request.Limits.Limits, request.LineFault.LineFault, request.Target.Target}
 use Rattle.mc_proto.specs.declared.request.LineFault.TheVariants as faults
 
--- what a token is due to be
+-- what a token must be, by its place in a line
 pub data Kind : Type 0 where
   Key : Kind
   Flags : Kind
@@ -17,7 +17,7 @@ pub data Kind : Type 0 where
   Moment : Kind
   Classes : Kind
 
--- what a token of a kind stands for
+-- the type of what a token of this kind stands for: a key, a signed number, slab classes, or else a number
 abbrev pub Value : Kind → Type 0
 Value Key = List ℕ
 Value Exptime = ℤ
@@ -25,7 +25,7 @@ Value NewExptime = ℤ
 Value Classes = Target
 Value _ = ℕ
 
--- the value of a token, where it is of the kind (the limits are own)
+-- the value of a token, if it is of this kind (the limits are own)
 abbrev pub value : Limits → (kind : Kind) → List ℕ → Option (Value kind)
 value limits Key token = key_of_token token
 value limits Flags token = number_up_to (2 ^ 32 - 1) token
@@ -37,7 +37,7 @@ value limits NewExptime token = exptime token
 value limits Moment token = number_up_to (2 ^ 62) token
 value limits Classes token = target_of limits token
 
--- the fault of a line in which a token isn't of its kind
+-- the fault of a line in which a token of this kind is malformed
 abbrev pub fault_of_kind : Kind → LineFault
 fault_of_kind Delta = faults.Delta
 fault_of_kind NewExptime = faults.Exptime

@@ -1,25 +1,26 @@
--- Lines, their tokens, and what tokens say: words, keys, numbers, exptimes and slab classes (protocol.txt; the limits are this profile's own).
+-- Lines, their tokens, and what tokens stand for: words, keys, numbers, exptimes and slab classes (protocol.txt). (own) marks a
+-- rule of this project, such as the limits.
 use Rattle.std.specs.Prelude.{ℕ, ◌-◌, ◌<◌, ◌≡◌, ◌==◌, ◌&&◌, List, [], ◌∷◌, ◌++◌, Bool, true, false, if◌then◌else◌, Option, Some, None, length, get_or, take}
 use Rattle.std.specs.Prelude.{nat_lt, nat_le, nat_eq, is_none, codes, ℤ, pos, neg_ℤ}
 use Rattle.std.specs.{Cmp.Lexicographic.pointwise, List.list_all, Option.option_map}
 use Rattle.mc_item.specs.{Key.key_fault_of, Measure.is_digit, Measure.number_of}
 use Rattle.mc_proto.specs.declared.{request.Limits.Limits, request.Target.Target, request.Target.TheVariants.All, request.Target.TheVariants.Class}
 
--- b is none of the bytes
+-- none of the bytes is b
 abbrev pub Lacks : ℕ → List ℕ → Type 0
 Lacks b [] = Unit {0}
 Lacks b (c ∷ cs) = (c ≡ b → ⊥) × Lacks b cs
 
--- no % stands straight before an n, also not one that stands before the bytes, where one does
+-- no % is directly followed by an n, and if a % comes directly before the bytes, they don't begin with n
 abbrev pub LacksNextBehind : Bool → List ℕ → Type 0
 LacksNextBehind after [] = Unit {0}
 LacksNextBehind after (b ∷ bs) = (after ≡ true → b ≡ 110 → ⊥) × LacksNextBehind (b == 37) bs
 
--- no % stands straight before an n, as in the line that begins the next script
+-- no % is directly followed by an n, as it is in `%next`
 abbrev pub LacksNext : List ℕ → Type 0
 LacksNext bytes = LacksNextBehind false bytes
 
--- whether a % ends the bytes, or stands before them where they are none
+-- whether a % is the last byte, or comes before the bytes if they are empty
 abbrev pub is_after : Bool → List ℕ → Bool
 is_after after [] = after
 is_after after (b ∷ bs) = is_after (b == 37) bs
@@ -28,12 +29,12 @@ is_after after (b ∷ bs) = is_after (b == 37) bs
 abbrev pub no_cr : List ℕ → List ℕ
 no_cr line = if get_or line (length line - 1) 0 == 13 then take (length line - 1) line else line
 
--- the token that ends here, unless it is empty
+-- the token that ends here, or no token if it has no bytes
 abbrev pub ended : List ℕ → List (List ℕ)
 ended [] = []
 ended (b ∷ bs) = (b ∷ bs) ∷ []
 
--- the tokens of a line whose first token begins with these bytes: each space ends one
+-- the tokens of a line whose first token begins with these bytes; each space ends a token
 abbrev pub tokens_from : List ℕ → List ℕ → List (List ℕ)
 tokens_from token [] = ended token
 tokens_from token (b ∷ bs) = if b == 32 then ended token ++ tokens_from [] bs else tokens_from (token ++ b ∷ []) bs
@@ -47,7 +48,8 @@ abbrev pub AreSpaces : List ℕ → Type 0
 AreSpaces [] = Unit {0}
 AreSpaces (b ∷ bs) = (b ≡ 32) × AreSpaces bs
 
--- a line begins with spaces or none, this token and this rest: the token is one byte at least, none a space, and no rest makes it longer
+-- a line is spaces or none, then this token, then this rest: the token has one byte or more and no space, and the rest is empty
+-- or begins with a space
 pub record BeginsWith (line token rest : List ℕ) : Type 0 where
   pub spaces : List ℕ
   pub whole : line ≡ spaces ++ token ++ rest
@@ -56,7 +58,7 @@ pub record BeginsWith (line token rest : List ℕ) : Type 0 where
   pub one : Lacks 32 token
   pub ends : 0 < length rest → get_or rest 0 0 ≡ 32
 
--- a line is these tokens, one after the other, and then spaces or nothing
+-- a line is these tokens in order, with spaces between them and perhaps around them
 abbrev pub AreTokens : List ℕ → List (List ℕ) → Type 0
 AreTokens line [] = AreSpaces line
 AreTokens line (token ∷ ts) = (rest : List ℕ) × BeginsWith line token rest × AreTokens rest ts
@@ -73,16 +75,16 @@ is_key token = is_none (key_fault_of token)
 abbrev pub key_of_token : List ℕ → Option (List ℕ)
 key_of_token token = if is_key token then Some token else None
 
--- the number of a token of 1 to so many digits
+-- the number of a token of 1 to `most` digits
 abbrev pub number : ℕ → List ℕ → Option ℕ
 number most token = if nat_lt 0 (length token) && nat_le (length token) most && list_all is_digit token then Some (number_of token) else None
 
--- a number, where it is at most a limit
+-- a number, if it is at most the limit
 abbrev pub up_to : ℕ → Option ℕ → Option ℕ
 up_to limit None = None
 up_to limit (Some n) = if nat_le n limit then Some n else None
 
--- the number of a token of 1 to 20 digits, where it is at most a limit (own)
+-- the number of a token of 1 to 20 digits, if it is at most the limit (own)
 abbrev pub number_up_to : ℕ → List ℕ → Option ℕ
 number_up_to limit token = up_to limit (number 20 token)
 
@@ -91,7 +93,7 @@ abbrev pub exptime : List ℕ → Option ℤ
 exptime [] = None
 exptime (b ∷ bs) = if b == 45 then option_map (λ n. neg_ℤ (pos n)) (number 18 bs) else option_map pos (number 18 (b ∷ bs))
 
--- the slab class of a number, which isn't 0
+-- the slab class of this number, none for 0 or without a number
 abbrev pub class_target : Option ℕ → Option Target
 class_target None = None
 class_target (Some n) = if n == 0 then None else Some (Class (record { 0 = n }))

@@ -1,4 +1,4 @@
--- The scripts of an input: a line %next in the place of a command begins the next script (own).
+-- The scripts of an input: a line `%next` that comes where a command is due begins the next script (this project's own).
 use Rattle.std.specs.Prelude.{◌≡◌, ◌<◌, ◌≤◌, ◌⊎◌, List, [], ◌∷◌, ◌++◌, ℕ, Bool, true, false, Option, Some, None, All, length, take}
 use Rattle.mc_proto.specs.{Lines.Lacks, Grammar.Spells, Grammar.Spelt, Grammar.Reads, Grammar.closes, Grammar.closed}
 use Rattle.mc_proto.specs.declared.{request.Limits.Limits, request.Request.Request, splitting.First.First, splitting.First.TheVariants.More}
@@ -6,18 +6,18 @@ use Rattle.mc_proto.specs.declared.{splitting.First.TheVariants.Begins, splittin
 use Rattle.mc_proto.specs.declared.request.Request.TheVariants.{Get, One, Bad, At, Next, Juggle, Crawl, Quit}
 use Rattle.mc_proto.specs.declared.state.Said.TheVariants as said
 
--- a request that doesn't begin the next script
+-- a request other than `%next`
 abbrev pub IsOther : Request → Type 0
 IsOther r = r ≡ Next → ⊥
 
--- bytes that are all of a script: they spell requests, of which none begins the next script, and none closes the reader
+-- the bytes are a whole script: they spell requests without a rest, and no request begins the next script or closes the reader
 pub record IsWhole (limits : Limits) (script : List ℕ) : Type 0 where
   pub requests : List Request
   pub spelt : Spelt limits script requests []
   pub others : All IsOther requests
   pub reads_on : closed requests ≡ false
 
--- a stream in which no script begins behind the first: it reads as requests, of which none begins the next script
+-- the stream is the last script: it reads as requests of which none begins the next script
 pub record IsLast (limits : Limits) (stream : List ℕ) : Type 0 where
   pub requests : List Request
   pub rest : List ℕ
@@ -31,19 +31,19 @@ pub record IsCutAtNext (limits : Limits) (stream script rest : List ℕ) : Type 
   pub whole : IsWhole limits script
   pub next : Spells limits line Next
 
--- the scripts of a stream: it is cut at each line that begins the next script, which is part of none, and the last script is what is left
+-- the scripts of a stream: each line that begins the next script cuts it and is part of none, and the last script is the rest
 abbrev pub AreScripts : Limits → List ℕ → List (List ℕ) → Type 0
 AreScripts limits stream [] = ⊥
 AreScripts limits stream (script ∷ []) = (script ≡ stream) × IsLast limits stream
 AreScripts limits stream (script ∷ next ∷ more) = (rest : List ℕ) × IsCutAtNext limits stream script rest × AreScripts limits rest (next ∷ more)
 
--- the requests of scripts, with one that begins the next script between those of each two
+-- the requests of all scripts in order, with a `Next` between two scripts
 abbrev pub with_next : List (List Request) → List Request
 with_next [] = []
 with_next (requests ∷ []) = requests
 with_next (requests ∷ next ∷ more) = requests ++ Next ∷ with_next (next ∷ more)
 
--- each script reads, on its own, as its requests, and only the last has a rest
+-- each script, read on its own, reads as its requests, and only the last one may have a rest
 abbrev pub ReadAlone : Limits → List (List ℕ) → List (List Request) → List ℕ → Type 0
 ReadAlone limits [] requests rest = ⊥
 ReadAlone limits (script ∷ scripts) [] rest = ⊥
@@ -53,24 +53,24 @@ ReadAlone limits (script ∷ second ∷ scripts) (requests ∷ []) rest = ⊥
 ReadAlone limits (script ∷ second ∷ scripts) (requests ∷ next ∷ more) rest = Reads limits script requests []
     × ReadAlone limits (second ∷ scripts) (next ∷ more) rest
 
--- what stands first in a stream: so many bytes that spell a request, which begins the next script or goes on with this
--- one; or nothing behind which a script could begin
+-- a stream begins with this: a request of n bytes after which the script goes on; a line of n bytes that begins the next script;
+-- or the last script, which is all of it
 abbrev pub StandsFirst : Limits → List ℕ → First → Type 0
 StandsFirst limits stream (More n) = (0 < n) × (n ≤ length stream) × ((r : Request) × Spells limits (take n stream) r × (closes r ≡ false) × IsOther r)
 StandsFirst limits stream (Begins n) = (0 < n) × (n ≤ length stream) × Spells limits (take n stream) Next
 StandsFirst limits stream Last = IsLast limits stream
 
--- how many bytes it has
+-- the number of bytes of what a stream begins with; 0 for the last script
 abbrev pub first_len : First → ℕ
 first_len (More n) = n
 first_len (Begins n) = n
 first_len Last = 0
 
--- what the first line of a stream asks for: it stands first where the stream has so many bytes, and else nothing begins a script
+-- the first line of a stream asks for this: a stream with enough bytes begins with it, and any other one is the last script
 abbrev pub AsksFirst : Limits → List ℕ → First → Type 0
 AsksFirst limits stream f = (first_len f ≤ length stream → StandsFirst limits stream f) × (length stream < first_len f → IsLast limits stream)
 
--- what the first line of a stream that begins with these bytes asks for, however it goes on; none where no line ends in them that isn't too long
+-- every stream that begins with these bytes asks for this with its first line; none if the bytes are at most 65,536 without an LF
 abbrev pub LineAsks : Limits → List ℕ → Option First → Type 0
 LineAsks limits bytes None = Lacks 10 bytes × (length bytes ≤ 65536)
 LineAsks limits bytes (Some f) = (more : List ℕ) → AsksFirst limits (bytes ++ more) f
@@ -86,13 +86,13 @@ is_next (Juggle target) = false
 is_next (Crawl target) = false
 is_next Quit = false
 
--- a script goes on right behind a line that says this: it is a whole request, which neither begins the next script nor closes the reader
+-- a script goes on right after a line that says this: a whole request that neither begins the next script nor closes the reader
 abbrev pub GoesOn : Said → Type 0
 GoesOn (said.Whole r) = (closes r ≡ false) × (is_next r ≡ false)
 GoesOn (said.Block s) = ⊥
 GoesOn (said.Skip s) = ⊥
 
--- the letters with which the verbs delete, decr, get, gets, incr and touch begin, and no verb of a block or a directive
+-- one of d, g, i and t: with these begin delete, decr, get, gets, incr and touch, and no verb of a block or a directive
 abbrev pub IsPlain : ℕ → Type 0
 IsPlain b = (b ≡ 100) ⊎ (b ≡ 103) ⊎ (b ≡ 105) ⊎ (b ≡ 116)
 

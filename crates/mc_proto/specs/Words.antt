@@ -3,7 +3,7 @@ use Rattle.std.specs.Prelude.{ℕ, List, Option, Some, None, codes}
 use Rattle.mc_item.specs.declared.command.Verb.{Verb}
 use Rattle.mc_item.specs.declared.command.Verb.TheVariants.{Set, Add, Replace, Cas}
 
--- the word that spells a verb of a storage line without a cas number
+-- the word of a storage verb, none for cas
 abbrev pub store_word : Verb → Option (List ℕ)
 store_word Set = Some (codes "set")
 store_word Add = Some (codes "add")

@@ -1,4 +1,5 @@
-//! The lines incr, decr, touch and delete, read in one pass where one space stands behind the verb.
+//! Reads the lines of incr, decr, touch and delete in one pass, if they begin with the verb and a space. For other lines the
+//! answer may be `None`; then `tokens_said` reads them.
 ghost use Rattle.std.specs.Prelude.{◌≡◌, ◌∷◌, IfOk, IfSome, codes, if◌then◌else◌};
 ghost use Rattle.mc_proto.specs.{Grammar.IsFine, Lines.tokens, Table.tokens_say};
 
@@ -7,12 +8,11 @@ use crate::quick::quiet_end;
 use crate::request::Limits;
 use crate::said::one;
 use crate::state::Said;
-use crate::token::{key_of, next_number, next_token};
+use crate::token::{key_of_token, next_number, next_token};
 use mc_item::{Command, NoMemory};
 use std::alloc::Global;
 
-// Whether a line begins with `incr` and one space, or with `decr` and one, and what comes after it; of other lines
-// nothing is said.
+// What follows the verb and a space, if the line begins with `incr` (true) or `decr` (false) and a space.
 #[inline(always)]
 fn after_count(line: &[u8]) -> Option<(bool, &[u8])>
     ensures { IfSome result (λ x. tokens line.now ≡ (if x.0 then codes "incr" else codes "decr") ∷ tokens x.1.now) }
@@ -24,8 +24,7 @@ fn after_count(line: &[u8]) -> Option<(bool, &[u8])>
     }
 }
 
-/// A line `incr` or `decr` of a key, a number and perhaps noreply, one space behind the verb; of other lines nothing
-/// is said.
+/// Reads a line `incr` or `decr` of key, delta (at most 18 digits) and perhaps noreply. `None` says nothing about the line.
 #[inline(always)]
 pub fn quick_count(alloc: Global, limits: Limits, line: &[u8]) -> Result<Option<Said>, NoMemory>
     ensures value { IfOk result (λ found. IfSome found (λ s. s ≡ tokens_say limits (tokens line.now))) }
@@ -43,13 +42,13 @@ pub fn quick_count(alloc: Global, limits: Limits, line: &[u8]) -> Result<Option<
     let Some(quiet) = quiet_end(rest) else {
         return Ok(None);
     };
-    let Some(key) = key_of(alloc, token)? else {
+    let Some(key) = key_of_token(alloc, token)? else {
         return Ok(None);
     };
     Ok(Some(count(up, key, delta, quiet)))
 }
 
-// What comes after `touch` and one space, where a line begins so.
+// What follows `touch` and a space, if the line begins with them.
 #[inline(always)]
 fn after_touch(line: &[u8]) -> Option<&[u8]>
     ensures { IfSome result (λ rest. tokens line.now ≡ codes "touch" ∷ tokens rest.now) }
@@ -60,8 +59,7 @@ fn after_touch(line: &[u8]) -> Option<&[u8]>
     Some(rest)
 }
 
-/// A line `touch` of a key, an exptime without a sign and perhaps noreply, one space behind the verb; of other lines
-/// nothing is said.
+/// Reads a line `touch` of key, exptime (without a sign) and perhaps noreply. `None` says nothing about the line.
 #[inline(always)]
 pub fn quick_touch(alloc: Global, limits: Limits, line: &[u8]) -> Result<Option<Said>, NoMemory>
     ensures value { IfOk result (λ found. IfSome found (λ s. s ≡ tokens_say limits (tokens line.now))) }
@@ -79,13 +77,13 @@ pub fn quick_touch(alloc: Global, limits: Limits, line: &[u8]) -> Result<Option<
     let Some(quiet) = quiet_end(rest) else {
         return Ok(None);
     };
-    let Some(key) = key_of(alloc, token)? else {
+    let Some(key) = key_of_token(alloc, token)? else {
         return Ok(None);
     };
     Ok(Some(one(quiet, Command::Touch(key, exptime as i64))))
 }
 
-// What comes after `delete` and one space, where a line begins so.
+// What follows `delete` and a space, if the line begins with them.
 #[inline(always)]
 fn after_delete(line: &[u8]) -> Option<&[u8]>
     ensures { IfSome result (λ rest. tokens line.now ≡ codes "delete" ∷ tokens rest.now) }
@@ -96,7 +94,7 @@ fn after_delete(line: &[u8]) -> Option<&[u8]>
     Some(rest)
 }
 
-/// A line `delete` of a key and perhaps noreply, one space behind the verb; of other lines nothing is said.
+/// Reads a line `delete` of key and perhaps noreply. `None` says nothing about the line.
 #[inline(always)]
 pub fn quick_delete(alloc: Global, limits: Limits, line: &[u8]) -> Result<Option<Said>, NoMemory>
     ensures value { IfOk result (λ found. IfSome found (λ s. s ≡ tokens_say limits (tokens line.now))) }
@@ -111,7 +109,7 @@ pub fn quick_delete(alloc: Global, limits: Limits, line: &[u8]) -> Result<Option
     let Some(quiet) = quiet_end(rest) else {
         return Ok(None);
     };
-    let Some(key) = key_of(alloc, token)? else {
+    let Some(key) = key_of_token(alloc, token)? else {
         return Ok(None);
     };
     Ok(Some(one(quiet, Command::Delete(key))))

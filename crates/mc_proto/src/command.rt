@@ -1,4 +1,4 @@
-//! The lines of a command that has no block: incr, decr, touch and delete.
+//! Reads the lines of incr, decr, touch and delete, given the tokens after the verb.
 ghost use Rattle.std.specs.Prelude.{◌≡◌, ◌∷◌, [], IfOk, map};
 ghost use Rattle.mc_proto.specs.{Grammar.IsFine, Table.row_says, Table.Noreply};
 ghost use Rattle.mc_proto.specs.Kinds as kinds;
@@ -9,11 +9,11 @@ ghost use Rattle.mc_item.specs.declared.command.Command.TheVariants as commands;
 use crate::request::LineFault;
 use crate::said::{bad, no_format, no_line, one, quiet_by};
 use crate::state::Said;
-use crate::token::{exptime, key_of, number_up_to};
+use crate::token::{exptime, key_of_token, number_up_to};
 use mc_item::{Command, Key, NoMemory};
 use std::alloc::Global;
 
-/// The command incr, or else decr.
+/// Returns what a good line says: incr if `up`, otherwise decr.
 #[inline(always)]
 pub fn count(up: bool, key: Key, delta: u64, quiet: bool) -> Said
     ensures value { result ≡ table.count up key delta quiet }
@@ -26,7 +26,7 @@ pub fn count(up: bool, key: Key, delta: u64, quiet: bool) -> Said
     }
 }
 
-/// The lines incr and decr: key and delta.
+/// Reads the tokens after `incr` (if `up`) or `decr`: key and delta, and perhaps noreply.
 pub fn count_line(alloc: Global, up: bool, args: &[&[u8]]) -> Result<Said, NoMemory>
     ensures value { (limits : Limits) → IfOk result (λ s. s ≡ row_says limits (kinds.Key ∷ kinds.Delta ∷ []) Noreply (table.count up)
         (map (λ t. t.now) args.now)) }
@@ -38,7 +38,7 @@ pub fn count_line(alloc: Global, up: bool, args: &[&[u8]]) -> Result<Said, NoMem
     let Some(quiet) = quiet_by(rest) else {
         return Ok(no_line());
     };
-    let Some(key) = key_of(alloc, *key)? else {
+    let Some(key) = key_of_token(alloc, *key)? else {
         return Ok(no_format(quiet));
     };
     let Some(delta) = number_up_to(u64::MAX, *delta) else {
@@ -47,7 +47,7 @@ pub fn count_line(alloc: Global, up: bool, args: &[&[u8]]) -> Result<Said, NoMem
     Ok(count(up, key, delta, quiet))
 }
 
-/// The line touch: key and exptime.
+/// Reads the tokens after `touch`: key and exptime, and perhaps noreply.
 pub fn touch_line(alloc: Global, args: &[&[u8]]) -> Result<Said, NoMemory>
     ensures value { (limits : Limits) → IfOk result (λ s. s ≡ row_says limits (kinds.Key ∷ kinds.NewExptime ∷ []) Noreply
         (λ key e quiet. table.one quiet (commands.Touch key e)) (map (λ t. t.now) args.now)) }
@@ -59,7 +59,7 @@ pub fn touch_line(alloc: Global, args: &[&[u8]]) -> Result<Said, NoMemory>
     let Some(quiet) = quiet_by(rest) else {
         return Ok(no_line());
     };
-    let Some(key) = key_of(alloc, *key)? else {
+    let Some(key) = key_of_token(alloc, *key)? else {
         return Ok(no_format(quiet));
     };
     let Some(e) = exptime(*e) else {
@@ -68,7 +68,7 @@ pub fn touch_line(alloc: Global, args: &[&[u8]]) -> Result<Said, NoMemory>
     Ok(one(quiet, Command::Touch(key, e)))
 }
 
-/// The line delete: key.
+/// Reads the tokens after `delete`: key, and perhaps noreply.
 pub fn delete_line(alloc: Global, args: &[&[u8]]) -> Result<Said, NoMemory>
     ensures value { (limits : Limits) → IfOk result (λ s. s ≡ row_says limits (kinds.Key ∷ []) Noreply (λ key quiet. table.one quiet (commands.Delete key))
         (map (λ t. t.now) args.now)) }
@@ -80,7 +80,7 @@ pub fn delete_line(alloc: Global, args: &[&[u8]]) -> Result<Said, NoMemory>
     let Some(quiet) = quiet_by(rest) else {
         return Ok(no_line());
     };
-    let Some(key) = key_of(alloc, *key)? else {
+    let Some(key) = key_of_token(alloc, *key)? else {
         return Ok(no_format(quiet));
     };
     Ok(one(quiet, Command::Delete(key)))

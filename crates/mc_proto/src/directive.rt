@@ -1,4 +1,4 @@
-//! The lines of the directives, and quit: their verbs are followed by one token or none, and never by noreply.
+//! Reads the lines of the directives and of quit. Their verbs take one token or none, and never noreply.
 ghost use Rattle.std.specs.Prelude.{◌≡◌, ◌∷◌, [], ◌<◌, ◌≤◌, ◌^◌, IfSome, map, false};
 ghost use Rattle.mc_proto.specs.{Grammar.IsFine, Grammar.IsModerate, Grammar.closes, Table.row_says, Table.Nothing};
 ghost use Rattle.mc_proto.specs.Kinds as kinds;
@@ -13,10 +13,10 @@ use crate::state::Said;
 use crate::token::number_up_to;
 use mc_item::ClassNo;
 
-/// The largest moment in seconds: 2^62.
+/// The latest time that `%at` can set: 2^62 seconds. The code calls a time a moment.
 const MAX_MOMENT: u64 = 4_611_686_018_427_387_904;
 
-/// The line %at: a moment.
+/// Reads the token after `%at`: a time in seconds, at most 2^62.
 pub fn at_line(args: &[&[u8]]) -> Said
     ensures value { (limits : Limits) → result ≡ row_says limits (kinds.Moment ∷ []) Nothing (λ moment. said.Whole (requests.At moment))
         (map (λ t. t.now) args.now) }
@@ -31,7 +31,7 @@ pub fn at_line(args: &[&[u8]]) -> Said
     }
 }
 
-// The slab class of a number, which isn't 0.
+// The slab class of this number; `None` for 0 or without a number.
 fn class_target(number: Option<u64>) -> Option<Target>
     requires { IfSome number (λ n. n < 4294967296) }
     ensures { result ≡ lines.class_target number }
@@ -48,7 +48,7 @@ fn class_target(number: Option<u64>) -> Option<Target>
     }
 }
 
-// The slab classes that a token names: all, or one by its number.
+// The slab classes that a token names: `all`, or one by its number.
 fn target_of(limits: Limits, token: &[u8]) -> Option<Target>
     ensures { result ≡ lines.target_of limits token.now }
 {
@@ -59,7 +59,7 @@ fn target_of(limits: Limits, token: &[u8]) -> Option<Target>
     }
 }
 
-/// The line %juggle: all, or a class.
+/// Reads the token after `%juggle`: `all`, or the number of a slab class.
 pub fn juggle_line(limits: Limits, args: &[&[u8]]) -> Said
     ensures value { result ≡ row_says limits (kinds.Classes ∷ []) Nothing (λ target. said.Whole (requests.Juggle target)) (map (λ t. t.now) args.now) }
     ensures fine { IsFine limits result }
@@ -73,7 +73,7 @@ pub fn juggle_line(limits: Limits, args: &[&[u8]]) -> Said
     }
 }
 
-/// The line %crawl: all, or a class.
+/// Reads the token after `%crawl`: `all`, or the number of a slab class.
 pub fn crawl_line(limits: Limits, args: &[&[u8]]) -> Said
     ensures value { result ≡ row_says limits (kinds.Classes ∷ []) Nothing (λ target. said.Whole (requests.Crawl target)) (map (λ t. t.now) args.now) }
     ensures fine { IsFine limits result }
@@ -87,7 +87,7 @@ pub fn crawl_line(limits: Limits, args: &[&[u8]]) -> Said
     }
 }
 
-/// The lines %next and quit: nothing further.
+/// Reads a line `%next` or `quit`, which takes no tokens: returns `request`, or the fault `Error` if tokens follow the verb.
 pub fn lone_line(request: Request, args: &[&[u8]]) -> Said
     requires stays { closes request ≡ false }
     requires moderate { (limits : Limits) → IsModerate limits request }

@@ -1,4 +1,4 @@
-//! Cuts an input that lies in pieces into scripts, each in pieces of its own.
+//! Cuts an input that lies in pieces of bytes into scripts, each in pieces of its own.
 ghost use Rattle.std.specs.Prelude.{◌≡◌, ◌++◌, [], IfOk, OnOk, map};
 ghost use Rattle.std.specs.List.{flat_map};
 ghost use Rattle.mc_proto.specs.Scripts as scripts;
@@ -11,7 +11,7 @@ use mc_item::NoMemory;
 use std::alloc::Global;
 use std::collections::VecDeque;
 
-// What the first line of what comes asks for. It is copied only where a piece ends within it.
+// What the next line asks for. The line is copied only if the current piece doesn't hold all of it.
 fn asked_ahead(alloc: Global, limits: Limits, uncut: &Uncut) -> Result<First, NoMemory>
     ensures { IfOk result (λ f. scripts.AsksFirst limits uncut.now.coming f) }
 {
@@ -25,7 +25,8 @@ fn asked_ahead(alloc: Global, limits: Limits, uncut: &Uncut) -> Result<First, No
     }
 }
 
-// What stands first of what comes. No block is looked at.
+// What comes next: a request of this script, the line that begins the next one, or the end of the last script. A block is passed
+// over by its length.
 fn first_ahead(alloc: Global, limits: Limits, uncut: &Uncut) -> Result<First, NoMemory>
     ensures { IfOk result (λ f. scripts.StandsFirst limits uncut.now.coming f) }
 {
@@ -36,9 +37,8 @@ fn first_ahead(alloc: Global, limits: Limits, uncut: &Uncut) -> Result<First, No
     Ok(First::Last)
 }
 
-// Passes the first script of what comes, and says how many bytes the line behind it has that begins the next one; none
-// where it is the last script, of which some may be passed. Lines are looked at only where a `%` stands straight before
-// an `n`.
+// Passes one script, and returns the length of the line after it, which begins the next script. `None`: this is the last one, and
+// some of it may be passed. An input without `%n` is one script, so its lines aren't read.
 fn pass_script(alloc: Global, limits: Limits, uncut: &mut Uncut) -> Result<Option<usize>, NoMemory>
     requires { uncut.old.passed ≡ [] }
     ensures stays { OnOk result (uncut.new.passed ++ uncut.new.coming ≡ uncut.old.coming) }
@@ -56,10 +56,10 @@ fn pass_script(alloc: Global, limits: Limits, uncut: &mut Uncut) -> Result<Optio
     }
 }
 
-/// The scripts of an input that lies in pieces, as they would be read one after the other. A `%next` within a block is
-/// part of the block, and nothing behind a line that is too long begins a script. The lines between the scripts are part
-/// of none. A piece in which no script begins or ends moves to its script whole; of another one each script has a copy of
-/// its part. `NoMemory` is answered where a growth was refused.
+/// Cuts an input, given in pieces, into scripts at each line `%next` that comes where a command is due. Returns at least one
+/// script. The `%next` lines are part of none. A `%next` within a data block is data, and no script begins after a line that is
+/// too long. Only pieces that a cut touches are copied; the others are moved.
+/// *Errors*: `NoMemory` if memory is refused.
 pub fn split_scripts(
     alloc: Global,
     input: VecDeque<Vec<u8>>,

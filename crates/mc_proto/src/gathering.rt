@@ -1,4 +1,4 @@
-//! Texts as they are gathered: bytes, and long values that stay where they are.
+//! The text of replies as it is gathered: bytes, and long values that are shared instead of copied.
 ghost use Rattle.std.specs.Prelude.{◌≡◌, ◌<◌, ◌≤◌, ◌+◌, ◌-◌, ◌^◌, ◌++◌, ◌∷◌, [], ℕ, List, IfOk, OnOk, OnErr, length, take, vec_len, vec_capacity};
 ghost use Rattle.std.specs.List.{flat_map};
 ghost use Rattle.mc_proto.specs.Gathered.{bytes_of_parts, part_bytes};
@@ -12,13 +12,13 @@ use std::alloc::Global;
 use std::marker::Model;
 use std::mem;
 
-/// A value of at least so many bytes isn't copied into a text, which shares it: as many as a page of memory has.
+/// A value of this many bytes or more is shared by a text instead of copied into it. It is the size of a memory page.
 pub const LONG: usize = 4_096;
 
-// So many bytes the parts of a text have at most.
+// The most bytes that the parts of a text may have, so that its length always fits a usize.
 const MOST: usize = 1 << 62;
 
-// So much room the bytes behind a shared value have at first.
+// The first capacity for the bytes after a shared value.
 const BEHIND: usize = 64;
 
 /// A part of a text.
@@ -26,11 +26,11 @@ const BEHIND: usize = 64;
 pub enum TextPart {
     /// Bytes of its own.
     Own(Vec<u8>),
-    /// The first so many bytes of a value, which stays where it is.
+    /// The first bytes of a value, this many. They aren't copied.
     Shared(Value, usize),
 }
 
-// The first so many bytes, or all where there aren't so many.
+// The first `count` bytes, or all if there are fewer.
 fn first_of(bytes: &[u8], count: usize) -> &[u8]
     ensures { result.now ≡ take count bytes.now }
 {
@@ -42,7 +42,7 @@ fn first_of(bytes: &[u8], count: usize) -> &[u8]
 }
 
 impl TextPart {
-    /// The bytes.
+    /// Returns the bytes of the part.
     pub fn bytes(&self) -> &[u8]
         ensures { result.now ≡ part_bytes self.now }
     {
@@ -53,8 +53,8 @@ impl TextPart {
     }
 }
 
-/// A text that grows at its end. Contracts see its bytes. A long value in it isn't copied: a part of the text is the
-/// value, which is shared with whoever else has it.
+/// A text of replies, which grows at its end. Contracts see its bytes. A value of `LONG` bytes or more isn't copied into the
+/// text: a part of the text shares it with its other owners.
 #[derive(Drop)]
 pub struct ReplyText {
     parts: Vec<TextPart>,
@@ -73,7 +73,7 @@ impl Model for ReplyText {
     ghost invariant = { λ t. (length (bytes_of_parts t.parts.items) ≡ t.before) × (t.before ≤ 2 ^ 62) };
 }
 
-// The part in which the byte at a place is, and how many bytes stand before that part; it and those behind it are taken out.
+// Takes out the part with the byte at `place`, and drops all parts after it. Returns the part, and how many bytes precede it.
 fn part_at(parts: &mut Vec<TextPart>, bytes: usize, place: usize) -> (TextPart, usize)
     requires many { length (bytes_of_parts parts.old.items) ≡ bytes }
     requires place { place < bytes }
@@ -93,7 +93,8 @@ fn part_at(parts: &mut Vec<TextPart>, bytes: usize, place: usize) -> (TextPart, 
     unreachable!()
 }
 
-// Leaves the first so many bytes of parts, which had more; those of its own that the last one had stand behind the others.
+// Cuts the parts to their first `count` bytes; they had more. If the cut falls in an `Own` part, what is left of it becomes
+// `last`. Returns how many bytes the parts have then.
 #[cold]
 #[inline(never)]
 fn cut_parts(parts: &mut Vec<TextPart>, last: &mut Vec<u8>, bytes: usize, count: usize) -> usize
@@ -118,7 +119,7 @@ fn cut_parts(parts: &mut Vec<TextPart>, last: &mut Vec<u8>, bytes: usize, count:
     }
 }
 
-// Adds copies of parts behind other bytes, or, where there is no memory, leaves them as they were.
+// Appends copies of the parts to `bytes`, or nothing if memory is refused.
 fn copy_parts(bytes: &mut Vec<u8>, parts: &[TextPart]) -> Result<(), NoMemory>
     ensures ok { OnOk result (bytes.new.items ≡ bytes.old.items ++ bytes_of_parts parts.now) }
     ensures err { OnErr result (bytes.new.items ≡ bytes.old.items) }
@@ -136,7 +137,7 @@ fn copy_parts(bytes: &mut Vec<u8>, parts: &[TextPart]) -> Result<(), NoMemory>
     Ok(())
 }
 
-// The end of a line, and room for more behind it.
+// A CR LF with room for more after it.
 fn line_end(alloc: Global) -> Result<Vec<u8>, NoMemory>
     ensures { IfOk result (λ text. text.items ≡ texts.crlf) }
 {
@@ -146,7 +147,7 @@ fn line_end(alloc: Global) -> Result<Vec<u8>, NoMemory>
 }
 
 impl ReplyText {
-    /// An empty text. It takes no memory.
+    /// Returns an empty text. It takes no memory.
     pub fn new(alloc: Global) -> ReplyText
         ensures items { result.items ≡ [] }
     {
@@ -157,7 +158,7 @@ impl ReplyText {
         }
     }
 
-    /// How many bytes there are.
+    /// Returns how many bytes the text has.
     #[inline(always)]
     pub fn len(&self) -> usize
         ensures { result ≡ length self.now.items }
@@ -165,7 +166,7 @@ impl ReplyText {
         self.before + self.last.len()
     }
 
-    /// Leaves the first so many bytes. It takes no memory.
+    /// Cuts the text to its first `count` bytes, if it has more. It takes no memory.
     #[inline(always)]
     pub fn truncate(&mut self, count: usize)
         ensures items { self.new.items ≡ take count self.old.items }
@@ -177,7 +178,7 @@ impl ReplyText {
         }
     }
 
-    /// Adds the text of a reply that stands alone, as `push_reply` does.
+    /// Appends the text of a reply, as the function `push_reply` does. After `NoMemory` nothing is added.
     pub fn push_reply(&mut self, reply: &Reply) -> Result<(), NoMemory>
         ensures ok { OnOk result (self.new.items ≡ self.old.items ++ texts.reply_text reply.now) }
         ensures err { OnErr result (self.new.items ≡ self.old.items) }
@@ -185,7 +186,7 @@ impl ReplyText {
         text::push_reply(&mut self.last, reply)
     }
 
-    /// Adds the text of a refused line or block. After an `Err` nothing is added.
+    /// Appends the text of a refused line or block. After `NoMemory` nothing is added.
     pub fn push_fault(&mut self, why: LineFault) -> Result<(), NoMemory>
         ensures ok { OnOk result (self.new.items ≡ self.old.items ++ texts.fault_text why) }
         ensures err { OnErr result (self.new.items ≡ self.old.items) }
@@ -193,7 +194,7 @@ impl ReplyText {
         text::push_fault(&mut self.last, why)
     }
 
-    /// Adds the end of the values of a `get`. After an `Err` nothing is added.
+    /// Appends the `END` of a `get`. After `NoMemory` nothing is added.
     #[inline(always)]
     pub fn push_end(&mut self) -> Result<(), NoMemory>
         ensures ok { OnOk result (self.new.items ≡ self.old.items ++ texts.end_text) }
@@ -202,7 +203,7 @@ impl ReplyText {
         text::push_end(&mut self.last)
     }
 
-    /// Adds the text of `%juggle`. After an `Err` nothing is added.
+    /// Appends the text of `%juggle`. After `NoMemory` nothing is added.
     pub fn push_moves(&mut self, moves: &Moves) -> Result<(), NoMemory>
         ensures ok { OnOk result (self.new.items ≡ self.old.items ++ texts.moves_text moves.now) }
         ensures err { OnErr result (self.new.items ≡ self.old.items) }
@@ -210,7 +211,7 @@ impl ReplyText {
         text::push_moves(&mut self.last, moves)
     }
 
-    /// Adds the text of `%crawl`. After an `Err` nothing is added.
+    /// Appends the text of `%crawl`. After `NoMemory` nothing is added.
     pub fn push_histogram(&mut self, h: &Histogram) -> Result<(), NoMemory>
         ensures ok { OnOk result (self.new.items ≡ self.old.items ++ texts.histogram_text h.now) }
         ensures err { OnErr result (self.new.items ≡ self.old.items) }
@@ -218,7 +219,7 @@ impl ReplyText {
         text::push_histogram(&mut self.last, h)
     }
 
-    /// Adds a value's text up to its key: `VALUE` and the key. After an `Err` nothing is added.
+    /// Appends the beginning of a value's text: `VALUE` and the key. After `NoMemory` nothing is added.
     #[inline(always)]
     pub fn push_value_head(&mut self, key: &[u8]) -> Result<(), NoMemory>
         ensures ok { OnOk result (self.new.items ≡ self.old.items ++ texts.value_head key.now) }
@@ -227,8 +228,8 @@ impl ReplyText {
         text::push_value_head(&mut self.last, key)
     }
 
-    /// Adds a value's text behind its key, as `push_value_tail` does; but a long value is shared, and not copied. Nothing for
-    /// any other reply. After an `Err` nothing is added.
+    /// Appends what follows the key in a value's text, as the function `push_value_tail` does, but shares a value of `LONG` bytes
+    /// or more. Other replies add nothing. After `NoMemory` nothing is added.
     #[inline(always)]
     pub fn push_value_tail(&mut self, reply: &Reply, with_cas: bool) -> Result<(), NoMemory>
         ensures ok { OnOk result (self.new.items ≡ self.old.items ++ texts.value_tail reply.now with_cas) }
@@ -242,7 +243,7 @@ impl ReplyText {
         text::push_value_tail(&mut self.last, reply, with_cas)
     }
 
-    // The same of a long value.
+    // Appends the same for a long value, which is shared.
     #[inline(never)]
     fn push_long(
         &mut self,
@@ -265,7 +266,7 @@ impl ReplyText {
         }
     }
 
-    // Adds a value, which is shared, and the end of its line. After an `Err` nothing is added.
+    // Appends a shared value and CR LF. After `NoMemory` nothing is added.
     fn share(&mut self, value: &Value) -> Result<(), NoMemory>
         ensures ok { OnOk result (self.new.items ≡ self.old.items ++ (value.now ++ texts.crlf)) }
         ensures err { OnErr result (self.new.items ≡ self.old.items) }
@@ -285,8 +286,8 @@ impl ReplyText {
         Ok(())
     }
 
-    /// Moves the whole text behind other parts, without a copy, and leaves an empty one: with so much room, or with little
-    /// where values were shared, since more such may come. After an `Err` nothing has moved.
+    /// Moves the whole text to the end of `parts`, without a copy. The text is then empty, with capacity `room`, or with little
+    /// if values were shared, as more of them may come. After `NoMemory` both are unchanged.
     pub fn move_behind(&mut self, parts: &mut Vec<TextPart>, room: usize) -> Result<(), NoMemory>
         ensures ok { OnOk result ((bytes_of_parts parts.new.items ≡ bytes_of_parts parts.old.items ++ self.old.items) × (self.new.items ≡ [])) }
         ensures err { OnErr result ((bytes_of_parts parts.new.items ≡ bytes_of_parts parts.old.items) × (self.new.items ≡ self.old.items)) }
@@ -300,14 +301,14 @@ impl ReplyText {
         Ok(())
     }
 
-    /// The text as it lies in memory: its parts, and the bytes behind them.
+    /// Returns the text as it lies in memory: its parts, and the bytes after them.
     pub fn lying(&self) -> (&[TextPart], &[u8])
         ensures { bytes_of_parts result.0.now ++ result.1.now ≡ self.now.items }
     {
         (self.parts.as_slice(), self.last.as_slice())
     }
 
-    /// Adds a copy of the text behind other bytes. After an `Err` nothing is added.
+    /// Appends a copy of the text to `bytes`. After `NoMemory` nothing is added.
     pub fn copy_behind(&self, bytes: &mut Vec<u8>) -> Result<(), NoMemory>
         ensures ok { OnOk result (bytes.new.items ≡ bytes.old.items ++ self.now.items) }
         ensures err { OnErr result (bytes.new.items ≡ bytes.old.items) }

@@ -1,4 +1,4 @@
-//! The lines get and gets: one or more keys.
+//! Reads the lines of get and gets: one or more keys.
 ghost use Rattle.std.specs.Prelude.{◌≡◌, ◌∷◌, [], ℕ, List, IfOk, map};
 ghost use Rattle.mc_proto.specs.{Grammar.IsFine, Table.row_says};
 ghost use Rattle.mc_proto.specs.Lines as lines;
@@ -10,14 +10,14 @@ ghost use Rattle.mc_proto.specs.declared.state.Said.TheVariants as said;
 use crate::request::{Keys, Request};
 use crate::said::{no_format, no_line};
 use crate::state::Said;
-use crate::token::key_of;
+use crate::token::key_of_token;
 use mc_item::{Key, NoMemory};
 use std::alloc::Global;
 
-// A line of one key, where the token can be one.
+// What a line with one key says. `None` is a token that can't be a key.
 #[inline(always)]
 fn get_said(key: Option<Key>, with_cas: bool) -> Said
-    ensures value { (limits : Limits) (token : List ℕ) → key ≡ lines.key_of token
+    ensures value { (limits : Limits) (token : List ℕ) → key ≡ lines.key_of_token token
         → result ≡ row_says limits [] table.Keys (λ keys. said.Whole (requests.Get keys with_cas)) (token ∷ []) }
     ensures fine { (limits : Limits) → IsFine limits result }
 {
@@ -30,7 +30,7 @@ fn get_said(key: Option<Key>, with_cas: bool) -> Said
     }
 }
 
-/// The lines get, and gets, whose values are shown with their cas numbers.
+/// Reads the tokens after `get`, or after `gets` if `with_cas`: one or more keys. One bad key refuses the whole line.
 #[inline(never)]
 pub fn get_line(alloc: Global, with_cas: bool, tokens: &[&[u8]]) -> Result<Said, NoMemory>
     ensures value { (limits : Limits) → IfOk result (λ s. s ≡ row_says limits [] table.Keys (λ keys. said.Whole (requests.Get keys with_cas))
@@ -41,11 +41,11 @@ pub fn get_line(alloc: Global, with_cas: bool, tokens: &[&[u8]]) -> Result<Said,
         return Ok(no_line());
     }
     if let [token] = tokens {
-        return Ok(get_said(key_of(alloc, *token)?, with_cas));
+        return Ok(get_said(key_of_token(alloc, *token)?, with_cas));
     }
     let mut keys = Vec::with_capacity(alloc, tokens.len())?;
     for token in tokens {
-        match key_of(alloc, *token)? {
+        match key_of_token(alloc, *token)? {
             Some(key) => {
                 keys.push(key)?;
             }

@@ -1,4 +1,5 @@
-//! Whether a line `%next` can stand in an input: whether a `%` stands straight before an `n`.
+//! Says whether bytes have a `%` directly followed by an `n`, as `%next` does. Without one, an input is a single script. `after`
+//! tells that a `%` comes directly before the bytes.
 ghost use Rattle.std.specs.Prelude.{◌≡◌, true, false, slice_index};
 ghost use Rattle.std.specs.List.{flat_map};
 ghost use Rattle.mc_proto.specs.Lines.{LacksNextBehind, is_after};
@@ -6,7 +7,7 @@ ghost use Rattle.mc_proto.specs.Lines.{LacksNextBehind, is_after};
 use memchr::memchr;
 use std::collections::VecDeque;
 
-// Whether an `n` is the first byte, straight behind a `%`.
+// Whether the bytes begin with an `n` directly after a `%`.
 fn is_next(after: bool, bytes: &[u8]) -> bool
     ensures yes { result ≡ true → (after ≡ true) × (slice_index bytes.now 0 ≡ 110) }
     ensures no { result ≡ false → after ≡ true → slice_index bytes.now 0 ≡ 110 → ⊥ }
@@ -17,7 +18,7 @@ fn is_next(after: bool, bytes: &[u8]) -> bool
     bytes[0] == b'n'
 }
 
-// Whether no `%` stands straight before an `n`, also not one before the bytes, where one stands there.
+// Whether no `%` is directly followed by an `n`. A `%` before the bytes counts too.
 pub(crate) fn lacks_next(after: bool, bytes: &[u8]) -> bool
     ensures lacks { result ≡ true → LacksNextBehind after bytes.now }
     ensures has { LacksNextBehind after bytes.now → result ≡ true }
@@ -37,7 +38,7 @@ pub(crate) fn lacks_next(after: bool, bytes: &[u8]) -> bool
     }
 }
 
-// Whether a `%` ends the bytes, or stands before them where they are none.
+// Whether a `%` is the last byte, or comes before the bytes if they are empty.
 pub(crate) fn ends_with_percent(after: bool, bytes: &[u8]) -> bool
     ensures { result ≡ is_after after bytes.now }
 {
@@ -47,8 +48,7 @@ pub(crate) fn ends_with_percent(after: bool, bytes: &[u8]) -> bool
     bytes[bytes.len() - 1] == b'%'
 }
 
-// Whether no `%` stands straight before an `n`, within a piece or across two, also not one before the pieces, where one
-// stands there.
+// Whether no `%` is directly followed by an `n`, within a piece or across two. A `%` before the pieces counts too.
 pub(crate) fn pieces_lack_next(after: bool, pieces: &VecDeque<Vec<u8>>) -> bool
     ensures lacks { result ≡ true → LacksNextBehind after (flat_map (λ p. p.items) pieces.now.items) }
     ensures has { LacksNextBehind after (flat_map (λ p. p.items) pieces.now.items) → result ≡ true }

@@ -1,5 +1,5 @@
-//! The text protocol: requests are read from pieces of bytes that are cut anywhere, and the texts of replies are
-//! written. Nothing here runs a command.
+//! memcached's text protocol (protocol.txt): reads requests from pieces of bytes that may be cut anywhere, and writes the texts
+//! of replies. Nothing here runs a command.
 #![tactic(auto)]
 
 mod brief;

@@ -1,4 +1,4 @@
-//! What a line says.
+//! Reads a line: the usual forms in one pass, any other line by its tokens.
 ghost use Rattle.std.specs.Prelude.{◌≡◌, IfOk};
 ghost use Rattle.mc_proto.specs.{Grammar.IsFine, Lines.tokens, Table.tokens_say};
 ghost use Rattle.mc_proto.specs.Table as table;
@@ -12,8 +12,8 @@ use crate::verb::tokens_said;
 use mc_item::NoMemory;
 use std::alloc::Global;
 
-// What a line says that isn't read in one pass as a set or a count. It is a call of its own, so that the way of those two
-// stays short enough for the compiler to join it with what calls it.
+// What a line says that `quick_store` and `quick_count` don't read. Not inlined, so that what is left of `said_of` stays short
+// enough for the compiler to inline it.
 #[inline(never)]
 fn other_said(alloc: Global, limits: Limits, line: &[u8]) -> Result<Said, NoMemory>
     ensures value { IfOk result (λ s. s ≡ tokens_say limits (tokens line.now)) }
@@ -34,7 +34,7 @@ fn other_said(alloc: Global, limits: Limits, line: &[u8]) -> Result<Said, NoMemo
     tokens_said(alloc, limits, tokens.as_slice())
 }
 
-/// What a line says, of which the LF is no part.
+/// Returns what a line says. It comes without its LF.
 #[inline(always)]
 #[tactic(auto, unfolding(crate::specs::Table::says))]
 pub fn said_of(alloc: Global, limits: Limits, line: &[u8]) -> Result<Said, NoMemory>

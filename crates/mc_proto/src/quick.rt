@@ -1,5 +1,5 @@
-//! The lines that come most often, read in one pass: get of one key, set, add and replace, each with one space behind
-//! the verb.
+//! Reads the most frequent lines in one pass: get of one key, set, add and replace, if they begin with the verb and a space. For
+//! other lines the answer may be `None`; then other functions read them.
 ghost use Rattle.std.specs.Prelude.{◌≡◌, ◌∷◌, ◌++◌, [], ◌<◌, ◌≤◌, ◌^◌, ◌↔◌, IfOk, IsTrue, IfSome, MatchOption, codes, if◌then◌else◌, pos, false};
 ghost use Rattle.mc_proto.specs.{Grammar.IsFine, Lines.tokens, Table.tokens_say, Words.store_word};
 ghost use Rattle.mc_proto.specs.Table as table;
@@ -10,11 +10,11 @@ ghost use Rattle.mc_proto.specs.declared.state.Said.TheVariants as said;
 use crate::request::Limits;
 use crate::state::{Said, Start};
 use crate::storage::{MAX_BYTES, MAX_FLAGS, begun};
-use crate::token::{key_of, next_number, next_token, without_cr};
+use crate::token::{key_of_token, next_number, next_token, without_cr};
 use mc_item::{Key, NoMemory, Verb};
 use std::alloc::Global;
 
-// What comes after `get` and one space, where a line begins so.
+// What follows `get` and a space, if the line begins with them.
 #[inline(always)]
 fn after_get(line: &[u8]) -> Option<&[u8]>
     ensures { IfSome result (λ rest. line.now ≡ codes "get " ++ rest.now) }
@@ -25,7 +25,7 @@ fn after_get(line: &[u8]) -> Option<&[u8]>
     Some(rest)
 }
 
-/// The key of a line that is `get`, one space and a key, and not more; of other lines nothing is said.
+/// Returns the key of a line that is just `get`, one space and a key. `None` says nothing about the line.
 #[inline(always)]
 pub fn lone_get(alloc: Global, line: &[u8]) -> Result<Option<Key>, NoMemory>
     ensures value { IfOk result (λ found. IfSome found (λ key. (limits : Limits) → table.says limits line.now ≡ said.Whole (requests.Get (key ∷ []) false))) }
@@ -34,14 +34,13 @@ pub fn lone_get(alloc: Global, line: &[u8]) -> Result<Option<Key>, NoMemory>
     let Some(token) = after_get(without_cr(line)) else {
         return Ok(None);
     };
-    match key_of(alloc, token)? {
+    match key_of_token(alloc, token)? {
         Some(key) => Ok(Some(key)),
         None => Ok(None),
     }
 }
 
-// Whether a line begins with `set`, `add` or `replace` and one space: the verb, and what comes after it; of other lines
-// nothing is said.
+// The verb and what follows it, if the line begins with `set`, `add` or `replace` and a space.
 #[inline(always)]
 fn after_store(line: &[u8]) -> Option<(Verb, &[u8])>
     ensures { IfSome result (λ x. MatchOption (store_word x.0) ⊥ (λ word. tokens line.now ≡ word ∷ tokens x.1.now)) }
@@ -54,7 +53,7 @@ fn after_store(line: &[u8]) -> Option<(Verb, &[u8])>
     }
 }
 
-// Whether these are one space and the word that makes a line quiet.
+// Whether these bytes are a space and `noreply`.
 #[inline(always)]
 fn is_noreply(rest: &[u8]) -> bool
     ensures { IsTrue result ↔ (rest.now ≡ codes " noreply") }
@@ -65,8 +64,7 @@ fn is_noreply(rest: &[u8]) -> bool
     }
 }
 
-/// What is left of a line that has no further token, or one space and the word that makes it quiet; of others nothing
-/// is said.
+/// Whether this end of a line makes it quiet: `false` if it is empty, `true` if it is a space and `noreply`. `None` says nothing.
 #[inline(always)]
 pub fn quiet_end(rest: &[u8]) -> Option<bool>
     ensures { IfSome result (λ quiet. tokens rest.now ≡ (if quiet then codes "noreply" ∷ [] else [])) }
@@ -80,7 +78,7 @@ pub fn quiet_end(rest: &[u8]) -> Option<bool>
     Some(true)
 }
 
-// A good storage line of this verb with these numbers.
+// What a good storage line says, by the values of its tokens.
 #[inline(always)]
 fn begun_store(
     limits: Limits,
@@ -111,8 +109,7 @@ fn begun_store(
     )
 }
 
-/// A line `set`, `add` or `replace` of a key, three numbers and perhaps noreply, one space behind the verb; of other
-/// lines nothing is said.
+/// Reads a line `set`, `add` or `replace` of key, three numbers without sign and perhaps noreply. `None` says nothing about it.
 #[inline(always)]
 pub fn quick_store(alloc: Global, limits: Limits, line: &[u8]) -> Result<Option<Said>, NoMemory>
     ensures value { IfOk result (λ found. IfSome found (λ s. s ≡ tokens_say limits (tokens line.now))) }
@@ -139,7 +136,7 @@ pub fn quick_store(alloc: Global, limits: Limits, line: &[u8]) -> Result<Option<
     if flags > MAX_FLAGS || count > MAX_BYTES {
         return Ok(None);
     }
-    let Some(key) = key_of(alloc, token)? else {
+    let Some(key) = key_of_token(alloc, token)? else {
         return Ok(None);
     };
     Ok(Some(begun_store(limits, verb, key, flags, exptime, count, quiet)))

@@ -1,4 +1,4 @@
-//! Reads requests from pieces of bytes that are cut anywhere.
+//! Reads requests from pieces of bytes that may be cut anywhere.
 ghost use Rattle.std.specs.Prelude.{◌≡◌, ◌++◌, [], ◌<◌, ℕ, List, All, IfOk, OnOk, OnErr, IsErr, IsOk};
 ghost use Rattle.mc_proto.specs.{Grammar.IsModerate, Grammar.Reads, Grammar.closed, Reader.After, Reader.IsSoundReader, Reader.rest_name};
 ghost use Rattle.mc_proto.specs.declared.{request.Request.Request, state.State.State, state.State.TheVariants.Line, state.State.TheVariants.Failed};
@@ -13,12 +13,12 @@ use mc_item::NoMemory;
 use std::alloc::Global;
 use std::marker::Model;
 
-// How many requests room is made for at once: one for each 32 bytes of a piece, and 2,048 at most.
+// For how many requests room is made at once: one for each 32 bytes of a piece, at most 2,048.
 fn room_for(bytes: usize) -> usize {
     (bytes / 32).min(2048)
 }
 
-// Reads a whole piece: the requests that became whole with it.
+// Reads a whole piece, and returns the requests that it completes.
 fn read_piece<P: Piece>(
     alloc: Global,
     limits: Limits,
@@ -41,8 +41,9 @@ fn read_piece<P: Piece>(
     Ok(requests)
 }
 
-/// Reads requests from pieces of bytes, cut anywhere. It keeps the bytes of one unfinished line or block; of a block
-/// that no slab class can hold only a count, and nothing once a line was too long.
+/// Reads requests from a stream of bytes that comes in pieces, cut anywhere. It keeps the bytes of at most one unfinished line or
+/// block. Of a block that no slab class can hold it keeps only a count, and after a line that was too long nothing. Contracts see
+/// its limits, its state and the bytes of an unfinished line.
 #[derive(Drop)]
 pub struct Reader {
     alloc: Global,
@@ -62,7 +63,7 @@ impl Model for Reader {
 }
 
 impl Reader {
-    /// A reader that has read nothing.
+    /// Returns a reader that has read nothing.
     pub fn new(alloc: Global, limits: Limits) -> Reader
         ensures limits { result.limits ≡ limits }
         ensures start { After limits result.state result.unread [] [] }
@@ -75,7 +76,7 @@ impl Reader {
         }
     }
 
-    // Reads a piece, given away or lent.
+    // Reads a piece that was given away or lent.
     fn read<P: Piece>(&mut self, piece: P) -> Result<Vec<Request>, NoMemory>
         ensures limits { self.new.limits ≡ self.old.limits }
         ensures reads { IfOk result (λ v. (stream : List ℕ) (requests : List Request) → After self.old.limits self.old.state self.old.unread stream requests
@@ -109,9 +110,10 @@ impl Reader {
         }
     }
 
-    /// The requests that are whole with these bytes, which come behind those of earlier calls. After a line of 65,537
-    /// bytes without an LF nothing is read. After `NoMemory` each call answers `NoMemory`. Of the piece is copied what is
-    /// kept: an unfinished line or block, and values; who can give it away calls `take`.
+    /// Reads the next bytes of the stream, and returns the requests that they complete. After 65,537 bytes of a line without an
+    /// LF the reader is closed: it returns no more requests.
+    /// *Errors*: `NoMemory` if memory is refused. Then each later call returns `NoMemory` too.
+    /// An unfinished line or block and values are copied. Call `take` for a piece that you can give away.
     pub fn feed(&mut self, piece: &[u8]) -> Result<Vec<Request>, NoMemory>
         ensures limits { self.new.limits ≡ self.old.limits }
         ensures reads { IfOk result (λ v. (stream : List ℕ) (requests : List Request) → After self.old.limits self.old.state self.old.unread stream requests
@@ -124,8 +126,8 @@ impl Reader {
         self.read(piece)
     }
 
-    /// The same, of a piece that is given away and isn't copied: the value of a block that lies whole in it is a part of
-    /// it, and keeps it in memory.
+    /// Reads as `feed` does, but takes the piece and copies less. The value of a block that lies whole in the piece is a part of
+    /// it, and keeps the piece in memory.
     pub fn take(&mut self, piece: Vec<u8>) -> Result<Vec<Request>, NoMemory>
         ensures limits { self.new.limits ≡ self.old.limits }
         ensures reads { IfOk result (λ v. (stream : List ℕ) (requests : List Request) → After self.old.limits self.old.state self.old.unread stream requests
@@ -147,7 +149,7 @@ impl Reader {
         }
     }
 
-    // What is left unfinished.
+    // What the reader has left unfinished.
     fn name(&self) -> Rest
         ensures { result ≡ Rattle.mc_proto.specs.Reader.rest_of self.now.state self.now.unread }
     {
@@ -164,7 +166,7 @@ impl Reader {
         }
     }
 
-    /// What was left unfinished: nothing, too, where a line was too long or there was no memory.
+    /// Ends the stream, and returns what is left unfinished: `Nothing` after a line that was too long or after `NoMemory`.
     pub fn end(self) -> Rest
         ensures value { result ≡ Rattle.mc_proto.specs.Reader.rest_of self.state self.unread }
         ensures rest { (stream : List ℕ) (requests : List Request) → After self.limits self.state self.unread stream requests

@@ -4,16 +4,16 @@ ghost use Rattle.std.specs.Prelude.{◌≡◌, ◌∷◌, [], IfOk, IfErr};
 use mc_item::{ClassNo, Command, Key};
 use std::marker::Model;
 
-/// What bounds the requests of a reader.
+/// The limits by which a reader checks requests.
 #[derive(Clone, Copy, Debug, PartialEq, Eq)]
 pub struct Limits {
-    /// The size of the last slab class in bytes. A block that no class can hold is skipped.
+    /// The size of the last slab class, the largest, in bytes. A block that no class can hold is skipped.
     pub largest: u64,
     /// How many slab classes there are. They are numbered from 1.
     pub classes: u32,
 }
 
-/// Where the keys of a line are. One alone needs no memory but its own.
+/// The keys of a line. A single key needs no list.
 #[derive(Drop)]
 pub(crate) enum Listed {
     One(Key),
@@ -36,7 +36,7 @@ impl Model for Keys {
 }
 
 impl Keys {
-    /// The list of this key alone. It takes no memory.
+    /// Makes the list of one key. It takes no memory.
     pub fn one(key: Key) -> Keys
         ensures { result ≡ key ∷ [] }
     {
@@ -45,7 +45,7 @@ impl Keys {
         }
     }
 
-    /// The list of these keys. It takes no memory.
+    /// Makes the list of these keys. It takes no memory.
     pub fn from_vec(keys: Vec<Key>) -> Keys
         ensures { result ≡ keys.items }
     {
@@ -54,7 +54,7 @@ impl Keys {
         }
     }
 
-    /// The key that stands alone, or the list that the keys were made from. It takes no memory.
+    /// Returns the single key, or as an `Err` the list that the keys were made from. It takes no memory.
     pub fn into_one(self) -> Result<Key, Vec<Key>>
         ensures ok { IfOk result (λ key. self ≡ key ∷ []) }
         ensures err { IfErr result (λ keys. self ≡ keys.items) }
@@ -70,54 +70,54 @@ impl Keys {
 /// Which slab classes a directive names.
 #[derive(Clone, Copy, Debug, PartialEq, Eq)]
 pub enum Target {
-    /// Each class, in rising number.
+    /// All classes, in rising number.
     All,
-    /// This one.
+    /// One class, by its number.
     Class(ClassNo),
 }
 
 /// What is wrong with a line or its block.
 #[derive(Clone, Copy, Debug, PartialEq, Eq)]
 pub enum LineFault {
-    /// The line is empty, its verb is unknown, or it has another number of tokens than the verb wants.
+    /// The line is empty, its verb is unknown, or it has the wrong number of tokens.
     Error,
-    /// A token isn't what is due in its place.
+    /// A token is malformed or out of range, and neither `Delta` nor `Exptime` says so.
     Format,
-    /// The block of a storage line doesn't end in CR LF where its bytes end.
+    /// The bytes of a block aren't followed by CR LF.
     Chunk,
-    /// What `incr` or `decr` is to add or take is no number below 2^64.
+    /// The delta of `incr` or `decr` isn't a number below 2^64.
     Delta,
-    /// 65,537 bytes came without an LF. Nothing is read after them.
+    /// 65,537 bytes of a line came without an LF. Nothing is read after them.
     LineTooLong,
     /// The exptime of `touch` is malformed.
     Exptime,
 }
 
-/// A request. A quiet one is answered, and its reply isn't printed.
+/// A request. A quiet one is answered, but nothing is printed for it.
 #[derive(Drop)]
 pub enum Request {
-    /// `get`, and `gets`, whose reply has cas numbers.
+    /// `get`, or `gets` if `with_cas`: then the reply has cas numbers.
     Get { keys: Keys, with_cas: bool },
     /// Any other command.
     One { command: Command, quiet: bool },
-    /// A line or block that is refused.
+    /// A refused line or block.
     Bad { why: LineFault, quiet: bool },
-    /// The moment of all that follows, in seconds.
+    /// `%at`: the time of all that follows, in seconds.
     At(u64),
-    /// The next script begins.
+    /// `%next`: the next script begins.
     Next,
-    /// The maintainer's work on these classes.
+    /// `%juggle`: the LRU maintainer works on these classes.
     Juggle(Target),
-    /// The crawler's work on these classes.
+    /// `%crawl`: the crawler works on these classes.
     Crawl(Target),
-    /// The script ends.
+    /// `quit`: the script ends.
     Quit,
 }
 
-/// What an input ended in.
+/// What the end of an input left unfinished.
 #[derive(Clone, Copy, Debug, PartialEq, Eq)]
 pub enum Rest {
-    /// Nothing was left unfinished.
+    /// Nothing. This is also the answer after a line that was too long.
     Nothing,
     /// A line without its LF.
     Line,

@@ -1,4 +1,4 @@
-//! What lines often say: that they are refused, or that they are a whole command.
+//! What many lines say: a fault, or a whole command.
 ghost use Rattle.std.specs.Prelude.{◌≡◌, [], false, map};
 ghost use Rattle.mc_proto.specs.Grammar.{IsFine, closing};
 ghost use Rattle.mc_proto.specs.Table as table;
@@ -9,7 +9,7 @@ use crate::request::{LineFault, Request};
 use crate::state::Said;
 use mc_item::Command;
 
-/// A line that is refused, and not since it is too long.
+/// Returns what a refused line says. `LineTooLong` isn't allowed here, since it closes the reader.
 pub fn bad(why: LineFault, quiet: bool) -> Said
     requires { closing why ≡ false }
     ensures value { result ≡ table.bad why quiet }
@@ -18,7 +18,7 @@ pub fn bad(why: LineFault, quiet: bool) -> Said
     Said::Whole(Request::Bad { why, quiet })
 }
 
-/// An empty line, an unknown verb, or another number of tokens.
+/// Returns what an empty line, an unknown verb or a wrong number of tokens says. It is never quiet.
 pub fn no_line() -> Said
     ensures value { result ≡ table.no_line }
     ensures fine { (limits : Limits) → IsFine limits result }
@@ -26,7 +26,7 @@ pub fn no_line() -> Said
     bad(LineFault::Error, false)
 }
 
-/// A line of which a token isn't what is due, but for a delta and a new exptime.
+/// Returns what a line with a malformed token says, except for a delta and the exptime of `touch`.
 pub fn no_format(quiet: bool) -> Said
     ensures value { result ≡ table.bad faults.Format quiet }
     ensures fine { (limits : Limits) → IsFine limits result }
@@ -34,7 +34,7 @@ pub fn no_format(quiet: bool) -> Said
     bad(LineFault::Format, quiet)
 }
 
-/// A line that is a whole command.
+/// Returns what the line of a whole command says, quiet or not.
 pub fn one(quiet: bool, command: Command) -> Said
     ensures value { result ≡ table.one quiet command }
     ensures fine { (limits : Limits) → IsFine limits result }
@@ -42,7 +42,7 @@ pub fn one(quiet: bool, command: Command) -> Said
     Said::Whole(Request::One { command, quiet })
 }
 
-/// Whether the tokens behind those that are due make a line quiet; none where they may not stand there.
+/// Whether the tokens after those that are due make a line quiet: `false` for none, `true` for `noreply`, otherwise `None`.
 pub fn quiet_by(rest: &[&[u8]]) -> Option<bool>
     ensures { result ≡ table.quiet_of [] table.Noreply (map (λ t. t.now) rest.now) }
 {

@@ -1,5 +1,4 @@
-//! What a line asks for: a request with which a script goes on, or a `%next` in the place of a command, which begins the
-//! next script.
+//! What a line means for the cut into scripts: its script goes on, or the line is a `%next` that begins the next script.
 ghost use Rattle.std.specs.Prelude.{◌≡◌, true, IfOk};
 ghost use Rattle.mc_proto.specs.Grammar.{IsFine, wanted};
 ghost use Rattle.mc_proto.specs.Scripts as scripts;
@@ -13,14 +12,14 @@ use crate::token::line_end;
 use mc_item::NoMemory;
 use std::alloc::Global;
 
-/// What stands first in the bytes of a stream.
+/// What a stream begins with.
 #[derive(Drop)]
 pub enum First {
-    /// A request of so many bytes, with which a script goes on.
+    /// A request of this many bytes. The script goes on after it.
     More(usize),
-    /// A line of so many bytes, which begins the next script.
+    /// A line of this many bytes, which begins the next script.
     Begins(usize),
-    /// Part of a request, nothing, or a line that is too long: the script ends with the stream.
+    /// Part of a request, a line that is too long, or nothing: the script ends with the stream.
     Last,
 }
 
@@ -34,7 +33,7 @@ fn says_next(said: &Said) -> bool
     }
 }
 
-// How many bytes follow a line.
+// How many bytes follow a line: none, or its block with CR LF.
 fn block_len(said: &Said) -> usize
     requires { (limits : Limits) × IsFine limits said.now }
     ensures { result ≡ wanted said.now }
@@ -45,14 +44,14 @@ fn block_len(said: &Said) -> usize
     }
 }
 
-// Whether a line that begins with this byte is passed over without a look at the rest: most lines of most inputs are.
+// Whether a line that begins with this byte needn't be read: it has no block, and isn't `%next`. Most lines are such.
 fn is_plain(byte: u8) -> bool
     ensures { result ≡ true → scripts.IsPlain byte }
 {
     byte == b'd' || byte == b'g' || byte == b'i' || byte == b't'
 }
 
-// How many bytes it has.
+// How many bytes it has; 0 for `Last`.
 pub(crate) fn first_len(first: &First) -> usize
     ensures { result ≡ scripts.first_len first.now }
 {
@@ -62,8 +61,7 @@ pub(crate) fn first_len(first: &First) -> usize
     }
 }
 
-// What the first line of a stream asks for that begins with these bytes, however it goes on; none where no line ends in
-// them that isn't too long.
+// What the first line asks for in every stream that begins with these bytes. `None` if they are at most 65,536 without an LF.
 pub(crate) fn line_first(
     alloc: Global,
     limits: Limits,

@@ -1,4 +1,4 @@
-//! What a line says, and where a reader stands. Only contracts see these outside the crate.
+//! What a line says, and the state of a reader. Outside the crate, only contracts see these.
 use crate::request::Request;
 use mc_item::{Key, Verb};
 use std::marker::Model;
@@ -17,15 +17,15 @@ pub struct Start {
 /// What a line says.
 #[derive(Drop)]
 pub enum Said {
-    /// It is this request.
+    /// The line is this request.
     Whole(Request),
-    /// Its block is kept.
+    /// A block follows that is kept.
     Block(Start),
-    /// Its block is skipped, since no slab class can hold it.
+    /// A block follows that is skipped, since no slab class can hold it.
     Skip(Start),
 }
 
-/// The bytes of a block that came so far. Contracts see them as a list.
+/// The bytes of a block that have come so far. Contracts see them as a list.
 #[derive(Drop)]
 pub struct PartialBlock {
     pub(crate) bytes: Vec<u8>,
@@ -39,17 +39,17 @@ impl Model for PartialBlock {
     ghost view = { λ p. p.bytes.items };
 }
 
-/// What has come of the request that isn't whole yet.
+/// What has come of the request that isn't complete yet.
 #[derive(Drop)]
 pub enum State {
-    /// Part of a line, which stands beside this.
+    /// Part of a line, or nothing. The reader keeps its bytes beside the state.
     Line,
     /// A storage line, and these bytes of its block.
     Block(Start, PartialBlock),
-    /// A storage line, and of its block all but so many bytes.
+    /// A storage line whose block is skipped. This many bytes of the block are still to come.
     Skip(Start, u64),
-    /// A line that was too long: nothing is read any more.
+    /// A line was too long. Nothing more is read.
     Closed,
-    /// There was no memory.
+    /// Memory was refused. Nothing more is read.
     Failed,
 }

@@ -1,4 +1,4 @@
-//! The storage lines: set, add, replace and cas.
+//! Reads the storage lines: set, add, replace and cas.
 ghost use Rattle.std.specs.Prelude.{◌≡◌, ◌∷◌, [], ◌+◌, ◌<◌, ◌≤◌, IfOk, IfSome, length, map};
 ghost use Rattle.mc_item.specs.declared.command.Verb.TheVariants as verbs;
 ghost use Rattle.mc_proto.specs.{Grammar.IsFine, Table.row_says, Table.kinds_say, Table.Noreply};
@@ -8,17 +8,17 @@ ghost use Rattle.mc_proto.specs.Table as table;
 use crate::request::Limits;
 use crate::said::{no_format, no_line, quiet_by};
 use crate::state::{Said, Start};
-use crate::token::{exptime, key_of, number_up_to};
+use crate::token::{exptime, key_of_token, number_up_to};
 use mc_item::{Key, NoMemory, Verb};
 use std::alloc::Global;
 
-/// The largest number of bytes that a storage line may say, so that its block has at most 2^31 - 1.
+/// The most bytes that a storage line may announce. With its CR LF the block has at most 2^31 - 1.
 pub const MAX_BYTES: u64 = 2_147_483_645;
 
-/// The largest flags.
+/// The largest flags: 2^32 - 1.
 pub const MAX_FLAGS: u64 = 4_294_967_295;
 
-/// A good storage line: a block that no slab class can hold is skipped.
+/// Returns what a good storage line says. Its block is skipped if 64 bytes, the key and the value exceed the largest slab class.
 #[inline(always)]
 pub fn begun(limits: Limits, start: Start) -> Said
     requires { start.count ≤ 2147483645 }
@@ -32,7 +32,7 @@ pub fn begun(limits: Limits, start: Start) -> Said
     }
 }
 
-// A storage line with a good key, by the tokens of its three numbers.
+// What a storage line with a good key says, by the tokens of its flags, exptime and bytes.
 fn stored_said(
     limits: Limits,
     verb: Verb,
@@ -69,7 +69,7 @@ fn stored_said(
     )
 }
 
-/// The lines set, add and replace: key, flags, exptime and bytes.
+/// Reads the tokens after `set`, `add` or `replace`: key, flags, exptime and bytes, and perhaps noreply.
 pub fn store_line(
     alloc: Global,
     limits: Limits,
@@ -86,14 +86,14 @@ pub fn store_line(
     let Some(quiet) = quiet_by(rest) else {
         return Ok(no_line());
     };
-    let Some(key) = key_of(alloc, *key)? else {
+    let Some(key) = key_of_token(alloc, *key)? else {
         return Ok(no_format(quiet));
     };
     Ok(stored_said(limits, verb, key, *flags, *e, *count, quiet))
 }
 
-// A line cas with a good key, by the tokens of its four numbers.
-#[tactic(auto, using(crate::proofs::StorageLemmas::cas_without, crate::proofs::StorageLemmas::cas_with))]
+// What a line `cas` with a good key says, by the tokens of its four numbers.
+#[tactic(auto, using(crate::proofs::CasLineLemmas::cas_without, crate::proofs::CasLineLemmas::cas_with))]
 fn cas_said(
     limits: Limits,
     key: Key,
@@ -113,7 +113,7 @@ fn cas_said(
     stored_said(limits, Verb::Cas(unique), key, flags, e, count, quiet)
 }
 
-/// The line cas: key, flags, exptime, bytes and cas number.
+/// Reads the tokens after `cas`: key, flags, exptime, bytes and cas number, and perhaps noreply.
 pub fn cas_line(alloc: Global, limits: Limits, args: &[&[u8]]) -> Result<Said, NoMemory>
     ensures value { IfOk result (λ s. s ≡ row_says limits (kinds.Key ∷ kinds.Flags ∷ kinds.Exptime ∷ kinds.Bytes ∷ kinds.CasNumber ∷ []) Noreply
         (λ key flags e n unique. table.store limits (verbs.Cas unique) key flags e n) (map (λ t. t.now) args.now)) }
@@ -125,7 +125,7 @@ pub fn cas_line(alloc: Global, limits: Limits, args: &[&[u8]]) -> Result<Said, N
     let Some(quiet) = quiet_by(rest) else {
         return Ok(no_line());
     };
-    let Some(key) = key_of(alloc, *key)? else {
+    let Some(key) = key_of_token(alloc, *key)? else {
         return Ok(no_format(quiet));
     };
     Ok(cas_said(limits, key, *flags, *e, *count, *unique, quiet))

@@ -1,4 +1,4 @@
-//! What a part of a piece makes of where a reader stands.
+//! Takes the bytes of a piece line by line and block by block, and updates the reader's state.
 ghost use Rattle.std.specs.Prelude.{◌≡◌, ◌++◌, [], ◌+◌, ◌-◌, ◌<◌, ◌≤◌, ◌∷◌, ℕ, List, IfOk, OnOk, All, length, take, drop, nat_eq};
 ghost use Rattle.std.specs.Cmp.Lexicographic.{pointwise};
 ghost use Rattle.mc_item.specs.declared.command.Command.TheVariants as commands;
@@ -20,7 +20,7 @@ use std::mem;
 /// The longest line in bytes, without its LF.
 pub const MAX_LINE: usize = 65_536;
 
-// What a line says that lies in two pieces, of which the second has `front`.
+// What a line says whose beginning was kept in `line`, and whose end is `front`. Empties `line`.
 #[cold]
 #[inline(never)]
 fn said_behind(
@@ -39,7 +39,7 @@ fn said_behind(
     Ok(said)
 }
 
-// What a line says whose last bytes are `front`; a line that lies whole in one piece isn't copied.
+// What the line says that begins with `line` and ends with `front`. A line that lies whole in one piece isn't copied.
 #[inline(always)]
 fn said_at(
     alloc: Global,
@@ -57,7 +57,7 @@ fn said_at(
     said_behind(alloc, limits, line, front)
 }
 
-// Whether a block of so many bytes and two more ends with CR LF.
+// Whether a block of `count` bytes and two more ends with CR LF.
 #[inline(always)]
 fn ends_well(block: &[u8], count: usize) -> bool
     requires { length block.now ≡ count + 2 }
@@ -83,7 +83,7 @@ fn store(start: Start, value: Value) -> Request
     }
 }
 
-// The request of a block that does not end with CR LF.
+// The request of a block that doesn't end with CR LF.
 #[inline(always)]
 fn bad_chunk(start: Start) -> Request
     ensures { result ≡ Bad Chunk start.quiet }
@@ -94,7 +94,7 @@ fn bad_chunk(start: Start) -> Request
     }
 }
 
-// The request of a block that lies whole in a piece, which makes its value.
+// The request of a block that lies whole in a piece, from `begin` on. The value is made from the piece.
 #[inline(always)]
 fn stored_in<P: Piece>(
     alloc: Global,
@@ -115,7 +115,7 @@ fn stored_in<P: Piece>(
     Ok(store(start, value))
 }
 
-// The request of a block that pieces share. Its bytes become the value, without a copy.
+// The request of a block that lay in several pieces. Its bytes become the value, without a copy.
 fn stored_of(alloc: Global, start: Start, mut block: Vec<u8>) -> Result<Request, NoMemory>
     requires { length block.items ≡ start.count + 2 }
     ensures value { IfOk result (λ r. r ≡ stored start block.items) }
@@ -130,8 +130,8 @@ fn stored_of(alloc: Global, start: Start, mut block: Vec<u8>) -> Result<Request,
     Ok(store(start, value))
 }
 
-// Takes what a piece has of a block that begins in it, and says up to where. The value of one that lies whole in the piece
-// is made of the piece; of another one the room is taken at once.
+// Takes what a piece has of the block that starts at `begin`, and returns up to where. If the block isn't whole in the piece,
+// memory for all of it is taken at once.
 #[inline(always)]
 fn take_begun<P: Piece>(
     alloc: Global,
@@ -163,7 +163,8 @@ fn take_begun<P: Piece>(
     Ok(begin + wanted)
 }
 
-// Takes bytes of a line, up to its LF, and says how many.
+// Takes bytes of a line up to its LF, and those of a kept block after it. Returns how many bytes that were. If the line is too
+// long, the rest of the piece is taken.
 fn take_line<P: Piece>(
     alloc: Global,
     limits: Limits,
@@ -220,7 +221,7 @@ fn take_line<P: Piece>(
     }
 }
 
-// Takes bytes of a block that is kept, and says how many. Where it isn't whole, the state has it again.
+// Takes bytes of a block that is kept, and returns how many. If more are to come, the block goes back into the state.
 fn take_block(
     alloc: Global,
     state: &mut State,
@@ -251,7 +252,7 @@ fn take_block(
     Ok(wanted)
 }
 
-// Takes bytes of a block that is skipped, and says how many: only how many are to come is kept.
+// Takes bytes of a block that is skipped, and returns how many. The state keeps only how many are to come.
 fn take_skipped(
     state: &mut State,
     requests: &mut Vec<Request>,
@@ -284,8 +285,8 @@ fn take_skipped(
     Ok(left as usize)
 }
 
-/// Takes a part of a piece, up to the end of a line or a block, and says how many bytes that were. A request that
-/// became whole comes behind the others.
+/// Takes bytes of a piece up to the end of a line or a block, and returns how many, at least one. Appends the request that they
+/// complete, if any, to `requests`.
 pub fn take_part<P: Piece>(
     alloc: Global,
     limits: Limits,

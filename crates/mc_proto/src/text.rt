@@ -1,4 +1,4 @@
-//! The texts of replies.
+//! Writes the texts of replies, as `specs/Text.antt` defines them.
 ghost use Rattle.std.specs.Prelude.{◌≡◌, ◌++◌, ◌∷◌, [], ℕ, List, IfOk, OnOk, OnErr, length, take, codes, decimal, ◌<◌};
 ghost use Rattle.std.specs.List.{flat_map};
 ghost use Rattle.mc_proto.specs.Text as texts;
@@ -8,7 +8,7 @@ use itoa::Buffer;
 use mc_item::{Histogram, Key, Moves, NoMemory, Reply};
 use std::alloc::Global;
 
-// Adds parts of a text, all of them or none.
+// Appends all parts of a text, or nothing if memory is refused.
 fn push_parts(out: &mut Vec<u8>, parts: &[&[u8]]) -> Result<(), NoMemory>
     ensures ok { OnOk result (out.new.items ≡ out.old.items ++ flat_map (λ part. part.now) parts.now) }
     ensures err { OnErr result (out.new.items ≡ out.old.items) }
@@ -26,7 +26,7 @@ fn push_parts(out: &mut Vec<u8>, parts: &[&[u8]]) -> Result<(), NoMemory>
     Ok(())
 }
 
-// Adds a text whole or not at all. Within its callers, those of a known length are a few stores.
+// Appends a text whole or not at all. Inlined, since a text of a known length is then a few stores.
 #[inline(always)]
 fn push_text(out: &mut Vec<u8>, text: &[u8]) -> Result<(), NoMemory>
     ensures ok { OnOk result (out.new.items ≡ out.old.items ++ text.now) }
@@ -36,7 +36,7 @@ fn push_text(out: &mut Vec<u8>, text: &[u8]) -> Result<(), NoMemory>
     Ok(())
 }
 
-// Adds a number in a line of its own.
+// Appends a number and CR LF.
 fn push_number(out: &mut Vec<u8>, number: u64) -> Result<(), NoMemory>
     ensures ok { OnOk result (out.new.items ≡ out.old.items ++ (decimal number ++ texts.crlf)) }
     ensures err { OnErr result (out.new.items ≡ out.old.items) }
@@ -46,8 +46,8 @@ fn push_number(out: &mut Vec<u8>, number: u64) -> Result<(), NoMemory>
     push_parts(out, &[digits, b"\r\n".as_slice()])
 }
 
-/// Adds the text of a reply that stands alone. A value is printed behind its key (`push_value_head`, `push_value_tail`),
-/// and a miss not at all. After an `Err` nothing is added.
+/// Appends the text of a reply. A value and a miss add nothing: a value is printed with its key (`push_value_head`,
+/// `push_value_tail`). After `NoMemory` nothing is added.
 pub fn push_reply(out: &mut Vec<u8>, reply: &Reply) -> Result<(), NoMemory>
     ensures ok { OnOk result (out.new.items ≡ out.old.items ++ texts.reply_text reply.now) }
     ensures err { OnErr result (out.new.items ≡ out.old.items) }
@@ -78,7 +78,7 @@ pub fn push_reply(out: &mut Vec<u8>, reply: &Reply) -> Result<(), NoMemory>
     }
 }
 
-/// Adds the text of a refused line or block. After an `Err` nothing is added.
+/// Appends the text of a refused line or block. After `NoMemory` nothing is added.
 pub fn push_fault(out: &mut Vec<u8>, why: LineFault) -> Result<(), NoMemory>
     ensures ok { OnOk result (out.new.items ≡ out.old.items ++ texts.fault_text why) }
     ensures err { OnErr result (out.new.items ≡ out.old.items) }
@@ -99,7 +99,7 @@ pub fn push_fault(out: &mut Vec<u8>, why: LineFault) -> Result<(), NoMemory>
     }
 }
 
-/// Adds the end of the values of a `get`. After an `Err` nothing is added.
+/// Appends the `END` of a `get`. After `NoMemory` nothing is added.
 pub fn push_end(out: &mut Vec<u8>) -> Result<(), NoMemory>
     ensures ok { OnOk result (out.new.items ≡ out.old.items ++ texts.end_text) }
     ensures err { OnErr result (out.new.items ≡ out.old.items) }
@@ -107,7 +107,7 @@ pub fn push_end(out: &mut Vec<u8>) -> Result<(), NoMemory>
     push_text(out, b"END\r\n".as_slice())
 }
 
-/// Adds a value's text up to its key: `VALUE` and the key. After an `Err` nothing is added.
+/// Appends the beginning of a value's text: `VALUE` and the key. After `NoMemory` nothing is added.
 #[inline(always)]
 pub fn push_value_head(out: &mut Vec<u8>, key: &[u8]) -> Result<(), NoMemory>
     ensures ok { OnOk result (out.new.items ≡ out.old.items ++ texts.value_head key.now) }
@@ -124,7 +124,7 @@ pub fn push_value_head(out: &mut Vec<u8>, key: &[u8]) -> Result<(), NoMemory>
     }
 }
 
-// Adds the flags 0 and a length of at most three digits, in the rest of a line: one text, whose digits need no buffer.
+// Appends the rest of a `VALUE` line with flags 0 and a length below 1,000. It is one text, and its digits need no buffer.
 #[inline(always)]
 fn push_short_line(out: &mut Vec<u8>, len: usize) -> Result<(), NoMemory>
     requires short { len < 1000 }
@@ -144,7 +144,7 @@ fn push_short_line(out: &mut Vec<u8>, len: usize) -> Result<(), NoMemory>
     push_text(out, &[b' ', b'0', b' ', first, tens, last, b'\r', b'\n'])
 }
 
-// Adds what stands between a value's key and its bytes, without a cas number; flags of 0 and a short length are usual.
+// Appends the rest of a `VALUE` line without a cas number. The usual flags of 0 and a short length are written faster.
 #[inline(always)]
 fn push_plain_line(out: &mut Vec<u8>, flags: u32, len: usize) -> Result<(), NoMemory>
     ensures ok { OnOk result (out.new.items ≡ out.old.items ++ (codes " " ++ decimal flags ++ codes " " ++ decimal len ++ texts.crlf)) }
@@ -156,7 +156,7 @@ fn push_plain_line(out: &mut Vec<u8>, flags: u32, len: usize) -> Result<(), NoMe
     push_value_line(out, flags, len, 0, false)
 }
 
-// Adds a value in the rest of a line. After an `Err` a part of it may stand behind the rest.
+// Appends a value and CR LF. After `NoMemory` a part of the value may have been added.
 #[inline(always)]
 fn push_line(out: &mut Vec<u8>, value: &[u8]) -> Result<(), NoMemory>
     ensures ok { OnOk result (out.new.items ≡ out.old.items ++ (value.now ++ texts.crlf)) }
@@ -166,7 +166,7 @@ fn push_line(out: &mut Vec<u8>, value: &[u8]) -> Result<(), NoMemory>
     push_text(out, b"\r\n".as_slice())
 }
 
-// Adds a value after its key, without a cas number.
+// Appends what follows the key in a value's text, without a cas number.
 fn push_plain_tail(out: &mut Vec<u8>, flags: u32, value: &[u8]) -> Result<(), NoMemory>
     ensures ok { OnOk result (out.new.items ≡ out.old.items ++ (codes " " ++ decimal flags ++ codes " " ++ decimal (length value.now) ++ texts.crlf ++ value.now
         ++ texts.crlf)) }
@@ -183,7 +183,7 @@ fn push_plain_tail(out: &mut Vec<u8>, flags: u32, value: &[u8]) -> Result<(), No
     }
 }
 
-// Adds a value after its key, with its cas number.
+// Appends what follows the key in a value's text, with its cas number.
 fn push_cas_tail(out: &mut Vec<u8>, flags: u32, value: &[u8], cas: u64) -> Result<(), NoMemory>
     ensures ok { OnOk result (out.new.items ≡ out.old.items ++ (codes " " ++ decimal flags ++ codes " " ++ decimal (length value.now) ++ codes " "
         ++ decimal cas ++ texts.crlf ++ value.now ++ texts.crlf)) }
@@ -203,8 +203,7 @@ fn push_cas_tail(out: &mut Vec<u8>, flags: u32, value: &[u8], cas: u64) -> Resul
     )
 }
 
-/// Adds what stands between a value's key and its bytes: flags, number of bytes, and with `gets` the cas number. After an
-/// `Err` nothing is added.
+/// Appends the rest of a `VALUE` line: flags, number of bytes, and for `gets` the cas number. After `NoMemory` nothing is added.
 pub(crate) fn push_value_line(
     out: &mut Vec<u8>,
     flags: u32,
@@ -231,11 +230,11 @@ pub(crate) fn push_value_line(
     }
 }
 
-// More bytes than a value's text has round the value, with the end of a get. Room for all is made before the first
-// part, so that a long text grows at most once and isn't copied with the value in it.
+// More bytes than a value's text has around the value, with the `END` of a get. Room for all of it is made first, so that a long
+// text grows at most once, and isn't copied with the value in it.
 const AROUND: usize = 64;
 
-// Makes room for n more bytes. A text that has to move takes what it holds along, and not its whole old room.
+// Makes room for `n` more bytes. If the text has to move, only its bytes are copied, and not its unused room.
 #[inline(always)]
 fn make_room(out: &mut Vec<u8>, n: usize) -> Result<(), NoMemory>
     ensures { out.new.items ≡ out.old.items }
@@ -250,8 +249,8 @@ fn make_room(out: &mut Vec<u8>, n: usize) -> Result<(), NoMemory>
     Ok(())
 }
 
-/// Adds a value's text behind its key: flags, number of bytes, with `gets` the cas number, and the value in a line of
-/// its own. Nothing for any other reply. After an `Err` nothing is added.
+/// Appends what follows the key in a value's text: flags, number of bytes, for `gets` the cas number, then the value in a line of
+/// its own. Other replies add nothing. After `NoMemory` nothing is added.
 #[inline(always)]
 pub fn push_value_tail(out: &mut Vec<u8>, reply: &Reply, with_cas: bool) -> Result<(), NoMemory>
     ensures ok { OnOk result (out.new.items ≡ out.old.items ++ texts.value_tail reply.now with_cas) }
@@ -269,7 +268,7 @@ pub fn push_value_tail(out: &mut Vec<u8>, reply: &Reply, with_cas: bool) -> Resu
     }
 }
 
-/// The text of a reply that stands alone; empty for a value or a miss.
+/// Returns the text of a reply; empty for a value or a miss. *Errors*: `NoMemory` if memory is refused.
 pub fn reply_text(alloc: Global, reply: &Reply) -> Result<Vec<u8>, NoMemory>
     ensures { IfOk result (λ text. text.items ≡ texts.reply_text reply.now) }
 {
@@ -278,7 +277,7 @@ pub fn reply_text(alloc: Global, reply: &Reply) -> Result<Vec<u8>, NoMemory>
     Ok(out)
 }
 
-/// The text of a key of `get`, or of `gets` with the cas number; empty where the reply is no value.
+/// Returns a key's text for `get`, or `gets` if `with_cas`; empty without a value. *Errors*: `NoMemory` if memory is refused.
 pub fn value_text(
     alloc: Global,
     key: &Key,
@@ -295,7 +294,7 @@ pub fn value_text(
     Ok(out)
 }
 
-/// The text of a refused line or block.
+/// Returns the text of a refused line or block. *Errors*: `NoMemory` if memory is refused.
 pub fn fault_text(alloc: Global, why: LineFault) -> Result<Vec<u8>, NoMemory>
     ensures { IfOk result (λ text. text.items ≡ texts.fault_text why) }
 {
@@ -304,7 +303,7 @@ pub fn fault_text(alloc: Global, why: LineFault) -> Result<Vec<u8>, NoMemory>
     Ok(out)
 }
 
-/// Adds the text of `%juggle`: how many entries were reclaimed, and how many moved. After an `Err` nothing is added.
+/// Appends the text of `%juggle`: how many entries were reclaimed, and how many moved. After `NoMemory` nothing is added.
 pub fn push_moves(out: &mut Vec<u8>, moves: &Moves) -> Result<(), NoMemory>
     ensures ok { OnOk result (out.new.items ≡ out.old.items ++ texts.moves_text moves.now) }
     ensures err { OnErr result (out.new.items ≡ out.old.items) }
@@ -325,7 +324,7 @@ pub fn push_moves(out: &mut Vec<u8>, moves: &Moves) -> Result<(), NoMemory>
     )
 }
 
-/// The text of `%juggle`: how many entries were reclaimed, and how many moved.
+/// Returns the text of `%juggle`: how many entries were reclaimed, and how many moved. *Errors*: `NoMemory` if memory is refused.
 pub fn moves_text(alloc: Global, moves: &Moves) -> Result<Vec<u8>, NoMemory>
     ensures { IfOk result (λ text. text.items ≡ texts.moves_text moves.now) }
 {
@@ -334,7 +333,7 @@ pub fn moves_text(alloc: Global, moves: &Moves) -> Result<Vec<u8>, NoMemory>
     Ok(out)
 }
 
-// Adds a word, a space before it, and a number behind it.
+// Appends the bytes `before`, then a number.
 fn push_count(out: &mut Vec<u8>, before: &[u8], number: u64) -> Result<(), NoMemory>
     ensures ok { OnOk result (out.new.items ≡ out.old.items ++ (before.now ++ decimal number)) }
     ensures err { OnErr result (out.new.items ≡ out.old.items) }
@@ -343,7 +342,7 @@ fn push_count(out: &mut Vec<u8>, before: &[u8], number: u64) -> Result<(), NoMem
     push_parts(out, &[before, buffer.format(number).as_bytes()])
 }
 
-// Adds the first line of a histogram's text.
+// Appends the first line of a histogram's text.
 fn push_counts(out: &mut Vec<u8>, h: &Histogram) -> Result<(), NoMemory>
     ensures ok { OnOk result (out.new.items ≡ out.old.items ++ texts.counts_text h.now) }
 {
@@ -356,7 +355,7 @@ fn push_counts(out: &mut Vec<u8>, h: &Histogram) -> Result<(), NoMemory>
     push_text(out, b"\r\n".as_slice())
 }
 
-// Adds the line of a minute, unless no entry has it to live.
+// Appends the line of a minute: how many entries have that many minutes left. Adds nothing if that is 0.
 fn push_minute(out: &mut Vec<u8>, minute: u64, n: u64) -> Result<(), NoMemory>
     ensures ok { OnOk result (out.new.items ≡ out.old.items ++ texts.minute_text minute n) }
 {
@@ -368,7 +367,7 @@ fn push_minute(out: &mut Vec<u8>, minute: u64, n: u64) -> Result<(), NoMemory>
     push_text(out, b"\r\n".as_slice())
 }
 
-// Adds the lines of the minutes.
+// Appends the lines of all minutes.
 fn push_minutes(out: &mut Vec<u8>, minutes: &[u64]) -> Result<(), NoMemory>
     ensures ok { OnOk result (out.new.items ≡ out.old.items ++ texts.minutes_text 0 minutes.now) }
 {
@@ -378,7 +377,8 @@ fn push_minutes(out: &mut Vec<u8>, minutes: &[u64]) -> Result<(), NoMemory>
     Ok(())
 }
 
-/// The text of `%crawl`: a line of counts, one for each minute that entries have to live, and the end.
+/// Returns the text of `%crawl`: a line of counts, a line for each whole minute that entries have left to live, and `END`.
+/// *Errors*: `NoMemory` if memory is refused.
 pub fn histogram_text(alloc: Global, h: &Histogram) -> Result<Vec<u8>, NoMemory>
     ensures { IfOk result (λ text. text.items ≡ texts.histogram_text h.now) }
 {
@@ -389,8 +389,7 @@ pub fn histogram_text(alloc: Global, h: &Histogram) -> Result<Vec<u8>, NoMemory>
     Ok(out)
 }
 
-/// Adds the text of `%crawl`: a line of counts, one for each minute that entries have to live, and the end. After an
-/// `Err` nothing is added.
+/// Appends the text of `%crawl`, as `histogram_text` returns it. After `NoMemory` nothing is added.
 pub fn push_histogram(out: &mut Vec<u8>, h: &Histogram) -> Result<(), NoMemory>
     ensures ok { OnOk result (out.new.items ≡ out.old.items ++ texts.histogram_text h.now) }
     ensures err { OnErr result (out.new.items ≡ out.old.items) }

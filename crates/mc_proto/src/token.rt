@@ -1,4 +1,4 @@
-//! The tokens of a line, and what they say.
+//! Finds the tokens of a line, and reads keys and numbers.
 ghost use Rattle.std.specs.Prelude.{◌≡◌, ◌+◌, ◌-◌, ◌<◌, ◌≤◌, ◌^◌, ◌++◌, ℕ, IfOk, IfSome, IsTrue, All, MatchOption, length, take, drop, get_or, map, ◌∷◌, [], ℤ};
 ghost use Rattle.std.specs.Prelude.{List, Some, true, pos};
 ghost use Rattle.std.specs.List.{list_all};
@@ -10,7 +10,7 @@ use mc_item::{Key, KeyFault, NoMemory, number_of};
 use memchr::memchr;
 use std::alloc::{AllocError, Global};
 
-/// The index of the first LF, or the length where there is none.
+/// Returns the index of the first LF, or the length if there is no LF.
 pub fn line_end(bytes: &[u8]) -> usize
     ensures within { result ≤ length bytes.now }
     ensures before { Lacks 10 (take result bytes.now) }
@@ -22,8 +22,8 @@ pub fn line_end(bytes: &[u8]) -> usize
     }
 }
 
-// The index of the first space, or the length where there is none. It stays a loop of its own: within its callers each
-// turn would count a dozen numbers on.
+// The index of the first space, or the length if there is no space. Not inlined: in its callers the loop would count up a dozen
+// numbers in each round.
 #[inline(never)]
 fn token_end(bytes: &[u8]) -> usize
     ensures within { result ≤ length bytes.now }
@@ -38,7 +38,7 @@ fn token_end(bytes: &[u8]) -> usize
     bytes.len()
 }
 
-// The index of the first byte that is no space, or the length where there is none.
+// The index of the first byte other than a space, or the length if all are spaces.
 fn spaces_end(bytes: &[u8]) -> usize
     ensures within { result ≤ length bytes.now }
     ensures before { tokens (drop result bytes.now) ≡ tokens bytes.now }
@@ -52,7 +52,7 @@ fn spaces_end(bytes: &[u8]) -> usize
     bytes.len()
 }
 
-/// The line without one CR at its end.
+/// Returns the line without one CR at its end.
 pub fn without_cr(line: &[u8]) -> &[u8]
     ensures { result.now ≡ lines.no_cr line.now }
 {
@@ -64,7 +64,7 @@ pub fn without_cr(line: &[u8]) -> &[u8]
     }
 }
 
-/// The first token, and what comes after it.
+/// Returns the first token and what follows it, or `None` if the line has no token.
 #[inline(always)]
 pub fn next_token(line: &[u8]) -> Option<(&[u8], &[u8])>
     ensures { MatchOption result (tokens line.now ≡ []) (λ x. (tokens line.now ≡ x.0.now ∷ tokens x.1.now) × (length x.1.now < length line.now)) }
@@ -79,7 +79,7 @@ pub fn next_token(line: &[u8]) -> Option<(&[u8], &[u8])>
     }
 }
 
-/// The first tokens of a line, eight at most: how many, and what comes after them. They take no memory.
+/// Writes the first tokens of a line, at most eight, into `few`. Returns how many they are and what follows. It takes no memory.
 pub fn first_tokens<'a>(line: &'a [u8], few: &mut [&'a [u8]; 8]) -> (usize, &'a [u8])
     ensures within { result.0 ≤ 8 }
     ensures tokens { map (λ t. t.now) (take result.0 few.new) ++ tokens result.1.now ≡ tokens line.now }
@@ -97,7 +97,7 @@ pub fn first_tokens<'a>(line: &'a [u8], few: &mut [&'a [u8]; 8]) -> (usize, &'a 
     (8, rest)
 }
 
-/// These tokens, and those of the rest of a line.
+/// Returns the tokens in `first`, then those of `line`.
 pub fn more_tokens<'a>(
     alloc: Global,
     first: &[&'a [u8]],
@@ -115,10 +115,10 @@ pub fn more_tokens<'a>(
     Ok(found)
 }
 
-/// The key that a token is, if it can be one.
+/// Returns the key that a token is, or `None` if it can't be one.
 #[inline(always)]
-pub fn key_of(alloc: Global, token: &[u8]) -> Result<Option<Key>, NoMemory>
-    ensures { IfOk result (λ key. key ≡ lines.key_of token.now) }
+pub fn key_of_token(alloc: Global, token: &[u8]) -> Result<Option<Key>, NoMemory>
+    ensures { IfOk result (λ key. key ≡ lines.key_of_token token.now) }
 {
     match Key::of(alloc, token) {
         Ok(key) => Ok(Some(key)),
@@ -129,7 +129,7 @@ pub fn key_of(alloc: Global, token: &[u8]) -> Result<Option<Key>, NoMemory>
     }
 }
 
-// The number of a token of 1 to 18 digits.
+// The number of a token, if it has 1 to 18 digits.
 fn number(token: &[u8]) -> Option<u64>
     ensures value { result ≡ lines.number 18 token.now }
     ensures bound { IfSome result (λ n. n < 10 ^ 18) }
@@ -140,7 +140,7 @@ fn number(token: &[u8]) -> Option<u64>
     number_of(token)
 }
 
-/// The number of a token of 1 to 20 digits, where it is at most `limit`.
+/// Returns the number of a token of 1 to 20 digits, if it is at most `limit`.
 pub fn number_up_to(limit: u64, token: &[u8]) -> Option<u64>
     ensures value { result ≡ lines.number_up_to limit token.now }
     ensures bound { IfSome result (λ n. n ≤ limit) }
@@ -152,7 +152,7 @@ pub fn number_up_to(limit: u64, token: &[u8]) -> Option<u64>
     if number <= limit { Some(number) } else { None }
 }
 
-// The number that the digits spell with which the bytes begin, 18 at most, and how many they are.
+// The number of the digits at the front of the bytes, at most 18 of them, and how many digits they are.
 #[inline(always)]
 fn digits_front(bytes: &[u8]) -> (u64, usize)
     ensures within { result.1 ≤ length bytes.now }
@@ -171,7 +171,7 @@ fn digits_front(bytes: &[u8]) -> (u64, usize)
     (number, bytes.len())
 }
 
-// Whether a space or nothing follows so many bytes.
+// Whether a space or nothing follows the first `count` bytes.
 #[inline(always)]
 fn ends_token(bytes: &[u8], count: usize) -> bool
     ensures { result ≡ true → count < length bytes.now → get_or bytes.now count 0 ≡ 32 }
@@ -183,8 +183,7 @@ fn ends_token(bytes: &[u8], count: usize) -> bool
     }
 }
 
-/// The number that the first token of a line is, where it has 1 to 18 digits, and what comes after it. Of other
-/// lines nothing is said.
+/// Returns the number of the first token, if that has 1 to 18 digits, and what follows. `None` says nothing about the line.
 #[inline(always)]
 pub fn next_number(line: &[u8]) -> Option<(u64, &[u8])>
     ensures { IfSome result (λ x. (t : List ℕ) × (tokens line.now ≡ t ∷ tokens x.1.now) × (lines.number 20 t ≡ Some x.0) × (lines.exptime t ≡ Some (pos x.0))
@@ -202,7 +201,7 @@ pub fn next_number(line: &[u8]) -> Option<(u64, &[u8])>
     Some((number, rest.split_at(end).1))
 }
 
-/// The exptime of a token, in seconds: an optional '-', and 1 to 18 digits.
+/// Returns the exptime of a token in seconds, if the token is an optional '-' and 1 to 18 digits.
 pub fn exptime(token: &[u8]) -> Option<i64>
     ensures { result ≡ lines.exptime token.now }
 {

@@ -1,4 +1,4 @@
-//! An input in pieces, of which the bytes are passed in order, and those passed are taken away as pieces of their own.
+//! An input in pieces, while it is cut. Its bytes are *passed* in order, and then taken as pieces of their own.
 ghost use Rattle.std.specs.Prelude.{◌≡◌, ◌-◌, ◌<◌, ◌≤◌, ◌++◌, ℕ, List, [], IfOk, OnOk, true, false, length, take, drop};
 ghost use Rattle.std.specs.{VecDeque.deque_len, List.flat_map};
 ghost use Rattle.mc_proto.specs.Lines.{Lacks, LacksNext};
@@ -12,7 +12,7 @@ use std::collections::VecDeque;
 use std::marker::Model;
 use std::mem;
 
-/// An input in pieces. Contracts see the bytes that were passed since some were taken last, and those that come.
+/// An input in pieces. Contracts see the bytes that were passed since the last `take`, and the bytes that are coming.
 #[derive(Drop)]
 pub struct Uncut {
     done: VecDeque<Vec<u8>>,
@@ -34,7 +34,7 @@ impl Model for Uncut {
     ghost invariant = { λ u. (u.begin ≤ u.at) × (u.at ≤ length u.piece.items) };
 }
 
-// Whether pieces have so many bytes.
+// Whether the pieces have at least `count` bytes.
 fn hold(pieces: &VecDeque<Vec<u8>>, count: usize) -> bool
     ensures yes { result ≡ true → count ≤ length (flat_map (λ p. p.items) pieces.now.items) }
     ensures no { result ≡ false → length (flat_map (λ p. p.items) pieces.now.items) < count }
@@ -49,7 +49,7 @@ fn hold(pieces: &VecDeque<Vec<u8>>, count: usize) -> bool
     missing == 0
 }
 
-// The beginning of a line, and what pieces have of it: its whole rest, as much as no line can have, or all of them.
+// A copy of a line's beginning and of its rest in the pieces. It ends in LF, or exceeds what a line can have, or has all pieces.
 fn line_on(alloc: Global, begin: &[u8], pieces: &VecDeque<Vec<u8>>) -> Result<Vec<u8>, NoMemory>
     ensures { IfOk result (λ line. (more : List ℕ) × (begin.now ++ flat_map (λ p. p.items) pieces.now.items ≡ line.items ++ more)
         × (Lacks 10 line.items → length line.items ≤ 65536 → more ≡ [])) }
@@ -69,7 +69,7 @@ fn line_on(alloc: Global, begin: &[u8], pieces: &VecDeque<Vec<u8>>) -> Result<Ve
     Ok(line)
 }
 
-// The next piece, or an empty one where none is left.
+// Takes the first piece, or returns an empty one if none is left.
 fn next_of(alloc: Global, pieces: &mut VecDeque<Vec<u8>>) -> Vec<u8>
     ensures all { flat_map (λ p. p.items) pieces.old.items ≡ result.items ++ flat_map (λ p. p.items) pieces.new.items }
     ensures fewer { deque_len pieces.new ≡ deque_len pieces.old - 1 }
@@ -80,7 +80,7 @@ fn next_of(alloc: Global, pieces: &mut VecDeque<Vec<u8>>) -> Vec<u8>
     }
 }
 
-// A piece without its first bytes. It is copied only where there are some.
+// A piece without its first `begin` bytes. It is copied only if `begin` isn't 0.
 fn piece_from(alloc: Global, piece: Vec<u8>, begin: usize) -> Result<Vec<u8>, NoMemory>
     requires { begin ≤ length piece.items }
     ensures { IfOk result (λ v. v.items ≡ drop begin piece.items) }
@@ -92,7 +92,7 @@ fn piece_from(alloc: Global, piece: Vec<u8>, begin: usize) -> Result<Vec<u8>, No
 }
 
 impl Uncut {
-    /// All of an input comes.
+    /// Returns an input of which no byte is passed yet.
     pub fn new(alloc: Global, input: VecDeque<Vec<u8>>) -> Uncut
         ensures passed { result.passed ≡ [] }
         ensures coming { result.coming ≡ flat_map (λ p. p.items) input.items }
@@ -108,14 +108,14 @@ impl Uncut {
         }
     }
 
-    /// The bytes that come and lie in the piece that was reached.
+    /// Returns the coming bytes of the current piece.
     pub fn window(&self) -> &[u8]
         ensures { (more : List ℕ) × (self.now.coming ≡ result.now ++ more) }
     {
         self.piece.as_slice().split_at(self.at).1
     }
 
-    /// Whether so many bytes come.
+    /// Says whether at least `count` bytes are coming.
     pub fn has(&self, count: usize) -> bool
         ensures yes { result ≡ true → count ≤ length self.now.coming }
         ensures no { result ≡ false → length self.now.coming < count }
@@ -127,8 +127,7 @@ impl Uncut {
         hold(&self.rest, count - here)
     }
 
-    /// A copy of the bytes that come, up to the end of a line or a piece: they have a line's end, or more bytes than a
-    /// line can have, or they are all.
+    /// Returns a copy of the first coming bytes. They have an LF, or exceed what a line can have, or are all that is coming.
     pub fn line(&self, alloc: Global) -> Result<Vec<u8>, NoMemory>
         ensures { IfOk result (λ line. (more : List ℕ) × (self.now.coming ≡ line.items ++ more)
             × (Lacks 10 line.items → length line.items ≤ 65536 → more ≡ [])) }
@@ -136,7 +135,7 @@ impl Uncut {
         line_on(alloc, self.piece.as_slice().split_at(self.at).1, &self.rest)
     }
 
-    /// Whether no `%` of the bytes that come stands straight before an `n`.
+    /// Says whether no `%` of the coming bytes is directly followed by an `n`.
     pub fn lacks_next(&self) -> bool
         ensures lacks { result ≡ true → LacksNext self.now.coming }
         ensures has { LacksNext self.now.coming → result ≡ true }
@@ -148,7 +147,7 @@ impl Uncut {
         pieces_lack_next(ends_with_percent(false, here), &self.rest)
     }
 
-    /// Passes so many bytes. Where a piece ends among them, the next one is reached.
+    /// Passes `count` bytes, which may lie in several pieces.
     pub fn pass(&mut self, alloc: Global, count: usize) -> Result<(), NoMemory>
         requires { count ≤ length self.old.coming }
         ensures passed { OnOk result (self.new.passed ≡ self.old.passed ++ take count self.old.coming) }
@@ -166,8 +165,8 @@ impl Uncut {
         Ok(())
     }
 
-    /// Takes the bytes that were passed, as pieces: those of which the last byte was passed, whole or without the bytes
-    /// taken before, and a copy of what was passed of the piece that was reached.
+    /// Takes the passed bytes as pieces. A piece before the current one is moved, unless a part of it was taken earlier. The
+    /// passed bytes of the current piece are copied.
     pub fn take(&mut self, alloc: Global) -> Result<VecDeque<Vec<u8>>, NoMemory>
         ensures taken { IfOk result (λ v. flat_map (λ p. p.items) v.items ≡ self.old.passed) }
         ensures none { OnOk result (self.new.passed ≡ []) }
@@ -180,7 +179,7 @@ impl Uncut {
         Ok(mem::replace(&mut self.done, VecDeque::new(alloc)))
     }
 
-    /// Takes the bytes that were passed, and all that come behind them.
+    /// Takes the passed bytes and all that are coming, as pieces.
     pub fn take_all(self, alloc: Global) -> Result<VecDeque<Vec<u8>>, NoMemory>
         ensures { IfOk result (λ v. flat_map (λ p. p.items) v.items ≡ self.passed ++ self.coming) }
     {

@@ -1,4 +1,4 @@
-//! What a line says by its verb and the tokens behind it: the verbs are tried in the table's order, at most five in a function.
+//! Reads a line by its verb and the tokens after it. The verbs are tried in the table's order, at most five in a function.
 ghost use Rattle.std.specs.Prelude.{◌≡◌, IfOk, drop, map};
 ghost use Rattle.mc_proto.specs.{Grammar.IsFine, Table.rows_say, Table.tokens_say};
 ghost use Rattle.mc_proto.specs.Table as table;
@@ -13,7 +13,7 @@ use crate::storage::{cas_line, store_line};
 use mc_item::{NoMemory, Verb};
 use std::alloc::Global;
 
-// What a line says by the rows from %at on: the directives and quit.
+// What a line says by the table's rows from `%at` on: the directives and quit.
 #[cold]
 #[inline(never)]
 fn line_from_at(limits: Limits, verb: &[u8], args: &[&[u8]]) -> Said
@@ -35,7 +35,7 @@ fn line_from_at(limits: Limits, verb: &[u8], args: &[&[u8]]) -> Said
     }
 }
 
-// What a line says by the rows from incr on.
+// What a line says by the table's rows from `incr` on.
 fn line_from_incr(
     alloc: Global,
     limits: Limits,
@@ -58,7 +58,7 @@ fn line_from_incr(
     }
 }
 
-// What a line says by the rows from set on.
+// What a line says by the table's rows from `set` on.
 #[inline(never)]
 fn line_from_set(
     alloc: Global,
@@ -82,7 +82,7 @@ fn line_from_set(
     }
 }
 
-// What a line says by all rows.
+// What a line says by all rows of the table.
 #[inline(always)]
 fn line_from_get(
     alloc: Global,
@@ -102,7 +102,7 @@ fn line_from_get(
     }
 }
 
-/// What the tokens of a line say.
+/// Returns what the tokens of a line say. The first one is the verb.
 #[inline(always)]
 pub fn tokens_said(alloc: Global, limits: Limits, tokens: &[&[u8]]) -> Result<Said, NoMemory>
     ensures value { IfOk result (λ s. s ≡ tokens_say limits (map (λ t. t.now) tokens.now)) }

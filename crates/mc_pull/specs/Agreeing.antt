@@ -1,4 +1,4 @@
--- That steps on a class and a stripe keep what their histories are of each other.
+-- How steps on a class and a stripe keep histories in agreement.
 use Rattle.std.specs.Prelude.{ℕ, ◌≡◌, ◌≢◌, List, Some, slice_get}
 use Rattle.mc_item.specs.declared.{class_event.ClassEvent.ClassEvent, item.ClassNo.ClassNo, item.Who.Who, reply.Room.Room}
 use Rattle.mc_item.specs.declared.class_event.ClassEvent.TheVariants as events
@@ -12,23 +12,23 @@ use Rattle.mc_pull.specs.{Lent.OfEachClass, Lent.EachPair, Perform.Call}
 abbrev pub AgreeNow : ClassView → Stripe → Type 0
 AgreeNow c s = Agree s.site c.rule c.number s.history c.history
 
--- the histories agree still, where they agreed before: the class's with the stripe's, and each other class's, which gained nothing
+-- the stripe's history still agrees with this class's, if it did before, and so with the unchanged history of each other class
 pub record KeepsAgreement (c c_new : ClassView) (s s_new : Stripe) : Type 0 where
   pub own : AgreeNow c s → AgreeNow c_new s_new
   pub others : (other : ClassNo) (rule : Rule) (history : List ClassEvent) → other ≢ c.number → Agree s.site rule other s.history history
       → Agree s.site rule other s_new.history history
 
--- a refusal of this class that a room names is an event of this caller's call in the class's history
+-- if the room names a refusal by this class, the class's history has it at that place, by this caller's call
 abbrev pub HasRefusal : Who → Room → ClassNo → List ClassEvent → Type 0
 HasRefusal who room class history =
     (place : ℕ) → room ≡ rooms.Refused class place → slice_get history place ≡ Some (events.Refused (record { who = who }))
 
--- a number is that of none of these classes
+-- none of these classes has this number
 abbrev pub IsApart : ClassNo → List ClassView → Type 0
 IsApart number vs = OfEachClass (λ v. number ≢ v.number) vs
 
--- the histories agree still after a call: that of each lent class with the stripe's, and that of each other class, which
--- gained nothing and has the refusal that the call's room may name
+-- the stripe's history still agrees, if it did before, with each lent class's, and with other classes' unchanged histories that
+-- have the refusal the room may name
 pub record KeepsAgreements (c : Call) (s s_new : Stripe) (vs ws : List ClassView) : Type 0 where
   pub own : EachPair (λ v w. AgreeNow v s → AgreeNow w s_new) vs ws
   pub others : (other : ClassNo) (rule : Rule) (history : List ClassEvent) → IsApart other vs → HasRefusal c.who c.room other history

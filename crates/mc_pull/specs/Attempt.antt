@@ -15,55 +15,54 @@ use Rattle.mc_pull.specs.{Agreeing.AgreeNow, Agreeing.KeepsAgreements, Lent.AreD
 use Rattle.mc_pull.specs.Parts.{hit_part, is_here, is_warming, entry_number, part_for, places_of}
 use Rattle.mc_pull.specs.{Performed.IsPerformed, Performed.IsUntouched, Sight.KeepsSights}
 
--- a chunk is free
+-- the class has a free chunk
 abbrev pub HasFree : ClassView → Type 0
 HasFree v = count_of (lists_of v.history) < v.chunks
 
--- the room that a class gives: its next link where a chunk is free; else the refusal that it noted for this call, where it did
+-- a class gives this room: its next link if a chunk is free, the refusal that it noted of this call, or nothing if neither
 abbrev pub GivesHome : ClassView → Option ℕ → Who → Room → Type 0
 GivesHome v refused who (rooms.At link) = (link ≡ record { class = v.number; number = entries_linked v.history }) × HasFree v
 GivesHome v refused who (rooms.Refused class place) =
     (class ≡ v.number) × (refused ≡ Some place) × (slice_get v.history place ≡ Some (class_events.Refused (record { who = who })))
 GivesHome v refused who rooms.Keep = (refused ≡ None) × (HasFree v → ⊥)
 
--- so many events more have places in a class's history: at most this many, and fewer only where there are no more
+-- the class's history has places for this many more events: at most `most`, and fewer only if there are no more
 pub record LeavesPlaces (most : ℕ) (v : ClassView) (places : ℕ) : Type 0 where
   pub fits : ClassHasPlaces v places
   pub few : places ≤ most
   pub all : places < most → v.max_events ≤ length v.history + places
 
--- what the class of a new version offers
+-- what the class of a new version offers: a room, and places for at most two events
 pub record OffersHome (v : ClassView) (refused : Option ℕ) (who : Who) (home : Home) : Type 0 where
   pub class_is : home.class ≡ v.number
   pub room : GivesHome v refused who home.room
   pub places : LeavesPlaces 2 v home.places
 
--- what the class of an item offers
+-- what the class of an item offers: places for at most one event
 pub record OffersOther (v : ClassView) (other : Other) : Type 0 where
   pub class_is : other.class ≡ v.number
   pub places : LeavesPlaces 1 v other.places
 
--- one of these classes is such
+-- the fact holds of one of these classes
 abbrev pub IsAny : (ClassView → Type 0) → List ClassView → Type 0
 IsAny P [] = ⊥
 IsAny P (v ∷ vs) = P v ⊎ IsAny P vs
 
--- what a command is given is offered by these classes
+-- what a command is given is offered by these classes, and each of them offers some of it
 pub record IsOffered (given : Given) (refused : Option ℕ) (who : Who) (vs : List ClassView) : Type 0 where
   pub home : IfSome given.home (λ h. IsAny (λ v. OffersHome v refused who h) vs)
   pub other : IfSome given.other (λ o. IsAny (λ v. OffersOther v o) vs)
   pub each : OfEachClass (λ v. IsSomeAnd given.home (OffersHome v refused who) ⊎ IsSomeAnd given.other (OffersOther v)) vs
 
--- where the class of a new version noted for a call that no chunk was found, that event stands in its history
+-- if a place is given, the class's history has a refusal of this call there
 abbrev pub IsNoted : Option ℕ → Who → ClassView → Type 0
 IsNoted refused who v = IfSome refused (λ place. slice_get v.history place ≡ Some (class_events.Refused (record { who = who })))
 
--- as many as two events more take no memory, where they have places
+-- the class has room for up to two more events, as far as its history has places for them
 abbrev pub IsReady : ClassView → Type 0
 IsReady v = (n : ℕ) → n ≤ 2 → ClassHasPlaces v n → n ≤ v.room
 
--- a command may be tried on these classes: its key is of this stripe, the classes agree with the stripe, and some of them offer
--- what the command is given
+-- a command may be tried: its key is of this stripe, and the classes differ, agree with the stripe and offer what it is given
 pub record MayTryOn (s : Stripe) (vs : List ClassView) (command : Command) (turn : Turn) (given : Given) : Type 0 where
   pub stripe : stripe_of (key_of command) s.site.stripes ≡ record { 0 = s.site.stripe }
   pub moment : turn.moment ≤ 2 ^ 62
@@ -72,20 +71,19 @@ pub record MayTryOn (s : Stripe) (vs : List ClassView) (command : Command) (turn
   pub refused : Option ℕ
   pub offered : IsOffered given refused turn.who vs
 
--- the cost of a new version is one that a class may hold
+-- the cost of a new version, if there is one, is at most 2^20, which a class can hold
 abbrev pub IsSmallFate : Fate → Type 0
 IsSmallFate fates.Untouched = Unit {0}
 IsSmallFate (fates.Renewed cost expiry old) = cost ≤ 2 ^ 20
 IsSmallFate (fates.Goes link) = Unit {0}
 IsSmallFate (fates.Woken link) = Unit {0}
 
--- so many events as are offered take no memory
+-- the class has room for as many events as it offers
 abbrev pub HasRoomFor : Given → ClassView → Type 0
 HasRoomFor given v =
     IfSome given.home (λ h. h.class ≡ v.number → h.places ≤ v.room) × IfSome given.other (λ o. o.class ≡ v.number → o.places ≤ v.room)
 
--- a class was made ready for its part of a command that would wake the item of this link: where it moves an entry there is room for
--- that, and a place
+-- a class is ready for a command that would wake the item of this link: if its entry moves, it has room and a place for that
 pub record IsReadyFor (v mid : ClassView) (command : Command) (woken : Option Link) (ready : Prepared) : Type 0 where
   pub same : mid ≡ with_room v mid.room
   pub kept : v.room ≤ mid.room
@@ -94,14 +92,14 @@ pub record IsReadyFor (v mid : ClassView) (command : Command) (woken : Option Li
   pub key_is : ready.key ≡ key_of command
   pub copy : mid.keeps_events ≡ true → ready.copy ≡ Some ready.key
 
--- a class may make its part of a command: a link of it has a chunk, and its events have places, which take no memory
+-- a class may make its part of a command: a new entry finds a free chunk and isn't too large, and its events have places and room
 pub record MayMakePart (v : ClassView) (key : List ℕ) (room : Room) (fate : Fate) : Type 0 where
   pub free : is_here v room ≡ true → HasFree v
   pub small : is_here v room ≡ true → IsSmallFate fate
   pub space : places_of (part_for v key room fate) ≤ v.room
   pub place : ClassHasPlaces v (places_of (part_for v key room fate))
 
--- a command was made in a room, of what it was given, as it may be made on these classes, and this is its reply
+-- a command was made in a room that it was given, as it may be made on these classes, and this is its reply
 pub record IsMadeOn (config : Config) (s s_new : Stripe) (command : Command) (turn : Turn) (given : Given) (vs ws : List ClassView) (reply : Reply) : Type
     0 where
   pub room : Room
@@ -113,7 +111,7 @@ pub record IsMadeOn (config : Config) (s s_new : Stripe) (command : Command) (tu
   pub agreement : KeepsAgreements (call turn.who command turn.moment room) s s_new vs ws
   pub sight : KeepsSights (call turn.who command turn.moment room) s s_new vs ws
 
--- what a try came to: the command was made, or it wants something, and nothing happened
+-- what a try came to: the command was made, or it wants something and nothing happened
 abbrev pub IsTriedBy : Config → (s s_new : Stripe) → Command → Turn → Given → (vs ws : List ClassView) → Tried → Type 0
 IsTriedBy config s s_new command turn given vs ws (tried.Made reply) = IsMadeOn config s s_new command turn given vs ws reply
 IsTriedBy config s s_new command turn given vs ws (tried.Wants want) =

@@ -12,17 +12,17 @@ use Rattle.mc_pull.specs.{Outcome.is_due, Outcome.outcome_of, Question.Question}
 abbrev pub has_link : ClassNo → ℕ → Item → Bool
 has_link class number item = item.link.class.0 == class.0 && item.link.number == number
 
--- what is done with an entry whose item this is
+-- what is done with an entry that has this item
 abbrev pub done_by : Rule → Lists → ℕ → Judge → Entry → Item → Done
 done_by rule l moment (Walk s mode passed) e item = outcome_of s mode (is_dead item moment) item.marks.active (is_due rule l s mode moment e)
 done_by rule l moment Dead e item = if is_dead item moment then done.Reclaimed else done.Alive item.expiry
 
--- the same, where the item of the entry's key may be absent or have another chunk
+-- what is done with an entry, by the item under its key: nothing, if there is none or it has another chunk
 abbrev pub done_if : ClassNo → ℕ → Option Item → (Item → Done) → Done
 done_if class number None made = done.Stranger
 done_if class number (Some item) made = if has_link class number item then made item else done.Stranger
 
--- the same of an entry that may be absent
+-- what is done with an entry: nothing, if there is none
 abbrev pub done_with : ClassView → Cache → Question → Option Entry → Done
 done_with c cache q None = done.Stranger
 done_with c cache q (Some e) = done_if c.number q.number (cache.items e.key) (done_by c.rule (lists_of c.history) q.moment q.judge e)

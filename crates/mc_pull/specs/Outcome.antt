@@ -16,14 +16,14 @@ is_over rule l s survey = nat_lt (limit_of rule s survey.total) (bytes_of l s)
 abbrev pub is_old : Rule → Seg → Survey → ℕ → Entry → Bool
 is_old rule s survey moment e = nat_lt (greatest_age_of rule s survey.cold_age) (age_of moment e)
 
--- by a survey an entry has to go: its list has too many bytes, or it is too old; the other modes don't ask
+-- an entry is due to move by a survey: its segment has too many bytes, or it is too old; other modes have no survey
 abbrev pub is_due : Rule → Lists → Seg → Mode → ℕ → Entry → Bool
 is_due rule l s (Plain survey) moment e = is_over rule l s survey || is_old rule s survey moment e
 is_due rule l s Evict moment e = false
 is_due rule l s Force moment e = false
 
--- the table, of an entry by its segment and the walk's mode, whether its item is dead, whether the item is active, and
--- whether it is due: the first row that fits decides; where none does, the entry stays
+-- what becomes of an entry, by its segment, the walk's mode, and whether its item is dead, active and due: the first row that
+-- fits decides, and the last lets it stay
 abbrev pub outcome_of : Seg → Mode → (dead active due : Bool) → Done
 outcome_of s mode true active due = done.Reclaimed
 outcome_of Hot mode false true due = done.ToWarm
@@ -35,13 +35,13 @@ outcome_of Cold Evict false active due = done.Evicted
 outcome_of Cold (Plain survey) false true due = done.ToWarm
 outcome_of s mode false active due = done.Stayed
 
--- why an entry goes to COLD: for the bytes where they exceed the limit, else for its age; without a survey by force
+-- why an entry moves to COLD: its segment has too many bytes by the survey, or else it is too old; without a survey it is forced
 abbrev pub cold_why : Rule → Lists → Seg → Mode → Why
 cold_why rule l s (Plain survey) = if is_over rule l s survey then whys.Over survey.place else whys.Old survey.place
 cold_why rule l s Evict = whys.Forced
 cold_why rule l s Force = whys.Forced
 
--- whether a walk ends with an entry to which this was done
+-- whether a walk ends after this was done with an entry
 abbrev pub is_end : Done → Bool
 is_end done.Reclaimed = false
 is_end done.WithinWarm = false

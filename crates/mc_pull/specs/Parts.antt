@@ -1,4 +1,4 @@
--- A class's part of a command: which of its entries come, go or move, and the events of that.
+-- A class's part of a command: which of its entries are added, removed or moved, and the events of that.
 use Rattle.std.specs.Prelude.{ℕ, ◌≡◌, ◌==◌, ◌&&◌, ◌<◌, ◌≤◌, ◌^◌, nat_eq, List, [], ◌∷◌, Bool, true, false, if◌then◌else◌, Option, Some, None}
 use Rattle.std.specs.Cmp.Lexicographic.{pointwise}
 use Rattle.mc_item.specs.declared.{class_event.ClassEvent.ClassEvent, item.Expiry.Expiry, item.Link.Link, item.Who.Who, lists.Entry.Entry, lists.Seg.Seg}
@@ -13,12 +13,12 @@ use Rattle.mc_stripe.specs.declared.fate.Fate.TheVariants as fates
 use Rattle.mc_pull.specs.declared.parts.Part.{Part}
 use Rattle.mc_pull.specs.declared.parts.Part.TheVariants as parts
 
--- an entry is there, and of this key
+-- the entry is there, and has this key
 abbrev pub is_for : List ℕ → Option Entry → Bool
 is_for key None = false
 is_for key (Some e) = pointwise nat_eq e.key key
 
--- the number of a link of this class, where the class has an entry of that number and this key
+-- the number of a link of this class, if the class has an entry of that number and this key
 abbrev pub entry_number : ClassView → List ℕ → Option Link → Option ℕ
 entry_number c key None = None
 entry_number c key (Some link) = if link.class.0 == c.number.0 && is_for key (entry_of link.number (lists_of c.history)) then Some link.number else None
@@ -37,31 +37,31 @@ is_cold (Some Warm) = false
 is_cold (Some Cold) = true
 is_cold (Some Temp) = false
 
--- a new version: its entry comes where its link is of this class, and the old entry goes where it is in this class
+-- the part in a new version: its entry is added if its link is of this class, and the old entry is removed if it is here
 abbrev pub new_part : List ℕ → ℕ → Expiry → Bool → Option ℕ → Part
 new_part key cost expiry true None = parts.Links key cost expiry
 new_part key cost expiry true (Some number) = parts.Renews key cost expiry number
 new_part key cost expiry false None = parts.Nothing
 new_part key cost expiry false (Some number) = parts.Unlinks number
 
--- the entry goes, where it is in this class
+-- the part in a removal: the entry is removed, if it is in this class
 abbrev pub gone_part : Option ℕ → Part
 gone_part None = parts.Nothing
 gone_part (Some number) = parts.Unlinks number
 
--- the entry goes to WARM, where it lies in COLD
+-- the part in a hit: the entry moves to WARM, if it is in COLD here
 abbrev pub hit_part : ClassView → Option ℕ → Part
 hit_part c None = parts.Nothing
 hit_part c (Some number) = if is_cold (segment_of number (lists_of c.history)) then parts.Warms number else parts.Nothing
 
--- a class's part of a command of this key, by the room that it is given and what becomes of chunks
+-- a class's part of a command on this key, by its room and by what becomes of the key's chunks
 abbrev pub part_for : ClassView → List ℕ → Room → Fate → Part
 part_for c key room fates.Untouched = parts.Nothing
 part_for c key room (fates.Renewed cost expiry old) = new_part key cost expiry (is_here c room) (entry_number c key old)
 part_for c key room (fates.Goes link) = gone_part (entry_number c key (Some link))
 part_for c key room (fates.Woken link) = hit_part c (entry_number c key (Some link))
 
--- the events of a part, the new entry first, where the key's stripe has `at` events once it has the command's
+-- the events of a part, a new entry's first; `at` counts the events of the key's stripe, with the command's
 abbrev pub part_events : ClassView → Who → ℕ → ℕ → Part → List ClassEvent
 part_events c who moment at parts.Nothing = []
 part_events c who moment at (parts.Links key cost expiry) = linked_event c who key cost moment expiry ∷ []
@@ -69,7 +69,7 @@ part_events c who moment at (parts.Renews key cost expiry number) = linked_event
 part_events c who moment at (parts.Unlinks number) = unlinked_event who number ∷ []
 part_events c who moment at (parts.Warms number) = shifted_event who number Warm whys.Hit moment [] at Cold ∷ []
 
--- how many events that is
+-- how many events a part makes
 abbrev pub places_of : Part → ℕ
 places_of parts.Nothing = 0
 places_of (parts.Links key cost expiry) = 1
@@ -85,12 +85,12 @@ is_warming (parts.Renews key cost expiry number) = false
 is_warming (parts.Unlinks number) = false
 is_warming (parts.Warms number) = true
 
--- a new entry may come: a chunk is free, and the cost is one that a class may hold
+-- a new entry may be added: a chunk is free, and the cost is one that a class can hold
 pub record MayLink (c : ClassView) (bytes : ℕ) : Type 0 where
   pub free : count_of (lists_of c.history) < c.chunks
   pub few : bytes ≤ 2 ^ 20
 
--- the events of a part may come
+-- the class may make a part's events: a new entry may be added, one that is removed is in a list, and one that moves is in COLD
 abbrev pub MayMake : ClassView → Part → Type 0
 MayMake c parts.Nothing = Unit {0}
 MayMake c (parts.Links key cost expiry) = MayLink c cost
@@ -98,7 +98,7 @@ MayMake c (parts.Renews key cost expiry number) = MayLink c cost × IsListed num
 MayMake c (parts.Unlinks number) = IsListed number (lists_of c.history)
 MayMake c (parts.Warms number) = segment_of number (lists_of c.history) ≡ Some Cold
 
--- the key of a new entry once more
+-- the copy is the key of the part's new entry, if it has one
 abbrev pub Copies : Part → Option (List ℕ) → Type 0
 Copies parts.Nothing copy = Unit {0}
 Copies (parts.Links key cost expiry) copy = copy ≡ Some key

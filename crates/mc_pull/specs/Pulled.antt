@@ -4,7 +4,7 @@ use Rattle.mc_pull.specs.declared.{judge.Done.Done, looking.Judged.Judged, pulle
 use Rattle.mc_pull.specs.declared.judge.Done.TheVariants as done
 use Rattle.mc_pull.specs.Outcome.{is_end}
 
--- nothing was counted yet
+-- nothing is counted yet
 abbrev pub none_pulled : Pulled
 none_pulled = record { reclaimed = 0; moved = 0; evicted = 0; passed = 0 }
 
@@ -12,7 +12,7 @@ none_pulled = record { reclaimed = 0; moved = 0; evicted = 0; passed = 0 }
 abbrev pub sum_of : Pulled → ℕ
 sum_of p = p.reclaimed + p.moved + p.evicted + p.passed
 
--- the counts once this was done with an entry; a stranger is passed
+-- the counts after this was done with an entry; a stranger is passed
 abbrev pub counts_after : Done → Pulled → Pulled
 counts_after done.Reclaimed p = record p { reclaimed = p.reclaimed + 1 }
 counts_after done.ToWarm p = record p { moved = p.moved + 1 }
@@ -23,17 +23,17 @@ counts_after done.Stayed p = p
 counts_after (done.Alive expiry) p = p
 counts_after done.Stranger p = record p { passed = p.passed + 1 }
 
--- the counts after an answer; an entry whose stripe was not had is passed
+-- the counts after an answer; an entry whose stripe was not reached is passed
 abbrev pub counts_if : Option Judged → Pulled → Pulled
 counts_if None p = record p { passed = p.passed + 1 }
 counts_if (Some j) p = counts_after j.done p
 
--- whether a walk ends with an answer; where the stripe was not had, it goes on
+-- whether a walk ends after an answer; it goes on if the stripe was not reached
 abbrev pub is_end_if : Option Judged → Bool
 is_end_if None = false
 is_end_if (Some j) = is_end j.done
 
--- a walk did something when it reclaimed, moved or evicted at least one entry
+-- a walk did something if it reclaimed, moved or evicted at least one entry
 abbrev pub did_something : Pulled → Bool
 did_something p = nat_lt 0 (p.reclaimed + p.moved + p.evicted)
 

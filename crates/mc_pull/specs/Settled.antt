@@ -1,4 +1,4 @@
--- The events that a judgement makes in both histories.
+-- The events that judging an entry adds to both histories.
 use Rattle.std.specs.Prelude.{ℕ, ◌≡◌, ◌++◌, List, [], ◌∷◌, Option, Some, None, length}
 use Rattle.mc_item.specs.declared.{class_event.ClassEvent.ClassEvent, item.Who.Who, lists.Entry.Entry, lists.Seg.TheVariants.Warm, lists.Seg.TheVariants.Cold}
 use Rattle.mc_item.specs.declared.{stripe_event.Cause.Cause, stripe_event.StripeEvent.StripeEvent}
@@ -12,30 +12,30 @@ use Rattle.mc_pull.specs.declared.{judge.Judge.Judge, judge.Judge.TheVariants.Wa
 use Rattle.mc_pull.specs.declared.judge.Done.TheVariants as done
 use Rattle.mc_pull.specs.{Outcome.cold_why, Question.Question}
 
--- an item goes, for a cause
+-- the event that removes an item for this cause
 abbrev pub lost_event : Who → List ℕ → Cause → StripeEvent
 lost_event who key cause = events.Lost (record { who = who; key = key; cause = cause })
 
--- an item's mark is cleared
+-- the event that clears an item's ACTIVE mark
 abbrev pub cooled_event : Who → List ℕ → StripeEvent
 cooled_event who key = events.Cooled (record { who = who; key = key })
 
--- the numbers behind the entry
+-- the numbers of the entries between the judged one and the tail
 abbrev pub passed_of : Judge → List ℕ
 passed_of (Walk s mode passed) = passed
 passed_of Dead = []
 
--- a walk's move of an active entry to WARM's head, where the entry's stripe has `at` events
+-- a walk's move of an active entry to WARM's head, when the entry's stripe has `at` events
 abbrev pub warm_events : Question → ℕ → Judge → List ClassEvent
 warm_events q at (Walk s mode passed) = shifted_event q.who q.number Warm whys.Active q.moment passed at s ∷ []
 warm_events q at Dead = []
 
--- a walk's move of an entry to COLD's head, where the entry's stripe has `at` events
+-- a walk's move of an entry to COLD's head, when the entry's stripe has `at` events
 abbrev pub cold_events : ClassView → Question → ℕ → Judge → List ClassEvent
 cold_events c q at (Walk s mode passed) = shifted_event q.who q.number Cold (cold_why c.rule (lists_of c.history) s mode) q.moment passed at s ∷ []
 cold_events c q at Dead = []
 
--- the events of the class where this is done, and the entry's stripe has `at` events
+-- the class's events if this is done, when the entry's stripe has `at` events
 abbrev pub done_class_events : ClassView → Question → ℕ → Done → List ClassEvent
 done_class_events c q at done.Reclaimed = reclaimed_event q.who q.number q.moment at ∷ []
 done_class_events c q at done.ToWarm = warm_events q at q.judge
@@ -46,7 +46,7 @@ done_class_events c q at done.Stayed = []
 done_class_events c q at (done.Alive expiry) = []
 done_class_events c q at done.Stranger = []
 
--- the events of the stripe where this is done with an entry of this key: each is the partner of the class's event
+-- the stripe's events if this is done with an entry of this key: each is the partner of the class's event
 abbrev pub events_on : ClassView → Question → List ℕ → Done → List StripeEvent
 events_on c q key done.Reclaimed = lost_event q.who key (causes.Expired q.moment) ∷ []
 events_on c q key done.ToWarm = cooled_event q.who key ∷ []
@@ -57,20 +57,20 @@ events_on c q key done.Stayed = []
 events_on c q key (done.Alive expiry) = []
 events_on c q key done.Stranger = []
 
--- the same of an entry that may be absent
+-- the stripe's events if this is done with an entry: none, if there is no entry
 abbrev pub events_with : ClassView → Question → Option Entry → Done → List StripeEvent
 events_with c q None d = []
 events_with c q (Some e) d = events_on c q e.key d
 
--- the events of the stripe where this is done with the entry that a question names
+-- the stripe's events if this is done with the entry that a question names
 abbrev pub done_stripe_events : ClassView → Question → Done → List StripeEvent
 done_stripe_events c q d = events_with c q (entry_of q.number (lists_of c.history)) d
 
--- the class with these events more, and this room
+-- the class with these events added, and this room
 abbrev pub class_with : ClassView → List ClassEvent → ℕ → ClassView
 class_with c es room = record c { history = c.history ++ es; room = room }
 
--- the events of what was done with an entry stand at the ends of both histories, and nothing else does
+-- both histories have gained just the events of what was done, and nothing else of the class but its room has changed
 pub record IsSettled (c c_new : ClassView) (s s_new : Stripe) (q : Question) (d : Done) : Type 0 where
   pub class : c_new ≡ class_with c (done_class_events c q (length s.history) d) c_new.room
   pub stripe : s_new.history ≡ s.history ++ done_stripe_events c q d

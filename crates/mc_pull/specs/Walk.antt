@@ -1,4 +1,4 @@
--- A walk along the tail of a list, as a function of a gate's answers.
+-- A walk along a list from its tail, as a function of a gate's answers.
 use Rattle.std.specs.Prelude.{ℕ, ◌≡◌, ◌-◌, ◌++◌, List, [], ◌∷◌, Bool, true, false, ◌&&◌, not, nat_lt, nat_le, Option, Some, None, length, min, take, reverse}
 use Rattle.std.specs.Option.{IsSomeAnd}
 use Rattle.mc_item.specs.declared.{class_event.ClassEvent.ClassEvent, config.Config.Config, item.Who.Who, lists.Entry.Entry, lists.Seg.Seg}
@@ -9,7 +9,7 @@ use Rattle.mc_pull.specs.declared.{judge.Judge.TheVariants.Walk, judge.Mode.Mode
 use Rattle.mc_pull.specs.declared.{judge.Mode.TheVariants.Force, looking.Answer.Answer, looking.Judged.Judged, pulled.Pulled.Pulled}
 use Rattle.mc_pull.specs.{Looks.events_if, Looks.IsJudgedIf, Pulled.none_pulled, Pulled.counts_if, Pulled.is_end_if, Question.Question, Question.question}
 
--- what is fixed for a walk: the class, the list, the mode, the caller's call, its moment and the configuration
+-- what is fixed for a walk: the class, the list, the mode, the caller's call, its time and the configuration
 pub record Pull : Type 0 where
   pub class : ClassView
   pub seg : Seg
@@ -18,43 +18,42 @@ pub record Pull : Type 0 where
   pub moment : ℕ
   pub config : Config
 
--- the class with this history; its room tells a walk nothing
+-- the class with this history; its room doesn't matter to a walk
 abbrev pub class_at : ClassView → List ClassEvent → ClassView
 class_at c history = record c { history = history; room = 0 }
 
--- a walk by what is fixed
+-- the walk with these parts
 abbrev pub pull : ClassView → Seg → Mode → Who → ℕ → Config → Pull
 pull class seg mode who moment config = record { class = class_at class class.history; seg = seg; mode = mode; who = who; moment = moment; config = config }
 
--- where a walk is: the class's history, how many entries it may still look at, what it has counted, and whether it has
--- ended with the last of them; as many entries as it has passed are behind the next one
+-- the state of a walk: the class's history, how many entries it may still look at, its counts, and whether it has ended
 pub record Way : Type 0 where
   pub history : List ClassEvent
   pub left : ℕ
   pub pulled : Pulled
   pub ended : Bool
 
--- a way by its parts
+-- the state with these parts
 abbrev pub way : List ClassEvent → ℕ → Pulled → Bool → Way
 way history left pulled ended = record { history = history; left = left; pulled = pulled; ended = ended }
 
--- where a walk begins: it looks at no more than five entries, and at no more than the list has
+-- the start of a walk: it looks at no more than five entries, and at no more than the list has
 abbrev pub start_of : Pull → Way
 start_of p = way p.class.history (min (length (list_of (lists_of p.class.history) p.seg)) 5) none_pulled false
 
--- the entry that a walk looks at next: that nearest the tail behind which stand just those that were passed
+-- the entry that a walk looks at next: just those that it passed are nearer to the tail
 abbrev pub next_entry : Pull → Way → Option Entry
 next_entry p w = from_tail (list_of (lists_of w.history) p.seg) w.pulled.passed
 
--- the numbers that stand behind it
+-- the numbers of the entries that a walk passed, from the tail on
 abbrev pub numbers_passed : Pull → Way → List ℕ
 numbers_passed p w = take w.pulled.passed (reverse (numbers_of (list_of (lists_of w.history) p.seg)))
 
--- what is asked of an entry
+-- what a walk asks about an entry
 abbrev pub question_at : Pull → Way → Entry → Question
 question_at p w e = question p.who e.number (Walk p.seg p.mode (numbers_passed p w)) p.moment
 
--- a walk is still wanted: one for a chunk only while the class is full
+-- a walk is still wanted: one that looks for a chunk only while the class is full
 abbrev pub is_wanted : Mode → ℕ → ℕ → Bool
 is_wanted (Plain survey) chunks count = true
 is_wanted Evict chunks count = nat_le chunks count
@@ -64,40 +63,39 @@ is_wanted Force chunks count = nat_le chunks count
 abbrev pub is_going : Pull → Way → Bool
 is_going p w = not w.ended && (nat_lt 0 w.left && is_wanted p.mode p.class.chunks (count_of (lists_of w.history)))
 
--- the events that an answer makes
+-- the events that an answer adds to the class
 abbrev pub events_at : Pull → Way → Option Entry → Option Judged → List ClassEvent
 events_at p w None j = []
 events_at p w (Some e) j = events_if (class_at p.class w.history) (question_at p w e) j
 
--- the way after an answer
+-- the state of a walk after one more answer
 abbrev pub step : Pull → Way → Answer → Way
 step p w a = way (w.history ++ events_at p w (next_entry p w) a.judged) (w.left - 1) (counts_if a.judged w.pulled) (is_end_if a.judged)
 
--- the way after these answers
+-- the state of a walk after these answers
 abbrev pub run : Pull → Way → List Answer → Way
 run p w [] = w
 run p w (a ∷ xs) = run p (step p w a) xs
 
--- an answer that was asked for: the walk went on, the stripe is that of the next entry's key, and where it was had, what
--- was done is what the rule makes of the entry by a state of that stripe
+-- an answer fits: the walk goes on, it asked for the stripe of the next entry's key, and if that was reached, it judged the entry
 pub record IsAnswer (p : Pull) (w : Way) (a : Answer) : Type 0 where
   pub goes : is_going p w ≡ true
   pub asks : IsSomeAnd (next_entry p w) (λ e. (a.stripe ≡ stripe_of e.key p.config.stripes)
       × IsJudgedIf p.config a.stripe (class_at p.class w.history) (question_at p w e) a.judged)
 
--- each of these answers was asked for on the way
+-- each of these answers in turn fits the walk
 abbrev pub IsAlong : Pull → Way → List Answer → Type 0
 IsAlong p w [] = Unit {0}
 IsAlong p w (a ∷ xs) = IsAnswer p w a × IsAlong p (step p w a) xs
 
--- a walk with these answers, one a look, which ends where it has to, leaves this history and these counts
+-- a whole walk with these answers, one for each look: it ends where it has to, and leaves this history and these counts
 pub record IsWalk (p : Pull) (xs : List Answer) (history : List ClassEvent) (pulled : Pulled) : Type 0 where
   pub along : IsAlong p (start_of p) xs
   pub ends : is_going p (run p (start_of p) xs) ≡ false
   pub history_is : history ≡ (run p (start_of p) xs).history
   pub pulled_is : pulled ≡ (run p (start_of p) xs).pulled
 
--- a walk that was broken off after these answers leaves this history
+-- a walk that a fault ended after these answers leaves this history
 pub record IsBrokenWalk (p : Pull) (xs : List Answer) (history : List ClassEvent) : Type 0 where
   pub along : IsAlong p (start_of p) xs
   pub history_is : history ≡ (run p (start_of p) xs).history

@@ -1,6 +1,6 @@
-//! One try of a command on its stripe and the classes that it is lent, which agree with the stripe. It is made, with its part in
-//! each class, or it wants something, and nothing happened. All growths come first: after a fault nothing of it
-//! stands. `HistoryFull` is answered only where a history lacks a place that the command needs in it.
+//! One try of a command on its stripe and the classes that it is lent, whose histories agree with the stripe's. Either the
+//! command is made, with its part in each class, or it wants something and nothing has happened. All memory is taken first, so
+//! nothing has happened after a fault either. `HistoryFull` comes only if a history lacks a place that the command needs.
 ghost use Rattle.std.specs.Prelude.{if◌then◌else◌, ◌≡◌, ◌≤◌, ◌<◌, ◌+◌, ◌∷◌, [], ◌||◌, true, Some, None, IfOk, IsSome, OnErr, OnOk, IsErrOf, length};
 ghost use Rattle.mc_item.specs.Command.{key_of};
 ghost use Rattle.mc_item.specs.declared.{config.Config.Config, fault.Fault.TheVariants.HistoryFull, item.Link.Link};
@@ -15,20 +15,20 @@ ghost use Rattle.mc_pull.specs.{Question.IsStripeOf, Settled.class_with};
 
 use crate::certain::cool_if;
 use crate::making::make;
-use crate::parts::{Part, gone_part, hit_part, is_here, linked_part, number_in};
+use crate::parts::{Part, entry_number, gone_part, hit_part, is_here, linked_part};
 use mc_item::{Command, Fault, Key, Link, NoMemory, Reply, Room};
 use mc_segment::ClassState;
 use mc_stripe::{Done, Fate, Given, Home, Other, StripeState, Turn, Want};
 use std::alloc::Global;
 
-/// What a try came to: the command was made, or it wants something.
+/// What a try came to: the command was made, with this reply, or it wants something first.
 #[derive(Drop)]
 pub enum Tried {
     Made(Reply),
     Wants(Want),
 }
 
-// For how many events more, of at most one or two, a class's history has places.
+// For how many more events a class's history has places, counted up to `most`, which is 1 or 2.
 #[inline(always)]
 fn places(class: &ClassState, most: usize) -> usize
     requires { (0 < most) × (most ≤ 2) }
@@ -44,7 +44,7 @@ fn places(class: &ClassState, most: usize) -> usize
     }
 }
 
-// The room that a class gives.
+// The room that a class gives a command: its next link if a chunk is free, else the refusal at place `refused`, if there is one.
 #[inline(always)]
 fn room_of(class: &ClassState, refused: Option<u64>, turn: Turn) -> Room
     requires noted { IsNoted refused turn.who class.now }
@@ -66,7 +66,9 @@ fn room_of(class: &ClassState, refused: Option<u64>, turn: Turn) -> Room
     }
 }
 
-/// What the class of a new version offers.
+/// Returns what the class of a command's new version offers: a room, and places for at most two events. The room is the class's
+/// next link if a chunk is free. Else it is the class's refusal of this call, which is at place `refused` of its history, or
+/// `Keep` if that is `None`.
 #[inline(always)]
 pub fn offer_home(class: &ClassState, refused: Option<u64>, turn: Turn) -> Home
     requires noted { IsNoted refused turn.who class.now }
@@ -79,7 +81,7 @@ pub fn offer_home(class: &ClassState, refused: Option<u64>, turn: Turn) -> Home
     }
 }
 
-/// What the class of an item offers.
+/// Returns what the class of a command's item offers: places for at most one event.
 #[inline(always)]
 pub fn offer_other(class: &ClassState) -> Other
     ensures { OffersOther class.now result }
@@ -90,7 +92,8 @@ pub fn offer_other(class: &ClassState) -> Other
     }
 }
 
-/// Makes room for the events of a command in a class, as far as its history has places for them: at most two.
+/// Makes room in a class for a command's events: for two, or for fewer if its history has no more places. Errors: `NoMemory`
+/// only. Nothing but the room ever changes.
 #[inline(always)]
 pub fn ready(class: &mut ClassState) -> Result<(), Fault>
     ensures ready { OnOk result (IsReady class.new) }
@@ -101,7 +104,8 @@ pub fn ready(class: &mut ClassState) -> Result<(), Fault>
     class.reserve(places)
 }
 
-// A class that is ready for its part of a command: whether a hit moves an entry there, and the key, once more if events are kept.
+// A class that is ready for its part of a command. `warms`: a hit moves an entry there. `copy`: the key again, if events are
+// kept.
 #[derive(Drop)]
 struct Prepared {
     warms: bool,
@@ -109,7 +113,6 @@ struct Prepared {
     copy: Option<Key>,
 }
 
-// A copy of a key, where one is wanted.
 #[inline(always)]
 fn key_if(alloc: Global, key: &Key, wanted: bool) -> Result<Option<Key>, NoMemory>
     ensures { IfOk result (λ copy. copy ≡ (if wanted then Some key.now else None)) }
@@ -121,7 +124,8 @@ fn key_if(alloc: Global, key: &Key, wanted: bool) -> Result<Option<Key>, NoMemor
     }
 }
 
-// Makes a class ready for a command that would wake the item of this link: room for the move of its entry, where it lies in COLD.
+// Makes a class ready for a command that would wake, that is make ACTIVE, the item of link `woken`. If the item's entry lies in
+// COLD here, room is made for its move.
 #[inline(always)]
 fn wake(
     alloc: Global,
@@ -131,10 +135,10 @@ fn wake(
 ) -> Result<Prepared, Fault>
     ensures ready { IfOk result (IsReadyFor class.old class.new command.now woken) }
     ensures same { class.new ≡ with_room class.old class.new.room }
-    ensures full { IsErrOf result HistoryFull → (words.is_warming (words.hit_part class.old (words.number_in class.old (key_of command.now) woken)) ≡ true)
+    ensures full { IsErrOf result HistoryFull → (words.is_warming (words.hit_part class.old (words.entry_number class.old (key_of command.now) woken)) ≡ true)
         × (class.old.max_events < length class.old.history + 1) }
 {
-    let warms = hit_part(class, number_in(class, command.key(), woken)).is_warming();
+    let warms = hit_part(class, entry_number(class, command.key(), woken)).is_warming();
     if warms {
         class.reserve(1)?;
     }
@@ -143,7 +147,7 @@ fn wake(
     Ok(Prepared { warms, key, copy })
 }
 
-// The part of a class in a command that was made.
+// A class's part in a command that was made, by the command's room and what becomes of its key's chunks.
 #[inline(always)]
 fn part_after(class: &ClassState, key: Key, room: Room, fate: Fate) -> Part
     requires free { words.is_here class.now room ≡ true → HasFree class.now }
@@ -154,19 +158,18 @@ fn part_after(class: &ClassState, key: Key, room: Room, fate: Fate) -> Part
     match fate {
         Fate::Untouched => Part::Nothing,
         Fate::Renewed { cost, expiry, old } => {
-            let number = number_in(class, &key, old);
+            let number = entry_number(class, &key, old);
             if is_here(class, room) {
                 linked_part(class, key, cost, expiry, number)
             } else {
                 gone_part(class, number)
             }
         }
-        Fate::Goes(link) => gone_part(class, number_in(class, &key, Some(link))),
-        Fate::Woken(link) => hit_part(class, number_in(class, &key, Some(link))),
+        Fate::Goes(link) => gone_part(class, entry_number(class, &key, Some(link))),
+        Fate::Woken(link) => hit_part(class, entry_number(class, &key, Some(link))),
     }
 }
 
-// Makes a class's part of a command that was made.
 #[inline(always)]
 fn make_part(class: &mut ClassState, ready: Prepared, room: Room, fate: Fate, turn: Turn, at: u64)
     requires may { MayMakePart class.old ready.key room fate }
@@ -177,7 +180,7 @@ fn make_part(class: &mut ClassState, ready: Prepared, room: Room, fate: Fate, tu
     make(class, part, ready.copy, turn.who, turn.moment, at);
 }
 
-// The key of an item whose mark is cleared, as a hit that moves an entry does. Makes room for that event and the command's.
+// The key of the item whose ACTIVE mark is to be cleared, if a class moves its entry. Then room is made for both events.
 #[inline(always)]
 fn cooled_key(
     alloc: Global,
@@ -197,7 +200,8 @@ fn cooled_key(
     Ok(key_if(alloc, command.key(), warms)?)
 }
 
-/// A command that is lent no class.
+/// Tries a command that is lent no class. Returns its reply, or, with nothing done, what it wants first.
+/// Errors: `NoMemory`; `HistoryFull` only if the stripe's history has no place left. No history has changed then.
 #[inline(always)]
 pub fn attempt_none(stripe: &mut StripeState, command: &Command, turn: Turn) -> Result<Tried, Fault>
     requires may { MayTryOn stripe.old [] command.now turn (record { home = None; other = None }) }
@@ -218,7 +222,10 @@ pub fn attempt_none(stripe: &mut StripeState, command: &Command, turn: Turn) -> 
     }
 }
 
-/// A command that is lent one class.
+/// Tries a command that is lent one class. `given` is what the class offers, and it must have room for that (`ready`). Returns
+/// the command's reply, or, with nothing done, what it wants first.
+/// Errors: `NoMemory`; `HistoryFull` only if the stripe's history has no place left, or a history lacks places for what the
+/// command makes of an item that isn't dead. No history has changed then.
 #[inline(always)]
 pub fn attempt_one(
     alloc: Global,
@@ -252,14 +259,13 @@ pub fn attempt_one(
     }
 }
 
-// Whether one of two classes moves an entry.
 fn is_either(first: bool, second: bool) -> bool
     ensures { result ≡ (first || second) }
 {
     first || second
 }
 
-/// A command that is lent two classes.
+/// Tries a command that is lent two classes. All else is as for `attempt_one`.
 #[inline(never)]
 pub fn attempt_two(
     alloc: Global,

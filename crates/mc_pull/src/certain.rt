@@ -1,4 +1,4 @@
-//! Events that room was made for: none of these calls takes memory or can be refused.
+//! Events that can't be refused: the caller has made room for them, and the histories have places. None takes memory.
 ghost use Rattle.std.specs.Prelude.{◌≡◌, ◌<◌, ◌≤◌, ◌+◌, ◌^◌, length, true, Some, IfSome, IsSome, IsSomeAnd, MatchOption};
 ghost use Rattle.mc_rule.specs.Lists.{lists_of, count_of, segment_of};
 ghost use Rattle.mc_item.specs.Stripe.{IsDead};
@@ -12,7 +12,6 @@ use mc_item::{ClassNo, Expiry, Key, Passed, Seg, Who, Why};
 use mc_segment::ClassState;
 use mc_stripe::StripeState;
 
-// A new entry.
 pub(crate) fn link(
     class: &mut ClassState,
     who: Who,
@@ -36,7 +35,7 @@ pub(crate) fn link(
     }
 }
 
-// An entry goes with its item.
+// Removes an entry whose item is removed or replaced.
 pub(crate) fn unlink(class: &mut ClassState, who: Who, number: u64)
     requires room { 0 < class.old.room }
     requires place { HasPlaces class.old 1 }
@@ -49,7 +48,7 @@ pub(crate) fn unlink(class: &mut ClassState, who: Who, number: u64)
     }
 }
 
-// An entry goes whose item is dead.
+// Removes the entry of a dead item.
 pub(crate) fn reclaim(class: &mut ClassState, who: Who, number: u64, moment: u64, at: u64)
     requires room { 0 < class.old.room }
     requires place { HasPlaces class.old 1 }
@@ -62,7 +61,7 @@ pub(crate) fn reclaim(class: &mut ClassState, who: Who, number: u64, moment: u64
     }
 }
 
-// An entry of COLD is taken.
+// Removes an entry of COLD, to free its chunk.
 pub(crate) fn evict(class: &mut ClassState, who: Who, number: u64, passed: Passed, at: u64)
     requires room { 0 < class.old.room }
     requires place { HasPlaces class.old 1 }
@@ -75,7 +74,6 @@ pub(crate) fn evict(class: &mut ClassState, who: Who, number: u64, passed: Passe
     }
 }
 
-// An entry goes to the head of a list.
 pub(crate) fn shift(
     class: &mut ClassState,
     who: Who,
@@ -99,7 +97,7 @@ pub(crate) fn shift(
     }
 }
 
-// A dead item goes.
+// Removes a dead item.
 pub(crate) fn forget_expired(stripe: &mut StripeState, who: Who, key: Key, moment: u64)
     requires room { 0 < stripe.old.room }
     requires place { length stripe.old.history < stripe.old.limit }
@@ -113,7 +111,7 @@ pub(crate) fn forget_expired(stripe: &mut StripeState, who: Who, key: Key, momen
     }
 }
 
-// An item goes whose chunk was taken.
+// Removes an item whose chunk was evicted.
 pub(crate) fn forget_taken(stripe: &mut StripeState, who: Who, key: Key, class: ClassNo, place: u64)
     requires room { 0 < stripe.old.room }
     requires place { length stripe.old.history < stripe.old.limit }
@@ -127,7 +125,7 @@ pub(crate) fn forget_taken(stripe: &mut StripeState, who: Who, key: Key, class: 
     }
 }
 
-// An item's mark is cleared.
+// Clears an item's ACTIVE mark.
 pub(crate) fn cool(stripe: &mut StripeState, who: Who, key: Key)
     requires room { 0 < stripe.old.room }
     requires place { length stripe.old.history < stripe.old.limit }
@@ -141,7 +139,6 @@ pub(crate) fn cool(stripe: &mut StripeState, who: Who, key: Key)
     }
 }
 
-// An item's mark is cleared, where a key is given.
 pub(crate) fn cool_if(stripe: &mut StripeState, who: Who, key: Option<Key>)
     requires room { IsSome key → 0 < stripe.old.room }
     requires place { IsSome key → length stripe.old.history < stripe.old.limit }

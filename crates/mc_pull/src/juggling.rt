@@ -1,4 +1,4 @@
-//! Juggling: rounds of walks by one survey.
+//! Juggling: rounds of walks that go by one survey of the class.
 ghost use Rattle.std.specs.Prelude.{◌≡◌, ◌≤◌, ◌+◌, ◌++◌, ◌∷◌, [], ◌⊎◌, List, IfOk, IfErr, OnOk, OnErr};
 ghost use Rattle.mc_item.specs.declared.{config.Config.Config, lists.Seg.TheVariants.Temp};
 ghost use Rattle.mc_segment.specs.{ClassCalls.surveyed_event, ClassState.with_room};
@@ -17,10 +17,10 @@ use mc_item::{Config, Fault, Moves, Seg, Who};
 use mc_segment::{ClassState, Survey};
 use std::alloc::Global;
 
-// How many rounds juggling makes at most, and how many walks along TEMP (own).
+// The most rounds, and the most walks along TEMP (own).
 const MOST_ROUNDS: u64 = 500;
 
-// WARM is pulled, unless HOT gave something.
+// Pulls WARM, unless the walk along HOT did something.
 fn pull_warm<G: Gate>(
     alloc: Global,
     class: &mut ClassState,
@@ -50,7 +50,7 @@ fn pull_warm<G: Gate>(
     pull_tail(alloc, class, Seg::Warm, mode, who, moment, config, gate)
 }
 
-// One round of juggling by a survey.
+// Makes one round by a survey: pulls HOT, WARM if that did nothing, and COLD.
 fn juggle_round<G: Gate>(
     alloc: Global,
     class: &mut ClassState,
@@ -80,7 +80,7 @@ fn juggle_round<G: Gate>(
     Ok(hot.plus(warm).plus(cold))
 }
 
-// Rounds of juggling by a survey: up to 500, until one did nothing. It adds to counts that were made before.
+// Makes up to 500 rounds by a survey, until one does nothing. What they count is added to `total`.
 fn juggle_rounds<G: Gate>(
     alloc: Global,
     class: &mut ClassState,
@@ -117,7 +117,7 @@ fn juggle_rounds<G: Gate>(
     Ok(sum)
 }
 
-// Walks along TEMP by a survey: up to 500, until one did nothing.
+// Makes up to 500 walks along TEMP by a survey, until one does nothing.
 fn temp_rounds<G: Gate>(
     alloc: Global,
     class: &mut ClassState,
@@ -154,7 +154,7 @@ fn temp_rounds<G: Gate>(
     Ok(sum)
 }
 
-// A survey of a class, which a walk may then name.
+// Makes the survey that later walks of the call name.
 fn survey_class(class: &mut ClassState, who: Who, moment: u64) -> Result<Survey, Fault>
     ensures survey { (config : Config) → IfOk result (λ survey. survey ≡ survey_at (rounds class.old who moment config) class.old.history) }
     ensures noted { IfOk result (λ survey. IsSurveyIn class.new.history who moment survey) }
@@ -167,7 +167,7 @@ fn survey_class(class: &mut ClassState, who: Who, moment: u64) -> Result<Survey,
     class.survey(who, moment)
 }
 
-// TEMP's part of juggling: where TEMP is in use, a survey and walks by it.
+// TEMP's part of juggling: if TEMP is in use, a survey, and walks by it.
 fn juggle_temp<G: Gate>(
     alloc: Global,
     class: &mut ClassState,
@@ -196,7 +196,7 @@ fn juggle_temp<G: Gate>(
     temp_rounds(alloc, class, survey, who, moment, config, gate)
 }
 
-// The rounds' part of juggling: a survey and rounds by it. It adds to counts that were made before.
+// The other part of juggling: a survey, and rounds by it. What they count is added to `total`.
 fn juggle_rest<G: Gate>(
     alloc: Global,
     class: &mut ClassState,
@@ -224,11 +224,11 @@ fn juggle_rest<G: Gate>(
     juggle_rounds(alloc, class, survey, total, who, moment, config, gate)
 }
 
-/// Juggles a class: where TEMP is in use, walks along it by a survey, until one did nothing; then rounds by a new survey,
-/// each of which pulls HOT, or else WARM, and COLD, until one did nothing; at most 500 of each. It answers how many
-/// entries were reclaimed and moved, at most 10000 of both. What a gate keeps of a class's history, it must keep of one
-/// with a survey of this call more, and a class that it serves it must serve with a survey more, and with any room. The faults are
-/// the gate's and those of `ClassState::survey`; the events so far then stand.
+/// Juggles a class, and returns how many entries it reclaimed and moved, at most 10,000 together. If TEMP is in use, a survey is
+/// made, and TEMP is pulled by it up to 500 times, until a walk does nothing. Then a second survey is made, and up to 500 rounds
+/// go by it, until one does nothing. A round pulls HOT, then WARM if that did nothing, then COLD.
+/// The gate must serve the class also after a survey and with any room. What it `keeps` must outlast a survey of this call.
+/// Errors: the gate's faults, and those of `ClassState::survey`. Events made so far remain.
 pub fn juggle<G: Gate>(
     alloc: Global,
     class: &mut ClassState,

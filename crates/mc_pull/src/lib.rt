@@ -1,5 +1,6 @@
-//! Steps on a class and a stripe at once: an entry is judged with its item, a walk along a list's tail judges several, and
-//! rounds of walks make room in a class or juggle its lists. Nothing here locks.
+//! Steps on a class and a stripe together. One entry is judged with its item; a walk from a list's tail judges up to five. Rounds
+//! of walks make room in a class, or juggle: move entries between its lists. A command is tried on the classes that it is lent.
+//! Nothing here locks.
 #![tactic(auto)]
 
 mod attempting;

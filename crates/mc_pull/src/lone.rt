@@ -1,4 +1,4 @@
-//! A gate that is lent one stripe, and has no other.
+//! A gate that is lent one stripe, and reaches no other.
 ghost use Rattle.std.specs.Prelude.{◌≡◌, ◌≤◌, ◌+◌, ◌++◌, List, IfOk, IfErr};
 ghost use Rattle.mc_pull.specs.{Growth.GainsEvents, Juggle.IsJuggle, Lone.Serves, Lone.Walked, Question.IsClassOf, Refusal.MayFail, Rounds.rounds};
 ghost use Rattle.mc_pull.specs.{Rounds.IsRoom};
@@ -13,7 +13,7 @@ use mc_segment::ClassState;
 use mc_stripe::StripeState;
 use std::alloc::Global;
 
-/// A gate that is lent one stripe, by its number, and a list for its answers. It tries the others in vain.
+/// A gate that is lent one stripe, with its number, and a list for its answers. It never reaches another stripe.
 #[derive(Drop)]
 pub struct Lone<'a> {
     pub number: StripeNo,
@@ -55,8 +55,8 @@ impl<'a> Gate for Lone<'a> {
 }
 
 impl<'a> Lone<'a> {
-    /// Makes room in a class, as `make_room` does. It says of this gate what the call for any gate can't: that it holds
-    /// the same stripe, which has only events of this walker more, and what agreed with it agrees still.
+    /// Makes room in a class as `make_room` does. As this gate has a single stripe, the contract adds: the gate still holds it,
+    /// it has gained only events of this call, and histories that agreed with it still agree.
     pub fn make_room(
         &mut self,
         alloc: Global,
@@ -78,7 +78,7 @@ impl<'a> Lone<'a> {
         make_room(alloc, class, who, moment, config, self)
     }
 
-    /// Juggles a class, as `juggle` does, and says of this gate what `make_room` says.
+    /// Juggles a class as `juggle` does. The contract adds the same as that of `make_room`.
     pub fn juggle(
         &mut self,
         alloc: Global,

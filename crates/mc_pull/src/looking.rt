@@ -1,4 +1,4 @@
-//! Looks: how an entry's stripe is reached, by whoever can.
+//! Looks: how a walk reaches the stripe of an entry's key, through a gate.
 ghost use Rattle.std.specs.Prelude.{◌≡◌, ◌++◌, ◌∷◌, [], List, Some, None, is_some, length, IfOk, IfErr, OnOk, OnErr};
 ghost use Rattle.mc_item.specs.declared.{item.StripeNo.StripeNo, class_event.ClassEvent.ClassEvent};
 ghost use Rattle.mc_segment.specs.ClassState.{with_room};
@@ -15,21 +15,21 @@ use mc_segment::ClassState;
 use mc_stripe::StripeState;
 use std::alloc::Global;
 
-/// What was done with an entry, and how many events its stripe had.
+/// What was done with an entry, and how many events its stripe had before that.
 #[derive(Clone, Copy, Debug, PartialEq, Eq)]
 pub struct Judged {
     pub done: Done,
     pub at: u64,
 }
 
-/// What a gate has answered: the stripe that was asked for, and, where it was had, what was done.
+/// A gate's answer: the stripe that it was asked for, and what was done, if the stripe was reached.
 #[derive(Clone, Copy, Debug, PartialEq, Eq)]
 pub struct Answer {
     pub stripe: StripeNo,
     pub judged: Option<Judged>,
 }
 
-/// One entry of a class, to be judged with the state of its stripe.
+/// A look at one entry of a class, which is to be judged with the state of its key's stripe.
 #[derive(Drop)]
 pub struct Look<'a> {
     pub alloc: Global,
@@ -39,7 +39,7 @@ pub struct Look<'a> {
 }
 
 impl<'a> Look<'a> {
-    /// A look at an entry. It takes no memory.
+    /// Returns a look at an entry that isn't judged yet. It takes no memory.
     pub fn new(
         alloc: Global,
         class: &'a mut ClassState,
@@ -69,8 +69,9 @@ impl<'a> Look<'a> {
         }
     }
 
-    /// Judges the entry with its stripe. It is done once. `HistoryFull` is answered where one of both histories has no place
-    /// for what is to be done, `NoMemory` where a growth was refused; then nothing happened.
+    /// Judges the entry with its stripe, once, and returns what was done.
+    /// Errors: `HistoryFull` if the class or the stripe has no place in its history for what is to be done, `NoMemory` if memory
+    /// is refused. Neither history has changed then.
     pub fn settle(&mut self, stripe: &mut StripeState) -> Result<Done, Fault>
         requires asked { IsAsked self.old.class.now stripe.old self.old.ask }
         requires once { self.old.judged ≡ None }
@@ -97,7 +98,7 @@ impl<'a> Look<'a> {
     }
 }
 
-/// What lets a walk look at the stripe of an entry.
+/// Reaches the stripe of an entry's key for a walk, or says that it can't now, as when another thread has locked it.
 pub trait Gate {
     ghost use Rattle.std.specs.Prelude.{List, ℕ};
     ghost use Rattle.mc_item.specs.declared.{config.Config.Config, class_event.ClassEvent.ClassEvent, fault.Fault.Fault};
@@ -105,23 +106,24 @@ pub trait Gate {
     ghost use Rattle.mc_pull.specs.Walker.{Walker};
     ghost use Rattle.mc_pull.specs.declared.looking.Answer.{Answer};
 
-    /// The answers so far.
+    /// Its answers so far, oldest first.
     ghost answers: { Self → List Answer };
 
     /// It can judge entries of this class, and the stripes that it reaches were made with this configuration.
     ghost serves: { Self → Config → ClassView → Type 0 };
 
-    /// The mutable references that it holds, by their ghost names: a visit keeps them.
+    /// The mutable references that it holds, by their ghost names. A visit keeps them.
     ghost references: { Self → List ℕ };
 
-    /// The faults that a visit may answer: it tells that it had to, by how it leaves the gate and the class.
+    /// The faults that a visit may return, by the gate and the class as the visit leaves them.
     ghost faults: { Self → ClassView → Fault → Type 0 };
 
-    /// What each visit of a walker keeps of the gate and the class's history since any earlier state of both.
+    /// What each visit for a walker keeps, since any earlier state of the gate and of the class's history.
     ghost keeps: { Walker → Self → List ClassEvent → Self → List ClassEvent → Type 0 };
 
-    /// Lends the state of a stripe to a look, which judges its entry: one of a key of that stripe. False: the stripe
-    /// was not had, and nothing changed.
+    /// Lends the state of a stripe to a look, which judges its entry. The entry's key is of that stripe, and the look isn't
+    /// judged yet. Returns whether the stripe was reached. If not, the class's history is unchanged.
+    /// Errors: those that `faults` allows. The class's history and the answers are then unchanged.
     fn visit(&mut self, stripe: StripeNo, look: &mut Look<'_>) -> Result<bool, Fault>
         requires gate { serves self.old look.old.ask.config.now look.old.class.now }
         requires class { IsClassOf look.old.ask.config.now look.old.class.now }

@@ -1,4 +1,4 @@
-//! A class's part of a command is made.
+//! A command's events in a class.
 ghost use Rattle.std.specs.Prelude.{◌≡◌, ◌≤◌, true};
 ghost use Rattle.mc_segment.specs.ClassState.{HasPlaces};
 ghost use Rattle.mc_pull.specs.{Settled.class_with, Parts.part_events, Parts.Copies, Parts.MayMake};
@@ -9,7 +9,7 @@ use crate::parts::Part;
 use mc_item::{Key, Passed, Seg, Who, Why};
 use mc_segment::ClassState;
 
-/// Makes the events of a class's part, which room was made for. `copy` is the key of a new entry once more, if events are kept.
+/// Makes the events of a class's part, for which there must be room. If events are kept, `copy` is a new entry's key once more.
 #[inline(always)]
 pub(crate) fn make(
     class: &mut ClassState,

@@ -1,4 +1,4 @@
-//! The table of the segments.
+//! The table of the segments: what becomes of an entry.
 ghost use Rattle.std.specs.Prelude.{◌≡◌, Bool, false};
 ghost use Rattle.mc_item.specs.declared.lists.Seg.TheVariants.{Hot, Warm, Cold};
 ghost use Rattle.mc_pull.specs.Outcome as table;

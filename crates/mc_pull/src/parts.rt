@@ -1,4 +1,4 @@
-//! A class's part of a command.
+//! A class's part of a command: which of its entries are added, removed or moved.
 ghost use Rattle.std.specs.Prelude.{◌≡◌, ◌≤◌, ◌<◌, ◌^◌, true, Some, IfSome};
 ghost use Rattle.mc_rule.specs.{Lists.lists_of, Lists.count_of, Lists.segment_of, Lawful.IsListed};
 ghost use Rattle.mc_item.specs.declared.lists.Seg.TheVariants.{Cold};
@@ -12,28 +12,28 @@ use mc_segment::ClassState;
 /// A class's part of a command.
 #[derive(Drop)]
 pub(crate) enum Part {
-    /// None.
+    /// No entry changes.
     Nothing,
-    /// A new entry.
+    /// A new entry is added.
     Links {
         key: Key,
         cost: u64,
         expiry: Expiry,
     },
-    /// A new entry, and the old one goes.
+    /// A new entry is added, and the old one, of this number, is removed.
     Renews {
         key: Key,
         cost: u64,
         expiry: Expiry,
         number: u64,
     },
-    /// The entry of this number goes.
+    /// The entry of this number is removed.
     Unlinks(u64),
-    /// The entry of this number goes from COLD to WARM's head.
+    /// The entry of this number moves from COLD to WARM's head.
     Warms(u64),
 }
 
-// Whether a class has the entry of a number, and of this key.
+// Whether a class has an entry of this number and this key.
 #[inline(always)]
 fn is_for(class: &ClassState, key: &Key, number: u64) -> bool
     ensures value { result ≡ words.is_for key.now (entry_of number (lists_of class.now.history)) }
@@ -45,10 +45,10 @@ fn is_for(class: &ClassState, key: &Key, number: u64) -> bool
     }
 }
 
-// The number of a link, where the class has its entry.
+// The number of a link, if the class has its entry under this key.
 #[inline(always)]
-pub(crate) fn number_in(class: &ClassState, key: &Key, link: Option<Link>) -> Option<u64>
-    ensures value { result ≡ words.number_in class.now key.now link }
+pub(crate) fn entry_number(class: &ClassState, key: &Key, link: Option<Link>) -> Option<u64>
+    ensures value { result ≡ words.entry_number class.now key.now link }
     ensures listed { IfSome result (λ number. IsListed number (lists_of class.now.history)) }
 {
     match link {
@@ -74,7 +74,6 @@ pub(crate) fn is_here(class: &ClassState, room: Room) -> bool
     }
 }
 
-// Whether an entry lies in COLD.
 fn is_cold(class: &ClassState, number: u64) -> bool
     ensures value { result ≡ words.is_cold (segment_of number (lists_of class.now.history)) }
     ensures cold { result ≡ true → segment_of number (lists_of class.now.history) ≡ Some Cold }
@@ -90,7 +89,7 @@ fn is_cold(class: &ClassState, number: u64) -> bool
     }
 }
 
-/// The part of a new version whose entry comes into the class.
+/// The part if a new version's entry is added to the class. `old` is the replaced item's entry, if that is in the class too.
 #[inline(always)]
 pub(crate) fn linked_part(
     class: &ClassState,
@@ -117,7 +116,7 @@ pub(crate) fn linked_part(
     }
 }
 
-// The part of an item that goes.
+// The part if an item is removed: its entry, if the class has it, is removed.
 #[inline(always)]
 pub(crate) fn gone_part(class: &ClassState, number: Option<u64>) -> Part
     requires { IfSome number (λ number. IsListed number (lists_of class.now.history)) }
@@ -131,7 +130,7 @@ pub(crate) fn gone_part(class: &ClassState, number: Option<u64>) -> Part
     }
 }
 
-// The part of a hit that makes an item ACTIVE.
+// The part in a hit that makes an item ACTIVE: its entry moves to WARM, if it is in COLD here.
 pub(crate) fn hit_part(class: &ClassState, number: Option<u64>) -> Part
     ensures part { result ≡ words.hit_part class.now number }
     ensures may { MayMake class.now result }

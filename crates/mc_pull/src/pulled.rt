@@ -16,7 +16,6 @@ pub struct Pulled {
 }
 
 impl Pulled {
-    // Nothing yet.
     pub(crate) fn none() -> Pulled
         ensures { result ≡ none_pulled }
     {
@@ -28,7 +27,7 @@ impl Pulled {
         }
     }
 
-    // The counts after one more answer.
+    // The counts after one more answer of a gate.
     pub(crate) fn counted(self, judged: Option<Judged>) -> Pulled
         requires { sum_of self < 2 ^ 63 }
         ensures { result ≡ counts_if judged self }
@@ -69,7 +68,6 @@ impl Pulled {
         }
     }
 
-    // Whether a walk did something.
     pub(crate) fn did_something(self) -> bool
         requires { sum_of self ≤ 15 }
         ensures { result ≡ words.did_something self }
@@ -77,7 +75,6 @@ impl Pulled {
         0 < self.reclaimed + self.moved + self.evicted
     }
 
-    // The counts of two walks together.
     pub(crate) fn plus(self, other: Pulled) -> Pulled
         requires { sum_of self + sum_of other ≤ 10000 }
         ensures { result ≡ words.plus self other }
@@ -91,7 +88,7 @@ impl Pulled {
     }
 }
 
-// Whether a walk ends with an answer.
+// Whether a walk ends after an answer.
 pub(crate) fn ends_with(judged: Option<Judged>) -> bool
     ensures { result ≡ words.is_end_if judged }
 {

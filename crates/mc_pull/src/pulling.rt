@@ -1,4 +1,4 @@
-//! Walks along the tail of a list.
+//! Walks along a list from its tail.
 ghost use Rattle.std.specs.Prelude.{◌≡◌, ◌<◌, ◌≤◌, ◌++◌, ◌∷◌, [], List, true, false, length, take, reverse, IfOk, IfErr, OnErr};
 ghost use Rattle.mc_rule.specs.{Lists.lists_of, Lists.list_of, Lists.count_of, Segment.numbers_of};
 ghost use Rattle.mc_segment.specs.ClassState.{with_room};
@@ -15,10 +15,10 @@ use mc_item::{Config, Fault, Passed, Seg, StripeNo, Who, stripe_of};
 use mc_segment::ClassState;
 use std::alloc::Global;
 
-// How many entries a walk looks at, at most (own).
+// The most entries that a walk looks at (own).
 const MOST_LOOKS: u64 = 5;
 
-// The numbers of this many entries from a list's tail.
+// The numbers of this many entries, from a list's tail on.
 fn passed_behind(class: &ClassState, seg: Seg, place: u64) -> Passed
     requires few { place ≤ 4 }
     requires there { place ≤ length (list_of (lists_of class.now.history) seg) }
@@ -32,7 +32,7 @@ fn passed_behind(class: &ClassState, seg: Seg, place: u64) -> Passed
     Passed::of(&numbers[..place as usize])
 }
 
-// Whether a walk of this mode still wants a chunk.
+// Whether a walk of this mode still goes on. One that looks for a chunk ends when a chunk is free.
 fn is_wanted(class: &ClassState, mode: Mode) -> bool
     ensures { result ≡ words.is_wanted mode class.now.chunks (count_of (lists_of class.now.history)) }
 {
@@ -43,7 +43,7 @@ fn is_wanted(class: &ClassState, mode: Mode) -> bool
     }
 }
 
-// One entry is looked at.
+// Looks at one entry through the gate.
 fn look_at<G: Gate>(
     alloc: Global,
     class: &mut ClassState,
@@ -121,11 +121,11 @@ fn look_next<G: Gate>(
     Ok(Answer { stripe, judged })
 }
 
-/// Looks at up to five entries, from a list's tail on, each by one try at its stripe, and does with those whose stripe
-/// was had what the rule of the segment says. It ends where that says so, or where no chunk is wanted any more, and
-/// answers how many entries it reclaimed, moved, evicted and passed. Its faults are the gate's; the events so far then
-/// stand. A walk by a survey names one that is the class's own, of this call and moment; one that takes an entry goes
-/// along COLD, and one that forces an entry out along HOT.
+/// Walks along a list from its tail, and returns how many entries it reclaimed, moved, evicted and passed. It looks at up to five
+/// entries, with one try at the stripe of each. If the stripe is reached, the segment's rule says what is done; else the entry is
+/// passed. The walk ends where the rule says so, or, if it looks for a chunk, when one is free.
+/// `Plain` must name a survey of this class, by this call and at this moment. `Evict` walks only COLD, `Force` only HOT.
+/// Errors: the gate's faults. Events made so far remain.
 pub fn pull_tail<G: Gate>(
     alloc: Global,
     class: &mut ClassState,

@@ -11,17 +11,16 @@ use mc_item::{Config, Fault, Seg, Who};
 use mc_segment::ClassState;
 use std::alloc::Global;
 
-// How many rounds are made at most for a chunk (own).
+// The most rounds in a search for a chunk (own).
 const MOST_ROUNDS: u64 = 10;
 
-// Whether a class has a free chunk.
 fn is_free(class: &ClassState) -> bool
     ensures { result ≡ words.is_free class.now class.now.history }
 {
     class.count() < class.chunks()
 }
 
-// One round of making room in a class without a free chunk.
+// Makes one round in a full class: pulls COLD to evict an entry, and if that did nothing, HOT to force one to COLD.
 fn room_round<G: Gate>(
     alloc: Global,
     class: &mut ClassState,
@@ -67,9 +66,8 @@ fn room_round<G: Gate>(
     Ok(())
 }
 
-/// Makes room in a class: up to ten rounds, each of which pulls COLD for an entry to take, and, where that did nothing,
-/// HOT for one to force to COLD. It answers whether a chunk is free. Its faults are the gate's; the events so far then
-/// stand.
+/// Makes room in a class, and returns whether a chunk is free. It takes up to ten rounds, until one is. A round pulls COLD to
+/// evict an entry, and if that did nothing, HOT to force one to COLD. Errors: the gate's faults. Events made so far remain.
 pub fn make_room<G: Gate>(
     alloc: Global,
     class: &mut ClassState,

@@ -1,4 +1,4 @@
-//! One entry is judged with its stripe, and what is to be done is done in both.
+//! Judges one entry with its stripe, and does what follows in both.
 ghost use Rattle.std.specs.Prelude.{◌≡◌, ◌<◌, ◌⊎◌, length, IfOk, IfErr, OnOk, OnErr, IsSomeAnd, MatchResult};
 ghost use Rattle.mc_rule.specs.{Segment.rule_of, Lawful.IsListed, Lists.lists_of};
 ghost use Rattle.mc_segment.specs.{ClassState.with_room, ClassState.HasPlaces, ClassState.MayRefuse, Entries.entry_of};
@@ -19,7 +19,7 @@ use mc_segment::ClassState;
 use mc_stripe::StripeState;
 use std::alloc::Global;
 
-// Makes room for an event of a class and one of a stripe, and copies the entry's key for the stripe's.
+// Makes room for one event of the class and one of the stripe, and copies the entry's key for the stripe's event.
 fn prepare(
     alloc: Global,
     class: &mut ClassState,
@@ -49,7 +49,7 @@ fn prepare(
     Ok(key)
 }
 
-// The numbers behind an entry.
+// The numbers of the entries between this one and the tail.
 fn passed_of(judge: &Judge) -> Passed
     ensures { result ≡ words.passed_of judge.now }
 {
@@ -59,7 +59,7 @@ fn passed_of(judge: &Judge) -> Passed
     }
 }
 
-// Why an entry of this segment goes to COLD.
+// Why an entry of this segment moves to COLD.
 fn cold_why(class: &ClassState, seg: Seg, mode: Mode, config: &Config) -> Why
     ensures { result ≡ table.cold_why (rule_of config.now) (lists_of class.now.history) seg mode }
 {
@@ -76,7 +76,7 @@ fn cold_why(class: &ClassState, seg: Seg, mode: Mode, config: &Config) -> Why
     }
 }
 
-// The entry of a dead item goes with it.
+// Removes a dead item and its entry.
 fn settle_dead(
     alloc: Global,
     class: &mut ClassState,
@@ -97,7 +97,7 @@ fn settle_dead(
     Ok(())
 }
 
-// An entry of COLD is taken, and its item goes.
+// Evicts an entry of COLD with its item.
 fn settle_taken(
     alloc: Global,
     class: &mut ClassState,
@@ -119,7 +119,7 @@ fn settle_taken(
     Ok(())
 }
 
-// An active entry goes to WARM's head, and its item is cooled.
+// Moves the entry of an ACTIVE item to WARM's head, and clears the mark.
 fn settle_active(
     alloc: Global,
     class: &mut ClassState,
@@ -153,7 +153,7 @@ fn settle_active(
     Ok(())
 }
 
-// An entry goes to COLD's head.
+// Moves an entry to COLD's head.
 fn settle_cold(
     class: &mut ClassState,
     stripe: &StripeState,
@@ -184,7 +184,7 @@ fn settle_cold(
     )
 }
 
-// Judges an entry, by what is to be done with it.
+// Finds what is to be done with an entry, and does it.
 fn settle_by(
     alloc: Global,
     class: &mut ClassState,
@@ -218,7 +218,6 @@ fn settle_by(
     Ok(made)
 }
 
-// Judges an entry.
 pub(crate) fn settle_ask(
     alloc: Global,
     class: &mut ClassState,
@@ -239,10 +238,11 @@ pub(crate) fn settle_ask(
     settle_by(alloc, class, stripe, ask)
 }
 
-/// Judges one entry with its stripe, by the rule of its segment or only for whether its item is dead, and makes the
-/// events of both histories. The entry is in a list; a walk names its list, and just the entries behind it. A stranger
-/// changes nothing. `HistoryFull` exactly where a history has no place for an event that is to be made, `NoMemory` only
-/// where one is to be made; then neither history has changed.
+/// Judges one entry with its stripe, makes the events of both histories, and returns what was done. It goes by the rule of the
+/// entry's segment, or asks only whether the item is dead. If the stripe has no item with the entry's chunk, nothing changes. The
+/// entry must be in a list. A walk must name that list, just the entries between this one and the tail, and a mode that fits.
+/// Errors: `HistoryFull` exactly if a history has no place for an event to be made, `NoMemory` only if an event is to be made.
+/// Neither history has changed then.
 pub fn settle(
     alloc: Global,
     class: &mut ClassState,

@@ -14,14 +14,14 @@ use mc_item::{ClassNo, Config, Entry, Item, Seg};
 use mc_segment::{ClassState, Survey};
 use mc_stripe::StripeState;
 
-// So many hundredths of an amount, rounded down.
+// This many hundredths of an amount, rounded down.
 fn share(amount: u64, hundredths: u64) -> u128
     ensures { result ≡ amount * hundredths / 100 }
 {
     amount as u128 * hundredths as u128 / 100
 }
 
-// A segment's share of the bytes in percent.
+// A segment's share of the bytes, in percent.
 fn percent_of(config: &Config, seg: Seg) -> u64
     ensures { result ≡ rules.percent_of (rule_of config.now) seg }
 {
@@ -33,7 +33,7 @@ fn percent_of(config: &Config, seg: Seg) -> u64
     }
 }
 
-// A segment's share of the cold age in hundredths.
+// A segment's share of the cold age, in hundredths.
 fn factor_of(config: &Config, seg: Seg) -> u64
     ensures { result ≡ rules.factor_of (rule_of config.now) seg }
 {
@@ -45,21 +45,21 @@ fn factor_of(config: &Config, seg: Seg) -> u64
     }
 }
 
-// Whether the bytes of a segment exceed the limit of a survey.
+// Whether a segment has more bytes than a survey allows it.
 pub(crate) fn is_over(class: &ClassState, seg: Seg, survey: Survey, config: &Config) -> bool
     ensures { result ≡ table.is_over (rule_of config.now) (lists_of class.now.history) seg survey }
 {
     share(survey.total, percent_of(config, seg)) < class.bytes(seg) as u128
 }
 
-// Whether an entry of a segment is older than a survey lets it be.
+// Whether an entry of a segment is older than a survey allows.
 fn is_old(seg: Seg, survey: Survey, moment: u64, entry: &Entry, config: &Config) -> bool
     ensures { result ≡ table.is_old (rule_of config.now) seg survey moment entry.now }
 {
     share(survey.cold_age, factor_of(config, seg)) < moment.saturating_sub(entry.time) as u128
 }
 
-// Whether an entry of a segment has to go by a survey.
+// Whether an entry is due to move by a survey: its segment has too many bytes, or it is too old. Other modes have no survey.
 fn is_due(
     class: &ClassState,
     seg: Seg,
@@ -86,7 +86,7 @@ fn has_link(class: ClassNo, number: u64, item: &Item) -> bool
     item.link.class.0 == class.0 && item.link.number == number
 }
 
-// What is to be done with an entry whose item this is.
+// What is to be done with an entry that has this item.
 fn verdict_by(
     class: &ClassState,
     judge: &Judge,
@@ -113,7 +113,7 @@ fn verdict_by(
     }
 }
 
-// What is to be done with an entry of a class, by a stripe.
+// What is to be done with an entry of a class, by its key's stripe.
 pub(crate) fn verdict(
     class: &ClassState,
     stripe: &StripeState,

@@ -1,4 +1,4 @@
--- The four lists of a slab class, newest first, and what each event leaves of them (own, modelled on new_lru.txt and items.c).
+-- The four lists of a slab class, newest first, and how events change them (this project's own, after new_lru.txt and items.c).
 use Rattle.std.specs.Prelude.{ℕ, ◌+◌, ◌≤◌, ◌==◌, List, [], ◌∷◌, if◌then◌else◌, Option, Some, None, length, reverse, slice_get}
 use Rattle.std.specs.Option.{option_map}
 use Rattle.mc_item.specs.declared.{lists.Entry.Entry, lists.Seg.Seg, class_event.ClassEvent.ClassEvent, class_event.Why.Why}
@@ -17,7 +17,7 @@ pub record Lists : Type 0 where
 abbrev pub no_lists : Lists
 no_lists = record { hot = []; warm = []; cold = []; temp = [] }
 
--- an entry, by its parts
+-- the entry with this number, key, cost in bytes, and time in seconds
 abbrev pub entry : ℕ → List ℕ → ℕ → ℕ → Entry
 entry number key cost time = record { number = number; key = key; cost = cost; time = time }
 
@@ -28,32 +28,32 @@ list_of l Warm = l.warm
 list_of l Cold = l.cold
 list_of l Temp = l.temp
 
--- the lists with another list for one segment
+-- the lists with this list for one segment
 abbrev pub with_list : Lists → Seg → List Entry → Lists
 with_list l Hot es = record l { hot = es }
 with_list l Warm es = record l { warm = es }
 with_list l Cold es = record l { cold = es }
 with_list l Temp es = record l { temp = es }
 
--- the entry of a number in a list
+-- the first entry of this number in a list, if there is one
 abbrev pub find : ℕ → List Entry → Option Entry
 find n [] = None
 find n (e ∷ es) = if e.number == n then Some e else find n es
 
--- a list without the entry of a number
+-- a list without its first entry of this number
 abbrev pub without : ℕ → List Entry → List Entry
 without n [] = []
 without n (e ∷ es) = if e.number == n then es else e ∷ without n es
 
--- the lists with an entry at the head of one
+-- the lists with this entry added at the head of one
 abbrev pub linked : Seg → Entry → Lists → Lists
 linked s e l = with_list l s (e ∷ list_of l s)
 
--- the lists without the entry of a number
+-- the lists without the entry of this number
 abbrev pub unlinked : ℕ → Lists → Lists
 unlinked n l = record { hot = without n l.hot; warm = without n l.warm; cold = without n l.cold; temp = without n l.temp }
 
--- the time of an entry after a move: a hit and an active entry's move set it to the moment, the others keep it (own)
+-- the time of an entry after a move: moves for a hit or of an active entry set it to the moment, the others keep it (own)
 abbrev pub time_after : Why → ℕ → ℕ → ℕ
 time_after whys.Hit moment time = moment
 time_after whys.Active moment time = moment
@@ -61,13 +61,13 @@ time_after (whys.Over place) moment time = time
 time_after (whys.Old place) moment time = time
 time_after whys.Forced moment time = time
 
--- the lists once an entry that was found has gone from one list to the head of another, or of its own
+-- the lists after the entry that was found, if one was, has moved from its list to the head of another, or of its own
 abbrev pub moved_entry : Option Entry → ℕ → Seg → Seg → Why → ℕ → Lists → Lists
 moved_entry None n from_seg to_seg why moment l = l
 moved_entry (Some e) n from_seg to_seg why moment l =
     linked to_seg (record e { time = time_after why moment e.time }) (with_list l from_seg (without n (list_of l from_seg)))
 
--- the lists once the entry of a number has gone from one list to the head of another, or of its own
+-- the lists after the entry of this number has moved from its list to the head of another, or of its own
 abbrev pub moved : ℕ → Seg → Seg → Why → ℕ → Lists → Lists
 moved n from_seg to_seg why moment l = moved_entry (find n (list_of l from_seg)) n from_seg to_seg why moment l
 
@@ -81,7 +81,7 @@ lists_after l (events.Reclaimed e) = unlinked e.number l
 lists_after l (events.Surveyed e) = l
 lists_after l (events.Refused e) = l
 
--- the lists after these events
+-- the lists after these events, from these lists on
 abbrev pub lists_from : Lists → List ClassEvent → Lists
 lists_from l [] = l
 lists_from l (e ∷ es) = lists_from (lists_after l e) es
@@ -95,7 +95,7 @@ abbrev pub cost_sum : List Entry → ℕ
 cost_sum [] = 0
 cost_sum (e ∷ es) = e.cost + cost_sum es
 
--- the bytes of a segment's list
+-- the bytes of a segment's list: the sum of its costs
 abbrev pub bytes_of : Lists → Seg → ℕ
 bytes_of l s = cost_sum (list_of l s)
 
@@ -103,33 +103,33 @@ bytes_of l s = cost_sum (list_of l s)
 abbrev pub count_of : Lists → ℕ
 count_of l = length l.hot + length l.warm + length l.cold + length l.temp
 
--- each chunk of the class is taken
+-- each chunk of the class is taken: there are at least as many entries as chunks
 abbrev pub IsFull : ℕ → Lists → Type 0
 IsFull chunks l = chunks ≤ count_of l
 
--- a segment with what was found in it, or what was found elsewhere
+-- the segment with the entry that was found in it, otherwise what was found elsewhere
 abbrev pub found_in : Seg → Option Entry → Option (Seg × Entry) → Option (Seg × Entry)
 found_in s None other = other
 found_in s (Some e) other = Some (s, e)
 
--- the segment and the entry of a number
+-- the segment and the entry of this number, if there is one
 abbrev pub found : ℕ → Lists → Option (Seg × Entry)
 found n l = found_in Hot (find n l.hot) (found_in Warm (find n l.warm) (found_in Cold (find n l.cold) (found_in Temp (find n l.temp) None)))
 
--- the segment that a number is in
+-- the segment that has the entry of this number, if there is one
 abbrev pub segment_of : ℕ → Lists → Option Seg
 segment_of n l = option_map (λ p. p.0) (found n l)
 
--- the entry at a place of a list, counted from its tail
+-- the entry at a place of a list, counted from 0 at its tail, if there is one
 abbrev pub from_tail : List Entry → ℕ → Option Entry
 from_tail es place = slice_get (reverse es) place
 
--- how often a number stands in a list
+-- how many entries of a list have this number
 abbrev pub times : ℕ → List Entry → ℕ
 times n [] = 0
 times n (e ∷ es) = (if e.number == n then 1 else 0) + times n es
 
--- how often a number stands in the lists
+-- how many entries of all lists have this number
 abbrev pub times_in : ℕ → Lists → ℕ
 times_in n l = times n l.hot + times n l.warm + times n l.cold + times n l.temp
 
@@ -143,7 +143,7 @@ entries_linked_by (events.Reclaimed e) = 0
 entries_linked_by (events.Surveyed e) = 0
 entries_linked_by (events.Refused e) = 0
 
--- how many entries were linked: the number of the next one, as they are numbered from 0
+-- how many entries these events linked: as entries are numbered from 0, this is the number of the next one
 abbrev pub entries_linked : List ClassEvent → ℕ
 entries_linked [] = 0
 entries_linked (e ∷ es) = entries_linked_by e + entries_linked es

@@ -1,2 +1,1 @@
-//! The rule of the segments, as definitions alone: what each event leaves of a slab class's lists, which numbers the
-//! rule needs, and which events may come next.
+//! Definitions without code: the rules of a slab class's segments and events, and what stripes and classes note of each other.

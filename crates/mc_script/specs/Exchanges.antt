@@ -1,4 +1,4 @@
--- Calls, their answers, and exchanges: a call with its answer, in a turn of its caller.
+-- Calls, and exchanges: a call with its answer, in a turn of its caller (the call's number).
 use Rattle.std.specs.Prelude.{ℕ, ◌+◌, List, [], ◌∷◌}
 use Rattle.mc_item.specs.declared.{command.Command.Command, item.ClassNo.ClassNo, item.Who.Who}
 use Rattle.mc_proto.specs.Answers.{Answer, Counted, Replied, Moved}
@@ -9,7 +9,7 @@ pub data ScriptCall : Type 0 where
   Juggles : ClassNo → ScriptCall
   Crawls : ClassNo → ScriptCall
 
--- an answer is of its call's kind: a command is replied to, the maintainer's work moves, and the crawler's counts
+-- the answer fits the call: a reply to a command, moves for the maintainer's work, a histogram for the crawler's
 abbrev pub IsOfKind : ScriptCall → Answer → Type 0
 IsOfKind (Asks command) (Replied reply) = Unit {0}
 IsOfKind (Juggles class) (Moved moves) = Unit {0}
@@ -21,25 +21,25 @@ IsOfKind (Juggles class) (Counted histogram) = ⊥
 IsOfKind (Crawls class) (Replied reply) = ⊥
 IsOfKind (Crawls class) (Moved moves) = ⊥
 
--- these are answers to the first of these calls, each of its call's kind
+-- each of these answers fits its call; the last calls may have none
 abbrev pub AreAnswers : List ScriptCall → List Answer → Type 0
 AreAnswers calls [] = Unit {0}
 AreAnswers [] (answer ∷ answers) = ⊥
 AreAnswers (call ∷ calls) (answer ∷ answers) = IsOfKind call answer × AreAnswers calls answers
 
--- an exchange, a call with its answer: who made it, the call and its moment, and the answer
+-- a call with its answer: who made it, the call, its moment (the time in seconds), and the answer
 pub record Exchange : Type 0 where
   pub who : Who
   pub call : ScriptCall
   pub moment : ℕ
   pub answer : Answer
 
--- the exchange of a caller's turn
+-- the exchange of this caller in this turn
 abbrev pub exchange : ℕ → ℕ → ScriptCall → ℕ → Answer → Exchange
 exchange caller turn call moment answer =
     record { who = record { caller = caller; turn = turn }; call = call; moment = moment; answer = answer }
 
--- the exchanges of these calls with their answers, as far as there are answers, from a turn on: turns rise by one with each call
+-- the exchanges of those calls that have answers: all at this moment, in turns that rise by one from this turn
 abbrev pub exchanges : ℕ → ℕ → ℕ → List ScriptCall → List Answer → List Exchange
 exchanges caller turn moment (call ∷ calls) (answer ∷ answers) = exchange caller turn call moment answer ∷ exchanges caller (turn + 1) moment calls answers
 exchanges caller turn moment [] answers = []

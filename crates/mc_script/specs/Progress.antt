@@ -1,4 +1,4 @@
--- A run on its way: requests that were answered so far, with texts that were taken or that are gathered.
+-- A script's run on its way: the requests answered so far, and their texts, which the sink took or which are still gathered.
 use Rattle.std.specs.Prelude.{ℕ, ◌≡◌, ◌<◌, List, [], ◌∷◌, ◌++◌, Option, Some, None, true, false, length}
 use Rattle.mc_item.specs.declared.fault.Fault.{Fault}
 use Rattle.mc_item.specs.declared.fault.Fault.TheVariants as faults
@@ -9,7 +9,7 @@ use Rattle.mc_script.specs.Script.{Answered, AreWhole, all_exchanges, calls_of, 
 use Rattle.mc_script.specs.declared.{outcome.Outcome.Outcome, scripting.Progress.Progress}
 use Rattle.mc_script.specs.declared.scripting.Progress.TheVariants.{More, Ended, Memory, Full, Output}
 
--- these requests were answered, and their texts are taken or gathered
+-- these requests were answered, and their texts are what the sink took since the start, then what is still gathered
 pub record HasAnswered (limits : Limits) (answered : List Answered) (start taken text : List ℕ) (notes : List Exchange
     → Type 0) (caller turn moment : ℕ) : Type 0 where
   pub whole : AreWhole limits answered
@@ -20,7 +20,7 @@ pub record HasAnswered (limits : Limits) (answered : List Answered) (start taken
   pub turn_is : turn ≡ turn_behind limits 0 answered
   pub moment_is : moment ≡ moment_behind first_moment answered
 
--- these were answered, and the first calls of the next
+-- these requests were answered, and the next one failed after its first calls
 pub record HasFailed (fault : Fault) (limits : Limits) (request : Request) (answered : List Answered) (start taken text : List ℕ) (notes : List Exchange
     → Type 0) (caller : ℕ) : Type 0 where
   pub whole : AreWhole limits answered
@@ -34,28 +34,28 @@ pub record HasFailed (fault : Fault) (limits : Limits) (request : Request) (answ
   pub notes_part : notes (all_exchanges limits caller 0 first_moment answered
       ++ exchanges caller (turn_behind limits 0 answered) (moment_behind first_moment answered) (calls_of limits request) answers)
 
--- these were answered, and a beginning of their texts is taken
+-- these requests were answered, and the sink took a beginning of their texts
 pub record HasTorn (limits : Limits) (answered : List Answered) (start taken : List ℕ) (notes : List Exchange → Type 0) (caller : ℕ) : Type 0 where
   pub whole : AreWhole limits answered
   pub texts : IsBeginning start taken (texts_of answered)
   pub notes_all : notes (all_exchanges limits caller 0 first_moment answered)
 
--- the first of these ends its script
+-- the first of these requests ends the script
 abbrev pub EndsHere : List Request → Type 0
 EndsHere [] = ⊥
 EndsHere (r ∷ rs) = ends r ≡ true
 
--- the first of these failed
+-- the first of these requests failed, and those before it were answered
 abbrev pub FailsHere : Fault → Limits → List Request → List Answered → List ℕ → List ℕ → List ℕ → (List Exchange → Type 0) → ℕ → Type 0
 FailsHere fault limits [] answered start taken text notes caller = ⊥
 FailsHere fault limits (r ∷ rs) answered start taken text notes caller = HasFailed fault limits r answered start taken text notes caller
 
--- none of these sets a moment above 2^62, or names a class that isn't there
+-- none of these requests sets a time above 2^62 or names a class that doesn't exist
 abbrev pub AreModerate : Limits → List Request → Type 0
 AreModerate limits [] = Unit {0}
 AreModerate limits (r ∷ rs) = IsModerate limits r × AreModerate limits rs
 
--- how far requests were answered: all, up to one that ends the script, or up to one that failed
+-- how far requests were answered: all, up to one that ends the script, up to one that failed, or until the sink failed
 abbrev pub IsProgress : Progress → Limits → List Request → List Answered → List ℕ → List ℕ → List ℕ → (List Exchange → Type 0) → ℕ → ℕ → ℕ → Type 0
 IsProgress More limits back answered start taken text notes caller turn moment = (back ≡ [])
     × HasAnswered limits answered start taken text notes caller turn moment
@@ -65,7 +65,7 @@ IsProgress Memory limits back answered start taken text notes caller turn moment
 IsProgress Full limits back answered start taken text notes caller turn moment = FailsHere faults.HistoryFull limits back answered start taken text notes caller
 IsProgress Output limits back answered start taken text notes caller turn moment = HasTorn limits answered start taken notes caller
 
--- some of the requests, the first ones, were answered behind those that were before
+-- after those answered before, the first of these requests were answered too, and the run came as far as its progress says
 pub record Goes (progress : Progress) (limits : Limits) (requests : List Request) (before : List Answered) (start taken text : List ℕ) (notes : List Exchange
     → Type 0) (caller turn moment : ℕ) : Type 0 where
   pub front : List Request
@@ -76,14 +76,14 @@ pub record Goes (progress : Progress) (limits : Limits) (requests : List Request
   pub asked : requests_of added ≡ front
   pub state : IsProgress progress limits back (before ++ added) start taken text notes caller turn moment
 
--- so far these requests were answered behind those before
+-- so far these requests were answered, after those answered before
 pub record Went (limits : Limits) (yielded : List Request) (before : List Answered) (start taken text : List ℕ) (notes : List Exchange
     → Type 0) (caller turn moment : ℕ) : Type 0 where
   pub added : List Answered
   pub asked : requests_of added ≡ yielded
   pub state : HasAnswered limits (before ++ added) start taken text notes caller turn moment
 
--- a run between two pieces: what came was read as requests, none of which ends the script, and these were answered
+-- a run between two pieces of its input: all requests read so far were answered, and none of them ends the script
 pub record IsOnWay (limits : Limits) (state : State) (unread bytes left start taken text : List ℕ) (notes : List Exchange
     → Type 0) (caller turn moment : ℕ) : Type 0 where
   pub came : List ℕ
@@ -95,7 +95,7 @@ pub record IsOnWay (limits : Limits) (state : State) (unread bytes left start ta
   pub asked : requests_of done ≡ requests
   pub state_of : HasAnswered limits done start taken text notes caller turn moment
 
--- a piece was read on the way, which holds these requests
+-- a run read one more piece: `done` was answered before, and `added` are the requests that the piece completes
 pub record HasCome (limits : Limits) (bytes left : List ℕ) (done : List Answered) (added : List Request) : Type 0 where
   pub came : List ℕ
   pub requests : List Request
@@ -106,7 +106,7 @@ pub record HasCome (limits : Limits) (bytes left : List ℕ) (done : List Answer
   pub own : NoneEnds requests
   pub asked : requests_of done ≡ requests
 
--- a piece was answered whole, and its texts are out
+-- all requests of a piece were answered, none of them ends the script, and no text is left to print
 pub record AnswersWhole (limits : Limits) (start taken text : List ℕ) (notes : List Exchange
     → Type 0) (caller turn moment : ℕ) (done : List Answered) (added : List Request) : Type 0 where
   pub own : NoneEnds added
@@ -115,14 +115,14 @@ pub record AnswersWhole (limits : Limits) (start taken text : List ℕ) (notes :
   pub asked : requests_of now ≡ requests_of done ++ added
   pub state_of : HasAnswered limits now start taken text notes caller turn moment
 
--- what a piece leaves: the script goes on, or ends here
+-- what holds after a piece: it was answered whole and the script goes on, or the script ended with this outcome
 abbrev pub LeavesPiece : Option Outcome → Limits → List ℕ → List ℕ → List ℕ → List ℕ → List ℕ → (List Exchange → Type 0) → ℕ → ℕ → ℕ → List Answered
     → List Request → Type 0
 LeavesPiece None limits bytes left start taken text notes caller turn moment done added =
     AnswersWhole limits start taken text notes caller turn moment done added
 LeavesPiece (Some outcome) limits bytes left start taken text notes caller turn moment done added = Leaves outcome limits bytes left start taken notes caller
 
--- the sink failed just where that ended the requests
+-- the sink failed if the progress is `Output`, and only then
 abbrev pub AreWritten : Progress → ℕ → ℕ → Type 0
 AreWritten More writes writes' = writes' ≡ writes
 AreWritten Ended writes writes' = writes' ≡ writes

@@ -1,4 +1,4 @@
--- What a script's run leaves: what was printed, and which calls were made, by how the run ended.
+-- What holds after a script's run, by how it ended: what was printed, and which calls were made.
 use Rattle.std.specs.Prelude.{ℕ, ◌≡◌, ◌<◌, ◌≤◌, ◌⊎◌, List, [], ◌∷◌, ◌++◌, Option, Some, None, false, length}
 use Rattle.mc_item.specs.declared.fault.Fault.{Fault}
 use Rattle.mc_item.specs.declared.fault.Fault.TheVariants as faults
@@ -9,16 +9,16 @@ use Rattle.mc_script.specs.Script.{Answered, AreWhole, all_exchanges, calls_of, 
 use Rattle.mc_script.specs.declared.outcome.Outcome.{Outcome}
 use Rattle.mc_script.specs.declared.outcome.Outcome.TheVariants.{Done, Memory, HistoryFull, Input, Output}
 
--- the moment at which each script begins (own)
+-- the moment (time in seconds) at which each script begins (own)
 abbrev pub first_moment : ℕ
 first_moment = 1000
 
--- none of these ends its script
+-- none of these requests ends the script
 abbrev pub NoneEnds : List Request → Type 0
 NoneEnds [] = Unit {0}
 NoneEnds (r ∷ rs) = (ends r ≡ false) × NoneEnds rs
 
--- all requests of these bytes were answered: their texts were taken, and just their calls were made
+-- all requests of the script in these bytes were answered: the sink took their texts, and just their calls were made
 pub record HasRun (limits : Limits) (bytes start taken : List ℕ) (notes : List Exchange → Type 0) (caller : ℕ) : Type 0 where
   pub requests : List Request
   pub rest : List ℕ
@@ -29,7 +29,7 @@ pub record HasRun (limits : Limits) (bytes start taken : List ℕ) (notes : List
   pub texts : taken ≡ start ++ texts_of answered
   pub calls : notes (all_exchanges limits caller 0 first_moment answered)
 
--- the bytes that the source gave, of those that it had, and that requests of the script were read from
+-- the source gave all its bytes but those left, and these are the script's requests in what it gave
 pub record HasRead (limits : Limits) (bytes left : List ℕ) (own : List Request) : Type 0 where
   pub came : List ℕ
   pub split : bytes ≡ came ++ left
@@ -38,7 +38,7 @@ pub record HasRead (limits : Limits) (bytes left : List ℕ) (own : List Request
   pub reads : Reads limits came requests rest
   pub own_are : own_requests requests ≡ own
 
--- all replies to the bytes that came are out, and none of these bytes' requests ends the script
+-- all requests in the bytes that came were answered, the sink took their texts, and none of them ends the script
 pub record IsOut (limits : Limits) (bytes left start taken : List ℕ) : Type 0 where
   pub came : List ℕ
   pub split : bytes ≡ came ++ left
@@ -51,18 +51,18 @@ pub record IsOut (limits : Limits) (bytes left start taken : List ℕ) : Type 0 
   pub whole : AreWhole limits answered
   pub texts : taken ≡ start ++ texts_of answered
 
--- the source failed, or there was no memory for a piece behind: all requests of the bytes that came before were answered
+-- the source gave all its bytes but those left, and all requests of the script in what it gave were answered
 pub record HasRunTo (limits : Limits) (bytes left start taken : List ℕ) (notes : List Exchange → Type 0) (caller : ℕ) : Type 0 where
   pub came : List ℕ
   pub split : bytes ≡ came ++ left
   pub run : HasRun limits came start taken notes caller
 
--- a piece came that could not be read
+-- a piece came that could not be read, and all requests of the script in the bytes before it were answered
 pub record HasStarved (limits : Limits) (bytes left start taken : List ℕ) (notes : List Exchange → Type 0) (caller : ℕ) : Type 0 where
   pub piece : List ℕ
   pub run : HasRunTo limits bytes (piece ++ left) start taken notes caller
 
--- a request failed: the texts of those before it were taken, and of its own calls the first were made
+-- a request failed after its first calls, and the sink took the texts of all requests before it
 pub record HasStopped (fault : Fault) (limits : Limits) (bytes left start taken : List ℕ) (notes : List Exchange → Type 0) (caller : ℕ) : Type 0 where
   pub answered : List Answered
   pub request : Request
@@ -76,19 +76,19 @@ pub record HasStopped (fault : Fault) (limits : Limits) (bytes left start taken 
   pub calls : notes (all_exchanges limits caller 0 first_moment answered
       ++ exchanges caller (turn_behind limits 0 answered) (moment_behind first_moment answered) (calls_of limits request) answers)
 
--- the first calls of a request, with answers to them
+-- these exchanges are the first calls of a request with their answers
 pub record IsPartOf (limits : Limits) (request : Request) (caller turn moment : ℕ) (more : List Exchange) : Type 0 where
   pub answers : List Answer
   pub part : length answers ≤ length (calls_of limits request)
   pub kinds : AreAnswers (calls_of limits request) answers
   pub are : more ≡ exchanges caller turn moment (calls_of limits request) answers
 
--- no calls, or the first calls of the first of these requests
+-- these exchanges are the first calls of the first of these requests; without requests there are no exchanges
 abbrev pub ArePartOf : Limits → List Request → ℕ → ℕ → ℕ → List Exchange → Type 0
 ArePartOf limits [] caller turn moment more = more ≡ []
 ArePartOf limits (r ∷ rs) caller turn moment more = IsPartOf limits r caller turn moment more
 
--- the sink failed: it took a beginning of the texts of some first requests, all of whose calls were made
+-- the sink failed: it took a beginning of the texts of the first requests, and at most the next one's first calls were made
 pub record HasBroken (limits : Limits) (bytes left start taken : List ℕ) (notes : List Exchange → Type 0) (caller : ℕ) : Type 0 where
   pub answered : List Answered
   pub back : List Request
@@ -99,8 +99,7 @@ pub record HasBroken (limits : Limits) (bytes left start taken : List ℕ) (note
   pub part : ArePartOf limits back caller (turn_behind limits 0 answered) (moment_behind first_moment answered) more
   pub calls : notes (all_exchanges limits caller 0 first_moment answered ++ more)
 
--- what a run leaves, by how it ended: of these bytes so many are left, the sink took these behind those at the start,
--- and this is known of the calls
+-- what holds after a run with this outcome: of the bytes left, of what the sink took since the start, and of the calls
 abbrev pub Leaves : Outcome → Limits → List ℕ → List ℕ → List ℕ → List ℕ → (List Exchange → Type 0) → ℕ → Type 0
 Leaves Done limits bytes left start taken notes caller = HasRun limits bytes start taken notes caller
 Leaves Input limits bytes left start taken notes caller = HasRunTo limits bytes left start taken notes caller
@@ -109,7 +108,7 @@ Leaves Memory limits bytes left start taken notes caller =
 Leaves HistoryFull limits bytes left start taken notes caller = HasStopped faults.HistoryFull limits bytes left start taken notes caller
 Leaves Output limits bytes left start taken notes caller = HasBroken limits bytes left start taken notes caller
 
--- which side failed, and how often: none but that which the outcome names
+-- the source counted failures if the outcome is `Input`, the sink if it is `Output`, and no other failure was counted
 abbrev pub AreCounted : Outcome → ℕ → ℕ → ℕ → ℕ → Type 0
 AreCounted Done reads reads' writes writes' = (reads' ≡ reads) × (writes' ≡ writes)
 AreCounted Memory reads reads' writes writes' = (reads' ≡ reads) × (writes' ≡ writes)
@@ -117,7 +116,7 @@ AreCounted HistoryFull reads reads' writes writes' = (reads' ≡ reads) × (writ
 AreCounted Input reads reads' writes writes' = (reads < reads') × (writes' ≡ writes)
 AreCounted Output reads reads' writes writes' = (reads' ≡ reads) × (writes < writes')
 
--- the same of a script that may go on: then nothing failed
+-- failures are counted as the outcome says; as long as there is no outcome, nothing failed
 abbrev pub AreCountedSoFar : Option Outcome → ℕ → ℕ → ℕ → ℕ → Type 0
 AreCountedSoFar None reads reads' writes writes' = (reads' ≡ reads) × (writes' ≡ writes)
 AreCountedSoFar (Some outcome) reads reads' writes writes' = AreCounted outcome reads reads' writes writes'

@@ -1,4 +1,4 @@
--- Upkeep: the work of the maintainer and of the crawler beside scripts, and what it leaves, by how it ended (own).
+-- Upkeep, the work of the maintainer and of the crawler beside scripts, and what holds after it, by how it ended (own).
 use Rattle.std.specs.Prelude.{ℕ, ◌≡◌, List, [], ◌∷◌, ◌++◌, length}
 use Rattle.std.specs.List.{flat_map}
 use Rattle.mc_item.specs.declared.fault.Fault.{Fault}
@@ -11,33 +11,33 @@ use Rattle.mc_script.specs.Script.{Answered, AreWhole, all_exchanges, calls_of, 
 use Rattle.mc_script.specs.declared.{outcome.Outcome.Outcome, upkeep.Keeper.Keeper, upkeep.Keeper.TheVariants.Maintainer, upkeep.Keeper.TheVariants.Crawler}
 use Rattle.mc_script.specs.declared.outcome.Outcome.TheVariants.{Done, Memory, HistoryFull, Input, Output}
 
--- the directive that a script would give for a keeper's work on all slab classes
+-- the directive by which a script asks for the work of a keeper (maintainer or crawler) on all slab classes
 abbrev pub directive_of : Keeper → Request
 directive_of Maintainer = requests.Juggle All
 directive_of Crawler = requests.Crawl All
 
--- a keeper's work at these moments, as a script would ask for it: at each moment in order, all slab classes in rising number
+-- a keeper's work at these moments, as requests of a script: for each moment in order `%at` and the keeper's directive
 abbrev pub work_of : Keeper → List ℕ → List Request
 work_of keeper [] = []
 work_of keeper (moment ∷ moments) = requests.At moment ∷ directive_of keeper ∷ work_of keeper moments
 
--- how many calls a keeper's work at these moments is
+-- the number of calls in a keeper's work at these moments
 abbrev pub many_calls : Limits → Keeper → List ℕ → ℕ
 many_calls limits keeper moments = length (flat_map (calls_of limits) (work_of keeper moments))
 
--- a keeper's work at one moment was done: its calls were made
+-- a keeper did its work at one moment: all its calls were made
 pub record WorksAll (limits : Limits) (keeper : Keeper) (caller turn turn' moment : ℕ) (notes notes' : List Exchange → Type 0) : Type 0 where
   pub answers : List Answer
   pub makes : MakesCalls (calls_of limits (directive_of keeper)) answers caller turn turn' moment notes notes'
 
--- all of this work was done: just its calls were made
+-- all of this work was done, and just its calls were made
 pub record HasKeptUp (limits : Limits) (work : List Request) (notes : List Exchange → Type 0) (caller : ℕ) : Type 0 where
   pub answered : List Answered
   pub asked : requests_of answered ≡ work
   pub whole : AreWhole limits answered
   pub calls : notes (all_exchanges limits caller 0 first_moment answered)
 
--- the work broke off: of the calls of one request the first were made, behind those of the requests before it
+-- the work broke off: one request failed after its first calls, and all requests before it were answered
 pub record HasBrokenOff (fault : Fault) (limits : Limits) (work : List Request) (notes : List Exchange → Type 0) (caller : ℕ) : Type 0 where
   pub answered : List Answered
   pub request : Request
@@ -50,7 +50,7 @@ pub record HasBrokenOff (fault : Fault) (limits : Limits) (work : List Request) 
   pub calls : notes (all_exchanges limits caller 0 first_moment answered
       ++ exchanges caller (turn_behind limits 0 answered) (moment_behind first_moment answered) (calls_of limits request) answers)
 
--- what upkeep leaves, by how it ended: it reads and prints nothing
+-- what holds after upkeep with this outcome; `Input` and `Output` are impossible, as it reads and prints nothing
 abbrev pub KeepsUp : Outcome → Limits → List Request → (List Exchange → Type 0) → ℕ → Type 0
 KeepsUp Done limits work notes caller = HasKeptUp limits work notes caller
 KeepsUp Memory limits work notes caller = HasBrokenOff faults.NoMemory limits work notes caller

@@ -1,4 +1,4 @@
-//! One request: its calls are made, and its text is gathered.
+//! Answers one request: makes its calls, and gathers its text.
 ghost use Rattle.std.specs.Prelude.{◌≡◌, ◌≤◌, ◌++◌, ◌^◌, [], OnErr, OnOk, IfErr, IsErrOf, if◌then◌else◌};
 ghost use Rattle.mc_item.specs.declared.fault.Fault.TheVariants as faults;
 ghost use Rattle.mc_proto.specs.{Grammar.IsModerate, Text.fault_text, Text.reply_text};
@@ -13,8 +13,8 @@ use mc_item::{Command, Fault, Key, NoMemory, Reply};
 use mc_proto::{Keys, Limits, LineFault, ReplyText, Request};
 use std::sync::Wait;
 
-// One key of a get, with its value's text, where there is one. The text is begun before the key goes into the call, and
-// taken back on a miss, so no key is copied.
+// Looks up one key of a get, and on a hit adds the value's text. The text is begun before the call takes the key, and cut off
+// again on a miss, so no key is copied.
 #[inline(always)]
 fn answer_key<C: Calls>(
     rt: &impl Wait,
@@ -45,7 +45,7 @@ fn answer_key<C: Calls>(
     Ok(())
 }
 
-// A get, of one key or of a list: each in order, and the end of its text.
+// Answers a get of one key or more, in order, and ends its text.
 fn answer_get<C: Calls>(
     rt: &impl Wait,
     calls: &mut C,
@@ -78,7 +78,7 @@ fn answer_get<C: Calls>(
     Ok(())
 }
 
-// A reply's text, unless it is quiet.
+// Adds a reply's text, unless the request was quiet (`noreply`).
 fn push_unless(text: &mut ReplyText, reply: &Reply, quiet: bool) -> Result<(), NoMemory>
     ensures ok { OnOk result (text.new.items ≡ text.old.items ++ (if quiet then [] else reply_text reply.now)) }
     ensures err { OnErr result (text.new.items ≡ text.old.items) }
@@ -89,7 +89,7 @@ fn push_unless(text: &mut ReplyText, reply: &Reply, quiet: bool) -> Result<(), N
     text.push_reply(reply)
 }
 
-// Any other command.
+// Answers a command other than a get.
 fn answer_one<C: Calls>(
     rt: &impl Wait,
     calls: &mut C,
@@ -115,7 +115,7 @@ fn answer_one<C: Calls>(
     Ok(())
 }
 
-// The text of a refused line or block, unless it is quiet.
+// Adds the text for a refused line or block, unless it was quiet.
 fn refuse(text: &mut ReplyText, why: LineFault, quiet: bool) -> Result<(), Fault>
     ensures ok { OnOk result (text.new.items ≡ text.old.items ++ (if quiet then [] else fault_text why)) }
     ensures err { IfErr result (λ e. (e ≡ faults.NoMemory) × (text.new.items ≡ text.old.items)) }
@@ -126,7 +126,7 @@ fn refuse(text: &mut ReplyText, why: LineFault, quiet: bool) -> Result<(), Fault
     Ok(())
 }
 
-// A request that doesn't end its script. After an `Err` its text isn't there.
+// Answers a request. After an `Err` a part of its text may have been added.
 fn answer_whole<C: Calls>(
     rt: &impl Wait,
     limits: Limits,
@@ -165,7 +165,9 @@ fn answer_whole<C: Calls>(
     }
 }
 
-/// Answers a request that doesn't end its script. After an `Err` the text is as it was.
+/// Answers a request at a moment: makes its calls, and adds its text. `%at` sets the moment for later requests.
+/// A request that ends its script makes no call and adds no text.
+/// After `NoMemory` or `HistoryFull` the first calls may have been made, and the text is unchanged.
 pub fn answer_request<C: Calls>(
     rt: &impl Wait,
     limits: Limits,

@@ -1,4 +1,4 @@
-//! A caller's turns at whatever answers commands.
+//! The trait `Calls`: a caller, with whatever answers its calls.
 ghost use Rattle.std.specs.Prelude.{◌≡◌, ◌≤◌, ◌<◌, ◌+◌, ◌^◌, ◌∷◌, ℕ, List, [], IfOk, OnErr, OnOk, IsErrOf};
 ghost use Rattle.mc_item.specs.declared.fault.Fault.TheVariants as faults;
 ghost use Rattle.mc_item.specs.declared.item.ClassNo.{ClassNo};
@@ -8,9 +8,10 @@ ghost use Rattle.mc_script.specs.{Calls.AddsCalls, Calls.AddsUp, Exchanges.Asks,
 use mc_item::{ClassNo, Command, Fault, Histogram, Moves, Reply};
 use std::sync::Wait;
 
-/// A caller that makes calls, each in a turn of its own. What is known of its calls so far is a fact about the list of
-/// them with their answers: each call adds itself to it. Where it makes them stays as it is, and says which slab classes
-/// there are. When the next call may be made, each type says; after one that went well it may.
+/// A caller that makes calls, each in a turn of its own (`turn` is the next one's number).
+/// `notes` is what is known of its calls so far, a fact about the list of them with their answers. Each call adds itself to it.
+/// `place` is where it makes its calls. It never changes, and `has_class` says which slab classes it has.
+/// `may_call` says when the next call may be made, which is always so after a call that succeeded.
 pub trait Calls: Drop {
     ghost Place: { Type 0 };
 
@@ -28,7 +29,8 @@ pub trait Calls: Drop {
 
     ghost may_call: { Self → Type 0 };
 
-    /// Makes one command's call at a moment, and answers its reply.
+    /// Makes a command's call at a moment (time in seconds, at most 2^62), and returns the reply.
+    /// After `NoMemory` or `HistoryFull` nothing is added to `notes`. After `HistoryFull` also `is_full` holds.
     fn command(&mut self, rt: &impl Wait, command: Command, moment: u64) -> Result<Reply, Fault>
         requires may { may_call self.old }
         requires early { moment ≤ 2 ^ 62 }
@@ -41,7 +43,8 @@ pub trait Calls: Drop {
         ensures err { OnErr result (AddsCalls (notes self.old) (notes self.new) []) }
         ensures full { IsErrOf result faults.HistoryFull → is_full self.new };
 
-    /// Makes one call of the maintainer's work on a slab class at a moment: how many entries were reclaimed and moved.
+    /// Makes a call of the maintainer's work on a slab class at a moment, and returns how many entries it reclaimed and moved.
+    /// Both numbers are below 2^32. Errors are those of `command`.
     fn juggle(&mut self, rt: &impl Wait, class: ClassNo, moment: u64) -> Result<Moves, Fault>
         requires may { may_call self.old }
         requires early { moment ≤ 2 ^ 62 }
@@ -56,8 +59,8 @@ pub trait Calls: Drop {
         ensures err { OnErr result (AddsCalls (notes self.old) (notes self.new) []) }
         ensures full { IsErrOf result faults.HistoryFull → is_full self.new };
 
-    /// Makes one call of the crawler's work on a slab class at a moment: how many entries were seen, and how many of each
-    /// kind.
+    /// Makes a call of the crawler's work on a slab class at a moment, and returns how many entries of each kind it saw.
+    /// It sees at most 2^32 entries. Errors are those of `command`.
     fn crawl(&mut self, rt: &impl Wait, class: ClassNo, moment: u64) -> Result<Histogram, Fault>
         requires may { may_call self.old }
         requires early { moment ≤ 2 ^ 62 }

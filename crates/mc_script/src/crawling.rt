@@ -1,4 +1,4 @@
-//! The crawler's directive: it is one call for each class that it names, and the sum of their histograms is printed.
+//! `%crawl`, the crawler's directive: one call for each class that it names, and a text with the sum of their histograms.
 ghost use Rattle.std.specs.Prelude.{◌≡◌, ◌+◌, ◌<◌, ◌≤◌, ◌^◌, ℕ, map, IfErr, IfOk, OnOk, IsErrOf};
 ghost use Rattle.mc_item.specs.declared.fault.Fault.TheVariants as faults;
 ghost use Rattle.mc_proto.specs.{Answers.counts_of, Grammar.AreAmong};
@@ -11,7 +11,7 @@ use mc_item::{ClassNo, Fault, Histogram};
 use mc_proto::{Limits, ReplyText, Target};
 use std::sync::Wait;
 
-// So many classes from one on, in rising number. The answer is the sum of their histograms.
+// Crawls `count` classes in rising order from `first`, and returns the sum of their histograms.
 fn crawl_from<C: Calls>(
     rt: &impl Wait,
     calls: &mut C,
@@ -40,7 +40,7 @@ fn crawl_from<C: Calls>(
     Ok(sum)
 }
 
-// The classes that the directive names. The answer is the sum of their histograms.
+// Crawls the classes that the directive names, and returns the sum of their histograms.
 pub(crate) fn crawl_target<C: Calls>(
     rt: &impl Wait,
     limits: Limits,
@@ -67,7 +67,8 @@ pub(crate) fn crawl_target<C: Calls>(
     }
 }
 
-/// The crawler's directive: a call for each class, and then the sum of the histograms. After an `Err` no text was added.
+/// Answers `%crawl`: makes a call for each class that it names, and adds the sum of the histograms to the text.
+/// After `NoMemory` or `HistoryFull` some first calls may have been made, and no text was added.
 #[cold]
 #[inline(never)]
 pub fn answer_crawl<C: Calls>(

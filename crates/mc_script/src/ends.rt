@@ -1,12 +1,13 @@
-//! Where a script's bytes come from and its texts go.
+//! The trait `Ends`: where a script's bytes come from, and where its texts go.
 ghost use Rattle.std.specs.Prelude.{◌≡◌, ◌++◌, ◌<◌, ℕ, List, [], IfOk, OnOk, OnErr, MatchOption};
 ghost use Rattle.mc_proto.specs.Text.{IsBeginning};
 
 use crate::source::{Source, SourceFault};
 use mc_proto::{ReplyText, Sink, SinkFault};
 
-/// Where a script's bytes come from and where its texts go. Contracts see the bytes to come and those that were taken,
-/// count failures of both sides, and how often the end was reached. When the next piece may be asked for, each type says.
+/// Where a script's bytes come from, and where its texts go. Contracts see the bytes to come and the bytes taken.
+/// They count failed reads and writes, and how often the end was reached (`over`).
+/// `may_ask` says when the next piece may be asked for.
 pub trait Ends: Drop {
     ghost coming: { Self → List ℕ };
 
@@ -20,7 +21,7 @@ pub trait Ends: Drop {
 
     ghost may_ask: { Self → Type 0 };
 
-    /// The next bytes, or `None` at the end.
+    /// Returns the next bytes, or `None` at the end. A fault counts as a failed read, and the bytes to come stay the same.
     fn piece(&mut self) -> Result<Option<Vec<u8>>, SourceFault>
         requires { may_ask self.old }
         ensures ok { IfOk result (λ o. MatchOption o ((coming self.old ≡ []) × (coming self.new ≡ []))
@@ -30,7 +31,7 @@ pub trait Ends: Drop {
         ensures taken { taken self.new ≡ taken self.old }
         ensures writes { writes self.new ≡ writes self.old };
 
-    /// Takes a whole text, and leaves an empty one. After a fault a beginning of it was taken, and nothing else.
+    /// Takes a whole text, and leaves it empty. A fault counts as a failed write: then just a beginning of the text was taken.
     fn put_whole(&mut self, text: &mut ReplyText) -> Result<(), SinkFault>
         ensures ok { OnOk result ((taken self.new ≡ taken self.old ++ text.old.items) × (text.new.items ≡ [])) }
         ensures fine { OnOk result (writes self.new ≡ writes self.old) }
@@ -40,7 +41,7 @@ pub trait Ends: Drop {
         ensures over { over self.new ≡ over self.old };
 }
 
-/// A source and a sink that don't know of one another: the source may be asked at any time.
+/// A source and a sink that are independent of each other: the source may be asked at any time.
 #[derive(Drop)]
 pub struct Both<S: Drop, K: Drop> {
     pub source: S,

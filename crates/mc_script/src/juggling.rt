@@ -1,4 +1,4 @@
-//! The maintainer's directive: it is one call for each class that it names, and their sums are printed.
+//! `%juggle`, the maintainer's directive: one call for each class that it names, and a text with the sums of their moves.
 ghost use Rattle.std.specs.Prelude.{◌≡◌, ◌+◌, ◌<◌, ◌≤◌, ◌^◌, ℕ, map, IfErr, IfOk, OnOk, IsErrOf};
 ghost use Rattle.mc_item.specs.declared.fault.Fault.TheVariants as faults;
 ghost use Rattle.mc_proto.specs.{Answers.moves_of, Grammar.AreAmong};
@@ -11,7 +11,7 @@ use mc_item::{ClassNo, Fault, Moves};
 use mc_proto::{Limits, ReplyText, Target};
 use std::sync::Wait;
 
-// So many classes from one on, in rising number. The answer is the sums of their moves.
+// Juggles `count` classes in rising order from `first`, and returns the sums of their moves.
 fn juggle_from<C: Calls>(
     rt: &impl Wait,
     calls: &mut C,
@@ -44,7 +44,7 @@ fn juggle_from<C: Calls>(
     Ok(sums)
 }
 
-// The classes that the directive names. The answer is the sums of their moves.
+// Juggles the classes that the directive names, and returns the sums of their moves.
 pub(crate) fn juggle_target<C: Calls>(
     rt: &impl Wait,
     limits: Limits,
@@ -71,7 +71,8 @@ pub(crate) fn juggle_target<C: Calls>(
     }
 }
 
-/// The maintainer's directive: a call for each class, and then the sums of the moves. After an `Err` no text was added.
+/// Answers `%juggle`: makes a call for each class that it names, and adds the sums of the moves to the text.
+/// After `NoMemory` or `HistoryFull` some first calls may have been made, and no text was added.
 #[cold]
 #[inline(never)]
 pub fn answer_juggle<C: Calls>(

@@ -1,4 +1,4 @@
-//! A script's run, from bytes to bytes, and upkeep beside scripts, over whatever answers their calls.
+//! Runs a script, from the bytes it reads to the bytes it prints, and upkeep beside scripts, over any type that has `Calls`.
 #![tactic(auto)]
 
 mod answering;

@@ -1,4 +1,4 @@
-//! A script's run: requests are answered as they come, and their texts are printed.
+//! Runs a script: answers its requests as they come, and prints their texts.
 ghost use Rattle.std.specs.Prelude.{◌≡◌, ◌≤◌, ◌<◌, ◌++◌, ◌^◌, List, ℕ, [], None, Some, OnErr, OnOk, true, false, length};
 ghost use Rattle.mc_proto.specs.Text.{IsBeginning};
 ghost use Rattle.mc_script.specs.Progress.{AreModerate, AreWritten, Goes, HasAnswered, HasCome, LeavesPiece};
@@ -25,10 +25,9 @@ pub(crate) enum Progress {
     Output,
 }
 
-// So many bytes are gathered before they are printed.
+// How many bytes of text are gathered before they are printed.
 const GATHERED: usize = 65536;
 
-// Whether a request ends its script.
 fn ends_script(request: &Request) -> bool
     ensures { result ≡ ends request.now }
 {
@@ -44,7 +43,7 @@ fn ends_script(request: &Request) -> bool
     }
 }
 
-// Prints what is gathered, if anything is.
+// Prints the gathered text, if there is any.
 fn print_text<E: Ends>(ends: &mut E, text: &mut ReplyText) -> Result<(), SinkFault>
     ensures ok { OnOk result ((E.taken ends.new ≡ E.taken ends.old ++ text.old.items) × (text.new.items ≡ []) × (E.writes ends.new ≡ E.writes ends.old)) }
     ensures err { OnErr result ((E.writes ends.old < E.writes ends.new) × IsBeginning (E.taken ends.old) (E.taken ends.new) text.old.items) }
@@ -58,7 +57,7 @@ fn print_text<E: Ends>(ends: &mut E, text: &mut ReplyText) -> Result<(), SinkFau
     ends.put_whole(text)
 }
 
-// Prints what is gathered, where it is much.
+// Prints the gathered text if it has `GATHERED` bytes or more.
 fn print_much<E: Ends>(ends: &mut E, text: &mut ReplyText) -> Result<(), SinkFault>
     ensures ok { OnOk result ((more : List ℕ) × (E.taken ends.new ≡ E.taken ends.old ++ more) × (text.old.items ≡ more ++ text.new.items)) }
     ensures fine { OnOk result (E.writes ends.new ≡ E.writes ends.old) }
@@ -73,7 +72,7 @@ fn print_much<E: Ends>(ends: &mut E, text: &mut ReplyText) -> Result<(), SinkFau
     print_text(ends, text)
 }
 
-// Answers the requests of a piece, up to one that ends the script.
+// Answers the requests of a piece, up to one that ends the script. Prints their texts whenever enough is gathered.
 fn answer_all<E: Ends, C: Calls>(
     rt: &impl Wait,
     limits: Limits,
@@ -125,7 +124,7 @@ fn answer_all<E: Ends, C: Calls>(
     Progress::More
 }
 
-// Answers the requests of a piece and prints all their texts. Where the script ends here, the answer says how.
+// Answers the requests of a piece, and prints all their texts. Returns how the script ended, or `None` if it goes on.
 fn answer_piece<E: Ends, C: Calls>(
     rt: &impl Wait,
     limits: Limits,
@@ -171,10 +170,12 @@ fn answer_piece<E: Ends, C: Calls>(
     }
 }
 
-/// Runs a script: reads requests until the end of its bytes or one that ends the script, answers them, and prints
-/// their texts. The next piece is asked for only when the replies to all that came are out, nothing failed, the end was
-/// not reached, and no request that came ends the script. After a call that failed none is made. The maintainer works on
-/// the slab classes of the limits, so these must be there.
+/// Runs a script, and returns how it ended. Reads requests up to the end of the bytes or to one that ends the script, answers
+/// them, and prints their texts.
+///
+/// Asks for the next piece only after all replies to the earlier pieces are out. Asks for none after the end, a failure, or a
+/// request that ends the script. Makes no call after one that failed.
+/// The caller must be at turn 0. The slab classes of `limits` must exist, as `%juggle` and `%crawl` work on them.
 pub fn run_script<E: Ends, C: Calls>(
     rt: &impl Wait,
     alloc: Global,

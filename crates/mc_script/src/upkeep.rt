@@ -1,4 +1,4 @@
-//! Upkeep: the maintainer and the crawler work on all slab classes, at moments that are handed in.
+//! Upkeep: the maintainer and the crawler work on all slab classes, at given moments (times in seconds).
 ghost use Rattle.std.specs.Prelude.{◌≡◌, ◌≤◌, ◌<◌, ◌^◌, ℕ, [], IfErr, OnOk, IsErrOf};
 ghost use Rattle.std.specs.List.{All};
 ghost use Rattle.mc_item.specs.declared.fault.Fault.TheVariants as faults;
@@ -13,16 +13,16 @@ use mc_item::Fault;
 use mc_proto::{Limits, Target};
 use std::sync::Wait;
 
-/// Who keeps the slab classes up beside scripts (new_lru.txt: the maintainer; crawler.c: the crawler).
+/// Who works on the slab classes beside scripts (new_lru.txt for the maintainer, crawler.c for the crawler).
 #[derive(Clone, Copy, Debug, PartialEq, Eq)]
 pub enum Keeper {
     /// Moves entries between the lists, and reclaims dead ones at their tails.
     Maintainer,
-    /// Looks at every entry, and reclaims the dead.
+    /// Looks at every entry, and reclaims the dead ones.
     Crawler,
 }
 
-// A keeper's work at one moment: all slab classes in rising number.
+// Does a keeper's work at one moment, on all slab classes in rising order.
 fn keep_all<C: Calls>(
     rt: &impl Wait,
     limits: Limits,
@@ -53,10 +53,11 @@ fn keep_all<C: Calls>(
     Ok(())
 }
 
-/// Does a keeper's work: at each of these moments in order, a call for each slab class in rising number. It is what a
-/// script of the directives `%at` and `%juggle all`, or `%crawl all`, would do, but that it reads and prints nothing. After
-/// a call that failed none is made. The keeper works on the slab classes of the limits, so these must be there; a moment
-/// is at most 2^62.
+/// Does a keeper's work, and returns how it ended. At each moment in order, makes a call for each slab class in rising order.
+///
+/// The calls are those of a script with `%at` and `%juggle all`, or `%crawl all`, but nothing is read or printed.
+/// Makes no call after one that failed. Without moments, `calls` is unchanged.
+/// The caller must be at turn 0, each moment at most 2^62, and the slab classes of `limits` must exist.
 pub fn run_upkeep<C: Calls>(
     rt: &impl Wait,
     limits: Limits,

@@ -16,18 +16,18 @@ pub lists_from-push : (l : Lists) (es : List ClassEvent) (e : ClassEvent) → li
 lists_from-push l [] e = refl
 lists_from-push l (x ∷ es) e = lists_from-push (lists_after l x) es e
 
-pub links_of-push : (es : List ClassEvent) (e : ClassEvent) → entries_linked (es ++ e ∷ []) ≡ entries_linked es + entries_linked_by e
-links_of-push [] e = omega arith
-links_of-push (x ∷ es) e = let later = links_of-push es e in omega arith
+pub entries_linked-push : (es : List ClassEvent) (e : ClassEvent) → entries_linked (es ++ e ∷ []) ≡ entries_linked es + entries_linked_by e
+entries_linked-push [] e = omega arith
+entries_linked-push (x ∷ es) e = let later = entries_linked-push es e in omega arith
 
-links_in-le : (e : ClassEvent) → entries_linked_by e ≤ 1
-links_in-le (events.Linked e) = omega arith
-links_in-le (events.Unlinked e) = omega arith
-links_in-le (events.Shifted e) = omega arith
-links_in-le (events.Evicted e) = omega arith
-links_in-le (events.Reclaimed e) = omega arith
-links_in-le (events.Surveyed e) = omega arith
-links_in-le (events.Refused e) = omega arith
+entries_linked_by-le : (e : ClassEvent) → entries_linked_by e ≤ 1
+entries_linked_by-le (events.Linked e) = omega arith
+entries_linked_by-le (events.Unlinked e) = omega arith
+entries_linked_by-le (events.Shifted e) = omega arith
+entries_linked_by-le (events.Evicted e) = omega arith
+entries_linked_by-le (events.Reclaimed e) = omega arith
+entries_linked_by-le (events.Surveyed e) = omega arith
+entries_linked_by-le (events.Refused e) = omega arith
 
 -- the last of these events stands at the place of their number
 pub last_is : (es : List ClassEvent) (e : ClassEvent) → slice_get (es ++ e ∷ []) (length es) ≡ Some e
@@ -35,9 +35,9 @@ last_is [] e = refl
 last_is (x ∷ es) e = last_is es e
 
 -- no more entries were linked than events were made
-pub links_of-le : (es : List ClassEvent) → entries_linked es ≤ length es
-links_of-le [] = omega arith
-links_of-le (x ∷ es) = let later = links_of-le es in let one = links_in-le x in omega arith
+pub entries_linked-le : (es : List ClassEvent) → entries_linked es ≤ length es
+entries_linked-le [] = omega arith
+entries_linked-le (x ∷ es) = let later = entries_linked-le es in let one = entries_linked_by-le x in omega arith
 
 neither : (a b : Bool) → (a || b) ≡ false → (a ≡ false) × (b ≡ false)
 neither true b h = absurd (false≢true (sym h))
@@ -66,7 +66,7 @@ kept : (h later : Held) (chunks max_events : ℕ) (rule : Rule) (old : List Clas
     → ((q : ℕ) → later.next ≤ q → names q e ≡ false) → IsLawfulByLists chunks rule old e → IsReplay later chunks max_events rule (old ++ e ∷ [])
 kept h later chunks max_events rule old e r lists next place fresh may =
     let grown : length (old ++ e ∷ []) ≡ length old + 1 = length-append old (e ∷ []) in
-    let step : entries_linked (old ++ e ∷ []) ≡ entries_linked old + entries_linked_by e = links_of-push old e in
+    let step : entries_linked (old ++ e ∷ []) ≡ entries_linked old + entries_linked_by e = entries_linked-push old e in
     let was = r.next_is in record {
       lists_is = lists ∙ sym (lists_from-push no_lists old e);
       next_is = omega (arith, next, was, step);

@@ -1,4 +1,4 @@
--- Four lists over one table of places: which lists the places and the ends stand for.
+-- Four linked lists in one hash map of places: which lists the places and the ends represent.
 use Rattle.std.specs.Prelude.{ℕ, ◌≡◌, ◌==◌, ◌+◌, ◌-◌, ◌*◌, ◌^◌, ◌≤◌, List, Option, Some, None, true, if◌then◌else◌}
 use Rattle.mc_item.specs.declared.{lists.Entry.Entry, lists.Seg.Seg}
 use Rattle.mc_item.specs.declared.lists.Seg.TheVariants.{Hot, Warm, Cold, Temp}
@@ -6,7 +6,7 @@ use Rattle.mc_rule.specs.Lists.{Lists, list_of, cost_sum, count_of}
 use Rattle.mc_segment.specs.declared.{arena.Node.Node, arena.Listed.Listed, ends.Ends.Ends, ends.Heads.Heads}
 use Rattle.mc_segment.specs.{Nodes.walk, Nodes.IsChain, Neighbours.end_of, Slots.is_among}
 
--- an arena as contracts see it: its lists, the next number, how many more entries it takes without memory, and its slots
+-- an arena as contracts see it: its lists, the next number, how many more entries take no memory, and its slots
 pub record Held : Type 0 where
   pub lists : Lists
   pub next : ℕ
@@ -25,19 +25,19 @@ HasSlot h q = is_among h.slots q ≡ true
 abbrev pub all_bytes : Lists → ℕ
 all_bytes l = cost_sum l.hot + cost_sum l.warm + cost_sum l.cold + cost_sum l.temp
 
--- a number for each segment
+-- a number for each segment, its code
 abbrev pub code : Seg → ℕ
 code Hot = 0
 code Warm = 1
 code Cold = 2
 code Temp = 3
 
--- the node of a slot, where it is in the list of this code
+-- the node in a slot, if it is in the list with this code
 abbrev pub part : ℕ → Option Listed → Option Node
 part k None = None
 part k (Some p) = if code p.seg == k then Some p.node else None
 
--- the nodes of the list of this code, by their numbers
+-- the nodes of the list with this code, by their numbers
 abbrev pub nodes_of : (ℕ → Option Listed) → ℕ → ℕ → Option Node
 nodes_of f k q = part k (f q)
 
@@ -48,18 +48,18 @@ ends_of h Warm = h.warm
 ends_of h Cold = h.cold
 ends_of h Temp = h.temp
 
--- the ends with others for one segment
+-- the ends of the four lists, with other ends for one segment
 abbrev pub with_ends : Heads → Seg → Ends → Heads
 with_ends h Hot e = record h { hot = e }
 with_ends h Warm e = record h { warm = e }
 with_ends h Cold e = record h { cold = e }
 with_ends h Temp e = record h { temp = e }
 
--- the ends of a list once a number of this cost is at its head
+-- the ends of a list after an entry with this number and cost was put at its head
 abbrev pub pushed_ends : Ends → ℕ → ℕ → Ends
 pushed_ends x n cost = record { newest = Some n; oldest = end_of x.newest (Some n) x.oldest; count = x.count + 1; bytes = x.bytes + cost }
 
--- the ends of a list once a number of this cost, which stood between these two, is gone
+-- the ends of a list after an entry with this cost was taken out from between these neighbours
 abbrev pub taken_ends : Ends → Option ℕ → Option ℕ → ℕ → Ends
 taken_ends x newer older cost = record {
   newest = end_of newer older x.newest;
@@ -69,19 +69,19 @@ taken_ends x newer older cost = record {
       x.bytes - cost;
 }
 
--- the entries that are met from the newest on
+-- the entries of the list with this code, as a walk meets them from the newest on
 abbrev pub walk_in : (ℕ → Option Listed) → ℕ → Ends → List Entry
 walk_in f k e = walk (nodes_of f k) e.count e.newest
 
--- the four lists that the places and the ends stand for
+-- the four lists that the places and the ends represent
 abbrev pub lists_in : (ℕ → Option Listed) → Heads → Lists
 lists_in f h = record { hot = walk_in f 0 h.hot; warm = walk_in f 1 h.warm; cold = walk_in f 2 h.cold; temp = walk_in f 3 h.temp }
 
--- the nodes and the ends of a list stand for these entries
+-- the nodes and the ends of a list represent these entries
 abbrev pub AreNodesOf : (ℕ → Option Node) → Ends → List Entry → Type 0
 AreNodesOf f e es = IsChain f e.newest e.oldest e.count e.bytes es
 
--- each list is a chain over its part of the places, and no number from the next one on has a place
+-- each list is a chain over its nodes, numbers from the next one on have no place, and the entries, bytes and numbers have bounds
 pub record IsArena (f : ℕ → Option Listed) (next : ℕ) (h : Heads) (l : Lists) : Type 0 where
   pub parts : (s : Seg) → AreNodesOf (nodes_of f (code s)) (ends_of h s) (list_of l s)
   pub later : (q : ℕ) → next ≤ q → f q ≡ None

@@ -5,8 +5,8 @@ use Rattle.mc_item.specs.declared.{fault.Fault.TheVariants.HistoryFull, item.Cla
 use Rattle.mc_rule.specs.{Lists.lists_of, Lists.entries_linked, Segment.Rule, Segment.rule_of, Lawful.is_named, Lawful.IsLawfulHistoryByLists}
 use Rattle.mc_segment.specs.Arena.{Held}
 
--- a class: its number, its limit of chunks and of events, whether events are kept in memory, the numbers of its rule, all
--- that happened, oldest first, and how many more events take no memory
+-- a class: its number, its limits of chunks and events, whether it keeps events in memory, its rule, its history and its room.
+-- The history is oldest first, and the room is how many more events take no memory
 pub record ClassView : Type 0 where
   pub number : ClassNo
   pub chunks : ℕ
@@ -26,11 +26,11 @@ abbrev pub rule_with : Bool → ℕ → ℕ → ℕ → ℕ → ℕ → Rule
 rule_with temp temp_ttl hot_percent warm_percent hot_factor warm_factor =
     record { temp = temp; temp_ttl = temp_ttl; hot_percent = hot_percent; warm_percent = warm_percent; hot_factor = hot_factor; warm_factor = warm_factor }
 
--- the limit of chunks that a configuration sets for a class; classes are numbered from 1
+-- how many chunks a configuration gives a class; classes are numbered from 1
 abbrev pub chunks_for : Config → ClassNo → ℕ
 chunks_for config class = slice_index config.chunks (class.0 - 1)
 
--- a class of a configuration without events
+-- the class with this number of a configuration, without events
 abbrev pub opened : Config → ClassNo → ClassView
 opened config class = class_view class (chunks_for config class) config.max_events config.keeps_events (rule_of config) [] 0
 
@@ -38,7 +38,7 @@ opened config class = class_view class (chunks_for config class) config.max_even
 abbrev pub appended : ClassView → ClassEvent → ℕ → ClassView
 appended c e room = record c { history = c.history ++ e ∷ []; room = room }
 
--- the class with another room: nothing that a caller is promised has changed
+-- the class with another room, and all else unchanged
 abbrev pub with_room : ClassView → ℕ → ClassView
 with_room c room = record c { room = room }
 
@@ -46,13 +46,14 @@ with_room c room = record c { room = room }
 abbrev pub HasPlaces : ClassView → ℕ → Type 0
 HasPlaces c n = length c.history + n ≤ c.max_events
 
--- the fault that may be answered where this many events were asked for: a full history is told of first, and want of
--- memory only past the room
+-- this many more events may be refused with this fault: HistoryFull if
+-- the history has too few places, else NoMemory if the room is too small
 abbrev pub MayRefuse : ClassView → ℕ → Fault → Type 0
 MayRefuse c n HistoryFull = c.max_events < length c.history + n
 MayRefuse c n NoMemory = HasPlaces c n × (c.room < n)
 
--- what a class keeps: its lists are those of its history, which is lawful as far as they tell
+-- what a class keeps: its lists and its next number are those of its history. The history keeps to its limit, names no number
+-- from the next one on, and is lawful as far as the lists show
 pub record IsReplay (h : Held) (chunks max_events : ℕ) (rule : Rule) (history : List ClassEvent) : Type 0 where
   pub lists_is : h.lists ≡ lists_of history
   pub next_is : h.next ≡ entries_linked history

@@ -8,43 +8,43 @@ use Rattle.mc_segment.specs.declared.arena.Node.{Node}
 abbrev pub node : Entry → Option ℕ → Option ℕ → Node
 node e newer older = record { entry = e; newer = newer; older = older }
 
--- the number at the head of a list
+-- the number of a list's first entry
 abbrev pub first_number : List Entry → Option ℕ
 first_number [] = None
 first_number (e ∷ es) = Some e.number
 
--- the last number of a list that begins with the number n
+-- the number of a list's last entry, or n if the list is empty
 abbrev pub last_from : Option ℕ → List Entry → Option ℕ
 last_from n [] = n
 last_from n (e ∷ es) = last_from (Some e.number) es
 
--- the node of each number, where w is the number before the list
+-- the node with the number q in a list, where w is the newer neighbour of the first entry
 abbrev pub node_at : Option ℕ → List Entry → ℕ → Option Node
 node_at w [] q = None
 node_at w (e ∷ es) q = if e.number == q then Some (node e w (first_number es)) else node_at (Some e.number) es q
 
--- the list does not have the number
+-- whether no entry of the list has the number
 abbrev pub lacks : ℕ → List Entry → Bool
 lacks n [] = true
 lacks n (e ∷ es) = if e.number == n then false else lacks n es
 
--- no two numbers are equal
+-- whether no two entries of the list have the same number
 abbrev pub distinct : List Entry → Bool
 distinct [] = true
 distinct (e ∷ es) = if lacks e.number es then distinct es else false
 
--- an entry, and what comes behind its node
+-- a node's entry, then the entries that g gives for its older neighbour
 abbrev pub walked : Option Node → (Option ℕ → List Entry) → List Entry
 walked None g = []
 walked (Some n) g = n.entry ∷ g n.older
 
--- the entries of k nodes, from the number at on to older ones
+-- the entries of up to k nodes, from the number `at` on to older ones
 abbrev pub walk : (ℕ → Option Node) → ℕ → Option ℕ → List Entry
 walk f zero at = []
 walk f (suc k) None = []
 walk f (suc k) (Some q) = walked (f q) (λ at. walk f k at)
 
--- what a list's nodes, ends, length and costs have to be
+-- nodes, ends, count and bytes represent this list, whose numbers are all different
 pub record IsChain (f : ℕ → Option Node) (newest oldest : Option ℕ) (count bytes : ℕ) (es : List Entry) : Type 0 where
   pub nodes : (q : ℕ) → f q ≡ node_at None es q
   pub newest_is : newest ≡ first_number es
@@ -53,7 +53,7 @@ pub record IsChain (f : ℕ → Option Node) (newest oldest : Option ℕ) (count
   pub bytes_is : bytes ≡ cost_sum es
   pub apart : distinct es ≡ true
 
--- the number before place k, where w is the number before the list
+-- the newer neighbour of the entry at place k, where w is that of the first entry
 abbrev pub before : Option ℕ → List Entry → ℕ → Option ℕ
 before w es zero = w
 before w [] (suc k) = None

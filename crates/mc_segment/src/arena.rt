@@ -1,4 +1,4 @@
-//! Four lists of entries over one table of places, from which any number is taken out in one step.
+//! Four linked lists of entries in one hash map, under the entries' numbers. An entry is unlinked without walking its list.
 ghost use Rattle.std.specs.Prelude.{◌≡◌, ◌+◌, ◌*◌, ◌<◌, ◌≤◌, ◌^◌, ℕ, length, None, Some, true, false, OnOk, IsOk, IfSome, IsSome};
 ghost use Rattle.mc_rule.specs.Lists.{no_lists, list_of, with_list, find, without, found, segment_of, linked, unlinked, moved, cost_sum, count_of, times_in};
 ghost use Rattle.mc_segment.specs.Arena.{all_bytes, HasSlot};
@@ -10,7 +10,7 @@ use std::alloc::{AllocError, Global};
 use std::collections::HashMap;
 use std::marker::Model;
 
-/// An entry, with the numbers beside it.
+/// A node of a list: an entry, and the numbers of its newer and its older neighbour.
 #[derive(Drop)]
 pub struct Node {
     pub entry: Entry,
@@ -18,14 +18,14 @@ pub struct Node {
     pub older: Option<u64>,
 }
 
-/// A node, and the list that it is in.
+/// A node, and the segment whose list it is in.
 #[derive(Drop)]
 pub struct Listed {
     pub seg: Seg,
     pub node: Node,
 }
 
-/// Four lists, newest first. A number is given once, and its slot is given back when its entry goes.
+/// Four lists, newest entry first. No number is used twice. An entry's slot in the map is freed when the entry is removed.
 #[derive(Drop)]
 pub struct Arena {
     pub(crate) slots: Slots,
@@ -44,7 +44,6 @@ impl Model for Arena {
     ghost invariant = { λ a. IsArena (slot a.slots) a.next a.heads (lists_in (slot a.slots) a.heads) };
 }
 
-// The time of an entry after a move.
 fn time_after(why: Why, moment: u64, time: u64) -> u64
     ensures { result ≡ Rattle.mc_rule.specs.Lists.time_after why moment time }
 {
@@ -58,7 +57,7 @@ fn time_after(why: Why, moment: u64, time: u64) -> u64
 }
 
 impl Arena {
-    /// Four empty lists. It takes no memory.
+    /// Makes four empty lists. It takes no memory.
     pub fn new(alloc: Global) -> Arena
         ensures { (result.lists ≡ no_lists) × (result.next ≡ 0) }
     {
@@ -80,7 +79,8 @@ impl Arena {
         }
     }
 
-    /// Makes room for n more numbers.
+    /// Reserves slots for n more entries. It can fail only if n exceeds the room, which is how many more entries take no memory.
+    /// The lists don't change, and the room doesn't shrink.
     #[inline(always)]
     pub fn reserve(&mut self, n: usize) -> Result<(), AllocError>
         ensures same { (self.new.lists ≡ self.old.lists) × (self.new.next ≡ self.old.next) }
@@ -91,14 +91,14 @@ impl Arena {
         reserve(&mut self.slots, n)
     }
 
-    /// The number of the next push.
+    /// Returns the number of the next new entry.
     pub fn next(&self) -> u64
         ensures { result ≡ self.now.next }
     {
         self.next
     }
 
-    /// The bytes of a list.
+    /// Returns the bytes of a list: the sum of its entries' costs, at most 2^52.
     pub fn bytes(&self, seg: Seg) -> u64
         ensures value { result ≡ cost_sum (list_of self.now.lists seg) }
         ensures bound { result ≤ 2 ^ 52 }
@@ -106,21 +106,22 @@ impl Arena {
         self.heads.of(seg).bytes
     }
 
-    /// How many entries are in the four lists.
+    /// Returns how many entries the four lists have together.
     pub fn count(&self) -> u64
         ensures { result ≡ count_of self.now.lists }
     {
         self.heads.hot.count + self.heads.warm.count + self.heads.cold.count + self.heads.temp.count
     }
 
-    /// How many entries a list has.
+    /// Returns how many entries a list has.
     pub fn len(&self, seg: Seg) -> u64
         ensures { result ≡ length (list_of self.now.lists seg) }
     {
         self.heads.of(seg).count
     }
 
-    /// The law of the lists: no number stands twice, and each is below the next.
+    /// States what always holds, and does nothing: each number is in the lists at most once, and is below the next one. The
+    /// entries are at most that many, and have at most 2^20 times as many bytes.
     pub fn law(&self)
         ensures once { (q : ℕ) → times_in q self.now.lists ≤ 1 }
         ensures below { (q : ℕ) → self.now.next ≤ q → found q self.now.lists ≡ None }
@@ -129,7 +130,7 @@ impl Arena {
         let _ = self.heads.of(Seg::Hot);
     }
 
-    // The next number is given.
+    // Takes the next number, which no entry has yet.
     fn grow(&mut self)
         requires limit { self.old.next < 2 ^ 32 }
         ensures same { self.new.lists ≡ self.old.lists }
@@ -140,7 +141,7 @@ impl Arena {
         self.next += 1;
     }
 
-    // Puts an entry at a head, where its number is in no list.
+    // Puts an entry at a list's head. Its number is in no list. A new number gets a slot, any other one has kept its slot.
     #[inline(always)]
     fn put(&mut self, seg: Seg, entry: Entry, is_new: bool)
         requires absent { found entry.number self.old.lists ≡ None }
@@ -169,7 +170,7 @@ impl Arena {
         self.heads.set(seg, ends.pushed(number, cost));
     }
 
-    /// Puts an entry of the next number at a head.
+    /// Puts a new entry at a list's head, in a reserved slot. The entry has the next number, and costs at most 2^20 bytes.
     pub fn push(&mut self, seg: Seg, entry: Entry)
         requires room { 0 < self.old.room }
         requires number { entry.number ≡ self.old.next }
@@ -183,7 +184,7 @@ impl Arena {
         self.put(seg, entry, true);
     }
 
-    // Takes the entry of a number out of the list that it is in; its slot is kept where the entry comes back.
+    // Takes the entry with this number out of its list, if a list has it. The slot is kept if the entry is to come back.
     #[inline(always)]
     fn take(&mut self, number: u64, keeps: bool) -> Option<(Seg, Entry)>
         ensures entry { result ≡ found number self.old.lists }
@@ -213,7 +214,7 @@ impl Arena {
         Some((seg, entry))
     }
 
-    /// Takes the entry of a number that is in a list.
+    /// Removes the entry with this number, which is in a list, and frees its slot.
     pub fn remove(&mut self, number: u64)
         requires there { IsSome (found number self.old.lists) }
         ensures lists { self.new.lists ≡ unlinked number self.old.lists }
@@ -225,7 +226,8 @@ impl Arena {
         let _ = self.take(number, false).unwrap();
     }
 
-    /// The entry of a number goes from the list that it is in to the head of another, or of its own.
+    /// Moves the entry with this number from its list to the head of another one, or of its own. For a hit or an active entry,
+    /// its time is set to the moment, which is in seconds.
     pub fn move_to(&mut self, number: u64, from_seg: Seg, to_seg: Seg, why: Why, moment: u64)
         requires there { segment_of number self.old.lists ≡ Some from_seg }
         ensures lists { self.new.lists ≡ moved number from_seg to_seg why moment self.old.lists }

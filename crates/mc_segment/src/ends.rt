@@ -1,10 +1,10 @@
-//! The ends of the four lists.
+//! The ends of the four lists, with their lengths and bytes.
 ghost use Rattle.std.specs.Prelude.{◌≡◌, ◌+◌, ◌<◌, ◌≤◌, ◌^◌};
 ghost use Rattle.mc_segment.specs.{Neighbours.end_of, Arena.ends_of, Arena.with_ends, Arena.pushed_ends, Arena.taken_ends};
 
 use mc_item::Seg;
 
-/// The ends of a list, its length and its bytes.
+/// The numbers of a list's newest and oldest entry, how many entries it has, and the sum of their costs.
 #[derive(Clone, Copy)]
 pub struct Ends {
     pub newest: Option<u64>,
@@ -14,7 +14,7 @@ pub struct Ends {
 }
 
 impl Ends {
-    // The ends, once a number is at the head.
+    // The ends after an entry with this number and cost was put at the head.
     pub(crate) fn pushed(self, number: u64, cost: u64) -> Ends
         requires { (self.count + 1 < 2 ^ 64) × (self.bytes + cost < 2 ^ 64) }
         ensures { result ≡ pushed_ends self number cost }
@@ -27,7 +27,7 @@ impl Ends {
         }
     }
 
-    // The ends, once a node between these numbers is gone.
+    // The ends after an entry with this cost was taken out from between these neighbours.
     pub(crate) fn taken(self, newer: Option<u64>, older: Option<u64>, cost: u64) -> Ends
         requires { (0 < self.count) × (cost ≤ self.bytes) }
         ensures { result ≡ taken_ends self newer older cost }
@@ -41,7 +41,7 @@ impl Ends {
     }
 }
 
-/// The ends of four lists.
+/// The ends of the four lists, by segment.
 #[derive(Clone, Copy)]
 pub struct Heads {
     pub hot: Ends,
@@ -74,7 +74,7 @@ impl Heads {
     }
 }
 
-// An end of a list, where the node at that end has or has not gone.
+// An end of a list after a node came or left: it stays if the node has a neighbour on that side, else it becomes `end`.
 fn end_after(beside: Option<u64>, end: Option<u64>, kept: Option<u64>) -> Option<u64>
     ensures { result ≡ end_of beside end kept }
 {

@@ -1,4 +1,4 @@
-//! Entries that leave their list for good.
+//! Removes entries for good: with their item, as dead, or by eviction.
 ghost use Rattle.std.specs.Prelude.{◌<◌, ◌≤◌, ◌+◌, OnOk, OnErr};
 ghost use Rattle.mc_segment.specs.ClassState.{HasPlaces};
 ghost use Rattle.mc_segment.specs.ClassCalls.{unlinked_event, reclaimed_event, evicted_event, MayCome, Makes, Stays, MayEnd};
@@ -7,8 +7,9 @@ use crate::state::ClassState;
 use mc_item::{ClassEvent, Evicted, Fault, Passed, Reclaimed, Unlinked, Who};
 
 impl ClassState {
-    /// An entry goes with its item. It is in a list. `HistoryFull` exactly where the history has no place left,
-    /// `NoMemory` only where the room is 0.
+    /// Removes an entry whose item a command removed or replaced. The entry is in a list.
+    /// Errors: `HistoryFull` exactly if the history has no place left, `NoMemory` only if the room is 0 (see `reserve`). The
+    /// class is then unchanged, but may have more room.
     pub fn unlink(&mut self, who: Who, number: u64) -> Result<(), Fault>
         requires { MayCome self.old (unlinked_event who number) }
         ensures ok { OnOk result (Makes self.old self.new (unlinked_event who number)) }
@@ -19,7 +20,7 @@ impl ClassState {
         self.leave(number, ClassEvent::Unlinked(Unlinked { who, number }))
     }
 
-    /// An entry goes with its item, where room was made: it takes no memory and can't be refused.
+    /// Does the same as `unlink`, but takes no memory and can't fail. The room is at least 1, and the history has a place.
     pub fn unlink_reserved(&mut self, who: Who, number: u64)
         requires room { 0 < self.old.room }
         requires place { HasPlaces self.old 1 }
@@ -32,8 +33,8 @@ impl ClassState {
         };
     }
 
-    /// An entry goes whose item is dead at the moment; the stripe of its key has `at` events. It is in a list. The
-    /// faults are those of `unlink`.
+    /// Removes an entry whose item is dead at the moment, which is in seconds. The entry is in a list, and the stripe of its key
+    /// has `at` events. Errors: as for `unlink`.
     pub fn reclaim(&mut self, who: Who, number: u64, moment: u64, at: u64) -> Result<(), Fault>
         requires { MayCome self.old (reclaimed_event who number moment at) }
         ensures ok { OnOk result (Makes self.old self.new (reclaimed_event who number moment at)) }
@@ -50,7 +51,7 @@ impl ClassState {
         self.leave(number, event)
     }
 
-    /// An entry goes whose item is dead, where room was made: it takes no memory and can't be refused.
+    /// Does the same as `reclaim`, but takes no memory and can't fail. The room is at least 1, and the history has a place.
     pub fn reclaim_reserved(&mut self, who: Who, number: u64, moment: u64, at: u64)
         requires room { 0 < self.old.room }
         requires place { HasPlaces self.old 1 }
@@ -63,8 +64,8 @@ impl ClassState {
         };
     }
 
-    /// An entry is taken near COLD's tail, with just these behind it; the stripe of its key has `at` events. The class
-    /// is full. The faults are those of `unlink`.
+    /// Evicts an entry near COLD's tail from a full class. `passed` has the numbers between it and the tail, tail first, at most
+    /// four. The stripe of its key has `at` events. Errors: as for `unlink`.
     pub fn evict(&mut self, who: Who, number: u64, passed: Passed, at: u64) -> Result<(), Fault>
         requires { MayCome self.old (evicted_event who number passed at) }
         ensures ok { OnOk result (Makes self.old self.new (evicted_event who number passed at)) }
@@ -81,7 +82,7 @@ impl ClassState {
         self.leave(number, event)
     }
 
-    /// An entry is taken near COLD's tail, where room was made: it takes no memory and can't be refused.
+    /// Does the same as `evict`, but takes no memory and can't fail. The room is at least 1, and the history has a place.
     pub fn evict_reserved(&mut self, who: Who, number: u64, passed: Passed, at: u64)
         requires room { 0 < self.old.room }
         requires place { HasPlaces self.old 1 }

@@ -1,4 +1,4 @@
-//! The four segment lists of one slab class, and the history that they are kept by.
+//! One slab class: its lists HOT, WARM, COLD and TEMP, and the history from which they follow. Nothing here locks.
 #![tactic(auto)]
 
 mod arena;

@@ -1,4 +1,4 @@
-//! New entries.
+//! Adds new entries to a class.
 ghost use Rattle.std.specs.Prelude.{◌≡◌, ◌<◌, ◌≤◌, ◌+◌, ◌^◌, Some, true, IfOk, OnOk, OnErr};
 ghost use Rattle.mc_rule.specs.Lists.{lists_of, entries_linked, count_of};
 ghost use Rattle.mc_rule.specs.Segment as rules;
@@ -8,7 +8,7 @@ use crate::state::ClassState;
 use mc_item::{Expiry, Fault, Key, Seg, Who};
 
 impl ClassState {
-    // The segment that a new entry goes to.
+    // The segment in which a new entry starts.
     fn segment_for(&self, moment: u64, expiry: Expiry) -> Seg
         ensures { result ≡ rules.segment_for self.now.rule moment expiry }
     {
@@ -24,10 +24,9 @@ impl ClassState {
         }
     }
 
-    /// Puts a new entry at the head of TEMP, if that is in use and the item dies soon, else of HOT, and returns the
-    /// entry's number. The entry takes the key. A class that keeps its events is given a copy of the key for the event.
-    /// The class is not full, and the cost is at most 2^20 bytes. `HistoryFull` exactly if the history has no place
-    /// left, `NoMemory` only if the room is 0.
+    /// Links a new entry, which takes the key, and returns its number. The entry starts at TEMP's head if TEMP is in use and the
+    /// item dies within the next `temp_ttl` seconds, else at HOT's. A class that keeps its events needs a copy of the key for the
+    /// event. The class is not full, and the cost is at most 2^20 bytes. Errors: as for `unlink`.
     pub fn link(
         &mut self,
         who: Who,
@@ -50,7 +49,7 @@ impl ClassState {
         self.enter(who, key, copy, cost, seg, moment)
     }
 
-    /// The same, where room was made: it takes no memory and can't be refused.
+    /// Does the same as `link`, but takes no memory and can't fail. The room is at least 1, and the history has a place.
     pub fn link_reserved(
         &mut self,
         who: Who,

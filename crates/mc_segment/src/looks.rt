@@ -1,4 +1,4 @@
-//! What an arena tells of its entries, by their numbers and from the tails.
+//! Finds entries of an arena by their numbers, and counted from a list's tail.
 ghost use Rattle.std.specs.Prelude.{◌≡◌, ◌+◌, ◌-◌, ◌<◌, ◌≤◌, ℕ, length, None, Some, take, reverse, slice_get};
 ghost use Rattle.std.specs.Option.{option_copied};
 ghost use Rattle.mc_item.specs.declared.{lists.Entry.Entry, lists.Seg.Seg};
@@ -10,21 +10,21 @@ use crate::slots::place_at;
 use mc_item::{Entry, Passed, Seg};
 
 impl Arena {
-    /// The list that a number is in.
+    /// Returns the segment whose list has the entry with this number, if a list has it.
     pub fn segment_of(&self, number: u64) -> Option<Seg>
         ensures { result ≡ segment_of number self.now.lists }
     {
         Some(place_at(&self.slots, number)?.seg)
     }
 
-    /// The entry of a number, where it is in a list.
+    /// Returns the entry with this number, if a list has it.
     pub fn entry(&self, number: u64) -> Option<&Entry>
         ensures { option_copied result ≡ entry_of number self.now.lists }
     {
         Some(&place_at(&self.slots, number)?.node.entry)
     }
 
-    /// The j-th entry from a list's tail.
+    /// Returns the j-th entry from a list's tail, counted from 0, or `None` if the list has at most j entries.
     pub fn from_tail(&self, seg: Seg, j: u64) -> Option<&Entry>
         ensures inside { j < length (list_of self.now.lists seg) → option_copied result
             ≡ slice_get (list_of self.now.lists seg) (length (list_of self.now.lists seg) - 1 - j) }
@@ -41,7 +41,7 @@ impl Arena {
         Some(&place.node.entry)
     }
 
-    /// The numbers of the j entries that are nearest to a list's tail, from the tail.
+    /// Returns the numbers of the j entries nearest to a list's tail, tail first. The list has that many, and j is at most 4.
     pub fn passed(&self, seg: Seg, j: u64) -> Passed
         requires few { j ≤ 4 }
         requires there { j ≤ length (list_of self.now.lists seg) }
@@ -62,7 +62,7 @@ impl Arena {
         Passed::of(&numbers[..j as usize])
     }
 
-    /// The entry that is one place newer than that of a number in its list.
+    /// Returns the newer neighbour of the entry with this number: `None` if that is the newest of its list, or in no list.
     pub fn next_newer(&self, number: u64) -> Option<&Entry>
         ensures newer { (s : Seg) (j : ℕ) (e : Entry) → Rattle.mc_rule.specs.Lists.from_tail (list_of self.now.lists s) j ≡ Some e → e.number ≡ number
             → option_copied result ≡ Rattle.mc_rule.specs.Lists.from_tail (list_of self.now.lists s) (j + 1) }

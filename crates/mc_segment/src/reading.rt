@@ -1,4 +1,4 @@
-//! What a class tells of its lists and its history. None of these calls but `key` takes memory.
+//! Reads a class's lists and history. Of these calls only `key` takes memory.
 ghost use Rattle.std.specs.Prelude.{◌≡◌, ◌≤◌, ◌^◌, ◌+◌, ◌↔◌, ℕ, false, None, Some, length, take, reverse, IsTrue, IfSome, IfOk};
 ghost use Rattle.std.specs.Option.{option_copied, IsSomeAnd};
 ghost use Rattle.mc_item.specs.declared.{lists.Entry.Entry, lists.Seg.Seg};
@@ -12,14 +12,14 @@ use mc_history::History;
 use mc_item::{ClassEvent, ClassNo, Entry, Key, NoMemory, Passed, Seg};
 
 impl ClassState {
-    /// The class's number.
+    /// Returns the class's number.
     pub fn number(&self) -> ClassNo
         ensures { result ≡ self.now.number }
     {
         self.number
     }
 
-    /// All that happened, oldest first.
+    /// Returns the class's history: its events, oldest first.
     pub fn history(&self) -> &History<ClassEvent, ShownClass>
         ensures value { result.now.items ≡ self.now.history }
         ensures kept { result.now.kept ≡ self.now.keeps_events }
@@ -27,7 +27,7 @@ impl ClassState {
         &self.history
     }
 
-    /// Whether the history's events are kept.
+    /// Returns whether the history keeps its events in memory, or only counts them.
     #[inline(always)]
     pub fn keeps_events(&self) -> bool
         ensures { result ≡ self.now.keeps_events }
@@ -35,35 +35,35 @@ impl ClassState {
         self.history.keeps()
     }
 
-    /// The number of the next new entry: entries are numbered from 0, and no number is used again.
+    /// Returns the number of the next new entry. Entries are numbered from 0, and no number is used again.
     pub fn next_number(&self) -> u64
         ensures { result ≡ entries_linked self.now.history }
     {
         self.lists.next()
     }
 
-    /// How many entries the lists have.
+    /// Returns how many entries the four lists have together.
     pub fn count(&self) -> u64
         ensures { result ≡ count_of (lists_of self.now.history) }
     {
         self.lists.count()
     }
 
-    /// How many entries the lists may have.
+    /// Returns how many chunks the class has, and so how many entries its lists may have.
     pub fn chunks(&self) -> u64
         ensures { result ≡ self.now.chunks }
     {
         self.chunks
     }
 
-    /// Whether the lists have as many entries as they may have.
+    /// Returns whether the class is full: it has no fewer entries than chunks.
     pub fn is_full(&self) -> bool
         ensures { IsTrue result ↔ IsFull self.now.chunks (lists_of self.now.history) }
     {
         self.count() >= self.chunks
     }
 
-    /// The bytes of a segment: the sum of its entries' costs.
+    /// Returns the bytes of a segment: the sum of its entries' costs, at most 2^52.
     pub fn bytes(&self, seg: Seg) -> u64
         ensures value { result ≡ bytes_of (lists_of self.now.history) seg }
         ensures bound { result ≤ 2 ^ 52 }
@@ -71,8 +71,8 @@ impl ClassState {
         self.lists.bytes(seg)
     }
 
-    /// The j-th entry from a segment's tail, counted from 0. Just the j entries before it from the tail are behind it,
-    /// and its number is in no other list.
+    /// Returns the j-th entry from a segment's tail, counted from 0, or `None` if the list has at most j entries. Exactly j
+    /// entries are between it and the tail, and its number is in no other list.
     pub fn from_tail(&self, seg: Seg, j: u64) -> Option<&Entry>
         ensures entry { option_copied result ≡ Rattle.mc_rule.specs.Lists.from_tail (list_of (lists_of self.now.history) seg) j }
         ensures there { IfSome (option_copied result)
@@ -84,8 +84,8 @@ impl ClassState {
         self.lists.from_tail(seg, j)
     }
 
-    /// The numbers of the j entries that are nearest to a segment's tail, from the tail. There are as many, and j is at
-    /// most 4. They are those behind the j-th entry from the tail.
+    /// Returns the numbers of the j entries nearest to a segment's tail, tail first: those between the tail and the j-th entry,
+    /// if there is such an entry. The list has at least j entries, and j is at most 4.
     pub fn passed(&self, seg: Seg, j: u64) -> Passed
         requires few { j ≤ 4 }
         requires there { j ≤ length (list_of (lists_of self.now.history) seg) }
@@ -97,8 +97,8 @@ impl ClassState {
         self.lists.passed(seg, j)
     }
 
-    /// The entry that is one place newer than that of a number in its list: the next one on a way from the tail. There
-    /// is none past the newest, and none of a number that is in no list.
+    /// Returns the newer neighbour of the entry with this number, as a walk from the tail needs it. Returns `None` if that entry
+    /// is the newest of its list, or in no list.
     pub fn next_newer(&self, number: u64) -> Option<&Entry>
         ensures newer { (s : Seg) (j : ℕ) (e : Entry) → Rattle.mc_rule.specs.Lists.from_tail (list_of (lists_of self.now.history) s) j ≡ Some e
             → e.number ≡ number
@@ -108,28 +108,28 @@ impl ClassState {
         self.lists.next_newer(number)
     }
 
-    /// The segment that an entry is in, by its number.
+    /// Returns the segment whose list has the entry with this number, if a list has it.
     pub fn segment_of(&self, number: u64) -> Option<Seg>
         ensures { result ≡ Rattle.mc_rule.specs.Lists.segment_of number (lists_of self.now.history) }
     {
         self.lists.segment_of(number)
     }
 
-    /// How many entries a segment's list has.
+    /// Returns how many entries a segment's list has.
     pub fn len(&self, seg: Seg) -> u64
         ensures { result ≡ length (list_of (lists_of self.now.history) seg) }
     {
         self.lists.len(seg)
     }
 
-    /// The entry of a number, where it is in a list.
+    /// Returns the entry with this number, if a list has it.
     pub fn entry(&self, number: u64) -> Option<&Entry>
         ensures { option_copied result ≡ entry_of number (lists_of self.now.history) }
     {
         self.lists.entry(number)
     }
 
-    /// A copy of the key of an entry that is in a list. `NoMemory` is answered where a key of more than 30 bytes found none.
+    /// Returns a copy of the key of an entry that is in a list. Errors: `NoMemory`, only for a key of more than 30 bytes.
     pub fn key(&self, number: u64) -> Result<Key, NoMemory>
         requires there { IsListed number (lists_of self.now.history) }
         ensures { IfOk result (λ key. IsSomeAnd (entry_of number (lists_of self.now.history)) (λ e. key ≡ e.key)) }
@@ -137,8 +137,9 @@ impl ClassState {
         self.entry(number).unwrap().key.copy(self.alloc)
     }
 
-    /// The law of a class: each number is in one list once, which is that of its segment, no number is used again, and
-    /// each event is lawful after those before it as far as the lists tell.
+    /// States what always holds, and does nothing. Each number is in the lists at most once, in the list of its segment. Numbers
+    /// from the next one on are in no list and no event. Each event is lawful after the earlier ones, as far as the lists show.
+    /// The history keeps to its limit, which is at most 2^32 events.
     pub fn law(&self)
         ensures once { (q : ℕ) → times_in q (lists_of self.now.history) ≤ 1 }
         ensures below { (q : ℕ) → entries_linked self.now.history ≤ q → found q (lists_of self.now.history) ≡ None }

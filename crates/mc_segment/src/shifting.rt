@@ -1,4 +1,4 @@
-//! Entries that move between lists.
+//! Moves entries between lists.
 ghost use Rattle.std.specs.Prelude.{◌<◌, ◌≤◌, ◌+◌, OnOk, OnErr};
 ghost use Rattle.std.specs.Option.{IsSomeAnd};
 ghost use Rattle.mc_rule.specs.Lists.{lists_of, segment_of};
@@ -8,9 +8,9 @@ use crate::state::ClassState;
 use mc_item::{Fault, Passed, Seg, Shifted, Who, Why};
 
 impl ClassState {
-    /// An entry goes from the segment that it is in to the head of another, or of its own. A hit or an active entry's
-    /// move sets its time to the moment; the others keep it. The move is lawful as far as the lists tell. The faults
-    /// are those of `unlink`.
+    /// Moves an entry from its segment to the head of another one, or of its own. For a hit or an active entry, the entry's time
+    /// is set to the moment, which is in seconds. Other moves keep it. `passed` and `at` are as for `evict`, but for a hit
+    /// `passed` is empty. The move is lawful as far as the lists show. Errors: as for `unlink`.
     pub fn shift(
         &mut self,
         who: Who,
@@ -33,7 +33,7 @@ impl ClassState {
         self.shift_from(who, number, from_seg, to_seg, why, moment, passed, at)
     }
 
-    /// The same, where the caller knows the segment that the entry is in.
+    /// Does the same as `shift`, for a caller that knows the entry's segment.
     pub fn shift_from(
         &mut self,
         who: Who,
@@ -63,7 +63,7 @@ impl ClassState {
         })
     }
 
-    /// The same as `shift_from`, where room was made: it takes no memory and can't be refused.
+    /// Does the same as `shift_from`, but takes no memory and can't fail. The room is at least 1, and the history has a place.
     pub fn shift_reserved(
         &mut self,
         who: Who,

@@ -1,16 +1,16 @@
-//! What a class's history is shown of an event that it lets go.
+//! How a class shows an event to a history that doesn't keep it: by snapshots, which have no bytes.
 ghost use Rattle.std.specs.Prelude.{◌≡◌, ◌<◌, ◌+◌, ◌∷◌, ◌++◌, []};
 
 use mc_history::{History, Shows};
 use mc_item::{ClassEvent, Key, Seg, Who};
 use std::snapshot::Snapshot;
 
-/// What a class's history is shown of an event that it lets go: it owns no key.
+/// An event as it is shown to a history that doesn't keep it. It owns no key.
 #[derive(Drop)]
 pub enum ShownClass {
-    /// An event, as it is.
+    /// The event itself.
     Whole(Snapshot<ClassEvent>),
-    /// A new entry, which has the key.
+    /// The parts of a `Linked` event, since the entry has the key.
     Linked {
         who: Who,
         number: u64,
@@ -27,7 +27,7 @@ impl Shows<ClassEvent> for ShownClass {
     ghost event = { shown_event };
 }
 
-// Adds an event at the end of a history, if there is room for it.
+// Adds an event at the end of a history that has room for it.
 #[inline(always)]
 pub(crate) fn push_whole(history: &mut History<ClassEvent, ShownClass>, event: ClassEvent)
     requires { 0 < history.old.room }

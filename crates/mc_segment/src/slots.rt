@@ -1,4 +1,4 @@
-//! The slots of a class, under the numbers of their entries: one is made with each new entry, and given back when it goes.
+//! The slots of a class, under the numbers of its entries. A new entry gets a slot, which is freed when the entry is removed.
 ghost use Rattle.std.specs.Prelude.{◌≡◌, ◌<◌, ◌≤◌, ◌+◌, ◌==◌, ℕ, Some, None, true, false, OnOk, IsOk, if◌then◌else◌};
 ghost use Rattle.std.specs.{HashMap.spare, Option.option_copied, Option.option_map};
 ghost use Rattle.mc_segment.specs.Slots.{slot, has_slot, place_newer, place_older, renewed, reolded, IsShaped};
@@ -7,17 +7,17 @@ use crate::arena::Listed;
 use std::alloc::AllocError;
 use std::collections::HashMap;
 
-/// The slots, under their numbers.
+/// The slots, under their numbers. A slot is empty while its entry moves.
 pub(crate) type Slots = HashMap<u64, Option<Listed>>;
 
-// The place of a number.
+// The place of a number (its node and its segment), if its slot isn't empty.
 pub(crate) fn place_at(slots: &Slots, number: u64) -> Option<&Listed>
     ensures { option_copied result ≡ slot slots.now number }
 {
     slots.get(&number)?.as_ref()
 }
 
-// Makes room for the slots of n more numbers.
+// Reserves memory for the slots of n more numbers.
 pub(crate) fn reserve(slots: &mut Slots, n: usize) -> Result<(), AllocError>
     ensures slots { (q : ℕ) → slot slots.new q ≡ slot slots.old q }
     ensures ok { OnOk result (n ≤ spare slots.new) }
@@ -27,7 +27,7 @@ pub(crate) fn reserve(slots: &mut Slots, n: usize) -> Result<(), AllocError>
     slots.reserve(n)
 }
 
-// Takes the place out of a number's slot, which is given back unless it is kept for a place to come.
+// Takes the place out of a number's slot, and frees the slot unless it is kept for a later place.
 #[inline(always)]
 pub(crate) fn empty(slots: &mut Slots, number: u64, keeps: bool) -> Option<Listed>
     ensures place { result ≡ slot slots.old number }
@@ -42,7 +42,7 @@ pub(crate) fn empty(slots: &mut Slots, number: u64, keeps: bool) -> Option<Liste
     }
 }
 
-// Puts a place into a number's slot, which is made for a new number.
+// Puts a place into a number's slot. A new number first gets a slot.
 #[inline(always)]
 pub(crate) fn fill(slots: &mut Slots, number: u64, place: Listed, is_new: bool)
     requires room { is_new ≡ true → 0 < spare slots.old }
@@ -71,7 +71,7 @@ fn refill(slots: &mut Slots, number: u64, place: Listed)
     *slot = Some(place);
 }
 
-// Tells a node the number before it.
+// Makes `to` the newer neighbour of the node with the number `at`, if there is such a node.
 pub(crate) fn set_newer(slots: &mut Slots, at: Option<u64>, to: Option<u64>)
     ensures slots { (q : ℕ) → slot slots.new q ≡ place_newer at to q (slot slots.old q) }
     ensures shape { IsShaped slots.old slots.new }
@@ -84,7 +84,7 @@ pub(crate) fn set_newer(slots: &mut Slots, at: Option<u64>, to: Option<u64>)
     }
 }
 
-// Tells a node the number behind it.
+// Makes `to` the older neighbour of the node with the number `at`, if there is such a node.
 pub(crate) fn set_older(slots: &mut Slots, at: Option<u64>, to: Option<u64>)
     ensures slots { (q : ℕ) → slot slots.new q ≡ place_older at to q (slot slots.old q) }
     ensures shape { IsShaped slots.old slots.new }

@@ -1,4 +1,4 @@
-//! The state of a class: what it keeps, how it is made, and how room is made.
+//! The state of a class: its fields, how it is made, and how memory is reserved for its events.
 ghost use Rattle.std.specs.Prelude.{◌≡◌, ◌≤◌, ◌↔◌, length, IsTrue, OnOk, MatchResult};
 ghost use Rattle.mc_item.specs.Config.{IsSound};
 ghost use Rattle.mc_segment.specs.ClassState.{opened, with_room, HasPlaces, MayRefuse};
@@ -10,8 +10,8 @@ use mc_item::{ClassEvent, ClassNo, Config, Fault};
 use std::alloc::Global;
 use std::marker::Model;
 
-/// The lists of a slab class and their history. Contracts see the history, the limits, and how many more events take
-/// no memory.
+/// The lists of a slab class, and its history. Contracts see the class's number, its limits, the numbers of its rule, the
+/// history, and the room: how many more events take no memory.
 #[derive(Drop)]
 pub struct ClassState {
     pub(crate) number: ClassNo,
@@ -43,7 +43,7 @@ impl Model for ClassState {
 }
 
 impl ClassState {
-    /// A class without entries, of this number, in a store that is made by this configuration. It takes no memory.
+    /// Makes the class with this number (from 1) of a checked configuration, without entries or events. It takes no memory.
     pub fn new(alloc: Global, number: ClassNo, config: &Config) -> ClassState
         requires sound { IsSound config.now }
         requires number { (1 ≤ number.0) × (number.0 ≤ length config.now.sizes) }
@@ -65,7 +65,7 @@ impl ClassState {
         }
     }
 
-    /// Whether the history has places for n more events.
+    /// Returns whether the history's limit leaves places for n more events.
     #[inline(always)]
     pub fn has_places(&self, n: usize) -> bool
         ensures { IsTrue result ↔ HasPlaces self.now n }
@@ -73,8 +73,8 @@ impl ClassState {
         n as u64 <= self.max_events - (self.history.len() as u64)
     }
 
-    /// Makes room for n events: the next n calls that make one take no memory. `HistoryFull` where the history has
-    /// fewer places left than n, which is looked at first; `NoMemory` only where the room was less than n.
+    /// Reserves memory for n events: the next n calls that make one take none. Only the room changes, and it doesn't shrink.
+    /// Errors: `HistoryFull` exactly if the history has fewer than n places left, `NoMemory` only if the room was less than n.
     #[inline(always)]
     pub fn reserve(&mut self, n: usize) -> Result<(), Fault>
         ensures same { self.new ≡ with_room self.old self.new.room }

@@ -1,5 +1,5 @@
-//! The steps that every event is made by. Each looks at the history's limit first, then makes a place where there is
-//! none, and changes nothing where it is refused.
+//! The steps that make the events. Each first checks the history's limit,
+//! then reserves memory. If it fails, it has changed nothing but the room.
 ghost use Rattle.std.specs.Prelude.{◌≡◌, ◌+◌, ◌<◌, ◌≤◌, ◌==◌, ◌^◌, ℕ, Some, true, false, length, slice_get, IfOk, OnOk, OnErr};
 ghost use Rattle.mc_item.specs.declared.class_event.ClassEvent.TheVariants as events;
 ghost use Rattle.mc_rule.specs.Lists.{lists_of, entries_linked, entries_linked_by, count_of, lists_after, unlinked};
@@ -12,7 +12,7 @@ use mc_item::{ClassEvent, Entry, Fault, Key, Linked, Seg, Shifted, Who};
 use std::snapshot::Snapshot;
 
 impl ClassState {
-    // Puts a new entry at a list's head.
+    // Puts a new entry at a list's head, and notes the event.
     pub(crate) fn enter(
         &mut self,
         who: Who,
@@ -27,7 +27,7 @@ impl ClassState {
         requires copy { self.old.keeps_events ≡ true → copy ≡ Some key }
         ensures number { IfOk result (λ number. number ≡ entries_linked self.old.history) }
         ensures ok { OnOk result (Makes self.old self.new
-            (events.Linked (record { who = who; number = links_of self.old.history; key = key; cost = cost; seg = seg; moment = moment }))) }
+            (events.Linked (record { who = who; number = entries_linked self.old.history; key = key; cost = cost; seg = seg; moment = moment }))) }
         ensures err { OnErr result (Stays self.old self.new) }
         ensures refusal { MayEnd self.old result }
         ensures room { self.old.room ≤ self.new.room + 1 }
@@ -67,7 +67,7 @@ impl ClassState {
         Ok(number)
     }
 
-    // Takes an entry out of its list for an event that does so.
+    // Removes an entry from its list, and notes the event that does so.
     #[inline(always)]
     pub(crate) fn leave(&mut self, number: u64, event: ClassEvent) -> Result<(), Fault>
         requires there { IsListed number (lists_of self.old.history) }
@@ -89,7 +89,7 @@ impl ClassState {
         Ok(())
     }
 
-    // Moves an entry to a list's head.
+    // Moves an entry to a list's head, and notes the event.
     pub(crate) fn turn(&mut self, shifted: Shifted) -> Result<(), Fault>
         requires lawful { MayCome self.old (events.Shifted shifted) }
         ensures ok { OnOk result (Makes self.old self.new (events.Shifted shifted)) }
@@ -113,7 +113,7 @@ impl ClassState {
         Ok(())
     }
 
-    // Notes an event that moves no entry, and answers its place.
+    // Notes an event that leaves the lists as they are, and returns its place in the history.
     pub(crate) fn note(&mut self, event: ClassEvent) -> Result<u64, Fault>
         requires lawful { MayCome self.old event }
         requires stays { lists_after (lists_of self.old.history) event ≡ lists_of self.old.history }

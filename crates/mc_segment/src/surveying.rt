@@ -1,4 +1,4 @@
-//! Events that move no entry: surveys and refusals.
+//! Makes the events that leave the lists as they are: surveys and refusals.
 ghost use Rattle.std.specs.Prelude.{◌≡◌, ◌<◌, ◌≤◌, ◌+◌, Some, length, slice_get, IfOk, OnOk, OnErr};
 ghost use Rattle.mc_rule.specs.{Lists.lists_of, Segment.total_of, Segment.cold_age_of};
 ghost use Rattle.mc_segment.specs.ClassState.{HasPlaces};
@@ -7,8 +7,8 @@ ghost use Rattle.mc_segment.specs.ClassCalls.{survey_of, surveyed_event, refused
 use crate::state::ClassState;
 use mc_item::{ClassEvent, Fault, Refused, Seg, Surveyed, Who};
 
-/// A survey: the place of its event, the bytes of HOT, WARM and COLD together, and the age of COLD's tail in seconds,
-/// which is 0 where COLD is empty.
+/// A survey: the place of its event in the history, the bytes of HOT, WARM and COLD together, and the age of COLD's tail in
+/// seconds. That age is 0 if COLD is empty.
 #[derive(Clone, Copy, Debug, PartialEq, Eq)]
 pub struct Survey {
     pub place: u64,
@@ -24,7 +24,7 @@ impl ClassState {
         self.bytes(Seg::Hot) + self.bytes(Seg::Warm) + self.bytes(Seg::Cold)
     }
 
-    // The age of COLD's tail.
+    // The age of COLD's tail in seconds, or 0 if COLD is empty.
     fn cold_age(&self, moment: u64) -> u64
         ensures { result ≡ cold_age_of moment (lists_of self.now.history) }
     {
@@ -34,8 +34,8 @@ impl ClassState {
         }
     }
 
-    /// Notes the bytes and the cold age of the class at a moment. The history has the survey at the place that is
-    /// answered. The faults are those of `unlink`.
+    /// Surveys the class at a moment, which is in seconds, and notes the survey as an event. Returns the survey with the event's
+    /// place in the history. Errors: as for `unlink`.
     pub fn survey(&mut self, who: Who, moment: u64) -> Result<Survey, Fault>
         ensures value { IfOk result (λ survey. survey ≡ survey_of self.old moment) }
         ensures noted { IfOk result (λ survey. slice_get self.new.history survey.place ≡ Some (surveyed_event self.old who moment)) }
@@ -60,7 +60,7 @@ impl ClassState {
         })
     }
 
-    /// The same, where room was made: it takes no memory and can't be refused.
+    /// Does the same as `survey`, but takes no memory and can't fail. The room is at least 1, and the history has a place.
     pub fn survey_reserved(&mut self, who: Who, moment: u64) -> Survey
         requires room { 0 < self.old.room }
         requires place { HasPlaces self.old 1 }
@@ -75,8 +75,7 @@ impl ClassState {
         survey
     }
 
-    /// Notes that no chunk was found, and answers the place of that event. The class is full. The faults are those of
-    /// `unlink`.
+    /// Notes that no chunk was found in a full class, and returns the event's place in the history. Errors: as for `unlink`.
     pub fn refuse(&mut self, who: Who) -> Result<u64, Fault>
         requires { MayCome self.old (refused_event who) }
         ensures place { IfOk result (λ place. place ≡ length self.old.history) }
@@ -90,7 +89,7 @@ impl ClassState {
         Ok(place)
     }
 
-    /// The same, where room was made: it takes no memory and can't be refused.
+    /// Does the same as `refuse`, but takes no memory and can't fail. The room is at least 1, and the history has a place.
     pub fn refuse_reserved(&mut self, who: Who) -> u64
         requires room { 0 < self.old.room }
         requires place { HasPlaces self.old 1 }

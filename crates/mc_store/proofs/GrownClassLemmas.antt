@@ -27,7 +27,7 @@ seen_sound table config class after s kept number told all = record {
 }
 
 module _ (table : TableId) (config : Config) (class : ClassNo) (before after : Sight) (old new : ClassSide) (old_kept : IsHeldClass table config old) (new_kept : IsHeldClass table config new)
-    (number : old.class.number ≡ class) (grows : classes.Grows old.class new.class) (behind : IsBehindAt before old.lock (class_told old.class.history))
+    (number : old.class.number ≡ class) (grows : classes.GainsEvents old.class new.class) (behind : IsBehindAt before old.lock (class_told old.class.history))
     (told : list_at after.seen new.lock ≡ class_told new.class.history) (all : Grows new.sight after) where
   new_number : new.class.number ≡ class
   new_number = ap (λ (v : ClassView). v.number) grows.same ∙ number

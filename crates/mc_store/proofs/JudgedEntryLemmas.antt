@@ -68,7 +68,7 @@ module _ (table : TableId) (config : Config) (own : StripeSide) (own_kept : IsLo
         known = λ stranger. known c s_lent config q agree lawful legal (judged_listed c q may) own_now.made_with.stripes keyed (sym is ∙ stranger);
       })
 
-  module _ (s_new : Stripe) (c_new : ClassView) (site : KeepsSite s_lent s_new) (grows : classes.Grows c c_new) (legal : IsLegal s_new.site s_new.history)
+  module _ (s_new : Stripe) (c_new : ClassView) (site : KeepsSite s_lent s_new) (grows : classes.GainsEvents c c_new) (legal : IsLegal s_new.site s_new.history)
       (lawful : IsLawfulHistoryByLists c_new.chunks c_new.rule c_new.history)
       (agreement : KeepsAgreement c c_new s_lent s_new) (still : KeepsSight c c_new s_lent s_new)
       (lent_up : OwnerView) (stripe_up : lent_up ≡ record lent_owner { history = stripe_told s_new.history }) (owner_new owner_last : OwnerView)

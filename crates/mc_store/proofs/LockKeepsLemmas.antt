@@ -168,7 +168,7 @@ abbrev Bears : Site → Rule → ClassNo → List StripeEvent → List ClassEven
 Bears site rule class seen history = Each (IsBacked site rule class seen) history × Each (IsSuited site class seen) history
 
 module _ (table : TableId) (config : Config) (lent lent_new : ClassSide) (kept : IsHeldClass table config lent) (board : lent_new.board ≡ lent.board) (lock : lent_new.lock ≡ lent.lock)
-    (grows : classes.Grows lent.class lent_new.class) (more : Grows lent.sight lent_new.sight) (lawful : IsLawfulHistoryByLists lent_new.class.chunks lent_new.class.rule lent_new.class.history) where
+    (grows : classes.GainsEvents lent.class lent_new.class) (more : Grows lent.sight lent_new.sight) (lawful : IsLawfulHistoryByLists lent_new.class.chunks lent_new.class.rule lent_new.class.history) where
   abbrev seen_of : ℕ → List StripeEvent
   seen_of = stripes_seen (list_at lent_new.sight.seen)
 

@@ -92,7 +92,7 @@ module _ {table : TableId} {config : Config} {owner : OwnerView} {seen : SeenVie
 -- a class that was lent, before the try and behind it
 pub record IsLent (table : TableId) (config : Config) (turn : Turn) (s s_new : Stripe) (owner : OwnerView) (seen : SeenView) (v w : ClassView) : Type 0 where
   pub kept : IsLockedClass table config (class_side owner seen v)
-  pub grows : classes.Grows v w
+  pub grows : classes.GainsEvents v w
   pub gains : GainsOwn turn.who turn.moment v.history w.history
   pub agrees : AgreeNow w s_new
   pub backs : BacksStill s.site v w
@@ -130,7 +130,7 @@ module _ {table : TableId} {config : Config} {command : Command} {turn : Turn} {
   gain_in = gains_performed s s_new call_in vs ws (result_of t) made_in none_in
 
   -- the classes have only grown
-  pub grow_in : EachPair (λ v w. classes.Grows v w) vs ws
+  pub grow_in : EachPair (λ v w. classes.GainsEvents v w) vs ws
   grow_in = lent_grow s s_new call_in vs ws (result_of t) made_in none_in
 
   -- and so has the stripe, of which the board may lack the last events

@@ -88,7 +88,7 @@ module _ (s s_new : Stripe) (c : Call) where
   part_gains : (v w : ClassView) → GainsPart s c v w → GainsOwn c.who c.moment v.history w.history
   part_gains v w gains = record { events = performed.events_in s c v; history_is = ap (λ (x : ClassView). x.history) gains; each = own_part s c v }
 
-  stays_gains : (v w : ClassView) → performed.Stays v w → GainsOwn c.who c.moment v.history w.history
+  stays_gains : (v w : ClassView) → performed.ClassStays v w → GainsOwn c.who c.moment v.history w.history
   stays_gains v w stays = gains_none c.who c.moment v.history w.history (ap (λ (x : ClassView). x.history) stays)
 
   each_gains : (R : ClassView → ClassView → Type 0) → ((v w : ClassView) → R v w → GainsOwn c.who c.moment v.history w.history) → (xs ys : List ClassView) → EachPair R xs ys
@@ -102,7 +102,7 @@ module _ (s s_new : Stripe) (c : Call) where
   pub gains_performed : {T : Type 0} (vs ws : List ClassView) (r : Result T Fault) → OnOk r (IsPerformed s s_new c vs ws) → OnErr r (IsUntouched s s_new vs ws)
       → EachPair (λ v w. GainsOwn c.who c.moment v.history w.history) vs ws
   gains_performed vs ws (Ok x) made err = each_gains (λ v w. GainsPart s c v w) (λ v w g. part_gains v w g) vs ws made.classes
-  gains_performed vs ws (Err f) made err = each_gains (λ v w. performed.Stays v w) (λ v w g. stays_gains v w g) vs ws err.classes
+  gains_performed vs ws (Err f) made err = each_gains (λ v w. performed.ClassStays v w) (λ v w g. stays_gains v w g) vs ws err.classes
 
 -- a class that noted a refusal, or couldn't
 pub gains_refused : {T : Type 0} (v w : ClassView) (who : Who) (moment : ℕ) (r : Result T Fault) → OnOk r (Makes v w (refused_event who)) → OnErr r (Stays v w) → GainsOwn who moment v.history w.history

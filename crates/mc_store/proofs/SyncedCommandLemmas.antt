@@ -24,7 +24,7 @@ use Rattle.mc_store.proofs.LockKeepsLemmas.{IsHeard, class_after, heard_before, 
 -- ---- full histories
 
 -- a class that was heard and is short
-pub seen_short : (table : TableId) (config : Config) (lent : ClassSide) (w : ClassView) (sight : Sight) → IsHeldClass table config lent → classes.Grows lent.class w
+pub seen_short : (table : TableId) (config : Config) (lent : ClassSide) (w : ClassView) (sight : Sight) → IsHeldClass table config lent → classes.GainsEvents lent.class w
     → list_at sight.seen lent.lock ≡ class_told w.history → w.max_events < length w.history + 2 → HasSeenShort config sight
 seen_short table config lent w sight kept grows heard short =
     let limit : w.max_events ≡ config.max_events = ap (λ (v : ClassView). v.max_events) grows.same ∙ kept.made_with.max_events in
@@ -66,14 +66,15 @@ module _ (table : TableId) (config : Config) (own : StripeSide) (kept : IsLocked
       (apart_tells c own.stripe s_new [] [] refused sight)
 
   -- a class that was lent, and was told the stripe's history
-  pub class_end : (lent : ClassSide) (w : ClassView) → IsHeldClass table config lent → classes.Grows lent.class w → IsLawfulHistoryByLists w.chunks w.rule w.history → AgreeNow w s_new
+  pub class_end : (lent : ClassSide) (w : ClassView) → IsHeldClass table config lent → classes.GainsEvents lent.class w → IsLawfulHistoryByLists w.chunks w.rule w.history → AgreeNow w s_new
       → BacksStill own.stripe.site lent.class w → SuitsStill own.stripe.site lent.class w → Grows lent.sight (with_seen lent.sight own.lock (stripe_told s_new.history))
       → IsHeldClass table config (record lent { class = w; sight = with_seen lent.sight own.lock (stripe_told s_new.history) })
   class_end lent w kept_of grows lawful agree backs suits more =
       class_after table config lent (record lent { class = w; sight = with_seen lent.sight own.lock (stripe_told s_new.history) }) kept_of refl refl grows more lawful
       own.stripe s_new kept.made_with site agree (heard_stripe lent.sight own.lock own.stripe.site.stripe s_new.history kept.lock_is) backs suits
 
-  heard_as : (sight : Sight) (lent : ClassSide) (w : ClassView) → IsHeldClass table config lent → classes.Grows lent.class w → AgreeNow w s_new → classes_seen config.stripes (list_at sight.seen) w.number ≡ w.history
+  heard_as : (sight : Sight) (lent : ClassSide) (w : ClassView) → IsHeldClass table config lent → classes.GainsEvents lent.class w → AgreeNow w s_new
+      → classes_seen config.stripes (list_at sight.seen) w.number ≡ w.history
       → IsHeard config (record own { stripe = s_new; sight = sight }) lent.class w
   heard_as sight lent w kept_of grows agree heard = record {
     number_is = ap (λ (v : ClassView). v.number) grows.same;
@@ -83,10 +84,10 @@ module _ (table : TableId) (config : Config) (own : StripeSide) (kept : IsLocked
   }
 
   -- the lock of a class that was lent is that of its number
-  lock_now : (lent : ClassSide) (w : ClassView) → IsHeldClass table config lent → classes.Grows lent.class w → lent.lock ≡ class_lock config w.number
+  lock_now : (lent : ClassSide) (w : ClassView) → IsHeldClass table config lent → classes.GainsEvents lent.class w → lent.lock ≡ class_lock config w.number
   lock_now lent w kept_of grows = kept_of.lock_is ∙ ap (class_lock config) (sym (ap (λ (v : ClassView). v.number) grows.same))
 
-  module _ (low : ClassSide) (v : ClassView) (kept_low : IsHeldClass table config low) (grows_low : classes.Grows low.class v) where
+  module _ (low : ClassSide) (v : ClassView) (kept_low : IsHeldClass table config low) (grows_low : classes.GainsEvents low.class v) where
     abbrev hears_low : Sight
     hears_low = with_seen own.sight low.lock (class_told v.history)
 
@@ -106,7 +107,7 @@ module _ (table : TableId) (config : Config) (own : StripeSide) (kept : IsLocked
         (λ (has : HasShort (v ∷ [])). inr (seen_short table config low v hears_low kept_low grows_low (list_at_same own.sight.seen low.lock (class_told v.history)) (first_short v has)))
         (all_short own.stripe s_new c (v ∷ []) (low.class ∷ []) (v ∷ []) r site (record { place = 0; below = omega arith; is = λ other. refl }, tt) err refusal is)
 
-    module _ (high : ClassSide) (w : ClassView) (kept_high : IsHeldClass table config high) (grows_high : classes.Grows high.class w) (away : low.class.number.0 ≢ high.class.number.0) where
+    module _ (high : ClassSide) (w : ClassView) (kept_high : IsHeldClass table config high) (grows_high : classes.GainsEvents high.class w) (away : low.class.number.0 ≢ high.class.number.0) where
       abbrev hears_both : Sight
       hears_both = with_seen hears_low high.lock (class_told w.history)
 

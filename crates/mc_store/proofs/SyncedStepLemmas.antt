@@ -35,7 +35,7 @@ map_length f [] = refl
 map_length f (x ∷ xs) = ap suc (map_length f xs)
 
 -- a class that only grew tells a history that its owner's begins
-pub class_told_more : (c c_new : ClassView) (told : List Event) → classes.Grows c c_new → told ≡ class_told c.history → IsPrefix told (class_told c_new.history)
+pub class_told_more : (c c_new : ClassView) (told : List Event) → classes.GainsEvents c c_new → told ≡ class_told c.history → IsPrefix told (class_told c_new.history)
 class_told_more c c_new told grows is = (
   class_told grows.events,
   ap (λ (t : List Event). t ++ class_told grows.events) is
@@ -49,7 +49,7 @@ stripe_told_more h h_new es told grows is =
 
 -- a class is the same but for its events and its room, whichever way a judgement of it ended
 pub settled_grows : (c c_new : ClassView) (s s_new : Stripe) (q : Question) (result : Result Done Fault) → IfOk result (λ made. IsSettled c c_new s s_new q made)
-    → OnErr result ((c_new ≡ with_room c c_new.room) × (s_new.history ≡ s.history)) → classes.Grows c c_new
+    → OnErr result ((c_new ≡ with_room c c_new.room) × (s_new.history ≡ s.history)) → classes.GainsEvents c c_new
 settled_grows c c_new s s_new q (Ok made) settled err = record {
   same = settled.class ∙ ap (λ (h : List ClassEvent). record c { history = h; room = c_new.room }) (sym (ap (λ (v : ClassView). v.history) settled.class));
   events = done_class_events c q (length s.history) made;
@@ -95,7 +95,7 @@ short_of config sight lock class history at is list lack =
 
 -- a stripe and a class that agreed stepped together, and were told of each other
 module _ (table : TableId) (config : Config) (own : StripeSide) (lent : ClassSide) (own_kept : IsLockedStripe table config own) (lent_kept : IsHeldClass table config lent) (agree : AgreeNow lent.class own.stripe)
-    (s : Stripe) (c : ClassView) (site : KeepsSite own.stripe s) (grows : classes.Grows lent.class c) (legal : IsLegal s.site s.history) (lawful : IsLawfulHistoryByLists c.chunks c.rule c.history)
+    (s : Stripe) (c : ClassView) (site : KeepsSite own.stripe s) (grows : classes.GainsEvents lent.class c) (legal : IsLegal s.site s.history) (lawful : IsLawfulHistoryByLists c.chunks c.rule c.history)
     (agreement : KeepsAgreement lent.class c own.stripe s) (still : KeepsSight lent.class c own.stripe s) (sight seen : Sight)
     (told : sight ≡ with_seen own.sight lent.lock (class_told c.history)) (told_of : seen ≡ with_seen lent.sight own.lock (stripe_told s.history))
     (more : Grows own.sight sight) (more_of : Grows lent.sight seen) where
@@ -168,7 +168,7 @@ module _ (table : TableId) (config : Config) (own : StripeSide) (lent : ClassSid
 -- ---- a step of both, told behind it by the pair
 module _ (table : TableId) (config : Config) (own : StripeSide) (lent : ClassSide) (own_kept : IsLockedStripe table config own) (lent_kept : IsHeldClass table config lent)
     (s : Stripe) (own_owner : OwnerView) (own_seen : SeenView) (own_is : stripe_side own_owner own_seen s ≡ own) (c : ClassView) (owner : OwnerView) (seen : SeenView) (lent_is : class_side owner seen c ≡ lent)
-    (agree : AgreeNow c s) (s_new : Stripe) (c_new : ClassView) (site : KeepsSite s s_new) (grows : classes.Grows c c_new) (legal : IsLegal s_new.site s_new.history)
+    (agree : AgreeNow c s) (s_new : Stripe) (c_new : ClassView) (site : KeepsSite s s_new) (grows : classes.GainsEvents c c_new) (legal : IsLegal s_new.site s_new.history)
     (lawful : IsLawfulHistoryByLists c_new.chunks c_new.rule c_new.history) (agreement : KeepsAgreement c c_new s s_new) (still : KeepsSight c c_new s s_new)
     (own_up : OwnerView) (stripe_up : own_up ≡ record own_owner { history = stripe_told s_new.history }) (owner_up : OwnerView) (class_up : owner_up ≡ record owner { history = class_told c_new.history })
     (own_new own_last : StripeSide) (lent_new lent_last : ClassSide) (same : lent_new ≡ class_side owner_up seen c_new)

@@ -263,7 +263,7 @@ lt_not : (a b : ℕ) → b ≤ a → nat_lt a b ≡ false
 lt_not a b few = grind (arith, nat_tests)
 
 -- a search that left its class full found nothing
-pub full_vain : (config : Config) (v v_new : ClassView) (who : Who) (moment : ℕ) (xs : List Answer) (there : Bool) → classes.Grows v v_new → IsRoom (rounds v who moment config) v.history xs v_new.history there
+pub full_vain : (config : Config) (v v_new : ClassView) (who : Who) (moment : ℕ) (xs : List Answer) (there : Bool) → classes.GainsEvents v v_new → IsRoom (rounds v who moment config) v.history xs v_new.history there
     → IsFull v_new.chunks (lists_of v_new.history) → there ≡ false
 full_vain config v v_new who moment xs there grows room full =
     room.found_is ∙ lt_not (count_of (lists_of v_new.history)) v.chunks (subst (λ (n : ℕ). n ≤ count_of (lists_of v_new.history)) (ap (λ (c : ClassView). c.chunks) grows.same) full)

@@ -1,5 +1,6 @@
 -- Callers' histories: each event of a stripe was made by a call of its caller, whose history has that call (own).
--- A caller's history stands on the board behind those of stripes and classes, and only the caller's pass adds to it.
+-- On the board they come after those of stripes and classes, and only a caller's pass adds to the caller's.
+-- A turn is the number of a call, from 0. A moment is a time in seconds. A place is the number of earlier events in a history.
 use Rattle.std.specs.Prelude.{◌≡◌, ◌<◌, ◌+◌, ◌++◌, ◌⊎◌, ℕ, List, [], ◌∷◌, Option, Some, None, length, map, slice_get}
 use Rattle.mc_item.specs.declared.{call_event.CallEvent.CallEvent, command.Command.Command, event.Event.Event, event.Event.TheVariants.Call}
 use Rattle.mc_item.specs.declared.{event.Event.TheVariants.Class, event.Event.TheVariants.Stripe, item.ClassNo.ClassNo, item.Who.Who, stripe_event.Cause.Cause}
@@ -11,30 +12,30 @@ use Rattle.mc_item.specs.declared.stripe_event.StripeEvent.TheVariants as events
 abbrev pub calls_told : List CallEvent → List Event
 calls_told calls = map Call calls
 
--- the events of a caller among these
+-- the callers' events among these
 abbrev pub call_events : List Event → List CallEvent
 call_events [] = []
 call_events (Stripe e ∷ es) = call_events es
 call_events (Class e ∷ es) = call_events es
 call_events (Call e ∷ es) = e ∷ call_events es
 
--- a caller's event that it asked for this command, at this moment
+-- the event that a caller asked for this command at this moment
 abbrev pub asked_for : Command → ℕ → CallEvent
 asked_for command moment = Asked (record { command = command; moment = moment })
 
--- a caller's event that it juggled this class, at this moment
+-- the event that a caller juggled this class at this moment
 abbrev pub juggling_of : ClassNo → ℕ → CallEvent
 juggling_of class moment = Juggled (record { class = class; moment = moment })
 
--- a caller's event that it crawled this class, at this moment
+-- the event that a caller crawled this class at this moment
 abbrev pub crawling_of : ClassNo → ℕ → CallEvent
 crawling_of class moment = Crawled (record { class = class; moment = moment })
 
--- a caller's event that its last command was answered by the event at this place of this stripe's history
+-- the event that a caller's last command was answered, by the event at this place of this stripe's history
 abbrev pub answered_at : ℕ → ℕ → CallEvent
 answered_at stripe place = Answered (record { stripe = record { 0 = stripe }; place = place })
 
--- the calls of a caller's history, one for each of its turns: all but the answers
+-- the calls of a caller's history, one for each turn: all events but the answers
 abbrev pub turns_of : List CallEvent → List CallEvent
 turns_of [] = []
 turns_of (Asked asked ∷ calls) = Asked asked ∷ turns_of calls
@@ -42,7 +43,7 @@ turns_of (Juggled worked ∷ calls) = Juggled worked ∷ turns_of calls
 turns_of (Crawled worked ∷ calls) = Crawled worked ∷ turns_of calls
 turns_of (Answered answered ∷ calls) = turns_of calls
 
--- the moment that a call was handed; an answer is none
+-- the moment of a call; an answer has none
 abbrev pub moment_of : CallEvent → Option ℕ
 moment_of (Asked asked) = Some asked.moment
 moment_of (Juggled worked) = Some worked.moment
@@ -59,7 +60,7 @@ abbrev pub IsNext : CallEvent → List CallEvent → Type 0
 IsNext call [] = ⊥
 IsNext call (e ∷ es) = e ≡ call
 
--- a caller's history has the call of this turn, which was handed this moment
+-- a caller's history has a call in this turn, made at this moment
 pub record IsBegun (calls : List CallEvent) (turn moment : ℕ) : Type 0 where
   pub before : List CallEvent
   pub call : CallEvent
@@ -68,7 +69,7 @@ pub record IsBegun (calls : List CallEvent) (turn moment : ℕ) : Type 0 where
   pub turn_is : length (turns_of before) ≡ turn
   pub handed : moment_of call ≡ Some moment
 
--- the same of just this call
+-- a caller's history has just this call in this turn, made at this moment
 pub record IsBegunAs (calls : List CallEvent) (turn moment : ℕ) (call : CallEvent) : Type 0 where
   pub begun : IsBegun calls turn moment
   pub call_is : begun.call ≡ call
@@ -79,26 +80,26 @@ who_of (events.Did did) = did.who
 who_of (events.Lost lost) = lost.who
 who_of (events.Cooled cooled) = cooled.who
 
--- an item that went for being dead was so at this moment
+-- if the cause of a loss is that the item was dead, it was so at this moment
 abbrev pub IsMomentOf : Cause → ℕ → Type 0
 IsMomentOf (Expired dead) moment = dead ≡ moment
 IsMomentOf (Taken class place) moment = Unit {0}
 
--- the event at a place of a stripe's history is one of this call, which was handed this moment and has these events of its
--- caller behind it: an answered command is just the one that was asked for, and the next event says where it stands
+-- the event at a place of a stripe's history is of this call at this moment, which these events of its caller follow: an answered
+-- command is the one that was asked for, and the caller's next event gives its place; an item lost as dead was so then
 abbrev pub IsOf : ℕ → ℕ → StripeEvent → CallEvent → List CallEvent → ℕ → Type 0
 IsOf stripe place (events.Did did) call behind moment = (call ≡ asked_for did.command did.moment) × IsNext (answered_at stripe place) behind
 IsOf stripe place (events.Lost lost) call behind moment = IsMomentOf lost.cause moment
 IsOf stripe place (events.Cooled cooled) call behind moment = Unit {0}
 
--- the event at a place of a stripe's history was called: its caller's history has, for its turn, the call that it is of
+-- the event at a place of a stripe's history was called: its caller's history has, in its turn, the call that made it
 pub record IsCalled (calls : List CallEvent) (stripe place : ℕ) (event : StripeEvent) : Type 0 where
   pub moment : ℕ
   pub begun : IsBegun calls (who_of event).turn moment
   pub own : IsOf stripe place event begun.call begun.behind moment
 
--- each event of a stripe's history was called, by one of so many callers, as far as that one's history was seen; the histories
--- of callers come behind so many others
+-- each event of a stripe's history was called by one of so many callers, in what was seen of that caller's history; on the board
+-- the callers' histories come after so many others
 pub record AreCalled (others callers stripe : ℕ) (history : List StripeEvent) (seen : ℕ → List Event) : Type 0 where
   pub each : (place : ℕ) (event : StripeEvent) → slice_get history place ≡ Some event
       → ((who_of event).caller < callers) × IsCalled (call_events (seen (others + (who_of event).caller))) stripe place event

@@ -13,8 +13,8 @@ use Rattle.mc_pull.specs.declared.looking.Answer.{Answer}
 use Rattle.mc_store.specs.{Commands.IsAnswered, Commands.IsCut, Callers.answered_at, Callers.asked_for, Earned.IsEarned, Locked.class_lock, Locked.setting_of}
 use Rattle.mc_store.specs.{Sides.class_told, Sides.stripe_told}
 
--- a command was answered with this reply, and its caller's history has one event more, which says where the answer stands; a
--- refusal that the answer cites was earned: it stands behind a search by the same call, by what is seen of its class
+-- a command was answered with this reply, and its caller's history gains one event, the place of the answer; a refusal that the
+-- answer names was earned, by what is seen of its class: a search by the same call came before it
 pub record IsReplied (config : Config) (who : Who) (command : Command) (moment : ℕ) (s s_new : Stripe) (sight : Sight) (calls calls_new : List CallEvent)
     (reply : Reply) : Type 0 where
   pub place : ℕ
@@ -23,9 +23,8 @@ pub record IsReplied (config : Config) (who : Who) (command : Command) (moment :
   pub noted : calls_new ≡ calls ++ answered_at s.site.stripe place ∷ []
   pub earned : IsEarned config s.site sight (record { who = who; command = command; moment = moment; reply = answered.reply; room = answered.room })
 
--- a stripe's history grew in a call: what the pass had seen of it is a beginning of what it was when its lock was had, and
--- the pass has seen all of it now; it is legal, and of each of its events the partner stands in what the pass has seen of the
--- classes
+-- a stripe's history grew in a call: what the pass had seen of it is a beginning of what it was when the lock was taken, and now
+-- the pass has seen all of it; it is legal, and each event's partners are in what the pass has seen of the classes
 pub record IsSeenGrow (config : Config) (number : ℕ) (before after : Sight) (s s_new : Stripe) : Type 0 where
   pub made_with : IsStripeOf config s
   pub number_is : s.site.stripe ≡ number
@@ -35,7 +34,7 @@ pub record IsSeenGrow (config : Config) (number : ℕ) (before after : Sight) (s
   pub sound : StripeKeeps (setting_of config) number s_new.history (classes_seen config.stripes (list_at after.seen))
 
 -- a command was answered with this reply at one point of its stripe's growing history, after all that the pass had seen; its
--- caller's history has two events more: that the command was asked for, and where the answer stands
+-- caller's history gains two events, the call and the place of the answer
 pub record IsRepliedBy (config : Config) (number : ℕ) (before after : Sight) (calls calls_new : List CallEvent) (who : Who) (command : Command) (moment : ℕ)
     (reply : Reply) : Type 0 where
   pub old : Stripe
@@ -43,8 +42,7 @@ pub record IsRepliedBy (config : Config) (number : ℕ) (before after : Sight) (
   pub grew : IsSeenGrow config number before after old new
   pub replied : IsReplied config who command moment old new after (calls ++ asked_for command moment ∷ []) calls_new reply
 
--- a command was broken off: nothing of it stands in its stripe's history but what leads up to it, and its caller's history has
--- one event more, that it was asked for
+-- a command was broken off: its stripe's history gains at most what leads up to it, and its caller's history gains just the call
 pub record IsCutBy (config : Config) (number : ℕ) (before after : Sight) (calls calls_new : List CallEvent) (who : Who) (command : Command) (moment : ℕ) : Type
     0 where
   pub old : Stripe
@@ -53,7 +51,8 @@ pub record IsCutBy (config : Config) (number : ℕ) (before after : Sight) (call
   pub cut : IsCut config who command moment old new
   pub noted : calls_new ≡ calls ++ asked_for command moment ∷ []
 
--- a class's history grew in a call, from one list to another: the same of a class
+-- a class's history grew in a call, from that of `c` to this list: what the pass had seen is a beginning of the first, and now it
+-- has seen all of the second; this is lawful, and each event's partner is in what the pass has seen of the stripes
 pub record IsSeenGrowOf (config : Config) (class : ClassNo) (before after : Sight) (c : ClassView) (history : List ClassEvent) : Type 0 where
   pub made_with : IsClassOf config c
   pub number_is : c.number ≡ class
@@ -61,8 +60,7 @@ pub record IsSeenGrowOf (config : Config) (class : ClassNo) (before after : Sigh
   pub now : list_at after.seen (class_lock config class) ≡ class_told history
   pub sound : ClassKeeps (setting_of config) class history (stripes_seen (list_at after.seen))
 
--- a class was juggled, after all that the pass had seen of it: what the call added to its history are the surveys and walks of
--- its rounds
+-- a class was juggled, after all that the pass had seen of it: the call added the surveys and walks of its rounds to the history
 pub record IsJuggledBy (config : Config) (class : ClassNo) (before after : Sight) (who : Who) (moment : ℕ) (moves : Moves) : Type 0 where
   pub old : ClassView
   pub own : List ClassEvent

@@ -16,7 +16,7 @@ use Rattle.mc_crawl.specs.{Crawl.IsCrawled, Crawl.IsReclaim, Crawl.crawl, CrawlC
 use Rattle.mc_crawl.specs.declared.kind.Kind.{Kind}
 use Rattle.mc_store.specs.{Locked.class_lock, Locked.setting_of, Sides.class_told}
 
--- among these events at least so many are a `Reclaimed` by this caller's call and of this moment
+-- at least so many of these events are a `Reclaimed` by this call, at this moment
 abbrev pub HasReclaims : Who → ℕ → ℕ → List Event → Type 0
 HasReclaims who moment many [] = many ≡ 0
 HasReclaims who moment many (Stripe e ∷ es) = HasReclaims who moment many es
@@ -24,7 +24,7 @@ HasReclaims who moment many (Call e ∷ es) = HasReclaims who moment many es
 HasReclaims who moment many (Class e ∷ es) = HasReclaims who moment many es
     ⊎ (IsReclaim who moment e × ((fewer : ℕ) × (many ≡ fewer + 1) × HasReclaims who moment fewer es))
 
--- past what a pass had seen of a class it has seen as many such events as a count has risen
+-- a pass has come to see at least as many `Reclaimed` of a call in a class as a count has risen by
 pub record ShowsReclaims (config : Config) (class : ClassNo) (before after : Sight) (who : Who) (moment count_before count_after : ℕ) : Type 0 where
   pub events : List Event
   pub events_are : list_at before.seen (class_lock config class) ++ events ≡ list_at after.seen (class_lock config class)
@@ -32,8 +32,7 @@ pub record ShowsReclaims (config : Config) (class : ClassNo) (before after : Sig
   pub count_is : count_after ≡ count_before + many
   pub reclaims : HasReclaims who moment many events
 
--- the pass has seen a class as it was at one point, after all that it had seen of it before, with so many entries and their
--- links
+-- a pass has seen a class as it was at one point, with so many entries and these links, after all that it had seen of it before
 pub record IsSnapshot (config : Config) (class : ClassNo) (before after : Sight) (count : ℕ) : Type 0 where
   pub history : List ClassEvent
   pub begins : IsPrefix (list_at before.seen (class_lock config class)) (class_told history)
@@ -42,14 +41,13 @@ pub record IsSnapshot (config : Config) (class : ClassNo) (before after : Sight)
   pub links : List Link
   pub links_are : links ≡ links_of (record (opened config class) { history = history })
 
--- a pass has seen a class whole, as it was at one point, and of each of its events the partner in what it has seen of the
--- stripes
+-- a pass has seen a class's whole history, which is lawful, and in what it has seen of the stripes the partner of each event
 pub record IsSeenSound (config : Config) (class : ClassNo) (after : Sight) : Type 0 where
   pub history : List ClassEvent
   pub now : list_at after.seen (class_lock config class) ≡ class_told history
   pub sound : ClassKeeps (setting_of config) class history (stripes_seen (list_at after.seen))
 
--- a link of a class was crawled, and a histogram counts one link more, as the kind that the crawl found
+-- a link of a class was crawled, and the histogram counts one more link, as the kind that the crawl found
 pub record CountsLink (config : Config) (c c_new : ClassView) (who : Who) (moment : ℕ) (link : Link) (histogram histogram_new : Histogram) : Type 0 where
   pub kind : Kind
   pub answers : List Answer
@@ -57,7 +55,8 @@ pub record CountsLink (config : Config) (c c_new : ClassView) (who : Who) (momen
   pub crawled : IsCrawled (crawl who link.number moment config) c c_new answers answers_new kind
   pub counts : histogram_new ≡ counted_as kind histogram
 
--- a link was counted under its class's lock: the class had all that was seen of it before, and all that it has then is seen
+-- a link was counted under its class's lock: what was seen before is a beginning of the class's old history, and what is seen
+-- after is all of its new one
 pub record IsLinkCounted (config : Config) (class : ClassNo) (seen seen_new : List Event) (who : Who) (moment : ℕ) (link : Link)
     (histogram histogram_new : Histogram) : Type 0 where
   pub old : ClassView
@@ -68,15 +67,15 @@ pub record IsLinkCounted (config : Config) (class : ClassNo) (seen seen_new : Li
   pub now : seen_new ≡ class_told new.history
   pub counted : CountsLink config old new who moment link histogram histogram_new
 
--- these links of a class were counted one after another, and each count goes on from the one before it
+-- these links of a class were counted one after another, each count starting from the one before
 abbrev pub AreLinksCounted : Config → ClassNo → List Event → List Event → Who → ℕ → List Link → Histogram → Histogram → Type 0
 AreLinksCounted config class seen seen_new who moment [] histogram histogram_new = (seen_new ≡ seen) × (histogram_new ≡ histogram)
 AreLinksCounted config class seen seen_new who moment (link ∷ links) histogram histogram_new =
     (between : List Event) × (middle : Histogram) × IsLinkCounted config class seen between who moment link histogram middle
     × AreLinksCounted config class between seen_new who moment links middle histogram_new
 
--- a class was crawled: the links that it had at one point were counted one after another, from nothing on; what was reclaimed
--- the pass has seen, and the class whole
+-- a class was crawled: the links that it had at one point were counted one after another, starting from no counts, each as one
+-- kind; the pass has seen the events of what was reclaimed, and the class's whole history
 pub record IsCrawledBy (config : Config) (class : ClassNo) (before after : Sight) (who : Who) (moment : ℕ) (histogram : Histogram) : Type 0 where
   pub snapshot : IsSnapshot config class before after histogram.seen
   pub balanced : IsBalanced histogram

@@ -1,4 +1,4 @@
--- That a reply for want of a chunk was earned: the refusal that it cites stands behind a search by the same call (own).
+-- A reply for want of a chunk is earned: the refusal that it names comes after a search by the same call (own).
 use Rattle.std.specs.Prelude.{◌≡◌, ◌⊎◌, ℕ, List, false, length}
 use Rattle.mc_item.specs.{Measure.stripe_of, Stripe.IsAlive}
 use Rattle.mc_item.specs.declared.{answer.Site.Site, class_event.ClassEvent.ClassEvent, config.Config.Config, item.ClassNo.ClassNo, item.StripeNo.StripeNo}
@@ -13,41 +13,40 @@ use Rattle.mc_stripe.specs.StripeState.{Stripe, cache_now}
 use Rattle.mc_pull.specs.{Rounds.IsRoom, Rounds.rounds, Tried.AreHad, Tried.IsNoneNear}
 use Rattle.mc_pull.specs.declared.looking.Answer.{Answer}
 
--- a call for a key of a stripe has searched a class for a chunk: it took or moved an entry, or reclaimed one of another key; or
--- none of the five entries nearest COLD's tail, and none of the five nearest HOT's, has a key of the stripe
+-- a call for a key of a stripe has searched a class for a chunk: it evicted or moved an entry, or reclaimed one of another key;
+-- or no key of the stripe is among the five entries nearest COLD's tail or the five nearest HOT's
 abbrev pub HasSearched : ℕ → StripeNo → Who → List ℕ → List ClassEvent → Type 0
 HasSearched stripes number who key history = HasTried history who key ⊎ (IsNoneNear stripes number Cold history × IsNoneNear stripes number Hot history)
 
--- a call has searched so for each key of a stripe whose item isn't dead at a moment
+-- a call has searched a class in this way for each key of a stripe whose item isn't dead at a moment
 abbrev pub HasSearchedForAny : ℕ → Stripe → Who → ℕ → List ClassEvent → Type 0
 HasSearchedForAny stripes s who moment history =
     (key : List ℕ) → stripe_of key stripes ≡ record { 0 = s.site.stripe } → IsAlive ((cache_now s).items key) moment
     → HasSearched stripes (record { 0 = s.site.stripe }) who key history
 
--- a call made room in a class in vain, from one history to another: it went through all rounds, whatever the stripes of the
--- entries answered, but that its own was had wherever it was asked for; and at their end no chunk is free
+-- a call went through all rounds of making room in a class, from one history to another, and no chunk is free in the end;
+-- whenever it asked for its own stripe, the stripe answered and had the entry's item
 pub record IsInVain (config : Config) (number : StripeNo) (c : ClassView) (who : Who) (moment : ℕ) (before after : List ClassEvent) : Type 0 where
   pub answers : List Answer
   pub rounds_are : IsRoom (rounds c who moment config) before answers after false
   pub had : AreHad number answers
 
--- the same of a class of a configuration, and of each key of the stripe whose item isn't dead at the moment it has searched
+-- a call searched a class through all rounds and found no chunk: it searched for each key of its stripe whose item isn't dead
 pub record IsSearchInVain (config : Config) (c : ClassView) (s : Stripe) (who : Who) (moment : ℕ) (history : List ClassEvent) : Type 0 where
   pub any : HasSearchedForAny config.stripes s who moment history
   pub rounds_are : IsInVain config (record { 0 = s.site.stripe }) c who moment c.history history
 
--- a call has gone through all rounds of a search for a chunk of a class, which end with this history
+-- a call has gone through all rounds of a search for a chunk of a class, found none, and left this history
 pub record HasGoneThrough (config : Config) (number : StripeNo) (class : ClassNo) (who : Who) (moment : ℕ) (history : List ClassEvent) : Type 0 where
   pub before : List ClassEvent
   pub in_vain : IsInVain config number (opened config class) who moment before history
 
--- a call for a key of a stripe has looked for a chunk of a class in vain: it has searched, and gone through all rounds
+-- a call for a key of a stripe has found no chunk of a class: it has searched, and gone through all rounds
 abbrev pub HasGivenUp : Config → StripeNo → ClassNo → Who → ℕ → List ℕ → List ClassEvent → Type 0
 HasGivenUp config number class who moment key history = HasSearched config.stripes number who key history
     × HasGoneThrough config number class who moment history
 
--- the event at a place of a class's history, as it is seen, is a refusal of this call, which had looked for a chunk in vain
--- before it
+-- the event at a place of what is seen of a class's history is a refusal of this call, made after a search that found no chunk
 pub record IsEarnedAt (config : Config) (number : StripeNo) (class : ClassNo) (who : Who) (moment : ℕ) (key : List ℕ) (place : ℕ) (seen : List ClassEvent) :
     Type 0 where
   pub before : List ClassEvent
@@ -55,23 +54,22 @@ pub record IsEarnedAt (config : Config) (number : StripeNo) (class : ClassNo) (w
   pub place_is : place ≡ length before
   pub searched : HasGivenUp config number class who moment key before
 
--- where a room is a refusal, that is such an event, by what is seen of its class
+-- if a room is a refusal, its place has such an event, by what is seen of its class
 abbrev pub IsEarnedIn : Config → ℕ → Who → ℕ → List ℕ → Sight → Room → Type 0
 IsEarnedIn config number who moment key sight (rooms.Refused class place) =
     IsEarnedAt config (record { 0 = number }) class who moment key place (classes_seen config.stripes (list_at sight.seen) class)
 IsEarnedIn config number who moment key sight (rooms.At link) = Unit {0}
 IsEarnedIn config number who moment key sight rooms.Keep = Unit {0}
 
--- the event at a place of a class's history is a refusal of a command's call, for a key of this stripe, which had gone through
--- all rounds before it
+-- the event at a place of a class's history is a refusal of a command's call, made after all rounds of a search
 pub record IsLastResort (config : Config) (number : StripeNo) (class : ClassNo) (place : ℕ) (history : List ClassEvent) (did : Did) : Type 0 where
   pub before : List ClassEvent
   pub refused : Stands history before (refused_event did.who)
   pub place_is : place ≡ length before
   pub through : HasGoneThrough config number class did.who did.moment before
 
--- a refusal that a command of a stripe cites wasn't made at once, and stands behind all rounds of a search, by what is seen of
--- its class
+-- a refusal that a command of a stripe names was made after its call had searched for a chunk and gone through all rounds, by
+-- what is seen of its class
 pub record IsEarned (config : Config) (site : Site) (sight : Sight) (did : Did) : Type 0 where
   pub tried : (class : ClassNo) → WasTried site class (classes_seen config.stripes (list_at sight.seen) class) did
   pub last : (class : ClassNo) (place : ℕ) → did.room ≡ rooms.Refused class place

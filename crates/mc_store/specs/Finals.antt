@@ -27,26 +27,26 @@ pub record AreClasses (board : TableId) (config : Config) (classes : List ClassS
   pub many : length classes ≡ length config.sizes
   pub each : (k : ℕ) (s : ClassSide) → slice_get classes k ≡ Some s → IsClassUnder board config (k + 1) s
 
--- the history of a stripe that is there
+-- the history of a stripe, or no events if it doesn't exist
 abbrev pub stripe_history : Option StripeSide → List StripeEvent
 stripe_history None = []
 stripe_history (Some s) = s.stripe.history
 
--- the history of a class that is there
+-- the history of a class, or no events if it doesn't exist
 abbrev pub class_history : Option ClassSide → List ClassEvent
 class_history None = []
 class_history (Some s) = s.class.history
 
--- the history of each stripe
+-- the history of the stripe with this number
 abbrev pub stripe_histories : List StripeSide → ℕ → List StripeEvent
 stripe_histories stripes number = stripe_history (slice_get stripes number)
 
--- the history of each class
+-- the history of the class with this number; classes are numbered from 1
 abbrev pub class_histories : List ClassSide → ClassNo → List ClassEvent
 class_histories classes number = class_history (slice_get classes (number.0 - 1))
 
--- the items are exactly the entries: an item has its entry in the class of its link, which is one of the store's; an entry
--- has its item in its key's stripe; and each number stands in its class once at the most
+-- the items are exactly the entries: each item has its entry in the class of its link, which is one of the store's, each entry
+-- has its item in its key's stripe, and each number is in its class's lists at most once
 pub record AreExactlyEntries (setting : Setting) (stripes : ℕ → List StripeEvent) (classes : ClassNo → List ClassEvent) : Type 0 where
   pub items : (s : ℕ) (key : List ℕ) (item : Item) → s < setting.stripes → item_after (site_in setting s) (stripes s) key ≡ Some item
       → IsClass setting item.link.class × HasEntry (classes item.link.class) key item
@@ -55,26 +55,26 @@ pub record AreExactlyEntries (setting : Setting) (stripes : ℕ → List StripeE
       (s < setting.stripes) × HasItem (site_in setting s) class (stripes s) number entry
   pub once : (class : ClassNo) (number : ℕ) → IsClass setting class → times_in number (lists_of (classes class)) ≤ 1
 
--- what was seen of a lock is a beginning of its final history, and what was noted of it is at most that one's length
+-- what was seen of a lock is a beginning of this history, and what was noted of it is at most its length
 pub record IsBehindAt (sight : Sight) (lock : ℕ) (history : List Event) : Type 0 where
   pub seen : HasSeen history sight lock
   pub noted : HasNoted history sight lock
 
--- what was seen and noted is behind each stripe's final history
+-- for each stripe, what was seen is a beginning of its final history, and what was noted is at most its length
 pub record IsBehindStripes (sight : Sight) (stripes : List StripeSide) : Type 0 where
   pub each : (k : ℕ) (s : StripeSide) → slice_get stripes k ≡ Some s → IsBehindAt sight s.lock (stripe_told s.stripe.history)
 
--- what was seen and noted is behind each class's final history
+-- for each class, what was seen is a beginning of its final history, and what was noted is at most its length
 pub record IsBehindClasses (sight : Sight) (classes : List ClassSide) : Type 0 where
   pub each : (k : ℕ) (s : ClassSide) → slice_get classes k ≡ Some s → IsBehindAt sight s.lock (class_told s.class.history)
 
--- each event of the final histories that names a pass's caller was called: the pass's own history has its call
+-- each event of the stripes' final histories that names the pass's caller was called: the caller's history has its call
 pub record AreItsOwn (pass : PassView) (stripes : List StripeSide) : Type 0 where
   pub each : (k : ℕ) (s : StripeSide) (place : ℕ) (event : StripeEvent) → slice_get stripes k ≡ Some s → slice_get s.stripe.history place ≡ Some event
       → (who_of event).caller ≡ pass.caller → IsCalled pass.calls k place event
 
--- each event of the classes' final histories that names a pass's caller was called: the pass's own history has its call; the
--- classes stand in the order of their numbers, from 1
+-- each event of the classes' final histories that names the pass's caller was called: the caller's history has its call; the
+-- classes come in the order of their numbers, from 1
 pub record AreItsOwnInClasses (pass : PassView) (classes : List ClassSide) : Type 0 where
   pub each : (k : ℕ) (s : ClassSide) (place : ℕ) (event : ClassEvent) → slice_get classes k ≡ Some s → slice_get s.class.history place ≡ Some event
       → (maker_of event).caller ≡ pass.caller → IsClassCalled pass.calls (record { 0 = k + 1 }) event

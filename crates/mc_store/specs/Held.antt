@@ -1,4 +1,4 @@
--- The classes that a command holds, and one try on them (own).
+-- The classes that a command has locked, and one try on them (own).
 use Rattle.std.specs.Prelude.{ℕ, ◌≡◌, ◌<◌, ◌≤◌, ◌+◌, ◌^◌, ◌++◌, ◌∷◌, [], List, Option, Some, None, IfSome, Result, IfOk, OnErr, IsErrOf, length}
 use Rattle.std.specs.{Sync.Mutex.mutex_guard_value, declared.sync.MutexGuard.MutexGuard}
 use Rattle.mc_item.specs.{Command.key_of, Measure.stripe_of, Stripe.IsAlive}
@@ -19,28 +19,28 @@ use Rattle.mc_store.specs.{Callers.answered_at, Calls.IsReplied, Commands.IsCut,
 use Rattle.mc_store.specs.{Passes.CallerView, Passes.HasAsked, Performing.IsMadeOnStripe, Serving.HasSeenShort, Serving.IsShort, Sides.ClassSide}
 use Rattle.mc_store.specs.{Sides.StripeSide}
 
--- a class's number
+-- the number of a class
 abbrev pub class_number : ClassSide → ClassNo
 class_number c = c.class.number
 
--- that of the class that a slot holds
+-- the number of the class that a slot has locked, if it has one
 abbrev pub class_held : Option (MutexGuard ClassSide) → Option ClassNo
 class_held None = None
 class_held (Some guard) = Some (class_number (mutex_guard_value guard))
 
--- a command's caller asked for it in this turn, and its key is of this stripe
+-- a command's caller asked for it in this turn, at a moment of at most 2^62 seconds, and its key is of this stripe
 pub record IsCallOn (config : Config) (s : Stripe) (caller : CallerView) (command : Command) (turn : Turn) : Type 0 where
   pub own : stripe_of (key_of command) config.stripes ≡ record { 0 = s.site.stripe }
   pub asked : HasAsked caller turn.who command turn.moment
   pub early : turn.moment ≤ 2 ^ 62
 
--- the item of a command's key isn't dead, and the command needs no class but these: that of its new version, and its item's
+-- the item of a command's key isn't dead, and the command needs no other classes than these, for its new version and for its item
 pub record Suffice (home other : Option ClassNo) (s : Stripe) (command : Command) (moment : ℕ) : Type 0 where
   pub alive : IsAlive (item_of s command) moment
   pub for_version : Holds home (classes_for (key_of command) (item_of s command) (row_at s command moment)).home
   pub for_item : Holds other (classes_for (key_of command) (item_of s command) (row_at s command moment)).other
 
--- a class is full, as it was, and no refusal is known; where its history has less than two places left, that was seen
+-- a class is full with an unchanged history, and no refusal is known; if that has fewer than two places left, this was seen
 pub record IsStillFull (config : Config) (sight : Sight) (refused : Option ℕ) (v v_new : ClassView) : Type 0 where
   pub none : refused ≡ None
   pub was_full : IsFull v.chunks (lists_of v.history)
@@ -49,18 +49,17 @@ pub record IsStillFull (config : Config) (sight : Sight) (refused : Option ℕ) 
   pub number_is : v_new.number ≡ v.number
   pub short : v_new.max_events < length v_new.history + 2 → HasSeenShort config sight
 
--- a command wants a chunk of the class of its new version, which holds it with that of its key's item
+-- a command needs a new chunk of this class, and needs no other class than this and the one for its key's item
 pub record WantsChunk (class : ClassNo) (other : Option ClassNo) (s : Stripe) (command : Command) (moment : ℕ) : Type 0 where
   pub suffice : Suffice (Some class) other s command moment
   pub fresh : (row_at s command moment).need ≡ needs.Fresh class
 
--- where the class of a new version noted a refusal, it had looked for a chunk in vain before it
+-- if the class of a new version noted a refusal, that was made after a search by this call that found no chunk
 abbrev pub IsRefusedAt : Config → Stripe → Turn → List ℕ → ClassView → Option ℕ → Type 0
 IsRefusedAt config s turn key v refused =
     IfSome refused (λ place. IsEarnedAt config (record { 0 = s.site.stripe }) v.number turn.who turn.moment key place v.history)
 
--- a command whose item isn't dead was made in a room, and where that is a refusal it was earned; its caller has noted where its
--- answer stands
+-- a command whose item isn't dead was made in a room, earned if it is a refusal, and its caller has noted the answer's place
 pub record IsMadeIn (config : Config) (s : Stripe) (own_new : StripeSide) (caller caller_new : CallerView) (made : Command) (turn : Turn) (reply : Reply) : Type
     0 where
   pub alive : IsAlive (item_of s made) turn.moment
@@ -69,43 +68,44 @@ pub record IsMadeIn (config : Config) (s : Stripe) (own_new : StripeSide) (calle
   pub noted : caller_new ≡ record caller { calls = caller.calls ++ answered_at s.site.stripe (length s.history) ∷ [] }
   pub earned : IsEarnedIn config s.site.stripe turn.who turn.moment (key_of made) own_new.sight room
 
--- a command that holds nothing
+-- what a command is given that has locked no class
 abbrev pub nothing : Given
 nothing = record { home = None; other = None }
 
--- what a command that holds nothing wants
+-- what a command wants that has locked no class
 abbrev pub WantsAlone : Stripe → Command → ℕ → Want → Type 0
 WantsAlone s command moment want = IsWanting nothing (key_of command) (item_of s command) moment (row_at s command moment) want
 
 module _ (config : Config) (s : Stripe) (own_new : StripeSide) (command : Command) (moment : ℕ) (home other : Option ClassNo) (AnyFull : Type 0) where
-  -- what is wanting of a command that holds these classes: what it wants alone, where they don't suffice; a chunk; or a place in a
-  -- history, of which less than two are left
+  -- what a command may still want that has locked these classes: the removal of its dead item, classes if these don't suffice, a
+  -- chunk if `AnyFull`, or a place if a history has fewer than two left
   abbrev pub MayWant : Want → Type 0
   MayWant wants.Room = AnyFull
   MayWant (wants.Place class) = IsShort config own_new
   MayWant (wants.Burial link) = WantsAlone s command moment (wants.Burial link)
   MayWant (wants.Classes classes) = WantsAlone s command moment (wants.Classes classes) × (Suffice home other s command moment → ⊥)
 
--- what a try on the classes that are held came to
+-- the outcome of a try on the locked classes: the command was made, or nothing happened and it may want this
 abbrev pub IsTriedOn : Config → (s : Stripe) (own_new : StripeSide) (caller caller_new : CallerView) → Command → Turn → (home other : Option ClassNo) → Type 0
     → Tried → Type 0
 IsTriedOn config s own_new caller caller_new command turn home other AnyFull (tried.Made reply) = IsMadeIn config s own_new caller caller_new command turn reply
 IsTriedOn config s own_new caller caller_new command turn home other AnyFull (tried.Wants want) =
     (own_new.stripe.history ≡ s.history) × (caller_new ≡ caller) × MayWant config s own_new command turn.moment home other AnyFull want
 
--- a stripe's new events are those of a call's walker in a class
+-- a stripe gained only events of the call's walker in this class
 pub record IsWalked (config : Config) (turn : Turn) (class : ClassNo) (s s_new : Stripe) : Type 0 where
   pub walked : List StripeEvent
   pub each : AreMadeBy (walker_in config turn.who turn.moment class) walked
   pub history_is : s_new.history ≡ s.history ++ walked
 
--- a call has looked for a chunk of a class in vain, for each key of the stripe whose item isn't dead
+-- a call has searched a class and found no chunk, for each key of the stripe whose item isn't dead
 abbrev pub HasGivenUpAny : Config → Stripe → Turn → ClassView → Type 0
 HasGivenUpAny config s turn v =
     (key : List ℕ) → stripe_of key config.stripes ≡ record { 0 = s.site.stripe } → IsAlive ((cache_now s).items key) turn.moment
     → HasGivenUp config (record { 0 = s.site.stripe }) v.number turn.who turn.moment key v.history
 
--- how a command ends under the lock of its stripe: it was answered, or it was broken off, with nothing of it but what leads up to it
+-- how a command ends under the lock of its stripe: it was answered, or it was broken off with at most what leads up to it;
+-- `HistoryFull` means that a history has fewer than two places left
 pub record Ends (config : Config) (s : Stripe) (own_new : StripeSide) (caller caller_new : CallerView) (command : Command) (turn : Turn)
     (result : Result Reply Fault) : Type 0 where
   pub replied : IfOk result (IsReplied config turn.who command turn.moment s own_new.stripe own_new.sight caller.calls caller_new.calls)

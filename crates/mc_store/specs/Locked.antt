@@ -1,4 +1,4 @@
--- What lies under the locks of a store: each state is one of the store's, and its history is sound by all that it has seen (own).
+-- What lies under the locks of a store: each state is one of the store's, and its history is sound by what it has seen (own).
 use Rattle.std.specs.Prelude.{◌≡◌, ℕ, ◌+◌, ◌-◌, ◌<◌, length}
 use Rattle.atomic_table.specs.Seated.{TableId}
 use Rattle.mc_item.specs.Config.{IsSound}
@@ -14,7 +14,7 @@ use Rattle.mc_store.specs.declared.lock_no.LockNo.TheVariants as locks
 use Rattle.mc_store.specs.Callers.{AreCalled, IsBegun, IsBegunAs, asked_for, call_events}
 use Rattle.mc_store.specs.{Made.AreCalledInClass, Sides.ClassSide, Sides.StripeSide}
 
--- what is fixed for a store of a configuration
+-- what a configuration fixes for a store
 abbrev pub setting_of : Config → Setting
 setting_of config = record { stripes = config.stripes; sizes = config.sizes; rule = rule_of config; chunks = chunks_for config }
 
@@ -26,42 +26,42 @@ locks_for config = config.stripes + length config.sizes
 abbrev pub histories_for : Config → ℕ
 histories_for config = locks_for config + config.callers
 
--- the place of a caller's history on the board: those of the locks come first
+-- the place of a caller's history on the board, after those of the locks
 abbrev pub caller_place : Config → ℕ → ℕ
 caller_place config caller = locks_for config + caller
 
--- who made this has a call of this moment in its caller's history, as far as that was seen
+-- what was seen of a caller's history has a call in this turn, made at this moment
 pub record HasBegun (config : Config) (sight : Sight) (who : Who) (moment : ℕ) : Type 0 where
   pub of : who.caller < config.callers
   pub begun : IsBegun (call_events (list_at sight.seen (caller_place config who.caller))) who.turn moment
 
--- the same of just this call
+-- what was seen of a caller's history has just this call in this turn, made at this moment
 pub record HasBegunAs (config : Config) (sight : Sight) (who : Who) (moment : ℕ) (call : CallEvent) : Type 0 where
   pub of : who.caller < config.callers
   pub begun : IsBegunAs (call_events (list_at sight.seen (caller_place config who.caller))) who.turn moment call
 
--- the same of a command
+-- what was seen of a caller's history has, in this turn and at this moment, the call for some command
 pub record HasBegunCommand (config : Config) (sight : Sight) (who : Who) (moment : ℕ) : Type 0 where
   pub command : Command
   pub begun : HasBegunAs config sight who moment (asked_for command moment)
 
--- the lock of a class: those of the stripes come first, and classes are numbered from 1
+-- the number of a class's lock: those of the stripes come first, and classes are numbered from 1
 abbrev pub class_lock : Config → ClassNo → ℕ
 class_lock config class = config.stripes + (class.0 - 1)
 
--- the lock that a number of a stripe or of a class names
+-- the number of the lock of a stripe or a class
 abbrev pub lock_of : Config → LockNo → ℕ
 lock_of config (locks.Stripe number) = number.0
 lock_of config (locks.Class number) = class_lock config number
 
--- a number of a stripe or of a class that the store has
+-- the store has this stripe or class
 abbrev pub IsLock : Config → LockNo → Type 0
 IsLock config (locks.Stripe number) = number.0 < config.stripes
 IsLock config (locks.Class number) = IsClass (setting_of config) number
 
--- a stripe's lock keeps: the stripe is of this board, under the lock of its number, made with this configuration, which was
--- checked; its history is legal, each of its events has found its partner in what was seen of the classes, and each was called,
--- as what was seen of its caller's history has it
+-- what a stripe's lock keeps: the stripe is of this board, under the lock of its number, and made with this checked
+-- configuration; its history is legal, each event's partners are in what was seen of the classes, and its call is in what was
+-- seen of its caller's history
 pub record IsLockedStripe (board : TableId) (config : Config) (s : StripeSide) : Type 0 where
   pub board_is : s.board ≡ board
   pub lock_is : s.lock ≡ s.stripe.site.stripe
@@ -71,8 +71,8 @@ pub record IsLockedStripe (board : TableId) (config : Config) (s : StripeSide) :
   pub keeps : StripeKeeps (setting_of config) s.stripe.site.stripe s.stripe.history (classes_seen config.stripes (list_at s.sight.seen))
   pub called : AreCalled (locks_for config) config.callers s.stripe.site.stripe s.stripe.history (list_at s.sight.seen)
 
--- a class is held as its lock asks: it is of this board, under the lock of its number, made with this configuration; its
--- history is lawful, and each of its events has found its partner and the item that it cites in what was seen of the stripes
+-- what a class's lock keeps but for calls: the class is of this board, under the lock of its number, and made with this
+-- configuration; its history is lawful, and what was seen of the stripes has each event's partner and the item that it refers to
 pub record IsHeldClass (board : TableId) (config : Config) (s : ClassSide) : Type 0 where
   pub board_is : s.board ≡ board
   pub lock_is : s.lock ≡ class_lock config s.class.number
@@ -80,18 +80,17 @@ pub record IsHeldClass (board : TableId) (config : Config) (s : ClassSide) : Typ
   pub made_with : made.IsClassOf config s.class
   pub keeps : ClassKeeps (setting_of config) s.class.number s.class.history (stripes_seen (list_at s.sight.seen))
 
--- a class's lock keeps: the class is held as it asks, and each event of its history was called, as what was seen of its
--- caller's history has it
+-- what a class's lock keeps: all that `IsHeldClass` says, and each event's call is in what was seen of its caller's history
 pub record IsLockedClass (board : TableId) (config : Config) (s : ClassSide) : Type 0 where
   pub held : IsHeldClass board config s
   pub called : AreCalledInClass (locks_for config) config.callers s.class.number s.class.history (list_at s.sight.seen)
 
--- what lies under the lock of a stripe's number
+-- what lies under the lock of the stripe with this number
 pub record IsStripeUnder (board : TableId) (config : Config) (number : ℕ) (s : StripeSide) : Type 0 where
   pub kept : IsLockedStripe board config s
   pub number_is : s.stripe.site.stripe ≡ number
 
--- what lies under the lock of a class's number
+-- what lies under the lock of the class with this number
 pub record IsClassUnder (board : TableId) (config : Config) (number : ℕ) (s : ClassSide) : Type 0 where
   pub kept : IsLockedClass board config s
   pub number_is : s.class.number.0 ≡ number

@@ -1,4 +1,4 @@
--- What a walker leaves by a gate that has one stripe at hand (own).
+-- What a walker leaves if its gate has one stripe at hand (own).
 use Rattle.std.specs.Prelude.{◌≡◌, ◌≢◌, ◌++◌, ◌∷◌, [], ℕ, List, IsSomeAnd}
 use Rattle.mc_item.specs.{Measure.stripe_of, Stripe.IsAlive}
 use Rattle.mc_item.specs.declared.{class_event.ClassEvent.ClassEvent, item.Who.Who}
@@ -10,7 +10,7 @@ use Rattle.mc_pull.specs.declared.judge.Done.TheVariants as done
 use Rattle.mc_pull.specs.declared.{looking.Answer.Answer, looking.Judged.Judged}
 use Rattle.mc_pull.specs.{Judgement.done_of, Question.Question, Tried.AreHad, Walker.Walker}
 
--- what was done with an entry is what this stripe tells of it, to which it is no stranger
+-- what was done with an entry follows from the items of this stripe, which has the entry's item
 pub record IsKnown (c : ClassView) (s : Stripe) (q : Question) (j : Judged) : Type 0 where
   pub done_is : j.done ≡ done_of c (cache_now s) q
   pub known : j.done ≢ done.Stranger
@@ -19,7 +19,7 @@ pub record IsKnown (c : ClassView) (s : Stripe) (q : Question) (j : Judged) : Ty
 abbrev pub IsOfCall : Walker → Who → ℕ → Type 0
 IsOfCall w who moment = (w.who ≡ who) × (w.moment ≡ moment)
 
--- where a class's event reclaims an entry, that had another key
+-- if a class's event reclaims an entry, the entry had another key
 abbrev pub IsOfOther : List ℕ → List ClassEvent → ClassEvent → Type 0
 IsOfOther key before (events.Reclaimed e) = IsSomeAnd (found e.number (lists_of before)) (λ there. there.1.key ≢ key)
 IsOfOther key before (events.Evicted e) = Unit {0}
@@ -29,13 +29,13 @@ IsOfOther key before (events.Unlinked e) = Unit {0}
 IsOfOther key before (events.Surveyed e) = Unit {0}
 IsOfOther key before (events.Refused e) = Unit {0}
 
--- each of these events behind a history, that reclaims an entry, was of another key
+-- each entry that these events reclaim, after this history, had another key
 abbrev pub AreOfOthers : List ℕ → List ClassEvent → List ClassEvent → Type 0
 AreOfOthers key before [] = Unit {0}
 AreOfOthers key before (e ∷ es) = IsOfOther key before e × AreOfOthers key (before ++ e ∷ []) es
 
--- a walker by a gate with a stripe at hand has these answers and events more: wherever the stripe was asked for it was had,
--- and knew the entry; and no entry of a key of the stripe was reclaimed that has no dead item
+-- a walker whose gate has a stripe at hand gained answers and events: each time it asked for the stripe, the stripe answered and
+-- had the entry's item, and it reclaimed no entry with a key of the stripe whose item isn't dead
 pub record HasLooked (stripes : ℕ) (w : Walker) (s : Stripe) (xs xs_new : List Answer) (history history_new : List ClassEvent) : Type 0 where
   pub answers : List Answer
   pub answers_are : xs_new ≡ xs ++ answers

@@ -1,4 +1,4 @@
--- Events of slab classes: who made each, at which moment, and that its caller's history has the call that it is of (own).
+-- Events of slab classes: who made each, at which moment, and that its caller's history has the call that made it (own).
 use Rattle.std.specs.Prelude.{◌≡◌, ◌<◌, ◌+◌, ◌++◌, ℕ, List, [], ◌∷◌, Some, slice_get}
 use Rattle.mc_item.specs.declared.{call_event.CallEvent.CallEvent, class_event.ClassEvent.ClassEvent, event.Event.Event, item.ClassNo.ClassNo, item.Who.Who}
 use Rattle.mc_item.specs.declared.call_event.CallEvent.TheVariants.{Answered, Asked, Crawled, Juggled}
@@ -17,7 +17,7 @@ maker_of (events.Reclaimed e) = e.who
 maker_of (events.Surveyed e) = e.who
 maker_of (events.Refused e) = e.who
 
--- an event of a class that names a moment names this one
+-- if an event of a class has a moment, it is this one
 abbrev pub IsTimed : ClassEvent → ℕ → Type 0
 IsTimed (events.Linked e) moment = e.moment ≡ moment
 IsTimed (events.Unlinked e) moment = Unit {0}
@@ -27,27 +27,27 @@ IsTimed (events.Reclaimed e) moment = e.moment ≡ moment
 IsTimed (events.Surveyed e) moment = e.moment ≡ moment
 IsTimed (events.Refused e) moment = Unit {0}
 
--- an event of a class was made by this call, at this moment
+-- an event of a class was made by this call, at this moment if it has one
 abbrev pub IsOwnEvent : Who → ℕ → ClassEvent → Type 0
 IsOwnEvent who moment e = (maker_of e ≡ who) × IsTimed e moment
 
--- each of these events was
+-- each of these events was made by this call, at this moment if it has one
 abbrev pub AreOwnEvents : Who → ℕ → List ClassEvent → Type 0
 AreOwnEvents who moment [] = Unit {0}
 AreOwnEvents who moment (e ∷ es) = IsOwnEvent who moment e × AreOwnEvents who moment es
 
--- a class's history has only events of this call more, at its end
+-- a class's history gained only events of this call, at its end
 pub record GainsOwn (who : Who) (moment : ℕ) (before after : List ClassEvent) : Type 0 where
   pub events : List ClassEvent
   pub history_is : after ≡ before ++ events
   pub each : AreOwnEvents who moment events
 
--- a walk of this call has seen more, and its class's history has only events of the call more
+-- in a walk of this call what was seen only grew, and the class's history gained only events of the call
 pub record WalksOwn (who : Who) (moment : ℕ) (before after : Sight) (history history_new : List ClassEvent) : Type 0 where
   pub sees : Grows before after
   pub gains : GainsOwn who moment history history_new
 
--- the event is a reclaimed entry
+-- the event reclaims an entry
 abbrev pub IsReclaimed : ClassEvent → Type 0
 IsReclaimed (events.Reclaimed e) = Unit {0}
 IsReclaimed (events.Linked e) = ⊥
@@ -57,24 +57,23 @@ IsReclaimed (events.Evicted e) = ⊥
 IsReclaimed (events.Surveyed e) = ⊥
 IsReclaimed (events.Refused e) = ⊥
 
--- an event of a class may be of this call: a command's may be of any class; juggling's and a crawl's are of the class that was
--- asked for, and a crawl's is a reclaimed entry; an answer has none
+-- a call may make this event of a class: a command in any class, juggling and a crawl only in their own, and a crawl only if the
+-- event reclaims an entry; an answer makes none
 abbrev pub SuitsCall : ClassNo → ClassEvent → CallEvent → Type 0
 SuitsCall class event (Asked asked) = Unit {0}
 SuitsCall class event (Juggled worked) = worked.class ≡ class
 SuitsCall class event (Crawled worked) = (worked.class ≡ class) × IsReclaimed event
 SuitsCall class event (Answered answered) = ⊥
 
--- an event of a class was called: its caller's history has, for its turn, the call that it is of, which was handed the event's
--- moment
+-- an event of a class was called: its caller's history has, in its turn, a call that may make it, at the event's moment (if any)
 pub record IsClassCalled (calls : List CallEvent) (class : ClassNo) (event : ClassEvent) : Type 0 where
   pub moment : ℕ
   pub begun : IsBegun calls (maker_of event).turn moment
   pub timed : IsTimed event moment
   pub own : SuitsCall class event begun.call
 
--- each event of a class's history was called, by one of so many callers, as far as that one's history was seen; the histories
--- of callers come behind so many others
+-- each event of a class's history was called by one of so many callers, in what was seen of that caller's history; on the board
+-- the callers' histories come after so many others
 pub record AreCalledInClass (others callers : ℕ) (class : ClassNo) (history : List ClassEvent) (seen : ℕ → List Event) : Type 0 where
   pub each : (place : ℕ) (event : ClassEvent) → slice_get history place ≡ Some event
       → ((maker_of event).caller < callers) × IsClassCalled (call_events (seen (others + (maker_of event).caller))) class event

@@ -1,10 +1,10 @@
--- Some board and some configuration, where a name has none.
+-- A default board and a default configuration, for a name that picks none.
 use Rattle.std.specs.Prelude.{[]}
 use Rattle.mc_item.specs.Config.{usual_config}
 use Rattle.mc_item.specs.declared.config.Config.{Config}
 use Rattle.mc_board.specs.Views.{BoardView}
 
--- a board of no lock
+-- a board without locks
 abbrev pub some_board : BoardView
 some_board =
     record {
@@ -12,6 +12,6 @@ some_board =
       counts = record { stripes = 0; classes = 0; callers = 0 };
     }
 
--- the usual configuration
+-- the usual configuration, without callers
 abbrev pub some_config : Config
 some_config = usual_config 0

@@ -10,7 +10,7 @@ pub record CallerView : Type 0 where
   pub number : ℕ
   pub calls : List CallEvent
 
--- a pass: its caller, how many turns it has had, the caller's history, and what it has seen and noted of all locks
+-- a pass: its caller, how many turns (calls) it has had, the caller's history, and what it has seen and noted of all locks
 pub record PassView : Type 0 where
   pub caller : ℕ
   pub turn : ℕ
@@ -21,7 +21,7 @@ pub record PassView : Type 0 where
 abbrev pub caller_of : PassView → CallerView
 caller_of pass = record { number = pass.caller; calls = pass.calls }
 
--- who a pass's next call is made by
+-- who makes a pass's next call: its caller, in its next turn
 abbrev pub next_who : PassView → Who
 next_who pass = record { caller = pass.caller; turn = pass.turn }
 
@@ -34,7 +34,7 @@ pub record ArePasses (callers : ℕ) (passes : List PassView) : Type 0 where
   pub many : length passes ≡ callers
   pub each : (caller : ℕ) → caller < callers → slice_get passes caller ≡ Some (new_pass caller)
 
--- a caller's last event is that it asked for this command at this moment, in this turn; its history has room for the answer
+-- a caller's last event is that it asked for this command at this moment, in this turn, and its history has room for the answer
 pub record HasAsked (caller : CallerView) (who : Who) (command : Command) (moment : ℕ) : Type 0 where
   pub number : who.caller ≡ caller.number
   pub before : List CallEvent
@@ -42,7 +42,7 @@ pub record HasAsked (caller : CallerView) (who : Who) (command : Command) (momen
   pub turn : length (turns_of before) ≡ who.turn
   pub room : length caller.calls + 1 < 2 ^ 64
 
--- a caller's history has just this call for this turn, which was handed this moment
+-- a caller's history has just this call in this turn, made at this moment
 pub record HasCalled (caller : CallerView) (who : Who) (moment : ℕ) (call : CallEvent) : Type 0 where
   pub number : who.caller ≡ caller.number
   pub begun : IsBegunAs caller.calls who.turn moment call

@@ -1,4 +1,4 @@
--- One command under locks: what it leaves of its stripe (own).
+-- One command under locks: what it leaves of its stripe, and which class refused it (own).
 use Rattle.std.specs.Prelude.{◌≡◌, ◌++◌, Bool, List, [], ◌∷◌, ◌⊎◌}
 use Rattle.mc_item.specs.declared.{item.ClassNo.ClassNo, reply.Reply.Reply, reply.Room.Room}
 use Rattle.mc_item.specs.declared.reply.Room.TheVariants as rooms
@@ -6,7 +6,7 @@ use Rattle.mc_segment.specs.ClassState.{ClassView}
 use Rattle.mc_stripe.specs.StripeState.{Stripe}
 use Rattle.mc_pull.specs.{Perform.Call, Perform.answer_to, Performed.events_on_stripe}
 
--- a command was made on its stripe: its events stand at the end of the history, and this is its reply
+-- a command was made on its stripe: the history gained its events, and this is its reply
 pub record IsMadeOnStripe (s s_new : Stripe) (c : Call) (reply : Reply) : Type 0 where
   pub reply_is : reply ≡ (answer_to s c).reply
   pub cooling : Bool
@@ -17,7 +17,7 @@ abbrev pub IsOneOf : ClassNo → List ClassView → Type 0
 IsOneOf number [] = ⊥
 IsOneOf number (v ∷ vs) = (number ≡ v.number) ⊎ IsOneOf number vs
 
--- where a room is a refusal, one of these classes refused
+-- if a room is a refusal, one of these classes refused
 abbrev pub IsRefusedIn : Room → List ClassView → Type 0
 IsRefusedIn (rooms.Refused class place) vs = IsOneOf class vs
 IsRefusedIn (rooms.At link) vs = Unit {0}

@@ -1,4 +1,4 @@
--- A class whose tokens are apart from it, as on a walk, and full histories as far as they were seen (own).
+-- A class whose tokens are lent apart from it, as on a walk, and histories that were seen to be nearly full (own).
 use Rattle.std.specs.Prelude.{◌≡◌, ◌≢◌, ◌<◌, ◌+◌, ◌⊎◌, ℕ, length}
 use mathlib.Core.List.{IsPrefix}
 use Rattle.atomic_table.specs.Seated.{TableId}
@@ -8,31 +8,31 @@ use Rattle.mc_board.specs.declared.rule.Sight.{Sight}
 use Rattle.mc_segment.specs.ClassState.{ClassView}
 use Rattle.mc_store.specs.{Locked.IsHeldClass, Locked.locks_for, Sides.ClassSide, Sides.StripeSide, Sides.class_told}
 
--- a class with the tokens that are apart from it
+-- a class together with its tokens, which are lent apart from it
 abbrev pub class_side : OwnerView → SeenView → ClassView → ClassSide
 class_side owner seen c = record { board = owner.board; lock = owner.lock; class = c; sight = seen.sight }
 
--- a class whose tokens are apart from it: with them it is held as its lock asks, but that the board may lack the last of its events
+-- a class whose tokens are lent apart from it: together they are as `IsHeldClass` says, but the board may lack the last events
 pub record IsServed (board : TableId) (config : Config) (owner : OwnerView) (seen : SeenView) (c : ClassView) : Type 0 where
   pub kept : IsHeldClass board config (class_side owner seen c)
   pub behind : IsPrefix owner.history (class_told c.history)
   pub board_is : seen.board ≡ owner.board
 
--- so much was seen of one of the store's locks that its history has less than two places left
+-- by what was seen of one of the store's locks, its history has fewer than two places left
 pub record HasSeenShort (config : Config) (sight : Sight) : Type 0 where
   pub lock : ℕ
   pub of : lock < locks_for config
   pub short : config.max_events < length (list_at sight.seen lock) + 2
 
--- the fault that a walk may answer: a full history only where the class's, or one that was seen, has less than two places left
+-- the faults that a walk may return: `HistoryFull` only if the class's history, or one that was seen, has under two places left
 abbrev pub MayFailSeen : Config → Sight → ClassView → Fault → Type 0
 MayFailSeen config sight c HistoryFull = (c.max_events < length c.history + 2) ⊎ HasSeenShort config sight
 MayFailSeen config sight c NoMemory = Unit {0}
 
--- the stripe's history, or one that it has seen, has less than two places left
+-- the stripe's history, or one that it has seen, has fewer than two places left
 abbrev pub IsShort : Config → StripeSide → Type 0
 IsShort config s = (s.stripe.limit < length s.stripe.history + 2) ⊎ HasSeenShort config s.sight
 
--- of each lock but this one the old list is a beginning of the new one
+-- for each lock but this one, the old list is a beginning of the new one
 pub record GrowsBut (but : ℕ) (old new : Sight) : Type 0 where
   pub at : (lock : ℕ) → lock ≢ but → IsPrefix (list_at old.seen lock) (list_at new.seen lock)

@@ -1,4 +1,4 @@
--- A stripe and a slab class with the tokens by which they stand on the board (own).
+-- A stripe and a slab class, each with its tokens of the board (own).
 use Rattle.std.specs.Prelude.{◌≡◌, ℕ, List, Some, map, slice_get}
 use Rattle.atomic_table.specs.Seated.{TableId}
 use Rattle.mc_item.specs.declared.{class_event.ClassEvent.ClassEvent, event.Event.Event, event.Event.TheVariants.Class, event.Event.TheVariants.Stripe}
@@ -22,7 +22,7 @@ pub record StripeSide : Type 0 where
   pub stripe : states.Stripe
   pub sight : Sight
 
--- a class on the board: the same
+-- a class on the board: the board's table, its lock there, the class itself, and what it has seen of all locks
 pub record ClassSide : Type 0 where
   pub board : TableId
   pub lock : ℕ

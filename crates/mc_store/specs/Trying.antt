@@ -10,17 +10,17 @@ use Rattle.mc_pull.specs.declared.attempting.Tried.TheVariants as tried
 use Rattle.mc_pull.specs.Perform.{call}
 use Rattle.mc_store.specs.{Callers.answered_at, Passes.CallerView, Performing.IsMadeOnStripe, Sides.ClassSide}
 
--- a try made its command
+-- whether a try made its command
 abbrev pub is_made_of : Tried → Bool
 is_made_of (tried.Made reply) = true
 is_made_of (tried.Wants want) = false
 
--- the same where it may have failed
+-- whether a try made its command, if it may also have failed
 abbrev pub is_made : Result Tried Fault → Bool
 is_made (Ok t) = is_made_of t
 is_made (Err fault) = false
 
--- a command was made on its stripe, of what it was given, and its caller has noted where its answer stands
+-- a command was made on its stripe with what it was given, and its caller has noted the place of the answer
 pub record IsMadeBy (s s_new : Stripe) (caller caller_new : CallerView) (made : Command) (turn : Turn) (given : Given) (reply : Reply) : Type 0 where
   pub room : Room
   pub fate : Fate
@@ -28,14 +28,14 @@ pub record IsMadeBy (s s_new : Stripe) (caller caller_new : CallerView) (made : 
   pub made_is : IsMadeOnStripe s s_new (call turn.who made turn.moment room) reply
   pub noted : caller_new ≡ record caller { calls = caller.calls ++ answered_at s.site.stripe (length s.history) ∷ [] }
 
--- the classes that are held are as they were, but for the room of their histories
+-- the locked classes are as they were, but for the memory that their histories have reserved
 abbrev pub Stay : List ClassSide → List ClassSide → Type 0
 Stay [] [] = Unit {0}
 Stay [] (d ∷ ds) = ⊥
 Stay (c ∷ cs) [] = ⊥
 Stay (c ∷ cs) (d ∷ ds) = (d.class ≡ with_room c.class d.class.room) × Stay cs ds
 
--- what a try under locks came to: the command was made; or it wants something, and nothing happened
+-- the outcome of a try under locks: the command was made, or it wants something and nothing happened
 abbrev pub IsTriedUnder : (s s_new : Stripe) (caller caller_new : CallerView) → Command → Turn → Given → (cs ds : List ClassSide) → Tried → Type 0
 IsTriedUnder s s_new caller caller_new command turn given cs ds (tried.Made reply) = IsMadeBy s s_new caller caller_new command turn given reply
 IsTriedUnder s s_new caller caller_new command turn given cs ds (tried.Wants want) =

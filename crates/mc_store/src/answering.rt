@@ -1,4 +1,4 @@
-//! One command under the lock of its key's stripe: it is tried, what it wants is answered, and it is tried again.
+//! One command under the lock of its key's stripe. It is tried, gets what it turns out to want, and is tried again.
 ghost use Rattle.std.specs.Prelude.{◌≡◌, ◌<◌, ◌++◌, Some, None, IfSome, OnOk, OnErr, IsErrOf};
 ghost use Rattle.std.specs.Sync.Mutex.{mutex_guard_value};
 ghost use Rattle.mc_item.specs.declared.fault.Fault.TheVariants.{HistoryFull};
@@ -22,7 +22,7 @@ use mc_stripe::{Classes, Turn, Want};
 use std::alloc::Global;
 use std::sync::{MutexGuard, Wait};
 
-// Locks the class of a new version and that of an item, where it is another, the lower first.
+// Locks the class of a new version, and the item's class if that is another one, the lower number first.
 #[inline(always)]
 fn lock_both<'a, N: Named>(
     store: &'a Store<N>,
@@ -52,7 +52,7 @@ fn lock_both<'a, N: Named>(
     }
 }
 
-// Makes a command on the classes that it wants, each of which is locked.
+// Locks the classes that a command wants, and makes it on them.
 #[inline(always)]
 fn answer_with<N: Named>(
     alloc: Global,
@@ -87,7 +87,7 @@ fn answer_with<N: Named>(
     }
 }
 
-// The dead item of a key goes, under the lock of its class; `link` is the item's.
+// Removes the dead item of a key under the lock of its class. `link` is the item's link.
 #[inline(always)]
 fn bury<N: Named>(
     alloc: Global,
@@ -112,7 +112,7 @@ fn bury<N: Named>(
     bury_under(alloc, store, own, class, turn.who, key, link, turn.moment)
 }
 
-// Makes a command that wants this of its stripe: its key's dead item goes, and the classes that it needs are locked.
+// Makes a command that wanted this when tried alone: removes its key's dead item, locks the classes that it needs, or both.
 #[inline(never)]
 fn answer_want<N: Named>(
     alloc: Global,
@@ -151,7 +151,7 @@ fn answer_want<N: Named>(
     }
 }
 
-// Makes a command on the stripe of its key, which is under its lock: it is tried alone first.
+// Makes a command on its key's stripe, whose lock is held. It is tried on the stripe alone first.
 #[inline(always)]
 pub(crate) fn answer<N: Named>(
     alloc: Global,
@@ -172,8 +172,8 @@ pub(crate) fn answer<N: Named>(
     }
 }
 
-// Makes a command whose new version would be of this class, on the stripe of its key, which is under its lock: the class is
-// locked at once, and the command is tried on it first.
+// Makes a command whose new version would be of this class, on its key's stripe, whose lock is held. The class is locked at once,
+// and the command is tried on it first.
 #[inline(always)]
 pub(crate) fn answer_for<'a, N: Named>(
     alloc: Global,

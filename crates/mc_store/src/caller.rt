@@ -11,7 +11,7 @@ use mc_board::{Board, Owner, Seen};
 use mc_item::{Answered, CallEvent, Logged, StripeNo};
 use std::marker::{Model, PhantomData};
 
-/// The number of a caller, and the token that tells its history to the board.
+/// A caller: its number, and the owner of its history on the board.
 #[derive(Drop)]
 pub(crate) struct Caller<N: Named> {
     number: u32,
@@ -35,7 +35,7 @@ impl<N: Named> Model for Caller<N> {
 }
 
 impl<N: Named> Caller<N> {
-    // The caller of a number, which has made no call.
+    // A caller that has made no call yet.
     pub(crate) fn new(number: u32, owner: Owner) -> Caller<N>
         requires of { number < N.config.callers }
         requires owner { owner ≡ record { board = N.board.table; lock = caller_place N.config number; history = [] } }
@@ -48,14 +48,13 @@ impl<N: Named> Caller<N> {
         }
     }
 
-    // The number of the caller.
     pub(crate) fn number(&self) -> u32
         ensures { result ≡ self.now.number }
     {
         self.number
     }
 
-    // Notes a call before it is made.
+    // Adds a call to the history, before it is made.
     pub(crate) fn begin<E: Logged>(&mut self, board: &Board, event: &E)
         requires board { board.now.table ≡ N.board.table }
         requires call { calls_told (call_events (E.entry event.now ∷ [])) ≡ E.entry event.now ∷ [] }
@@ -65,7 +64,7 @@ impl<N: Named> Caller<N> {
         self.owner.append(board, event);
     }
 
-    // Notes that a command was answered by the event at a place of a stripe's history, and tells a token the whole history.
+    // Adds that a command was answered by the event at this place of the stripe's history, and shows a token the whole history.
     #[inline(always)]
     pub(crate) fn note(&mut self, board: &Board, stripe: StripeNo, place: u64, seen: &mut Seen)
         requires board { (board.now.table ≡ N.board.table) × (seen.old.board ≡ N.board.table) }
@@ -80,7 +79,7 @@ impl<N: Named> Caller<N> {
         self.owner.tell(board, seen);
     }
 
-    // Tells a token the whole history: it has then seen each call that was begun.
+    // Shows a token the whole history. It has then seen each call that the caller began.
     #[inline(always)]
     fn tell(&mut self, board: &Board, seen: &mut Seen)
         requires board { (board.now.table ≡ N.board.table) × (seen.old.board ≡ N.board.table) }
@@ -92,7 +91,7 @@ impl<N: Named> Caller<N> {
         self.owner.tell(board, seen);
     }
 
-    // Tells a stripe under its lock.
+    // Shows the history to a stripe under its lock.
     #[inline(always)]
     pub(crate) fn tell_stripe(&mut self, board: &Board, stripe: &mut LockedStripe<N>)
         requires board { board.now.table ≡ N.board.table }
@@ -105,7 +104,7 @@ impl<N: Named> Caller<N> {
         self.tell(board, &mut stripe.side.seen);
     }
 
-    // Tells a class that is out of its lock.
+    // Shows the history to a class that may not meet its lock's invariant yet, as it has new events of the call.
     #[inline(always)]
     pub(crate) fn tell_owned(&mut self, board: &Board, class: &mut OwnedClass)
         requires board { (board.now.table ≡ N.board.table) × (class.old.board ≡ N.board.table) }
@@ -117,7 +116,7 @@ impl<N: Named> Caller<N> {
         self.tell(board, &mut class.seen);
     }
 
-    // Tells a class under its lock.
+    // Shows the history to a class under its lock.
     pub(crate) fn tell_class(&mut self, board: &Board, class: &mut LockedClass<N>)
         requires board { board.now.table ≡ N.board.table }
         ensures same { self.new ≡ self.old }
@@ -128,7 +127,7 @@ impl<N: Named> Caller<N> {
         self.tell(board, &mut class.side.seen);
     }
 
-    // Compares the history with a token: what the token has seen of it begins it. Nothing changes.
+    // Compares the history with a token: it has seen a beginning of it. Nothing changes.
     pub(crate) fn compare(&mut self, board: &Board, seen: &mut Seen)
         requires board { (board.now.table ≡ N.board.table) × (seen.old.board ≡ N.board.table) }
         ensures same { (self.new ≡ self.old) × (seen.new ≡ seen.old) }

@@ -1,4 +1,4 @@
-//! How a store is closed.
+//! Closing a store.
 ghost use Rattle.std.specs.Prelude.{◌≡◌, ◌≤◌, [], length, vec_len, vec_capacity};
 ghost use Rattle.mc_evidence.specs.Sound.{IsSoundStore};
 ghost use Rattle.mc_store.specs.Finals.{AreClasses, AreExactlyEntries, AreStripes, class_histories, stripe_histories};
@@ -15,8 +15,8 @@ use crate::store::Store;
 use crate::waiting::wait_for_ever;
 use std::sync::{Mutex, Wait};
 
-// The stripes, out of their locks, onto the shelf. One of another number than its place's, of which there is none, would be
-// waited for.
+// Moves the stripes out of their locks onto the shelf. The wait is unreachable: `open` puts each stripe at the place of its
+// number, but a lock's type can't say so.
 fn take_stripes<N: Named>(
     rt: &impl Wait,
     stripes: Vec<Mutex<LockedStripe<N>>>,
@@ -38,7 +38,7 @@ fn take_stripes<N: Named>(
     }
 }
 
-// The classes, out of their locks, onto the shelf; the same.
+// The same for the classes, which are numbered from 1.
 fn take_classes<N: Named>(
     rt: &impl Wait,
     classes: Vec<Mutex<LockedClass<N>>>,
@@ -61,8 +61,9 @@ fn take_classes<N: Named>(
 }
 
 impl<N: Named> Store<N> {
-    /// All stripes and classes of the store, each as its lock kept it. Together they are sound: each history is legal or
-    /// lawful, each two are evidence of each other, and the items are exactly the entries. It takes no memory.
+    /// Closes the store and returns all its stripes and classes, each as its lock kept it. Allocates nothing.
+    /// Together they are sound. Each stripe's history is legal, each class's is lawful, each stripe and class are evidence of
+    /// each other, and the items are exactly the entries.
     pub fn close(self, rt: &impl Wait) -> Final
         ensures board { result.board ≡ N.board.table }
         ensures stripes { AreStripes N.board.table N.config result.stripes }

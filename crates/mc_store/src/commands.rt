@@ -15,7 +15,7 @@ use mc_stripe::Turn;
 use std::alloc::Global;
 use std::sync::Wait;
 
-// The class that a storage command's new version would be of.
+// The class that a storage command's new version would be of, if there is one.
 #[inline(always)]
 fn class_for(config: &Config, command: &Command) -> Option<ClassNo>
     requires { length config.now.sizes ≤ 63 }
@@ -31,11 +31,13 @@ fn class_for(config: &Config, command: &Command) -> Option<ClassNo>
 }
 
 impl<N: Named> Store<N> {
-    /// Makes one command under the lock of its key's stripe, for which it waits, and of at most two classes, the lower
-    /// first. The reply is what a sequential memcached gives at one point of the stripe's history, after all that the pass
-    /// had seen, and its caller's history has that it was asked for, and where the answer stands. `moment` is in whole seconds, at most 2^62. After a fault
-    /// nothing of the command stands but what leads up to it, and that it was asked for: `HistoryFull` only where a history
-    /// has less than two places left, or the pass has had 2^63 - 1 turns; `NoMemory` where memory is wanting.
+    /// Makes one command and returns its reply. The reply is what a sequential memcached gives at one point of the stripe's
+    /// history, after all that the pass had seen. The caller's history gains the call and the place of its answer.
+    /// It waits for the lock of the key's stripe, and then for those of at most two classes, the lower number first. `moment` is
+    /// the time in whole seconds, at most 2^62.
+    /// After a fault the stripe's history has gained at most what leads up to the command: the dead item's removal, and a search
+    /// for a chunk. The caller's history has gained at most the call. `HistoryFull` comes only if a stripe's or class's history
+    /// has fewer than two places left, or the pass has had 2^63 - 1 turns. `NoMemory` comes if an allocation fails.
     pub fn command(
         &self,
         alloc: Global,
@@ -66,8 +68,7 @@ impl<N: Named> Store<N> {
         own.side.compare(&self.board, &mut pass.seen);
         let turn = Turn { who, moment };
         let caller = &mut pass.caller;
-        // A storage command whose new version has a class is tried on that class at once, any other command on its stripe
-        // alone.
+        // A storage command is tried at once on its new version's class, if it has one, and any other on its stripe alone.
         let reply = match class_for(&self.config, &command) {
             Some(class) => answer_for(alloc, self, rt, own, caller, &command, turn, class),
             None => answer(alloc, self, rt, own, caller, &command, turn),

@@ -1,4 +1,4 @@
-//! States of a closed store, held against tokens and against each other.
+//! Comparing the stripes and classes of a closed store with tokens and with each other, which changes nothing.
 ghost use Rattle.std.specs.Prelude.{◌≡◌, ◌<◌, ℕ, Some, slice_get};
 ghost use Rattle.mc_evidence.specs.Sound.{IsSoundStore};
 ghost use Rattle.mc_board.specs.Histories.{HasSeen};
@@ -12,7 +12,7 @@ use crate::owned_class::OwnedClass;
 use crate::owned_stripe::OwnedStripe;
 use mc_board::{Board, Seen};
 
-// Compares what a token has seen and noted of each stripe with its history. Nothing changes.
+// Compares a token with each stripe: the token has seen a beginning of the stripe's history, and noted at most its length.
 pub(crate) fn compare_stripes(board: &Board, stripes: &mut Vec<OwnedStripe>, seen: &mut Seen)
     requires board { seen.old.board ≡ board.now.table }
     requires stripes { AreStripesOn board.now.table stripes.old.items }
@@ -24,7 +24,7 @@ pub(crate) fn compare_stripes(board: &Board, stripes: &mut Vec<OwnedStripe>, see
     }
 }
 
-// Compares what a token has seen and noted of each class with its history. Nothing changes.
+// Compares a token with each class: the token has seen a beginning of the class's history, and noted at most its length.
 pub(crate) fn compare_classes(board: &Board, classes: &mut Vec<OwnedClass>, seen: &mut Seen)
     requires board { seen.old.board ≡ board.now.table }
     requires classes { AreClassesOn board.now.table classes.old.items }
@@ -36,7 +36,7 @@ pub(crate) fn compare_classes(board: &Board, classes: &mut Vec<OwnedClass>, seen
     }
 }
 
-// Compares what a stripe has seen of a caller's history with it. Nothing changes.
+// Compares a stripe with a caller: the stripe has seen a beginning of the caller's history.
 fn compare_call<N: Named>(board: &Board, stripe: &mut OwnedStripe, caller: &mut Caller<N>)
     requires board { (board.now.table ≡ N.board.table) × (stripe.old.board ≡ N.board.table) }
     ensures same { (stripe.new ≡ stripe.old) × (caller.new ≡ caller.old) }
@@ -45,7 +45,7 @@ fn compare_call<N: Named>(board: &Board, stripe: &mut OwnedStripe, caller: &mut 
     caller.compare(board, &mut stripe.seen);
 }
 
-// Compares what each stripe has seen of a caller's history with it. Nothing changes.
+// The same for each stripe.
 pub(crate) fn compare_calls<N: Named>(
     board: &Board,
     stripes: &mut Vec<OwnedStripe>,
@@ -62,7 +62,7 @@ pub(crate) fn compare_calls<N: Named>(
     }
 }
 
-// Compares what a class has seen of a caller's history with it. Nothing changes.
+// Compares a class with a caller: the class has seen a beginning of the caller's history.
 fn compare_class_call<N: Named>(board: &Board, class: &mut OwnedClass, caller: &mut Caller<N>)
     requires board { (board.now.table ≡ N.board.table) × (class.old.board ≡ N.board.table) }
     ensures same { (class.new ≡ class.old) × (caller.new ≡ caller.old) }
@@ -71,7 +71,7 @@ fn compare_class_call<N: Named>(board: &Board, class: &mut OwnedClass, caller: &
     caller.compare(board, &mut class.seen);
 }
 
-// Compares what each class has seen of a caller's history with it. Nothing changes.
+// The same for each class.
 pub(crate) fn compare_class_calls<N: Named>(
     board: &Board,
     classes: &mut Vec<OwnedClass>,
@@ -88,7 +88,7 @@ pub(crate) fn compare_class_calls<N: Named>(
     }
 }
 
-// Compares what a stripe has seen of each class with its history. Nothing changes.
+// Compares a stripe with each class: the stripe has seen a beginning of the class's history, and noted at most its length.
 fn compare_from_stripe(board: &Board, stripe: &mut OwnedStripe, classes: &mut Vec<OwnedClass>)
     requires board { stripe.old.board ≡ board.now.table }
     requires classes { AreClassesOn board.now.table classes.old.items }
@@ -98,7 +98,7 @@ fn compare_from_stripe(board: &Board, stripe: &mut OwnedStripe, classes: &mut Ve
     compare_classes(board, classes, &mut stripe.seen);
 }
 
-// Compares what a class has seen of each stripe with its history. Nothing changes.
+// Compares a class with each stripe: the class has seen a beginning of the stripe's history, and noted at most its length.
 fn compare_from_class(board: &Board, class: &mut OwnedClass, stripes: &mut Vec<OwnedStripe>)
     requires board { class.old.board ≡ board.now.table }
     requires stripes { AreStripesOn board.now.table stripes.old.items }
@@ -108,7 +108,7 @@ fn compare_from_class(board: &Board, class: &mut OwnedClass, stripes: &mut Vec<O
     compare_stripes(board, stripes, &mut class.seen);
 }
 
-// Compares what each stripe has seen of each class with its history. Nothing changes.
+// The same for each stripe.
 fn compare_from_stripes(
     board: &Board,
     stripes: &mut Vec<OwnedStripe>,
@@ -124,7 +124,7 @@ fn compare_from_stripes(
     }
 }
 
-// Compares what each class has seen of each stripe with its history. Nothing changes.
+// The same for each class.
 fn compare_from_classes(
     board: &Board,
     stripes: &mut Vec<OwnedStripe>,
@@ -140,8 +140,8 @@ fn compare_from_classes(
     }
 }
 
-// All stripes and classes, each as its lock kept it, are sound together, since each has seen a beginning of each other's
-// history; and so the items are exactly the entries.
+// Shows that all stripes and classes, each as its lock kept it, are sound together, and that the items are exactly the entries.
+// This follows as each has seen a beginning of each other's history.
 pub(crate) fn judge<N: Named>(
     board: &Board,
     stripes: &mut Vec<OwnedStripe>,

@@ -1,4 +1,4 @@
-//! The crawl of a class that threads share: a snapshot of its links under its lock, and then each link under the lock again.
+//! The crawl of a class that threads share: a snapshot of its links under its lock, then each link under the lock again.
 ghost use Rattle.std.specs.Prelude.{◌≡◌, ◌⊎◌, ◌+◌, ◌-◌, ◌^◌, length, IfErr, IfOk, OnOk, IsErrOf, ◌++◌, ◌∷◌, ◌≤◌, [], OnErr};
 ghost use Rattle.mc_item.specs.declared.fault.Fault.TheVariants.{HistoryFull, NoMemory};
 ghost use Rattle.mc_evidence.specs.Setting.{IsClass};
@@ -23,8 +23,8 @@ use std::alloc::Global;
 use std::sync::Wait;
 
 impl<'a, N: Named> Trying<'a, N> {
-    // Crawls one link of a class, as `crawl_one` does. It says of this gate what the call for any gate can't: that it holds
-    // the same references, and that the class has only events of this call more.
+    // Crawls one link of a class by `crawl_one`, whose contract is for any gate. This one adds what is true of this gate: it
+    // holds the same references, and the class gains only events of this call.
     fn crawl(
         &mut self,
         alloc: Global,
@@ -45,7 +45,7 @@ impl<'a, N: Named> Trying<'a, N> {
         ensures reclaims { OnOk result (Reclaims who moment class.old.history class.new.history histogram.old.reclaimed histogram.new.reclaimed) }
         ensures counted { OnOk result (CountsLink config.now class.old class.new who moment link histogram.old histogram.new) }
         ensures err { OnErr result (class.new.history ≡ class.old.history) }
-        ensures grows { classes.Grows class.old class.new }
+        ensures grows { classes.GainsEvents class.old class.new }
         ensures fault { IfErr result (MayFailSeen N.config self.new.seen.now.sight class.new) }
         ensures owner_reference { self.new.owner.ghost_name ≡ self.old.owner.ghost_name }
         ensures seen_reference { self.new.seen.ghost_name ≡ self.old.seen.ghost_name }
@@ -56,7 +56,7 @@ impl<'a, N: Named> Trying<'a, N> {
     }
 }
 
-// Crawls one link of a class under its lock: the stripe of its entry is only tried.
+// Crawls one link of a class under its lock. The lock of the entry's stripe is only tried.
 fn crawl_under<N: Named>(
     alloc: Global,
     store: &Store<N>,
@@ -72,7 +72,7 @@ fn crawl_under<N: Named>(
     ensures balanced { IsBalanced histogram.old → IsBalanced histogram.new }
     ensures reclaims { OnOk result (Reclaims who moment class.old.class.history class.new.class.history histogram.old.reclaimed histogram.new.reclaimed) }
     ensures counted { OnOk result (CountsLink N.config class.old.class class.new.class who moment link histogram.old histogram.new) }
-    ensures class { classes.Grows class.old.class class.new.class }
+    ensures class { classes.GainsEvents class.old.class class.new.class }
     ensures fault { IfErr result (MayFailSeen N.config class.new.sight class.new.class) }
 {
     let mut answers = Vec::new(alloc);
@@ -92,7 +92,7 @@ fn crawl_under<N: Named>(
 }
 
 impl<N: Named> Store<N> {
-    // The links of a class, as they are while its lock is held.
+    // Returns a snapshot of the links of a class, made under the class's lock, for which it waits.
     fn snapshot_of(
         &self,
         alloc: Global,
@@ -151,11 +151,12 @@ impl<N: Named> Store<N> {
         done
     }
 
-    /// Crawls a class: the links of its entries are taken down under its lock, for which it waits, and then each is looked
-    /// at under the lock again; stripes are only tried. An item that is dead at the moment goes with its entry, and the
-    /// histogram counts each link as one kind, at most 2^32 of them. `moment` is in whole seconds. After a fault what
-    /// happened so far stands: `HistoryFull` only where a history has less than two places left, or the pass has had
-    /// 2^63 - 1 turns; `NoMemory` where memory is wanting.
+    /// Crawls a class, and returns a histogram that counts each of its links as one kind, at most 2^32 links.
+    /// It takes a snapshot of the links under the class's lock, then looks at each link under the lock again. It waits for the
+    /// class's lock, and only tries those of stripes. It removes an item that is dead at `moment`, with its entry. `moment` is
+    /// the time in whole seconds.
+    /// After a fault what happened so far stays. `HistoryFull` comes only if a stripe's or class's history has fewer than two
+    /// places left, or the pass has had 2^63 - 1 turns. `NoMemory` comes if an allocation fails.
     pub fn crawl(
         &self,
         alloc: Global,

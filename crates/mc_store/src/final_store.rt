@@ -14,7 +14,7 @@ use mc_segment::ClassState;
 use mc_stripe::StripeState;
 use std::marker::Model;
 
-/// All stripes and all classes of a closed store, in the order of their numbers. It has no name, so that it outlives the
+/// A closed store: all its stripes and classes, in the order of their numbers. It has no `Named` parameter, so it can outlive the
 /// function that opened the store.
 #[derive(Drop)]
 pub struct Final {
@@ -34,7 +34,6 @@ impl Model for Final {
 }
 
 impl Final {
-    // These stripes and classes of one board.
     pub(crate) fn new(board: Board, stripes: Vec<OwnedStripe>, classes: Vec<OwnedClass>) -> Final
         requires stripes { AreStripesOn board.table stripes.items }
         requires classes { AreClassesOn board.table classes.items }
@@ -47,7 +46,7 @@ impl Final {
         }
     }
 
-    /// The stripe of a number.
+    /// Returns the stripe of this number. Stripes are numbered from 0.
     pub fn stripe(&self, number: StripeNo) -> &StripeState
         requires number { number.0 < length self.now.stripes }
         ensures { (d : StripeSide) → result.now ≡ (slice_index_or self.now.stripes number.0 d).stripe }
@@ -55,7 +54,7 @@ impl Final {
         self.stripes[number.0 as usize].state()
     }
 
-    /// The class of a number; they are numbered from 1.
+    /// Returns the class of this number. Classes are numbered from 1.
     pub fn class(&self, number: ClassNo) -> &ClassState
         requires number { (1 ≤ number.0) × (number.0 ≤ length self.now.classes) }
         ensures { (d : ClassSide) → result.now ≡ (slice_index_or self.now.classes (number.0 - 1) d).class }
@@ -63,9 +62,9 @@ impl Final {
         self.classes[number.0 as usize - 1].state()
     }
 
-    /// Compares a pass of the store with it: what the pass has seen of each lock is a beginning of that one's final
-    /// history, and what it has noted is at most its length. Each event in the stripes' and the classes' histories that names
-    /// the pass's caller is of a call that the pass made. Nothing changes. It takes no memory and waits for nobody.
+    /// Compares the closed store with a pass of it. Nothing changes. Allocates nothing and never waits.
+    /// The pass has seen a beginning of each stripe's and class's final history, and noted at most its length. Each event in
+    /// these histories that names the pass's caller belongs to a call in the caller's history.
     pub fn compare<N: Named>(&mut self, pass: &mut Pass<N>)
         requires board { self.old.board ≡ N.board.table }
         ensures same { (self.new ≡ self.old) × (pass.new ≡ pass.old) }

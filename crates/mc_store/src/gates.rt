@@ -1,4 +1,4 @@
-//! Gates of walks under the locks of a store: other stripes are only tried.
+//! Gates: how a walk under a class's lock reaches the stripes of its entries. A stripe's lock is tried, and never waited for.
 ghost use Rattle.std.specs.Prelude.{◌≡◌, ◌≢◌, ◌≤◌, ◌+◌, List, IfErr, IfOk, false, true};
 ghost use Rattle.mc_pull.specs.{Growth.GainsEvents, Juggle.IsJuggle, Lone.StripeGrows, Question.IsClassOf, Rounds.IsRoom, Rounds.rounds, Walker.walker_of};
 ghost use Rattle.mc_pull.specs.declared.looking.Answer.{Answer};
@@ -14,16 +14,15 @@ use mc_pull::{Answer, Gate, Look, a_search_in_vain_has_tried, juggle, make_room}
 use mc_segment::ClassState;
 use std::alloc::Global;
 
-// Whether a stripe has this number.
 fn is_numbered<N: Named>(own: &LockedStripe<N>, number: StripeNo) -> bool
     ensures { result ≡ true → number ≡ record { 0 = own.now.stripe.site.stripe } }
 {
     own.side().number() == number
 }
 
-/// A gate that tries every stripe of a store, for one call: who made it, and its moment. It holds the tokens of the class
-/// that is walked, which have seen that the call was begun, and a list for its answers. A stripe whose lock isn't had at
-/// once is passed, and so is all that another call asks for.
+/// A gate for one call (`who`, at `moment`). It tries the lock of each stripe that is asked for, and passes the entry if the lock
+/// isn't free, or if another call asks.
+/// It holds the owner and token of the class that is walked, and a list for its answers. The token has seen that the call began.
 #[derive(Drop)]
 pub(crate) struct Trying<'a, N: Named> {
     pub(crate) store: &'a Store<N>,
@@ -35,7 +34,7 @@ pub(crate) struct Trying<'a, N: Named> {
 }
 
 impl<'a, N: Named> Trying<'a, N> {
-    // Whether a look is of another call than the gate's.
+    // Whether a look belongs to another call than the gate's.
     fn is_foreign(&self, look: &Look<'_>) -> bool
         ensures own { result ≡ false → (look.now.ask.who ≡ self.now.who) × (look.now.ask.moment ≡ self.now.moment) }
         ensures foreign { result ≡ true → look.now.ask.who ≡ self.now.who → look.now.ask.moment ≡ self.now.moment → ⊥ }
@@ -45,8 +44,8 @@ impl<'a, N: Named> Trying<'a, N> {
 }
 
 impl<'a, N: Named> Trying<'a, N> {
-    // Juggles a class, as `juggle` does. It says of this gate what the call for any gate can't: that it holds the same
-    // references, and that the class has only events of this call more.
+    // Juggles a class by `juggle`, whose contract is for any gate. This one adds what is true of this gate: it holds the same
+    // references, and the class gains only events of this call.
     pub(crate) fn juggle(
         &mut self,
         alloc: Global,
@@ -122,7 +121,7 @@ impl<'a, N: Named> Gate for Trying<'a, N> {
     }
 }
 
-/// A gate that is lent one stripe, which is under its lock already, and tries the others.
+/// A gate for a call that has locked one stripe already. It uses that stripe, and tries the locks of the others.
 #[derive(Drop)]
 pub(crate) struct Holding<'a, 'b, N: Named> {
     pub(crate) own: &'a mut LockedStripe<N>,
@@ -173,7 +172,7 @@ impl<'a, 'b, N: Named> Gate for Holding<'a, 'b, N> {
 }
 
 impl<'a, 'b, N: Named> Holding<'a, 'b, N> {
-    // Whether a look is the gate's own call's, and asks for the stripe that the gate is lent.
+    // Whether a look belongs to the gate's call and asks for the stripe that the gate holds.
     fn lends(&self, stripe: StripeNo, look: &Look<'_>) -> bool
         ensures own { result ≡ true → (stripe ≡ record { 0 = self.now.own.now.stripe.site.stripe }) × (look.now.ask.who ≡ self.now.others.who)
             × (look.now.ask.moment ≡ self.now.others.moment) }
@@ -183,8 +182,8 @@ impl<'a, 'b, N: Named> Holding<'a, 'b, N> {
         self.own.side().number() == stripe && !self.others.is_foreign(look)
     }
 
-    // Makes room in a class, as `make_room` does. It says of this gate what the call for any gate can't: that it holds the
-    // same references, that its own stripe has only events of this walker more, and that a search in vain has tried.
+    // Makes room in a class by `make_room`, whose contract is for any gate. This one adds what is true of this gate: it holds the
+    // same references, its stripe and the class gain only events of this call, and a search that finds no chunk has tried.
     pub(crate) fn make_room(
         &mut self,
         alloc: Global,

@@ -1,5 +1,4 @@
-//! A command on the classes that it holds, each under its lock: the classes are told of the stripe, and the command is tried on
-//! what they offer.
+//! A command on the classes that it has locked: their views are synced with the stripe's, and it is tried on what they offer.
 ghost use Rattle.std.specs.Prelude.{◌≡◌, ◌≢◌, Some, None, IfOk, OnOk, OnErr, IsErrOf};
 ghost use Rattle.mc_item.specs.Command.{key_of};
 ghost use Rattle.mc_item.specs.declared.answer.Need.TheVariants as needs;
@@ -26,7 +25,7 @@ use mc_stripe::{Given, Turn, Want};
 use std::alloc::Global;
 use std::sync::MutexGuard;
 
-// Makes room for the events of a command in a class, as far as its history has places for them.
+// Reserves memory for up to two more events of a class, as far as its history has places for them.
 #[inline(always)]
 fn ready_class<N: Named>(class: &mut LockedClass<N>) -> Result<(), Fault>
     ensures ready { OnOk result (IsReady class.new.class) }
@@ -36,7 +35,7 @@ fn ready_class<N: Named>(class: &mut LockedClass<N>) -> Result<(), Fault>
     ready(&mut class.side.state)
 }
 
-// One try on the class of an item, which goes or is woken.
+// Tries a command once on the class of its key's item, which it removes or wakes by a hit.
 #[inline(always)]
 fn try_other<N: Named>(
     alloc: Global,
@@ -65,8 +64,8 @@ fn try_other<N: Named>(
     try_on_one(alloc, board, own, other, caller, command, turn, given)
 }
 
-// One try on the class of a new version, which noted the refusal at this place for the call, where it did, and on that of its
-// key's item, where it is another.
+// Tries a command once on the class of its new version, and on that of its key's item if that is another one. `refused` is the
+// place of the refusal that the class noted for this call, if it did.
 #[inline(always)]
 pub(crate) fn try_home<N: Named>(
     alloc: Global,
@@ -120,7 +119,7 @@ pub(crate) fn try_home<N: Named>(
     }
 }
 
-// Looks for a chunk in the class of a new version, where none is free.
+// Looks for a chunk in the class of a new version, if none is free.
 fn search<N: Named>(
     alloc: Global,
     store: &Store<N>,
@@ -143,8 +142,8 @@ fn search<N: Named>(
     Ok(())
 }
 
-// Makes a command whose new version is of this class, and whose key's item is of the other, where that is held. Where no chunk
-// is free one is looked for, and where none is found the class notes that.
+// Makes a command whose new version is of this class. Its key's item is of the other class, if that is held. If no chunk is free
+// it looks for one, and if it finds none, the class notes a refusal.
 pub(crate) fn answer_at_home<N: Named>(
     alloc: Global,
     store: &Store<N>,
@@ -191,7 +190,7 @@ pub(crate) fn answer_at_home<N: Named>(
     }
 }
 
-// Makes a command that needs the class of its key's item alone.
+// Makes a command that needs only the class of its key's item.
 pub(crate) fn answer_at_item<N: Named>(
     alloc: Global,
     store: &Store<N>,

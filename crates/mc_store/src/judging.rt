@@ -1,4 +1,4 @@
-//! One entry under locks, judged with its key's stripe.
+//! Judging one entry with its key's stripe, both under locks.
 ghost use Rattle.std.specs.Prelude.{◌≡◌, true, is_some, None, IfErr, IsSomeAnd, OnOk, OnErr};
 ghost use Rattle.mc_segment.specs.ClassState.{with_room};
 ghost use Rattle.mc_pull.specs.{Lone.StripeGrows, Looks.events_if, Looks.IsJudgedIf, Settled.class_with, Walker.walker_of};
@@ -14,8 +14,8 @@ use mc_board::{Board, Owner, Seen};
 use mc_item::Fault;
 use mc_pull::Look;
 
-// Judges the entry of a look with its key's stripe, which is under its lock, where the tokens of the entry's class are
-// apart from it. Class and stripe are told of each other before and behind it, also after a fault.
+// Judges the entry of a look with its key's stripe, whose lock is held. The tokens of the entry's class are lent apart from the
+// class. Syncs the views of class and stripe before and after, also after a fault.
 pub(crate) fn judge<N: Named>(
     board: &Board,
     stripe: &mut LockedStripe<N>,

@@ -1,4 +1,4 @@
-//! Juggling of a class that threads share.
+//! Juggling a class that threads share, which is the LRU maintainer's work.
 ghost use Rattle.std.specs.Prelude.{◌≡◌, ◌≤◌, ◌⊎◌, ◌+◌, ◌-◌, ◌^◌, IfOk, OnOk, IsErrOf, ◌++◌, ◌∷◌, [], OnErr};
 ghost use Rattle.mc_item.specs.declared.fault.Fault.TheVariants.{HistoryFull};
 ghost use Rattle.mc_evidence.specs.Setting.{IsClass};
@@ -14,10 +14,11 @@ use std::alloc::Global;
 use std::sync::Wait;
 
 impl<N: Named> Store<N> {
-    /// Juggles a class under its lock, for which it waits; the stripes of the entries that it looks at are only tried,
-    /// and one that isn't had at once is passed. It answers how many entries were reclaimed and moved, at most 10000 of
-    /// both. `moment` is in whole seconds. After a fault what happened so far stands: `HistoryFull` only where a history
-    /// has less than two places left, or the pass has had 2^63 - 1 turns; `NoMemory` where memory is wanting.
+    /// Juggles a class (the LRU maintainer's work), and returns how many entries it reclaimed and moved, at most 10000 in all.
+    /// It waits for the class's lock, and only tries those of stripes: an entry is passed if its stripe's lock isn't free.
+    /// `moment` is the time in whole seconds.
+    /// After a fault what happened so far stays. `HistoryFull` comes only if a stripe's or class's history has fewer than two
+    /// places left, or the pass has had 2^63 - 1 turns. `NoMemory` comes if an allocation fails.
     pub fn juggle(
         &self,
         alloc: Global,

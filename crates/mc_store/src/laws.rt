@@ -1,4 +1,4 @@
-//! The headline over what a closed store leaves: laws, which are contracts alone.
+//! The README's headline, said of a closed store: laws, which are contracts without code.
 ghost use Rattle.std.specs.Prelude.{◌≡◌, ◌<◌, ◌+◌, ◌++◌, ℕ, List, IsSomeAnd, None, Some, slice_get};
 ghost use Rattle.mc_item.specs.{Cache.visible_items, Stripe.cache_of};
 ghost use Rattle.mc_item.specs.declared.{call_event.CallEvent.CallEvent, class_event.ClassEvent.ClassEvent, command.Command.Command, config.Config.Config};
@@ -12,8 +12,9 @@ ghost use Rattle.mc_store.specs.{Calls.IsRepliedBy, Headline.IsBorneOut, Locked.
 ghost use Rattle.mc_store.specs.{Made.IsClassCalled, Made.maker_of, Sides.ClassSide, Sides.StripeSide};
 ghost use Rattle.mc_store.specs.Finals.{AreClasses, AreItsOwn, AreItsOwnInClasses, AreStripes, FinalView, IsBehindStripes, class_histories, stripe_histories};
 
-/// Whatever a pass's command was answered, a closed store bears it out: where what the pass has seen since begins the final
-/// histories, the reply stands in one event of its stripe's legal history, behind all that the pass had seen before the call.
+/// A closed store bears out each reply to a pass's command. The stripe's final history is legal, and has the command with this
+/// reply in one event, after all that the pass had seen of the stripe before the call.
+/// It holds if what the pass has seen since is a beginning of the final histories, as `Final::compare` shows.
 pub fn a_closed_store_bears_out_each_reply()
     ensures { (config : Config) (final : FinalView) (number : ℕ) (before after last : Sight) (calls calls_new : List CallEvent) (who : Who) (command : Command)
         (moment : ℕ) (reply : Reply)
@@ -22,9 +23,9 @@ pub fn a_closed_store_bears_out_each_reply()
         → IsBorneOut config final.stripes number before who command moment reply }
 {}
 
-/// Between two commands of a stripe of a closed store what is visible at a moment was visible before, the same but for its
-/// marks; and each item that went was dead at its loss's moment, or its chunk was taken near COLD's tail from a full class, by
-/// the eviction that its loss cites.
+/// Between two commands of a stripe of a closed store, items are only removed. An item that is visible later was visible earlier
+/// for the same moment, the same but for its marks. Each removed item was dead at the moment that its loss names, or was evicted
+/// near COLD's tail of a full class, by the eviction that its loss names.
 pub fn between_commands_a_closed_store_only_lost()
     ensures only { (config : Config) (final : FinalView) (number : ℕ) (before between later : List StripeEvent) (key : List ℕ) (item : Item) (moment : ℕ)
         → stripe_histories final.stripes number ≡ before ++ (between ++ later) → AreNoCommands between
@@ -38,9 +39,9 @@ pub fn between_commands_a_closed_store_only_lost()
         → WasLost (setting_of config).chunks (class_histories final.classes) between key item }
 {}
 
-/// Each event on a stripe of a closed store was called: it names one of the store's callers, and where each caller's pass was
-/// compared with what is left, that one's own history has the call, with its turn and, where the event has a moment, with that
-/// moment handed in. So nothing is made in another's name, and no moment is invented.
+/// Each event of a closed store's stripes was called. It names one of the store's callers, whose history has the call, with the
+/// event's turn and its time, if it has one. So nothing is made in another's name, and no time is invented.
+/// It holds if each caller's pass was compared with the closed store.
 pub fn each_event_of_a_closed_store_was_called()
     ensures { (config : Config) (final : FinalView) (passes : ℕ → PassView) (number place : ℕ) (s : StripeSide) (event : StripeEvent)
         → AreStripes final.board config final.stripes
@@ -49,9 +50,9 @@ pub fn each_event_of_a_closed_store_was_called()
         → ((who_of event).caller < config.callers) × IsCalled (passes (who_of event).caller).calls number place event }
 {}
 
-/// Each event on a slab class of a closed store was called: it names one of the store's callers, and where each caller's pass
-/// was compared with what is left, that one's own history has the call, with its turn and, where the event has a moment, with
-/// that moment handed in. Where it juggled or crawled, that was the class that it was asked for, and a crawl only reclaims.
+/// Each event of a closed store's slab classes was called. It names one of the store's callers, whose history has the call, with
+/// the event's turn and its time, if it has one. Juggling and crawls keep to their class, and a crawl only reclaims.
+/// It holds if each caller's pass was compared with the closed store.
 pub fn each_class_event_of_a_closed_store_was_called()
     ensures { (config : Config) (final : FinalView) (passes : ℕ → PassView) (number place : ℕ) (s : ClassSide) (event : ClassEvent)
         → AreClasses final.board config final.classes
@@ -60,7 +61,7 @@ pub fn each_class_event_of_a_closed_store_was_called()
         → ((maker_of event).caller < config.callers) × IsClassCalled (passes (maker_of event).caller).calls (record { 0 = number + 1 }) event }
 {}
 
-/// A turn is answered once: two answered commands of a closed store that name one caller and one turn are the same event.
+/// A turn is answered once: two answered commands of a closed store that name the same caller and turn are the same event.
 pub fn a_turn_of_a_closed_store_is_answered_once()
     ensures { (final : FinalView) (pass : PassView) (number place number_too place_too : ℕ) (s s_too : StripeSide) (did did_too : Did)
         → AreItsOwn pass final.stripes → did.who.caller ≡ pass.caller → did_too.who ≡ did.who

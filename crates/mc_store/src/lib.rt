@@ -1,5 +1,4 @@
-//! The shared store: stripes and slab classes, each under a lock of its own, and what callers can know of them without
-//! one.
+//! The shared store: stripes and slab classes, each under a lock of its own, and what callers can know of them without it.
 #![tactic(auto)]
 
 mod answering;

@@ -1,4 +1,4 @@
-//! Which lock of a store is meant.
+//! The locks of a store.
 use mc_item::{ClassNo, StripeNo};
 
 /// The lock of a stripe or of a class, by its number.

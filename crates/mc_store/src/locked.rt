@@ -1,5 +1,5 @@
-//! What lies under the locks. Each is of the board and the configuration that N names, and its history is sound by what it
-//! has seen of the others.
+//! What lies under the locks. Each stripe and class belongs to the board and the configuration that `N` names, and its history is
+//! sound by what it has seen of the others.
 ghost use Rattle.std.specs.Prelude.{◌≡◌};
 ghost use Rattle.mc_board.specs.Histories.{Grows};
 ghost use Rattle.mc_store.specs.Locked.{IsLockedClass, IsLockedStripe};
@@ -28,7 +28,7 @@ impl<N: Named> Model for LockedStripe<N> {
 }
 
 impl<N: Named> LockedStripe<N> {
-    // Under a lock from now on.
+    // Wraps a stripe that is as its lock keeps it.
     pub(crate) fn new(side: OwnedStripe) -> LockedStripe<N>
         requires { IsLockedStripe N.board.table N.config side }
         ensures { result ≡ side }
@@ -47,7 +47,7 @@ impl<N: Named> LockedStripe<N> {
         &self.side
     }
 
-    // What its lock keeps.
+    // Does nothing. Its contract says what the lock keeps.
     pub(crate) fn law(&self)
         ensures { IsLockedStripe N.board.table N.config self.now }
     {
@@ -66,7 +66,7 @@ impl<N: Named> LockedStripe<N> {
         side.seen.learn(board, seen);
     }
 
-    // Out of its lock.
+    // Unwraps the stripe, which is as its lock kept it.
     pub(crate) fn into_side(self) -> OwnedStripe
         ensures value { result ≡ self }
         ensures kept { IsLockedStripe N.board.table N.config result }
@@ -94,7 +94,7 @@ impl<N: Named> Model for LockedClass<N> {
 }
 
 impl<N: Named> LockedClass<N> {
-    // Under a lock from now on.
+    // Wraps a class that is as its lock keeps it.
     pub(crate) fn new(side: OwnedClass) -> LockedClass<N>
         requires { IsLockedClass N.board.table N.config side }
         ensures { result ≡ side }
@@ -126,7 +126,7 @@ impl<N: Named> LockedClass<N> {
         side.seen.learn(board, &mut other.seen);
     }
 
-    // Out of its lock.
+    // Unwraps the class, which is as its lock kept it.
     pub(crate) fn into_side(self) -> OwnedClass
         ensures value { result ≡ self }
         ensures kept { IsLockedClass N.board.table N.config result }

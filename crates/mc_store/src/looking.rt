@@ -13,8 +13,8 @@ use mc_stripe::StripeState;
 use std::sync::Wait;
 
 impl<N: Named> Store<N> {
-    /// Lends a stripe of the store to the job, for reading, while its lock is held: it is as its lock keeps it. It waits
-    /// for the lock.
+    /// Lends a stripe to the job for reading, and returns what the job returns. It waits for the stripe's lock, and holds it
+    /// meanwhile. The stripe is as its lock keeps it.
     pub fn visit_stripe<T, J: FnOnce(&StripeState) -> T>(
         &self,
         rt: &impl Wait,
@@ -29,7 +29,7 @@ impl<N: Named> Store<N> {
         job(guard.side().state())
     }
 
-    // The lock of a number.
+    // The number of a lock on the board.
     fn lock_of(&self, lock: LockNo) -> usize
         requires { IsLock N.config lock }
         ensures place { result ≡ lock_of N.config lock }
@@ -41,8 +41,8 @@ impl<N: Named> Store<N> {
         }
     }
 
-    /// How many events the history of a lock has at one atomic step: no fewer than the pass has seen of it, and than each
-    /// answer that it had before. The pass notes it. It takes no memory and waits for nobody.
+    /// Returns how many events the history of a lock has, read in one atomic step without the lock. The pass notes the number,
+    /// which is no less than what it had seen and noted of the lock. Allocates nothing and never waits.
     pub fn events(&self, pass: &mut Pass<N>, lock: LockNo) -> u64
         requires { IsLock N.config lock }
         ensures noted { pass.new ≡ record pass.old { sight = with_noted pass.old.sight (lock_of N.config lock) result } }
@@ -53,8 +53,8 @@ impl<N: Named> Store<N> {
         pass.seen.count(&self.board, place)
     }
 
-    /// Compares two passes: of each lock what one has seen is a beginning of what the other has. Nothing changes. It takes
-    /// no memory and waits for nobody.
+    /// Compares two passes: for each lock, what one of them has seen is a beginning of what the other has. Nothing changes.
+    /// Allocates nothing and never waits.
     pub fn meet(&self, pass: &mut Pass<N>, other: &mut Pass<N>)
         ensures same { (pass.new ≡ pass.old) × (other.new ≡ other.old) }
         ensures in_line { AreInLine pass.old.sight other.old.sight }

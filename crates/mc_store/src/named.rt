@@ -1,9 +1,9 @@
-//! The name of a board and a configuration.
+//! A name, in types, for a board and a configuration.
 use std::marker::Brand;
 
-/// Names one board and one configuration, and has no call. What lies under the locks of a store can't be seen from
-/// outside; its type has such a name, so that all of it is known to be of one board and one configuration. A caller makes
-/// the board first, and then picks the name for a function that opens the store and closes it.
+/// Names one board and one configuration, and has no methods.
+/// Contracts can't see what lies under a store's locks. The store's type has this name, so all of it is known to belong to one
+/// board and one configuration. A caller opens the board, then picks the name for a function that opens and closes the store.
 pub trait Named {
     ghost use Rattle.mc_board.specs.Views.{BoardView};
     ghost use Rattle.mc_item.specs.declared.config.Config.{Config};

@@ -1,4 +1,4 @@
-//! How a store is made.
+//! Opening a store.
 ghost use Rattle.std.specs.Prelude.{◌≡◌, ◌≤◌, ◌<◌, ◌+◌, ◌-◌, ◌^◌, [], IfOk};
 ghost use Rattle.mc_item.specs.Config.{IsBounded, IsSound};
 ghost use Rattle.mc_board.specs.{Histories.blind, Views.locks_of, Views.AreOwners};
@@ -21,7 +21,7 @@ use std::hash::RandomState;
 use std::marker::PhantomData;
 use std::sync::Mutex;
 
-// A stripe without events, to be locked.
+// A stripe without events, ready for its lock.
 fn open_stripe<N: Named>(
     alloc: Global,
     config: &Config,
@@ -39,7 +39,7 @@ fn open_stripe<N: Named>(
     LockedStripe::new(OwnedStripe::new(state, owner, seen))
 }
 
-// The class of a lock behind those of the stripes, without events, to be locked.
+// A class without events, ready for its lock. On the board its lock comes after those of the stripes.
 fn open_class<N: Named>(
     alloc: Global,
     config: &Config,
@@ -57,8 +57,7 @@ fn open_class<N: Named>(
     LockedClass::new(OwnedClass::new(state, owner, seen))
 }
 
-// The pass of the caller whose history comes at a place behind the locks; the caller has had no turn, and the token has seen
-// nothing.
+// The pass of the caller whose history has this place on the board, after the locks. It has had no turn and seen nothing.
 fn open_pass<N: Named>(config: &Config, place: usize, owner: Owner, seen: Seen) -> Pass<N>
     requires config { (config.now ≡ N.config) × IsBounded N.config }
     requires place { (locks_for N.config ≤ place) × (place < histories_for N.config) }
@@ -70,7 +69,7 @@ fn open_pass<N: Named>(config: &Config, place: usize, owner: Owner, seen: Seen) 
     Pass::new(Caller::new(number, owner), seen)
 }
 
-// How many locks a configuration has.
+// How many locks a configuration asks for: one for each stripe and each class.
 fn locks_in(config: &Config) -> usize
     requires { IsBounded config.now }
     ensures { result ≡ locks_for config.now }
@@ -78,7 +77,7 @@ fn locks_in(config: &Config) -> usize
     config.stripes as usize + config.sizes.as_slice().len()
 }
 
-// The place of the history that comes next, after so many stripes, classes and passes.
+// The place on the board that comes after so many stripes, classes and passes.
 fn next_place(stripes: usize, classes: usize, passes: usize) -> usize
     requires { stripes + classes + passes < 2 ^ 32 }
     ensures { result ≡ stripes + classes + passes }
@@ -86,7 +85,7 @@ fn next_place(stripes: usize, classes: usize, passes: usize) -> usize
     stripes + classes + passes
 }
 
-// Empty room for the stripes and classes of a configuration.
+// Reserves the memory that closing a store of this configuration needs.
 fn shelf_for<N: Named>(alloc: Global, config: &Config) -> Result<Shelf<N>, NoMemory>
     requires { (config.now ≡ N.config) × IsBounded N.config }
 {
@@ -98,10 +97,10 @@ fn shelf_for<N: Named>(alloc: Global, config: &Config) -> Result<Shelf<N>, NoMem
 }
 
 impl<N: Named> Store<N> {
-    /// A store of a checked configuration without events, on a board of as many histories: those of the stripes first,
-    /// then those of the classes, then those of the callers; and a pass for each caller, which has seen nothing. The room
-    /// that closing needs is made here. Keys are
-    /// hashed with the seed, on which no reply depends. `NoMemory` where memory is refused.
+    /// Opens a store without events, and returns it with a pass for each caller, which has seen nothing.
+    /// The configuration has been checked. The board has as many histories as the store needs: stripes first, then classes, then
+    /// callers. `owners` and `seen` are those that `Board::open` returned with it. Keys are hashed with the seed, on which no
+    /// reply depends. The memory that closing needs is reserved here. Errors: `NoMemory` if an allocation fails.
     pub fn open(
         alloc: Global,
         config: Config,

@@ -1,4 +1,4 @@
-//! A slab class with its tokens of the board.
+//! A slab class with its tokens of the board: its owner, and what it has seen.
 ghost use Rattle.std.specs.Prelude.{◌≡◌, []};
 ghost use mathlib.Core.List.{IsPrefix};
 ghost use Rattle.mc_board.specs.Histories.{list_at, with_seen, Grows};
@@ -10,9 +10,8 @@ use mc_item::ClassNo;
 use mc_segment::ClassState;
 use std::marker::Model;
 
-/// A class, the token that tells its history to the board, and what it has seen of all locks. The board has its whole
-/// history. Its parts can be lent apart: the class to a walk, the tokens to the gate of that walk; behind it the owner
-/// catches up.
+/// A class, its history's owner on the board, and a token with what it has seen of all locks. The board has its whole history.
+/// The parts can be lent apart: the class to a walk, and the tokens to the gate of that walk. The owner catches up afterwards.
 #[derive(Drop)]
 pub(crate) struct OwnedClass {
     pub(crate) owner: Owner,
@@ -33,7 +32,7 @@ impl Model for OwnedClass {
         × (s.seen.board ≡ s.owner.board) };
 }
 
-// Adds to the board each event of the class that it doesn't have yet.
+// Adds to the board the events of the class that the board lacks.
 #[inline(always)]
 pub(crate) fn catch_up_class(state: &ClassState, owner: &mut Owner, board: &Board)
     requires board { owner.old.board ≡ board.now.table }
@@ -54,7 +53,6 @@ impl OwnedClass {
         OwnedClass { state, owner, seen }
     }
 
-    // The number of the class.
     pub(crate) fn number(&self) -> ClassNo
         ensures { result ≡ self.now.class.number }
     {
@@ -68,7 +66,7 @@ impl OwnedClass {
         &self.state
     }
 
-    // Compares the history with a token: what the token has seen and noted is behind it. Nothing changes.
+    // Compares the history with a token: it has seen a beginning of it, and noted at most its length. Nothing changes.
     pub(crate) fn compare(&mut self, board: &Board, seen: &mut Seen)
         requires board { (self.old.board ≡ board.now.table) × (seen.old.board ≡ board.now.table) }
         ensures same { (self.new ≡ self.old) × (seen.new ≡ seen.old) }
@@ -77,7 +75,7 @@ impl OwnedClass {
         self.owner.compare(board, seen);
     }
 
-    // Tells a token the whole history.
+    // Shows a token the whole history.
     #[inline(always)]
     pub(crate) fn tell(&mut self, board: &Board, seen: &mut Seen)
         requires board { (self.old.board ≡ board.now.table) × (seen.old.board ≡ board.now.table) }
@@ -88,7 +86,7 @@ impl OwnedClass {
         self.owner.tell(board, seen);
     }
 
-    // The class is told a stripe's whole history.
+    // Shows the class a stripe's whole history.
     #[inline(always)]
     pub(crate) fn hear(&mut self, board: &Board, stripe: &mut OwnedStripe)
         requires board { (self.old.board ≡ board.now.table) × (stripe.old.board ≡ board.now.table) }
@@ -110,7 +108,7 @@ impl OwnedClass {
         self.seen.learn(board, &mut stripe.seen);
     }
 
-    // Tells a token the whole history, and all that the class has seen of other locks.
+    // Shows a token the whole history, and all that the class has seen of other locks.
     pub(crate) fn share(&mut self, board: &Board, seen: &mut Seen)
         requires board { (self.old.board ≡ board.now.table) × (seen.old.board ≡ board.now.table) }
         ensures same { self.new ≡ self.old }

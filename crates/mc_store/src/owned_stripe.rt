@@ -1,4 +1,4 @@
-//! A stripe with its tokens of the board.
+//! A stripe with its tokens of the board: its owner, and what it has seen.
 ghost use Rattle.std.specs.Prelude.{◌≡◌, [], length};
 ghost use mathlib.Core.List.{IsPrefix};
 ghost use Rattle.mc_board.specs.Histories.{list_at, with_seen, Grows};
@@ -10,9 +10,8 @@ use mc_item::StripeNo;
 use mc_stripe::StripeState;
 use std::marker::Model;
 
-/// A stripe, the token that tells its history to the board, and what it has seen of all locks. The board has its whole
-/// history. Its parts can be lent apart: the stripe to a walk, the tokens to the gate of that walk; behind it the owner
-/// catches up.
+/// A stripe, its history's owner on the board, and a token with what it has seen of all locks. The board has its whole history.
+/// The parts can be lent apart: the stripe to a walk, and the tokens to the gate of that walk. The owner catches up afterwards.
 #[derive(Drop)]
 pub(crate) struct OwnedStripe {
     pub(crate) owner: Owner,
@@ -33,7 +32,7 @@ impl Model for OwnedStripe {
         × (s.seen.board ≡ s.owner.board) };
 }
 
-// Adds to the board each event of the stripe that it doesn't have yet.
+// Adds to the board the events of the stripe that the board lacks.
 #[inline(always)]
 pub(crate) fn catch_up_stripe(state: &StripeState, owner: &mut Owner, board: &Board)
     requires board { owner.old.board ≡ board.now.table }
@@ -53,7 +52,6 @@ impl OwnedStripe {
         OwnedStripe { state, owner, seen }
     }
 
-    // The number of the stripe.
     pub(crate) fn number(&self) -> StripeNo
         ensures { result.0 ≡ self.now.stripe.site.stripe }
     {
@@ -74,7 +72,7 @@ impl OwnedStripe {
         &self.state
     }
 
-    // Compares the history with a token: what the token has seen and noted is behind it. Nothing changes.
+    // Compares the history with a token: it has seen a beginning of it, and noted at most its length. Nothing changes.
     pub(crate) fn compare(&mut self, board: &Board, seen: &mut Seen)
         requires board { (self.old.board ≡ board.now.table) × (seen.old.board ≡ board.now.table) }
         ensures same { (self.new ≡ self.old) × (seen.new ≡ seen.old) }
@@ -83,7 +81,7 @@ impl OwnedStripe {
         self.owner.compare(board, seen);
     }
 
-    // Tells a token the whole history.
+    // Shows a token the whole history.
     #[inline(always)]
     pub(crate) fn tell(&mut self, board: &Board, seen: &mut Seen)
         requires board { (self.old.board ≡ board.now.table) × (seen.old.board ≡ board.now.table) }
@@ -94,7 +92,7 @@ impl OwnedStripe {
         self.owner.tell(board, seen);
     }
 
-    // The stripe is told a class's whole history.
+    // Shows the stripe a class's whole history.
     #[inline(always)]
     pub(crate) fn hear(&mut self, board: &Board, class: &mut OwnedClass)
         requires board { (self.old.board ≡ board.now.table) × (class.old.board ≡ board.now.table) }
@@ -105,7 +103,7 @@ impl OwnedStripe {
         class.tell(board, &mut self.seen);
     }
 
-    // Tells a token the whole history, and all that the stripe has seen of other locks.
+    // Shows a token the whole history, and all that the stripe has seen of other locks.
     pub(crate) fn share(&mut self, board: &Board, seen: &mut Seen)
         requires board { (self.old.board ≡ board.now.table) × (seen.old.board ≡ board.now.table) }
         ensures same { self.new ≡ self.old }

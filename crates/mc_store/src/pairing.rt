@@ -1,5 +1,5 @@
-//! Steps on a stripe and classes under their locks: before each step they are told of each other, behind it the board
-//! has the new events, and they are told of each other again.
+//! Steps on a stripe and classes under their locks. Before each step the views of stripe and classes are synced. After it the
+//! board gets the new events, and the views are synced again.
 ghost use Rattle.std.specs.Prelude.{ℕ, ◌≡◌, ◌≤◌, ◌<◌, ◌+◌, ◌^◌, ◌∷◌, [], true, false, ◌++◌, IfOk, OnOk, OnErr, IsErrOf, length};
 ghost use mathlib.Core.List.{IsPrefix};
 ghost use Rattle.mc_item.specs.declared.fault.Fault.TheVariants.{HistoryFull};
@@ -20,7 +20,7 @@ use mc_board::{Board, Owner, Seen};
 use mc_item::{Fault, Who};
 use mc_stripe::StripeState;
 
-// A stripe and a class are told of each other: each has then seen the other's whole history, and the histories agree.
+// Syncs the views of a stripe and a class: each has then seen the other's whole history, and the histories agree.
 #[inline(always)]
 pub(crate) fn meet<N: Named>(board: &Board, own: &mut LockedStripe<N>, lent: &mut LockedClass<N>)
     requires board { board.now ≡ N.board }
@@ -35,8 +35,7 @@ pub(crate) fn meet<N: Named>(board: &Board, own: &mut LockedStripe<N>, lent: &mu
     lent.side.hear(board, &mut own.side);
 }
 
-// Notes in a full class that no chunk was found, and answers the place of that event in its history. The class learns of the
-// call from the stripe, which was told of it.
+// Adds a refusal to a full class's history, and returns its place there. The class learns of the call from the stripe.
 #[inline(never)]
 pub(crate) fn refuse<N: Named>(
     board: &Board,
@@ -60,8 +59,7 @@ pub(crate) fn refuse<N: Named>(
     place
 }
 
-// The board gets the events of a command from its stripe. Where the command was answered, its caller notes at which place,
-// and the stripe is told so.
+// Adds a stripe's new events to the board. If a command was answered, its caller notes where, and the stripe sees that.
 #[inline(always)]
 pub(crate) fn put_if<N: Named>(
     board: &Board,

@@ -1,4 +1,4 @@
-//! What a caller has seen.
+//! Passes: what a caller has called and seen.
 ghost use Rattle.std.specs.Prelude.{◌≡◌, ◌<◌, ◌≤◌, ◌+◌, ◌-◌, ◌^◌, ◌++◌, ◌∷◌, IfOk, IfErr, OnOk, OnErr, [], length};
 ghost use Rattle.mc_item.specs.declared.fault.Fault.TheVariants.{HistoryFull};
 ghost use Rattle.mc_store.specs.{Callers.call_events, Callers.calls_told, Callers.turns_of, Passes.next_who};
@@ -9,10 +9,10 @@ use mc_board::{Board, Seen};
 use mc_item::{Fault, Logged, Who};
 use std::marker::Model;
 
-// How many turns a pass has: a caller's history has at most two events for each.
+// The most turns of a pass: a caller's history has at most two events for each, and so fewer than 2^64.
 const MOST_TURNS: u64 = 0x7fff_ffff_ffff_ffff;
 
-/// A caller's pass: its number and its history, how many turns it has had, and what it has seen and noted of each lock.
+/// A caller's pass: its number and its history, how many turns (calls) it has had, and what it has seen and noted of each lock.
 #[derive(Drop)]
 pub struct Pass<N: Named> {
     pub(crate) caller: Caller<N>,
@@ -48,7 +48,7 @@ impl<N: Named> Pass<N> {
         }
     }
 
-    /// Who the next call by this pass is made by.
+    /// Returns who makes the next call by this pass: the caller, in its next turn.
     pub fn next_who(&self) -> Who
         ensures { result ≡ next_who self.now }
     {
@@ -58,8 +58,8 @@ impl<N: Named> Pass<N> {
         }
     }
 
-    // Takes the next turn for a call, which the caller's history has from then on: who the call is made by. `HistoryFull`
-    // where the pass has had 2^63 - 1 turns; nothing changes then.
+    // Takes the next turn for a call, adds the call to the caller's history, and returns who makes it. `HistoryFull` comes if the
+    // pass has had 2^63 - 1 turns; then nothing changes.
     pub(crate) fn take_turn<E: Logged>(&mut self, board: &Board, event: &E) -> Result<Who, Fault>
         requires board { board.now.table ≡ N.board.table }
         requires call { calls_told (call_events (E.entry event.now ∷ [])) ≡ E.entry event.now ∷ [] }

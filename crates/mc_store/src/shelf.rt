@@ -1,5 +1,5 @@
-//! The room that closing a store needs. A token of the board may be sent to another thread and not be shared between
-//! threads, so the shelf lies behind a lock of its own.
+//! The memory that closing a store needs. A token of the board can be sent to another thread but not shared between threads, so
+//! the shelf has a lock of its own.
 ghost use Rattle.std.specs.Prelude.{◌≡◌, ◌≤◌, [], length, vec_capacity};
 
 use crate::named::Named;
@@ -7,7 +7,7 @@ use crate::owned_class::OwnedClass;
 use crate::owned_stripe::OwnedStripe;
 use std::marker::PhantomData;
 
-/// Empty room for all stripes and classes of a store.
+/// Empty vectors with room for all stripes and classes of a store.
 #[derive(Drop)]
 pub(crate) struct Shelf<N: Named> {
     pub(crate) stripes: Vec<OwnedStripe>,

@@ -1,4 +1,4 @@
-//! The shared store: stripes and slab classes, each behind a lock of its own.
+//! The shared store: stripes and slab classes, each under a lock of its own.
 ghost use Rattle.std.specs.Prelude.{◌≡◌, ◌<◌};
 ghost use Rattle.std.specs.Sync.Mutex.{mutex_guard_value};
 ghost use Rattle.mc_evidence.specs.Setting.{IsClass};
@@ -13,8 +13,7 @@ use mc_item::{ClassNo, Config, StripeNo};
 use std::marker::{Model, PhantomData};
 use std::sync::{Mutex, MutexGuard, Wait};
 
-/// A store that threads share: its stripes and its classes, each behind a lock of its own. Contracts see the
-/// configuration that it was made with.
+/// A store that threads share: its stripes and its classes, each under a lock of its own. Contracts see its configuration.
 #[derive(Drop)]
 pub struct Store<N: Named> {
     pub(crate) board: Board,
@@ -45,8 +44,8 @@ impl<N: Named> Model for Store<N> {
         × (vec_len s.classes ≡ length N.config.sizes) };
 }
 
-// Locks, and waits where it has to. A lock here is held for a microsecond or so, and to sleep and be woken takes longer:
-// so it is tried a few times first, with longer and longer pauses.
+// Locks, and waits if it has to. A lock is held for about a microsecond, and to sleep and be woken takes longer. So it first
+// tries a few times, with growing pauses.
 #[inline(always)]
 fn wait_for<'a, T: Drop>(rt: &impl Wait, lock: &'a Mutex<T>) -> MutexGuard<'a, T> {
     let pause = Backoff::new();
@@ -59,11 +58,11 @@ fn wait_for<'a, T: Drop>(rt: &impl Wait, lock: &'a Mutex<T>) -> MutexGuard<'a, T
     lock.lock(rt)
 }
 
-// How often a lock is tried before a thread sleeps: the last 25 times the processor is yielded, for some microseconds more.
+// How often a lock is tried before the thread sleeps. The last 25 pauses yield the processor, for some microseconds more.
 const TRIES: usize = 32;
 
 impl<N: Named> Store<N> {
-    // Locks a stripe. A state of another number than its place's, of which there is none, would be let go and tried again.
+    // Locks a stripe. The loop runs once: `open` puts each stripe at the place of its number, but a lock's type can't say so.
     pub(crate) fn lock_stripe<'a>(
         &'a self,
         rt: &impl Wait,
@@ -84,7 +83,7 @@ impl<N: Named> Store<N> {
         unreachable!()
     }
 
-    // Locks a class. A state of another number than its place's, of which there is none, would be let go and tried again.
+    // Locks a class. The loop runs once: `open` puts each class at the place of its number, but a lock's type can't say so.
     #[inline(always)]
     pub(crate) fn lock_class<'a>(
         &'a self,

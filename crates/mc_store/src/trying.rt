@@ -1,4 +1,4 @@
-//! One try of a command on its stripe and the classes that are held, each under its lock.
+//! One try of a command on its stripe and the classes that it has locked.
 ghost use Rattle.std.specs.Prelude.{◌≡◌, ◌∷◌, [], None, IfOk, OnErr, IsErrOf};
 ghost use Rattle.mc_item.specs.declared.fault.Fault.TheVariants.{HistoryFull};
 ghost use Rattle.mc_board.specs.Histories.{Grows};
@@ -30,7 +30,7 @@ fn is_made(tried: &Result<Tried, Fault>) -> bool
     }
 }
 
-// One try on a stripe alone.
+// Tries a command once on its stripe alone.
 #[inline(always)]
 pub(crate) fn try_alone<N: Named>(
     board: &Board,
@@ -65,8 +65,7 @@ pub(crate) fn try_alone<N: Named>(
     tried
 }
 
-// One try on a stripe and a class, which were told of each other, of what the class gives. The caller tells the class of
-// the call.
+// Tries a command once on its stripe and a class whose views are synced, with what the class offers. Shows the class the call.
 #[inline(always)]
 pub(crate) fn try_on_one<N: Named>(
     alloc: Global,
@@ -116,8 +115,7 @@ pub(crate) fn try_on_one<N: Named>(
     tried
 }
 
-// One try on a stripe and two classes, which were told of each other, of what the classes give. The caller tells both of the
-// call.
+// Tries a command once on its stripe and two classes whose views are synced, with what they offer. Shows the classes the call.
 #[inline(never)]
 pub(crate) fn try_on_two<N: Named>(
     alloc: Global,

@@ -1,4 +1,4 @@
-//! What never comes.
+//! Waiting for ever.
 use std::sync::Wait;
 
 // Waits, and never returns.

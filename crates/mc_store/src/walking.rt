@@ -1,4 +1,4 @@
-//! Walks under the locks of a store: room is made in a class, a class is juggled, a dead item goes.
+//! Walks under the locks of a store: making room in a class, juggling it, removing a dead item.
 ghost use Rattle.std.specs.Prelude.{◌≡◌, ◌≤◌, ◌+◌, ◌++◌, ◌∷◌, [], List, Some, IfOk, IfErr, OnOk, OnErr, IsErrOf, false};
 ghost use Rattle.mc_item.specs.declared.{fault.Fault.TheVariants.HistoryFull, stripe_event.Cause.TheVariants.Expired};
 ghost use Rattle.mc_stripe.specs.{Plan.dead_link, StripeCalls.KeepsSite, StripeState.cache_now};
@@ -22,7 +22,7 @@ use mc_pull::{Judge, settle};
 use mc_segment::ClassState;
 use std::alloc::Global;
 
-// Makes room in a class whose tokens are apart from it, for a caller that holds one stripe: the others are only tried.
+// Makes room in a class whose tokens are lent apart from it, for a caller that has locked one stripe. Others are only tried.
 fn make_room_with<N: Named>(
     alloc: Global,
     store: &Store<N>,
@@ -36,7 +36,7 @@ fn make_room_with<N: Named>(
     requires served { IsServed N.board.table N.config owner.old seen.old class.old }
     requires begun { HasBegun N.config seen.old.sight who moment }
     ensures room { IfOk result (λ found. (xs : List Answer) × IsRoom (rounds class.old who moment N.config) class.old.history xs class.new.history found) }
-    ensures class { classes.Grows class.old class.new }
+    ensures class { classes.GainsEvents class.old class.new }
     ensures served { IsServed N.board.table N.config owner.new seen.new class.new }
     ensures stripe { StripeGrows (walker_of class.old who moment) own.old.stripe own.new.stripe }
     ensures tried { IfOk result (λ found. found ≡ false → IsSearchInVain N.config class.old own.old.stripe who moment class.new.history) }
@@ -58,9 +58,9 @@ fn make_room_with<N: Named>(
     gate.make_room(alloc, class, who, moment, &store.config)
 }
 
-// Makes room in a class under its lock, for a caller that holds one stripe: the others are only tried. Whether a chunk is
-// free then; where none is, entries were tried for. After a fault what happened so far stands. The stripe is told of all that
-// the class was told.
+// Makes room in a class under its lock, for a caller that has locked one stripe. Other stripes' locks are only tried. Returns
+// whether a chunk is free then; if not, the search has tried for one. After a fault what happened so far stays. The stripe learns
+// all that the class has seen.
 pub(crate) fn make_room_under<N: Named>(
     alloc: Global,
     store: &Store<N>,
@@ -72,7 +72,7 @@ pub(crate) fn make_room_under<N: Named>(
     requires begun { HasBegunCommand N.config own.old.sight who moment }
     ensures room { IfOk result (λ found. (xs : List Answer)
         × IsRoom (rounds class.old.class who moment N.config) class.old.class.history xs class.new.class.history found) }
-    ensures class { classes.Grows class.old.class class.new.class }
+    ensures class { classes.GainsEvents class.old.class class.new.class }
     ensures stripe { StripeGrows (walker_of class.old.class who moment) own.old.stripe own.new.stripe }
     ensures tried { IfOk result (λ found. found ≡ false → IsSearchInVain N.config class.old.class own.old.stripe who moment class.new.class.history) }
     ensures begun { HasBegunCommand N.config own.new.sight who moment }
@@ -97,7 +97,7 @@ pub(crate) fn make_room_under<N: Named>(
     found
 }
 
-// Juggles a class under its lock: stripes are only tried.
+// Juggles a class under its lock. The locks of stripes are only tried.
 pub(crate) fn juggle_under<N: Named>(
     alloc: Global,
     store: &Store<N>,
@@ -109,7 +109,7 @@ pub(crate) fn juggle_under<N: Named>(
     ensures juggle { IfOk result (λ moves. (xs : List Answer)
         × IsJuggle (rounds class.old.class who moment N.config) class.old.class.history xs class.new.class.history moves) }
     ensures few { IfOk result (λ moves. moves.reclaimed + moves.moved ≤ 10000) }
-    ensures class { classes.Grows class.old.class class.new.class }
+    ensures class { classes.GainsEvents class.old.class class.new.class }
     ensures fault { IfErr result (MayFailSeen N.config class.new.sight class.new.class) }
 {
     let mut answers = Vec::new(alloc);
@@ -127,8 +127,8 @@ pub(crate) fn juggle_under<N: Named>(
     moves
 }
 
-// The dead item of a key goes, and its entry with it; `link` is the item's, and the class is its link's. After a fault both
-// histories are as they were. The class learns of the call from the stripe, which was told of it.
+// Removes the dead item of a key, and its entry. `link` is the item's, and the class is the link's. After a fault both histories
+// are as they were. The class learns of the call from the stripe, which has seen it.
 pub(crate) fn bury_under<N: Named>(
     alloc: Global,
     store: &Store<N>,

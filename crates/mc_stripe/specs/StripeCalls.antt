@@ -5,7 +5,7 @@ use Rattle.mc_item.specs.declared.{command.Command.Command, item.Who.Who, reply.
 use Rattle.mc_item.specs.declared.stripe_event.StripeEvent.TheVariants as events
 use Rattle.mc_stripe.specs.StripeState.{Stripe, cache_now}
 
--- what is fixed stays, and so do the limit and whether events are kept
+-- the site, the limit of events and whether they are kept stay the same
 pub record KeepsSite (old new : Stripe) : Type 0 where
   pub site : new.site ≡ old.site
   pub limit : new.limit ≡ old.limit
@@ -15,7 +15,7 @@ pub record KeepsSite (old new : Stripe) : Type 0 where
 abbrev pub Gains : Stripe → Stripe → StripeEvent → Type 0
 Gains old new event = new.history ≡ old.history ++ event ∷ []
 
--- the history gains the event of this command, answered at this moment with this room by what the cache was
+-- the history gains just the event of this command at this moment with this room, and its reply is what the old cache answers
 abbrev pub Notes : Stripe → Stripe → Who → Command → ℕ → Room → Type 0
 Notes old new who command moment room =
     Gains old new (events.Did (record {

@@ -1,4 +1,4 @@
--- What a command may use, and what it wants before it can be made (own).
+-- What a command may use, and what it wants if it can't be made yet (own).
 use Rattle.std.specs.Prelude.{ℕ, ◌≡◌, ◌==◌, ◌<◌, ◌≤◌, ◌+◌, ◌⊎◌, List, Option, Some, None, IfSome, IsSomeAnd, if◌then◌else◌}
 use Rattle.std.specs.Option.{option_map}
 use Rattle.mc_item.specs.{Answer.Row, Item.link_of_item, Stripe.IsAlive, Stripe.link_of}
@@ -10,20 +10,20 @@ use Rattle.mc_stripe.specs.declared.{fate.Fate.Fate, wanting.Classes.Classes, wa
 use Rattle.mc_stripe.specs.declared.fate.Fate.TheVariants as fates
 use Rattle.mc_stripe.specs.declared.wanting.Want.TheVariants as wants
 
--- the class of a link, where it is another than this
+-- the class of a link, if it is another one than this
 abbrev pub class_beside : ClassNo → Option Link → Option ClassNo
 class_beside class None = None
 class_beside class (Some link) = if link.class.0 == class.0 then None else Some link.class
 
--- the class of an item that goes or is woken
+-- the class of an item that is removed or woken
 abbrev pub class_of_fate : Fate → Option ClassNo
 class_of_fate fates.Untouched = None
 class_of_fate (fates.Renewed cost expiry old) = None
 class_of_fate (fates.Goes link) = Some link.class
 class_of_fate (fates.Woken link) = Some link.class
 
--- the classes that are wanted: that of a new version and that of its key's item, where it is another; else that of an item that
--- goes or is woken
+-- the classes that are wanted. For a new version: its class, and that of the old
+-- item if it is another one. Else: the class of an item that is removed or woken
 abbrev pub classes_of : Need → Option Link → Fate → Classes
 classes_of (needs.Fresh class) old fate = record { home = Some class; other = class_beside class old }
 classes_of needs.Nothing old fate = record { home = None; other = class_of_fate fate }
@@ -34,67 +34,67 @@ classes_of needs.TooLarge old fate = record { home = None; other = class_of_fate
 abbrev pub classes_for : List ℕ → Option Item → Row → Classes
 classes_for key found row = classes_of row.need (link_of_item found) (fate_of key found (row.answer rooms.Keep).change)
 
--- a class that is wanted is the one that is held
+-- the wanted class, if any, is the one that is held
 abbrev pub Holds : Option ClassNo → Option ClassNo → Type 0
 Holds held None = Unit {0}
 Holds held (Some class) = held ≡ Some class
 
--- the class of a new version that is held
+-- the class of the new version, if it is held
 abbrev pub home_class : Given → Option ClassNo
 home_class given = option_map (λ h. h.class) given.home
 
--- that of an item
+-- the class of the key's old item, if it is held
 abbrev pub other_class : Given → Option ClassNo
 other_class given = option_map (λ o. o.class) given.other
 
--- all classes that are wanted are held
+-- all wanted classes are held
 abbrev pub Covers : Given → Classes → Type 0
 Covers given wanted = Holds (home_class given) wanted.home × Holds (other_class given) wanted.other
 
--- a room that isn't none
+-- the room is a link or a refusal, not Keep
 abbrev pub IsGiven : Room → Type 0
 IsGiven (rooms.At link) = Unit {0}
 IsGiven (rooms.Refused class place) = Unit {0}
 IsGiven rooms.Keep = ⊥
 
--- the room that a need takes: that of the class of a new version, and else none
+-- the need takes this room: for a new version, what its class gives if it isn't Keep, and Keep for any other need
 abbrev pub IsTaken : Given → Need → Room → Type 0
 IsTaken given (needs.Fresh class) room = IsSomeAnd given.home (λ h. (h.class ≡ class) × (h.room ≡ room)) × IsGiven room
 IsTaken given needs.Nothing room = room ≡ rooms.Keep
 IsTaken given needs.Same room = room ≡ rooms.Keep
 IsTaken given needs.TooLarge room = room ≡ rooms.Keep
 
--- how many links of a class this is: one, where there is one and it is of the class
+-- how many links this is of the class: one if there is a link and it is of the class
 abbrev pub links_at : ClassNo → Option Link → ℕ
 links_at class None = 0
 links_at class (Some link) = if link.class.0 == class.0 then 1 else 0
 
--- how many entries come into a class and leave it
+-- how many entries come into a class and leave it, together
 abbrev pub changes_at : ClassNo → Room → Fate → ℕ
 changes_at class room fates.Untouched = 0
 changes_at class room (fates.Renewed cost expiry old) = links_at class (link_of room) + links_at class old
 changes_at class room (fates.Goes link) = links_at class (Some link)
 changes_at class room (fates.Woken link) = 0
 
--- the histories of the classes that are held have places for that
+-- the histories of the held classes have places for the entries that come and leave
 pub record HasPlacesFor (given : Given) (room : Room) (fate : Fate) : Type 0 where
   pub home : IfSome given.home (λ h. changes_at h.class room fate ≤ h.places)
   pub other : IfSome given.other (λ o. changes_at o.class room fate ≤ o.places)
 
--- that of this class hasn't
+-- the history of this held class lacks places for the entries that come and leave
 abbrev pub LacksPlace : Given → Room → Fate → ClassNo → Type 0
 LacksPlace given room fate class =
     IsSomeAnd given.home (λ h. (h.class ≡ class) × (h.places < changes_at class room fate))
     ⊎ IsSomeAnd given.other (λ o. (o.class ≡ class) × (o.places < changes_at class room fate))
 
--- what is wanted of classes that give no room: they aren't held, or that of a new version is full
+-- what is wanted if no room is given: the classes if not all are held, or a chunk if the class of the new version offers Keep
 abbrev pub IsLacking : Given → Classes → Want → Type 0
 IsLacking given wanted (wants.Classes classes) = (classes ≡ wanted) × (Covers given wanted → ⊥)
 IsLacking given wanted wants.Room = Covers given wanted × IsSomeAnd given.home (λ h. h.room ≡ rooms.Keep)
 IsLacking given wanted (wants.Burial link) = ⊥
 IsLacking given wanted (wants.Place class) = ⊥
 
--- a command of this row may be made in this room, with what it is given, and this becomes of the chunks
+-- a command of this row may be made in this room with what it is given, and has this fate
 pub record Uses (given : Given) (key : List ℕ) (found : Option Item) (moment : ℕ) (row : Row) (room : Room) (fate : Fate) : Type 0 where
   pub alive : IsAlive found moment
   pub covers : Covers given (classes_for key found row)
@@ -102,7 +102,7 @@ pub record Uses (given : Given) (key : List ℕ) (found : Option Item) (moment :
   pub fate_is : fate ≡ fate_of key found (row.answer room).change
   pub places : HasPlacesFor given room fate
 
--- a class that is held and wanted lacks a place for what a room would change
+-- all wanted classes are held, but the history of this class lacks places for what a room would change
 pub record IsCrowded (given : Given) (key : List ℕ) (found : Option Item) (moment : ℕ) (row : Row) (class : ClassNo) : Type 0 where
   pub alive : IsAlive found moment
   pub covers : Covers given (classes_for key found row)
@@ -110,7 +110,7 @@ pub record IsCrowded (given : Given) (key : List ℕ) (found : Option Item) (mom
   pub taken : IsTaken given row.need room
   pub lacks : LacksPlace given room (fate_of key found (row.answer room).change) class
 
--- a chunk is wanted of the class of a new version, which gives no room
+-- all wanted classes are held, but the class of the new version offers no room
 pub record LacksRoom (given : Given) (key : List ℕ) (found : Option Item) (moment : ℕ) (row : Row) : Type 0 where
   pub alive : IsAlive found moment
   pub covers : Covers given (classes_for key found row)
@@ -118,8 +118,8 @@ pub record LacksRoom (given : Given) (key : List ℕ) (found : Option Item) (mom
   pub fresh : row.need ≡ needs.Fresh class
   pub none : IsSomeAnd given.home (λ h. h.room ≡ rooms.Keep)
 
--- what a command wants: the burial of its key's item, which is dead; the classes that it needs, of which not all are held; a
--- chunk; a place in a class's history
+-- a command of this row wants this: the removal of its key's dead item, its
+-- classes if not all are held, a chunk, or a place in a class's history
 abbrev pub IsWanting : Given → List ℕ → Option Item → ℕ → Row → Want → Type 0
 IsWanting given key found moment row (wants.Burial link) = dead_link found moment ≡ Some link
 IsWanting given key found moment row (wants.Classes wanted) = IsAlive found moment × (wanted ≡ classes_for key found row) × (Covers given wanted → ⊥)

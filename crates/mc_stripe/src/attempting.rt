@@ -1,4 +1,4 @@
-//! One try of a command on a stripe: from look-up to event, with one look-up of its key.
+//! One try of a command on a stripe: it makes the command with its event, or says what the command wants.
 ghost use Rattle.std.specs.Prelude.{◌≡◌, ◌≤◌, ◌<◌, ◌+◌, ◌^◌, ◌↔◌, IfOk, IfErr, OnErr, IsErrOf, nat_eq, length};
 ghost use Rattle.std.specs.{Cmp.Lexicographic.pointwise, HashMap.get, HashMap.spare};
 ghost use Rattle.mc_item.specs.{Answer.cas_of, Answer.row_of, Command.key_of, Stripe.Fits};
@@ -28,7 +28,7 @@ use std::alloc::Global;
 use std::collections::HashMap;
 use std::hash::RandomState;
 
-// When a version of this exptime dies.
+// When an item dies that gets this exptime at the moment.
 #[inline(always)]
 fn expiry_at(exptime: &i64, moment: u64) -> Expiry
     requires { moment ≤ 2 ^ 62 }
@@ -37,7 +37,7 @@ fn expiry_at(exptime: &i64, moment: u64) -> Expiry
     expiry_of(*exptime, moment)
 }
 
-// What a command makes of the items, each kind by its own row of the table.
+// Makes a command on the items, or says what it wants. Each kind of command has a function of its own, by its row of the table.
 #[inline(always)]
 fn make(
     alloc: Global,
@@ -98,7 +98,7 @@ fn make(
 }
 
 impl StripeState {
-    // The link of a key's item if a hit at this moment would wake it.
+    // The link of a key's item, if a hit at the moment would wake it.
     #[inline(always)]
     fn woken_at(&self, key: &Key, moment: u64) -> Option<Link>
         ensures { result ≡ woken_link ((cache_now self.now).items key.now) moment }
@@ -107,8 +107,8 @@ impl StripeState {
         (!item.dead(moment) && wakes(item)).then_some(item.link)
     }
 
-    /// The link of the item that a command would wake at this moment, as a get and a touch do: the item is alive, and would
-    /// get the mark ACTIVE.
+    /// Returns the link of the item that this command would wake at the moment. A get or a touch wakes a live item that isn't
+    /// ACTIVE, if the hit makes it so. Other commands wake nothing.
     #[inline(always)]
     pub fn woken(&self, command: &Command, moment: u64) -> Option<Link>
         ensures { result ≡ woken_by self.now command.now moment }
@@ -120,10 +120,12 @@ impl StripeState {
         }
     }
 
-    /// Tries a command, with one look-up of its key. It is made of what it is given, with one event more, or it wants
-    /// something, and nothing happened. A hit that wakes its item wants the item's class.
-    ///
-    /// Errors: `HistoryFull` just where the history has no place; `NoMemory`. Then nothing happened.
+    /// Tries a command with the classes that it is given. If it can be made, adds its event and
+    /// returns what was done. If not, changes nothing and returns what it wants. A hit that wakes its
+    /// item wants the item's class. The key is of this stripe, and the moment is at most 2^62 seconds.
+    /// A given room is a link of the home class that no event names, or a refusal of that class.
+    /// Errors: `HistoryFull` exactly if the history has no place left, `NoMemory`
+    /// if the allocator refuses. Items and history are then unchanged.
     pub fn attempt(
         &mut self,
         command: &Command,

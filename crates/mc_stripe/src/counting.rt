@@ -1,4 +1,4 @@
-//! An incr or decr, from look-up to answer.
+//! The `incr` and `decr` commands.
 ghost use Rattle.std.specs.Prelude.{◌≡◌, ◌<◌, ◌^◌, ℕ, IfOk, IfErr, OnOk, OnErr, IfSome, Some, nat_eq, true};
 ghost use Rattle.std.specs.{Cmp.Lexicographic.pointwise, HashMap.get, HashMap.spare};
 ghost use Rattle.mc_item.specs.{Answer.cas_of, Cache.changed, Cache.versions_of, Stripe.IsAlive};
@@ -16,7 +16,7 @@ use std::alloc::Global;
 use std::collections::HashMap;
 use std::hash::RandomState;
 
-// The room that a need is given, and the class where it is one.
+// The room for a need, and the class if the need is a chunk. If that class gives no room, what is wanted.
 #[inline(always)]
 fn room_for(need: Need, given: &Given, old: Link) -> Result<(Room, Option<ClassNo>), Want>
     ensures covers { OnOk result ((class : TheClass) → need ≡ needs.Fresh class
@@ -35,7 +35,7 @@ fn room_for(need: Need, given: &Given, old: Link) -> Result<(Room, Option<ClassN
     }
 }
 
-// Counts where the value is no number, is too short for the new one or shares its bytes.
+// Makes an incr or decr that can't be done in place: the value is no number, is too short for the new one, or shares its bytes.
 #[inline(never)]
 fn count_anew(
     alloc: Global,
@@ -89,7 +89,7 @@ fn count_anew(
     }))
 }
 
-/// An incr or decr, by one look-up.
+/// Makes an incr or decr, with one look-up.
 #[inline(always)]
 pub(crate) fn count_item(
     alloc: Global,

@@ -1,4 +1,4 @@
-//! A delete, from look-up to answer.
+//! The `delete` command.
 ghost use Rattle.std.specs.Prelude.{◌≡◌, ◌≤◌, IfOk, IfErr, nat_eq, true};
 ghost use Rattle.std.specs.{Cmp.Lexicographic.pointwise, HashMap.get, HashMap.spare};
 ghost use Rattle.mc_item.specs.Answer.{delete_row};
@@ -12,7 +12,7 @@ use mc_item::{Item, Key, Reply, Room};
 use std::collections::HashMap;
 use std::hash::RandomState;
 
-/// A delete: its item is removed, if its class is held.
+/// Makes a delete. Removing the item wants the item's class, and a place in that class's history.
 #[inline(always)]
 pub(crate) fn delete_item(
     items: &mut HashMap<Key, Item, RandomState>,

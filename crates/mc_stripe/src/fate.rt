@@ -1,4 +1,4 @@
-//! What becomes of the chunks of a command's key.
+//! What becomes of a key's item and its chunk by a command.
 ghost use Rattle.std.specs.Prelude.{◌≡◌, ◌&&◌, not, Some};
 ghost use Rattle.mc_item.specs.Item as items;
 ghost use Rattle.mc_stripe.specs.Plan as plans;
@@ -6,24 +6,24 @@ ghost use Rattle.mc_stripe.specs.Plan.{fate_of};
 
 use mc_item::{Change, Expiry, Item, Key, Link, Marks, cost};
 
-/// What becomes of the chunks of a command's key.
+/// What becomes of a key's item and its chunk by a command. The caller notes it in the slab classes.
 #[derive(Clone, Copy, Debug, PartialEq, Eq)]
 pub enum Fate {
-    /// Nothing.
+    /// Nothing that a class has to note.
     Untouched,
-    /// A new version takes one: its cost, its expiry, and the link of the item that it replaces.
+    /// A new version takes a chunk. It has this cost and expiry, and replaces the item with the link `old`, if there is one.
     Renewed {
         cost: u64,
         expiry: Expiry,
         old: Option<Link>,
     },
-    /// The item of this link goes.
+    /// The item with this link is removed.
     Goes(Link),
-    /// A hit leaves the mark ACTIVE at the item of this link, which didn't have it.
+    /// A hit wakes the item with this link: it becomes ACTIVE, which it wasn't.
     Woken(Link),
 }
 
-/// Whether a hit leaves the mark ACTIVE at an item that doesn't have it.
+/// Returns whether a hit would wake an item: the item isn't ACTIVE, and would become so.
 #[inline(always)]
 pub(crate) fn wakes(item: &Item) -> bool
     ensures { result ≡ ((items.hit_marks item.now.marks).active && not item.now.marks.active) }
@@ -31,7 +31,7 @@ pub(crate) fn wakes(item: &Item) -> bool
     item.marks.hit().active && !item.marks.active
 }
 
-/// What becomes of a key's chunks by a change of its item.
+/// Returns what becomes of a key's item and its chunk by a change of the item.
 pub(crate) fn fate_by_change(key: &Key, item: &Item, change: &Change) -> Fate
     ensures { result ≡ fate_of key.now (Some item.now) change.now }
 {
@@ -49,7 +49,7 @@ pub(crate) fn fate_by_change(key: &Key, item: &Item, change: &Change) -> Fate
     }
 }
 
-// What becomes of an item's chunk by new marks.
+// What new marks of an item mean for its class.
 fn woken_by(item: &Item, marks: Marks) -> Fate
     ensures { result ≡ plans.hit_fate marks.active (Some item.now) }
 {

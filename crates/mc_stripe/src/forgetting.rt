@@ -1,4 +1,4 @@
-//! Items that go without a command of their key, and marks that are cleared.
+//! Removes items without a command of their key, and clears ACTIVE marks.
 ghost use Rattle.std.specs.Prelude.{◌≡◌, ◌≢◌, ◌≤◌, ◌<◌, ◌+◌, ℕ, List, OnOk, OnErr, IsErrOf, IsSomeAnd, ◌↔◌, nat_eq, if◌then◌else◌, length, true, Err};
 ghost use Rattle.std.specs.{Cmp.Lexicographic.pointwise, HashMap.get, HashMap.spare};
 ghost use Rattle.mc_item.specs.{Cache.changed, Stripe.IsDead, Stripe.MayLose, Stripe.cooled_change};
@@ -14,7 +14,7 @@ use mc_item::{Cause, ClassNo, Cooled, Fault, Item, Key, Lost, StripeEvent, Who};
 use std::collections::HashMap;
 use std::hash::RandomState;
 
-// The item's ACTIVE mark goes, where the item is there.
+// Clears the ACTIVE mark of the item under a key, if there is one.
 fn cool_item(items: &mut HashMap<Key, Item, RandomState>, key: &Key)
     ensures items { (q : List ℕ) → get (pointwise nat_eq) items.new q ≡ (if pointwise nat_eq key.now q then
         changed (get (pointwise nat_eq) items.old key.now) (cooled_change (get (pointwise nat_eq) items.old key.now)) else get (pointwise nat_eq) items.old q) }
@@ -26,7 +26,7 @@ fn cool_item(items: &mut HashMap<Key, Item, RandomState>, key: &Key)
 }
 
 impl StripeState {
-    // An item goes, for a cause that may be.
+    // Removes an item for a cause that applies to it.
     fn lose(&mut self, who: Who, key: Key, cause: Cause) -> Result<(), Fault>
         requires { MayLose ((cache_now self.old).items key) cause }
         ensures ok { OnOk result (Gains self.old self.new (events.Lost (record { who = who; key = key; cause = cause }))) }
@@ -48,8 +48,8 @@ impl StripeState {
         Ok(())
     }
 
-    /// An item goes that is dead at the moment (items.c and crawler.c reclaim such items). `HistoryFull` is answered where
-    /// the history has no place left. With room left it takes no memory.
+    /// Removes an item that is dead at the moment, as items.c and crawler.c do. The moment is in seconds. Errors: `HistoryFull`
+    /// exactly if the history has no place left, `NoMemory` only if the room is 0. The history is then unchanged.
     pub fn forget_expired(&mut self, who: Who, key: Key, moment: u64) -> Result<(), Fault>
         requires { IsDead ((cache_now self.old).items key) moment }
         ensures ok { OnOk result (Gains self.old self.new (events.Lost (record { who = who; key = key; cause = causes.Expired moment }))) }
@@ -62,8 +62,8 @@ impl StripeState {
         self.lose(who, key, Cause::Expired(moment))
     }
 
-    /// An item goes whose chunk of this class was taken, by the event at this place of the class. `HistoryFull` is answered
-    /// where the history has no place left. With room left it takes no memory.
+    /// Removes an item whose chunk, which is of this class, was taken by the event
+    /// at this place of the class's history. Errors: as for `forget_expired`.
     pub fn forget_taken(
         &mut self,
         who: Who,
@@ -82,8 +82,7 @@ impl StripeState {
         self.lose(who, key, Cause::Taken { class, place })
     }
 
-    /// Clears the ACTIVE mark of an item that has it, and nothing else of it. `HistoryFull` is answered where the history
-    /// has no place left. With room left it takes no memory.
+    /// Clears the ACTIVE mark of an item that has it, and changes nothing else of the item. Errors: as for `forget_expired`.
     pub fn cool(&mut self, who: Who, key: Key) -> Result<(), Fault>
         requires { IsSomeAnd ((cache_now self.old).items key) (λ item. item.marks.active ≡ true) }
         ensures ok { OnOk result (Gains self.old self.new (events.Cooled (record { who = who; key = key }))) }

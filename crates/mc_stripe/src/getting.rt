@@ -1,4 +1,4 @@
-//! A get, from look-up to answer.
+//! The `get` command.
 ghost use Rattle.std.specs.Prelude.{◌≡◌, Bool, Some, IfOk, IfErr, OnErr, nat_eq, true};
 ghost use Rattle.std.specs.{Cmp.Lexicographic.pointwise, HashMap.get, HashMap.spare};
 ghost use Rattle.mc_item.specs.{Answer.get_row, Cache.changed};
@@ -12,7 +12,7 @@ use mc_item::{Item, Key, NoMemory, Reply, Room};
 use std::collections::HashMap;
 use std::hash::RandomState;
 
-// A copy of a reply, for an event that is kept.
+// A copy of a reply for its event, if events are kept.
 #[inline(always)]
 fn noted_if(reply: &Reply, keeps: bool) -> Result<Option<Reply>, NoMemory>
     ensures { IfOk result (λ noted. keeps ≡ true → noted ≡ Some reply.now) }
@@ -24,7 +24,7 @@ fn noted_if(reply: &Reply, keeps: bool) -> Result<Option<Reply>, NoMemory>
     }
 }
 
-// An item is hit.
+// Hits an item and replies with its value. The copies are made first, since they may fail.
 #[inline(always)]
 fn hit_item(item: &mut Item, fate: Fate, keeps: bool) -> Result<Made, NoMemory>
     ensures reply { IfOk result (λ m. m.done.reply ≡ ((get_row (Some item.old)).answer rooms.Keep).reply) }
@@ -52,7 +52,7 @@ fn hit_item(item: &mut Item, fate: Fate, keeps: bool) -> Result<Made, NoMemory>
     })
 }
 
-/// A get, by one look-up. A hit that wakes its item wants the item's class.
+/// Makes a get, with one look-up. A hit that wakes its item wants the item's class.
 #[inline(always)]
 pub(crate) fn get_item(
     items: &mut HashMap<Key, Item, RandomState>,

@@ -1,4 +1,4 @@
-//! A storage command that no class can hold, from look-up to answer.
+//! Storage commands with an item that is too large for any class.
 ghost use Rattle.std.specs.Prelude.{◌≤◌, IfOk, IfErr, nat_eq, true};
 ghost use Rattle.std.specs.{Cmp.Lexicographic.pointwise, HashMap.get, HashMap.spare};
 ghost use Rattle.mc_item.specs.Answer.{huge_row};
@@ -12,7 +12,7 @@ use mc_item::{Item, Key, Reply, Room, Verb};
 use std::collections::HashMap;
 use std::hash::RandomState;
 
-/// A storage command that no class can hold is refused, and a set removes its key's item, if its class is held.
+/// Refuses a storage command as too large. A set also removes its key's item, for which it wants the item's class.
 #[inline(always)]
 pub(crate) fn refuse_huge(
     items: &mut HashMap<Key, Item, RandomState>,

@@ -1,4 +1,4 @@
-//! One stripe: its items, and the history that says how they came to be. Nothing here locks.
+//! One stripe: its items, and the history from which they follow. Nothing here locks.
 #![tactic(auto)]
 
 mod attempting;

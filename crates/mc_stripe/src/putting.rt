@@ -1,4 +1,4 @@
-//! Storage commands, from look-up to what becomes of the item.
+//! Storage commands with an item that fits a class: set, add, replace and cas.
 ghost use Rattle.std.specs.Prelude.{◌≡◌, ◌<◌, ◌≤◌, ◌+◌, ◌^◌, ℕ, List, IfOk, IfErr, IfSome, OnErr, nat_eq, Option, Some, true};
 ghost use Rattle.std.specs.{Cmp.Lexicographic.pointwise, HashMap.get, HashMap.spare};
 ghost use Rattle.mc_item.specs.Answer as answers;
@@ -19,7 +19,7 @@ use std::alloc::Global;
 use std::collections::HashMap;
 use std::hash::RandomState;
 
-// What a storage command is answered.
+// The outcome of a storage command, by which it replies.
 #[derive(Clone, Copy, Debug, PartialEq, Eq)]
 pub(crate) enum PutAnswer {
     Stored,
@@ -30,7 +30,6 @@ pub(crate) enum PutAnswer {
 }
 
 impl PutAnswer {
-    // The reply.
     #[inline(always)]
     fn reply(self) -> Reply
         ensures { result ≡ reply_of self }
@@ -44,10 +43,10 @@ impl PutAnswer {
         }
     }
 
-    // How many versions it adds.
+    // How many new versions the command stores.
     #[inline(always)]
-    fn added(self) -> u64
-        ensures { result ≡ words.added self }
+    fn versions_added(self) -> u64
+        ensures { result ≡ words.versions_added self }
     {
         match self {
             PutAnswer::Stored => 1,
@@ -56,7 +55,7 @@ impl PutAnswer {
     }
 }
 
-// How a storage command was decided: its answer, the room that it takes, and what becomes of chunks.
+// A decided storage command: its reply, the room that it takes, and what becomes of its key's chunks.
 #[derive(Clone, Copy, Debug)]
 pub(crate) struct Put {
     answer: PutAnswer,
@@ -65,7 +64,7 @@ pub(crate) struct Put {
 }
 
 impl Put {
-    // What the command made.
+    // The decided command in the form that all commands share.
     #[inline(always)]
     fn made(self) -> Made
         ensures { result ≡ made_of self }
@@ -76,7 +75,7 @@ impl Put {
             answer.reply(),
             self.room,
             self.fate,
-            answer.added(),
+            answer.versions_added(),
         )
     }
 }
@@ -88,7 +87,6 @@ pub(crate) struct Found {
     cas: u64,
 }
 
-// The link of an item that was found.
 #[inline(always)]
 fn link_in(found: Option<Found>) -> Option<Link>
     ensures { result ≡ words.link_in found }
@@ -99,7 +97,6 @@ fn link_in(found: Option<Found>) -> Option<Link>
     }
 }
 
-// Its cas number.
 #[inline(always)]
 fn cas_in(found: Option<Found>) -> Option<u64>
     ensures { result ≡ words.cas_in found }
@@ -110,11 +107,11 @@ fn cas_in(found: Option<Found>) -> Option<u64>
     }
 }
 
-// What declines a storage command, by the cas number of the item that it finds.
+// The reply that declines a storage command, if any, by the cas number of its key's item.
 #[inline(always)]
 fn declines(verb: Verb, cas: Option<u64>) -> Option<PutAnswer>
     ensures value { result ≡ decline_of verb cas }
-    ensures idle { IfSome result (λ answer. words.added answer ≡ 0) }
+    ensures idle { IfSome result (λ answer. words.versions_added answer ≡ 0) }
 {
     match cas {
         None => match verb {
@@ -137,7 +134,7 @@ fn declines(verb: Verb, cas: Option<u64>) -> Option<PutAnswer>
     }
 }
 
-// What becomes of the item of a storage command that is given no chunk: a set lets it go.
+// What becomes of the old item if no chunk was found. A set removes it, so that nobody reads old bytes.
 #[inline(always)]
 fn let_go(verb: Verb, old: Option<Link>) -> Fate
     ensures { (key : List ℕ) (found : Option TheItem) → old ≡ link_of_item found → result ≡ fate_of key found (answers.let_go verb) }
@@ -153,7 +150,7 @@ fn let_go(verb: Verb, old: Option<Link>) -> Fate
     }
 }
 
-// What becomes of chunks by a storage command that stores, in the room that it is given.
+// What becomes of the key's chunks if nothing declines the command, by the room that it is given.
 #[inline(always)]
 fn fate_in(room: Room, verb: Verb, cost: u64, expiry: Expiry, old: Option<Link>) -> Fate
     requires { IsGiven room }
@@ -167,7 +164,7 @@ fn fate_in(room: Room, verb: Verb, cost: u64, expiry: Expiry, old: Option<Link>)
     }
 }
 
-// What a storage command is answered that stores, by its room.
+// The reply if nothing declines the command, by the room that it is given.
 #[inline(always)]
 fn answer_in(room: Room) -> PutAnswer
     ensures { result ≡ answer_of_room room }
@@ -178,7 +175,7 @@ fn answer_in(room: Room) -> PutAnswer
     }
 }
 
-// Decides a storage command by its verb, the item that it finds and the room that it is given.
+// Decides a storage command by its verb, the item that it finds and the room that it is given, or says what it wants.
 #[inline(always)]
 fn decide(
     verb: Verb,
@@ -210,7 +207,7 @@ fn decide(
     Ok(Put { answer, room, fate })
 }
 
-// A new version, where no item stands.
+// A new version for a key that has no item.
 #[inline(always)]
 fn new_item(site: &Site, versions: u64, content: &Content<'_>, link: Link) -> Result<Item, NoMemory>
     requires { cas_of site.now versions < 2 ^ 64 }
@@ -229,7 +226,7 @@ fn new_item(site: &Site, versions: u64, content: &Content<'_>, link: Link) -> Re
     })
 }
 
-/// A storage command, by one look-up, and one more where a set lets its item go.
+/// Makes a storage command. One look-up finds the item. Adding or removing an item takes another.
 #[inline(always)]
 pub(crate) fn put_item(
     alloc: Global,
@@ -287,7 +284,7 @@ pub(crate) fn put_item(
     Ok(Ok(put.made()))
 }
 
-// Whether an item goes.
+// Whether the key's item is removed.
 #[inline(always)]
 fn goes_by(fate: Fate) -> bool
     ensures { result ≡ goes fate }

@@ -1,4 +1,4 @@
-//! What a stripe's history is given of an event that it keeps, and shown of one that it lets go.
+//! How events reach a stripe's history: as copies if it keeps them, else by snapshots, which have no bytes.
 ghost use Rattle.std.specs.Prelude.{◌≡◌, ◌+◌, ◌<◌, ◌++◌, ◌∷◌, [], IfOk, Some, None, true, if◌then◌else◌};
 ghost use Rattle.mc_stripe.specs.Shown as words;
 ghost use Rattle.mc_stripe.specs.Shown.{did_of};
@@ -9,7 +9,7 @@ use mc_item::{Command, Did, NoMemory, Reply, Room, StripeEvent, Who};
 use std::alloc::Global;
 use std::snapshot::Snapshot;
 
-/// What a stripe's history is shown of an event that it lets go. Of a command nothing is copied.
+/// An event as it is shown to a history that doesn't keep it. Nothing of a command is copied.
 #[derive(Drop)]
 pub enum ShownStripe {
     Did {
@@ -28,7 +28,7 @@ impl Shows<StripeEvent> for ShownStripe {
     ghost event = { event_of };
 }
 
-/// A copy of a command, for an event that is kept.
+/// Returns a copy of a command for its event, if events are kept.
 #[inline(always)]
 pub(crate) fn copy_if(
     alloc: Global,
@@ -44,7 +44,7 @@ pub(crate) fn copy_if(
     }
 }
 
-// The event of a command that was answered, of the copies that were made for it.
+// The event of an answered command, made of its copies, if the reply was copied.
 #[inline(always)]
 fn did_if(turn: Turn, command: Command, reply: Option<Reply>, room: Room) -> Option<StripeEvent>
     ensures { result ≡ words.did_if turn.who command turn.moment reply room }
@@ -61,8 +61,8 @@ fn did_if(turn: Turn, command: Command, reply: Option<Reply>, room: Room) -> Opt
     }
 }
 
-/// A command that was answered is one event more, at the end. There is room for it. `copy` and `noted` are the command and
-/// its reply, where events are kept.
+/// Adds the event of an answered command at the end of a history that has room for it. If events are kept, `copy` and `noted` are
+/// the copies of command and reply.
 #[inline(always)]
 pub(crate) fn push_answer(
     history: &mut History<StripeEvent, ShownStripe>,
@@ -92,7 +92,7 @@ pub(crate) fn push_answer(
     }
 }
 
-/// An event is one more, at the end. There is room for it.
+/// Adds an event at the end of a history that has room for it.
 pub(crate) fn push_event(history: &mut History<StripeEvent, ShownStripe>, event: StripeEvent)
     requires room { 0 < history.old.room }
     ensures items { history.new.items ≡ history.old.items ++ event ∷ [] }

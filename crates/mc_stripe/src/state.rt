@@ -1,4 +1,4 @@
-//! The state of a stripe.
+//! The state of a stripe: its fields, how it is made, and how memory is reserved for its events.
 ghost use Rattle.std.specs.Prelude.{◌≡◌, ◌≤◌, ◌<◌, ◌+◌, [], OnOk, IsErrOf, IsTrue, MatchBool, ◌↔◌, length};
 ghost use Rattle.std.specs.Option.{option_copied};
 ghost use Rattle.mc_item.specs.{Config.IsBounded, Stripe.IsLegal};
@@ -14,9 +14,9 @@ use std::collections::HashMap;
 use std::hash::RandomState;
 use std::marker::Model;
 
-/// One stripe's items, under their keys, and its history. Contracts see what is fixed, the limit of events, whether
-/// they are kept in memory, the history, and how many more events need no memory. The map hashes with the seed that it was made with: no reply
-/// depends on it, and where it is drawn anew for each run, no list of colliding keys can be made beforehand.
+/// One stripe's items, under their keys, and its history. Contracts see its site (number, number of stripes, class sizes), its
+/// limit of events, whether it keeps them in memory, the history, and the room: how many more events take no memory. Keys are
+/// hashed with the seed that is handed in. No reply depends on the seed. If it is random, nobody can prepare keys that collide.
 #[derive(Drop)]
 pub struct StripeState {
     pub(crate) limit: u64,
@@ -39,7 +39,7 @@ impl Model for StripeState {
     ghost invariant = { λ s. IsKept s.site s.limit s.history.items s.versions (get (pointwise nat_eq) s.items) };
 }
 
-// Whether a history of this limit has no place left.
+// Whether the history has no place left under this limit.
 #[inline(always)]
 pub(crate) fn is_full(history: &History<StripeEvent, ShownStripe>, limit: u64) -> bool
     ensures { MatchBool result (limit ≤ length history.now.items) (length history.now.items < limit) }
@@ -48,8 +48,8 @@ pub(crate) fn is_full(history: &History<StripeEvent, ShownStripe>, limit: u64) -
 }
 
 impl StripeState {
-    /// The stripe of this number of a checked configuration, without items or events. It takes no memory. Keys are
-    /// hashed with the seed, on which no reply depends.
+    /// Makes the stripe with this number of a checked configuration, without items or events. Stripes are numbered from 0. It
+    /// takes no memory. Keys are hashed with the seed, on which no reply depends.
     pub fn new(alloc: Global, number: StripeNo, config: &Config, seed: RandomState) -> StripeState
         requires config { IsBounded config.now }
         requires number { number.0 < config.now.stripes }
@@ -72,28 +72,28 @@ impl StripeState {
         }
     }
 
-    /// The number of the stripe.
+    /// Returns the stripe's number.
     pub fn number(&self) -> StripeNo
         ensures { result.0 ≡ self.now.site.stripe }
     {
         StripeNo(self.site.stripe)
     }
 
-    /// Whether a key is of this stripe, as that of each command on it must be. It takes no memory.
+    /// Returns whether a key belongs to this stripe, as the key of each of its commands must. It takes no memory.
     pub fn owns(&self, key: &Key) -> bool
         ensures { IsTrue result ↔ (measure.stripe_of key.now self.now.site.stripes ≡ record { 0 = self.now.site.stripe }) }
     {
         stripe_of(key, self.site.stripes).0 == self.site.stripe
     }
 
-    /// The item of a key, dead or alive.
+    /// Returns the item under a key, dead or alive.
     pub fn find(&self, key: &Key) -> Option<&Item>
         ensures { option_copied result ≡ (cache_now self.now).items key.now }
     {
         self.items.get(key)
     }
 
-    /// All that happened, oldest first, as it lies in memory.
+    /// Returns the stripe's history: its events, oldest first. It is legal, and has at most `limit` events.
     pub fn history(&self) -> &History<StripeEvent, ShownStripe>
         ensures value { result.now.items ≡ self.now.history }
         ensures kept { result.now.kept ≡ self.now.keeps_events }
@@ -104,8 +104,9 @@ impl StripeState {
         &self.history
     }
 
-    /// Makes room for n more events, of which each call that takes no memory then needs one. `HistoryFull` is answered where
-    /// the history has fewer than n places left, `NoMemory` where a growth was refused.
+    /// Reserves memory for n more events. Each event uses at most one of this room, and `forget_expired`, `forget_taken` and
+    /// `cool` take no other memory. Only the room changes, and it doesn't shrink. Errors: `HistoryFull` exactly if the history
+    /// has fewer than n places left, `NoMemory` if the allocator refuses.
     #[inline(always)]
     pub fn reserve(&mut self, n: usize) -> Result<(), Fault>
         ensures ok { OnOk result (n ≤ self.new.room) }

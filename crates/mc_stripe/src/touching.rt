@@ -1,4 +1,4 @@
-//! A touch, from look-up to answer.
+//! The `touch` command.
 ghost use Rattle.std.specs.Prelude.{◌≡◌, IfOk, IfErr, nat_eq, true};
 ghost use Rattle.std.specs.{Cmp.Lexicographic.pointwise, HashMap.get, HashMap.spare};
 ghost use Rattle.mc_item.specs.Answer.{touch_row};
@@ -11,7 +11,7 @@ use mc_item::{Expiry, Item, Key, Reply, Room};
 use std::collections::HashMap;
 use std::hash::RandomState;
 
-/// A touch, by one look-up. One that wakes its item wants the item's class.
+/// Makes a touch, with one look-up. A hit that wakes its item wants the item's class.
 #[inline(always)]
 pub(crate) fn touch_item(
     items: &mut HashMap<Key, Item, RandomState>,

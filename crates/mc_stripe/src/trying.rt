@@ -1,4 +1,4 @@
-//! What a try of a command did.
+//! What a try of a command is handed, and what it returns.
 ghost use Rattle.std.specs.Prelude.{◌≡◌, Some};
 ghost use Rattle.mc_item.specs.declared.reply.Room.TheVariants as rooms;
 ghost use Rattle.mc_stripe.specs.declared.fate.Fate.TheVariants as fates;
@@ -6,14 +6,14 @@ ghost use Rattle.mc_stripe.specs.declared.fate.Fate.TheVariants as fates;
 use crate::fate::Fate;
 use mc_item::{Reply, Room, Who};
 
-/// A caller's turn: who has it, and the moment that it was handed.
+/// A caller's turn: the caller with the number of its call, and the moment, which is the time of the call in seconds.
 #[derive(Clone, Copy, Debug, PartialEq, Eq)]
 pub struct Turn {
     pub who: Who,
     pub moment: u64,
 }
 
-/// What a command did: its reply, the room that it took, and what became of the chunks of its key.
+/// What a command did: its reply, the room that it took, and what became of its key's chunks.
 #[derive(Drop)]
 pub struct Done {
     pub reply: Reply,
@@ -21,8 +21,7 @@ pub struct Done {
     pub fate: Fate,
 }
 
-/// What a command made of its key's item: what it did, its reply once more for an event that is kept, and how many versions it
-/// added.
+/// A command that was made: what it did, a copy of its reply for an event that is kept, and how many versions it added.
 #[derive(Drop)]
 pub(crate) struct Made {
     pub(crate) done: Done,
@@ -30,7 +29,7 @@ pub(crate) struct Made {
     pub(crate) added: u64,
 }
 
-/// What a command of this reply made, whose copy is `noted`.
+/// Returns a made command of these parts. `noted` is a copy of the reply.
 #[inline(always)]
 pub(crate) fn made_with(reply: Reply, noted: Reply, room: Room, fate: Fate, added: u64) -> Made
     ensures { result ≡ record { done = record { reply = reply; room = room; fate = fate }; noted = Some noted; added = added } }
@@ -42,7 +41,7 @@ pub(crate) fn made_with(reply: Reply, noted: Reply, room: Room, fate: Fate, adde
     }
 }
 
-/// What a command of this reply made that touches no chunk.
+/// Returns a made command that takes no room and touches no chunk. `noted` is a copy of the reply.
 #[inline(always)]
 pub(crate) fn untouched(reply: Reply, noted: Reply, added: u64) -> Made
     ensures { result ≡ record { done = record { reply = reply; room = rooms.Keep; fate = fates.Untouched }; noted = Some noted; added = added } }

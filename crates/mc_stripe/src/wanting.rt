@@ -1,4 +1,4 @@
-//! What a command may use, and what it wants before it can be made.
+//! What a command is given, and what it wants if that isn't enough.
 ghost use Rattle.std.specs.Prelude.{◌≡◌, ◌<◌, Some, None, false, true, IfOk, IfErr, IfSome, IfNone, OnOk};
 ghost use Rattle.mc_item.specs.Stripe as words;
 ghost use Rattle.mc_item.specs.declared.answer.Need.TheVariants as needs;
@@ -9,8 +9,8 @@ ghost use Rattle.mc_stripe.specs.declared.wanting.Want.TheVariants as wants;
 use crate::fate::Fate;
 use mc_item::{ClassNo, Link, Room};
 
-/// The class of a command's new version, which it holds: the room that it gives, `Keep` where it is full and no chunk was looked
-/// for, and how many events more its history takes.
+/// The class of a command's new version, which the caller has locked. Its room is a link to a free chunk, a refusal after a
+/// search, or `Keep` if it is full and no chunk was looked for. Its history takes `places` more events.
 #[derive(Clone, Copy, Debug, PartialEq, Eq)]
 pub struct Home {
     pub class: ClassNo,
@@ -18,41 +18,41 @@ pub struct Home {
     pub places: u64,
 }
 
-/// The class of a command's item, which it holds, and how many events more its history takes.
+/// The class of the key's old item, which the caller has locked. Its history takes `places` more events.
 #[derive(Clone, Copy, Debug, PartialEq, Eq)]
 pub struct Other {
     pub class: ClassNo,
     pub places: u64,
 }
 
-/// What a command holds.
+/// The classes that a command is given, or holds: its caller has locked them.
 #[derive(Clone, Copy, Debug, PartialEq, Eq)]
 pub struct Given {
     pub home: Option<Home>,
     pub other: Option<Other>,
 }
 
-/// The classes that a command wants: that of its new version, and that of its key's item, where it is another.
+/// The classes that a command wants: that of its new version, and that of its key's old item if it is another one.
 #[derive(Clone, Copy, Debug, PartialEq, Eq)]
 pub struct Classes {
     pub home: Option<ClassNo>,
     pub other: Option<ClassNo>,
 }
 
-/// What a command wants before it can be made.
+/// What a command wants before it can be made. The caller provides it and tries again.
 #[derive(Clone, Copy, Debug, PartialEq, Eq)]
 pub enum Want {
-    /// Its key's item, which is dead, has to go first.
+    /// The removal of its key's item, which is dead and has this link.
     Burial(Link),
-    /// These classes have to be locked.
+    /// The locks of these classes.
     Classes(Classes),
-    /// A chunk has to be looked for in the class of its new version, which is full.
+    /// A chunk of its new version's class, which is full: the caller looks for one.
     Room,
-    /// The history of a class that it holds has no place for its events.
+    /// A place in the history of this held class, which lacks places for the entries that come and leave.
     Place(ClassNo),
 }
 
-// Whether a class that is wanted is the one that is held.
+// Whether the wanted class, if any, is the one that is held.
 #[inline(always)]
 fn holds(held: Option<ClassNo>, wanted: Option<ClassNo>) -> bool
     ensures yes { result ≡ true → Holds held wanted }
@@ -67,7 +67,7 @@ fn holds(held: Option<ClassNo>, wanted: Option<ClassNo>) -> bool
     }
 }
 
-// The class of a link, where it is another than this.
+// The class of a link, if it is another one than this.
 #[inline(always)]
 fn beside(class: ClassNo, old: Option<Link>) -> Option<ClassNo>
     ensures { result ≡ class_beside class old }
@@ -84,7 +84,7 @@ fn beside(class: ClassNo, old: Option<Link>) -> Option<ClassNo>
     }
 }
 
-// How many links of a class this is.
+// 1 if there is a link and it is of this class, else 0.
 #[inline(always)]
 fn links_at(class: ClassNo, link: Option<Link>) -> u64
     ensures count { result ≡ wanted.links_at class link }
@@ -96,7 +96,6 @@ fn links_at(class: ClassNo, link: Option<Link>) -> u64
     }
 }
 
-// The link that a room is.
 #[inline(always)]
 fn link_of(room: Room) -> Option<Link>
     ensures { result ≡ words.link_of room }
@@ -107,7 +106,7 @@ fn link_of(room: Room) -> Option<Link>
     }
 }
 
-// How many entries come into a class and leave it.
+// How many entries come into a class and leave it, together.
 #[inline(always)]
 fn changes_at(class: ClassNo, room: Room, fate: Fate) -> u64
     ensures { result ≡ wanted.changes_at class room fate }
@@ -120,7 +119,7 @@ fn changes_at(class: ClassNo, room: Room, fate: Fate) -> u64
 }
 
 impl Given {
-    // The class of a new version, where it is held.
+    // The class of the new version, if it is held.
     #[inline(always)]
     fn home_class(&self) -> Option<ClassNo>
         ensures { result ≡ wanted.home_class self.now }
@@ -131,7 +130,7 @@ impl Given {
         }
     }
 
-    // The class of an item, where it is held.
+    // The class of the key's old item, if it is held.
     #[inline(always)]
     fn other_class(&self) -> Option<ClassNo>
         ensures { result ≡ wanted.other_class self.now }
@@ -142,7 +141,8 @@ impl Given {
         }
     }
 
-    // The room that the class of a new version gives, where all that are wanted are held.
+    // The room that the class of the new version gives, if all wanted
+    // classes are held. Otherwise, or if it is `Keep`, what is wanted.
     #[inline(always)]
     pub(crate) fn room(&self, fresh: ClassNo, old: Option<Link>) -> Result<Room, Want>
         ensures covers { OnOk result (Covers self.now (record { home = Some fresh; other = class_beside fresh old })) }
@@ -166,7 +166,7 @@ impl Given {
         }
     }
 
-    // The class of an item that goes or is woken is wanted, where it isn't held.
+    // Checks that the class of an item is held, since the item is to be removed or woken. If not, that class is wanted.
     #[inline(always)]
     pub(crate) fn item(&self, link: Link) -> Result<(), Want>
         ensures covers { OnOk result (Covers self.now (record { home = None; other = Some link.class })) }
@@ -181,7 +181,7 @@ impl Given {
         }
     }
 
-    // The class whose history has no place for what becomes of chunks.
+    // The held class, if any, whose history lacks places for the entries that come and leave.
     #[inline(always)]
     pub(crate) fn crowded(&self, room: Room, fate: Fate) -> Option<ClassNo>
         ensures places { IfNone result (HasPlacesFor self.now room fate) }

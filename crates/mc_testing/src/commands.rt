@@ -1,15 +1,15 @@
-//! Commands of keys of one letter. A thread can't hand out a test's failure, so for threads there are calls that answer a
-//! fault.
+//! Commands on keys of one letter. A thread can't return a test's
+//! `Fail`, so for threads there are `try_` calls that return a fault.
 use mc_item::{Command, Key, KeyFault, Value, Verb};
 use std::alloc::Global;
 use std::test::Fail;
 
-/// The key of one letter, for threads.
+/// Makes the key of one letter, for use in threads.
 pub fn try_key(alloc: Global, letter: u8) -> Result<Key, KeyFault> {
     Key::of(alloc, &[letter])
 }
 
-/// A storage command for the key of one letter, with a text for its value, for threads.
+/// Makes a storage command for the key of one letter, with this text as its value, for use in threads.
 pub fn try_storage(
     alloc: Global,
     verb: Verb,
@@ -32,12 +32,12 @@ pub fn try_storage(
     })
 }
 
-/// The key of one letter.
+/// Makes the key of one letter.
 pub fn key(alloc: Global, letter: u8) -> Result<Key, Fail> {
     Ok(try_key(alloc, letter)?)
 }
 
-/// A storage command for the key of one letter, with a text for its value.
+/// Makes a storage command for the key of one letter, with this text as its value.
 pub fn storage(
     alloc: Global,
     verb: Verb,

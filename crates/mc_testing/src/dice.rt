@@ -1,19 +1,19 @@
-//! Dice for tests that draw: a seed always draws the same numbers.
+//! Random numbers for tests: the same seed always draws the same numbers.
 ghost use Rattle.std.specs.Prelude.{◌<◌};
 
-/// A linear congruential generator, by the multiplier and the increment of Knuth's MMIX.
+/// A linear congruential generator of 64 bits. Draws use its upper 31 bits.
 #[derive(Drop)]
 pub struct Dice {
     state: u64,
 }
 
 impl Dice {
-    /// Dice of a seed.
+    /// Makes dice that start at this seed.
     pub fn new(seed: u64) -> Dice {
         Dice { state: seed }
     }
 
-    /// A number below another one.
+    /// Draws a number below `many`, which is at least 1.
     pub fn below(&mut self, many: u64) -> u64
         requires { 0 < many }
         ensures { result < many }

@@ -1,4 +1,4 @@
-//! Commands that are drawn one after another: the same ones for the same seed and the same replies.
+//! Draws commands one after another: the same ones for the same seed and the same replies.
 use crate::commands::{try_key, try_storage};
 use crate::dice::Dice;
 use mc_item::{Command, KeyFault, Reply, Verb};
@@ -7,23 +7,23 @@ use std::alloc::Global;
 // No command has a later moment.
 const LAST_MOMENT: u32 = 100_000;
 
-// What a storage command stores, or the start of the last one.
+// Numbers that a storage command stores. Other values are the first bytes of `LONGEST`.
 static TEXTS: [&[u8]; 4] = [b"18446744073709551615", b"0000", b"9", b"107"];
 
 static LONGEST: [u8; 59] = [b'x'; 59];
 
-/// Draws commands on keys of one letter, at moments that go on slowly.
+/// Draws commands on keys of one letter, at moments (times in seconds) that advance slowly.
 #[derive(Drop)]
 pub struct Drawing {
     dice: Dice,
     moment: u32,
-    // The cas number that was shown last, and of which key.
+    // The cas number that a reply showed last, and the letter of its key.
     letter: u8,
     cas: u64,
 }
 
 impl Drawing {
-    /// What is drawn by this seed. The first moment is 1000 or 1001.
+    /// Starts to draw at this seed. The first moment is 1000 or 1001.
     pub fn new(seed: u64) -> Drawing {
         Drawing {
             dice: Dice::new(seed),
@@ -33,7 +33,7 @@ impl Drawing {
         }
     }
 
-    /// The moment of the next command: that of the last one, or a second later.
+    /// Draws the moment of the next command: that of the last one, or a second later.
     pub fn moment(&mut self) -> u32 {
         let passed = self.dice.below(2) as u32;
         self.moment = u32::min(self.moment.wrapping_add(passed), LAST_MOMENT);
@@ -46,7 +46,7 @@ impl Drawing {
         b'a' + self.dice.below(many) as u8
     }
 
-    // An exptime: none, some seconds, at once, or a moment far from now.
+    // An exptime: never, some seconds, at once, or a time far ahead.
     fn exptime(&mut self) -> i64 {
         match self.dice.below(16) {
             0 => -1,
@@ -56,7 +56,7 @@ impl Drawing {
         }
     }
 
-    // How much is added or taken.
+    // The amount of an incr or decr.
     fn delta(&mut self) -> u64 {
         match self.dice.below(4) {
             0 => u64::MAX,
@@ -64,7 +64,7 @@ impl Drawing {
         }
     }
 
-    // The largest number, a number that fills its width, two others, or a text of up to 59 bytes.
+    // One of the numbers, or a text of up to 59 bytes.
     fn text(&mut self) -> &'static [u8] {
         let which = self.dice.below(6) as usize;
         match TEXTS.as_slice().get(which) {
@@ -76,8 +76,7 @@ impl Drawing {
         }
     }
 
-    // The verb of a storage command, and its key: a cas has the number that was shown last, mostly of the key of which it
-    // was shown.
+    // The verb of a storage command, and the letter of its key. A cas has the number that was shown last, mostly with its key.
     fn verb(&mut self) -> (Verb, u8) {
         let letter = self.letter();
         match self.dice.below(8) {
@@ -97,7 +96,7 @@ impl Drawing {
         try_storage(alloc, verb, letter, flags, exptime, text)
     }
 
-    // The verb of a storage command whose block was too large for any class.
+    // The verb of a storage command whose block is too large for any class.
     fn huge_verb(&mut self) -> Verb {
         match self.dice.below(3) {
             0 => Verb::Set,
@@ -106,7 +105,7 @@ impl Drawing {
         }
     }
 
-    // A command on a key other than the most frequent ones, storage and get.
+    // A command of any other kind, by `which`: half of them are gets.
     fn other(&mut self, alloc: Global, letter: u8, which: u64) -> Result<Command, KeyFault> {
         let key = try_key(alloc, letter)?;
         Ok(match which {
@@ -122,7 +121,7 @@ impl Drawing {
         })
     }
 
-    /// A command.
+    /// Draws the next command.
     pub fn command(&mut self, alloc: Global) -> Result<Command, KeyFault> {
         let letter = self.letter();
         let which = self.dice.below(20);
@@ -133,7 +132,7 @@ impl Drawing {
         }
     }
 
-    /// Notes the cas number that a reply shows.
+    /// Notes the cas number that a reply shows, for a later cas.
     pub fn note(&mut self, command: &Command, reply: &Reply) {
         if let Reply::Value { cas, .. } = reply {
             if let Some(letter) = command.key().bytes().first() {

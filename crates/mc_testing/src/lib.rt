@@ -1,6 +1,5 @@
-//! What tests share: a store of one stripe and one class, links and rooms, commands, dice and what is drawn by them, and a
-//! plain memcached. No call here asserts: the gate lets tests alone end the process, so each answers what the test then
-//! compares.
+//! What tests share: a store of one stripe and one class, commands, random draws, and a plain memcached to compare with. No call
+//! here asserts, since only a test may end the process. Each returns what the test then compares.
 #![tactic(auto)]
 
 mod commands;

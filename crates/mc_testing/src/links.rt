@@ -1,5 +1,4 @@
-//! Which room a try may be given, and whether its key's item is dead: what the calls of a stripe require, as tests that a
-//! caller can make.
+//! Checks at run time what the calls of a stripe require: which room a try may be given, and whether an item is dead.
 ghost use Rattle.std.specs.Prelude.{◌≡◌, ◌≢◌, MatchBool, Some, true, false};
 ghost use Rattle.mc_item.specs.Stripe.{Fits, IsAlive, IsDead, IsUnnamed, link_named};
 ghost use Rattle.mc_item.specs.declared.answer.Need.TheVariants as needs;
@@ -27,7 +26,7 @@ fn gives(event: &StripeEvent, link: Link) -> bool
     }
 }
 
-// Whether no event gives the link.
+// Whether no event gives the link. False also if the events aren't kept in memory.
 fn is_unnamed(events: &Events, link: Link) -> bool
     ensures { result ≡ true → IsUnnamed link events.now.items }
 {
@@ -42,7 +41,7 @@ fn is_unnamed(events: &Events, link: Link) -> bool
     true
 }
 
-// Whether a class may lend its room: the link is of the class, and no event gives it; or the class refused it.
+// Whether a class may give its room: a link of the class that no event gives, a refusal of the class, or nothing.
 fn lends(home: Home, events: &Events) -> bool
     ensures { result ≡ true → IsGiven home.room → Fits (needs.Fresh home.class) home.room events.now.items }
 {
@@ -53,7 +52,7 @@ fn lends(home: Home, events: &Events) -> bool
     }
 }
 
-/// Whether the room that a try is given may be lent on a stripe of these events.
+/// Returns whether a try on a stripe with these events may be given this room.
 pub fn may_give(given: Given, events: &Events) -> bool
     ensures { result ≡ true → (class : TheClass) (room : TheRoom) → IsTaken given (needs.Fresh class) room → Fits (needs.Fresh class) room events.now.items }
 {
@@ -63,7 +62,7 @@ pub fn may_give(given: Given, events: &Events) -> bool
     }
 }
 
-/// Whether the key's item is dead at a moment.
+/// Returns whether the key has an item that is dead at the moment.
 pub fn is_dead(stripe: &StripeState, key: &Key, moment: u64) -> bool
     ensures { MatchBool result (IsDead ((cache_now stripe.now).items key.now) moment) (IsAlive ((cache_now stripe.now).items key.now) moment) }
 {

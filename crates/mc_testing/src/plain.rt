@@ -1,12 +1,12 @@
-//! A plain memcached of one stripe, by protocol.txt: a list of items, which takes one event after another and says of each
-//! whether it may happen.
+//! A plain memcached of one stripe, after protocol.txt, to compare with the real one. It is a list of items that answers
+//! commands, and says whether an item may be lost.
 use mc_item::{Cause, Command, NoMemory, Reply, Value, Verb};
 use std::alloc::Global;
 
-// The bytes that the largest chunk has for a key and its value: 120, less 64 for the item's head.
+// The most bytes that a key and its value may have: the largest chunk has 120, and 64 are for the item's head.
 const LARGEST: usize = 56;
 
-// An item: it dies at its end, where it has one.
+// An item, which dies at its end, if it has one.
 #[derive(Drop)]
 struct Kept {
     key: Vec<u8>,
@@ -16,7 +16,7 @@ struct Kept {
     cas: u64,
 }
 
-/// The items of one stripe of so many, and how many versions of items there were.
+/// One of several stripes: its items, and how many versions of items it has had.
 #[derive(Drop)]
 pub struct Plain {
     alloc: Global,
@@ -26,7 +26,7 @@ pub struct Plain {
     items: Vec<Kept>,
 }
 
-// Whether an item is dead at a moment.
+// Whether an item with this end is dead at a moment.
 fn is_dead(end: Option<u64>, moment: u64) -> bool {
     match end {
         None => false,
@@ -34,8 +34,8 @@ fn is_dead(end: Option<u64>, moment: u64) -> bool {
     }
 }
 
-// When an item of an exptime ends ("Expiration times"): never, at once, so many seconds from now where they are at most
-// those of 30 days, or at that moment.
+// When an item with this exptime dies (protocol.txt, "Expiration times"): 0 is never, a negative number at once, up to 30 days
+// are seconds from now, and more is a time itself.
 fn end_of(exptime: i64, moment: u64) -> Option<u64> {
     if exptime < 0 {
         return Some(0);
@@ -47,7 +47,7 @@ fn end_of(exptime: i64, moment: u64) -> Option<u64> {
     }
 }
 
-// The number of 64 bits that digits are.
+// The number that these bytes are, if all are digits and it is below 2^64.
 fn number_of(digits: &[u8]) -> Option<u64> {
     let mut number = 0u64;
     for digit in digits {
@@ -59,7 +59,7 @@ fn number_of(digits: &[u8]) -> Option<u64> {
     Some(number)
 }
 
-// The number of 64 bits that a value is, where it is one: digits, and then spaces.
+// The number that a value is, if it is one below 2^64: digits, then spaces.
 fn number_in(value: &[u8]) -> Option<u64> {
     let mut many = value.len();
     for place in 0..value.len() {
@@ -76,7 +76,7 @@ fn number_in(value: &[u8]) -> Option<u64> {
     number_of(value.get(..many)?)
 }
 
-// The digits of a number, and spaces up to this length.
+// The digits of a number, then spaces up to this length.
 fn numeral(alloc: Global, number: u64, len: usize) -> Result<Vec<u8>, NoMemory> {
     let mut text = number.to_string(alloc)?.into_bytes();
     for _ in text.len()..len {
@@ -85,7 +85,7 @@ fn numeral(alloc: Global, number: u64, len: usize) -> Result<Vec<u8>, NoMemory> 
     Ok(text)
 }
 
-// The number after an addition, which wraps, or a subtraction, which stops at 0.
+// The number after an incr, which wraps at 2^64, or a decr, which stops at 0.
 fn counted(old: u64, up: bool, delta: u64) -> u64 {
     if up {
         old.wrapping_add(delta)
@@ -99,7 +99,7 @@ fn is_too_large(key: &[u8], len: usize) -> bool {
     key.len().saturating_add(len) > LARGEST
 }
 
-// What a storage command is answered whose condition isn't met, where the key's item has this cas number.
+// The reply if a storage command's condition isn't met, by the cas number of the key's item.
 fn unmet(verb: Verb, cas: Option<u64>) -> Option<Reply> {
     match (verb, cas) {
         (Verb::Set, _) => None,
@@ -119,7 +119,7 @@ fn unmet(verb: Verb, cas: Option<u64>) -> Option<Reply> {
 }
 
 impl Kept {
-    // An item of copied bytes.
+    // An item with copies of key and value.
     fn of(alloc: Global, key: &[u8], value: &[u8]) -> Result<Kept, NoMemory> {
         let key = Vec::from_slice(alloc, key)?;
         let value = Vec::from_slice(alloc, value)?;
@@ -132,7 +132,7 @@ impl Kept {
         })
     }
 
-    // "Retrieval command".
+    // The reply that shows the item (protocol.txt, "Retrieval command").
     fn shown(&self, alloc: Global) -> Result<Reply, NoMemory> {
         let bytes = Vec::from_slice(alloc, self.value.as_slice())?;
         let value = Value::of(alloc, bytes)?;
@@ -145,7 +145,7 @@ impl Kept {
 }
 
 impl Plain {
-    /// A stripe of so many, without items.
+    /// Makes the stripe with this number, of this many stripes, without items.
     pub fn new(alloc: Global, stripe: u32, stripes: u32) -> Plain {
         Plain {
             alloc,
@@ -156,12 +156,11 @@ impl Plain {
         }
     }
 
-    // The item of a key.
     fn find(&self, key: &[u8]) -> Option<&Kept> {
         self.items.iter().find(|kept| kept.key.as_slice() == key)
     }
 
-    // Takes out the item of a key.
+    // Removes the item under a key, and returns it.
     fn take(&mut self, key: &[u8]) -> Option<Kept> {
         let place = self
             .items
@@ -170,7 +169,7 @@ impl Plain {
         Some(self.items.remove(place))
     }
 
-    // The cas number of the next version. The n-th of stripe s of S has the number n * S + s + 1.
+    // Counts a version and returns its cas number: version n, from 0, of stripe s of S has n * S + s + 1.
     fn next_cas(&mut self) -> u64 {
         let cas = self
             .versions
@@ -181,7 +180,7 @@ impl Plain {
         cas
     }
 
-    // A new version of a key's item.
+    // Stores a new version of a key's item.
     fn put(
         &mut self,
         key: &[u8],
@@ -208,7 +207,7 @@ impl Plain {
         }
     }
 
-    // What is answered instead of storing: an item that a set would have replaced goes, so that nobody reads old bytes.
+    // Returns the reply of a storage command that fails. A set also removes the old item, so that nobody reads old bytes.
     fn failed(&mut self, verb: Verb, key: &[u8], reply: Reply) -> Reply {
         if verb == Verb::Set {
             let _old = self.take(key);
@@ -216,12 +215,11 @@ impl Plain {
         reply
     }
 
-    // The cas number of a key's item.
     fn cas_of(&self, key: &[u8]) -> Option<u64> {
         Some(self.find(key)?.cas)
     }
 
-    // "Storage commands": what is answered instead of storing so many bytes, if anything.
+    // The reply if this many bytes can't be stored (protocol.txt, "Storage commands").
     fn hindered(&mut self, verb: Verb, key: &[u8], len: usize, refused: bool) -> Option<Reply> {
         if is_too_large(key, len) {
             return Some(self.failed(verb, key, Reply::TooLarge));
@@ -249,7 +247,7 @@ impl Plain {
         Ok(Reply::Stored)
     }
 
-    // "Increment/Decrement": where the number isn't longer than the old value, spaces fill the rest.
+    // An incr or decr (protocol.txt, "Increment/Decrement"). If the number is shorter than the old value, spaces fill the rest.
     fn count(
         &mut self,
         key: &[u8],
@@ -270,7 +268,7 @@ impl Plain {
         self.recount(key, number, len, flags, end, refused)
     }
 
-    // Stores a number in place of a value of this length.
+    // Stores a number in place of a value of this length, if it isn't longer or a chunk is found.
     fn recount(
         &mut self,
         key: &[u8],
@@ -288,7 +286,7 @@ impl Plain {
         Ok(Reply::Number(number))
     }
 
-    // "Touch".
+    // A touch (protocol.txt, "Touch").
     fn touch(&mut self, key: &[u8], end: Option<u64>) -> Reply {
         for kept in self.items.as_mut_slice() {
             if kept.key.as_slice() == key {
@@ -299,7 +297,7 @@ impl Plain {
         Reply::NotFound
     }
 
-    // "Deletion".
+    // A delete (protocol.txt, "Deletion").
     fn delete(&mut self, key: &[u8]) -> Reply {
         match self.take(key) {
             None => Reply::NotFound,
@@ -307,7 +305,7 @@ impl Plain {
         }
     }
 
-    // Whether a key's item is dead at a moment.
+    // Whether the key has an item that is dead at the moment.
     fn is_over(&self, key: &[u8], moment: u64) -> bool {
         match self.find(key) {
             None => false,
@@ -315,7 +313,7 @@ impl Plain {
         }
     }
 
-    /// What a command is answered at a moment, and where it needs a chunk, whether none was to be had.
+    /// Returns the reply to a command at a moment. `refused` says that no chunk is found if the command needs one.
     pub fn answer(
         &mut self,
         command: &Command,
@@ -346,7 +344,7 @@ impl Plain {
         }
     }
 
-    /// An item goes: whether it was there, and dead where that is the cause.
+    /// Removes an item for a cause. Returns whether the item was there, and dead if that is the cause.
     pub fn lose(&mut self, key: &[u8], cause: Cause) -> bool {
         match (self.take(key), cause) {
             (None, _) => false,
@@ -355,7 +353,7 @@ impl Plain {
         }
     }
 
-    /// Whether there is an item of a key, dead or alive.
+    /// Returns whether a key has an item, dead or alive.
     pub fn has(&self, key: &[u8]) -> bool {
         self.find(key).is_some()
     }

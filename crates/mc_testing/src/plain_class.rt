@@ -1,21 +1,21 @@
-//! A plain slab class, by new_lru.txt: entries in the order in which they came to their segments, which take one event after
-//! another and say what is wrong with it, where something is.
+//! A plain slab class, after new_lru.txt, to compare with the real one.
+//! It takes one event after another, and says what is wrong with it.
 use mc_history::History;
 use mc_item::{ClassEvent, Entry, Evicted, Linked, Seg, Shifted, Surveyed, Who, Why};
 use mc_segment::{ClassState, ShownClass};
 use std::alloc::Global;
 
-// How many entries may stand nearer the tail than one that is judged.
+// How many entries may be nearer to the tail than one that is moved or evicted.
 const MOST_PASSED: usize = 4;
 
 static SEGS: [Seg; 4] = [Seg::Hot, Seg::Warm, Seg::Cold, Seg::Temp];
 
 type Events = History<ClassEvent, ShownClass>;
 
-/// Nothing, or what is wrong.
+/// `Ok`, or what is wrong.
 pub type Checked = Result<(), &'static str>;
 
-// An entry.
+// An entry, with its segment.
 #[derive(Drop)]
 struct Kept {
     number: u64,
@@ -25,7 +25,7 @@ struct Kept {
     time: u64,
 }
 
-/// The entries of a class of so many chunks, of each segment the oldest first, and the number of the next one.
+/// A class: how many chunks it has, the number of its next entry, and its entries, the oldest of each segment first.
 #[derive(Drop)]
 pub struct PlainClass {
     alloc: Global,
@@ -34,7 +34,6 @@ pub struct PlainClass {
     entries: Vec<Kept>,
 }
 
-// What is wrong where something doesn't hold.
 fn holds(is_so: bool, wrong: &'static str) -> Checked {
     if is_so { Ok(()) } else { Err(wrong) }
 }
@@ -47,7 +46,7 @@ fn is_survey(history: &Events, place: u64, who: Who, moment: u64) -> bool {
     }
 }
 
-// The segment to which a move of this reason goes.
+// The segment to which a move for this reason leads.
 fn goal_of(why: Why) -> Seg {
     match why {
         Why::Hit | Why::Active => Seg::Warm,
@@ -55,7 +54,7 @@ fn goal_of(why: Why) -> Seg {
     }
 }
 
-// Whether a move of this reason may come from a segment.
+// Whether a move for this reason may start in a segment.
 fn may_leave(why: Why, seg: Seg) -> bool {
     match why {
         Why::Hit => seg == Seg::Cold,
@@ -66,7 +65,7 @@ fn may_leave(why: Why, seg: Seg) -> bool {
 }
 
 impl Kept {
-    // Whether a class's entry is this one.
+    // Whether an entry of the real class equals this one.
     fn is(&self, entry: &Entry) -> bool {
         entry.number == self.number
             && entry.cost == self.cost
@@ -76,7 +75,7 @@ impl Kept {
 }
 
 impl PlainClass {
-    /// A class of so many chunks, without entries.
+    /// Makes a class of this many chunks, without entries.
     pub fn new(alloc: Global, chunks: u64) -> PlainClass {
         PlainClass {
             alloc,
@@ -100,7 +99,7 @@ impl PlainClass {
         None
     }
 
-    // Whether the entry at a place of a segment has a number.
+    // Whether the entry at a place of a segment, counted from its tail, has this number.
     fn is_at(&self, seg: Seg, place: usize, number: u64) -> bool {
         match self.from_tail(seg, place) {
             Some(kept) => kept.number == number,
@@ -108,7 +107,6 @@ impl PlainClass {
         }
     }
 
-    // How many entries a segment has.
     fn len(&self, seg: Seg) -> u64 {
         let mut many = 0u64;
         for kept in &self.entries {
@@ -124,7 +122,7 @@ impl PlainClass {
         self.entries.len() as u64 == self.chunks
     }
 
-    // Takes out the entry of a number.
+    // Removes the entry with this number, and returns it.
     fn take(&mut self, number: u64) -> Option<Kept> {
         let place = self.entries.iter().position(|kept| kept.number == number)?;
         Some(self.entries.remove(place))
@@ -134,12 +132,12 @@ impl PlainClass {
         holds(self.take(number).is_some(), "no entry of the number")
     }
 
-    // Adds an entry, at its segment's head.
+    // Adds an entry at its segment's head.
     fn add(&mut self, kept: Kept) -> Checked {
         holds(self.entries.push(kept).is_ok(), "no memory")
     }
 
-    // Whether these numbers are just those between an entry and its segment's tail, and not too many.
+    // Whether exactly these numbers are between an entry and its segment's tail, and not too many.
     fn is_near_tail(&self, seg: Seg, number: u64, passed: &[u64]) -> bool {
         for place in 0..passed.len() {
             if !self.is_at(seg, place, passed[place]) {
@@ -149,13 +147,13 @@ impl PlainClass {
         passed.len() <= MOST_PASSED && self.is_at(seg, passed.len(), number)
     }
 
-    // What is wrong with a new entry: it needs a chunk, and has the next number.
+    // Checks that a new entry has a free chunk and the next number.
     fn check_new(&self, linked: &Linked) -> Checked {
         holds(!self.is_full(), "a new entry without a chunk")?;
         holds(linked.number == self.next, "not the next number")
     }
 
-    // A new entry at its segment's head.
+    // Adds a new entry at its segment's head.
     fn link(&mut self, linked: &Linked) -> Checked {
         self.check_new(linked)?;
         self.next = self.next.wrapping_add(1);
@@ -171,7 +169,7 @@ impl PlainClass {
         }
     }
 
-    // Whether a move has the ground that its reason asks for.
+    // Whether a move has the ground that its reason needs: a survey of the same call, or a full class.
     fn has_ground(&self, shifted: &Shifted, history: &Events) -> bool {
         match shifted.why {
             Why::Hit | Why::Active => true,
@@ -182,7 +180,7 @@ impl PlainClass {
         }
     }
 
-    // Whether an entry is where a move says: of a hit in its segment, of another one near its tail.
+    // Whether an entry is where a move says: for a hit anywhere in its segment, else near its segment's tail.
     fn is_there(&self, shifted: &Shifted) -> bool {
         let passed = shifted.passed.as_slice();
         if shifted.why != Why::Hit {
@@ -196,7 +194,7 @@ impl PlainClass {
         false
     }
 
-    // What is wrong with a move's segments, its neighbours and its ground.
+    // What is wrong with a move's segments, its ground and its entry.
     fn check_move(&self, shifted: &Shifted, history: &Events) -> Checked {
         holds(shifted.to_seg == goal_of(shifted.why), "a move elsewhere")?;
         holds(
@@ -210,7 +208,7 @@ impl PlainClass {
         holds(self.is_there(shifted), "a move of another entry")
     }
 
-    // An entry goes to another segment's head, or to its own's. A hit sets its time, and so does the move of an active one.
+    // Moves an entry to the head of another segment, or of its own. A hit or the move of an active entry sets its time.
     fn shift(&mut self, shifted: &Shifted, history: &Events) -> Checked {
         self.check_move(shifted, history)?;
         let Some(mut kept) = self.take(shifted.number) else {
@@ -223,7 +221,7 @@ impl PlainClass {
         self.add(kept)
     }
 
-    // An entry near COLD's tail gives its chunk, where none is free.
+    // Removes an entry near COLD's tail, if no chunk is free.
     fn evict(&mut self, evicted: &Evicted) -> Checked {
         let passed = evicted.passed.as_slice();
         holds(self.is_full(), "an eviction, and a chunk is free")?;
@@ -245,7 +243,7 @@ impl PlainClass {
         total
     }
 
-    // The age of COLD's tail.
+    // The age of COLD's tail in seconds, or 0 if COLD is empty.
     fn cold_age(&self, moment: u64) -> u64 {
         match self.from_tail(Seg::Cold, 0) {
             Some(kept) => moment.saturating_sub(kept.time),
@@ -261,7 +259,7 @@ impl PlainClass {
         )
     }
 
-    /// One event more of a history.
+    /// Takes one more event, and returns what is wrong with it. `history` has the surveys to which it refers.
     pub fn next(&mut self, event: &ClassEvent, history: &Events) -> Checked {
         match event {
             ClassEvent::Linked(linked) => self.link(linked),
@@ -274,7 +272,7 @@ impl PlainClass {
         }
     }
 
-    // Whether the entry at a place of a segment is the class's.
+    // Whether the real class has the same entry at a place of a segment.
     fn is_same_at(&self, class: &ClassState, seg: Seg, place: u64) -> bool {
         match (
             class.from_tail(seg, place),
@@ -285,7 +283,7 @@ impl PlainClass {
         }
     }
 
-    // What is wrong with a list of a class.
+    // Compares one list with that of the real class.
     fn compare_list(&self, class: &ClassState, seg: Seg) -> Checked {
         holds(class.len(seg) == self.len(seg), "a list of another length")?;
         for place in 0..self.len(seg) {
@@ -294,7 +292,7 @@ impl PlainClass {
         Ok(())
     }
 
-    /// What is wrong with a class's lists, which are to be these.
+    /// Compares the lists with those of the real class, and returns what is wrong.
     pub fn compare(&self, class: &ClassState) -> Checked {
         holds(class.next_number() == self.next, "another next number")?;
         for seg in SEGS.as_slice() {

@@ -1,4 +1,4 @@
-//! A store of one stripe and one class, filled by hand.
+//! A store of one stripe and one class without locks, which tests fill by hand.
 ghost use Rattle.std.specs.Prelude.{◌≡◌, IfOk};
 ghost use Rattle.mc_item.specs.Config.{IsSound, IsBounded};
 ghost use Rattle.mc_testing.specs.World.{IsWorld};
@@ -14,10 +14,10 @@ use std::hash::RandomState;
 use std::random::RandomSource;
 use std::test::Fail;
 
-/// Who makes each call of a world.
+/// The caller and the turn of each call in a world.
 pub const WHO: Who = Who { caller: 0, turn: 0 };
 
-/// A stripe and a class, and what both were made with. That they belong together need not be said in clauses.
+/// A stripe and a class of the same configuration. The type says that they belong together, so no clause needs to.
 #[derive(Drop)]
 pub struct World {
     pub alloc: Global,
@@ -34,7 +34,7 @@ fn checked(config: Config) -> Result<Config, Fail>
     Ok(config.check()?)
 }
 
-/// The usual configuration with one slab class of this many chunks of 96 bytes.
+/// Returns the usual configuration, but with one slab class of this many chunks of 96 bytes.
 pub fn one_class(alloc: Global, chunks: u64) -> Result<Config, Fail> {
     let sizes = Numbers::from_vec(Vec::from_slice(alloc, &[96])?);
     let chunks = Numbers::from_vec(Vec::from_slice(alloc, &[chunks])?);
@@ -46,7 +46,7 @@ pub fn one_class(alloc: Global, chunks: u64) -> Result<Config, Fail> {
     })
 }
 
-/// A store of this configuration, which has one stripe.
+/// Opens the first stripe and the first class of this configuration. Fails if the configuration isn't sound.
 pub fn opened<R: RandomSource>(rt: &R, alloc: Global, config: Config) -> Result<World, Fail> {
     let config = checked(config)?;
     let seed = RandomState::new(rt)?;
@@ -60,7 +60,8 @@ pub fn opened<R: RandomSource>(rt: &R, alloc: Global, config: Config) -> Result<
     })
 }
 
-/// Answers a command on the stripe; a new version gets the next number of the class.
+/// Makes a command on the stripe, with the next number of the class for a new version. The class isn't changed. Fails if the
+/// command may not be made, or wants more.
 pub fn ask(world: &mut World, command: Command, moment: u64) -> Result<(), Fail> {
     let class = world.class.number();
     let number = world.class.next_number();
@@ -84,7 +85,7 @@ pub fn ask(world: &mut World, command: Command, moment: u64) -> Result<(), Fail>
     }
 }
 
-/// Stores an item of 66 bytes under the key of one letter and links its entry.
+/// Stores an item of 66 bytes under the key of one letter, and links its entry. Fails if the class is full.
 pub fn store(world: &mut World, letter: u8, exptime: i64, moment: u64) -> Result<(), Fail> {
     let alloc = world.alloc;
     let command = storage(alloc, Verb::Set, letter, 0, exptime, &[letter])?;
@@ -103,7 +104,7 @@ pub fn store(world: &mut World, letter: u8, exptime: i64, moment: u64) -> Result
     Ok(())
 }
 
-/// Juggles the class, through a gate that is lent the stripe.
+/// Juggles the class, as the LRU maintainer does, through a gate that is lent the stripe.
 pub fn juggle(world: &mut World, moment: u64) -> Result<Moves, Fail> {
     let alloc = world.alloc;
     let mut answers = Vec::new(alloc);

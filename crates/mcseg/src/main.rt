@@ -8,18 +8,17 @@ use std::io::ErrorKind;
 use std::process::ExitCode;
 use std::{env, io};
 
-// The words of the command line.
 fn words_of(rt: &HostRuntime) -> io::Result<Vec<String>> {
     Ok(env::args(rt)?.collect(rt.alloc())?)
 }
 
-// The exit with this status, and a line on standard error; that it fails changes no status.
+// Prints a line on standard error, and returns the exit with this status. If printing fails, the status stays.
 fn ended(rt: &HostRuntime, line: impl Display + Drop, status: u8) -> ExitCode {
     let _ = eprintln!(rt; "mcseg: {line}");
     ExitCode::from(status)
 }
 
-// The exit where the words can't be had.
+// The exit if the words of the command line can't be read or kept.
 fn refused(rt: &HostRuntime, error: &io::Error) -> ExitCode {
     match error.kind() {
         ErrorKind::OutOfMemory => ended(rt, "out of memory", 1),

@@ -30,5 +30,5 @@ lone (t ∷ u ∷ ts) d some few = absurd (omega arith)
 pub returns-in-len1-clause-value : goal.returns-in-len1-clause-value
 returns-in-len1-clause-value c = λ limits.
     let none : Bor (List ℕ) = record { ref_ptr = (0, 0); now = [] } in
-    c.get_said.ensures.value limits (get_or c.args.tokens.now 0 none).now c.in_ok-key_of.ensures
+    c.get_said.ensures.value limits (get_or c.args.tokens.now 0 none).now c.in_ok-key_of_token.ensures
     ∙ ap (get_says limits c.args.with_cas) (lone c.args.tokens.now none c.in-len1.len_at_least c.in-len1.len_below)

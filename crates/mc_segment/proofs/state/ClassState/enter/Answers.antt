@@ -3,14 +3,14 @@ use Rattle.mc_item.specs.declared.class_event.ClassEvent.{ClassEvent}
 use Rattle.mc_item.specs.declared.class_event.ClassEvent.TheVariants as events
 use Rattle.mc_rule.specs.Lists.{Lists, linked, entry}
 use Rattle.mc_segment.specs.ClassState.{ClassView, HasPlaces}
-use Rattle.mc_segment.proofs.StateLemmas.{keeps, seen_lists, seen_next, seen_fresh, links_of-le, not_to_come}
+use Rattle.mc_segment.proofs.StateLemmas.{keeps, seen_lists, seen_next, seen_fresh, entries_linked-le, not_to_come}
 use Rattle.mc_segment.proofs.state.ClassState.enter.Goals as goal
 
 pub push-requires-clause-limit : goal.push-requires-clause-limit
 push-requires-clause-limit c =
     let v = c.args.self.now in
     let place : HasPlaces v 1 = search rules in
-    omega (arith, c.reserve-2.ensures.same, seen_next _ _ _ _ _ _ _ _ _ c.self.invariant c.self.view_is, links_of-le v.history, place, c.self.invariant.limit, ap (λ (x : ClassView). x.max_events) c.self.view_is)
+    omega (arith, c.reserve-2.ensures.same, seen_next _ _ _ _ _ _ _ _ _ c.self.invariant c.self.view_is, entries_linked-le v.history, place, c.self.invariant.limit, ap (λ (x : ClassView). x.max_events) c.self.view_is)
 
 pub invariant_of-self-2 : goal.invariant_of-self-2
 invariant_of-self-2 c =
