@@ -99,7 +99,7 @@ fn check_lost<R: Abort>(rt: &R, alloc: Global, ledger: &Final, plain: &mut Plain
 }
 
 // Ends the test where an answered command's reply isn't that of the plain memcached.
-fn check_reply<R: Abort>(rt: &R, alloc: Global, did: &Did, wanted: &Reply) {
+fn check_text<R: Abort>(rt: &R, alloc: Global, did: &Did, wanted: &Reply) {
     let reply = shown(rt, alloc, &did.reply);
     let wanted = shown(rt, alloc, wanted);
     assert_eq!(rt; reply.as_str(), wanted.as_str(), "to {:?}", did.command);
@@ -113,7 +113,7 @@ fn check_reply<R: Abort>(rt: &R, alloc: Global, ledger: &Final, plain: &mut Plai
     let wanted = plain
         .answer(&did.command, did.moment, refused)
         .expect(rt, "memory");
-    check_reply(rt, alloc, did, &wanted);
+    check_text(rt, alloc, did, &wanted);
 }
 
 // Ends the test where an event of a stripe's history isn't one that may happen to the plain memcached, or an answered
