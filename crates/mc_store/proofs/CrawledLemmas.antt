@@ -158,7 +158,7 @@ unfolding snapshot_later
 so_far_more config class a b c who moment links done more link h h_new some grows one is = record {
   snapshot = snapshot_later config class a b c (length links) some.snapshot grows;
   links_are = some.links_are;
-  counted_as =
+  counted =
       subst (λ (l : List Link). AreLinksCounted config class (class_told some.snapshot.history) (list_at c.seen (class_lock config class)) who moment l no_counts h_new) is
       (links_counted-more config class (class_told some.snapshot.history) (list_at b.seen (class_lock config class)) (list_at c.seen (class_lock config class)) who moment done link no_counts h h_new some.counted one);
 }
@@ -179,6 +179,6 @@ so_far_all config class before after who moment links done h all is count balanc
   balanced = balanced;
   reclaims = reclaims;
   sound = sound;
-  counted_as =
+  counted =
       subst (λ (l : List Link). AreLinksCounted config class (class_told all.snapshot.history) (list_at after.seen (class_lock config class)) who moment l no_counts h) (is ∙ sym all.links_are) all.counted;
 }
