@@ -1,4 +1,4 @@
-//! Tests of class lists and of growing histories alone: small classes by calls, and histories that threads race for.
+//! Tests of class lists, growing histories and queues of hits alone: small classes by calls, and what threads race for.
 #![tactic(auto)]
 
 #[cfg(test)]

@@ -4,6 +4,7 @@ mod class_lists;
 mod deeds;
 mod growing_histories;
 mod histories_in_pieces;
+mod queued_hits;
 mod room_made;
 mod rows;
 mod walks;
