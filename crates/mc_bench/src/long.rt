@@ -1,14 +1,14 @@
 //! Many commands on one store that lets its events go, and the memory that it takes.
-ghost use Rattle.std.specs.Prelude.{◌≡◌, IfOk, IfSome};
+ghost use Rattle.std.specs.Prelude.{◌≡◌, length};
 ghost use Rattle.mc_item.specs.Config.{IsBounded, IsSound};
 ghost use Rattle.mc_board.specs.{Histories.blind, Views.locks_of, Views.AreOwners};
+ghost use Rattle.mc_hits.specs.Views.{AreHands, tables_of};
 ghost use Rattle.mc_store.specs.Locked.{histories_for};
 
 use crate::lists::{checked, peak};
 use crate::{nanos_each, print_row};
-use mc_board::{Board, Owner, Seen};
 use mc_item::{Command, Config, Fault, Key, NoMemory, Numbers, Value, Verb};
-use mc_store::{Named, Pass, Store};
+use mc_store::{Named, Pass, Store, Tokens};
 use std::alloc::Global;
 use std::hash::RandomState;
 use std::io;
@@ -146,29 +146,26 @@ fn time_load<N: Named>(
 #[derive(Drop)]
 struct Parts {
     config: Config,
-    board: Board,
-    owners: Vec<Owner>,
-    seen: Seen,
+    tokens: Tokens,
     seed: RandomState,
 }
 
 // Opens a store, sets each key, and then makes each load's commands.
 fn run<N: Named>(rt: &HostRuntime, wait: &impl Wait, parts: Parts) -> io::Result<()>
-    requires named { (parts.board ≡ N.board) × (parts.config ≡ N.config) }
+    requires named { (parts.tokens.board ≡ N.board) × (parts.config ≡ N.config) × (parts.tokens.queues ≡ N.queues) }
     requires sound { IsBounded N.config × IsSound N.config }
     requires locks { locks_of N.board.counts ≡ histories_for N.config }
-    requires owners { AreOwners N.board.table (histories_for N.config) parts.owners.items }
-    requires seen { parts.seen ≡ record { board = N.board.table; sight = blind } }
+    requires owners { AreOwners N.board.table (histories_for N.config) parts.tokens.owners.items }
+    requires seen { parts.tokens.seen ≡ record { board = N.board.table; sight = blind } }
+    requires queues { length N.queues ≡ length N.config.sizes }
+    requires hands { AreHands (tables_of N.queues) N.config.callers parts.tokens.hands.items }
 {
     let Parts {
         config,
-        board,
-        owners,
-        seen,
+        tokens,
         seed,
     } = parts;
-    let Ok((store, mut passes)) = Store::<N>::open(rt.alloc(), config, board, owners, seen, seed)
-    else {
+    let Ok((store, mut passes)) = Store::<N>::open(rt.alloc(), config, tokens, seed) else {
         return println!(rt; "no memory");
     };
     let Some(mut pass) = passes.pop() else {
@@ -183,31 +180,18 @@ fn run<N: Named>(rt: &HostRuntime, wait: &impl Wait, parts: Parts) -> io::Result
     Ok(())
 }
 
-// A board with a history for each stripe, each slab class and each caller.
-fn board_for(alloc: Global, config: &Config) -> Option<(Board, Vec<Owner>, Seen)>
-    requires { IsBounded config.now }
-    ensures locks { IfSome result (λ r. locks_of r.0.counts ≡ histories_for config.now) }
-    ensures owners { IfSome result (λ r. AreOwners r.0.table (histories_for config.now) r.1.items) }
-    ensures seen { IfSome result (λ r. r.2 ≡ record { board = r.0.table; sight = blind }) }
-{
-    let locks = config.stripes as usize + config.sizes.as_slice().len();
-    Board::open(alloc, locks + config.callers as usize).ok()
-}
-
 /// Times a hundred million commands of each load.
 pub(crate) fn time_long(rt: &HostRuntime, wait: &impl Wait) -> io::Result<()> {
     let seed = RandomState::new(rt)?;
     let Some(config) = config_of(rt.alloc()).and_then(checked) else {
         return println!(rt; "no configuration");
     };
-    let Some((board, owners, seen)) = board_for(rt.alloc(), &config) else {
+    let Ok(tokens) = Tokens::open(rt.alloc(), &config) else {
         return println!(rt; "no memory");
     };
     let parts = Parts {
         config,
-        board,
-        owners,
-        seen,
+        tokens,
         seed,
     };
     run::<Brand>(rt, wait, parts)

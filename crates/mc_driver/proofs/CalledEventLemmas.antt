@@ -147,10 +147,10 @@ replied_may config old new command moment (Err fault) may caller turn grows by =
 -- and so was juggling
 pub juggled_may : (config : Config) (old new : PassView) (class : ClassNo) (moment : ℕ) (r : Result Moves Fault) → MayCall config old → IsClass (setting_of config) class → new.caller ≡ old.caller
     → OnOk r (new.turn ≡ old.turn + 1) → OnOk r (new.calls ≡ old.calls ++ juggling_of class moment ∷ []) → Grows old.sight new.sight
-    → IfOk r (IsJuggledBy config class old.sight new.sight (record { caller = old.caller; turn = old.turn }) moment) → OnOk r (MayCall config new)
+    → IfOk r (IsJuggledBy config class old new moment) → OnOk r (MayCall config new)
 juggled_may config old new class moment (Ok moves) may is caller turn noted grows by =
     may_more config old new (juggling_of class moment) may caller turn grows (ap turns_of noted ∙ turns_of-append old.calls (juggling_of class moment ∷ []))
-    (made_between config (histories_seen config old.sight) (histories_seen config new.sight) _ (juggling_of class moment) (juggled_between config class old.sight new.sight (next_who old) moment moves is grows by) refl)
+    (made_between config (histories_seen config old.sight) (histories_seen config new.sight) _ (juggling_of class moment) (juggled_between config class old new moment moves is grows by) refl)
 juggled_may config old new class moment (Err fault) may is caller turn noted grows by = tt
 
 -- and so was a crawl

@@ -1,6 +1,7 @@
 -- What a caller's work leaves in the store of a run, where its pass was compared with that store.
 use Rattle.std.proofs.Common.{◌≡◌, ℕ, List, [], refl, ap, subst}
 use Rattle.mc_item.specs.declared.config.Config.{Config}
+use Rattle.mc_hits.specs.Views.{HitsView, tables_of}
 use Rattle.mc_proto.specs.declared.request.Limits.{Limits}
 use Rattle.mc_script.specs.{Exchanges.Exchange, Upkeep.work_of}
 use Rattle.mc_script.specs.declared.{outcome.Outcome.Outcome, upkeep.Keeper.Keeper}
@@ -32,9 +33,9 @@ module _ {S K : Type 0} (coming : S → List ℕ) (reads : S → ℕ) (taken : K
   works_some limits moments notes caller outcome (Script ends) (Upkeep left) works = absurd works
   works_some limits moments notes caller outcome (Upkeep keeper) (Script left) works = absurd works
 
-  module _ (config : Config) (limits : Limits) (moments : List ℕ) (final : FinalView) (all : AreStripes final.board config final.stripes) (all_classes : AreClasses final.board config final.classes)
-      (caller : ℕ) (pass : PassView) (outcome : Outcome) (work work' : Work S K)
-      (has : HasWorked coming reads taken writes config limits moments (new_pass caller) pass outcome work work') (compared : IsCompared pass final) where
+  module _ (config : Config) (queues : List HitsView) (limits : Limits) (moments : List ℕ) (final : FinalView) (all : AreStripes final.board config final.stripes)
+      (all_classes : AreClasses final.board config final.classes) (caller : ℕ) (pass : PassView) (outcome : Outcome) (work work' : Work S K)
+      (has : HasWorked coming reads taken writes config limits moments (new_pass (tables_of queues) caller) pass outcome work work') (compared : IsCompared pass final) where
     -- a caller's work as the store shows it
     pub works_left : Works coming reads taken writes limits moments (AreItsCalls config caller (histories_left final)) caller outcome work work'
     works_left = works_as limits moments (AreNoted config pass) (AreItsCalls config caller (histories_left final)) caller outcome work work'
@@ -60,5 +61,5 @@ module _ {S K : Type 0} (coming : S → List ℕ) (reads : S → ℕ) (taken : K
     -- upkeep without moments made nothing
     pub none_left : moments ≡ [] → (keeper : Keeper) → work ≡ Upkeep keeper → MadeNone caller final.stripes
     none_left none keeper is =
-        let same : pass ≡ new_pass caller = subst (λ (w : Work S K). IsIdle moments w (new_pass caller) pass) is has.idle none in
+        let same : pass ≡ new_pass (tables_of queues) caller = subst (λ (w : Work S K). IsIdle moments w (new_pass (tables_of queues) caller) pass) is has.idle none in
         subst (λ (k : ℕ). MadeNone k final.stripes) has.caller (none_made pass final.stripes (ap (λ (p : PassView). p.calls) same) compared.own)

@@ -4,6 +4,7 @@ use Rattle.std.specs.Prelude.{Some, slice_get, slice_index_or}
 use Rattle.std.specs.Option.{option_map}
 use Rattle.std.proofs.lemmas.{List.length-map, List.map-append, Option.get_or_from_slice_get, Option.slice_get-get_or, Option.slice_get-map}
 use Rattle.mc_item.specs.declared.config.Config.{Config}
+use Rattle.mc_hits.specs.Views.{HitsView, tables_of}
 use Rattle.mc_proto.specs.declared.request.Limits.{Limits}
 use Rattle.mc_script.specs.declared.{ends.Both.Both, outcome.Outcome.Outcome, upkeep.Keeper.Keeper, upkeep.Keeper.TheVariants.Maintainer}
 use Rattle.mc_script.specs.declared.{upkeep.Keeper.TheVariants.Crawler}
@@ -13,7 +14,7 @@ use Rattle.mc_driver.specs.Jobs.{HasWorked, IsAtStart, ends_in, script_of, works
 use Rattle.mc_driver.specs.declared.{jobs.Work.Work, jobs.Work.TheVariants.Script, jobs.Work.TheVariants.Upkeep}
 use Rattle.mc_driver.proofs.StandingCallLemmas.{grow_nothing}
 
-module _ {S K : Type 0} (coming : S → List ℕ) (reads : S → ℕ) (taken : K → List ℕ) (writes : K → ℕ) (config : Config) (limits : Limits) (moments : List ℕ) where
+module _ {S K : Type 0} (coming : S → List ℕ) (reads : S → ℕ) (taken : K → List ℕ) (writes : K → ℕ) (config : Config) (queues : List HitsView) (limits : Limits) (moments : List ℕ) where
   -- the caller of this number has worked: what it was to do and what it left, how that ended, and its pass behind it
   pub record HasWorkedAt (before after : List (Work S K)) (passes : List PassView) (outcomes : List Outcome) (caller : ℕ) : Type 0 where
     pub work : Work S K
@@ -24,21 +25,22 @@ module _ {S K : Type 0} (coming : S → List ℕ) (reads : S → ℕ) (taken : K
     pub is : slice_get after caller ≡ Some work'
     pub passed : slice_get passes caller ≡ Some pass
     pub ended : slice_get outcomes caller ≡ Some outcome
-    pub has : HasWorked coming reads taken writes config limits moments (new_pass caller) pass outcome work work'
+    pub has : HasWorked coming reads taken writes config limits moments (new_pass (tables_of queues) caller) pass outcome work work'
 
   -- each caller has, where each of their jobs was done
-  pub worked_at : {X : Type 0} (pass_of : X → PassView) (work_in : X → Work S K) (outcome_of : X → Outcome) (jobs done : List X) (callers : ℕ) → length done ≡ length jobs → ArePasses callers (map pass_of jobs)
+  pub worked_at : {X : Type 0} (pass_of : X → PassView) (work_in : X → Work S K) (outcome_of : X → Outcome) (jobs done : List X) (callers : ℕ) → length done ≡ length jobs
+      → ArePasses (tables_of queues) callers (map pass_of jobs)
       → ((i : ℕ) (d : X) → i < length jobs → HasWorked coming reads taken writes config limits moments (pass_of (slice_index_or jobs i d))
       (pass_of (slice_index_or done i d)) (outcome_of (slice_index_or done i d)) (work_in (slice_index_or jobs i d)) (work_in (slice_index_or done i d)))
       → (i : ℕ) → i < callers → HasWorkedAt (map work_in jobs) (map work_in done) (map pass_of done) (map outcome_of done) i
   worked_at {X = X} pass_of work_in outcome_of jobs done callers same passes each i below =
       let begun = passes.each i below in
-      let inside : i < length jobs = inside_map pass_of jobs i (new_pass i) begun in
+      let inside : i < length jobs = inside_map pass_of jobs i (new_pass (tables_of queues) i) begun in
       let g = get_some jobs i inside in
       let h = get_some done i (omega (arith, inside, same)) in
       let job = get_or_from_slice_get jobs i g.0 g.0 g.1 in
       let left = get_or_from_slice_get done i h.0 g.0 h.1 in
-      let first : pass_of g.0 ≡ new_pass i = some_is (sym (slice_get-map pass_of jobs i ∙ ap (option_map pass_of) g.1) ∙ begun) in
+      let first : pass_of g.0 ≡ new_pass (tables_of queues) i = some_is (sym (slice_get-map pass_of jobs i ∙ ap (option_map pass_of) g.1) ∙ begun) in
       let has = each i g.0 inside in
       let has' = subst (λ (x : X). HasWorked coming reads taken writes config limits moments (pass_of x) (pass_of (slice_index_or done i g.0))
       (outcome_of (slice_index_or done i g.0)) (work_in x) (work_in (slice_index_or done i g.0))) job has in
@@ -160,21 +162,22 @@ pub fewer : {X : Type 0} (all yielded rest : List X) (x : X) → all ≡ yielded
 fewer all yielded rest x is = omega (arith, ap length is, length-append yielded (x ∷ rest))
 
 -- the pass of a caller that has had no turn is at its start
-starts : (config : Config) (caller : ℕ) → 0 < config.stripes → IsAtStart config (new_pass caller)
-starts config caller some = record {
+starts : (config : Config) (queues : List HitsView) (caller : ℕ) → 0 < config.stripes → IsAtStart config (new_pass (tables_of queues) caller)
+starts config queues caller some = record {
   may = record { some = some; made = record { each = λ turn call at. absurd (cc at) }; turns = refl };
   first = refl;
   none = record { stand = grow_nothing config _; at = λ n below. tt; rising = λ n below. tt; made = record { each = λ turn call at behind. absurd (cc at) } };
 }
 
 -- each job begins with such a pass
-pub all_start : {X : Type 0} (pass_of : X → PassView) (config : Config) (jobs : List X) (passes : List PassView) (callers : ℕ) → map pass_of jobs ≡ passes → ArePasses callers passes → 0 < config.stripes
+pub all_start : {X : Type 0} (pass_of : X → PassView) (config : Config) (queues : List HitsView) (jobs : List X) (passes : List PassView) (callers : ℕ) → map pass_of jobs ≡ passes
+    → ArePasses (tables_of queues) callers passes → 0 < config.stripes
     → (i : ℕ) (d : X) → i < length jobs → IsAtStart config (pass_of (slice_index_or jobs i d))
-all_start pass_of config jobs passes callers are all some i d below =
+all_start pass_of config queues jobs passes callers are all some i d below =
     let inside : i < callers = omega (arith, below, length-map jobs pass_of, ap length are, all.many) in
-    let begun : slice_get (map pass_of jobs) i ≡ Some (new_pass i) = ap (λ (ps : List PassView). slice_get ps i) are ∙ all.each i inside in
+    let begun : slice_get (map pass_of jobs) i ≡ Some (new_pass (tables_of queues) i) = ap (λ (ps : List PassView). slice_get ps i) are ∙ all.each i inside in
     let here = slice_get-map pass_of jobs i ∙ ap (option_map pass_of) (slice_get-get_or jobs i d below) in
-    subst (IsAtStart config) (only_some (sym begun ∙ here)) (starts config i some)
+    subst (IsAtStart config) (only_some (sym begun ∙ here)) (starts config queues i some)
   where
     only_some : {A : Type 0} {a b : A} → Some a ≡ Some b → a ≡ b
     only_some e = cc

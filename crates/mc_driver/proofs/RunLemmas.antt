@@ -6,6 +6,7 @@ use Rattle.mc_item.specs.declared.config.Config.{Config}
 use Rattle.mc_script.specs.{Exchanges.Exchange, Upkeep.KeepsUp, Upkeep.work_of}
 use Rattle.mc_script.specs.declared.{ends.Both.Both, outcome.Outcome.Outcome, upkeep.Keeper.Keeper, upkeep.Keeper.TheVariants.Maintainer}
 use Rattle.mc_script.specs.declared.{upkeep.Keeper.TheVariants.Crawler}
+use Rattle.mc_hits.specs.Views.{HitsView, tables_of}
 use Rattle.mc_proto.specs.declared.request.Limits.{Limits}
 use Rattle.mc_script.specs.declared.outcome.Outcome.TheVariants as outcomes
 use Rattle.mc_store.specs.{Finals.AreClasses, Finals.AreStripes, Finals.FinalView, Passes.ArePasses, Passes.PassView}
@@ -32,7 +33,7 @@ none_broken outcomes.Output limits notes caller none = absurd none
 some_is : {A : Type 0} {a b : A} → Some a ≡ Some b → a ≡ b
 some_is e = cc
 
-module _ {S K : Type 0} (coming : S → List ℕ) (reads : S → ℕ) (taken : K → List ℕ) (writes : K → ℕ) (config : Config) (moments : List ℕ) where
+module _ {S K : Type 0} (coming : S → List ℕ) (reads : S → ℕ) (taken : K → List ℕ) (writes : K → ℕ) (config : Config) (queues : List HitsView) (moments : List ℕ) where
   -- a script leaves a script
   script_works : (notes : List Exchange → Type 0) (caller : ℕ) (outcome : Outcome) (ends : Both S K) (work' : Work S K)
       → Works coming reads taken writes (limits_of config) moments notes caller outcome (Script ends) work'
@@ -49,7 +50,7 @@ module _ {S K : Type 0} (coming : S → List ℕ) (reads : S → ℕ) (taken : K
 
   module _ (scripts : List (S × K)) (after : List (Work S K)) (passes : List PassView) (ended : List Outcome) (final : FinalView)
       (all : AreStripes final.board config final.stripes) (all_classes : AreClasses final.board config final.classes)
-      (worked : (i : ℕ) → i < length scripts + 2 → HasWorkedAt coming reads taken writes config (limits_of config) moments (works_of scripts) after passes ended i)
+      (worked : (i : ℕ) → i < length scripts + 2 → HasWorkedAt coming reads taken writes config queues (limits_of config) moments (works_of scripts) after passes ended i)
       (compared : (k : ℕ) (p : PassView) → slice_get passes k ≡ Some p → IsCompared p final) where
     -- what a caller's work leaves, by what it was to do
     left_at : (i : ℕ) → (below : i < length scripts + 2) → (work : Work S K) → slice_get (works_of scripts) i ≡ Some work
@@ -58,7 +59,7 @@ module _ {S K : Type 0} (coming : S → List ℕ) (reads : S → ℕ) (taken : K
         let w = worked i below in
         let same : w.work ≡ work = some_is (sym w.was ∙ there) in
         subst (λ (x : Work S K). Works coming reads taken writes (limits_of config) moments (AreItsCalls config i (histories_left final)) i w.outcome x w.work') same
-        (works_left coming reads taken writes config (limits_of config) moments final all all_classes i w.pass w.outcome w.work w.work' w.has (compared i w.pass w.passed))
+        (works_left coming reads taken writes config queues (limits_of config) moments final all all_classes i w.pass w.outcome w.work w.work' w.has (compared i w.pass w.passed))
 
     -- the first works that are left are scripts
     scripts_left : AreScripts after (length scripts)
@@ -111,7 +112,7 @@ module _ {S K : Type 0} (coming : S → List ℕ) (reads : S → ℕ) (taken : K
     upkeep_none : (i : ℕ) (keeper : Keeper) → i < length scripts + 2 → slice_get (works_of scripts) i ≡ Some (Upkeep keeper) → moments ≡ [] → MadeNone i final.stripes
     upkeep_none i keeper below there none =
         let w = worked i below in
-        none_left coming reads taken writes config (limits_of config) moments final all all_classes i w.pass w.outcome w.work w.work' w.has (compared i w.pass w.passed) none keeper (some_is (sym w.was ∙ there))
+        none_left coming reads taken writes config queues (limits_of config) moments final all all_classes i w.pass w.outcome w.work w.work' w.has (compared i w.pass w.passed) none keeper (some_is (sym w.was ∙ there))
 
     -- all of it
     pub is_left : (ends : List (S × K)) → ends ≡ ends_in after → config.callers ≡ length scripts + 2 → length ended ≡ length scripts + 2 → length after ≡ length scripts + 2 → IsStore config final
@@ -131,15 +132,15 @@ module _ {S K : Type 0} (coming : S → List ℕ) (reads : S → ℕ) (taken : K
           };
           full = λ i outcome below so.
               let w = worked i below in
-              full_left coming reads taken writes config (limits_of config) moments final all all_classes i w.pass w.outcome w.work w.work' w.has (compared i w.pass w.passed)
+              full_left coming reads taken writes config queues (limits_of config) moments final all all_classes i w.pass w.outcome w.work w.work' w.has (compared i w.pass w.passed)
               (sym (get_or_from_slice_get ended i w.outcome outcome w.ended) ∙ so);
           whole = λ i outcome below so.
               let w = worked i below in
-              whole_left coming reads taken writes config (limits_of config) moments final all all_classes i w.pass w.outcome w.work w.work' w.has (compared i w.pass w.passed)
+              whole_left coming reads taken writes config queues (limits_of config) moments final all all_classes i w.pass w.outcome w.work w.work' w.has (compared i w.pass w.passed)
               (sym (get_or_from_slice_get ended i w.outcome outcome w.ended) ∙ so);
           called = λ i below.
               let w = worked i below in
-              called_left coming reads taken writes config (limits_of config) moments final all all_classes i w.pass w.outcome w.work w.work' w.has (compared i w.pass w.passed);
+              called_left coming reads taken writes config queues (limits_of config) moments final all all_classes i w.pass w.outcome w.work w.work' w.has (compared i w.pass w.passed);
           by = by_working config final (length scripts) moments all callers
               (λ none. (
                 upkeep_none (length scripts) Maintainer (omega arith) (maintainer_at scripts) none,
@@ -154,17 +155,18 @@ module _ {S K : Type 0} (coming : S → List ℕ) (reads : S → ℕ) (taken : K
 
   -- a run's jobs, done, leave it
   pub run_left : {X : Type 0} (pass_of : X → PassView) (work_in : X → Work S K) (outcome_of : X → Outcome) (jobs done : List X) (scripts : List (S × K)) (final : FinalView)
-      → AreStripes final.board config final.stripes → AreClasses final.board config final.classes → length done ≡ length jobs → ArePasses config.callers (map pass_of jobs) → map work_in jobs ≡ works_of scripts
+      → AreStripes final.board config final.stripes → AreClasses final.board config final.classes → length done ≡ length jobs → ArePasses (tables_of queues) config.callers (map pass_of jobs)
+      → map work_in jobs ≡ works_of scripts
       → ((i : ℕ) (d : X) → i < length jobs → HasWorked coming reads taken writes config (limits_of config) moments (pass_of (slice_index_or jobs i d))
       (pass_of (slice_index_or done i d)) (outcome_of (slice_index_or done i d)) (work_in (slice_index_or jobs i d)) (work_in (slice_index_or done i d)))
       → ((k : ℕ) (p : PassView) → slice_get (map pass_of done) k ≡ Some p → IsCompared p final) → config.callers ≡ length scripts + 2 → IsStore config final
       → IsRunDone coming reads taken writes config moments scripts (ends_in (map work_in done)) (map outcome_of done) final
   run_left {X = X} pass_of work_in outcome_of jobs done scripts final all all_classes same passes works each compared callers store =
-      let passes' = subst (λ (n : ℕ). ArePasses n (map pass_of jobs)) callers passes in
+      let passes' = subst (λ (n : ℕ). ArePasses (tables_of queues) n (map pass_of jobs)) callers passes in
       let many : length done ≡ length scripts + 2 = omega (arith, same, length-map jobs work_in, ap length works, works_many scripts) in
-      let worked : (i : ℕ) → i < length scripts + 2 → HasWorkedAt coming reads taken writes config (limits_of config) moments (works_of scripts) (map work_in done) (map pass_of done) (map outcome_of done) i =
-      λ i below. subst (λ (ws : List (Work S K)). HasWorkedAt coming reads taken writes config (limits_of config) moments ws (map work_in done) (map pass_of done) (map outcome_of done) i) works
-      (worked_at coming reads taken writes config (limits_of config) moments pass_of work_in outcome_of jobs done (length scripts + 2) same passes' each i below) in
+      let worked : (i : ℕ) → i < length scripts + 2 → HasWorkedAt coming reads taken writes config queues (limits_of config) moments (works_of scripts) (map work_in done) (map pass_of done) (map outcome_of done) i =
+      λ i below. subst (λ (ws : List (Work S K)). HasWorkedAt coming reads taken writes config queues (limits_of config) moments ws (map work_in done) (map pass_of done) (map outcome_of done) i) works
+      (worked_at coming reads taken writes config queues (limits_of config) moments pass_of work_in outcome_of jobs done (length scripts + 2) same passes' each i below) in
       is_left scripts (map work_in done) (map pass_of done) (map outcome_of done) final all all_classes worked compared (ends_in (map work_in done)) refl
       callers (omega (arith, many, length-map done outcome_of)) (omega (arith, many, length-map done work_in)) store
 

@@ -13,11 +13,11 @@ use Rattle.mc_board.proofs.PrefixLemmas.{prefix_more}
 use Rattle.mc_evidence.specs.{Seen.class_events, Seen.stripe_events, Refusals.WasTried, Setting.IsClass, Setting.site_in, Locks.ClassKeeps, Locks.StripeKeeps}
 use Rattle.mc_evidence.proofs.SeenLemmas.{class_events-append, class_events-map, classes_grow, stripe_events-map, stripes_grow}
 use Rattle.mc_proto.specs.Answers.{Moved, Replied, Counted}
-use Rattle.mc_pull.specs.{Juggle.IsJuggle, Performed.cooled_if, Rounds.Rounds, Rounds.rounds}
+use Rattle.mc_pull.specs.{Juggle.IsJuggle, Rounds.Rounds, Rounds.rounds}
 use Rattle.mc_script.specs.Exchanges.{Asks, Juggles, exchange, Crawls}
 use Rattle.mc_segment.specs.ClassState.{ClassView}
 use Rattle.mc_store.specs.{Calls.IsJuggledBy, Calls.IsRepliedBy, Locked.setting_of, Locked.class_lock, Sides.class_told, Crawls.AreLinksCounted}
-use Rattle.mc_store.specs.{Crawls.HasReclaims, Crawls.IsCrawledBy, Earned.IsLastResort}
+use Rattle.mc_store.specs.{Crawls.HasReclaims, Crawls.IsCrawledBy, Earned.IsLastResort, Passes.PassView, Passes.next_who}
 use Rattle.mc_store.proofs.{EarnedRefusalLemmas.opened_again, LockKeepsLemmas.site_of_number}
 use Rattle.mc_driver.specs.{Caller.histories_seen, Noted.answered_command, Noted.answered_event, Stand.Grow, Stand.StandsBetween, Stand.stripe_number}
 use Rattle.mc_driver.proofs.NotedPlaceLemmas.{class_begins, stripe_begins}
@@ -44,10 +44,10 @@ replied_between config before after calls calls_new who command moment reply som
       stands = record {
         before = by.old.history ++ answered.before;
         room = answered.room;
-        behind = cooled_if who (key_of command) answered.cooled;
+        behind = [];
         past = prefix_more (stripe_events (list_at before.seen number)) by.old.history answered.before (stripe_begins (list_at before.seen number) by.old.history by.grew.seen);
         split = now ∙ (answered.history_is
-            ∙ ap (λ (r : Reply). (by.old.history ++ answered.before) ++ answered_event who command moment r answered.room ∷ cooled_if who (key_of command) answered.cooled) by.replied.reply_is);
+            ∙ ap (λ (r : Reply). (by.old.history ++ answered.before) ++ answered_event who command moment r answered.room ∷ []) by.replied.reply_is);
         earned = λ class is.
             subst (λ (r : Reply). WasTried (site_in (setting_of config) number) class ((histories_seen config after).classes class) (answered_command who command moment r answered.room)) by.replied.reply_is
             (subst (λ (t : Site). WasTried t class ((histories_seen config after).classes class) (answered_command who command moment answered.reply answered.room)) site (by.replied.earned.tried class));
@@ -61,26 +61,33 @@ replied_between config before after calls calls_new who command moment reply som
     }
 
 -- and by juggling
-pub juggled_between : (config : Config) (class : ClassNo) (before after : Sight) (who : Who) (moment : ℕ) (moves : Moves) → IsClass (setting_of config) class → Grows before after
-    → IsJuggledBy config class before after who moment moves
-    → StandsBetween config (histories_seen config before) (histories_seen config after) (exchange who.caller who.turn (Juggles class) moment (Moved moves))
-juggled_between config class before after who moment moves is grows by =
+pub juggled_between : (config : Config) (class : ClassNo) (before after : PassView) (moment : ℕ) (moves : Moves) → IsClass (setting_of config) class → Grows before.sight after.sight
+    → IsJuggledBy config class before after moment moves
+    → StandsBetween config (histories_seen config before.sight) (histories_seen config after.sight) (exchange before.caller before.turn (Juggles class) moment (Moved moves))
+juggled_between config class before after moment moves is grows by =
     let c = by.old in
-    let now : (histories_seen config after).classes class ≡ c.history ++ by.own = ap class_events by.grew.now ∙ class_events-map (c.history ++ by.own) in
+    let upkept = by.upkept in
+    let advanced = c.history ++ upkept.advances in
+    let now : (histories_seen config after.sight).classes class ≡ by.history_new = ap class_events by.grew.now ∙ class_events-map by.history_new in
     let same = opened_again config c class by.grew.made_with by.grew.number_is in
     record {
-      grew = seen_grow config before after grows;
+      grew = seen_grow config before.sight after.sight grows;
       placed = is;
       stands = record {
         before = c.history;
-        own = by.own;
+        hits = upkept.advanced.hits;
+        few = upkept.advanced.few;
+        advances = upkept.advances;
+        advanced = upkept.advanced.advanced;
+        own = upkept.own;
         behind = [];
-        past = class_begins (list_at before.seen (class_lock config class)) c.history by.grew.seen;
-        split = now ∙ sym (append-nil (c.history ++ by.own));
-        answers = by.answers;
-        juggled = subst (λ (r : Rounds). IsJuggle r c.history by.answers (c.history ++ by.own) moves) (ap (λ (v : ClassView). rounds v who moment config) same) by.juggle;
+        past = class_begins (list_at before.sight.seen (class_lock config class)) c.history by.grew.seen;
+        split = now ∙ (upkept.history_is ∙ sym (append-nil (advanced ++ upkept.own)));
+        answers = upkept.answers;
+        juggled = subst (λ (r : Rounds). IsJuggle r advanced upkept.answers (advanced ++ upkept.own) moves)
+            (ap (λ (v : ClassView). rounds v (next_who before) moment config) same) upkept.juggle;
       };
-      evidence = subst (λ (h : List ClassEvent). ClassKeeps (setting_of config) class h (histories_seen config after).stripes) (sym now) by.grew.sound;
+      evidence = subst (λ (h : List ClassEvent). ClassKeeps (setting_of config) class h (histories_seen config after.sight).stripes) (sym now) by.grew.sound;
     }
 
 -- what was seen of a class alone has the same reclaims

@@ -3,7 +3,6 @@ use Rattle.std.proofs.Common.{◌≡◌, ◌<◌, ◌≤◌, ℕ, List, [], ◌�
 use Rattle.std.specs.Prelude.{IfOk, OnErr, Some, cond, nat_eq, true, OnOk}
 use Rattle.std.specs.List.{slice_get}
 use Rattle.std.proofs.lemmas.List.Elements.{filter-append}
-use Rattle.mc_item.specs.Command.{key_of}
 use Rattle.mc_item.specs.declared.{call_event.CallEvent.CallEvent, command.Command.Command, config.Config.Config, counts.Moves.Moves, fault.Fault.Fault}
 use Rattle.mc_item.specs.declared.{item.ClassNo.ClassNo, item.Who.Who, reply.Reply.Reply, stripe_event.Did.Did, stripe_event.StripeEvent.StripeEvent}
 use Rattle.mc_item.specs.declared.{counts.Histogram.Histogram}
@@ -14,7 +13,6 @@ use Rattle.mc_board.proofs.PrefixLemmas.{prefix_length}
 use Rattle.mc_evidence.specs.{Seen.stripe_events, Setting.IsClass}
 use Rattle.mc_evidence.proofs.SeenLemmas.{stripe_events-map}
 use Rattle.mc_proto.specs.Answers.{Moved, Replied, Counted}
-use Rattle.mc_pull.specs.Performed.{cooled_if}
 use Rattle.mc_script.specs.{Calls.AddsCalls, Calls.AddsUp, Exchanges.Asks, Exchanges.Exchange, Exchanges.Juggles, Exchanges.exchange, Exchanges.Crawls}
 use Rattle.mc_store.specs.Callers.{answered_at, asked_for, juggling_of, moment_of, crawling_of, turns_of}
 use Rattle.mc_store.specs.{Calls.IsJuggledBy, Calls.IsRepliedBy, Calls.IsCutBy, Locked.setting_of, Passes.PassView, Passes.next_who, Crawls.IsCrawledBy}
@@ -49,8 +47,7 @@ module _ (config : Config) (old new : PassView) (command : Command) (moment : �
   there : slice_get (stripe_events (list_at new.sight.seen number)) place ≡ Some (events.Did did)
   there =
       ap (λ (h : List StripeEvent). slice_get h by.replied.place) (new_is ∙ by.replied.answered.history_is)
-      ∙ (ap (slice_get (history ++ events.Did did ∷ cooled_if did.who (key_of command) by.replied.answered.cooled)) by.replied.answered.place_is
-      ∙ get_next history (cooled_if did.who (key_of command) by.replied.answered.cooled) (events.Did did))
+      ∙ (ap (slice_get (history ++ events.Did did ∷ [])) by.replied.answered.place_is ∙ get_next history [] (events.Did did))
 
   here : IsAt (stripe_events (list_at new.sight.seen number)) old.caller place call
   here = record { did = did; there = there; call_is = ap (λ (r : Reply). exchange old.caller old.turn (Asks command) moment (Replied r)) by.replied.reply_is; by = refl }
@@ -130,12 +127,12 @@ kept_at config old new calls more caller same grows noted n below none =
 -- juggling is noted too
 pub juggled_adds : (config : Config) (old new : PassView) (class : ClassNo) (moment : ℕ) (moves : Moves) → MayCall config old
     → IsClass (setting_of config) class → new.caller ≡ old.caller → new.calls ≡ old.calls ++ juggling_of class moment ∷ [] → Grows old.sight new.sight
-    → IsJuggledBy config class old.sight new.sight (record { caller = old.caller; turn = old.turn }) moment moves
+    → IsJuggledBy config class old new moment moves
     → AddsCalls (AreNoted config old) (AreNoted config new) (exchange old.caller old.turn (Juggles class) moment (Moved moves) ∷ [])
 juggled_adds config old new class moment moves may is caller noted_as grows by = let same = kept_places old new moment (juggling_of class moment) refl noted_as in record {
   at = λ calls noted. record {
     stand = stand_more config nothing_seen (histories_seen config old.sight) (histories_seen config new.sight) calls _ noted.stand
-        (juggled_between config class old.sight new.sight (next_who old) moment moves is grows by);
+        (juggled_between config class old new moment moves is grows by);
     at = λ n below. kept_at config old new calls _ caller same grows noted n below refl;
     rising = λ n below. subst (AreRising 0) (sym (same n)) (noted.rising n below);
     made = made_but_last config old new (juggling_of class moment ∷ []) may caller grows (ap turns_of noted_as ∙ turns_of-call old.calls (juggling_of class moment) moment refl) (omega arith);
@@ -196,7 +193,7 @@ replied_ok config old new command moment (Err fault) may same grows by = tt
 -- juggling is noted where it was done
 pub juggled_ok : (config : Config) (old new : PassView) (class : ClassNo) (moment : ℕ) (r : Result Moves Fault) → MayCall config old
     → IsClass (setting_of config) class → new.caller ≡ old.caller → OnOk r (new.calls ≡ old.calls ++ juggling_of class moment ∷ []) → Grows old.sight new.sight
-    → IfOk r (IsJuggledBy config class old.sight new.sight (record { caller = old.caller; turn = old.turn }) moment)
+    → IfOk r (IsJuggledBy config class old new moment)
     → IfOk r (λ moves. AddsCalls (AreNoted config old) (AreNoted config new) (exchange old.caller old.turn (Juggles class) moment (Moved moves) ∷ []))
 juggled_ok config old new class moment (Ok moves) may is caller same grows by = juggled_adds config old new class moment moves may is caller same grows by
 juggled_ok config old new class moment (Err fault) may is caller same grows by = tt

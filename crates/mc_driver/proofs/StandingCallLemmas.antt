@@ -70,10 +70,14 @@ NotesJuggling-append : (config : Config) (seen history more : List ClassEvent) (
     → NotesJuggling config seen (history ++ more) who class moment moves
 NotesJuggling-append config seen history more who class moment moves noted = record {
   before = noted.before;
+  hits = noted.hits;
+  few = noted.few;
+  advances = noted.advances;
+  advanced = noted.advanced;
   own = noted.own;
   behind = noted.behind ++ more;
   past = noted.past;
-  split = ap (λ (h : List ClassEvent). h ++ more) noted.split ∙ append_assoc (noted.before ++ noted.own) noted.behind more;
+  split = ap (λ (h : List ClassEvent). h ++ more) noted.split ∙ append_assoc ((noted.before ++ noted.advances) ++ noted.own) noted.behind more;
   answers = noted.answers;
   juggled = noted.juggled;
 }
@@ -154,6 +158,10 @@ NotesJuggling-less : (config : Config) (less seen history : List ClassEvent) (wh
     → NotesJuggling config less history who class moment moves
 NotesJuggling-less config less seen history who class moment moves begins noted = record {
   before = noted.before;
+  hits = noted.hits;
+  few = noted.few;
+  advances = noted.advances;
+  advanced = noted.advanced;
   own = noted.own;
   behind = noted.behind;
   past = prefix_trans less seen noted.before begins noted.past;

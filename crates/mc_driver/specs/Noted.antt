@@ -1,11 +1,12 @@
 -- How the histories of a store note a call with its answer, after all that its caller had seen by then (own).
-use Rattle.std.specs.Prelude.{ℕ, ◌≡◌, List, [], ◌∷◌, ◌++◌}
+use Rattle.std.specs.Prelude.{ℕ, ◌≡◌, ◌≤◌, List, [], ◌∷◌, ◌++◌, length}
 use Rattle.std.specs.List.{flat_map}
 use mathlib.Core.List.{IsPrefix}
 use Rattle.mc_item.specs.declared.{class_event.ClassEvent.ClassEvent, command.Command.Command, config.Config.Config, counts.Moves.Moves, item.ClassNo.ClassNo}
 use Rattle.mc_item.specs.declared.{item.Who.Who, reply.Reply.Reply, reply.Room.Room, stripe_event.Did.Did, stripe_event.StripeEvent.StripeEvent}
 use Rattle.mc_item.specs.declared.{counts.Histogram.Histogram}
 use Rattle.mc_item.specs.declared.stripe_event.StripeEvent.TheVariants as events
+use Rattle.mc_hits.specs.declared.rule.Hit.{Hit}
 use Rattle.mc_proto.specs.Answers.{Replied}
 use Rattle.mc_pull.specs.{Juggle.IsJuggle, Rounds.rounds}
 use Rattle.mc_pull.specs.declared.looking.Answer.{Answer as GateAnswer}
@@ -16,7 +17,7 @@ use Rattle.mc_evidence.specs.{Refusals.WasTried, Setting.IsClass, Setting.site_i
 use Rattle.mc_crawl.specs.{CrawlCount.IsBalanced, Snapshot.links_of}
 use Rattle.mc_item.specs.Counts.{no_counts}
 use Rattle.mc_item.specs.declared.reply.Room.TheVariants as rooms
-use Rattle.mc_store.specs.{Crawls.AreLinksCounted, Crawls.HasReclaims, Earned.IsLastResort, Locked.setting_of, Sides.class_told}
+use Rattle.mc_store.specs.{Crawls.AreLinksCounted, Crawls.HasReclaims, Earned.IsLastResort, Hits.AreAdvanced, Locked.setting_of, Sides.class_told}
 
 -- an answered command as an exchange, without its room (the link or the refusal that it was given)
 abbrev pub exchange_of : Did → Exchange
@@ -54,15 +55,20 @@ pub record NotesCommand (config : Config) (number : ℕ) (seen history : List St
   pub last : (class : ClassNo) (place : ℕ) → IsClass (setting_of config) class → room ≡ rooms.Refused class place
       → IsLastResort config (record { 0 = number }) class place (classes class) (answered_command who command moment reply room)
 
--- a class's history has a call's juggling with these moves, after what was seen of it: surveys and walks in one unbroken stretch
+-- a class's history has a call's juggling with these moves, after what was seen of it, in one unbroken stretch: the moves of at most
+-- 256 hits that the call had taken, then surveys and walks
 pub record NotesJuggling (config : Config) (seen history : List ClassEvent) (who : Who) (class : ClassNo) (moment : ℕ) (moves : Moves) : Type 0 where
   pub before : List ClassEvent
+  pub hits : List Hit
+  pub few : length hits ≤ 256
+  pub advances : List ClassEvent
+  pub advanced : AreAdvanced who moment hits before (before ++ advances)
   pub own : List ClassEvent
   pub behind : List ClassEvent
   pub past : IsPrefix seen before
-  pub split : history ≡ (before ++ own) ++ behind
+  pub split : history ≡ ((before ++ advances) ++ own) ++ behind
   pub answers : List GateAnswer
-  pub juggled : IsJuggle (rounds (opened config class) who moment config) before answers (before ++ own) moves
+  pub juggled : IsJuggle (rounds (opened config class) who moment config) (before ++ advances) answers ((before ++ advances) ++ own) moves
 
 -- a class's history has a call's crawl: the entries at one point after what was seen, counted one by one, give this histogram.
 -- The events after what was seen have a `Reclaimed` by this call, at this moment, for each that it counts as reclaimed

@@ -3,6 +3,7 @@ ghost use Rattle.std.specs.Prelude.{◌≡◌, ◌≢◌, ◌+◌, ◌<◌, ◌�
 ghost use Rattle.std.specs.List.{All};
 ghost use Rattle.mc_item.specs.Config.{fault_of, IsBounded, IsSound};
 ghost use Rattle.mc_board.specs.{Histories.blind, Views.AreOwners, Views.locks_of};
+ghost use Rattle.mc_hits.specs.Views.{AreHands, tables_of};
 ghost use Rattle.mc_script.specs.Run.{AreCounted, Leaves};
 ghost use Rattle.mc_script.specs.declared.{outcome.Outcome.Outcome, upkeep.Keeper.TheVariants.Crawler, upkeep.Keeper.TheVariants.Maintainer};
 ghost use Rattle.mc_script.specs.declared.outcome.Outcome.TheVariants as outcomes;
@@ -14,11 +15,10 @@ ghost use Rattle.mc_driver.specs.declared.fault.RunFault.TheVariants as faults;
 
 use crate::fault::RunFault;
 use crate::jobs::{Ended, jobs_for, run_jobs};
-use mc_board::{Board, Owner, Seen};
 use mc_item::{Config, NoMemory};
 use mc_proto::{Limits, Sink};
 use mc_script::{Outcome, Source};
-use mc_store::{Final, Named, Pass, Store};
+use mc_store::{Final, Named, Pass, Store, Tokens};
 use std::alloc::Global;
 use std::hash::RandomState;
 use std::marker::Brand;
@@ -59,17 +59,6 @@ fn checked(config: Config, scripts: usize) -> Result<Config, RunFault>
     }
 }
 
-// Opens the board for a store of a configuration: a history for each stripe, slab class and caller.
-fn board_for(alloc: Global, config: &Config) -> Result<(Board, Vec<Owner>, Seen), NoMemory>
-    requires { IsBounded config.now }
-    ensures histories { IfOk result (λ r. locks_of r.0.counts ≡ histories_for config.now) }
-    ensures owners { IfOk result (λ r. AreOwners r.0.table (histories_for config.now) r.1.items) }
-    ensures seen { IfOk result (λ r. r.2 ≡ record { board = r.0.table; sight = blind }) }
-{
-    let locks = config.stripes as usize + config.sizes.as_slice().len();
-    Board::open(alloc, locks + config.callers as usize)
-}
-
 // Compares passes with the closed store, which stays the same.
 fn compare_all<N: Named>(ledger: &mut Final, passes: &mut Vec<Pass<N>>)
     requires board { ledger.old.board ≡ N.board.table }
@@ -92,23 +81,24 @@ fn threads_for(scripts: usize, moments: usize) -> usize
     if scripts == 1 && moments == 0 { 1 } else { 64 }
 }
 
-// Opens a store on the board and with the configuration that `N` names, runs scripts and upkeep as its callers, and closes it.
+// Opens a store with the board, the queues and the configuration that `N` names, runs scripts and upkeep as its callers, and
+// closes it.
 fn run_named<N: Named + Send + Sync, S: Source + Send, K: Sink + Send, R: Threads + Wait + Sync>(
     rt: &R,
     alloc: Global,
     config: Config,
-    board: Board,
-    owners: Vec<Owner>,
-    seen: Seen,
+    tokens: Tokens,
     seed: RandomState,
     scripts: Vec<(S, K)>,
     upkeep: &[u64],
 ) -> Result<Run<S, K>, NoMemory>
-    requires board { board ≡ N.board }
+    requires board { tokens.board ≡ N.board }
     requires config { (config ≡ N.config) × IsBounded N.config × IsSound N.config }
     requires locks { locks_of N.board.counts ≡ histories_for N.config }
-    requires owners { AreOwners N.board.table (histories_for N.config) owners.items }
-    requires seen { seen ≡ record { board = N.board.table; sight = blind } }
+    requires owners { AreOwners N.board.table (histories_for N.config) tokens.owners.items }
+    requires seen { tokens.seen ≡ record { board = N.board.table; sight = blind } }
+    requires queues { (tokens.queues ≡ N.queues) × (length N.queues ≡ length N.config.sizes) }
+    requires hands { AreHands (tables_of N.queues) N.config.callers tokens.hands.items }
     requires callers { N.config.callers ≡ length scripts.items + 2 }
     requires early { All (λ moment. moment ≤ 2 ^ 62) upkeep.now }
     ensures { IfOk result (λ run. IsRunDone S.coming S.failures K.taken K.failures N.config upkeep.now scripts.items run.ends.items run.outcomes.items
@@ -116,7 +106,7 @@ fn run_named<N: Named + Send + Sync, S: Source + Send, K: Sink + Send, R: Thread
 {
     let limits = limits_for(&config);
     let threads = threads_for(scripts.len(), upkeep.len());
-    let (store, passes) = Store::<N>::open(alloc, config, board, owners, seen, seed)?;
+    let (store, passes) = Store::<N>::open(alloc, config, tokens, seed)?;
     let mut ended = Ended::with_room(alloc, passes.len())?;
     let mut jobs = jobs_for(alloc, &store, passes, scripts)?;
     run_jobs(rt, alloc, limits, upkeep, threads, jobs.as_mut_slice());
@@ -204,9 +194,7 @@ pub fn run_scripts<S: Source + Send, K: Sink + Send, R: Threads + Wait + Sync>(
         return Err(RunFault::Scripts);
     }
     let config = checked(config, count)?;
-    let (board, owners, seen) = board_for(alloc, &config)?;
-    let run = run_named::<Brand, S, K, R>(
-        rt, alloc, config, board, owners, seen, seed, scripts, upkeep,
-    )?;
+    let tokens = Tokens::open(alloc, &config)?;
+    let run = run_named::<Brand, S, K, R>(rt, alloc, config, tokens, seed, scripts, upkeep)?;
     Ok(run)
 }

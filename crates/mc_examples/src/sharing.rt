@@ -1,14 +1,11 @@
 //! A store that threads share: two of them count visits, and a third caller reads.
 ghost use Rattle.std.specs.Prelude.{◌≡◌, IfSome};
 ghost use Rattle.mc_item.specs.Config.{IsBounded, IsSound};
-ghost use Rattle.mc_board.specs.{Histories.blind, Views.locks_of, Views.AreOwners};
-ghost use Rattle.mc_store.specs.Locked.{histories_for};
 ghost use Rattle.mc_examples.specs.Parts.{AreParts};
 
 use crate::no_memory;
-use mc_board::{Board, Owner, Seen};
 use mc_item::{Command, Config, Fault, Key, NoMemory, Reply, Value, Verb};
-use mc_store::{Named, Pass, Store};
+use mc_store::{Named, Pass, Store, Tokens};
 use std::alloc::Global;
 use std::hash::RandomState;
 use std::io::{self, Print, Write};
@@ -20,9 +17,7 @@ use std::thread::{self, Threads};
 #[derive(Drop)]
 struct Parts {
     config: Config,
-    board: Board,
-    owners: Vec<Owner>,
-    seen: Seen,
+    tokens: Tokens,
     seed: RandomState,
 }
 
@@ -37,31 +32,18 @@ fn checked(config: Config) -> Option<Config>
     }
 }
 
-// A board with a history for each stripe, each slab class and each caller.
-fn board_for(alloc: Global, config: &Config) -> Option<(Board, Vec<Owner>, Seen)>
-    requires { IsBounded config.now }
-    ensures locks { IfSome result (λ r. locks_of r.0.counts ≡ histories_for config.now) }
-    ensures owners { IfSome result (λ r. AreOwners r.0.table (histories_for config.now) r.1.items) }
-    ensures seen { IfSome result (λ r. r.2 ≡ record { board = r.0.table; sight = blind }) }
-{
-    let locks = config.stripes as usize + config.sizes.as_slice().len();
-    Board::open(alloc, locks + config.callers as usize).ok()
-}
-
 // The parts of a store of the usual configuration with three callers.
 fn parts_for(alloc: Global, seed: RandomState) -> Option<Parts>
-    ensures { IfSome result (λ p. AreParts p.board p.config p.owners.items p.seen) }
+    ensures { IfSome result (λ p. AreParts p.tokens.board p.config p.tokens.queues p.tokens) }
 {
     let config = checked(Config::usual(alloc, 3).ok()?)?;
-    match board_for(alloc, &config) {
-        Some((board, owners, seen)) => Some(Parts {
+    match Tokens::open(alloc, &config) {
+        Ok(tokens) => Some(Parts {
             config,
-            board,
-            owners,
-            seen,
+            tokens,
             seed,
         }),
-        None => None,
+        Err(_) => None,
     }
 }
 
@@ -162,17 +144,15 @@ fn shared<N: Named + Send + Sync, R: Threads + Wait + Sync>(
     alloc: Global,
     parts: Parts,
 ) -> Result<Reply, Fault>
-    requires named { (parts.board ≡ N.board) × (parts.config ≡ N.config) }
-    requires fit { AreParts N.board N.config parts.owners.items parts.seen }
+    requires named { (parts.tokens.board ≡ N.board) × (parts.config ≡ N.config) × (parts.tokens.queues ≡ N.queues) }
+    requires fit { AreParts N.board N.config N.queues parts.tokens }
 {
     let Parts {
         config,
-        board,
-        owners,
-        seen,
+        tokens,
         seed,
     } = parts;
-    match Store::<N>::open(alloc, config, board, owners, seen, seed) {
+    match Store::<N>::open(alloc, config, tokens, seed) {
         Ok((store, passes)) => with_passes(rt, alloc, store, passes),
         Err(_) => Err(Fault::NoMemory),
     }

@@ -1,37 +1,32 @@
 -- One try of a command on the classes that it is lent: that it may be made there, and what it makes.
-use Rattle.std.proofs.Common.{◌≡◌, ◌<◌, ◌≤◌, ◌+◌, ◌^◌, ◌==◌, ◌&&◌, ℕ, List, [], ◌∷◌, ◌++◌, Bool, true, false, not, refl, sym, ap, ◌∙◌, subst, inl, inr, ◌⊎◌, length, append_assoc, append-nil, arith}
-use Rattle.std.specs.Prelude.{Option, Some, None, IfSome, IsSomeAnd, MatchOption, if◌then◌else◌, nat_le, decimal, position, slice_get}
+use Rattle.std.proofs.Common.{◌≡◌, ◌≤◌, ◌+◌, ◌^◌, ◌==◌, ◌&&◌, ℕ, List, [], ◌∷◌, Bool, true, false, not, refl, sym, ap, ◌∙◌, subst, inl, inr, ◌⊎◌, arith}
+use Rattle.std.specs.Prelude.{Option, Some, None, IfSome, IsSomeAnd, if◌then◌else◌, nat_le, position, slice_get}
 use Rattle.std.specs.{List.All, Option.option_map}
-use Rattle.std.proofs.lemmas.Bool.{false≢true, true≢false}
-use Rattle.mc_item.specs.Answer.{Row, fresh, row_of, store_row, let_go, grown_row, number_row, stepped, version_of}
-use Rattle.mc_item.specs.{Cache.changed, Command.key_of, Item.expiry_of, Item.hit_marks, Item.is_dead, Item.link_of_item, Measure.class_of, Measure.cost_of}
-use Rattle.mc_item.specs.{Measure.numeral_of, Stripe.Fits, Stripe.IsAlive, Stripe.IsLegal, Stripe.IsUnnamed, Stripe.link_of}
-use Rattle.mc_item.specs.declared.{answer.Answer.Answer, answer.Change.Change, answer.Need.Need, answer.Site.Site, command.Command.Command, command.Verb.Verb}
-use Rattle.mc_item.specs.declared.{command.Verb.TheVariants.Set, command.Verb.TheVariants.Add, command.Verb.TheVariants.Replace, command.Verb.TheVariants.Cas}
-use Rattle.mc_item.specs.declared.{config.Config.Config, counting.Step.TheVariants.Up, counting.Step.TheVariants.Down, item.ClassNo.ClassNo, item.Expiry.Expiry}
-use Rattle.mc_item.specs.declared.{item.Item.Item, item.Link.Link, reply.Reply.Reply, reply.Room.Room, item.Who.Who, stripe_event.StripeEvent.StripeEvent}
+use Rattle.std.proofs.lemmas.Bool.{false≢true}
+use Rattle.mc_item.specs.{Cache.changed, Command.key_of, Item.link_of_item, Measure.cost_of}
+use Rattle.mc_item.specs.{Stripe.Fits, Stripe.IsLegal, Stripe.IsUnnamed, Stripe.link_of}
+use Rattle.mc_item.specs.declared.{answer.Change.Change, answer.Need.Need, command.Command.Command}
+use Rattle.mc_item.specs.declared.{config.Config.Config, item.ClassNo.ClassNo, item.Expiry.Expiry}
+use Rattle.mc_item.specs.declared.{item.Item.Item, item.Link.Link, reply.Room.Room}
 use Rattle.mc_item.specs.declared.answer.Change.TheVariants as changes
 use Rattle.mc_item.specs.declared.answer.Need.TheVariants as needs
 use Rattle.mc_item.specs.declared.class_event.ClassEvent.TheVariants as class_events
-use Rattle.mc_item.specs.declared.command.Command.TheVariants.{Get, Store, Huge, Incr, Decr, Touch, Delete}
 use Rattle.mc_item.specs.declared.reply.Room.TheVariants as rooms
-use Rattle.mc_rule.specs.{Lawful.is_named, Lists.entries_linked, Lists.lists_of, Lists.segment_of, Pairs.link_to}
+use Rattle.mc_rule.specs.{Lawful.is_named, Lists.entries_linked, Lists.lists_of, Pairs.link_to}
 use Rattle.mc_rule.proofs.TestLemmas.{by_eq}
 use Rattle.mc_evidence.specs.Small.{AreSmall}
-use Rattle.mc_evidence.proofs.{RowLemmas.by_test, SmallItemLemmas.small_item, UnnamedLemmas.next_unnamed}
-use Rattle.mc_segment.specs.{ClassState.ClassView, ClassState.HasPlaces, ClassState.with_room, Entries.entry_of}
-use Rattle.mc_pull.specs.declared.parts.Part.{Part}
-use Rattle.mc_pull.specs.declared.parts.Part.TheVariants as parts
-use Rattle.mc_stripe.specs.{Plan.fate_of, Plan.woken_link, StripeState.Stripe, StripeState.cache_now, Trying.item_of, Trying.row_at, Plan.woken_by}
+use Rattle.mc_evidence.proofs.{SmallItemLemmas.small_item, UnnamedLemmas.next_unnamed}
+use Rattle.mc_segment.specs.{ClassState.ClassView, ClassState.HasPlaces, Entries.entry_of}
+use Rattle.mc_stripe.specs.{Plan.fate_of, StripeState.Stripe, StripeState.cache_now, Trying.item_of, Trying.row_at}
 use Rattle.mc_stripe.specs.Wanting.{Covers, Holds, IsGiven, IsTaken, Uses, changes_at, class_beside, class_of_fate, home_class, other_class}
 use Rattle.mc_stripe.specs.Wanting as wanting
 use Rattle.mc_stripe.specs.declared.{fate.Fate.Fate, wanting.Given.Given, wanting.Home.Home, wanting.Other.Other, trying.Turn.Turn}
 use Rattle.mc_stripe.specs.declared.fate.Fate.TheVariants as fates
 use Rattle.mc_pull.specs.{Agreeing.AgreeNow, Lent.OfEachClass, Lent.IsLent, Lent.IsLentIf, Perform.AreLent, Perform.GivesRoom, Perform.MayAnswer, Perform.MayPerform}
-use Rattle.mc_pull.specs.{Perform.call, Perform.fate_for, Performed.cooled_if, Settled.cooled_event, Question.IsClassOf, Question.IsStripeOf}
+use Rattle.mc_pull.specs.{Perform.call, Perform.fate_for, Question.IsClassOf, Question.IsStripeOf}
 use Rattle.mc_pull.specs.Attempt.{GivesHome, HasFree, HasRoomFor, IsAny, IsSmallFate, MayTryOn, OffersHome, OffersOther}
-use Rattle.mc_pull.specs.Parts.{gone_part, hit_part, is_cold, is_for, is_here, is_warming, new_part, entry_number, part_for, places_of}
-use Rattle.mc_pull.proofs.{CallItemLemmas.after_is, CallItemLemmas.did, CallItemLemmas.may_do, PerformLemmas.not_gone, PerformLemmas.not_new, PerformedLemmas.IsOf}
+use Rattle.mc_pull.specs.Parts.{gone_part, is_for, is_here, new_part, part_for, places_of}
+use Rattle.mc_pull.proofs.{CallItemLemmas.after_is, CallItemLemmas.did, CallItemLemmas.may_do, PerformedLemmas.IsOf}
 use Rattle.mc_pull.proofs.{PerformedLemmas.each_at, PerformedLemmas.one_class, NewVersionLemmas.IsPlaced, NewVersionLemmas.row_places, CostLemmas.small_at}
 
 -- ---- one of some classes
@@ -54,116 +49,6 @@ lent_at [] v there link is = absurd there
 lent_at (w ∷ vs) v (inl same) link is = inl (ap (λ (x : ClassView). x.number) (sym same) ∙ is)
 lent_at (w ∷ vs) v (inr later) link is = inr (lent_at vs v later link is)
 
--- ---- a row's change is a hit just where the command is one
-abbrev IsNoHit : Change → Type 0
-IsNoHit changes.Stays = Unit {0}
-IsNoHit changes.Goes = Unit {0}
-IsNoHit (changes.Hit marks) = ⊥
-IsNoHit (changes.Touched expiry marks) = ⊥
-IsNoHit (changes.Counted value cas) = Unit {0}
-IsNoHit (changes.Renewed item) = Unit {0}
-
-let_go_no_hit : (verb : Verb) → IsNoHit (let_go verb)
-let_go_no_hit Set = tt
-let_go_no_hit Add = tt
-let_go_no_hit Replace = tt
-let_go_no_hit (Cas unique) = tt
-
-module _ (room : Room) where
-  abbrev RowIsNoHit : Row → Type 0
-  RowIsNoHit row = IsNoHit (row.answer room).change
-
-fresh_no_hit : (room : Room) (class : ClassNo) (reply : Reply) (version : Link → Item) (refused : Answer) → IsNoHit refused.change → RowIsNoHit room (fresh class reply version refused)
-fresh_no_hit (rooms.At link) class reply version refused none = tt
-fresh_no_hit (rooms.Refused of place) class reply version refused none = none
-fresh_no_hit rooms.Keep class reply version refused none = none
-
-module _ (room : Room) where
-  store_no_hit : (class : Option ClassNo) (verb : Verb) (found : Option Item) (version : Link → Item) → RowIsNoHit room (store_row class verb found version)
-  store_no_hit None verb found version = let_go_no_hit verb
-  store_no_hit (Some class) Set found version = fresh_no_hit room class _ version _ tt
-  store_no_hit (Some class) Add None version = fresh_no_hit room class _ version _ tt
-  store_no_hit (Some class) Add (Some item) version = tt
-  store_no_hit (Some class) Replace None version = tt
-  store_no_hit (Some class) Replace (Some item) version = fresh_no_hit room class _ version _ tt
-  store_no_hit (Some class) (Cas unique) None version = tt
-  store_no_hit (Some class) (Cas unique) (Some item) version = by_test (RowIsNoHit room) (item.cas == unique) _ _ (λ same. fresh_no_hit room class _ version _ tt) tt
-
-  grown_no_hit : (site : Site) (n : ℕ) (item : Item) (number : ℕ) (class : Option ClassNo) → RowIsNoHit room (grown_row site n item number class)
-  grown_no_hit site n item number None = tt
-  grown_no_hit site n item number (Some class) = fresh_no_hit room class _ _ _ tt
-
-  number_no_hit : (site : Site) (n : ℕ) (key : List ℕ) (item : Item) (number : Option ℕ) → RowIsNoHit room (number_row site n key item number)
-  number_no_hit site n key item None = tt
-  number_no_hit site n key item (Some number) =
-      by_test (RowIsNoHit room) (nat_le (length (decimal number)) (length item.value)) _ _ (λ short. tt) (grown_no_hit site n item number (class_of site.sizes (cost_of key (decimal number))))
-
--- ---- the part that moves an entry
-module _ (v : ClassView) (key : List ℕ) (room : Room) where
-  cold_of_none : (found : Option Item) (change : Change) → IsNoHit change → is_warming (part_for v key room (fate_of key found change)) ≡ false
-  cold_of_none found changes.Stays none = refl
-  cold_of_none None changes.Goes none = refl
-  cold_of_none (Some old) changes.Goes none = not_gone (entry_number v key (Some old.link))
-  cold_of_none found (changes.Counted value cas) none = refl
-  cold_of_none found (changes.Renewed item) none = not_new key _ _ (is_here v room) (entry_number v key (link_of_item found))
-  cold_of_none found (changes.Hit marks) none = absurd none
-  cold_of_none found (changes.Touched expiry marks) none = absurd none
-
-  cold_row : (found : Option Item) (row : Row) → RowIsNoHit room row → is_warming (part_for v key room (fate_of key found (row.answer room).change)) ≡ false
-  cold_row found row none = cold_of_none found (row.answer room).change none
-
-  abbrev warms_at : Option Link → Bool
-  warms_at link = is_warming (hit_part v (entry_number v key link))
-
-  hit_same : (b : Bool) (link : Link) → is_warming (part_for v key room (if b then fates.Woken link else fates.Untouched)) ≡ warms_at (if b then Some link else None)
-  hit_same true link = refl
-  hit_same false link = refl
-
-  hit_alive : (item : Item) (moment : ℕ) → is_dead item moment ≡ false
-      → is_warming (part_for v key room (if (hit_marks item.marks).active && not item.marks.active then fates.Woken item.link else fates.Untouched)) ≡ warms_at (woken_link (Some item) moment)
-  hit_alive item moment alive =
-      hit_same ((hit_marks item.marks).active && not item.marks.active) item.link
-      ∙ ap (λ (b : Bool). warms_at (if b then None else if (hit_marks item.marks).active && not item.marks.active then Some item.link else None)) (sym alive)
-
--- what a hit wakes is what a part of its command moves
-pub warms_part : (s : Stripe) (command : Command) (moment : ℕ) (v : ClassView) (room : Room) → IsAlive (item_of s command) moment
-    → is_warming (part_for v (key_of command) room (fate_of (key_of command) (item_of s command) ((row_at s command moment).answer room).change))
-    ≡ is_warming (hit_part v (entry_number v (key_of command) (woken_by s command moment)))
-warms_part s (Get key) moment v room alive = by (item_of s (Get key)) alive
-  where
-    by : (found : Option Item) → IsAlive found moment
-        → is_warming (part_for v key room (fate_of key found ((row_of s.site (cache_now s).versions found (Get key) moment).answer room).change)) ≡ is_warming (hit_part v (entry_number v key (woken_link found moment)))
-    by None alive = refl
-    by (Some item) alive = hit_alive v key room item moment alive
-warms_part s (Touch key exptime) moment v room alive = by (item_of s (Touch key exptime)) alive
-  where
-    by : (found : Option Item) → IsAlive found moment
-        → is_warming (part_for v key room (fate_of key found ((row_of s.site (cache_now s).versions found (Touch key exptime) moment).answer room).change))
-        ≡ is_warming (hit_part v (entry_number v key (woken_link found moment)))
-    by None alive = refl
-    by (Some item) alive = hit_alive v key room item moment alive
-warms_part s (Store verb key flags exptime value) moment v room alive =
-    cold_of_none v key room _ _ (store_no_hit room (class_of s.site.sizes (cost_of key value)) verb (item_of s (Store verb key flags exptime value))
-    (version_of s.site (cache_now s).versions flags value (expiry_of exptime moment)))
-warms_part s (Huge verb key) moment v room alive = cold_of_none v key room _ _ (let_go_no_hit verb)
-warms_part s (Incr key delta) moment v room alive = by (item_of s (Incr key delta))
-  where
-    by : (found : Option Item) → is_warming (part_for v key room (fate_of key found ((row_of s.site (cache_now s).versions found (Incr key delta) moment).answer room).change)) ≡ false
-    by None = refl
-    by (Some item) = cold_row v key room (Some item) (row_of s.site (cache_now s).versions (Some item) (Incr key delta) moment)
-        (number_no_hit room s.site (cache_now s).versions key item (option_map (stepped (Up delta)) (numeral_of item.value)))
-warms_part s (Decr key delta) moment v room alive = by (item_of s (Decr key delta))
-  where
-    by : (found : Option Item) → is_warming (part_for v key room (fate_of key found ((row_of s.site (cache_now s).versions found (Decr key delta) moment).answer room).change)) ≡ false
-    by None = refl
-    by (Some item) = cold_row v key room (Some item) (row_of s.site (cache_now s).versions (Some item) (Decr key delta) moment)
-        (number_no_hit room s.site (cache_now s).versions key item (option_map (stepped (Down delta)) (numeral_of item.value)))
-warms_part s (Delete key) moment v room alive = by (item_of s (Delete key))
-  where
-    by : (found : Option Item) → is_warming (part_for v key room (fate_of key found ((row_of s.site (cache_now s).versions found (Delete key) moment).answer room).change)) ≡ false
-    by None = refl
-    by (Some item) = not_gone (entry_number v key (Some item.link))
-
 -- ---- how many events a part has
 module _ (key : List ℕ) (cost n : ℕ) (expiry : Expiry) where
   few_both : (b c d : Bool) → places_of (new_part key cost expiry b (if c && d then Some n else None)) ≤ (if b then 1 else 0) + (if c then 1 else 0)
@@ -183,22 +68,6 @@ few_gone n true true = omega arith
 few_gone n true false = omega arith
 few_gone n false d = omega arith
 
-few_hit : (v : ClassView) (o : Option ℕ) → places_of (hit_part v o) ≤ 1
-few_hit v None = omega arith
-few_hit v (Some n) = by (is_cold (segment_of n (lists_of v.history)))
-  where
-    by : (b : Bool) → places_of (if b then parts.Warms n else parts.Nothing) ≤ 1
-    by true = omega arith
-    by false = omega arith
-
-cold_hit : (v : ClassView) (o : Option ℕ) → is_warming (hit_part v o) ≡ false → places_of (hit_part v o) ≤ 0
-cold_hit v None cold = omega arith
-cold_hit v (Some n) cold = by (is_cold (segment_of n (lists_of v.history))) cold
-  where
-    by : (b : Bool) → is_warming (if b then parts.Warms n else parts.Nothing) ≡ false → places_of (if b then parts.Warms n else parts.Nothing) ≤ 0
-    by true cold = absurd (true≢false cold)
-    by false cold = omega arith
-
 module _ (v : ClassView) (key : List ℕ) where
   few_renewed : (cost : ℕ) (expiry : Expiry) (room : Room) (old : Option Link) → places_of (part_for v key room (fates.Renewed cost expiry old)) ≤ changes_at v.number room (fates.Renewed cost expiry old)
   few_renewed cost expiry (rooms.At link) None = few_one key cost 0 expiry (link.class.0 == v.number.0)
@@ -208,19 +77,12 @@ module _ (v : ClassView) (key : List ℕ) where
   few_renewed cost expiry rooms.Keep None = omega arith
   few_renewed cost expiry rooms.Keep (Some old) = few_both key cost old.number expiry false (old.class.0 == v.number.0) (is_for key (entry_of old.number (lists_of v.history)))
 
-  -- one that moves no entry has no more than entries come into the class and leave it
-  pub part_few : (room : Room) (fate : Fate) → is_warming (part_for v key room fate) ≡ false → places_of (part_for v key room fate) ≤ changes_at v.number room fate
-  part_few room fates.Untouched cold = omega arith
-  part_few room (fates.Renewed cost expiry old) cold = few_renewed cost expiry room old
-  part_few room (fates.Goes link) cold = few_gone link.number (link.class.0 == v.number.0) (is_for key (entry_of link.number (lists_of v.history)))
-  part_few room (fates.Woken link) cold = cold_hit v (entry_number v key (Some link)) cold
-
-  -- one that moves an entry has one
-  pub part_one : (room : Room) (fate : Fate) → is_warming (part_for v key room fate) ≡ true → places_of (part_for v key room fate) ≤ 1
-  part_one room fates.Untouched warm = absurd (false≢true warm)
-  part_one room (fates.Renewed cost expiry old) warm = absurd (false≢true (sym (not_new key cost expiry (is_here v room) (entry_number v key old)) ∙ warm))
-  part_one room (fates.Goes link) warm = absurd (false≢true (sym (not_gone (entry_number v key (Some link))) ∙ warm))
-  part_one room (fates.Woken link) warm = few_hit v (entry_number v key (Some link))
+  -- it has no more than entries come into the class and leave it
+  pub part_few : (room : Room) (fate : Fate) → places_of (part_for v key room fate) ≤ changes_at v.number room fate
+  part_few room fates.Untouched = omega arith
+  part_few room (fates.Renewed cost expiry old) = few_renewed cost expiry room old
+  part_few room (fates.Goes link) = few_gone link.number (link.class.0 == v.number.0) (is_for key (entry_of link.number (lists_of v.history)))
+  part_few room (fates.Woken link) = omega arith
 
 -- ---- a command that may be tried on these classes
 module _ (s : Stripe) (vs : List ClassView) (command : Command) (turn : Turn) (given : Given) (may : MayTryOn s vs command turn given) where
@@ -336,18 +198,18 @@ module _ (s : Stripe) (vs : List ClassView) (command : Command) (turn : Turn) (g
       room_lent class (rooms.Refused of place) t = tt
       room_lent class rooms.Keep t = tt
 
-      woken_lent : (b : Bool) (link : Link) → IsLent vs link → AreLent vs room (if b then fates.Woken link else fates.Untouched)
-      woken_lent true link lent = lent
-      woken_lent false link lent = tt
+      woken_lent : (b : Bool) (link : Link) → AreLent vs room (if b then fates.Woken link else fates.Untouched)
+      woken_lent true link = tt
+      woken_lent false link = tt
 
       lent_by : (found : Option Item) (change : Change) → IsLentIf vs (link_of room) → IsLentIf vs (link_of_item found) → AreLent vs room (fate_of (key_of command) found change)
       lent_by found changes.Stays at old = tt
       lent_by None changes.Goes at old = tt
       lent_by (Some item) changes.Goes at old = old
       lent_by None (changes.Hit marks) at old = tt
-      lent_by (Some item) (changes.Hit marks) at old = woken_lent (marks.active && not item.marks.active) item.link old
+      lent_by (Some item) (changes.Hit marks) at old = woken_lent (marks.active && not item.marks.active) item.link
       lent_by None (changes.Touched expiry marks) at old = tt
-      lent_by (Some item) (changes.Touched expiry marks) at old = woken_lent (marks.active && not item.marks.active) item.link old
+      lent_by (Some item) (changes.Touched expiry marks) at old = woken_lent (marks.active && not item.marks.active) item.link
       lent_by found (changes.Counted value cas) at old = tt
       lent_by found (changes.Renewed item) at old = (at, old)
 
@@ -356,7 +218,7 @@ module _ (s : Stripe) (vs : List ClassView) (command : Command) (turn : Turn) (g
       fate_lent fates.Untouched none held = tt
       fate_lent (fates.Renewed cost expiry old) none held = absurd (none cost expiry old refl)
       fate_lent (fates.Goes link) none held = other_lent given.other may.offered.other link held
-      fate_lent (fates.Woken link) none held = other_lent given.other may.offered.other link held
+      fate_lent (fates.Woken link) none held = tt
 
       no_wake : (b : Bool) (link : Link) (cost : ℕ) (expiry : Expiry) (old : Option Link) → (if b then fates.Woken link else fates.Untouched) ≡ fates.Renewed cost expiry old → ⊥
       no_wake true link cost expiry old is = cc is
@@ -436,8 +298,8 @@ module _ (s : Stripe) (vs : List ClassView) (command : Command) (turn : Turn) (g
       pub here_small : IsLegal s.site s.history → All (λ size. size ≤ 2 ^ 20) s.site.sizes → (v : ClassView) → is_here v room ≡ true → IsSmallFate fate
       here_small legal sizes v here = small_at_room legal sizes room refl v here
 
-      -- a part that moves no entry has places, which take no memory
-      record Ready (v : ClassView) (n : ℕ) : Type 0 where
+      -- a part has places, which take no memory
+      pub record Ready (v : ClassView) (n : ℕ) : Type 0 where
         pub space : n ≤ v.room
         pub places : HasPlaces v n
 
@@ -459,62 +321,6 @@ module _ (s : Stripe) (vs : List ClassView) (command : Command) (turn : Turn) (g
               fewer v n o.places (omega (arith, few, most)) (room_o offers.class_is) offers.places.fits
           by h None (inr offers) room_h room_o places_h places_o = absurd offers
 
-      -- the part of a class has room and places, where those of a move were made
-      pub part_ready : (v mid : ClassView) → IsSomeAnd given.home (OffersHome v may.refused turn.who) ⊎ IsSomeAnd given.other (OffersOther v) → HasRoomFor given v
-          → mid ≡ with_room v mid.room → v.room ≤ mid.room → (warms : Bool) → warms ≡ is_warming (part_for v (key_of command) room fate) → (warms ≡ true → (0 < mid.room) × HasPlaces mid 1)
-          → (part : Part) → part ≡ part_for v (key_of command) room fate → (places_of part ≤ mid.room) × HasPlaces mid (places_of part)
-      part_ready v mid offers has same kept true is moved part part_is =
-          let one = subst (λ (p : Part). places_of p ≤ 1) (sym part_is) (part_one v (key_of command) room fate (sym is)) in
-          let space = moved refl in
-          (omega (arith, one, space.0), omega (arith, one, space.1))
-      part_ready v mid offers has same kept false is moved part part_is =
-          let few = subst (λ (p : Part). places_of p ≤ changes_at v.number room fate) (sym part_is) (part_few v (key_of command) room fate (sym is)) in
-          let ready = ready_at v offers has (places_of part) few in
-          let there : length mid.history ≡ length v.history = ap (λ (x : ClassView). length x.history) same in
-          let most : mid.max_events ≡ v.max_events = ap (λ (x : ClassView). x.max_events) same in
-          (omega (arith, ready.space, kept), omega (arith, ready.places, there, most))
-
--- ---- a mark that is cleared where a key is given
-module _ (who : Who) (key : List ℕ) where
-  pub cooled_history : (h1 h2 : List StripeEvent) (b : Bool) (cooled : Option (List ℕ)) → cooled ≡ (if b then Some key else None) → MatchOption cooled (h2 ≡ h1) (λ k. h2 ≡ h1 ++ cooled_event who k ∷ [])
-      → h2 ≡ h1 ++ cooled_if who key b
-  cooled_history h1 h2 true cooled is event = rw is at event
-  cooled_history h1 h2 false cooled is event = (rw is at event) ∙ sym (append-nil h1)
-
-  pub cooled_where : (P : List ℕ → Type 0) (b : Bool) (cooled : Option (List ℕ)) → cooled ≡ (if b then Some key else None) → (b ≡ true → P key) → IfSome cooled P
-  cooled_where P true cooled is there = rw is (there refl)
-  cooled_where P false cooled is there = rw is tt
-
-  pub either_cooled : (h : List StripeEvent) (e : StripeEvent) (b : Bool) → (h ++ e ∷ []) ++ cooled_if who key b ≡ h ++ e ∷ cooled_if who key b
-  either_cooled h e b = append_assoc h (e ∷ []) (cooled_if who key b)
-
--- ---- a part that moves an entry is a part of a command whose item is alive
-pub warm_places : (p : Part) → is_warming p ≡ true → places_of p ≡ 1
-warm_places parts.Nothing warm = absurd (false≢true warm)
-warm_places (parts.Links key cost expiry) warm = absurd (false≢true warm)
-warm_places (parts.Renews key cost expiry number) warm = absurd (false≢true warm)
-warm_places (parts.Unlinks number) warm = absurd (false≢true warm)
-warm_places (parts.Warms number) warm = refl
-
-module _ (v : ClassView) (moment : ℕ) where
-  alive_if : (key : List ℕ) (item : Item) (link : Option Link) (b : Bool) → is_dead item moment ≡ b → is_warming (hit_part v (entry_number v key (if b then None else link))) ≡ true → is_dead item moment ≡ false
-  alive_if key item link true is warm = absurd (false≢true warm)
-  alive_if key item link false is warm = is
-
-  alive_woken : (key : List ℕ) (found : Option Item) → is_warming (hit_part v (entry_number v key (woken_link found moment))) ≡ true → IsAlive found moment
-  alive_woken key None warm = tt
-  alive_woken key (Some item) warm = alive_if key item (if (hit_marks item.marks).active && not item.marks.active then Some item.link else None) (is_dead item moment) refl warm
-
-  pub warm_alive : (s : Stripe) (command : Command) → is_warming (hit_part v (entry_number v (key_of command) (woken_by s command moment))) ≡ true → IsAlive (item_of s command) moment
-  warm_alive s (Get key) warm = alive_woken key (item_of s (Get key)) warm
-  warm_alive s (Touch key exptime) warm = alive_woken key (item_of s (Touch key exptime)) warm
-  warm_alive s (Store verb key flags exptime value) warm = absurd (false≢true warm)
-  warm_alive s (Huge verb key) warm = absurd (false≢true warm)
-  warm_alive s (Incr key delta) warm = absurd (false≢true warm)
-  warm_alive s (Decr key delta) warm = absurd (false≢true warm)
-  warm_alive s (Delete key) warm = absurd (false≢true warm)
-
-  -- so it is the part of the command
-  pub warm_on : (s : Stripe) (command : Command) (room : Room) → is_warming (hit_part v (entry_number v (key_of command) (woken_by s command moment))) ≡ true
-      → is_warming (part_for v (key_of command) room (fate_of (key_of command) (item_of s command) ((row_at s command moment).answer room).change)) ≡ true
-  warm_on s command room warm = warms_part s command moment v room (warm_alive s command warm) ∙ warm
+      pub part_ready : (v : ClassView) → IsSomeAnd given.home (OffersHome v may.refused turn.who) ⊎ IsSomeAnd given.other (OffersOther v) → HasRoomFor given v
+          → Ready v (places_of (part_for v (key_of command) room fate))
+      part_ready v offers has = ready_at v offers has (places_of (part_for v (key_of command) room fate)) (part_few v (key_of command) room fate)

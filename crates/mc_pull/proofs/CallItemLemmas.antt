@@ -1,5 +1,5 @@
 -- What a call makes of its key's item, and what it tells one class.
-use Rattle.std.proofs.Common.{◌≡◌, ◌≢◌, ◌&&◌, ℕ, List, [], ◌∷◌, ◌++◌, Bool, true, false, refl, sym, ap, ◌∙◌, subst, inl, inr, ◌⊎◌, append_assoc}
+use Rattle.std.proofs.Common.{◌≡◌, ◌≢◌, ◌&&◌, ℕ, List, [], ◌∷◌, ◌++◌, Bool, true, refl, sym, ap, ◌∙◌, subst, inl, inr, ◌⊎◌}
 use Rattle.std.specs.Prelude.{Option, Some, None, IsSomeAnd, nat_eq, if◌then◌else◌}
 use Rattle.std.specs.{Cmp.Lexicographic.pointwise, Option.option_map}
 use Rattle.std.proofs.lemmas.Cmp.{nat_list_eq_equiv}
@@ -12,12 +12,12 @@ use Rattle.mc_rule.specs.{Agreement.Agree, Belonging.IsEntryFor, Belonging.IsEnt
 use Rattle.mc_rule.specs.{Lists.lists_of, Pairs.LetsGo, Pairs.item_after, Pairs.link_to, Places.Each, Segment.Rule}
 use Rattle.mc_rule.proofs.{HistoryLemmas.lists_of-push, ListLemmas.other_stays, EventPlaceLemmas.each_push, EventPlaceLemmas.stands_at}
 use Rattle.mc_rule.proofs.TestLemmas.{by_eq, none_some, not_equal, some_same}
-use Rattle.mc_evidence.specs.Made.{IsGivenNone, IsRefusedThere, LetsNoneGo, cooled_as}
-use Rattle.mc_evidence.proofs.{CitedItemLemmas.all_suited_later, ItemsAreEntriesLemmas.entry_of_item, EvidenceGrowthLemmas.stripe_push, HeldItemLemmas.link_held, RowLemmas.IsNoChunk}
+use Rattle.mc_evidence.specs.Made.{IsGivenNone, IsRefusedThere, LetsNoneGo}
+use Rattle.mc_evidence.proofs.{ItemsAreEntriesLemmas.entry_of_item, HeldItemLemmas.link_held, RowLemmas.IsNoChunk}
 use Rattle.mc_evidence.proofs.LinkLifeLemmas.{by_key, held_named, holds_push, link_new}
 use Rattle.mc_segment.specs.{ClassState.ClassView, Entries.entry_of}
 use Rattle.mc_stripe.specs.StripeState.{Stripe, cache_now}
-use Rattle.mc_pull.specs.{Agreeing.HasRefusal, Parts.is_for, Parts.entry_number, Performed.cooled_if, Performed.did_event}
+use Rattle.mc_pull.specs.{Agreeing.HasRefusal, Parts.is_for, Parts.entry_number, Performed.did_event}
 use Rattle.mc_pull.specs.Perform.{Call, MayAnswer, answer_to, item_before}
 use Rattle.mc_pull.proofs.NewVersionLemmas.{IsPlaced, row_places}
 
@@ -47,37 +47,11 @@ module _ (s : Stripe) (c : Call) where
   abbrev pub KeepsLink : Type 0
   KeepsLink = link_of_item (changed (item_before s c) (answer_to s c).change) ≡ link_of_item (item_before s c)
 
-  -- the histories agree once the command's event has come, and its item's mark may be cleared
-  abbrev pub AgreesWith : Rule → ClassNo → Bool → List ClassEvent → Type 0
-  AgreesWith rule n cooling history = Agree s.site rule n (s.history ++ did_event s c ∷ cooled_if c.who key cooling) history
-
-  -- a class of which no entry moves agrees with a mark cleared too
-  pub still_agrees : (rule : Rule) (n : ClassNo) (history : List ClassEvent) → Agree s.site rule n noted history
-      → (cooling : Bool) → (cooling ≡ true → (m : ℕ) → link_of_item (item_after s.site noted key) ≡ Some (link_to n m) → ⊥) → AgreesWith rule n cooling history
-  still_agrees rule n history agree false other = agree
-  still_agrees rule n history agree true other =
-      let told : HasTrace s.site rule n history noted (cooled_as c.who key) = λ m is. absurd (other refl m is) in
-      subst (λ (h : List StripeEvent). Agree s.site rule n h history) (append_assoc s.history (did_event s c ∷ []) (cooled_as c.who key ∷ []))
-      record {
-        evidence = stripe_push s.site rule n noted history agree.evidence (cooled_as c.who key) told;
-        suited = all_suited_later s.site n noted (cooled_as c.who key ∷ []) history agree.suited;
-        once = agree.once;
-      }
-
   -- a class that gives and loses no chunk by a command tells it
   pub neither_told : (rule : Rule) (n : ClassNo) (seen : List ClassEvent) → IsGivenNone n did → LetsNoneGo s.site n s.history did → IsRefusedThere n did seen
       → Each (HasTrace s.site rule n seen) s.history → Each (HasTrace s.site rule n seen) noted
   neither_told rule n seen none spared refused each =
       each_push (HasTrace s.site rule n seen) s.history (did_event s c) each record { linked = λ m room. absurd (none m room); unlinked = λ m goes. absurd (spared m goes); refused = refused }
-
-  -- a class of which no entry moves tells a mark that is cleared too
-  pub still_told : (rule : Rule) (n : ClassNo) (seen : List ClassEvent) → Each (HasTrace s.site rule n seen) noted
-      → (cooling : Bool) → (cooling ≡ true → (m : ℕ) → link_of_item (item_after s.site noted key) ≡ Some (link_to n m) → ⊥)
-      → Each (HasTrace s.site rule n seen) (s.history ++ did_event s c ∷ cooled_if c.who key cooling)
-  still_told rule n seen each false other = each
-  still_told rule n seen each true other =
-      subst (Each (HasTrace s.site rule n seen)) (append_assoc s.history (did_event s c ∷ []) (cooled_as c.who key ∷ []))
-      (each_push (HasTrace s.site rule n seen) noted (cooled_as c.who key) each (λ m is. absurd (other refl m is)))
 
 module _ (s : Stripe) (c : Call) (legal : IsLegal s.site s.history) (may : MayAnswer s c) where
   pub may_do : MayDo s.site (cache_now s) s.history (did s c)

@@ -1,57 +1,47 @@
 -- A class's part of a call keeps its history and the stripe's in agreement.
-use Rattle.std.proofs.Common.{◌≡◌, ◌≢◌, ◌+◌, ◌==◌, ◌&&◌, ℕ, List, [], ◌∷◌, ◌++◌, Bool, true, false, not, refl, sym, ap, ◌∙◌, subst, inl, inr, ◌⊎◌, length, append_assoc, length-append, append-nil}
+use Rattle.std.proofs.Common.{◌≡◌, ◌≢◌, ◌==◌, ◌&&◌, ℕ, List, [], ◌∷◌, ◌++◌, Bool, true, false, not, refl, sym, ap, ◌∙◌, subst, inl, inr, append_assoc, append-nil}
 use Rattle.std.specs.Prelude.{Option, Some, None, IsSomeAnd, if◌then◌else◌, slice_get}
-use Rattle.std.proofs.lemmas.{Bool.false≢true, Bool.Decides.eqb_tells}
+use Rattle.std.proofs.lemmas.Bool.Decides.{eqb_tells}
 use Rattle.mc_item.specs.{Cache.changed, Cache.counted, Cache.marked, Cache.touched, Item.link_of_item, Measure.cost_of, Stripe.IsLegal}
-use Rattle.mc_item.specs.declared.{answer.Change.Change, class_event.ClassEvent.ClassEvent, class_event.Linked.Linked, class_event.Shifted.Shifted}
-use Rattle.mc_item.specs.declared.{class_event.Unlinked.Unlinked, item.ClassNo.ClassNo, item.Item.Item, item.Link.Link, lists.Seg.TheVariants.Warm}
-use Rattle.mc_item.specs.declared.{lists.Seg.TheVariants.Cold, reply.Room.Room, stripe_event.StripeEvent.StripeEvent}
+use Rattle.mc_item.specs.declared.{answer.Change.Change, class_event.ClassEvent.ClassEvent, class_event.Linked.Linked}
+use Rattle.mc_item.specs.declared.{class_event.Unlinked.Unlinked, item.ClassNo.ClassNo, item.Item.Item, item.Link.Link}
+use Rattle.mc_item.specs.declared.reply.Room.{Room}
 use Rattle.mc_item.specs.declared.answer.Change.TheVariants as changes
 use Rattle.mc_item.specs.declared.class_event.ClassEvent.TheVariants as entries
-use Rattle.mc_item.specs.declared.class_event.Why.TheVariants as whys
 use Rattle.mc_item.specs.declared.reply.Room.TheVariants as rooms
-use Rattle.mc_rule.specs.{Agreement.Agree, Belonging.Belong, Lawful.IsLawfulHistoryByLists, Lawful.SuitsMove, Lists.lists_of, Lists.entries_linked, Lists.segment_of}
-use Rattle.mc_rule.specs.{Pairs.IsLinking, Pairs.IsUnlinking, Pairs.item_after, Pairs.link_to}
+use Rattle.mc_rule.specs.{Agreement.Agree, Lawful.IsLawfulHistoryByLists, Lists.entries_linked}
+use Rattle.mc_rule.specs.{Pairs.IsLinking, Pairs.IsUnlinking, Pairs.link_to}
 use Rattle.mc_rule.proofs.TestLemmas.{none_some, some_same}
-use Rattle.mc_evidence.specs.Made.{IsGivenNone, IsRefusedThere, LetsNoneGo, cooled_as, linked_for}
-use Rattle.mc_evidence.proofs.AgreementLemmas.{agree_cooled, agree_links, agree_neither, agree_replaces, agree_unlinks}
+use Rattle.mc_evidence.specs.Made.{IsGivenNone, IsRefusedThere, LetsNoneGo, linked_for}
+use Rattle.mc_evidence.proofs.AgreementLemmas.{agree_links, agree_neither, agree_replaces, agree_unlinks}
 use Rattle.mc_evidence.proofs.{RoomLemmas.new_entry, RowLemmas.IsNoChunk}
 use Rattle.mc_segment.specs.ClassState.{ClassView}
 use Rattle.mc_stripe.specs.declared.fate.Fate.TheVariants as fates
 use Rattle.mc_stripe.specs.{Plan.fate_of, Plan.gone_fate, Plan.hit_fate, StripeState.Stripe}
 use Rattle.mc_pull.specs.declared.parts.Part.{Part}
 use Rattle.mc_pull.specs.declared.parts.Part.TheVariants as parts
-use Rattle.mc_pull.specs.{Agreeing.HasRefusal, Performed.did_event, Performed.events_in, Performed.part_in}
-use Rattle.mc_pull.specs.Parts.{gone_part, hit_part, is_cold, is_here, is_warming, new_part, entry_number, part_events, part_for}
+use Rattle.mc_pull.specs.{Agreeing.HasRefusal, Performed.events_in}
+use Rattle.mc_pull.specs.Parts.{gone_part, is_here, new_part, entry_number, part_events, part_for}
 use Rattle.mc_pull.specs.Perform.{Call, MayAnswer, IsRoomOf, answer_to, item_before}
-use Rattle.mc_pull.proofs.CallItemLemmas.{AgreesWith, Finds, KeepsLink, after_is, entry, entry_stays, finds, kept_link, did, given_none, goes, key, may_do}
-use Rattle.mc_pull.proofs.CallItemLemmas.{not_held, noted, placed, refused_there, spared_if_apart, spared_if_kept, still_agrees}
-use Rattle.mc_pull.proofs.{NewVersionLemmas.IsPlaced, PerformLemmas.active_after}
+use Rattle.mc_pull.proofs.CallItemLemmas.{KeepsLink, after_is, entry, entry_stays, finds, kept_link, did, given_none, goes, key, may_do, not_held, noted, placed, refused_there, spared_if_apart, spared_if_kept}
+use Rattle.mc_pull.proofs.NewVersionLemmas.{IsPlaced}
 
 module _ (s : Stripe) (c : Call) (legal : IsLegal s.site s.history) (may : MayAnswer s c) where
   module _ (v : ClassView) (lawful : IsLawfulHistoryByLists v.chunks v.rule v.history) (agree : Agree s.site v.rule v.number s.history v.history) where
     -- ---- the parts
-    module _ (named : IsRoomOf c.who c.room v) (cooling : Bool) (marks_too : is_warming (part_in s c v) ≡ true → cooling ≡ true)
-        (only : cooling ≡ true → (m : ℕ) → link_of_item (item_after s.site (noted s c) (key s c)) ≡ Some (link_to v.number m) → is_warming (part_in s c v) ≡ true) where
+    module _ (named : IsRoomOf c.who c.room v) where
       -- the histories agree once the events of a part have come
       abbrev Made : Part → Type 0
-      Made part = AgreesWith s c v.rule v.number cooling (v.history ++ part_events v c.who c.moment (length s.history + 1) part)
+      Made part = Agree s.site v.rule v.number (noted s c) (v.history ++ part_events v c.who c.moment part)
 
       -- the part by a change of the item
       abbrev part_by : Change → Part
       part_by change = part_for v (key s c) c.room (fate_of (key s c) (item_before s c) change)
 
       module _ (change : Change) (change_is : (answer_to s c).change ≡ change) where
-        -- a part that moves no entry
-        quiet : (part : Part) → part_by change ≡ part → is_warming part ≡ false → Agree s.site v.rule v.number (noted s c) (v.history ++ part_events v c.who c.moment (length s.history + 1) part) → Made (part_by change)
-        quiet part is passive agrees =
-            let whole : part_in s c v ≡ part = ap part_by change_is ∙ is in
-            subst Made (sym is) (still_agrees s c v.rule v.number (v.history ++ part_events v c.who c.moment (length s.history + 1) part) agrees cooling
-            (λ on m has. false≢true (sym (ap is_warming whole ∙ passive) ∙ only on m has)))
-
         none_comes : part_by change ≡ parts.Nothing → IsGivenNone v.number (did s c) → LetsNoneGo s.site v.number s.history (did s c) → IsRefusedThere v.number (did s c) v.history → Made (part_by change)
         none_comes is none spared refused =
-            quiet parts.Nothing is refl
+            subst Made (sym is)
             (subst (λ (h : List ClassEvent). Agree s.site v.rule v.number (noted s c) h) (sym (append-nil v.history)) (agree_neither s.site v.rule v.number s.history v.history agree (did s c) none spared refused))
 
         unlinking : (m : ℕ) → link_of_item (item_before s c) ≡ Some (link_to v.number m) → link_of_item (changed (item_before s c) change) ≢ Some (link_to v.number m)
@@ -64,25 +54,11 @@ module _ (s : Stripe) (c : Call) (legal : IsLegal s.site s.history) (may : MayAn
         one_goes : (m : ℕ) → part_by change ≡ parts.Unlinks m → link_of_item (item_before s c) ≡ Some (link_to v.number m) → link_of_item (changed (item_before s c) change) ≢ Some (link_to v.number m)
             → IsGivenNone v.number (did s c) → IsRefusedThere v.number (did s c) v.history → Made (part_by change)
         one_goes m is had gone none refused =
-            quiet (parts.Unlinks m) is refl (agree_unlinks s.site v.rule v.number s.history v.history agree (did s c) (record { who = c.who; number = m })
+            subst Made (sym is) (agree_unlinks s.site v.rule v.number s.history v.history agree (did s c) (record { who = c.who; number = m })
             (unlinking m had gone) (entry s c legal may v lawful agree m had) none refused)
 
         kept : link_of_item (changed (item_before s c) change) ≡ link_of_item (item_before s c) → KeepsLink s c
         kept same = ap (λ (x : Change). link_of_item (changed (item_before s c) x)) change_is ∙ same
-
-        -- a hit that moves the entry
-        one_warms : (m : ℕ) → part_by change ≡ parts.Warms m → link_of_item (item_before s c) ≡ Some (link_to v.number m) → link_of_item (changed (item_before s c) change) ≡ link_of_item (item_before s c)
-            → IsGivenNone v.number (did s c) → IsRefusedThere v.number (did s c) v.history → Made (part_by change)
-        one_warms m is had same none refused =
-            let whole : part_in s c v ≡ parts.Warms m = ap part_by change_is ∙ is in
-            let moved : Shifted = record { who = c.who; number = m; from_seg = Cold; to_seg = Warm; why = whys.Hit; moment = c.moment; passed = []; at = length s.history + 1 } in
-            let agrees = agree_neither s.site v.rule v.number s.history v.history agree (did s c) none (spared_if_kept s c legal may v.number v.history (kept same)) refused in
-            let one : Belong s.site v.number (noted s c) v.history (key s c) m = record { item = ap link_of_item (after_is s c legal may) ∙ (kept same ∙ had); entry = entry s c legal may v lawful agree m had } in
-            let active = active_after v (key s c) c.room (item_before s c) (answer_to s c).change (ap is_warming whole) in
-            let suits = subst (λ (o : Option Item). IsSomeAnd o (SuitsMove whys.Hit c.moment)) (sym (after_is s c legal may)) active in
-            let cooled = agree_cooled s.site v.rule v.number (noted s c) v.history agrees v.chunks lawful (key s c) moved tt (sym (length-append s.history (did_event s c ∷ []))) one suits may.stripe in
-            subst Made (sym is) (subst (λ (b : Bool). AgreesWith s c v.rule v.number b (v.history ++ entries.Shifted moved ∷ [])) (sym (marks_too (ap is_warming whole)))
-            (subst (λ (h : List StripeEvent). Agree s.site v.rule v.number h (v.history ++ entries.Shifted moved ∷ [])) (append_assoc s.history (did_event s c ∷ []) (cooled_as c.who (key s c) ∷ [])) cooled))
 
       refusal_of : (room : Room) → IsRoomOf c.who room v → HasRefusal c.who room v.number v.history
       refusal_of (rooms.At link) is = λ place here. absurd (cc here)
@@ -113,35 +89,14 @@ module _ (s : Stripe) (c : Call) (legal : IsLegal s.site s.history) (may : MayAn
                 ∙ ap gone_part lacks.1) (given_none s c legal may v.number v.history none) (spared_if_apart s c legal may v.number v.history lacks.0) refused
           ]
 
-      -- a hit's part moves nothing, or the entry of the item
-      abbrev HitIs : Part → Type 0
-      HitIs part = (part ≡ parts.Nothing) ⊎ ((m : ℕ) × (link_of_item (item_before s c) ≡ Some (link_to v.number m)) × (part ≡ parts.Warms m))
+      -- a hit has no part
+      woken_none : (b : Bool) (link : Link) → part_for v (key s c) c.room (if b then fates.Woken link else fates.Untouched) ≡ parts.Nothing
+      woken_none true link = refl
+      woken_none false link = refl
 
-      cold_by : (m : ℕ) → link_of_item (item_before s c) ≡ Some (link_to v.number m) → (b : Bool) → HitIs (if b then parts.Warms m else parts.Nothing)
-      cold_by m had true = inr (m, had, refl)
-      cold_by m had false = inl refl
-
-      hit_entry : HitIs (hit_part v (entry_number v (key s c) (link_of_item (item_before s c))))
-      hit_entry =
-          elim (finds s c legal may v lawful agree) as (λ (t : Finds s c legal may v lawful agree (link_of_item (item_before s c))). HitIs (hit_part v (entry_number v (key s c) (link_of_item (item_before s c))))) [
-            | inl has ↦ subst (λ (o : Option ℕ). HitIs (hit_part v o)) (sym has.2) (cold_by has.0 has.1 (is_cold (segment_of has.0 (lists_of v.history))))
-            | inr lacks ↦ inl (ap (hit_part v) lacks.1)
-          ]
-
-      woken_by : (b : Bool) (link : Link) → HitIs (hit_part v (entry_number v (key s c) (Some link))) → HitIs (part_for v (key s c) c.room (if b then fates.Woken link else fates.Untouched))
-      woken_by true link h = h
-      woken_by false link h = inl refl
-
-      hit_by : (active : Bool) (o : Option Item) → HitIs (hit_part v (entry_number v (key s c) (link_of_item o))) → HitIs (part_for v (key s c) c.room (hit_fate active o))
-      hit_by active None h = inl refl
-      hit_by active (Some item) h = woken_by (active && not item.marks.active) item.link h
-
-      hits : (change : Change) → (answer_to s c).change ≡ change → IsNoChunk c.room → HitIs (part_by change) → link_of_item (changed (item_before s c) change) ≡ link_of_item (item_before s c) → Made (part_by change)
-      hits change change_is none is same =
-          elim is [
-            | inl nothing ↦ stays_by change change_is none nothing same
-            | inr warms ↦ one_warms change change_is warms.0 warms.2 warms.1 same (given_none s c legal may v.number v.history none) refused
-          ]
+      hit_none : (active : Bool) (o : Option Item) → part_for v (key s c) c.room (hit_fate active o) ≡ parts.Nothing
+      hit_none active None = refl
+      hit_none active (Some item) = woken_none (active && not item.marks.active) item.link
 
       -- ---- a new version
       module _ (item : Item) (change_is : (answer_to s c).change ≡ changes.Renewed item) (room : c.room ≡ rooms.At item.link) where
@@ -177,10 +132,10 @@ module _ (s : Stripe) (c : Call) (legal : IsLegal s.site s.history) (may : MayAn
                     let apart : entries_linked v.history ≢ m = λ is. replaced m has.1 (ap (λ (l : Link). Some l) (link_is ∙ ap (link_to v.number) is)) in
                     let both = agree_replaces s.site v.rule v.number s.history v.history agree (did s c) linked gone linking (unlinking (changes.Renewed item) change_is m has.1 (replaced m has.1))
                     (entry_stays s c legal may v lawful agree m linked apart (entry s c legal may v lawful agree m has.1)) in
-                    quiet (changes.Renewed item) change_is (parts.Renews (key s c) (cost_of (key s c) item.value) item.expiry m) (renewed_is true (Some m) here_is has.2) refl
+                    subst Made (sym (renewed_is true (Some m) here_is has.2))
                     (subst (λ (h : List ClassEvent). Agree s.site v.rule v.number (noted s c) h) (append_assoc v.history (entries.Linked linked ∷ []) (entries.Unlinked gone ∷ [])) both)
                 | inr lacks ↦
-                    quiet (changes.Renewed item) change_is (parts.Links (key s c) (cost_of (key s c) item.value) item.expiry) (renewed_is true None here_is lacks.1) refl
+                    subst Made (sym (renewed_is true None here_is lacks.1))
                     (agree_links s.site v.rule v.number s.history v.history agree (did s c) linked linking (spared_if_apart s c legal may v.number v.history lacks.0))
               ]
 
@@ -206,11 +161,11 @@ module _ (s : Stripe) (c : Call) (legal : IsLegal s.site s.history) (may : MayAn
       by_change : (change : Change) → (answer_to s c).change ≡ change → IsPlaced c.room change → Made (part_by change)
       by_change changes.Stays is at = stays_by changes.Stays is at refl refl
       by_change changes.Goes is at = goes_by is at
-      by_change (changes.Hit marks) is at = hits (changes.Hit marks) is at (hit_by marks.active (item_before s c) hit_entry) (kept_link (item_before s c) (marked marks) (λ i. refl))
-      by_change (changes.Touched expiry marks) is at = hits (changes.Touched expiry marks) is at (hit_by marks.active (item_before s c) hit_entry) (kept_link (item_before s c) (touched expiry marks) (λ i. refl))
+      by_change (changes.Hit marks) is at = stays_by (changes.Hit marks) is at (hit_none marks.active (item_before s c)) (kept_link (item_before s c) (marked marks) (λ i. refl))
+      by_change (changes.Touched expiry marks) is at = stays_by (changes.Touched expiry marks) is at (hit_none marks.active (item_before s c)) (kept_link (item_before s c) (touched expiry marks) (λ i. refl))
       by_change (changes.Counted value cas) is at = stays_by (changes.Counted value cas) is at refl (kept_link (item_before s c) (counted value cas) (λ i. refl))
       by_change (changes.Renewed item) is at = renews item is at
 
       -- a class's part keeps it in agreement
-      pub part_agrees : AgreesWith s c v.rule v.number cooling (v.history ++ events_in s c v)
+      pub part_agrees : Agree s.site v.rule v.number (noted s c) (v.history ++ events_in s c v)
       part_agrees = by_change (answer_to s c).change refl (placed s c legal may)

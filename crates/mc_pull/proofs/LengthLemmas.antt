@@ -6,7 +6,8 @@ use Rattle.mc_item.specs.declared.class_event.ClassEvent.TheVariants as events
 use Rattle.mc_item.specs.declared.lists.Seg.TheVariants.{Hot, Warm, Cold, Temp}
 use Rattle.mc_segment.specs.ClassState.{ClassView}
 use Rattle.mc_rule.specs.Lists.{Lists, list_of, with_list, find, without, linked, moved_entry, lists_after, lists_from, lists_of, entry, time_after}
-use Rattle.mc_pull.specs.declared.{judge.Done.Done, judge.Judge.Judge, judge.Judge.TheVariants.Walk, judge.Judge.TheVariants.Dead, looking.Judged.Judged}
+use Rattle.mc_pull.specs.declared.{judge.Done.Done, judge.Judge.Judge, looking.Judged.Judged}
+use Rattle.mc_pull.specs.declared.judge.Judge.TheVariants.{Walk, Dead, Hit}
 use Rattle.mc_pull.specs.declared.{pulled.Pulled.Pulled}
 use Rattle.mc_pull.specs.declared.judge.Done.TheVariants as done
 use Rattle.mc_pull.specs.{Pulled.counts_after, Pulled.counts_if, Question.Question, Settled.done_class_events, Settled.warm_events, Settled.cold_events}
@@ -98,10 +99,12 @@ few_taken h es s =
 warm_passes : (q : Question) (at : ℕ) (judge : Judge) (p : Pulled) → p.passed + length (warm_events q at judge) ≤ p.passed + 1
 warm_passes q at (Walk s mode passed) p = omega arith
 warm_passes q at Dead p = omega arith
+warm_passes q at Hit p = omega arith
 
 cold_passes : (c : ClassView) (q : Question) (at : ℕ) (judge : Judge) (p : Pulled) → p.passed + length (cold_events c q at judge) ≤ p.passed + 1
 cold_passes c q at (Walk s mode passed) p = omega arith
 cold_passes c q at Dead p = omega arith
+cold_passes c q at Hit p = omega arith
 
 done_passes : (c : ClassView) (q : Question) (at : ℕ) (d : Done) (p : Pulled) → (counts_after d p).passed + length (done_class_events c q at d) ≤ p.passed + 1
 done_passes c q at done.Reclaimed p = omega arith

@@ -1,9 +1,11 @@
 pub mod OutcomeLemmas
 pub mod OtherSightLemmas
 mod SettledLemmas
+mod WarmLemmas
 mod JudgementKeepsLemmas
 pub mod LengthLemmas
 pub mod GrowthLemmas
+pub mod AdvanceLemmas
 pub mod WalkAnswerLemmas
 pub mod RoundLemmas
 pub mod SearchTriedLemmas
@@ -11,7 +13,6 @@ pub mod NoStrangerLemmas
 pub mod OneStripeGateLemmas
 pub mod EventsLemmas
 mod ListedEntryLemmas
-mod PerformLemmas
 mod NewVersionLemmas
 mod CallItemLemmas
 mod ClassPartLemmas

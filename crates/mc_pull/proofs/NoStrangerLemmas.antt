@@ -1,6 +1,6 @@
 -- An entry is no stranger to its key's stripe, where the histories agree.
 use Rattle.std.proofs.Common.{◌≡◌, ◌≢◌, ℕ, Bool, true, false, Some, None, Option, refl, sym, ap, ◌∙◌, subst, arith}
-use Rattle.std.specs.Prelude.{IsSome, IsSomeAnd, if◌then◌else◌, option_map, ◌==◌, ◌&&◌}
+use Rattle.std.specs.Prelude.{IsSome, IsSomeAnd, if◌then◌else◌, option_map, not, ◌==◌, ◌&&◌}
 use Rattle.std.proofs.lemmas.Bool.Decides.{nat_tests}
 use Rattle.mc_item.specs.{Item.is_dead, Measure.stripe_of, Stripe.IsLegal}
 use Rattle.mc_item.specs.declared.{config.Config.Config, item.ClassNo.ClassNo, item.Item.Item, item.Link.Link, lists.Entry.Entry, lists.Seg.Seg}
@@ -10,7 +10,8 @@ use Rattle.mc_rule.specs.Lists.{Lists, found, lists_of}
 use Rattle.mc_evidence.proofs.ItemsAreEntriesLemmas.{item_of_entry}
 use Rattle.mc_segment.specs.{ClassState.ClassView, Entries.entry_of}
 use Rattle.mc_stripe.specs.StripeState.{Stripe, cache_now}
-use Rattle.mc_pull.specs.declared.{judge.Done.Done, judge.Judge.Judge, judge.Judge.TheVariants.Dead, judge.Judge.TheVariants.Walk, judge.Mode.Mode}
+use Rattle.mc_pull.specs.declared.{judge.Done.Done, judge.Judge.Judge, judge.Mode.Mode}
+use Rattle.mc_pull.specs.declared.judge.Judge.TheVariants.{Walk, Dead, Hit}
 use Rattle.mc_pull.specs.declared.judge.Done.TheVariants as done
 use Rattle.mc_pull.specs.declared.judge.Mode.TheVariants.{Evict, Force, Plain}
 use Rattle.mc_pull.specs.{Agreeing.AgreeNow, Outcome.is_due, Outcome.outcome_of, Question.HasKeyOf, Question.Question}
@@ -61,6 +62,11 @@ by_known rule l moment (Walk s mode passed) e item = outcome_known s mode (is_de
 by_known rule l moment Dead e item = of (is_dead item moment)
   where
     of : (b : Bool) → is_known (if b then done.Reclaimed else done.Alive item.expiry) ≡ true
+    of true = refl
+    of false = refl
+by_known rule l moment Hit e item = of (item.marks.active && not (is_dead item moment))
+  where
+    of : (b : Bool) → is_known (if b then done.ToWarm else done.Stayed) ≡ true
     of true = refl
     of false = refl
 

@@ -1,23 +1,22 @@
 -- A class's part of a call is nothing to the other stripes: its entries have the command's key.
-use Rattle.std.proofs.Common.{◌≡◌, ◌≢◌, ◌≤◌, ◌==◌, ◌&&◌, ℕ, List, [], ◌∷◌, ◌++◌, Bool, true, false, refl, sym, ap, ◌∙◌, subst, append_assoc, append-nil, length, arith, ◌+◌}
+use Rattle.std.proofs.Common.{◌≡◌, ◌≢◌, ◌≤◌, ◌==◌, ◌&&◌, ℕ, List, [], ◌∷◌, ◌++◌, Bool, true, false, refl, sym, ap, ◌∙◌, subst, append_assoc, append-nil, arith}
 use Rattle.std.specs.Prelude.{Option, Some, None, if◌then◌else◌, nat_eq}
 use Rattle.std.specs.{Cmp.Lexicographic.bytes_decides, Cmp.Lexicographic.pointwise, Option.option_map}
 use Rattle.std.proofs.lemmas.Bool.{false≢true}
 use Rattle.mc_item.specs.Command.{key_of}
 use Rattle.mc_item.specs.declared.{answer.Site.Site, class_event.ClassEvent.ClassEvent, class_event.Linked.Linked, item.Expiry.Expiry, item.Link.Link}
-use Rattle.mc_item.specs.declared.{lists.Entry.Entry, lists.Seg.Seg, lists.Seg.TheVariants.Warm, lists.Seg.TheVariants.Cold}
+use Rattle.mc_item.specs.declared.{lists.Entry.Entry, lists.Seg.Seg}
 use Rattle.mc_item.specs.declared.class_event.ClassEvent.TheVariants as entries
-use Rattle.mc_item.specs.declared.class_event.Why.TheVariants as whys
-use Rattle.mc_rule.specs.{Lists.found, Lists.entries_linked, Lists.lists_of, Lists.segment_of, Pairs.IsKeyOf, Segment.segment_for}
+use Rattle.mc_rule.specs.{Lists.found, Lists.entries_linked, Lists.lists_of, Pairs.IsKeyOf, Segment.segment_for}
 use Rattle.mc_rule.proofs.{HistoryLemmas.lists_of-push, ListLemmas.other_stays, TestLemmas.none_some, TestLemmas.not_equal, TestLemmas.some_same}
 use Rattle.mc_evidence.specs.Made.{IsOfOthers}
-use Rattle.mc_segment.specs.{ClassCalls.linked_event, ClassCalls.shifted_event, ClassCalls.unlinked_event, ClassState.ClassView, Entries.entry_of}
+use Rattle.mc_segment.specs.{ClassCalls.linked_event, ClassCalls.unlinked_event, ClassState.ClassView, Entries.entry_of}
 use Rattle.mc_stripe.specs.declared.fate.Fate.{Fate}
 use Rattle.mc_stripe.specs.declared.fate.Fate.TheVariants as fates
 use Rattle.mc_stripe.specs.StripeState.{Stripe}
 use Rattle.mc_pull.specs.declared.parts.Part.{Part}
 use Rattle.mc_pull.specs.declared.parts.Part.TheVariants as parts
-use Rattle.mc_pull.specs.Parts.{gone_part, hit_part, is_cold, is_for, is_here, new_part, entry_number, part_events, part_for}
+use Rattle.mc_pull.specs.Parts.{gone_part, is_for, is_here, new_part, entry_number, part_events, part_for}
 use Rattle.mc_pull.specs.{Perform.Call, Perform.MayAnswer, Perform.fate_for, Performed.events_in}
 use Rattle.mc_pull.proofs.OtherSightLemmas.{IsElsewhere, of_one_stripe}
 
@@ -67,10 +66,10 @@ module _ (s : Stripe) (c : Call) (may : MayAnswer s c) (v : ClassView) (numbered
       let stays = ap (found m) (lists_of-push v.history (entries.Linked e)) ∙ other_stays m (lists_of v.history) (entries.Linked e) (not_equal e.number m (λ is. one.fresh (sym number ∙ is))) in
       one.far seg x (sym stays ∙ there) of
 
-  module _ (P : List ClassEvent → Type 0) (now : P v.history) (push : (h : List ClassEvent) (x : ClassEvent) → P h → IsElsewhere other h x → P (h ++ x ∷ [])) (at : ℕ) where
+  module _ (P : List ClassEvent → Type 0) (now : P v.history) (push : (h : List ClassEvent) (x : ClassEvent) → P h → IsElsewhere other h x → P (h ++ x ∷ [])) where
     -- what holds before a part's events holds behind them
     abbrev Holds : Part → Type 0
-    Holds part = P (v.history ++ part_events v c.who c.moment at part)
+    Holds part = P (v.history ++ part_events v c.who c.moment part)
 
     nothing : Holds parts.Nothing
     nothing = subst P (sym (append-nil v.history)) now
@@ -88,20 +87,12 @@ module _ (s : Stripe) (c : Call) (may : MayAnswer s c) (v : ClassView) (numbered
     gone_far None one = nothing
     gone_far (Some m) one = push v.history (unlinked_event c.who m) now (one m refl).far
 
-    hit_far : (o : Option ℕ) → ((m : ℕ) → o ≡ Some m → IsOfKey m) → Holds (hit_part v o)
-    hit_far None one = nothing
-    hit_far (Some m) one = by (is_cold (segment_of m (lists_of v.history)))
-      where
-        by : (b : Bool) → Holds (if b then parts.Warms m else parts.Nothing)
-        by true = push v.history (shifted_event c.who m Warm whys.Hit c.moment [] at Cold) now (one m refl).far
-        by false = nothing
-
     fate_far : (fate : Fate) → Holds (part_for v key c.room fate)
     fate_far fates.Untouched = nothing
     fate_far (fates.Renewed cost expiry old) = new_far cost expiry (is_here v c.room) (entry_number v key old) (λ m is. of_key m (for_key v key old m is))
     fate_far (fates.Goes link) = gone_far (entry_number v key (Some link)) (λ m is. of_key m (for_key v key (Some link) m is))
-    fate_far (fates.Woken link) = hit_far (entry_number v key (Some link)) (λ m is. of_key m (for_key v key (Some link) m is))
+    fate_far (fates.Woken link) = nothing
 
   -- a class's part of a call is nothing to another stripe
   pub part_far : (P : List ClassEvent → Type 0) → P v.history → ((h : List ClassEvent) (x : ClassEvent) → P h → IsElsewhere other h x → P (h ++ x ∷ [])) → P (v.history ++ events_in s c v)
-  part_far P now push = fate_far P now push (length s.history + 1) (fate_for s c)
+  part_far P now push = fate_far P now push (fate_for s c)

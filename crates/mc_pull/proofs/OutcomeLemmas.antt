@@ -1,6 +1,6 @@
 -- What each outcome of the table means, and that the event of what is done may come.
 use Rattle.std.proofs.Common.{◌≡◌, ◌<◌, ◌≤◌, ℕ, List, Bool, true, false, Option, Some, None, refl, sym, ap, ◌∙◌, subst, inl, inr, arith}
-use Rattle.std.specs.Prelude.{◌||◌, nat_lt, if◌then◌else◌, IsSomeAnd}
+use Rattle.std.specs.Prelude.{◌&&◌, ◌||◌, nat_lt, not, if◌then◌else◌, IsSomeAnd}
 use Rattle.std.specs.Option.{option_map}
 use Rattle.std.proofs.lemmas.Bool.Decides.{nat_tests}
 use Rattle.mc_item.specs.declared.{class_event.Why.Why, item.Item.Item, item.Who.Who, lists.Entry.Entry, lists.Seg.Seg, lists.Seg.TheVariants.Hot}
@@ -11,7 +11,8 @@ use Rattle.mc_rule.specs.{Lawful.IsSurveyed, Lawful.IsIn, Lawful.IsOlder, Segmen
 use Rattle.mc_segment.specs.declared.surveying.Survey.{Survey}
 use Rattle.mc_rule.specs.Lists.{Lists, list_of, lists_of, find, found, found_in, segment_of, IsFull}
 use Rattle.mc_segment.specs.{ClassCalls.shifted_event, ClassCalls.MayCome, ClassState.ClassView, Entries.entry_of}
-use Rattle.mc_pull.specs.declared.{judge.Done.Done, judge.Judge.Judge, judge.Judge.TheVariants.Walk, judge.Judge.TheVariants.Dead, judge.Mode.Mode}
+use Rattle.mc_pull.specs.declared.{judge.Done.Done, judge.Judge.Judge, judge.Mode.Mode}
+use Rattle.mc_pull.specs.declared.judge.Judge.TheVariants.{Walk, Dead, Hit}
 use Rattle.mc_pull.specs.declared.{judge.Mode.TheVariants.Plain, judge.Mode.TheVariants.Evict, judge.Mode.TheVariants.Force}
 use Rattle.mc_pull.specs.declared.judge.Done.TheVariants as done
 use Rattle.mc_pull.specs.Outcome.{outcome_of, is_over, is_old, is_due, cold_why}
@@ -101,6 +102,10 @@ dead_evicts : (b : Bool) (item : Item) → (if b then done.Reclaimed else done.A
 dead_evicts true item h = cc
 dead_evicts false item h = cc
 
+hit_evicts : (b : Bool) → (if b then done.ToWarm else done.Stayed) ≡ done.Evicted → ⊥
+hit_evicts true h = cc
+hit_evicts false h = cc
+
 taken_by : (c : ClassView) (who : Who) (number moment : ℕ) (judge : Judge) (e : Entry) (item : Item) → MayJudgeBy c who number moment judge
     → done_by c.rule (lists_of c.history) moment judge e item ≡ done.Evicted
     → IsIn Cold number (lists_of c.history) × IsFull c.chunks (lists_of c.history) × IsNearTail number (lists_of c.history).cold (passed_of judge)
@@ -111,6 +116,7 @@ taken_by c who number moment (Walk s mode passed) e item may is =
     let here : P Cold Evict = subst (λ (m : Mode). P Cold m) means.2 (subst (λ (t : Seg). P t mode) means.1 may) in
     (here.listed, here.full, here.near)
 taken_by c who number moment Dead e item may is = absurd (dead_evicts (is_dead item moment) item is)
+taken_by c who number moment Hit e item may is = absurd (hit_evicts (item.marks.active && not (is_dead item moment)) is)
 
 taken_item : (c : ClassView) (q : Question) (e : Entry) (o : Option Item) → MayJudge c q
     → IsSomeAnd o (λ item. (has_link c.number q.number item ≡ true) × (done_by c.rule (lists_of c.history) q.moment q.judge e item ≡ done.Evicted))
@@ -214,23 +220,36 @@ module _ (c : ClassView) (who : Who) (number moment : ℕ) (passed : List ℕ) (
       let Q : Option Seg → Type 0 = λ o. IsSomeAnd o (λ from_seg. MayFor from_seg (cold_why c.rule (lists_of c.history) s mode)) in
       subst Q (sym seg) (found_may cache s mode (found number (lists_of c.history)) refl seg may made)
 
--- an entry that only a dead item gives up doesn't go to COLD
+-- ---- what is no walk
+-- what is asked is no walk
+abbrev pub IsNoWalk : Judge → Type 0
+IsNoWalk (Walk s mode passed) = ⊥
+IsNoWalk Dead = Unit {0}
+IsNoWalk Hit = Unit {0}
+
 dead_cold : (b : Bool) (item : Item) → (if b then done.Reclaimed else done.Alive item.expiry) ≡ done.ToCold → ⊥
 dead_cold true item h = cc
 dead_cold false item h = cc
 
-cold_item : (c : ClassView) (who : Who) (number moment : ℕ) (e : Entry) (o : Option Item)
-    → IsSomeAnd o (λ item. (has_link c.number number item ≡ true) × (done_by c.rule (lists_of c.history) moment Dead e item ≡ done.ToCold)) → ⊥
-cold_item c who number moment e None h = h
-cold_item c who number moment e (Some item) h = dead_cold (is_dead item moment) item h.1
+hit_cold : (b : Bool) → (if b then done.ToWarm else done.Stayed) ≡ done.ToCold → ⊥
+hit_cold true h = cc
+hit_cold false h = cc
 
-cold_entry : (c : ClassView) (cache : Cache) (who : Who) (number moment : ℕ) (o : Option Entry) → done_with c cache (question who number Dead moment) o ≡ done.ToCold → ⊥
-cold_entry c cache who number moment None h = cold_not (sym h)
-cold_entry c cache who number moment (Some e) h =
-    cold_item c who number moment e (cache.items e.key) (done_is c cache (question who number Dead moment) done.ToCold cold_not (Some e) h)
+module _ (c : ClassView) (q : Question) where
+  cold_by : (judge : Judge) (e : Entry) (item : Item) → IsNoWalk judge → done_by c.rule (lists_of c.history) q.moment judge e item ≡ done.ToCold → ⊥
+  cold_by (Walk s mode passed) e item still h = still
+  cold_by Dead e item still h = dead_cold (is_dead item q.moment) item h
+  cold_by Hit e item still h = hit_cold (item.marks.active && not (is_dead item q.moment)) h
 
--- nothing goes to COLD where it is only asked whether an item is dead
-pub no_cold : (c : ClassView) (cache : Cache) (who : Who) (number moment : ℕ) (judge : Judge) → judge ≡ Dead → done.ToCold ≡ done_of c cache (question who number judge moment) → ⊥
-no_cold c cache who number moment judge is made =
-    cold_entry c cache who number moment (entry_of number (lists_of c.history))
-    (subst (λ (j : Judge). done_of c cache (question who number j moment) ≡ done.ToCold) is (sym made))
+  cold_item : (e : Entry) (o : Option Item) → IsNoWalk q.judge
+      → IsSomeAnd o (λ item. (has_link c.number q.number item ≡ true) × (done_by c.rule (lists_of c.history) q.moment q.judge e item ≡ done.ToCold)) → ⊥
+  cold_item e None still h = h
+  cold_item e (Some item) still h = cold_by q.judge e item still h.1
+
+  cold_entry : (cache : Cache) (o : Option Entry) → IsNoWalk q.judge → done_with c cache q o ≡ done.ToCold → ⊥
+  cold_entry cache None still h = cold_not (sym h)
+  cold_entry cache (Some e) still h = cold_item e (cache.items e.key) still (done_is c cache q done.ToCold cold_not (Some e) h)
+
+  -- nothing goes to COLD but on a walk
+  pub no_cold : (cache : Cache) → IsNoWalk q.judge → done.ToCold ≡ done_of c cache q → ⊥
+  no_cold cache still made = cold_entry cache (entry_of q.number (lists_of c.history)) still (sym made)

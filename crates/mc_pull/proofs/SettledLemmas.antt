@@ -1,6 +1,6 @@
 -- What is done with an entry keeps a stripe's and its class's histories in agreement, and is nothing to other classes and stripes.
 use Rattle.std.proofs.Common.{◌≡◌, ◌≢◌, ℕ, List, [], ◌∷◌, ◌++◌, Bool, true, false, Option, Some, None, refl, sym, ap, ◌∙◌, subst, length, arith}
-use Rattle.std.specs.Prelude.{◌==◌, ◌&&◌, if◌then◌else◌, IsSomeAnd}
+use Rattle.std.specs.Prelude.{◌==◌, ◌&&◌, not, if◌then◌else◌, IsSomeAnd}
 use Rattle.std.specs.Option.{option_map}
 use Rattle.std.proofs.lemmas.Bool.Decides.{nat_tests}
 use Rattle.mc_item.specs.{Item.is_dead, Item.link_of_item, Measure.cost_of, Stripe.cache_of, Stripe.IsLegal}
@@ -14,7 +14,8 @@ use Rattle.mc_evidence.specs.Made.{IsOfOthers, lost_to, lost_at, cooled_as}
 use Rattle.mc_evidence.proofs.{AgreementLemmas.agree_evicted, AgreementLemmas.agree_reclaimed, AgreementLemmas.agree_cooled, AgreementLemmas.agree_moved, RowLemmas.held}
 use Rattle.mc_evidence.proofs.{SizedItemLemmas.key_of_stripe}
 use Rattle.mc_segment.specs.{ClassCalls.evicted_event, ClassCalls.reclaimed_event, ClassCalls.shifted_event, ClassState.ClassView, Entries.entry_of}
-use Rattle.mc_pull.specs.declared.{judge.Done.Done, judge.Judge.Judge, judge.Judge.TheVariants.Walk, judge.Judge.TheVariants.Dead, judge.Mode.Mode}
+use Rattle.mc_pull.specs.declared.{judge.Done.Done, judge.Judge.Judge, judge.Mode.Mode}
+use Rattle.mc_pull.specs.declared.judge.Judge.TheVariants.{Walk, Dead, Hit}
 use Rattle.mc_pull.specs.declared.{judge.Mode.TheVariants.Plain, judge.Mode.TheVariants.Evict, judge.Mode.TheVariants.Force}
 use Rattle.mc_pull.specs.declared.judge.Done.TheVariants as done
 use Rattle.mc_pull.specs.Judgement.{done_of, done_with, done_if, done_by, has_link}
@@ -42,6 +43,11 @@ link_is : (class : ClassNo) (number : ℕ) (item : Item) → has_link class numb
 link_is class number item h =
     let two = both_true _ _ h in
     ap (λ (n : ℕ). link_to (record { 0 = n }) item.link.number) (same_number _ _ two.0) ∙ ap (λ (n : ℕ). link_to class n) (same_number _ _ two.1)
+
+-- a hit comes to nothing but these two
+hit_never : (d : Done) → d ≢ done.ToWarm → d ≢ done.Stayed → (b : Bool) → (if b then done.ToWarm else done.Stayed) ≡ d → ⊥
+hit_never d warm stayed true h = warm (sym h)
+hit_never d warm stayed false h = stayed (sym h)
 
 -- why an entry goes to COLD is never that its mark is cleared, and the item suits
 why_passive : (rule : Rule) (c : ClassView) (s : Seg) (mode : Mode) → ClearsMark (cold_why rule (lists_of c.history) s mode) → ⊥
@@ -96,6 +102,13 @@ module _ (site : Site) (c : ClassView) (stripe : List StripeEvent) (q : Question
           let moved : Shifted = record { who = q.who; number = q.number; from_seg = s; to_seg = Warm; why = whys.Active; moment = q.moment; passed = passed; at = length stripe } in
           agree_cooled site c.rule c.number stripe c.history agree c.chunks lawful e.key moved tt refl one (suits (SuitsMove whys.Active q.moment) (active, alive)) of
 
+      -- the move for a hit
+      hit_warmed : item.marks.active ≡ true
+          → Agree site c.rule c.number (stripe ++ cooled_as q.who e.key ∷ []) (c.history ++ shifted_event q.who q.number Warm whys.Hit q.moment [] (length stripe) Cold ∷ [])
+      hit_warmed active =
+          let moved : Shifted = record { who = q.who; number = q.number; from_seg = Cold; to_seg = Warm; why = whys.Hit; moment = q.moment; passed = []; at = length stripe } in
+          agree_cooled site c.rule c.number stripe c.history agree c.chunks lawful e.key moved tt refl one (suits (SuitsMove whys.Hit q.moment) active) of
+
       -- the move of an entry to COLD
       cooled : (s : Seg) (mode : Mode) (passed : List ℕ) → item.marks.active ≡ false → is_dead item q.moment ≡ false
           → Agree site c.rule c.number stripe (c.history ++ shifted_event q.who q.number Cold (cold_why c.rule (lists_of c.history) s mode) q.moment passed (length stripe) s ∷ [])
@@ -120,6 +133,7 @@ module _ (site : Site) (c : ClassView) (stripe : List StripeEvent) (q : Question
           by : (b : Bool) → (if b then done.Reclaimed else done.Alive item.expiry) ≡ done.Reclaimed → b ≡ true
           by true h = refl
           by false h = cc
+      dead_by Hit is = absurd (hit_never done.Reclaimed (λ h. cc) (λ h. cc) (item.marks.active && not (is_dead item q.moment)) is)
 
       never : (d : Done) → d ≢ done.Reclaimed → ((expiry : _) → d ≢ done.Alive expiry) → (b : Bool) → (if b then done.Reclaimed else done.Alive item.expiry) ≡ d → ⊥
       never d dead alive true h = dead (sym h)
@@ -132,6 +146,11 @@ module _ (site : Site) (c : ClassView) (stripe : List StripeEvent) (q : Question
           let means = subst (Means s mode (is_dead item q.moment) item.marks.active due) is (outcome_means s mode (is_dead item q.moment) item.marks.active due) in
           warmed s passed means.1 means.0
       warmed_by Dead is = absurd (never done.ToWarm (λ h. cc) (λ expiry h. cc) (is_dead item q.moment) is)
+      warmed_by Hit is = hit_warmed (both_true item.marks.active (not (is_dead item q.moment)) (by (item.marks.active && not (is_dead item q.moment)) is)).0
+        where
+          by : (b : Bool) → (if b then done.ToWarm else done.Stayed) ≡ done.ToWarm → b ≡ true
+          by true h = refl
+          by false h = cc
 
       within_by : (judge : Judge) → done_by c.rule (lists_of c.history) q.moment judge e item ≡ done.WithinWarm
           → Agree site c.rule c.number (stripe ++ cooled_as q.who e.key ∷ []) (c.history ++ warm_events q (length stripe) judge)
@@ -140,6 +159,7 @@ module _ (site : Site) (c : ClassView) (stripe : List StripeEvent) (q : Question
           let means = subst (Means s mode (is_dead item q.moment) item.marks.active due) is (outcome_means s mode (is_dead item q.moment) item.marks.active due) in
           warmed s passed means.1 means.0
       within_by Dead is = absurd (never done.WithinWarm (λ h. cc) (λ expiry h. cc) (is_dead item q.moment) is)
+      within_by Hit is = absurd (hit_never done.WithinWarm (λ h. cc) (λ h. cc) (item.marks.active && not (is_dead item q.moment)) is)
 
       cooled_by : (judge : Judge) → done_by c.rule (lists_of c.history) q.moment judge e item ≡ done.ToCold
           → Agree site c.rule c.number stripe (c.history ++ cold_events c q (length stripe) judge)
@@ -148,6 +168,7 @@ module _ (site : Site) (c : ClassView) (stripe : List StripeEvent) (q : Question
           let means = subst (Means s mode (is_dead item q.moment) item.marks.active due) is (outcome_means s mode (is_dead item q.moment) item.marks.active due) in
           cooled s mode passed means.1 means.0
       cooled_by Dead is = absurd (never done.ToCold (λ h. cc) (λ expiry h. cc) (is_dead item q.moment) is)
+      cooled_by Hit is = absurd (hit_never done.ToCold (λ h. cc) (λ h. cc) (item.marks.active && not (is_dead item q.moment)) is)
 
       item_agrees : (d : Done) → done_by c.rule (lists_of c.history) q.moment q.judge e item ≡ d → AgreesOn (Some e) d
       item_agrees done.Reclaimed is = reclaimed (dead_by q.judge is)
@@ -231,10 +252,12 @@ module _ (site : Site) (c : ClassView) (stripe : List StripeEvent) (q : Question
       warm_far : (judge : Judge) → P (c.history ++ warm_events q at judge)
       warm_far (Walk s mode passed) = push (shifted_event q.who q.number Warm whys.Active q.moment passed at s) away
       warm_far Dead = unmoved
+      warm_far Hit = push (shifted_event q.who q.number Warm whys.Hit q.moment [] at Cold) away
 
       cold_far : (judge : Judge) → P (c.history ++ cold_events c q at judge)
       cold_far (Walk s mode passed) = push (shifted_event q.who q.number Cold (cold_why c.rule (lists_of c.history) s mode) q.moment passed at s) away
       cold_far Dead = unmoved
+      cold_far Hit = unmoved
 
       item_far : (d : Done) → P (c.history ++ done_class_events c q at d)
       item_far done.Reclaimed = push (reclaimed_event q.who q.number q.moment at) away

@@ -5,15 +5,14 @@ use Rattle.mc_item.specs.declared.class_event.ClassEvent.TheVariants as class_ev
 use Rattle.mc_item.specs.declared.{command.Command.Command, config.Config.Config, item.Link.Link, reply.Reply.Reply, reply.Room.Room, item.Who.Who}
 use Rattle.mc_item.specs.declared.reply.Room.TheVariants as rooms
 use Rattle.mc_rule.specs.Lists.{count_of, entries_linked, lists_of}
-use Rattle.mc_segment.specs.ClassState.{ClassView, HasPlaces as ClassHasPlaces, with_room}
-use Rattle.mc_stripe.specs.{StripeState.Stripe, Trying.item_of, Trying.row_at, Wanting.IsWanting, Wanting.Uses}
+use Rattle.mc_segment.specs.ClassState.{ClassView, HasPlaces as ClassHasPlaces}
+use Rattle.mc_stripe.specs.{Plan.woken_of, StripeState.Stripe, Trying.item_of, Trying.row_at, Wanting.IsWanting, Wanting.Uses}
 use Rattle.mc_stripe.specs.declared.{fate.Fate.Fate, wanting.Given.Given, wanting.Home.Home, wanting.Other.Other, trying.Turn.Turn}
 use Rattle.mc_stripe.specs.declared.fate.Fate.TheVariants as fates
-use Rattle.mc_pull.specs.declared.attempting.{Prepared.Prepared, Tried.Tried}
+use Rattle.mc_pull.specs.declared.attempting.Tried.{Tried}
 use Rattle.mc_pull.specs.declared.attempting.Tried.TheVariants as tried
 use Rattle.mc_pull.specs.{Agreeing.AgreeNow, Agreeing.KeepsAgreements, Lent.AreDistinct, Lent.OfEachClass, Perform.MayPerform, Perform.answer_to, Perform.call}
-use Rattle.mc_pull.specs.Parts.{hit_part, is_here, is_warming, entry_number, part_for, places_of}
-use Rattle.mc_pull.specs.{Performed.IsPerformed, Performed.IsUntouched, Sight.KeepsSights}
+use Rattle.mc_pull.specs.{Parts.is_here, Parts.part_for, Parts.places_of, Performed.IsPerformed, Performed.IsUntouched, Sight.KeepsSights}
 
 -- the class has a free chunk
 abbrev pub HasFree : ClassView → Type 0
@@ -83,15 +82,6 @@ abbrev pub HasRoomFor : Given → ClassView → Type 0
 HasRoomFor given v =
     IfSome given.home (λ h. h.class ≡ v.number → h.places ≤ v.room) × IfSome given.other (λ o. o.class ≡ v.number → o.places ≤ v.room)
 
--- a class is ready for a command that would wake the item of this link: if its entry moves, it has room and a place for that
-pub record IsReadyFor (v mid : ClassView) (command : Command) (woken : Option Link) (ready : Prepared) : Type 0 where
-  pub same : mid ≡ with_room v mid.room
-  pub kept : v.room ≤ mid.room
-  pub warms_is : ready.warms ≡ is_warming (hit_part v (entry_number v (key_of command) woken))
-  pub room : ready.warms ≡ true → (0 < mid.room) × ClassHasPlaces mid 1
-  pub key_is : ready.key ≡ key_of command
-  pub copy : mid.keeps_events ≡ true → ready.copy ≡ Some ready.key
-
 -- a class may make its part of a command: a new entry finds a free chunk and isn't too large, and its events have places and room
 pub record MayMakePart (v : ClassView) (key : List ℕ) (room : Room) (fate : Fate) : Type 0 where
   pub free : is_here v room ≡ true → HasFree v
@@ -99,20 +89,22 @@ pub record MayMakePart (v : ClassView) (key : List ℕ) (room : Room) (fate : Fa
   pub space : places_of (part_for v key room fate) ≤ v.room
   pub place : ClassHasPlaces v (places_of (part_for v key room fate))
 
--- a command was made in a room that it was given, as it may be made on these classes, and this is its reply
-pub record IsMadeOn (config : Config) (s s_new : Stripe) (command : Command) (turn : Turn) (given : Given) (vs ws : List ClassView) (reply : Reply) : Type
-    0 where
+-- a command was made in a room, of what it was given, as it may be made on these classes. This is its reply, and this the link of
+-- the item that its hit made ACTIVE, if it did
+pub record IsMadeOn (config : Config) (s s_new : Stripe) (command : Command) (turn : Turn) (given : Given) (vs ws : List ClassView) (reply : Reply)
+    (woken : Option Link) : Type 0 where
   pub room : Room
   pub fate : Fate
   pub uses : Uses given (key_of command) (item_of s command) turn.moment (row_at s command turn.moment) room fate
   pub may : MayPerform config s (call turn.who command turn.moment room) vs
   pub reply_is : reply ≡ (answer_to s (call turn.who command turn.moment room)).reply
+  pub woken_is : woken ≡ woken_of fate
   pub performed : IsPerformed s s_new (call turn.who command turn.moment room) vs ws
   pub agreement : KeepsAgreements (call turn.who command turn.moment room) s s_new vs ws
   pub sight : KeepsSights (call turn.who command turn.moment room) s s_new vs ws
 
 -- what a try came to: the command was made, or it wants something and nothing happened
 abbrev pub IsTriedBy : Config → (s s_new : Stripe) → Command → Turn → Given → (vs ws : List ClassView) → Tried → Type 0
-IsTriedBy config s s_new command turn given vs ws (tried.Made reply) = IsMadeOn config s s_new command turn given vs ws reply
+IsTriedBy config s s_new command turn given vs ws (tried.Made reply woken) = IsMadeOn config s s_new command turn given vs ws reply woken
 IsTriedBy config s s_new command turn given vs ws (tried.Wants want) =
     IsUntouched s s_new vs ws × IsWanting given (key_of command) (item_of s command) turn.moment (row_at s command turn.moment) want

@@ -6,6 +6,7 @@ pub mod Refusal
 pub mod Walker
 pub mod Looks
 pub mod Growth
+pub mod Advance
 pub mod Pulled
 pub mod Walk
 pub mod Rounds

@@ -1,13 +1,11 @@
--- A class's part of a command: which of its entries are added, removed or moved, and the events of that.
+-- A class's part of a command: which of its entries are added or removed, and the events of that.
 use Rattle.std.specs.Prelude.{ℕ, ◌≡◌, ◌==◌, ◌&&◌, ◌<◌, ◌≤◌, ◌^◌, nat_eq, List, [], ◌∷◌, Bool, true, false, if◌then◌else◌, Option, Some, None}
 use Rattle.std.specs.Cmp.Lexicographic.{pointwise}
-use Rattle.mc_item.specs.declared.{class_event.ClassEvent.ClassEvent, item.Expiry.Expiry, item.Link.Link, item.Who.Who, lists.Entry.Entry, lists.Seg.Seg}
-use Rattle.mc_item.specs.declared.{reply.Room.Room}
-use Rattle.mc_item.specs.declared.class_event.Why.TheVariants as whys
-use Rattle.mc_item.specs.declared.lists.Seg.TheVariants.{Hot, Warm, Cold, Temp}
+use Rattle.mc_item.specs.declared.{class_event.ClassEvent.ClassEvent, item.Expiry.Expiry, item.Link.Link, item.Who.Who, lists.Entry.Entry}
+use Rattle.mc_item.specs.declared.reply.Room.{Room}
 use Rattle.mc_item.specs.declared.reply.Room.TheVariants as rooms
-use Rattle.mc_rule.specs.{Lists.lists_of, Lists.count_of, Lists.segment_of, Lawful.IsListed}
-use Rattle.mc_segment.specs.{ClassState.ClassView, ClassCalls.linked_event, ClassCalls.unlinked_event, ClassCalls.shifted_event, Entries.entry_of}
+use Rattle.mc_rule.specs.{Lists.lists_of, Lists.count_of, Lawful.IsListed}
+use Rattle.mc_segment.specs.{ClassState.ClassView, ClassCalls.linked_event, ClassCalls.unlinked_event, Entries.entry_of}
 use Rattle.mc_stripe.specs.declared.fate.Fate.{Fate}
 use Rattle.mc_stripe.specs.declared.fate.Fate.TheVariants as fates
 use Rattle.mc_pull.specs.declared.parts.Part.{Part}
@@ -29,14 +27,6 @@ is_here c (rooms.At link) = link.class.0 == c.number.0
 is_here c (rooms.Refused class place) = false
 is_here c rooms.Keep = false
 
--- a segment is COLD
-abbrev pub is_cold : Option Seg → Bool
-is_cold None = false
-is_cold (Some Hot) = false
-is_cold (Some Warm) = false
-is_cold (Some Cold) = true
-is_cold (Some Temp) = false
-
 -- the part in a new version: its entry is added if its link is of this class, and the old entry is removed if it is here
 abbrev pub new_part : List ℕ → ℕ → Expiry → Bool → Option ℕ → Part
 new_part key cost expiry true None = parts.Links key cost expiry
@@ -49,25 +39,19 @@ abbrev pub gone_part : Option ℕ → Part
 gone_part None = parts.Nothing
 gone_part (Some number) = parts.Unlinks number
 
--- the part in a hit: the entry moves to WARM, if it is in COLD here
-abbrev pub hit_part : ClassView → Option ℕ → Part
-hit_part c None = parts.Nothing
-hit_part c (Some number) = if is_cold (segment_of number (lists_of c.history)) then parts.Warms number else parts.Nothing
-
 -- a class's part of a command on this key, by its room and by what becomes of the key's chunks
 abbrev pub part_for : ClassView → List ℕ → Room → Fate → Part
 part_for c key room fates.Untouched = parts.Nothing
 part_for c key room (fates.Renewed cost expiry old) = new_part key cost expiry (is_here c room) (entry_number c key old)
 part_for c key room (fates.Goes link) = gone_part (entry_number c key (Some link))
-part_for c key room (fates.Woken link) = hit_part c (entry_number c key (Some link))
+part_for c key room (fates.Woken link) = parts.Nothing
 
--- the events of a part, a new entry's first; `at` counts the events of the key's stripe, with the command's
-abbrev pub part_events : ClassView → Who → ℕ → ℕ → Part → List ClassEvent
-part_events c who moment at parts.Nothing = []
-part_events c who moment at (parts.Links key cost expiry) = linked_event c who key cost moment expiry ∷ []
-part_events c who moment at (parts.Renews key cost expiry number) = linked_event c who key cost moment expiry ∷ unlinked_event who number ∷ []
-part_events c who moment at (parts.Unlinks number) = unlinked_event who number ∷ []
-part_events c who moment at (parts.Warms number) = shifted_event who number Warm whys.Hit moment [] at Cold ∷ []
+-- the events of a part, a new entry's first
+abbrev pub part_events : ClassView → Who → ℕ → Part → List ClassEvent
+part_events c who moment parts.Nothing = []
+part_events c who moment (parts.Links key cost expiry) = linked_event c who key cost moment expiry ∷ []
+part_events c who moment (parts.Renews key cost expiry number) = linked_event c who key cost moment expiry ∷ unlinked_event who number ∷ []
+part_events c who moment (parts.Unlinks number) = unlinked_event who number ∷ []
 
 -- how many events a part makes
 abbrev pub places_of : Part → ℕ
@@ -75,15 +59,6 @@ places_of parts.Nothing = 0
 places_of (parts.Links key cost expiry) = 1
 places_of (parts.Renews key cost expiry number) = 2
 places_of (parts.Unlinks number) = 1
-places_of (parts.Warms number) = 1
-
--- a part moves an entry to WARM
-abbrev pub is_warming : Part → Bool
-is_warming parts.Nothing = false
-is_warming (parts.Links key cost expiry) = false
-is_warming (parts.Renews key cost expiry number) = false
-is_warming (parts.Unlinks number) = false
-is_warming (parts.Warms number) = true
 
 -- a new entry may be added: a chunk is free, and the cost is one that a class can hold
 pub record MayLink (c : ClassView) (bytes : ℕ) : Type 0 where
@@ -96,7 +71,6 @@ MayMake c parts.Nothing = Unit {0}
 MayMake c (parts.Links key cost expiry) = MayLink c cost
 MayMake c (parts.Renews key cost expiry number) = MayLink c cost × IsListed number (lists_of c.history)
 MayMake c (parts.Unlinks number) = IsListed number (lists_of c.history)
-MayMake c (parts.Warms number) = segment_of number (lists_of c.history) ≡ Some Cold
 
 -- the copy is the key of the part's new entry, if it has one
 abbrev pub Copies : Part → Option (List ℕ) → Type 0
@@ -104,4 +78,3 @@ Copies parts.Nothing copy = Unit {0}
 Copies (parts.Links key cost expiry) copy = copy ≡ Some key
 Copies (parts.Renews key cost expiry number) copy = copy ≡ Some key
 Copies (parts.Unlinks number) copy = Unit {0}
-Copies (parts.Warms number) copy = Unit {0}

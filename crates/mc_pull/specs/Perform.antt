@@ -45,12 +45,12 @@ pub record GivesRoom (who : Who) (room : Room) (v : ClassView) : Type 0 where
   pub free : is_here v room ≡ true → count_of (lists_of v.history) < v.chunks
   pub named : IsRoomOf who room v
 
--- the classes that a command needs are lent: its new version's, and that of an item that it replaces, removes or makes ACTIVE
+-- the classes that a command needs are lent: its new version's, and that of an item that it replaces or removes
 abbrev pub AreLent : List ClassView → Room → Fate → Type 0
 AreLent vs room fates.Untouched = Unit {0}
 AreLent vs room (fates.Renewed cost expiry old) = IsLentIf vs (link_of room) × IsLentIf vs old
 AreLent vs room (fates.Goes link) = IsLent vs link
-AreLent vs room (fates.Woken link) = IsLent vs link
+AreLent vs room (fates.Woken link) = Unit {0}
 
 -- a stripe may answer a command: the key is its own and has no dead item, and the room fits the command's need
 pub record MayAnswer (s : Stripe) (c : Call) : Type 0 where

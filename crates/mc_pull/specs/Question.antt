@@ -9,7 +9,7 @@ use Rattle.mc_segment.specs.declared.surveying.Survey.{Survey}
 use Rattle.mc_segment.specs.{ClassState.ClassView, ClassState.chunks_for, Entries.entry_of}
 use Rattle.mc_stripe.specs.StripeState.{Stripe}
 use Rattle.mc_pull.specs.declared.{judge.Ask.Ask, judge.Mode.Mode, judge.Mode.TheVariants.Plain, judge.Mode.TheVariants.Evict, judge.Mode.TheVariants.Force}
-use Rattle.mc_pull.specs.declared.{judge.Judge.Judge, judge.Judge.TheVariants.Walk, judge.Judge.TheVariants.Dead}
+use Rattle.mc_pull.specs.declared.{judge.Judge.Judge, judge.Judge.TheVariants.Walk, judge.Judge.TheVariants.Dead, judge.Judge.TheVariants.Hit}
 
 -- a question about an entry: who asks, which entry, what, and at which time
 pub record Question : Type 0 where
@@ -65,10 +65,11 @@ pub record MayJudgeOn (c : ClassView) (who : Who) (number moment : ℕ) (s : Seg
   pub walk : MayWalk c s mode who moment
   pub full : IsFullFor c mode
 
--- an entry may be judged like this: on a walk, or only for whether its item is dead, if it is in a list
+-- an entry may be judged like this: on a walk; only for whether its item is dead, if it is in a list; for a hit, if it is in COLD
 abbrev pub MayJudgeBy : ClassView → Who → ℕ → ℕ → Judge → Type 0
 MayJudgeBy c who number moment (Walk s mode passed) = MayJudgeOn c who number moment s mode passed
 MayJudgeBy c who number moment Dead = IsListed number (lists_of c.history)
+MayJudgeBy c who number moment Hit = IsIn Cold number (lists_of c.history)
 
 -- this question may be put to the class
 abbrev pub MayJudge : ClassView → Question → Type 0

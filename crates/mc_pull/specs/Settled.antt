@@ -1,6 +1,7 @@
 -- The events that judging an entry adds to both histories.
 use Rattle.std.specs.Prelude.{ℕ, ◌≡◌, ◌++◌, List, [], ◌∷◌, Option, Some, None, length}
-use Rattle.mc_item.specs.declared.{class_event.ClassEvent.ClassEvent, item.Who.Who, lists.Entry.Entry, lists.Seg.TheVariants.Warm, lists.Seg.TheVariants.Cold}
+use Rattle.mc_item.specs.declared.{class_event.ClassEvent.ClassEvent, class_event.Why.Why, item.Who.Who, lists.Entry.Entry}
+use Rattle.mc_item.specs.declared.lists.Seg.TheVariants.{Warm, Cold}
 use Rattle.mc_item.specs.declared.{stripe_event.Cause.Cause, stripe_event.StripeEvent.StripeEvent}
 use Rattle.mc_item.specs.declared.class_event.Why.TheVariants as whys
 use Rattle.mc_item.specs.declared.stripe_event.Cause.TheVariants as causes
@@ -8,7 +9,8 @@ use Rattle.mc_item.specs.declared.stripe_event.StripeEvent.TheVariants as events
 use Rattle.mc_rule.specs.Lists.{lists_of}
 use Rattle.mc_segment.specs.{ClassState.ClassView, ClassCalls.reclaimed_event, ClassCalls.evicted_event, ClassCalls.shifted_event, Entries.entry_of}
 use Rattle.mc_stripe.specs.StripeState.{Stripe}
-use Rattle.mc_pull.specs.declared.{judge.Judge.Judge, judge.Judge.TheVariants.Walk, judge.Judge.TheVariants.Dead, judge.Done.Done}
+use Rattle.mc_pull.specs.declared.{judge.Judge.Judge, judge.Done.Done}
+use Rattle.mc_pull.specs.declared.judge.Judge.TheVariants.{Walk, Dead, Hit}
 use Rattle.mc_pull.specs.declared.judge.Done.TheVariants as done
 use Rattle.mc_pull.specs.{Outcome.cold_why, Question.Question}
 
@@ -20,20 +22,29 @@ lost_event who key cause = events.Lost (record { who = who; key = key; cause = c
 abbrev pub cooled_event : Who → List ℕ → StripeEvent
 cooled_event who key = events.Cooled (record { who = who; key = key })
 
--- the numbers of the entries between the judged one and the tail
+-- the numbers of the entries between the judged one and the tail, if a walk names them
 abbrev pub passed_of : Judge → List ℕ
 passed_of (Walk s mode passed) = passed
 passed_of Dead = []
+passed_of Hit = []
 
--- a walk's move of an active entry to WARM's head, when the entry's stripe has `at` events
+-- why an entry moves to WARM's head: for a hit of its item, or because a walk found that active
+abbrev pub warm_why : Judge → Why
+warm_why (Walk s mode passed) = whys.Active
+warm_why Dead = whys.Active
+warm_why Hit = whys.Hit
+
+-- the move of an active entry to WARM's head, from a walk's list or from COLD for a hit, when the entry's stripe has `at` events
 abbrev pub warm_events : Question → ℕ → Judge → List ClassEvent
 warm_events q at (Walk s mode passed) = shifted_event q.who q.number Warm whys.Active q.moment passed at s ∷ []
 warm_events q at Dead = []
+warm_events q at Hit = shifted_event q.who q.number Warm whys.Hit q.moment [] at Cold ∷ []
 
 -- a walk's move of an entry to COLD's head, when the entry's stripe has `at` events
 abbrev pub cold_events : ClassView → Question → ℕ → Judge → List ClassEvent
 cold_events c q at (Walk s mode passed) = shifted_event q.who q.number Cold (cold_why c.rule (lists_of c.history) s mode) q.moment passed at s ∷ []
 cold_events c q at Dead = []
+cold_events c q at Hit = []
 
 -- the class's events if this is done, when the entry's stripe has `at` events
 abbrev pub done_class_events : ClassView → Question → ℕ → Done → List ClassEvent

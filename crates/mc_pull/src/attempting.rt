@@ -1,30 +1,29 @@
 //! One try of a command on its stripe and the classes that it is lent, whose histories agree with the stripe's. Either the
-//! command is made, with its part in each class, or it wants something and nothing has happened. All memory is taken first, so
-//! nothing has happened after a fault either. `HistoryFull` comes only if a history lacks a place that the command needs.
-ghost use Rattle.std.specs.Prelude.{if◌then◌else◌, ◌≡◌, ◌≤◌, ◌<◌, ◌+◌, ◌∷◌, [], ◌||◌, true, Some, None, IfOk, IsSome, OnErr, OnOk, IsErrOf, length};
+//! command is made, with its part in each class, or it wants something and nothing has happened. A hit has no part in any class:
+//! the try returns the link of the item that it woke. All memory is taken first, so nothing has happened after a fault either.
+//! `HistoryFull` comes only if the stripe's history has no place left.
+ghost use Rattle.std.specs.Prelude.{if◌then◌else◌, ◌≡◌, ◌≤◌, ◌<◌, ◌↔◌, ◌∷◌, [], true, Some, None, IfOk, OnErr, OnOk, IsErrOf, length};
 ghost use Rattle.mc_item.specs.Command.{key_of};
-ghost use Rattle.mc_item.specs.declared.{config.Config.Config, fault.Fault.TheVariants.HistoryFull, item.Link.Link};
-ghost use Rattle.mc_item.specs.declared.reply.Room.TheVariants as rooms;
+ghost use Rattle.mc_item.specs.declared.{config.Config.Config, fault.Fault.TheVariants.HistoryFull};
 ghost use Rattle.mc_segment.specs.ClassState.{with_room};
 ghost use Rattle.mc_stripe.specs.StripeCalls.{KeepsSite};
-ghost use Rattle.mc_pull.specs.Attempt.{GivesHome, HasFree, HasRoomFor, IsNoted, IsReady, IsReadyFor, IsSmallFate, IsTriedBy, LeavesPlaces, MayMakePart};
-ghost use Rattle.mc_pull.specs.Attempt.{MayTryOn, OffersHome, OffersOther};
+ghost use Rattle.mc_pull.specs.Attempt.{GivesHome, HasFree, HasRoomFor, IsNoted, IsReady, IsSmallFate};
+ghost use Rattle.mc_pull.specs.Attempt.{IsTriedBy, LeavesPlaces, MayMakePart, MayTryOn, OffersHome, OffersOther};
 ghost use Rattle.mc_pull.specs.Parts as words;
-ghost use Rattle.mc_pull.specs.{Parts.MayMake, Parts.part_for, Perform.call, Performed.IsUntouched, Performed.MayRefuseCall, Question.IsClassOf};
-ghost use Rattle.mc_pull.specs.{Question.IsStripeOf, Settled.class_with};
+ghost use Rattle.mc_pull.specs.{Parts.MayMake, Parts.part_for, Performed.IsUntouched, Question.IsClassOf, Question.IsStripeOf, Settled.class_with};
 
-use crate::certain::cool_if;
 use crate::making::make;
-use crate::parts::{Part, entry_number, gone_part, hit_part, is_here, linked_part};
+use crate::parts::{Part, entry_number, gone_part, is_here, linked_part};
 use mc_item::{Command, Fault, Key, Link, NoMemory, Reply, Room};
 use mc_segment::ClassState;
 use mc_stripe::{Done, Fate, Given, Home, Other, StripeState, Turn, Want};
 use std::alloc::Global;
 
-/// What a try came to: the command was made, with this reply, or it wants something first.
+/// What a try came to: the command was made, with this reply, or it wants something first. `woken` is the link of the item that
+/// the command's hit made ACTIVE, if it did.
 #[derive(Drop)]
 pub enum Tried {
-    Made(Reply),
+    Made { reply: Reply, woken: Option<Link> },
     Wants(Want),
 }
 
@@ -104,15 +103,14 @@ pub fn ready(class: &mut ClassState) -> Result<(), Fault>
     class.reserve(places)
 }
 
-// A class that is ready for its part of a command. `warms`: a hit moves an entry there. `copy`: the key again, if events are
-// kept.
+// The key of a class's new entry. `copy`: the key again, if events are kept.
 #[derive(Drop)]
-struct Prepared {
-    warms: bool,
+struct Keys {
     key: Key,
     copy: Option<Key>,
 }
 
+// A copy of a key, if one is wanted.
 #[inline(always)]
 fn key_if(alloc: Global, key: &Key, wanted: bool) -> Result<Option<Key>, NoMemory>
     ensures { IfOk result (λ copy. copy ≡ (if wanted then Some key.now else None)) }
@@ -124,27 +122,15 @@ fn key_if(alloc: Global, key: &Key, wanted: bool) -> Result<Option<Key>, NoMemor
     }
 }
 
-// Makes a class ready for a command that would wake, that is make ACTIVE, the item of link `woken`. If the item's entry lies in
-// COLD here, room is made for its move.
+// Copies a command's key for its part in a class.
 #[inline(always)]
-fn wake(
-    alloc: Global,
-    class: &mut ClassState,
-    command: &Command,
-    woken: Option<Link>,
-) -> Result<Prepared, Fault>
-    ensures ready { IfOk result (IsReadyFor class.old class.new command.now woken) }
-    ensures same { class.new ≡ with_room class.old class.new.room }
-    ensures full { IsErrOf result HistoryFull → (words.is_warming (words.hit_part class.old (words.entry_number class.old (key_of command.now) woken)) ≡ true)
-        × (class.old.max_events < length class.old.history + 1) }
+fn keys_for(alloc: Global, class: &ClassState, command: &Command) -> Result<Keys, NoMemory>
+    ensures key { IfOk result (λ keys. keys.key ≡ key_of command.now) }
+    ensures copy { IfOk result (λ keys. class.now.keeps_events ≡ true → keys.copy ≡ Some keys.key) }
 {
-    let warms = hit_part(class, entry_number(class, command.key(), woken)).is_warming();
-    if warms {
-        class.reserve(1)?;
-    }
     let key = command.key().copy(alloc)?;
     let copy = key_if(alloc, &key, class.keeps_events())?;
-    Ok(Prepared { warms, key, copy })
+    Ok(Keys { key, copy })
 }
 
 // A class's part in a command that was made, by the command's room and what becomes of its key's chunks.
@@ -156,7 +142,7 @@ fn part_after(class: &ClassState, key: Key, room: Room, fate: Fate) -> Part
     ensures may { MayMake class.now result }
 {
     match fate {
-        Fate::Untouched => Part::Nothing,
+        Fate::Untouched | Fate::Woken(_) => Part::Nothing,
         Fate::Renewed { cost, expiry, old } => {
             let number = entry_number(class, &key, old);
             if is_here(class, room) {
@@ -166,49 +152,29 @@ fn part_after(class: &ClassState, key: Key, room: Room, fate: Fate) -> Part
             }
         }
         Fate::Goes(link) => gone_part(class, entry_number(class, &key, Some(link))),
-        Fate::Woken(link) => hit_part(class, entry_number(class, &key, Some(link))),
     }
 }
 
+// Makes a class's part in a command that was made.
 #[inline(always)]
-fn make_part(class: &mut ClassState, ready: Prepared, room: Room, fate: Fate, turn: Turn, at: u64)
-    requires may { MayMakePart class.old ready.key room fate }
-    requires copy { class.old.keeps_events ≡ true → ready.copy ≡ Some ready.key }
-    ensures { class.new ≡ class_with class.old (words.part_events class.old turn.who turn.moment at (part_for class.old ready.key room fate)) class.new.room }
+fn make_part(class: &mut ClassState, keys: Keys, room: Room, fate: Fate, turn: Turn)
+    requires may { MayMakePart class.old keys.key room fate }
+    requires copy { class.old.keeps_events ≡ true → keys.copy ≡ Some keys.key }
+    ensures { class.new ≡ class_with class.old (words.part_events class.old turn.who turn.moment (part_for class.old keys.key room fate)) class.new.room }
 {
-    let part = part_after(class, ready.key, room, fate);
-    make(class, part, ready.copy, turn.who, turn.moment, at);
+    let part = part_after(class, keys.key, room, fate);
+    make(class, part, keys.copy, turn.who, turn.moment);
 }
 
-// The key of the item whose ACTIVE mark is to be cleared, if a class moves its entry. Then room is made for both events.
-#[inline(always)]
-fn cooled_key(
-    alloc: Global,
-    stripe: &mut StripeState,
-    command: &Command,
-    warms: bool,
-) -> Result<Option<Key>, Fault>
-    ensures key { IfOk result (λ key. key ≡ (if warms then Some (key_of command.now) else None)) }
-    ensures room { IfOk result (λ key. IsSome key → (2 ≤ stripe.new.room) × (length stripe.old.history + 2 ≤ stripe.old.limit)) }
-    ensures same { stripe.new ≡ record stripe.old { room = stripe.new.room } }
-    ensures full { IsErrOf result HistoryFull → (warms ≡ true) × (stripe.old.limit < length stripe.old.history + 2) }
-{
-    stripe.history();
-    if warms {
-        stripe.reserve(2)?;
-    }
-    Ok(key_if(alloc, command.key(), warms)?)
-}
-
-/// Tries a command that is lent no class. Returns its reply, or, with nothing done, what it wants first.
-/// Errors: `NoMemory`; `HistoryFull` only if the stripe's history has no place left. No history has changed then.
+/// Tries a command that is lent no class. Returns its reply and what its hit woke, or, with nothing done, what it wants first.
+/// Errors: `NoMemory`; `HistoryFull` exactly if the stripe's history has no place left. No history has changed then.
 #[inline(always)]
 pub fn attempt_none(stripe: &mut StripeState, command: &Command, turn: Turn) -> Result<Tried, Fault>
     requires may { MayTryOn stripe.old [] command.now turn (record { home = None; other = None }) }
     ensures tried { (config : Config) → IsStripeOf config stripe.old
         → IfOk result (IsTriedBy config stripe.old stripe.new command.now turn (record { home = None; other = None }) [] []) }
     ensures err { OnErr result (IsUntouched stripe.old stripe.new [] []) }
-    ensures refusal { IsErrOf result HistoryFull → MayRefuseCall stripe.old (call turn.who command.now turn.moment rooms.Keep) [] HistoryFull }
+    ensures full { IsErrOf result HistoryFull ↔ (stripe.old.limit ≤ length stripe.old.history) }
     ensures site { KeepsSite stripe.old stripe.new }
 {
     stripe.history();
@@ -217,15 +183,17 @@ pub fn attempt_none(stripe: &mut StripeState, command: &Command, turn: Turn) -> 
         other: None,
     };
     match stripe.attempt(command, turn, &given)? {
-        Ok(done) => Ok(Tried::Made(done.reply)),
+        Ok(done) => Ok(Tried::Made {
+            reply: done.reply,
+            woken: done.fate.woken(),
+        }),
         Err(want) => Ok(Tried::Wants(want)),
     }
 }
 
 /// Tries a command that is lent one class. `given` is what the class offers, and it must have room for that (`ready`). Returns
-/// the command's reply, or, with nothing done, what it wants first.
-/// Errors: `NoMemory`; `HistoryFull` only if the stripe's history has no place left, or a history lacks places for what the
-/// command makes of an item that isn't dead. No history has changed then.
+/// the command's reply and what its hit woke, or, with nothing done, what it wants first.
+/// Errors: `NoMemory`; `HistoryFull` only if the stripe's history has no place left. No history has changed then.
 #[inline(always)]
 pub fn attempt_one(
     alloc: Global,
@@ -240,29 +208,23 @@ pub fn attempt_one(
     ensures tried { (config : Config) → IsStripeOf config stripe.old → IsClassOf config class.old
         → IfOk result (IsTriedBy config stripe.old stripe.new command.now turn given (class.old ∷ []) (class.new ∷ [])) }
     ensures err { OnErr result (IsUntouched stripe.old stripe.new (class.old ∷ []) (class.new ∷ [])) }
-    ensures refusal { IsErrOf result HistoryFull → MayRefuseCall stripe.old (call turn.who command.now turn.moment rooms.Keep) (class.old ∷ []) HistoryFull }
+    ensures full { IsErrOf result HistoryFull → stripe.old.limit ≤ length stripe.old.history }
     ensures site { KeepsSite stripe.old stripe.new }
 {
     class.law();
-    let at = stripe.history().len() as u64 + 1;
-    let woken = stripe.woken(command, turn.moment);
-    let ready = wake(alloc, class, command, woken)?;
-    let cooled = cooled_key(alloc, stripe, command, ready.warms)?;
+    stripe.history();
+    let keys = keys_for(alloc, class, command)?;
     match stripe.attempt(command, turn, &given)? {
         Err(want) => Ok(Tried::Wants(want)),
         Ok(done) => {
             let Done { reply, room, fate } = done;
-            make_part(class, ready, room, fate, turn, at);
-            cool_if(stripe, turn.who, cooled);
-            Ok(Tried::Made(reply))
+            make_part(class, keys, room, fate, turn);
+            Ok(Tried::Made {
+                reply,
+                woken: fate.woken(),
+            })
         }
     }
-}
-
-fn is_either(first: bool, second: bool) -> bool
-    ensures { result ≡ (first || second) }
-{
-    first || second
 }
 
 /// Tries a command that is lent two classes. All else is as for `attempt_one`.
@@ -281,25 +243,24 @@ pub fn attempt_two(
     ensures tried { (config : Config) → IsStripeOf config stripe.old → IsClassOf config home.old → IsClassOf config other.old
         → IfOk result (IsTriedBy config stripe.old stripe.new command.now turn given (home.old ∷ other.old ∷ []) (home.new ∷ other.new ∷ [])) }
     ensures err { OnErr result (IsUntouched stripe.old stripe.new (home.old ∷ other.old ∷ []) (home.new ∷ other.new ∷ [])) }
-    ensures refusal { IsErrOf result HistoryFull
-        → MayRefuseCall stripe.old (call turn.who command.now turn.moment rooms.Keep) (home.old ∷ other.old ∷ []) HistoryFull }
+    ensures full { IsErrOf result HistoryFull → stripe.old.limit ≤ length stripe.old.history }
     ensures site { KeepsSite stripe.old stripe.new }
 {
     home.law();
     other.law();
-    let at = stripe.history().len() as u64 + 1;
-    let woken = stripe.woken(command, turn.moment);
-    let first = wake(alloc, home, command, woken)?;
-    let second = wake(alloc, other, command, woken)?;
-    let cooled = cooled_key(alloc, stripe, command, is_either(first.warms, second.warms))?;
+    stripe.history();
+    let first = keys_for(alloc, home, command)?;
+    let second = keys_for(alloc, other, command)?;
     match stripe.attempt(command, turn, &given)? {
         Err(want) => Ok(Tried::Wants(want)),
         Ok(done) => {
             let Done { reply, room, fate } = done;
-            make_part(home, first, room, fate, turn, at);
-            make_part(other, second, room, fate, turn, at);
-            cool_if(stripe, turn.who, cooled);
-            Ok(Tried::Made(reply))
+            make_part(home, first, room, fate, turn);
+            make_part(other, second, room, fate, turn);
+            Ok(Tried::Made {
+                reply,
+                woken: fate.woken(),
+            })
         }
     }
 }

@@ -1,5 +1,5 @@
 //! Events that can't be refused: the caller has made room for them, and the histories have places. None takes memory.
-ghost use Rattle.std.specs.Prelude.{◌≡◌, ◌<◌, ◌≤◌, ◌+◌, ◌^◌, length, true, Some, IfSome, IsSome, IsSomeAnd, MatchOption};
+ghost use Rattle.std.specs.Prelude.{◌≡◌, ◌<◌, ◌≤◌, ◌+◌, ◌^◌, length, true, Some, IsSomeAnd};
 ghost use Rattle.mc_rule.specs.Lists.{lists_of, count_of, segment_of};
 ghost use Rattle.mc_item.specs.Stripe.{IsDead};
 ghost use Rattle.mc_item.specs.declared.stripe_event.Cause.TheVariants as causes;
@@ -136,17 +136,5 @@ pub(crate) fn cool(stripe: &mut StripeState, who: Who, key: Key)
     match stripe.cool(who, key) {
         Ok(()) => {}
         Err(_) => unreachable!(),
-    }
-}
-
-pub(crate) fn cool_if(stripe: &mut StripeState, who: Who, key: Option<Key>)
-    requires room { IsSome key → 0 < stripe.old.room }
-    requires place { IsSome key → length stripe.old.history < stripe.old.limit }
-    requires active { IfSome key (λ key. IsSomeAnd ((cache_now stripe.old).items key) (λ item. item.marks.active ≡ true)) }
-    ensures event { MatchOption key (stripe.new.history ≡ stripe.old.history) (λ key. Gains stripe.old stripe.new (cooled_event who key)) }
-    ensures site { KeepsSite stripe.old stripe.new }
-{
-    if let Some(key) = key {
-        cool(stripe, who, key);
     }
 }

@@ -3,6 +3,7 @@
 //! Nothing here locks.
 #![tactic(auto)]
 
+mod advancing;
 mod attempting;
 mod certain;
 mod judge;
@@ -19,6 +20,7 @@ mod settling;
 mod trying;
 mod verdict;
 
+pub use advancing::advance;
 pub use attempting::{
     Tried, attempt_none, attempt_one, attempt_two, offer_home, offer_other, ready,
 };

@@ -6,24 +6,17 @@ ghost use Rattle.mc_pull.specs.Parts as words;
 
 use crate::certain;
 use crate::parts::Part;
-use mc_item::{Key, Passed, Seg, Who, Why};
+use mc_item::{Key, Who};
 use mc_segment::ClassState;
 
 /// Makes the events of a class's part, for which there must be room. If events are kept, `copy` is a new entry's key once more.
 #[inline(always)]
-pub(crate) fn make(
-    class: &mut ClassState,
-    part: Part,
-    copy: Option<Key>,
-    who: Who,
-    moment: u64,
-    at: u64,
-)
+pub(crate) fn make(class: &mut ClassState, part: Part, copy: Option<Key>, who: Who, moment: u64)
     requires room { words.places_of part ≤ class.old.room }
     requires place { HasPlaces class.old (words.places_of part) }
     requires may { MayMake class.old part }
     requires copy { class.old.keeps_events ≡ true → Copies part copy }
-    ensures { class.new ≡ class_with class.old (part_events class.old who moment at part) class.new.room }
+    ensures { class.new ≡ class_with class.old (part_events class.old who moment part) class.new.room }
 {
     match part {
         Part::Nothing => {}
@@ -40,18 +33,5 @@ pub(crate) fn make(
             certain::unlink(class, who, number);
         }
         Part::Unlinks(number) => certain::unlink(class, who, number),
-        Part::Warms(number) => {
-            class.law();
-            certain::shift(
-                class,
-                who,
-                number,
-                Seg::Warm,
-                Why::Hit,
-                moment,
-                Passed::of(&[]),
-                at,
-            );
-        }
     }
 }

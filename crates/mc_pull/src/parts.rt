@@ -1,12 +1,11 @@
-//! A class's part of a command: which of its entries are added, removed or moved.
-ghost use Rattle.std.specs.Prelude.{◌≡◌, ◌≤◌, ◌<◌, ◌^◌, true, Some, IfSome};
-ghost use Rattle.mc_rule.specs.{Lists.lists_of, Lists.count_of, Lists.segment_of, Lawful.IsListed};
-ghost use Rattle.mc_item.specs.declared.lists.Seg.TheVariants.{Cold};
+//! A class's part of a command: which of its entries are added or removed.
+ghost use Rattle.std.specs.Prelude.{◌≡◌, ◌≤◌, ◌<◌, ◌^◌, true, IfSome};
+ghost use Rattle.mc_rule.specs.{Lists.lists_of, Lists.count_of, Lawful.IsListed};
 ghost use Rattle.mc_segment.specs.Entries.{entry_of};
 ghost use Rattle.mc_pull.specs.Parts as words;
 ghost use Rattle.mc_pull.specs.Parts.{MayMake};
 
-use mc_item::{Expiry, Key, Link, Room, Seg};
+use mc_item::{Expiry, Key, Link, Room};
 use mc_segment::ClassState;
 
 /// A class's part of a command.
@@ -29,8 +28,6 @@ pub(crate) enum Part {
     },
     /// The entry of this number is removed.
     Unlinks(u64),
-    /// The entry of this number moves from COLD to WARM's head.
-    Warms(u64),
 }
 
 // Whether a class has an entry of this number and this key.
@@ -74,21 +71,6 @@ pub(crate) fn is_here(class: &ClassState, room: Room) -> bool
     }
 }
 
-fn is_cold(class: &ClassState, number: u64) -> bool
-    ensures value { result ≡ words.is_cold (segment_of number (lists_of class.now.history)) }
-    ensures cold { result ≡ true → segment_of number (lists_of class.now.history) ≡ Some Cold }
-{
-    match class.segment_of(number) {
-        None => false,
-        Some(seg) => match seg {
-            Seg::Hot => false,
-            Seg::Warm => false,
-            Seg::Cold => true,
-            Seg::Temp => false,
-        },
-    }
-}
-
 /// The part if a new version's entry is added to the class. `old` is the replaced item's entry, if that is in the class too.
 #[inline(always)]
 pub(crate) fn linked_part(
@@ -127,37 +109,5 @@ pub(crate) fn gone_part(class: &ClassState, number: Option<u64>) -> Part
     match number {
         None => Part::Nothing,
         Some(number) => Part::Unlinks(number),
-    }
-}
-
-// The part in a hit that makes an item ACTIVE: its entry moves to WARM, if it is in COLD here.
-pub(crate) fn hit_part(class: &ClassState, number: Option<u64>) -> Part
-    ensures part { result ≡ words.hit_part class.now number }
-    ensures may { MayMake class.now result }
-{
-    match number {
-        None => Part::Nothing,
-        Some(number) => {
-            if is_cold(class, number) {
-                Part::Warms(number)
-            } else {
-                Part::Nothing
-            }
-        }
-    }
-}
-
-impl Part {
-    /// Whether it moves an entry to WARM.
-    pub(crate) fn is_warming(&self) -> bool
-        ensures { result ≡ words.is_warming self.now }
-    {
-        match self {
-            Part::Nothing => false,
-            Part::Links { .. } => false,
-            Part::Renews { .. } => false,
-            Part::Unlinks(_) => false,
-            Part::Warms(_) => true,
-        }
     }
 }

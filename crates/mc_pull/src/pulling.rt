@@ -44,7 +44,7 @@ fn is_wanted(class: &ClassState, mode: Mode) -> bool
 }
 
 // Looks at one entry through the gate.
-fn look_at<G: Gate>(
+pub(crate) fn look_at<G: Gate>(
     alloc: Global,
     class: &mut ClassState,
     stripe: StripeNo,

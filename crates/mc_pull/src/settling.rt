@@ -56,6 +56,18 @@ fn passed_of(judge: &Judge) -> Passed
     match judge {
         Judge::Walk { passed, .. } => Passed::of(passed.as_slice()),
         Judge::Dead => Passed::of(&[]),
+        Judge::Hit => Passed::of(&[]),
+    }
+}
+
+// Why an entry goes to WARM.
+fn warm_why(judge: &Judge) -> Why
+    ensures { result ≡ words.warm_why judge.now }
+{
+    match judge {
+        Judge::Walk { .. } => Why::Active,
+        Judge::Dead => Why::Active,
+        Judge::Hit => Why::Hit,
     }
 }
 
@@ -144,7 +156,7 @@ fn settle_active(
         ask.who,
         ask.number,
         Seg::Warm,
-        Why::Active,
+        warm_why(ask.judge),
         ask.moment,
         passed_of(ask.judge),
         at,
@@ -209,6 +221,7 @@ fn settle_by(
                 settle_cold(class, stripe, ask, *seg, *mode, passed)?
             }
             Judge::Dead => unreachable!(),
+            Judge::Hit => unreachable!(),
         },
         Done::Evicted => settle_taken(alloc, class, stripe, ask)?,
         Done::Stayed => {}
@@ -231,6 +244,7 @@ pub(crate) fn settle_ask(
     ensures sight { KeepsSight class.old class.new stripe.old stripe.new }
     ensures err { OnErr result ((class.new ≡ with_room class.old class.new.room) × (stripe.new.history ≡ stripe.old.history)) }
     ensures site { KeepsSite stripe.old stripe.new }
+    ensures full { IfErr result (MayFail class.new stripe.new) }
     ensures refusal { IfErr result (MayRefuseFor class.old stripe.old (done_of class.old (cache_now stripe.old) (question_of ask.now))) }
 {
     class.law();
@@ -239,8 +253,9 @@ pub(crate) fn settle_ask(
 }
 
 /// Judges one entry with its stripe, makes the events of both histories, and returns what was done. It goes by the rule of the
-/// entry's segment, or asks only whether the item is dead. If the stripe has no item with the entry's chunk, nothing changes. The
-/// entry must be in a list. A walk must name that list, just the entries between this one and the tail, and a mode that fits.
+/// entry's segment, or asks only whether the item is dead, or whether a hit moves the entry. If the stripe has no item with the
+/// entry's chunk, nothing changes. The entry must be in a list, for a hit in COLD. A walk must name its list, just the entries
+/// between this one and the tail, and a mode that fits.
 /// Errors: `HistoryFull` exactly if a history has no place for an event to be made, `NoMemory` only if an event is to be made.
 /// Neither history has changed then.
 pub fn settle(

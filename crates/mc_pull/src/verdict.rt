@@ -110,6 +110,13 @@ fn verdict_by(
                 Done::Alive(item.expiry)
             }
         }
+        Judge::Hit => {
+            if item.marks.active && !dead {
+                Done::ToWarm
+            } else {
+                Done::Stayed
+            }
+        }
     }
 }
 

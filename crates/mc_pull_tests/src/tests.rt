@@ -1,9 +1,11 @@
-//! Tests as rows (`rows`), with what they do (`judging`, `by_list`) and see (`seeing`); tries of commands (`trying`) as rows
-//! (`asking`); and a drawn test.
+//! Tests as rows (`rows`), with what they do (`judging`, `hitting`, `by_list`) and see (`seeing`); tries of commands
+//! (`trying`) as rows (`asking`); and a drawn test.
+mod advances;
 mod asking;
 mod bounds;
 mod by_list;
 mod hits;
+mod hitting;
 mod judgements;
 mod judging;
 mod plain_lists;

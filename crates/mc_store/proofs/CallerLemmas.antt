@@ -1,9 +1,8 @@
 -- Callers' histories: what was begun in one is begun in each longer one, and the events of stripes stay called.
-use Rattle.std.proofs.Common.{◌≡◌, ◌⊎◌, ◌<◌, ◌+◌, ℕ, zero, suc, List, [], ◌∷◌, ◌++◌, Bool, true, false, Some, Result, Ok, Err, slice_get, length, append_assoc, refl, sym, ap, ◌∙◌, subst, inl, inr, ⊎_elim, arith}
+use Rattle.std.proofs.Common.{◌≡◌, ◌⊎◌, ◌<◌, ◌+◌, ℕ, zero, suc, List, [], ◌∷◌, ◌++◌, Some, Result, Ok, Err, slice_get, length, append_assoc, refl, sym, ap, ◌∙◌, subst, inl, inr, ⊎_elim, arith}
 use Rattle.std.specs.Prelude.{OnOk, OnErr}
 use Rattle.std.proofs.lemmas.List.{map-append}
 use mathlib.Core.List.{IsPrefix}
-use Rattle.mc_item.specs.Command.{key_of}
 use Rattle.mc_item.specs.declared.{answer.Site.Site, call_event.CallEvent.CallEvent, class_event.ClassEvent.ClassEvent, config.Config.Config, event.Event.Event}
 use Rattle.mc_item.specs.declared.{event.Event.TheVariants.Call, event.Event.TheVariants.Class, event.Event.TheVariants.Stripe, fault.Fault.Fault}
 use Rattle.mc_item.specs.declared.{command.Command.Command, item.ClassNo.ClassNo, item.Who.Who, stripe_event.Cause.Cause}
@@ -15,9 +14,9 @@ use Rattle.mc_board.proofs.SeenLemmas.{list_at_same}
 use Rattle.mc_segment.specs.ClassState.{ClassView}
 use Rattle.mc_stripe.specs.StripeCalls.{KeepsSite}
 use Rattle.mc_stripe.specs.StripeState as states
-use Rattle.mc_pull.specs.{Lone.AreMadeBy, Lone.IsCauseOf, Lone.IsWalkersEvent, Lone.StripeGrows, Settled.cooled_event, Walker.Walker}
+use Rattle.mc_pull.specs.{Lone.AreMadeBy, Lone.IsCauseOf, Lone.IsWalkersEvent, Lone.StripeGrows, Walker.Walker}
 use Rattle.mc_pull.specs.Perform as words
-use Rattle.mc_pull.specs.Performed.{IsPerformed, IsUntouched, did_event, events_on_stripe, is_cooling}
+use Rattle.mc_pull.specs.Performed.{IsPerformed, IsUntouched, did_event}
 use Rattle.mc_store.specs.Callers.{AreCalled, IsBegun, IsBegunAs, IsMomentOf, IsCalled, IsNext, IsOf, answered_at, asked_for, call_events, calls_told, who_of}
 use Rattle.mc_store.specs.Locked.{HasBegun, HasBegunAs, HasBegunCommand, caller_place, locks_for}
 use Rattle.mc_store.specs.{Made.IsClassCalled, Made.maker_of, Passes.CallerView, Passes.HasAsked, Passes.HasCalled}
@@ -301,24 +300,17 @@ module _ (config : Config) (s s_new : states.Stripe) (c : words.Call) (vs ws : L
     unfolding begun_now
     first = (of_now, record { moment = c.moment; begun = begun_now; own = (refl, refl) })
 
-    next : (k : ℕ) → WasCalled config s_new.site.stripe k (cooled_event c.who (key_of c.command)) (list_at new.seen)
-    next k = (of_now, record { moment = c.moment; begun = begun_now; own = tt })
-
-    made : (cooling : Bool) → WereCalled config s_new.site.stripe (length s.history) (events_on_stripe s c cooling) (list_at new.seen)
-    made cooling zero event is =
+    made : WereCalled config s_new.site.stripe (length s.history) (did_event s c ∷ []) (list_at new.seen)
+    made zero event is =
         subst (λ (x : StripeEvent). WasCalled config s_new.site.stripe (length s.history + zero) x (list_at new.seen)) (some_event (did_event s c) event is)
         (subst (λ (k : ℕ). WasCalled config s_new.site.stripe k (did_event s c) (list_at new.seen)) (omega (arith, at)) first)
-    made true (suc zero) event is =
-        subst (λ (x : StripeEvent). WasCalled config s_new.site.stripe (length s.history + suc zero) x (list_at new.seen)) (some_event (cooled_event c.who (key_of c.command)) event is)
-        (next (length s.history + suc zero))
-    made true (suc (suc j)) event is = absurd (cc is)
-    made false (suc j) event is = absurd (cc is)
+    made (suc j) event is = absurd (cc is)
 
   pub called_performed : {T : Type 0} (r : Result T Fault) → OnOk r (IsPerformed s s_new c vs ws) → OnErr r (IsUntouched s s_new vs ws) → OnOk r (caller.number < config.callers)
       → OnOk r (list_at new.seen (caller_place config caller.number) ≡ calls_told caller_new.calls) → OnOk r (caller_new ≡ record caller { calls = caller.calls ++ answered_at s_new.site.stripe place ∷ [] })
       → AreCalled (locks_for config) config.callers s.site.stripe s.history (list_at old.seen) → AreCalled (locks_for config) config.callers s_new.site.stripe s_new.history (list_at new.seen)
   called_performed (Ok x) performed err of told noted all =
-      called_longer config s_new.site.stripe s.history (events_on_stripe s c (is_cooling s c vs)) s_new.history (list_at new.seen) performed.stripe (made of told noted (is_cooling s c vs))
+      called_longer config s_new.site.stripe s.history (did_event s c ∷ []) s_new.history (list_at new.seen) performed.stripe (made of told noted)
       (subst (λ (t : Site). AreCalled (locks_for config) config.callers t.stripe s.history (list_at new.seen)) (sym site.site) (called_sees config s.site.stripe s.history old new more all))
   called_performed (Err fault) performed err of told noted all =
       subst (λ (t : Site). AreCalled (locks_for config) config.callers t.stripe s_new.history (list_at new.seen)) (sym site.site)

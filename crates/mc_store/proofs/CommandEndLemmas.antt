@@ -4,21 +4,22 @@ use Rattle.std.specs.Prelude.{Option, Some, IsErrAnd, IsErrOf}
 use Rattle.mc_item.specs.{Answer.row_of, Cache.Cache, Command.key_of, Stripe.IsAlive, Stripe.cache_of}
 use Rattle.mc_item.specs.declared.{answer.Need.Need, answer.Site.Site, call_event.CallEvent.CallEvent, command.Command.Command, config.Config.Config}
 use Rattle.mc_item.specs.declared.{fault.Fault.Fault, fault.Fault.TheVariants.HistoryFull, item.ClassNo.ClassNo, item.Item.Item, item.Link.Link, item.Who.Who}
-use Rattle.mc_item.specs.declared.{reply.Reply.Reply, stripe_event.StripeEvent.StripeEvent}
+use Rattle.mc_item.specs.declared.{stripe_event.Did.Did, stripe_event.StripeEvent.StripeEvent}
 use Rattle.mc_item.specs.declared.answer.Need.TheVariants as needs
 use Rattle.mc_item.specs.declared.stripe_event.StripeEvent.TheVariants as events
 use Rattle.mc_board.specs.declared.rule.Sight.{Sight}
 use Rattle.mc_stripe.specs.{Plan.dead_link, StripeCalls.KeepsSite, StripeState.Stripe, StripeState.cache_now, Trying.item_of, Trying.row_at, Wanting.Holds}
 use Rattle.mc_stripe.specs.{Wanting.IsWanting, Wanting.classes_for}
 use Rattle.mc_stripe.specs.declared.{wanting.Want.Want, trying.Turn.Turn}
-use Rattle.mc_pull.specs.{Perform.answer_to, Perform.call, Performed.cooled_if, Question.IsStripeOf}
-use Rattle.mc_store.specs.{Callers.answered_at, Calls.IsReplied, Commands.IsCut, Commands.IsSearch, Commands.burial, Earned.IsEarned, Earned.IsEarnedIn}
+use Rattle.mc_pull.specs.{Perform.answer_to, Perform.call, Question.IsStripeOf}
+use Rattle.mc_store.specs.{Callers.answered_at, Calls.IsRepliedAs, Commands.IsCut, Commands.IsSearch, Commands.burial, Earned.IsEarned, Earned.IsEarnedIn}
 use Rattle.mc_store.specs.{Held.Ends, Held.IsMadeIn, Held.IsWalked, Held.Suffice, Held.nothing, Passes.CallerView, Serving.IsShort, Sides.StripeSide}
 use Rattle.mc_store.proofs.{CommandLemmas.led_same, CommandLemmas.visible_alive, EarnedRefusalLemmas.earned_told}
-use Rattle.mc_store.proofs.UnderLockLemmas.{IsSearched, cut_behind, cut_from, replied_behind, replied_from, site_both}
+use Rattle.mc_store.specs.declared.replied.Replied.{Replied}
+use Rattle.mc_store.proofs.UnderLockLemmas.{IsSearched, active_moves, cut_behind, cut_from, replied_behind, replied_from, site_both}
 
 module _ (config : Config) (command : Command) (turn : Turn) where
-  abbrev EndsBy : (s : Stripe) (own_new : StripeSide) (caller caller_new : CallerView) → Result Reply Fault → Type 0
+  abbrev EndsBy : (s : Stripe) (own_new : StripeSide) (caller caller_new : CallerView) → Result Replied Fault → Type 0
   EndsBy s own_new caller caller_new result = Ends config s own_new caller caller_new command turn result
 
   -- a walk in the class that is needed is a search
@@ -31,7 +32,7 @@ module _ (config : Config) (command : Command) (turn : Turn) where
   -- behind a search
   module _ (s mid : Stripe) (alive : IsAlive (item_of s command) turn.moment) (searched : IsSearched config turn.who command turn.moment s mid) (site : KeepsSite s mid) where
     -- the command was made
-    pub ends_made : (end : StripeSide) (caller caller_new : CallerView) (reply : Reply) → IsStripeOf config s → KeepsSite mid end.stripe
+    pub ends_made : (end : StripeSide) (caller caller_new : CallerView) (reply : Replied) → IsStripeOf config s → KeepsSite mid end.stripe
         → IsMadeIn config mid end caller caller_new command turn reply → EndsBy s end caller caller_new (Ok reply)
     ends_made end caller caller_new reply made_with more made = record {
       replied = replied_behind config turn.who command turn.moment s mid alive searched end.stripe end.sight made.room reply caller.calls caller_new.calls site made.made_is (ap (λ (x : CallerView). x.calls) made.noted)
@@ -44,7 +45,7 @@ module _ (config : Config) (command : Command) (turn : Turn) where
       full = λ is. absurd (ok_full reply is);
     }
       where
-        ok_full : (r : Reply) → IsErrOf (Ok r) HistoryFull → ⊥
+        ok_full : (r : Replied) → IsErrOf (Ok r) HistoryFull → ⊥
         ok_full r is = cc is
 
     -- it was broken off
@@ -59,18 +60,18 @@ module _ (config : Config) (command : Command) (turn : Turn) where
       full = λ is. full (err_fault fault HistoryFull is);
     }
       where
-        err_fault : (a b : Fault) → IsErrOf {T = Reply} (Err a) b → a ≡ b
+        err_fault : (a b : Fault) → IsErrOf {T = Replied} (Err a) b → a ≡ b
         err_fault a b is = cc is
 
     -- with a fault that was handed on
-    pub ends_err : (end : StripeSide) (caller caller_new : CallerView) (r : Result Reply Fault) (fault : Fault) → IsErrAnd r (λ x. x ≡ fault)
+    pub ends_err : (end : StripeSide) (caller caller_new : CallerView) (r : Result Replied Fault) (fault : Fault) → IsErrAnd r (λ x. x ≡ fault)
         → KeepsSite mid end.stripe → end.stripe.history ≡ mid.history → caller_new ≡ caller → (fault ≡ HistoryFull → IsShort config end)
         → EndsBy s end caller caller_new r
     ends_err end caller caller_new (Ok reply) fault is more same unnoted full = absurd is
     ends_err end caller caller_new (Err e) fault is more same unnoted full = ends_cut end caller caller_new e more same unnoted (λ at. full (sym is ∙ at))
 
   -- before anything of it happened
-  pub ends_early : (s : Stripe) (end : StripeSide) (caller caller_new : CallerView) (r : Result Reply Fault) (fault : Fault) → IsErrAnd r (λ x. x ≡ fault)
+  pub ends_early : (s : Stripe) (end : StripeSide) (caller caller_new : CallerView) (r : Result Replied Fault) (fault : Fault) → IsErrAnd r (λ x. x ≡ fault)
       → KeepsSite s end.stripe → end.stripe.history ≡ s.history → caller_new ≡ caller → (fault ≡ HistoryFull → IsShort config end)
       → EndsBy s end caller caller_new r
   ends_early s end caller caller_new (Ok reply) fault is site same unnoted full = absurd is
@@ -83,31 +84,34 @@ module _ (config : Config) (command : Command) (turn : Turn) where
     full = λ at. full (sym is ∙ err_same e at);
   }
     where
-      err_same : (e : Fault) → IsErrOf {T = Reply} (Err e) HistoryFull → e ≡ HistoryFull
+      err_same : (e : Fault) → IsErrOf {T = Replied} (Err e) HistoryFull → e ≡ HistoryFull
       err_same e at = cc at
 
   -- on a stripe of the same history
   module _ (s mid : Stripe) (site : KeepsSite s mid) (same : mid.history ≡ s.history) where
-    replied_same : (end : Stripe) (sight : Sight) (calls calls_new : List CallEvent) (reply : Reply)
-        → IsReplied config turn.who command turn.moment mid end sight calls calls_new reply
-        → IsReplied config turn.who command turn.moment s end sight calls calls_new reply
-    replied_same end sight calls calls_new reply r =
+    replied_same : (end : Stripe) (sight : Sight) (calls calls_new : List CallEvent) (replied : Replied)
+        → IsRepliedAs config turn.who command turn.moment mid end sight calls calls_new replied
+        → IsRepliedAs config turn.who command turn.moment s end sight calls calls_new replied
+    replied_same end sight calls calls_new replied whole =
+        let r = whole.replied_is in
         let a = r.answered in
+        let did : Did = record { who = turn.who; command = command; moment = turn.moment; reply = a.reply; room = a.room } in
         record {
-          place = r.place;
-          answered = record {
-            before = a.before;
-            led_up = led_same config turn.who command turn.moment s mid site same a.before a.led_up;
-            reply = a.reply;
-            room = a.room;
-            cooled = a.cooled;
-            history_is = subst (λ (h : List StripeEvent). end.history ≡ (h ++ a.before)
-                ++ events.Did (record { who = turn.who; command = command; moment = turn.moment; reply = a.reply; room = a.room }) ∷ cooled_if turn.who (key_of command) a.cooled) same a.history_is;
-            place_is = subst (λ (h : List StripeEvent). r.place ≡ length (h ++ a.before)) same a.place_is;
+          replied_is = record {
+            place = r.place;
+            answered = record {
+              before = a.before;
+              led_up = led_same config turn.who command turn.moment s mid site same a.before a.led_up;
+              reply = a.reply;
+              room = a.room;
+              history_is = subst (λ (h : List StripeEvent). end.history ≡ (h ++ a.before) ++ events.Did did ∷ []) same a.history_is;
+              place_is = subst (λ (h : List StripeEvent). r.place ≡ length (h ++ a.before)) same a.place_is;
+            };
+            reply_is = r.reply_is;
+            noted = r.noted ∙ ap (λ (t : Site). calls ++ answered_at t.stripe r.place ∷ []) site.site;
+            earned = subst (λ (t : Site). IsEarned config t sight did) site.site r.earned;
           };
-          reply_is = r.reply_is;
-          noted = r.noted ∙ ap (λ (t : Site). calls ++ answered_at t.stripe r.place ∷ []) site.site;
-          earned = subst (λ (t : Site). IsEarned config t sight (record { who = turn.who; command = command; moment = turn.moment; reply = a.reply; room = a.room })) site.site r.earned;
+          woken = active_moves mid.site s.site (mid.history ++ a.before) (s.history ++ a.before) did replied.woken site.site (ap (λ (h : List StripeEvent). h ++ a.before) same) whole.woken;
         }
 
     cut_same : (end : Stripe) → IsCut config turn.who command turn.moment mid end → IsCut config turn.who command turn.moment s end
@@ -117,7 +121,7 @@ module _ (config : Config) (command : Command) (turn : Turn) where
       history_is = cut.history_is ∙ ap (λ (h : List StripeEvent). h ++ cut.before) same;
     }
 
-    pub ends_same : (end : StripeSide) (caller caller_new : CallerView) (r : Result Reply Fault) → EndsBy mid end caller caller_new r → EndsBy s end caller caller_new r
+    pub ends_same : (end : StripeSide) (caller caller_new : CallerView) (r : Result Replied Fault) → EndsBy mid end caller caller_new r → EndsBy s end caller caller_new r
     ends_same end caller caller_new (Ok reply) ends = record {
       replied = replied_same end.stripe end.sight caller.calls caller_new.calls reply ends.replied;
       cut = tt;
@@ -137,7 +141,7 @@ module _ (config : Config) (command : Command) (turn : Turn) where
 
   -- behind the burial of its key's dead item
   module _ (s mid : Stripe) (site : KeepsSite s mid) (buried : mid.history ≡ s.history ++ burial turn.who (key_of command) turn.moment (dead_link ((cache_now s).items (key_of command)) turn.moment)) where
-    pub ends_buried : (end : StripeSide) (caller caller_new : CallerView) (r : Result Reply Fault) → EndsBy mid end caller caller_new r → EndsBy s end caller caller_new r
+    pub ends_buried : (end : StripeSide) (caller caller_new : CallerView) (r : Result Replied Fault) → EndsBy mid end caller caller_new r → EndsBy s end caller caller_new r
     ends_buried end caller caller_new (Ok reply) ends = record {
       replied = replied_from config turn.who command turn.moment s mid site buried end.stripe end.sight caller.calls caller_new.calls reply ends.replied;
       cut = tt;

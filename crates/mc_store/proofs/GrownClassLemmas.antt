@@ -1,18 +1,16 @@
 -- A class whose history grew under its lock, as the pass sees it that made the call.
-use Rattle.std.proofs.Common.{◌≡◌, ◌<◌, ◌+◌, ℕ, List, Result, Ok, Err, sym, ap, ◌∙◌, subst, inl, inr, length}
+use Rattle.std.proofs.Common.{◌≡◌, ◌<◌, ◌+◌, ℕ, Result, Ok, Err, sym, ap, ◌∙◌, subst, inl, inr, length}
 use Rattle.std.specs.Prelude.{IfErr, IfOk}
 use mathlib.Core.List.{IsPrefix}
 use Rattle.atomic_table.specs.Seated.{TableId}
-use Rattle.mc_item.specs.declared.{class_event.ClassEvent.ClassEvent, config.Config.Config, counts.Moves.Moves, fault.Fault.Fault}
-use Rattle.mc_item.specs.declared.{fault.Fault.TheVariants.HistoryFull, item.ClassNo.ClassNo, item.Who.Who}
+use Rattle.mc_item.specs.declared.{config.Config.Config, counts.Moves.Moves, fault.Fault.Fault}
+use Rattle.mc_item.specs.declared.{fault.Fault.TheVariants.HistoryFull, item.ClassNo.ClassNo}
 use Rattle.mc_evidence.specs.{Locks.ClassKeeps, Seen.stripes_seen}
 use Rattle.mc_board.specs.Histories.{Grows, list_at}
 use Rattle.mc_board.specs.declared.rule.Sight.{Sight}
 use Rattle.mc_segment.specs.ClassState.{ClassView}
 use Rattle.mc_pull.specs.Growth as classes
-use Rattle.mc_pull.specs.{Juggle.IsJuggle, Rounds.rounds}
-use Rattle.mc_pull.specs.declared.looking.Answer.{Answer}
-use Rattle.mc_store.specs.{Calls.IsJuggledBy, Calls.IsSeenGrowOf, Crawls.IsSeenSound, Finals.IsBehindAt, Locked.IsHeldClass, Locked.class_lock}
+use Rattle.mc_store.specs.{Calls.IsJuggledBy, Calls.IsSeenGrowOf, Calls.IsUpkept, Passes.PassView, Passes.next_who, Crawls.IsSeenSound, Finals.IsBehindAt, Locked.IsHeldClass, Locked.class_lock}
 use Rattle.mc_store.specs.{Locked.setting_of, Serving.HasSeenShort, Serving.MayFailSeen, Sides.ClassSide, Sides.class_told}
 use Rattle.mc_store.proofs.{GateLemmas.short_seen, LockKeepsLemmas.class_sees, SyncedStepLemmas.short_of}
 
@@ -59,13 +57,12 @@ module _ (table : TableId) (config : Config) (class : ClassNo) (before after : S
   fails_full r may is = full_seen (subst (λ (x : Result _ Fault). IfErr x (MayFailSeen config new.sight new.class)) is may)
 
   -- the class was juggled
-  pub juggled_so : (who : Who) (moment : ℕ) (r : Result Moves Fault)
-      → IfOk r (λ moves. (xs : List Answer) × IsJuggle (rounds old.class who moment config) old.class.history xs new.class.history moves) → IfOk r (IsJuggledBy config class before after who moment)
-  juggled_so who moment (Ok moves) made = record {
+  pub juggled_so : (p p_new : PassView) (moment : ℕ) (r : Result Moves Fault) → before ≡ p.sight → after ≡ p_new.sight
+      → IfOk r (IsUpkept config old.class (record { who = next_who p; moment = moment }) p.hands p_new.hands new.class.history) → IfOk r (IsJuggledBy config class p p_new moment)
+  juggled_so p p_new moment (Ok moves) first last made = record {
     old = old.class;
-    own = grows.events;
-    answers = made.0;
-    grew = subst (IsSeenGrowOf config class before after old.class) grows.history_is class_grew;
-    juggle = subst (λ (history : List ClassEvent). IsJuggle (rounds old.class who moment config) old.class.history made.0 history moves) grows.history_is made.1;
+    history_new = new.class.history;
+    grew = subst (λ (s : Sight). IsSeenGrowOf config class s p_new.sight old.class new.class.history) first (subst (λ (s : Sight). IsSeenGrowOf config class before s old.class new.class.history) last class_grew);
+    upkept = made;
   }
-  juggled_so who moment (Err fault) made = tt
+  juggled_so p p_new moment (Err fault) first last made = tt

@@ -1,7 +1,7 @@
 -- A reply that was given stands in what a closed store leaves.
 use Rattle.std.proofs.Common.{◌≡◌, ◌<◌, ℕ, List, [], ◌∷◌, ◌++◌, Some, refl, sym, ap, ◌∙◌, subst, arith, length, length-append, slice_get}
 use mathlib.Core.List.{IsPrefix}
-use Rattle.mc_item.specs.{Command.key_of, Stripe.IsLegal}
+use Rattle.mc_item.specs.Stripe.{IsLegal}
 use Rattle.mc_item.specs.declared.{call_event.CallEvent.CallEvent, command.Command.Command, config.Config.Config, event.Event.Event, item.Who.Who}
 use Rattle.mc_item.specs.declared.{reply.Reply.Reply, stripe_event.StripeEvent.StripeEvent}
 use Rattle.mc_item.specs.declared.stripe_event.StripeEvent.TheVariants as events
@@ -10,7 +10,6 @@ use Rattle.mc_board.specs.declared.rule.Sight.{Sight}
 use Rattle.mc_board.proofs.PrefixLemmas.{prefix_length, prefix_trans}
 use Rattle.mc_evidence.specs.{Seen.stripe_events, Setting.site_in}
 use Rattle.mc_evidence.proofs.SeenLemmas.{stripe_events-map}
-use Rattle.mc_pull.specs.Performed.{cooled_if}
 use Rattle.mc_store.specs.{Calls.IsRepliedBy, Headline.IsBorneOut, Headline.answered_did, Locked.setting_of, Sides.stripe_told}
 use Rattle.mc_store.specs.Finals.{AreStripes, FinalView, IsBehindStripes, stripe_histories, stripe_history}
 use Rattle.mc_store.proofs.{ClosedLemmas.stripe_begins, NumberOrderLemmas.get_some, SyncedStepLemmas.map_length}
@@ -36,9 +35,8 @@ borne_out config final number before after last calls calls_new who command mome
     let now : IsPrefix by.new.history g.0.stripe.history = subst (λ (h : List StripeEvent). IsPrefix h g.0.stripe.history) (ap stripe_events by.grew.now ∙ stripe_events-map by.new.history) begins in
     let answered = by.replied.answered in
     let old : List StripeEvent = by.old.history ++ answered.before in
-    let more : List StripeEvent = cooled_if who (key_of command) answered.cooled in
     let first : StripeEvent = events.Did (answered_did who command moment answered.reply answered.room) in
-    let final_is : stripe_histories final.stripes number ≡ (old ++ first ∷ more) ++ now.0 = left ∙ sym now.1 ∙ ap (λ (h : List StripeEvent). h ++ now.0) answered.history_is in
+    let final_is : stripe_histories final.stripes number ≡ (old ++ first ∷ []) ++ now.0 = left ∙ sym now.1 ∙ ap (λ (h : List StripeEvent). h ++ now.0) answered.history_is in
     let started = prefix_length (list_at before.seen number) (stripe_told by.old.history) by.grew.seen in
     let long : length (stripe_told by.old.history) ≡ length by.old.history = map_length events-of by.old.history in
     record {
@@ -46,7 +44,7 @@ borne_out config final number before after last calls calls_new who command mome
           (subst (λ (k : ℕ). IsLegal (site_in (setting_of config) k) g.0.stripe.history) under.number_is under.kept.keeps.legal);
       place = by.replied.place;
       room = answered.room;
-      there = ap (λ (h : List StripeEvent). slice_get h by.replied.place) final_is ∙ ap (slice_get ((old ++ first ∷ more) ++ now.0)) answered.place_is ∙ get_next old more now.0 first
+      there = ap (λ (h : List StripeEvent). slice_get h by.replied.place) final_is ∙ ap (slice_get ((old ++ first ∷ []) ++ now.0)) answered.place_is ∙ get_next old [] now.0 first
           ∙ ap (λ (r : Reply). Some (events.Did (answered_did who command moment r answered.room))) by.replied.reply_is;
       behind = omega (arith, started, long, answered.place_is, length-append by.old.history answered.before);
     }

@@ -4,7 +4,7 @@ use Rattle.std.specs.Prelude.{◌==◌, Option, Some, None, IfOk, IfSome, IsSome
 use Rattle.std.proofs.lemmas.Bool.Decides.{nat_tests}
 use Rattle.mc_item.specs.{Answer.Row, Command.key_of, Item.link_of_item, Stripe.link_of}
 use Rattle.mc_item.specs.declared.{answer.Need.Need, command.Command.Command, class_event.ClassEvent.ClassEvent, config.Config.Config, fault.Fault.Fault}
-use Rattle.mc_item.specs.declared.{item.ClassNo.ClassNo, item.Item.Item, item.Link.Link, item.StripeNo.StripeNo, item.Who.Who, reply.Reply.Reply}
+use Rattle.mc_item.specs.declared.{item.ClassNo.ClassNo, item.Item.Item, item.Link.Link, item.StripeNo.StripeNo, item.Who.Who}
 use Rattle.mc_item.specs.declared.{reply.Room.Room}
 use Rattle.mc_item.specs.declared.answer.Need.TheVariants as needs
 use Rattle.mc_item.specs.declared.reply.Room.TheVariants as rooms
@@ -25,7 +25,8 @@ use Rattle.mc_pull.specs.Attempt.{GivesHome, IsNoted, IsReady, LeavesPlaces, Off
 use Rattle.mc_pull.specs.declared.{attempting.Tried.Tried, attempting.Tried.TheVariants.Made, attempting.Tried.TheVariants.Wants}
 use Rattle.mc_store.specs.{Callers.answered_at, Earned.HasGivenUp, Earned.IsEarnedAt, Earned.IsEarnedIn, Locked.IsLockedClass, Passes.CallerView}
 use Rattle.mc_store.specs.{Serving.HasSeenShort, Serving.IsShort, Sides.ClassSide, Sides.StripeSide, Sides.class_told, Trying.IsMadeBy, Trying.IsTriedUnder}
-use Rattle.mc_store.specs.{Trying.Stay}
+use Rattle.mc_store.specs.Trying.{Stay}
+use Rattle.mc_store.specs.declared.replied.Replied.{Replied}
 use Rattle.mc_store.specs.Held.{IsMadeIn, IsRefusedAt, IsStillFull, IsTriedOn, MayWant, Suffice, WantsAlone, WantsChunk, nothing}
 use Rattle.mc_store.proofs.{CommandLemmas.not_dead, EarnedRefusalLemmas.earned_sees, NeededClassLemmas.fresh_classes, ShortHistoryLemmas.short_class, ShortHistoryLemmas.short_grows}
 
@@ -65,7 +66,7 @@ module _ (config : Config) (s : Stripe) (own_new : StripeSide) (caller caller_ne
       → (Stay cs ds → LacksRoom given (key_of made) (item_of s made) turn.moment (row_at s made turn.moment) → AnyFull)
       → (Stay cs ds → (class : ClassNo) → IsCrowded given (key_of made) (item_of s made) turn.moment (row_at s made turn.moment) class → IsShort config own_new)
       → (r : Result Tried Fault) → IfOk r (IsTriedUnder s own_new.stripe caller caller_new made turn given cs ds) → IfOk r (IsTriedOn config s own_new caller caller_new made turn home other AnyFull)
-  tried_on earned full short (Ok (Made reply)) tried = record { alive = tried.uses.alive; room = tried.room; made_is = tried.made_is; noted = tried.noted; earned = earned tried.room tried.uses.taken }
+  tried_on earned full short (Ok (Made reply woken)) tried = record { alive = tried.uses.alive; room = tried.room; made_is = tried.made_is; noted = tried.noted; earned = earned tried.room tried.uses.taken }
   tried_on earned full short (Ok (Wants want)) tried = (tried.0, tried.1, may_want full short want tried.2 tried.3)
   tried_on earned full short (Err fault) tried = tt
 
@@ -345,16 +346,16 @@ earned_now config number turn key v v_new place makes at given_up =
     })
 
 -- a command that was made, of a caller that had noted nothing
-pub made_caller : (config : Config) (s : Stripe) (own_new : StripeSide) (caller mid caller_new : CallerView) (made : Command) (turn : Turn) (reply : Reply)
-    → mid ≡ caller → IsMadeIn config s own_new mid caller_new made turn reply
-    → IsMadeIn config s own_new caller caller_new made turn reply
-made_caller config s own_new caller mid caller_new made turn reply same was = subst (λ (x : CallerView). IsMadeIn config s own_new x caller_new made turn reply) same was
+pub made_caller : (config : Config) (s : Stripe) (own_new : StripeSide) (caller mid caller_new : CallerView) (made : Command) (turn : Turn) (replied : Replied)
+    → mid ≡ caller → IsMadeIn config s own_new mid caller_new made turn replied
+    → IsMadeIn config s own_new caller caller_new made turn replied
+made_caller config s own_new caller mid caller_new made turn replied same was = subst (λ (x : CallerView). IsMadeIn config s own_new x caller_new made turn replied) same was
 
 -- a command that was made on its stripe alone
-pub made_alone : (config : Config) (s : Stripe) (own_new : StripeSide) (caller mid caller_new : CallerView) (made : Command) (turn : Turn) (reply : Reply)
-    → mid ≡ caller → IsMadeBy s own_new.stripe mid caller_new made turn nothing reply
-    → IsMadeIn config s own_new caller caller_new made turn reply
-made_alone config s own_new caller mid caller_new made turn reply same by = record {
+pub made_alone : (config : Config) (s : Stripe) (own_new : StripeSide) (caller mid caller_new : CallerView) (made : Command) (turn : Turn) (replied : Replied)
+    → mid ≡ caller → IsMadeBy s own_new.stripe mid caller_new made turn nothing replied
+    → IsMadeIn config s own_new caller caller_new made turn replied
+made_alone config s own_new caller mid caller_new made turn replied same by = record {
   alive = by.uses.alive;
   room = by.room;
   made_is = by.made_is;

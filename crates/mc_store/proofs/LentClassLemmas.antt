@@ -11,7 +11,7 @@ use Rattle.mc_board.proofs.PrefixLemmas.{same_or_not}
 use Rattle.mc_segment.specs.ClassState.{ClassView}
 use Rattle.mc_stripe.specs.StripeState.{Stripe}
 use Rattle.mc_pull.specs.{Agreeing.HasRefusal, Agreeing.IsApart, Growth.GainsEvents, Lent.EachPair, Perform.Call, Sight.KeepsSights, Sight.TellsStill}
-use Rattle.mc_pull.specs.Performed.{GainsPart, IsPerformed, IsUntouched, ClassStays, events_in, events_on_stripe, is_cooling}
+use Rattle.mc_pull.specs.Performed.{ClassStays, GainsPart, IsPerformed, IsUntouched, did_event, events_in}
 use Rattle.mc_store.specs.{Performing.IsOneOf, Performing.IsRefusedIn, Sides.class_told, Sides.stripe_told}
 
 -- ---- a history that has only grown begins with what its owner told
@@ -54,7 +54,7 @@ module _ {T : Type 0} (s s_new : Stripe) (c : Call) (vs ws : List ClassView) whe
 
   -- the stripe's owner is behind it
   pub own_behind : (told : List Event) → told ≡ stripe_told s.history → (r : Result T Fault) → OnOk r (IsPerformed s s_new c vs ws) → OnErr r (IsUntouched s s_new vs ws) → IsPrefix told (stripe_told s_new.history)
-  own_behind told is (Ok x) made err = stripe_behind told s.history s_new.history (events_on_stripe s c (is_cooling s c vs)) is made.stripe
+  own_behind told is (Ok x) made err = stripe_behind told s.history s_new.history (did_event s c ∷ []) is made.stripe
   own_behind told is (Err f) made err = stripe_behind told s.history s_new.history [] is (err.stripe ∙ sym (append-nil s.history))
 
 -- ---- numbers of classes

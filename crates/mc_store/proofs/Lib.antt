@@ -30,3 +30,5 @@ pub mod OpenTryLemmas
 pub mod NeededClassLemmas
 pub mod CommandEndLemmas
 pub mod HeldTryLemmas
+pub mod TakenHitLemmas
+pub mod OfferedHitLemmas

@@ -76,7 +76,7 @@ module _ (key : List ℕ) where
   hit_link active (Some item) other is = by (active && not item.marks.active) is
     where
       by : (b : Bool) → class_of_fate (if b then fates.Woken item.link else fates.Untouched) ≡ Some other → item.link.class ≡ other
-      by true here = cc here
+      by true none = absurd (cc none)
       by false none = absurd (cc none)
 
   gone_link : (found : Option Item) (other : ClassNo) → class_of_fate (gone_fate found) ≡ Some other → IsSomeAnd (link_of_item found) (λ link. link.class ≡ other)
@@ -269,6 +269,14 @@ module _ (table : TableId) (config : Config) (own : StripeSide) (kept : IsLocked
       by : (found : Option Item) → (cache_now own.stripe).items key ≡ found → dead_link found moment ≡ Some link → IsClass (setting_of config) link.class
       by None is none = absurd (cc none)
       by (Some item) is same = by_item item is (is_dead item moment) same
+
+  -- so is that of an ACTIVE item's link
+  pub active_class : (key : List ℕ) (link : Link) → IsSomeAnd ((cache_now own.stripe).items key) (λ item. (item.link ≡ link) × (item.marks.active ≡ true)) → IsClass (setting_of config) link.class
+  active_class key link there = by ((cache_now own.stripe).items key) refl there
+    where
+      by : (found : Option Item) → (cache_now own.stripe).items key ≡ found → IsSomeAnd found (λ item. (item.link ≡ link) × (item.marks.active ≡ true)) → IsClass (setting_of config) link.class
+      by None is none = absurd none
+      by (Some item) is same = subst (λ (l : Link). IsClass (setting_of config) l.class) same.0 (item_class config own.stripe kept.made_with legal_own key item is)
 
   -- so is that of an item, where it is wanted
   pub other_if : (command : Command) (moment : ℕ) (o : Option ClassNo)

@@ -1,11 +1,11 @@
 -- A try of a command whose stripe and classes are out of their locks: what the locks keep behind it.
-use Rattle.std.proofs.Common.{◌≡◌, ◌≢◌, ◌<◌, ◌++◌, ◌∷◌, [], ℕ, List, Bool, true, false, Result, Ok, Err, length, refl, sym, ap, ◌∙◌, subst}
-use Rattle.std.specs.Prelude.{IfOk, IsErrOf, OnErr, OnOk}
+use Rattle.std.proofs.Common.{◌≡◌, ◌≢◌, ◌≤◌, ◌<◌, ◌++◌, ◌∷◌, [], ℕ, List, Bool, true, false, Result, Ok, Err, length, refl, sym, ap, ◌∙◌, subst, inl, arith}
+use Rattle.std.specs.Prelude.{IfOk, OnErr, OnOk}
 use mathlib.Core.List.{IsPrefix}
 use Rattle.atomic_table.specs.Seated.{TableId}
 use Rattle.mc_item.specs.Stripe.{IsLegal}
 use Rattle.mc_item.specs.declared.{answer.Site.Site, command.Command.Command, config.Config.Config, fault.Fault.Fault, fault.Fault.TheVariants.HistoryFull}
-use Rattle.mc_item.specs.declared.reply.Room.TheVariants as rooms
+use Rattle.mc_item.specs.declared.stripe_event.StripeEvent.{StripeEvent}
 use Rattle.mc_rule.specs.Lawful.{IsLawfulHistoryByLists}
 use Rattle.mc_board.specs.{Histories.Grows, Histories.list_at, Histories.with_seen, Views.OwnerView, Views.SeenView}
 use Rattle.mc_board.specs.declared.rule.Sight.{Sight}
@@ -14,8 +14,8 @@ use Rattle.mc_segment.specs.ClassState.{ClassView, with_room}
 use Rattle.mc_stripe.specs.{StripeCalls.KeepsSite, StripeState.Stripe}
 use Rattle.mc_stripe.specs.declared.{wanting.Given.Given, trying.Turn.Turn}
 use Rattle.mc_pull.specs.declared.attempting.Tried.{Tried}
-use Rattle.mc_pull.specs.{Agreeing.AgreeNow, Agreeing.KeepsAgreements, Attempt.IsTriedBy, Attempt.MayTryOn, Lent.EachPair, Perform.Call, Perform.call}
-use Rattle.mc_pull.specs.{Performed.IsPerformed, Performed.IsUntouched, Performed.MayRefuseCall, Performed.ClassStays, Sight.BacksStill, Sight.KeepsSights, Sight.SuitsStill}
+use Rattle.mc_pull.specs.{Agreeing.AgreeNow, Agreeing.KeepsAgreements, Attempt.IsTriedBy, Attempt.MayTryOn, Lent.EachPair, Perform.Call}
+use Rattle.mc_pull.specs.{Performed.IsPerformed, Performed.IsUntouched, Performed.ClassStays, Sight.BacksStill, Sight.KeepsSights, Sight.SuitsStill}
 use Rattle.mc_pull.specs.Growth as classes
 use Rattle.mc_pull.specs.Question as made
 use Rattle.mc_store.specs.{Callers.AreCalled, Callers.answered_at, Callers.asked_for, Callers.calls_told, Passes.CallerView, Passes.HasAsked, Passes.HasCalled}
@@ -25,8 +25,8 @@ use Rattle.mc_store.specs.{Sides.stripe_told, Trying.IsTriedUnder, Trying.Stay, 
 use Rattle.mc_store.proofs.{SeenStripeLemmas.on_err_more, CallerLemmas.called_performed, LentClassLemmas.lent_grow, LentClassLemmas.own_behind, OwnEventLemmas.gains_performed}
 use Rattle.mc_store.proofs.{OwnEventLemmas.locked_told, OwnEventLemmas.noted_called, LockKeepsLemmas.grows_trans, LockKeepsLemmas.seen_on, LockKeepsLemmas.stripe_sees}
 use Rattle.mc_store.proofs.SyncedLemmas.{lent_more, lent_said, own_more, own_said, stripe_side}
-use Rattle.mc_store.proofs.SyncedCommandLemmas.{alone_end, class_end, one_end, one_short, two_end, two_short}
-use Rattle.mc_store.proofs.TryStepLemmas.{call_at, kept_at, performed_at, refusal_at, refused_at, result_of, seen_at, stay_of, under_tried, unless, untouched_at, when}
+use Rattle.mc_store.proofs.SyncedCommandLemmas.{alone_end, class_end, one_end, two_end}
+use Rattle.mc_store.proofs.TryStepLemmas.{call_at, kept_at, performed_at, refused_at, result_of, seen_at, stay_of, under_tried, unless, untouched_at, when}
 
 -- ---- out of the locks
 
@@ -259,6 +259,13 @@ module _ {table : TableId} {config : Config} {command : Command} {turn : Turn} {
   left_err opened left =
       on_err_more t _ _ (λ (none : IsUntouched s s_new vs ws). ap (λ (x : StripeSide). x.stripe.history) left.is ∙ none.stripe ∙ ap (λ (x : StripeSide). x.stripe.history) opened.is) step.err
 
+  -- a full history is that of the stripe
+  pub left_full : {own_new : StripeSide} {sight : Sight} → IsLeft owner s_new noting own_new sight → (t ≡ Err HistoryFull → s.limit ≤ length s.history) → t ≡ Err HistoryFull → IsShort config own_new
+  left_full left refusal full =
+      let none : IsUntouched s s_new vs ws = subst (λ (x : Result Tried Fault). OnErr x (IsUntouched s s_new vs ws)) full step.err in
+      let long : length s_new.history ≡ length s.history = ap (λ (h : List StripeEvent). length h) none.stripe in
+      subst (IsShort config) (sym left.is) (inl (omega (arith, refusal full, step.site.limit, long)))
+
   pub left_unnoted : {caller_last : CallerView} → caller_last ≡ caller_new → OnErr t (caller_last ≡ caller)
   left_unnoted {caller_last = caller_last} same = failed (caller_last ≡ caller) t (λ no. same ∙ known.unnoted no)
 
@@ -297,12 +304,6 @@ module _ {table : TableId} {config : Config} {command : Command} {turn : Turn} {
       (one_end table config (own_seen step known) (kept_seen step known) s_new (call_in step) step.site legal known.called (class_side owner_of seen_of v) w
       lent.kept.held lent.grows lent.agrees (refused_in step) (seen_in step) left.more)
 
-  pub one_full : (IsErrOf t HistoryFull → MayRefuseCall s (call turn.who command turn.moment rooms.Keep) (v ∷ []) HistoryFull) → t ≡ Err HistoryFull → IsShort config own_new
-  one_full refusal full =
-      subst (IsShort config) (sym left.is)
-      (one_short table config (own_seen step known) (kept_seen step known) s_new (call_in step) step.site legal known.called (class_side owner_of seen_of v) w lent.kept.held lent.grows (result_of t) (none_in step)
-      (refusal_at config s s_new command turn given (v ∷ []) (w ∷ []) t step.tried refusal) (ap result_of full))
-
 -- ---- with two
 
 module _ {table : TableId} {config : Config} {command : Command} {turn : Turn} {given : Given} {owner owner_of owner_b : OwnerView}
@@ -319,10 +320,3 @@ module _ {table : TableId} {config : Config} {command : Command} {turn : Turn} {
       subst (IsLockedStripe table config) (sym left.is)
       (two_end table config (own_seen step known) (kept_seen step known) s_new (call_in step) step.site legal known.called (class_side owner_of seen_of v) w lent.kept.held lent.grows
       (class_side owner_b seen_b v_b) w_b lent_b.kept.held lent_b.grows away lent.agrees lent_b.agrees (refused_in step) (seen_in step) left.more)
-
-  pub two_full : (IsErrOf t HistoryFull → MayRefuseCall s (call turn.who command turn.moment rooms.Keep) (v ∷ v_b ∷ []) HistoryFull) → t ≡ Err HistoryFull → IsShort config own_new
-  two_full refusal full =
-      subst (IsShort config) (sym left.is)
-      (two_short table config (own_seen step known) (kept_seen step known) s_new (call_in step) step.site legal known.called (class_side owner_of seen_of v) w lent.kept.held lent.grows
-      (class_side owner_b seen_b v_b) w_b lent_b.kept.held lent_b.grows away (result_of t) (none_in step)
-      (refusal_at config s s_new command turn given (v ∷ v_b ∷ []) (w ∷ w_b ∷ []) t step.tried refusal) (ap result_of full))

@@ -11,7 +11,8 @@ use Rattle.mc_board.specs.declared.rule.Sight.{Sight}
 use Rattle.mc_board.proofs.PrefixLemmas.{prefix_self}
 use Rattle.mc_segment.specs.{ClassCalls.Makes, ClassCalls.Stays, ClassCalls.refused_event, ClassState.ClassView, ClassState.with_room}
 use Rattle.mc_stripe.specs.StripeState.{Stripe}
-use Rattle.mc_pull.specs.declared.{judge.Done.Done, judge.Judge.Judge, judge.Judge.TheVariants.Walk, judge.Judge.TheVariants.Dead, looking.Judged.Judged}
+use Rattle.mc_pull.specs.declared.{judge.Done.Done, judge.Judge.Judge, judge.Judge.TheVariants.Walk, judge.Judge.TheVariants.Dead}
+use Rattle.mc_pull.specs.declared.{judge.Judge.TheVariants.Hit, looking.Judged.Judged}
 use Rattle.mc_pull.specs.declared.judge.Done.TheVariants as done
 use Rattle.mc_pull.specs.{Lent.EachPair, Looks.events_if, Perform.Call, Performed.GainsPart, Performed.IsPerformed, Performed.IsUntouched, Question.Question}
 use Rattle.mc_pull.specs.Performed as performed
@@ -48,10 +49,12 @@ gains_both who moment a b c first more = record {
 own_warm : (q : Question) (at : ℕ) (j : Judge) → AreOwnEvents q.who q.moment (warm_events q at j)
 own_warm q at (Walk s mode passed) = ((refl, refl), tt)
 own_warm q at Dead = tt
+own_warm q at Hit = ((refl, refl), tt)
 
 own_cold : (c : ClassView) (q : Question) (at : ℕ) (j : Judge) → AreOwnEvents q.who q.moment (cold_events c q at j)
 own_cold c q at (Walk s mode passed) = ((refl, refl), tt)
 own_cold c q at Dead = tt
+own_cold c q at Hit = tt
 
 -- a judgement's events are of the call that asks
 own_done : (c : ClassView) (q : Question) (at : ℕ) (d : Done) → AreOwnEvents q.who q.moment (done_class_events c q at d)
@@ -82,7 +85,7 @@ gains_settled c c_new s s_new q (Err fault) settled err = gains_none q.who q.mom
 -- a command's events in a class are its own
 own_part : (s : Stripe) (c : Call) (v : ClassView) → AreOwnEvents c.who c.moment (performed.events_in s c v)
 own_part s c v = events_so (AreOwnEvents c.who c.moment) s c v tt (λ key cost expiry. ((refl, refl), tt))
-    (λ key cost expiry number. ((refl, refl), ((refl, tt), tt))) (λ number. ((refl, tt), tt)) (λ number at. ((refl, refl), tt))
+    (λ key cost expiry number. ((refl, refl), ((refl, tt), tt))) (λ number. ((refl, tt), tt))
 
 module _ (s s_new : Stripe) (c : Call) where
   part_gains : (v w : ClassView) → GainsPart s c v w → GainsOwn c.who c.moment v.history w.history

@@ -1,18 +1,22 @@
 -- What a pass has seen of a stripe behind a call.
 use Rattle.std.proofs.Common.{◌≡◌, ◌<◌, ℕ, List, inl, inr, arith, Result, Ok, Err, refl, sym, ap, ◌∙◌, subst, ◌++◌, ◌∷◌, [], ◌≤◌, ◌+◌, length, length-append, ◌^◌, Some}
-use Rattle.std.specs.Prelude.{IfOk, IsErrOf, OnErr}
+use Rattle.std.specs.Prelude.{◌⊎◌, IfOk, IfSome, IsErrOf, IsSomeAnd, None, OnErr, Option}
 use mathlib.Core.List.{IsPrefix}
 use Rattle.atomic_table.specs.Seated.{TableId}
 use Rattle.mc_item.specs.declared.{answer.Site.Site, call_event.CallEvent.CallEvent, command.Command.Command, config.Config.Config, fault.Fault.Fault, fault.Fault.TheVariants.HistoryFull}
-use Rattle.mc_item.specs.declared.{item.Who.Who, reply.Reply.Reply, event.Event.Event, event.Event.TheVariants.Call, stripe_event.Did.Did}
+use Rattle.mc_item.specs.declared.{item.Link.Link, item.Who.Who, reply.Reply.Reply, event.Event.Event, event.Event.TheVariants.Call, stripe_event.Did.Did}
 use Rattle.mc_board.specs.Histories.{Grows, HasSeen, list_at}
 use Rattle.mc_board.specs.declared.rule.Sight.{Sight}
-use Rattle.mc_evidence.specs.{Locks.StripeKeeps, Seen.classes_seen}
+use Rattle.mc_evidence.specs.{Locks.StripeKeeps, Seen.classes_seen, Setting.site_in}
+use Rattle.mc_hits.specs.Views.{HandsView, hit_of}
 use Rattle.mc_evidence.proofs.{LockLemmas.stripe_sees_more, SeenLemmas.classes_grow}
 use Rattle.mc_stripe.specs.{StripeCalls.KeepsSite, StripeState.Stripe}
 use Rattle.mc_stripe.specs.declared.trying.Turn.{Turn}
 use Rattle.mc_store.specs.{Held.Ends, Locked.IsLockedStripe, Locked.setting_of, Serving.HasSeenShort, Serving.IsShort, Sides.StripeSide, Sides.stripe_told}
-use Rattle.mc_store.specs.Calls.{IsCutBy, IsRepliedBy, IsSeenGrow}
+use Rattle.mc_store.specs.{Calls.IsCutBy, Calls.IsReplied, Calls.IsRepliedBy, Calls.IsSeenGrow, Commands.IsAnswered, Headline.answered_did, Hits.IsOffered, Hits.OffersOne}
+use Rattle.mc_store.specs.{Hits.queue_of, Hits.with_offer, Waking.MakesActive, Waking.reply_in, Waking.woken_in}
+use Rattle.mc_store.proofs.LockKeepsLemmas.{site_of_number}
+use Rattle.mc_store.specs.declared.replied.Replied.{Replied}
 use Rattle.mc_store.proofs.{EarnedRefusalLemmas.told_sees, ShortHistoryLemmas.short_grows, ShortHistoryLemmas.short_stripe, SyncedStepLemmas.map_length}
 use Rattle.mc_store.specs.Callers.{asked_for, answered_at, turns_of, calls_told, moment_of}
 use Rattle.mc_store.specs.Passes.{CallerView, PassView, HasAsked, HasCalled, caller_of, next_who}
@@ -49,12 +53,15 @@ module _ {table : TableId} {config : Config} {number : ℕ} {old new : StripeSid
       short_stripe config new.lock after new.stripe.history new.stripe.limit (omega (arith, below, lock)) new_kept.made_with.limit told short
   short_shared (inr was) = short_grows config new.sight after grows was
 
+  full_too : (fault : Fault) → IsErrOf {T = Reply} (Err fault) HistoryFull → IsErrOf {T = Replied} (Err fault) HistoryFull
+  full_too fault is = let same : fault ≡ HistoryFull = cc is in ap Err same
+
   -- a command that ended under the lock of its stripe is shared so with its pass
-  pub shared_by : {caller caller_new : CallerView} {command : Command} {turn : Turn} (r : Result Reply Fault) (calls : List CallEvent)
+  pub shared_by : {caller caller_new : CallerView} {command : Command} {turn : Turn} (r : Result Replied Fault) (calls : List CallEvent)
       → Ends config old.stripe new caller caller_new command turn r → caller.calls ≡ calls ++ asked_for command turn.moment ∷ []
-      → IsShared config number before after calls caller_new.calls turn.who command turn.moment r
+      → IsShared config number before after calls caller_new.calls turn.who command turn.moment (reply_in r)
   shared_by {command = command} {turn = turn} (Ok reply) calls ends asked =
-      let was = ends.replied in
+      let was = ends.replied.replied_is in
       let did : Did = record { who = turn.who; command = command; moment = turn.moment; reply = was.answered.reply; room = was.answered.room } in record {
         replied = record {
           old = old.stripe;
@@ -74,8 +81,43 @@ module _ {table : TableId} {config : Config} {number : ℕ} {old new : StripeSid
   shared_by (Err fault) calls ends asked = record {
     replied = tt;
     cut = record { old = old.stripe; new = new.stripe; grew = seen_grow ends.site; cut = ends.cut; noted = ap (λ (v : CallerView). v.calls) ends.unnoted ∙ asked };
-    full = λ e. short_shared (ends.full e);
+    full = λ e. short_shared (ends.full (full_too fault e));
   }
+
+  -- a hit that it offered is of the item that its event made ACTIVE
+  offered_of : (command : Command) (turn : Turn) (hands hands_new : HandsView) (place : ℕ) (answered : IsAnswered config turn.who command turn.moment old.stripe new.stripe place)
+      → IsSeenGrow config number before after old.stripe new.stripe → (link : Link)
+      → MakesActive old.stripe.site (old.stripe.history ++ answered.before) (answered_did turn.who command turn.moment answered.reply answered.room) link
+      → hands_new ≡ with_offer hands (queue_of link.class) (hit_of turn.who.caller turn.who.turn link.number) → IsOffered config number after turn.who command turn.moment hands hands_new
+  offered_of command turn hands hands_new place answered grew link woke is = record {
+    before = old.stripe.history ++ answered.before;
+    reply = answered.reply;
+    room = answered.room;
+    link = link;
+    seen = grew.now ∙ ap stripe_told answered.history_is;
+    woke = subst (λ (k : ℕ). MakesActive (site_in (setting_of config) k) (old.stripe.history ++ answered.before) (answered_did turn.who command turn.moment answered.reply answered.room) link) number_is
+        (subst (λ (t : Site). MakesActive t (old.stripe.history ++ answered.before) (answered_did turn.who command turn.moment answered.reply answered.room) link)
+        (sym (site_of_number config old.stripe old_kept.made_with)) woke);
+    hands = is;
+  }
+
+  pub offered_by : {caller caller_new : CallerView} {command : Command} {turn : Turn} (r : Result Replied Fault) → Ends config old.stripe new caller caller_new command turn r
+      → (hands hands_new : HandsView) → hands.caller ≡ turn.who.caller → OffersOne turn.who.turn (woken_in r) hands hands_new
+      → (hands_new ≡ hands) ⊎ IsOffered config number after turn.who command turn.moment hands hands_new
+  offered_by r ends hands hands_new mine (inl same) = inl same
+  offered_by {caller = caller} {caller_new = caller_new} {command = command} {turn = turn} (Ok replied) ends hands hands_new mine (inr offers) = inr (by replied.woken ends.replied.woken offers)
+    where
+      was : IsReplied config turn.who command turn.moment old.stripe new.stripe new.sight caller.calls caller_new.calls replied.reply
+      was = ends.replied.replied_is
+
+      by : (woken : Option Link) → IfSome woken (MakesActive old.stripe.site (old.stripe.history ++ was.answered.before) (answered_did turn.who command turn.moment was.answered.reply was.answered.room))
+          → IsSomeAnd woken (λ link. hands_new ≡ with_offer hands (queue_of link.class) (hit_of hands.caller turn.who.turn link.number))
+          → IsOffered config number after turn.who command turn.moment hands hands_new
+      by None woke is = absurd is
+      by (Some link) woke is =
+          offered_of command turn hands hands_new was.place was.answered (seen_grow ends.site) link woke
+          (is ∙ ap (λ (n : ℕ). with_offer hands (queue_of link.class) (hit_of n turn.who.turn link.number)) mine)
+  offered_by (Err fault) ends hands hands_new mine (inr offers) = absurd offers
 
 -- what is told of each failure, in other words
 pub on_err_more : {X : Type 0} (r : Result X Fault) (P Q : Type 0) → (P → Q) → OnErr r P → OnErr r Q
@@ -91,11 +133,12 @@ turns_answered (Crawled w ∷ calls) stripe place = ap (λ (l : List CallEvent).
 turns_answered (Answered a ∷ calls) stripe place = turns_answered calls stripe place
 
 -- a command adds no turn to its caller's history once it was asked for, and at most its answer
-pub turns_kept : {config : Config} {s : Stripe} {own_new : StripeSide} {caller caller_new : CallerView} {command : Command} {turn : Turn} (r : Result Reply Fault) → Ends config s own_new caller caller_new command turn r
+pub turns_kept : {config : Config} {s : Stripe} {own_new : StripeSide} {caller caller_new : CallerView} {command : Command} {turn : Turn} (r : Result Replied Fault)
+    → Ends config s own_new caller caller_new command turn r
     → (turns_of caller_new.calls ≡ turns_of caller.calls) × (length caller_new.calls ≤ length caller.calls + 1)
 turns_kept {s = s} {caller = caller} {caller_new = caller_new} (Ok reply) ends =
-    let is = ends.replied.noted in
-    let place = ends.replied.place in
+    let is = ends.replied.replied_is.noted in
+    let place = ends.replied.replied_is.place in
     let long = length-append caller.calls (answered_at s.site.stripe place ∷ []) in
     let all : length caller_new.calls ≡ length (caller.calls ++ answered_at s.site.stripe place ∷ []) = ap (λ (l : List CallEvent). length l) is in
     (ap turns_of is ∙ turns_answered caller.calls s.site.stripe place, omega (arith, all, long))

@@ -16,6 +16,7 @@ use Rattle.atomic_table.proofs.shared.Seat.TheSendSync as seat
 use Rattle.atomic_table.proofs.shared.Shared.TheSendSync as shared
 use Rattle.atomic_table.proofs.send_lease.SendLease.TheSendSync as lease
 use Rattle.bytes.proofs.shared.Bytes.TheSendSync as bytes
+use Rattle.mc_hits.proofs.SendLemmas.{hands_send, queues_sync}
 use Rattle.mc_item.specs.contracts.value.Value as Value
 use Rattle.mc_item.specs.contracts.value.Held as Held
 use Rattle.mc_history.specs.contracts.history.History as History
@@ -75,11 +76,11 @@ board_sync = search (shared.the_sync, lease.the_sync, sendable, crosses) depth 4
 
 -- a store is shared by its callers
 pub store_sync : (N : RattleType) (g : Named.Ghosts N.Denot) → IsSend N → IsSync N → IsSync (Store.the_row N g)
-store_sync N g s y = search (class_send, stripe_send, owner_send, seen_send, board_sync, sendable, crosses) depth 80 fits 50000
+store_sync N g s y = search (class_send, stripe_send, owner_send, seen_send, board_sync, queues_sync, sendable, crosses) depth 80 fits 50000
 
 -- a caller has a pass
 pub pass_send : (N : RattleType) (g : Named.Ghosts N.Denot) → IsSend N → IsSend (Pass.the_row N g)
-pass_send N g s = search (owner_send, seen_send, sendable, crosses) depth 40 fits 50000
+pass_send N g s = search (owner_send, seen_send, hands_send, sendable, crosses) depth 40 fits 50000
 
 -- H holds of each value that a closure has captured
 pub Captured : (RattleType → Type 0) → List RattleType → Type 0

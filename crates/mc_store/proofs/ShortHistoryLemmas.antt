@@ -1,17 +1,11 @@
 -- Short histories; and small laws of a step: which fault was answered, what a stripe was made with, where a refusal stands.
-use Rattle.std.proofs.Common.{Result, Ok, Err, ◌≤◌, inl, inr, true, false, refl, sym, ap, ◌∙◌, subst, arith, suc}
-use Rattle.std.specs.Prelude.{ℕ, ◌≡◌, ◌<◌, ◌+◌, ◌++◌, ◌⊎◌, List, [], ◌∷◌, Bool, Option, Some, None, length, slice_index_or, OnErr, IfErr, IsErrAnd, slice_get}
-use Rattle.mc_item.specs.Command.{key_of}
-use Rattle.mc_item.specs.declared.{answer.Site.Site, config.Config.Config, fault.Fault.Fault, fault.Fault.TheVariants.HistoryFull, item.Expiry.Expiry}
-use Rattle.mc_item.specs.declared.{item.Who.Who, reply.Room.Room, class_event.ClassEvent.ClassEvent, event.Event.Event, stripe_event.StripeEvent.StripeEvent}
-use Rattle.mc_rule.specs.Lists.{lists_of, segment_of}
+use Rattle.std.proofs.Common.{Result, Ok, Err, refl, sym, ap, ◌∙◌, subst, arith, suc}
+use Rattle.std.specs.Prelude.{ℕ, ◌≡◌, ◌<◌, ◌+◌, ◌++◌, List, [], ◌∷◌, Some, length, IsErrAnd, slice_get}
+use Rattle.mc_item.specs.declared.{answer.Site.Site, config.Config.Config, fault.Fault.Fault, fault.Fault.TheVariants.HistoryFull, item.Who.Who}
+use Rattle.mc_item.specs.declared.{class_event.ClassEvent.ClassEvent, event.Event.Event, stripe_event.StripeEvent.StripeEvent}
 use Rattle.mc_segment.specs.{ClassCalls.Makes, ClassCalls.refused_event, ClassState.ClassView}
 use Rattle.mc_stripe.specs.{StripeCalls.KeepsSite, StripeState.Stripe}
-use Rattle.mc_stripe.specs.declared.fate.Fate.{Fate}
-use Rattle.mc_stripe.specs.declared.fate.Fate.TheVariants as fates
-use Rattle.mc_pull.specs.{Lent.EachPair, Perform.Call, Perform.fate_for, Question.IsStripeOf}
-use Rattle.mc_pull.specs.Parts.{gone_part, hit_part, is_cold, is_here, new_part, entry_number, part_for, places_of}
-use Rattle.mc_pull.specs.Performed.{IsAnyFull, IsStripeFull, IsUntouched, MayRefuseCall, ClassStays, is_cooling, one_if, part_in}
+use Rattle.mc_pull.specs.Question.{IsStripeOf}
 use Rattle.mc_pull.proofs.GrowthLemmas.{slice_get-last}
 use Rattle.atomic_table.specs.Seated.{TableId}
 use Rattle.mc_board.specs.Histories.{Grows, list_at}
@@ -19,102 +13,8 @@ use Rattle.mc_board.specs.declared.rule.Sight.{Sight}
 use Rattle.mc_board.proofs.PrefixLemmas.{prefix_length}
 use Rattle.mc_store.specs.{Locked.IsHeldClass, Locked.locks_for, Serving.HasSeenShort, Sides.ClassSide, Sides.class_told, Sides.stripe_told}
 
--- one of the classes has less than two places left in its history
-pub record HasShort (cs : List ClassView) : Type 0 where
-  pub place : ℕ
-  pub below : place < length cs
-  pub short : (other : ClassView) → (slice_index_or cs place other).max_events < length (slice_index_or cs place other).history + 2
-
--- a stripe or one of the classes has less than two places left in its history
-abbrev pub IsShortIn : Stripe → List ClassView → Type 0
-IsShortIn s cs = (s.limit < length s.history + 2) ⊎ HasShort cs
-
--- a class at a place of all
-pub record IsAt (cs : List ClassView) (w : ClassView) : Type 0 where
-  pub place : ℕ
-  pub below : place < length cs
-  pub is : (other : ClassView) → slice_index_or cs place other ≡ w
-
--- a class's part of a command has two events at the most
-few_new : (key : List ℕ) (cost : ℕ) (expiry : Expiry) (b : Bool) (o : Option ℕ) → places_of (new_part key cost expiry b o) ≤ 2
-few_new key cost expiry true None = omega arith
-few_new key cost expiry true (Some number) = omega arith
-few_new key cost expiry false None = omega arith
-few_new key cost expiry false (Some number) = omega arith
-
-few_gone : (o : Option ℕ) → places_of (gone_part o) ≤ 2
-few_gone None = omega arith
-few_gone (Some number) = omega arith
-
-few_hit : (v : ClassView) (o : Option ℕ) → places_of (hit_part v o) ≤ 2
-few_hit v None = omega arith
-few_hit v (Some number) = by (is_cold (segment_of number (lists_of v.history))) refl
-  where
-    by : (b : Bool) → is_cold (segment_of number (lists_of v.history)) ≡ b → places_of (hit_part v (Some number)) ≤ 2
-    by true is = rw is (omega arith)
-    by false is = rw is (omega arith)
-
-few_places : (v : ClassView) (key : List ℕ) (room : Room) (fate : Fate) → places_of (part_for v key room fate) ≤ 2
-few_places v key room fates.Untouched = omega arith
-few_places v key room (fates.Renewed cost expiry old) = few_new key cost expiry (is_here v room) (entry_number v key old)
-few_places v key room (fates.Goes link) = few_gone (entry_number v key (Some link))
-few_places v key room (fates.Woken link) = few_hit v (entry_number v key (Some link))
-
-few_events : (cooling : Bool) → one_if cooling ≤ 1
-few_events true = omega arith
-few_events false = omega arith
-
--- a class that lacks the places of its part is short
-any_short : (s : Stripe) (c : Call) (cs_new vs ws : List ClassView) → IsAnyFull s c vs → EachPair (λ v w. IsAt cs_new w) vs ws → EachPair ClassStays vs ws → HasShort cs_new
-any_short s c cs_new [] ws full there stays = absurd full
-any_short s c cs_new (v ∷ vs) [] full there stays = absurd there
-any_short s c cs_new (v ∷ vs) (w ∷ ws) (inl full) there stays = record { place = there.0.place; below = there.0.below; short = λ other. by other }
-  where
-    few : places_of (part_in s c v) ≤ 2
-    few = few_places v (key_of c.command) c.room (fate_for s c)
-
-    of_v : v.max_events < length v.history + 2
-    of_v = omega (arith, full, few)
-
-    of_w : w.max_events < length w.history + 2
-    of_w = subst (λ (x : ClassView). x.max_events < length x.history + 2) (sym stays.0) of_v
-
-    by : (other : ClassView) → (slice_index_or cs_new there.0.place other).max_events < length (slice_index_or cs_new there.0.place other).history + 2
-    by other = subst (λ (x : ClassView). x.max_events < length x.history + 2) (sym (there.0.is other)) of_w
-any_short s c cs_new (v ∷ vs) (w ∷ ws) (inr more) there stays = any_short s c cs_new vs ws more there.1 stays.1
-
--- a full history is short
-full_short : (s s_new : Stripe) (c : Call) (cs_new vs ws : List ClassView) → KeepsSite s s_new → EachPair (λ v w. IsAt cs_new w) vs ws
-    → IsUntouched s s_new vs ws → MayRefuseCall s c vs HistoryFull → IsShortIn s_new cs_new
-full_short s s_new c cs_new vs ws site there untouched may = by may
-  where
-    same : s_new.limit ≡ s.limit
-    same = site.limit
-
-    long : length s_new.history ≡ length s.history
-    long = ap (λ (h : List StripeEvent). length h) untouched.stripe
-
-    by_part : IsStripeFull s (is_cooling s c vs) ⊎ IsAnyFull s c vs → IsShortIn s_new cs_new
-    by_part (inl full) =
-        let few = few_events (is_cooling s c vs) in
-        inl (omega (arith, full, few, same, long))
-    by_part (inr full) = inr (any_short s c cs_new vs ws full there untouched.classes)
-
-    by : MayRefuseCall s c vs HistoryFull → IsShortIn s_new cs_new
-    by (inl full) = inl (omega (arith, full, same, long))
-    by (inr part) = by_part part.full
-
 err_same : {T : Type 0} (x y : Fault) → ◌≡◌ {A = Result T Fault} (Err x) (Err y) → x ≡ y
 err_same x y h = cc
-
-ok_err : {T : Type 0} (a : T) (y : Fault) → ◌≡◌ {A = Result T Fault} (Ok a) (Err y) → ⊥
-ok_err a y h = cc
-
-pub all_short : {T : Type 0} (s s_new : Stripe) (c : Call) (cs_new vs ws : List ClassView) (r : Result T Fault) → KeepsSite s s_new → EachPair (λ v w. IsAt cs_new w) vs ws → OnErr r (IsUntouched s s_new vs ws)
-    → IfErr r (MayRefuseCall s c vs) → r ≡ Err HistoryFull → IsShortIn s_new cs_new
-all_short s s_new c cs_new vs ws (Ok x) site there err refusal is = absurd (ok_err x HistoryFull is)
-all_short s s_new c cs_new vs ws (Err f) site there err refusal is =
-    full_short s s_new c cs_new vs ws site there err (subst (λ (x : Fault). MayRefuseCall s c vs x) (err_same f HistoryFull is) refusal)
 
 -- an error that was handed on is the one that was answered
 pub err_is : {T : Type 0} (f : Fault) (r : Result T Fault) → IsErrAnd r (λ x. x ≡ f) → r ≡ Err HistoryFull → f ≡ HistoryFull

@@ -1,55 +1,21 @@
 -- A stripe and the classes that were lent with it, once each was told the other's history behind a command.
-use Rattle.std.proofs.Common.{◌≡◌, ◌≢◌, ◌⊎◌, ◌<◌, ◌+◌, ◌∷◌, [], ℕ, zero, suc, List, Result, Err, refl, sym, ap, ◌∙◌, subst, inl, inr, ⊎_elim, length, arith}
-use Rattle.std.specs.Prelude.{OnErr, IfErr, slice_index_or}
-use Rattle.std.proofs.lemmas.List.{length-map}
+use Rattle.std.proofs.Common.{◌≡◌, ◌≢◌, ◌∷◌, [], ℕ, refl, sym, ap, ◌∙◌, subst, arith}
 use Rattle.atomic_table.specs.Seated.{TableId}
 use Rattle.mc_item.specs.Stripe.{IsLegal}
-use Rattle.mc_item.specs.declared.{config.Config.Config, event.Event.Event, fault.Fault.Fault, fault.Fault.TheVariants.HistoryFull}
-use Rattle.mc_item.specs.declared.event.Event.TheVariants as events
+use Rattle.mc_item.specs.declared.config.Config.{Config}
 use Rattle.mc_rule.specs.Lawful.{IsLawfulHistoryByLists}
 use Rattle.mc_evidence.specs.Seen.{classes_seen}
 use Rattle.mc_board.specs.Histories.{Grows, list_at, with_seen}
 use Rattle.mc_board.specs.declared.rule.Sight.{Sight}
-use Rattle.mc_board.proofs.{PrefixLemmas.prefix_self, SeenLemmas.list_at_other, SeenLemmas.list_at_same}
+use Rattle.mc_board.proofs.PrefixLemmas.{prefix_self}
 use Rattle.mc_segment.specs.ClassState.{ClassView}
 use Rattle.mc_stripe.specs.{StripeCalls.KeepsSite, StripeState.Stripe}
-use Rattle.mc_pull.specs.{Agreeing.AgreeNow, Perform.Call, Performed.IsUntouched, Performed.MayRefuseCall, Sight.BacksStill, Sight.KeepsSights}
-use Rattle.mc_pull.specs.{Sight.SuitsStill}
+use Rattle.mc_pull.specs.{Agreeing.AgreeNow, Perform.Call, Sight.BacksStill, Sight.KeepsSights, Sight.SuitsStill}
 use Rattle.mc_pull.specs.Growth as classes
-use Rattle.mc_store.proofs.{ShortHistoryLemmas.HasShort, ShortHistoryLemmas.all_short, CallerLemmas.called_sees, LentClassLemmas.apart_tells}
+use Rattle.mc_store.proofs.{CallerLemmas.called_sees, LentClassLemmas.apart_tells}
 use Rattle.mc_store.specs.{Callers.AreCalled, Locked.IsHeldClass, Locked.IsLockedStripe, Locked.class_lock, Locked.locks_for, Performing.IsRefusedIn}
-use Rattle.mc_store.specs.{Serving.HasSeenShort, Serving.IsShort, Sides.ClassSide, Sides.StripeSide, Sides.class_told, Sides.stripe_told}
+use Rattle.mc_store.specs.{Sides.ClassSide, Sides.StripeSide, Sides.class_told, Sides.stripe_told}
 use Rattle.mc_store.proofs.LockKeepsLemmas.{IsHeard, class_after, heard_before, heard_class, heard_stripe, stripe_after}
-
--- ---- full histories
-
--- a class that was heard and is short
-pub seen_short : (table : TableId) (config : Config) (lent : ClassSide) (w : ClassView) (sight : Sight) → IsHeldClass table config lent → classes.GainsEvents lent.class w
-    → list_at sight.seen lent.lock ≡ class_told w.history → w.max_events < length w.history + 2 → HasSeenShort config sight
-seen_short table config lent w sight kept grows heard short =
-    let limit : w.max_events ≡ config.max_events = ap (λ (v : ClassView). v.max_events) grows.same ∙ kept.made_with.max_events in
-    let long : length (list_at sight.seen lent.lock) ≡ length w.history = ap (λ (l : List Event). length l) heard ∙ length-map w.history events.Class in
-    record {
-      lock = lent.lock;
-      of = omega (arith, kept.lock_is, kept.is.0, kept.is.1);
-      short = omega (arith, short, limit, long);
-    }
-
-first_short : (w : ClassView) → HasShort (w ∷ []) → w.max_events < length w.history + 2
-first_short w has = by has.place has.below (has.short w)
-  where
-    by : (place : ℕ) → place < 1 → (slice_index_or (w ∷ []) place w).max_events < length (slice_index_or (w ∷ []) place w).history + 2 → w.max_events < length w.history + 2
-    by zero below short = short
-    by (suc k) below short = absurd (omega (arith, below))
-
-either_short : (v w : ClassView) → HasShort (v ∷ w ∷ []) → (v.max_events < length v.history + 2) ⊎ (w.max_events < length w.history + 2)
-either_short v w has = by has.place has.below (has.short w)
-  where
-    by : (place : ℕ) → place < 2 → (slice_index_or (v ∷ w ∷ []) place w).max_events < length (slice_index_or (v ∷ w ∷ []) place w).history + 2
-        → (v.max_events < length v.history + 2) ⊎ (w.max_events < length w.history + 2)
-    by zero below short = inl short
-    by (suc zero) below short = inr short
-    by (suc (suc k)) below short = absurd (omega (arith, below))
 
 -- ---- behind a command
 
@@ -99,14 +65,6 @@ module _ (table : TableId) (config : Config) (own : StripeSide) (kept : IsLocked
         (heard_as hears_low low v kept_low grows_low agree (heard_class config own.sight low.lock v.number v.history (lock_now low v kept_low grows_low)), tt)
         (apart_tells c own.stripe s_new (low.class ∷ []) (v ∷ []) refused sight)
 
-    -- a fault for a full history
-    pub one_short : {T : Type 0} (r : Result T Fault) → OnErr r (IsUntouched own.stripe s_new (low.class ∷ []) (v ∷ [])) → IfErr r (MayRefuseCall own.stripe c (low.class ∷ [])) → r ≡ Err HistoryFull
-        → IsShort config (record own { stripe = s_new; sight = hears_low })
-    one_short r err refusal is = ⊎_elim
-        (λ short. inl short)
-        (λ (has : HasShort (v ∷ [])). inr (seen_short table config low v hears_low kept_low grows_low (list_at_same own.sight.seen low.lock (class_told v.history)) (first_short v has)))
-        (all_short own.stripe s_new c (v ∷ []) (low.class ∷ []) (v ∷ []) r site (record { place = 0; below = omega arith; is = λ other. refl }, tt) err refusal is)
-
     module _ (high : ClassSide) (w : ClassView) (kept_high : IsHeldClass table config high) (grows_high : classes.GainsEvents high.class w) (away : low.class.number.0 ≢ high.class.number.0) where
       abbrev hears_both : Sight
       hears_both = with_seen hears_low high.lock (class_told w.history)
@@ -125,16 +83,3 @@ module _ (table : TableId) (config : Config) (own : StripeSide) (kept : IsLocked
             (heard_as hears_both high w kept_high grows_high agree_high (heard_class config hears_low high.lock w.number w.history (lock_now high w kept_high grows_high)), tt),
           )
           (apart_tells c own.stripe s_new (low.class ∷ high.class ∷ []) (v ∷ w ∷ []) refused sight)
-
-      pub two_short : {T : Type 0} (r : Result T Fault) → OnErr r (IsUntouched own.stripe s_new (low.class ∷ high.class ∷ []) (v ∷ w ∷ []))
-          → IfErr r (MayRefuseCall own.stripe c (low.class ∷ high.class ∷ [])) → r ≡ Err HistoryFull
-          → IsShort config (record own { stripe = s_new; sight = hears_both })
-      two_short r err refusal is = ⊎_elim
-          (λ short. inl short)
-          (λ (has : HasShort (v ∷ w ∷ [])). inr (⊎_elim
-          (λ (short : v.max_events < length v.history + 2). seen_short table config low v hears_both kept_low grows_low
-          (list_at_other hears_low.seen high.lock low.lock (class_told w.history) locks_apart ∙ list_at_same own.sight.seen low.lock (class_told v.history)) short)
-          (λ (short : w.max_events < length w.history + 2). seen_short table config high w hears_both kept_high grows_high (list_at_same hears_low.seen high.lock (class_told w.history)) short)
-          (either_short v w has)))
-          (all_short own.stripe s_new c (v ∷ w ∷ []) (low.class ∷ high.class ∷ []) (v ∷ w ∷ []) r site
-          (record { place = 0; below = omega arith; is = λ other. refl }, (record { place = 1; below = omega arith; is = λ other. refl }, tt)) err refusal is)

@@ -1,33 +1,35 @@
 -- One try of a command under locks, as a step that made it or made nothing.
 use Rattle.std.proofs.Common.{◌≡◌, ◌++◌, length, ℕ, List, [], ◌∷◌, true, false, Result, Ok, Err, refl, sym, ap, ◌∙◌, subst, inl, inr}
-use Rattle.std.specs.Prelude.{Option, Some, None, IfErr, IfOk, IfSome, IsErrOf, IsSomeAnd, OnErr, OnOk}
-use Rattle.mc_item.specs.declared.{answer.Need.Need, command.Command.Command, config.Config.Config, fault.Fault.Fault, fault.Fault.TheVariants.HistoryFull}
-use Rattle.mc_item.specs.declared.{fault.Fault.TheVariants.NoMemory, item.ClassNo.ClassNo, item.Who.Who, reply.Room.Room}
+use Rattle.std.specs.Prelude.{Option, Some, None, IfOk, IfSome, IsSomeAnd, OnErr, OnOk}
+use Rattle.mc_item.specs.Command.{key_of}
+use Rattle.mc_item.specs.declared.{answer.Need.Need, command.Command.Command, config.Config.Config, fault.Fault.Fault}
+use Rattle.mc_item.specs.declared.{fault.Fault.TheVariants.NoMemory, item.ClassNo.ClassNo, item.Link.Link, item.Who.Who, reply.Room.Room}
 use Rattle.mc_item.specs.declared.answer.Need.TheVariants as needs
 use Rattle.mc_item.specs.declared.reply.Room.TheVariants as rooms
 use Rattle.mc_segment.specs.ClassState.{ClassView, with_room}
-use Rattle.mc_stripe.specs.{StripeCalls.KeepsSite, StripeState.Stripe, Wanting.IsTaken}
-use Rattle.mc_stripe.specs.declared.{wanting.Given.Given, wanting.Home.Home, trying.Turn.Turn}
+use Rattle.mc_stripe.specs.{Plan.Wakes, Plan.fate_of, Plan.woken_of, StripeCalls.KeepsSite, StripeState.Stripe, StripeState.cache_now, Trying.item_of, Wanting.IsTaken}
+use Rattle.mc_stripe.proofs.WakeLemmas.{told_just_woken}
+use Rattle.mc_stripe.specs.declared.{fate.Fate.Fate, wanting.Given.Given, wanting.Home.Home, trying.Turn.Turn}
 use Rattle.mc_pull.specs.declared.{attempting.Tried.Tried, attempting.Tried.TheVariants.Made, attempting.Tried.TheVariants.Wants}
 use Rattle.mc_pull.specs.{Agreeing.KeepsAgreements, Attempt.GivesHome, Attempt.IsAny, Attempt.IsOffered, Attempt.IsTriedBy, Attempt.OffersHome, Perform.Call}
-use Rattle.mc_pull.specs.{Perform.call, Performed.IsPerformed, Performed.IsUntouched, Performed.MayRefuseCall, Performed.is_cooling, Sight.KeepsSights}
+use Rattle.mc_pull.specs.{Perform.answer_to, Perform.call, Performed.IsPerformed, Performed.IsUntouched, Sight.KeepsSights}
 use Rattle.mc_pull.proofs.PerformedLemmas.{untouched_kept, untouched_seen}
 use Rattle.mc_store.specs.{Performing.IsOneOf, Performing.IsRefusedIn, Callers.answered_at, Passes.CallerView, Sides.ClassSide, Trying.IsTriedUnder}
 use Rattle.mc_store.specs.{Trying.Stay, Trying.is_made}
 
 -- what a try came to, where only that it made its command is asked
 abbrev pub result_of : Result Tried Fault → Result (Unit {0}) Fault
-result_of (Ok (Made reply)) = Ok tt
+result_of (Ok (Made reply woken)) = Ok tt
 result_of (Ok (Wants want)) = Err NoMemory
 result_of (Err fault) = Err fault
 
 pub when : (P : Type 0) (t : Result Tried Fault) → (is_made t ≡ true → P) → OnOk (result_of t) P
-when P (Ok (Made reply)) there = there refl
+when P (Ok (Made reply woken)) there = there refl
 when P (Ok (Wants want)) there = tt
 when P (Err fault) there = tt
 
 pub unless : (P : Type 0) (t : Result Tried Fault) → (is_made t ≡ false → P) → OnErr (result_of t) P
-unless P (Ok (Made reply)) there = tt
+unless P (Ok (Made reply woken)) there = tt
 unless P (Ok (Wants want)) there = there refl
 unless P (Err fault) there = there refl
 
@@ -64,7 +66,7 @@ module _ (config : Config) (s s_new : Stripe) (made : Command) (turn : Turn) (gi
 
   -- the room that a try took
   abbrev pub room_at : (t : Result Tried Fault) → TriedBy t → Room
-  room_at (Ok (Made reply)) tried = tried.room
+  room_at (Ok (Made reply woken)) tried = tried.room
   room_at (Ok (Wants want)) tried = rooms.Keep
   room_at (Err fault) tried = rooms.Keep
 
@@ -72,49 +74,45 @@ module _ (config : Config) (s s_new : Stripe) (made : Command) (turn : Turn) (gi
   call_at t tried = call turn.who made turn.moment (room_at t tried)
 
   pub performed_at : (t : Result Tried Fault) (tried : TriedBy t) → OnOk (result_of t) (IsPerformed s s_new (call_at t tried) vs ws)
-  performed_at (Ok (Made reply)) tried = tried.performed
+  performed_at (Ok (Made reply woken)) tried = tried.performed
   performed_at (Ok (Wants want)) tried = tt
   performed_at (Err fault) tried = tt
 
   pub untouched_at : (t : Result Tried Fault) → TriedBy t → OnErr t (IsUntouched s s_new vs ws) → OnErr (result_of t) (IsUntouched s s_new vs ws)
-  untouched_at (Ok (Made reply)) tried err = tt
+  untouched_at (Ok (Made reply woken)) tried err = tt
   untouched_at (Ok (Wants want)) tried err = tried.0
   untouched_at (Err fault) tried err = err
 
   pub kept_at : KeepsSite s s_new → (t : Result Tried Fault) (tried : TriedBy t) → OnErr t (IsUntouched s s_new vs ws) → KeepsAgreements (call_at t tried) s s_new vs ws
-  kept_at site (Ok (Made reply)) tried err = tried.agreement
+  kept_at site (Ok (Made reply woken)) tried err = tried.agreement
   kept_at site (Ok (Wants want)) tried err = untouched_kept config s s_new (call turn.who made turn.moment rooms.Keep) vs ws site tried.0
   kept_at site (Err fault) tried err = untouched_kept config s s_new (call turn.who made turn.moment rooms.Keep) vs ws site err
 
   pub seen_at : KeepsSite s s_new → (t : Result Tried Fault) (tried : TriedBy t) → OnErr t (IsUntouched s s_new vs ws) → KeepsSights (call_at t tried) s s_new vs ws
-  seen_at site (Ok (Made reply)) tried err = tried.sight
+  seen_at site (Ok (Made reply woken)) tried err = tried.sight
   seen_at site (Ok (Wants want)) tried err = untouched_seen config s s_new (call turn.who made turn.moment rooms.Keep) vs ws site tried.0
   seen_at site (Err fault) tried err = untouched_seen config s s_new (call turn.who made turn.moment rooms.Keep) vs ws site err
 
   pub refused_at : (refused : Option ℕ) → IsOffered given refused turn.who vs → (t : Result Tried Fault) (tried : TriedBy t) → IsRefusedIn (room_at t tried) vs
-  refused_at refused offered (Ok (Made reply)) tried = taken_refused given refused turn.who vs offered _ tried.room tried.uses.taken
+  refused_at refused offered (Ok (Made reply woken)) tried = taken_refused given refused turn.who vs offered _ tried.room tried.uses.taken
   refused_at refused offered (Ok (Wants want)) tried = tt
   refused_at refused offered (Err fault) tried = tt
 
-  refusal_by : (fault : Fault) → (fault ≡ HistoryFull → MayRefuseCall s (call turn.who made turn.moment rooms.Keep) vs HistoryFull) → MayRefuseCall s (call turn.who made turn.moment rooms.Keep) vs fault
-  refusal_by HistoryFull may = may refl
-  refusal_by NoMemory may = tt
-
-  pub refusal_at : (t : Result Tried Fault) (tried : TriedBy t) → (IsErrOf t HistoryFull → MayRefuseCall s (call turn.who made turn.moment rooms.Keep) vs HistoryFull)
-      → IfErr (result_of t) (MayRefuseCall s (call_at t tried) vs)
-  refusal_at (Ok (Made reply)) tried may = tt
-  refusal_at (Ok (Wants want)) tried may = tt
-  refusal_at (Err fault) tried may = refusal_by fault (λ is. may (ap Err is))
+  -- what its fate tells to be woken, the command made ACTIVE
+  woken_at : (room : Room) (fate : Fate) → fate ≡ fate_of (key_of made) (item_of s made) (answer_to s (call turn.who made turn.moment room)).change
+      → (woken : Option Link) → woken ≡ woken_of fate → IfSome woken (Wakes (item_of s made) (answer_to s (call turn.who made turn.moment room)).change)
+  woken_at room fate is None told = tt
+  woken_at room fate is (Some link) told = (told_just_woken s.site (cache_now s).versions (item_of s made) made turn.moment room fate link is).0 (sym told)
 
   -- what it came to under the locks
   module _ (caller caller_new : CallerView) (cs ds : List ClassSide) where
     pub under_tried : (t : Result Tried Fault) → TriedBy t → (is_made t ≡ true → caller_new ≡ record caller { calls = caller.calls ++ answered_at s.site.stripe (length s.history) ∷ [] })
         → (is_made t ≡ false → caller_new ≡ caller) → (IsUntouched s s_new vs ws → Stay cs ds) → IfOk t (IsTriedUnder s s_new caller caller_new made turn given cs ds)
-    under_tried (Ok (Made reply)) tried noted unnoted stay = record {
+    under_tried (Ok (Made reply woken)) tried noted unnoted stay = record {
       room = tried.room;
       fate = tried.fate;
       uses = tried.uses;
-      made_is = record { reply_is = tried.reply_is; cooling = is_cooling s (call turn.who made turn.moment tried.room) vs; history_is = tried.performed.stripe };
+      made_is = record { reply_is = tried.reply_is; woken = woken_at tried.room tried.fate tried.uses.fate_is woken tried.woken_is; history_is = tried.performed.stripe };
       noted = noted refl;
     }
     under_tried (Ok (Wants want)) tried noted unnoted stay = (tried.0.stripe, unnoted refl, stay tried.0, tried.1)

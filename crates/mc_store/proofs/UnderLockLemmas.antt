@@ -1,18 +1,21 @@
 -- A command under the lock of its stripe: what is seen behind it, and what stands before its answer.
 use Rattle.std.proofs.Common.{◌≡◌, ◌⊎◌, ◌++◌, ◌∷◌, [], ℕ, List, inl, inr, length, refl, ap, sym, ◌∙◌, subst, append_assoc, append-nil}
-use Rattle.std.specs.Prelude.{Option, None}
-use Rattle.mc_item.specs.{Answer.Row, Command.key_of, Stripe.IsAlive}
+use Rattle.std.specs.Prelude.{Option, Some, None, IfSome, Bool, IsSomeAnd, true, if◌then◌else◌}
+use Rattle.std.specs.Cmp.Lexicographic.{bytes_decides}
+use Rattle.mc_item.specs.{Answer.Row, Cache.changed, Command.key_of, Stripe.IsAlive}
 use Rattle.mc_item.specs.declared.{answer.Site.Site, call_event.CallEvent.CallEvent, command.Command.Command, config.Config.Config, event.Event.Event}
-use Rattle.mc_item.specs.declared.{item.Link.Link, item.Who.Who, reply.Reply.Reply, reply.Room.Room, stripe_event.StripeEvent.StripeEvent}
+use Rattle.mc_item.specs.declared.{item.Link.Link, item.Who.Who, reply.Room.Room, stripe_event.Did.Did}
+use Rattle.mc_item.specs.declared.stripe_event.StripeEvent.{StripeEvent}
 use Rattle.mc_item.specs.declared.stripe_event.StripeEvent.TheVariants as events
 use Rattle.mc_board.specs.Histories.{Grows, list_at, with_seen}
 use Rattle.mc_board.specs.declared.rule.Sight.{Sight}
 use Rattle.mc_board.proofs.SeenLemmas.{list_at_same}
-use Rattle.mc_stripe.specs.{Plan.dead_link, Plan.visible_row, StripeCalls.KeepsSite, StripeState.Stripe, StripeState.cache_now}
-use Rattle.mc_pull.specs.{Perform.answer_to, Perform.call, Performed.cooled_if, Performed.events_on_stripe}
+use Rattle.mc_stripe.specs.{Plan.Wakes, Plan.dead_link, Plan.visible_row, StripeCalls.KeepsSite, StripeState.Stripe, StripeState.cache_now}
+use Rattle.mc_pull.specs.{Perform.answer_to, Perform.call, Perform.item_before, Performed.did_event}
 use Rattle.mc_store.specs.Commands.{IsCut, IsSearch, LeadsUp, burial}
 use Rattle.mc_store.proofs.CommandLemmas.{buried_alive, buried_row, not_dead, searches_none}
-use Rattle.mc_store.specs.{Callers.answered_at, Calls.IsReplied, Earned.IsEarned, Performing.IsMadeOnStripe, Serving.GrowsBut}
+use Rattle.mc_store.specs.{Callers.answered_at, Calls.IsRepliedAs, Earned.IsEarned, Performing.IsMadeOnStripe, Serving.GrowsBut, Waking.MakesActive}
+use Rattle.mc_store.specs.declared.replied.Replied.{Replied}
 
 -- of a lock whose history was told, that is what was seen
 pub told_at : (sight : Sight) (lock : ℕ) (list : List Event) (new : Sight) (other : ℕ) (is : List Event) → new ≡ with_seen sight lock list → other ≡ lock → list ≡ is → list_at new.seen other ≡ is
@@ -38,6 +41,31 @@ IsSearched config who command moment s s_new = (walked : List StripeEvent) × Is
 pub searched_itself : (config : Config) (who : Who) (command : Command) (moment : ℕ) (s s_new : Stripe) → s_new.history ≡ s.history → IsSearched config who command moment s s_new
 searched_itself config who command moment s s_new same = ([], searches_none config who moment (visible_row s command moment).need, same ∙ sym (append-nil s.history))
 
+-- the same of an item that became ACTIVE, in other words
+pub active_moves : (t t_new : Site) (h h_new : List StripeEvent) (did : Did) (woken : Option Link) → t ≡ t_new → h ≡ h_new → IfSome woken (MakesActive t h did) → IfSome woken (MakesActive t_new h_new did)
+active_moves t t_new h h_new did woken site history active =
+    subst (λ (x : Site). IfSome woken (MakesActive x h_new did)) site (subst (λ (x : List StripeEvent). IfSome woken (MakesActive t x did)) history active)
+
+-- a command that wakes an item makes it ACTIVE by its event
+module _ (s : Stripe) (who : Who) (command : Command) (moment : ℕ) (room : Room) where
+  abbrev did_here : Did
+  did_here = record { who = who; command = command; moment = moment; reply = (answer_to s (call who command moment room)).reply; room = room }
+
+  wakes_active : (link : Link) → Wakes (item_before s (call who command moment room)) (answer_to s (call who command moment room)).change link → MakesActive s.site s.history did_here link
+  wakes_active link wakes = record {
+    was = wakes.was;
+    is =
+        let key = key_of command in
+        let new = changed ((cache_now s).items key) (answer_to s (call who command moment room)).change in
+        subst (λ (b : Bool). IsSomeAnd (if b then new else (cache_now s).items key) (λ item. (item.link ≡ link) × (item.marks.active ≡ true)))
+        (sym ((bytes_decides key key).1 refl)) wakes.is;
+  }
+
+  if_active : (woken : Option Link) → IfSome woken (Wakes (item_before s (call who command moment room)) (answer_to s (call who command moment room)).change)
+      → IfSome woken (MakesActive s.site s.history did_here)
+  if_active None wakes = tt
+  if_active (Some link) wakes = wakes_active link wakes
+
 module _ (config : Config) (who : Who) (command : Command) (moment : ℕ) where
   -- a command whose key has no dead item is led up to by a search alone
   module _ (s last : Stripe) (alive : IsAlive ((cache_now s).items (key_of command)) moment) (searched : IsSearched config who command moment s last) where
@@ -48,7 +76,7 @@ module _ (config : Config) (who : Who) (command : Command) (moment : ℕ) where
       search = searched.1;
     }
 
-    pub replied_behind : (end : Stripe) (sight : Sight) (room : Room) (reply : Reply) (calls calls_new : List CallEvent) → KeepsSite s last → IsMadeOnStripe last end (call who command moment room) reply
+    pub replied_behind : (end : Stripe) (sight : Sight) (room : Room) (replied : Replied) (calls calls_new : List CallEvent) → KeepsSite s last → IsMadeOnStripe last end (call who command moment room) replied
         → calls_new ≡ calls ++ answered_at last.site.stripe (length last.history) ∷ []
         → IsEarned config s.site sight (record {
           who = who;
@@ -57,21 +85,24 @@ module _ (config : Config) (who : Who) (command : Command) (moment : ℕ) where
           reply =
               (answer_to last (call who command moment room)).reply;
           room = room;
-        }) → IsReplied config who command moment s end sight calls calls_new reply
-    replied_behind end sight room reply calls calls_new site made noted earned = record {
-      place = length last.history;
-      answered = record {
-        before = searched.0;
-        led_up = leads;
-        reply = (answer_to last (call who command moment room)).reply;
-        room = room;
-        cooled = made.cooling;
-        history_is = made.history_is ∙ ap (λ (h : List StripeEvent). h ++ events_on_stripe last (call who command moment room) made.cooling) searched.2;
-        place_is = ap (λ (h : List StripeEvent). length h) searched.2;
+        }) → IsRepliedAs config who command moment s end sight calls calls_new replied
+    replied_behind end sight room replied calls calls_new site made noted earned = record {
+      replied_is = record {
+        place = length last.history;
+        answered = record {
+          before = searched.0;
+          led_up = leads;
+          reply = (answer_to last (call who command moment room)).reply;
+          room = room;
+          history_is = made.history_is ∙ ap (λ (h : List StripeEvent). h ++ did_event last (call who command moment room) ∷ []) searched.2;
+          place_is = ap (λ (h : List StripeEvent). length h) searched.2;
+        };
+        reply_is = sym made.reply_is;
+        noted = noted ∙ ap (λ (t : Site). calls ++ answered_at t.stripe (length last.history) ∷ []) site.site;
+        earned = earned;
       };
-      reply_is = sym made.reply_is;
-      noted = noted ∙ ap (λ (t : Site). calls ++ answered_at t.stripe (length last.history) ∷ []) site.site;
-      earned = earned;
+      woken = active_moves last.site s.site last.history (s.history ++ searched.0) (did_here last who command moment room) replied.woken site.site searched.2
+          (if_active last who command moment room replied.woken made.woken);
     }
 
     pub cut_behind : (end : Stripe) → end.history ≡ last.history → IsCut config who command moment s end
@@ -95,25 +126,28 @@ module _ (config : Config) (who : Who) (command : Command) (moment : ℕ) where
     joined : (before : List StripeEvent) → mid.history ++ before ≡ s.history ++ (gone ++ before)
     joined before = ap (λ (h : List StripeEvent). h ++ before) buried_is ∙ append_assoc s.history gone before
 
-    pub replied_from : (end : Stripe) (sight : Sight) (calls calls_new : List CallEvent) (reply : Reply)
-        → IsReplied config who command moment mid end sight calls calls_new reply → IsReplied config who command moment s end sight calls calls_new reply
-    replied_from end sight calls calls_new reply r =
+    pub replied_from : (end : Stripe) (sight : Sight) (calls calls_new : List CallEvent) (replied : Replied)
+        → IsRepliedAs config who command moment mid end sight calls calls_new replied → IsRepliedAs config who command moment s end sight calls calls_new replied
+    replied_from end sight calls calls_new replied whole =
+        let r = whole.replied_is in
         let a = r.answered in
+        let did : Did = record { who = who; command = command; moment = moment; reply = a.reply; room = a.room } in
         record {
-          place = r.place;
-          answered = record {
-            before = gone ++ a.before;
-            led_up = led_from a.before a.led_up;
-            reply = a.reply;
-            room = a.room;
-            cooled = a.cooled;
-            history_is = subst (λ (h : List StripeEvent). end.history ≡ h
-                ++ events.Did (record { who = who; command = command; moment = moment; reply = a.reply; room = a.room }) ∷ cooled_if who (key_of command) a.cooled) (joined a.before) a.history_is;
-            place_is = a.place_is ∙ ap (λ (h : List StripeEvent). length h) (joined a.before);
+          replied_is = record {
+            place = r.place;
+            answered = record {
+              before = gone ++ a.before;
+              led_up = led_from a.before a.led_up;
+              reply = a.reply;
+              room = a.room;
+              history_is = subst (λ (h : List StripeEvent). end.history ≡ h ++ events.Did did ∷ []) (joined a.before) a.history_is;
+              place_is = a.place_is ∙ ap (λ (h : List StripeEvent). length h) (joined a.before);
+            };
+            reply_is = r.reply_is;
+            noted = r.noted ∙ ap (λ (t : Site). calls ++ answered_at t.stripe r.place ∷ []) site.site;
+            earned = subst (λ (t : Site). IsEarned config t sight did) site.site r.earned;
           };
-          reply_is = r.reply_is;
-          noted = r.noted ∙ ap (λ (t : Site). calls ++ answered_at t.stripe r.place ∷ []) site.site;
-          earned = subst (λ (t : Site). IsEarned config t sight (record { who = who; command = command; moment = moment; reply = a.reply; room = a.room })) site.site r.earned;
+          woken = active_moves mid.site s.site (mid.history ++ a.before) (s.history ++ (gone ++ a.before)) did replied.woken site.site (joined a.before) whole.woken;
         }
 
     pub cut_from : (end : Stripe) → IsCut config who command moment mid end → IsCut config who command moment s end

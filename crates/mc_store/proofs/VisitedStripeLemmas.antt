@@ -1,6 +1,6 @@
 -- What a walker leaves by a gate that has one stripe at hand: visit by visit, and where its search was in vain.
 use Rattle.std.proofs.Common.{arith, ◌≤◌, ◌≡◌, ◌≢◌, ℕ, List, [], ◌∷◌, ◌++◌, Bool, true, false, Result, Ok, Err, inl, inr, refl, sym, ap, ◌∙◌, subst, append_assoc, append-nil}
-use Rattle.std.specs.Prelude.{Option, Some, None, IsSome, IsSomeAnd, IfOk, OnOk, OnErr, is_some, nat_lt, option_map, if◌then◌else◌}
+use Rattle.std.specs.Prelude.{◌&&◌, not, Option, Some, None, IsSome, IsSomeAnd, IfOk, OnOk, OnErr, is_some, nat_lt, option_map, if◌then◌else◌}
 use Rattle.std.proofs.lemmas.{Bool.Decides.nat_tests, List.append_cancel_left}
 use Rattle.mc_item.specs.{Cache.Cache, Item.is_dead, Measure.stripe_of, Stripe.IsAlive}
 use Rattle.mc_item.specs.declared.{answer.Site.Site, class_event.ClassEvent.ClassEvent, config.Config.Config, fault.Fault.Fault, item.Item.Item}
@@ -13,8 +13,8 @@ use Rattle.mc_rule.specs.{Belonging.IsEntryOf, Lawful.IsIn, Lawful.IsListed, Pai
 use Rattle.mc_rule.specs.Lists.{IsFull, Lists, count_of, find, found, found_in, lists_of}
 use Rattle.mc_segment.specs.{ClassState.ClassView, ClassState.with_room, Entries.entry_of}
 use Rattle.mc_stripe.specs.StripeState.{Stripe, cache_now}
-use Rattle.mc_pull.specs.declared.{judge.Done.Done, judge.Judge.Judge, judge.Judge.TheVariants.Dead, judge.Judge.TheVariants.Walk, looking.Answer.Answer}
-use Rattle.mc_pull.specs.declared.{looking.Judged.Judged}
+use Rattle.mc_pull.specs.declared.{judge.Done.Done, judge.Judge.Judge, judge.Judge.TheVariants.Dead, judge.Judge.TheVariants.Hit}
+use Rattle.mc_pull.specs.declared.{judge.Judge.TheVariants.Walk, looking.Answer.Answer, looking.Judged.Judged}
 use Rattle.mc_pull.specs.declared.judge.Done.TheVariants as done
 use Rattle.mc_pull.specs.Growth as classes
 use Rattle.mc_pull.specs.{Judgement.done_by, Judgement.done_of, Lone.AreMadeBy, Lone.StripeGrows, Looks.answer_by, Looks.events_if, Outcome.is_due}
@@ -97,6 +97,7 @@ judged_listed c q may = by q.judge may
     by : (judge : Judge) → MayJudgeBy c q.who q.number q.moment judge → IsListed q.number (lists_of c.history)
     by (Walk s mode passed) on = listed_in s q.number (lists_of c.history) on.listed
     by Dead there = there
+    by Hit cold = listed_in segs.Cold q.number (lists_of c.history) cold
 
 dead_by : (rule : Rule) (l : Lists) (moment : ℕ) (judge : Judge) (e : Entry) (item : Item) → done_by rule l moment judge e item ≡ done.Reclaimed → is_dead item moment ≡ true
 dead_by rule l moment (Walk s mode passed) e item is =
@@ -107,6 +108,11 @@ dead_by rule l moment Dead e item is = by (is_dead item moment) is
     by : (b : Bool) → (if b then done.Reclaimed else done.Alive item.expiry) ≡ done.Reclaimed → b ≡ true
     by true h = refl
     by false h = cc
+dead_by rule l moment Hit e item is = absurd (by (item.marks.active && not (is_dead item moment)) is)
+  where
+    by : (b : Bool) → (if b then done.ToWarm else done.Stayed) ≡ done.Reclaimed → ⊥
+    by true h = cc h
+    by false h = cc h
 
 reclaimed_stranger : done.Reclaimed ≡ done.Stranger → ⊥
 reclaimed_stranger h = cc
@@ -154,10 +160,12 @@ module _ (c : ClassView) (q : Question) where
   warm_others : (key : List ℕ) (at : ℕ) (judge : Judge) → AreOfOthers key c.history (warm_events q at judge)
   warm_others key at (Walk s mode passed) = (tt, tt)
   warm_others key at Dead = tt
+  warm_others key at Hit = (tt, tt)
 
   cold_others : (key : List ℕ) (at : ℕ) (judge : Judge) → AreOfOthers key c.history (cold_events c q at judge)
   cold_others key at (Walk s mode passed) = (tt, tt)
   cold_others key at Dead = tt
+  cold_others key at Hit = tt
 
   -- the events of what was done reclaim no entry of a key, unless they reclaim this one's
   events_others : (key : List ℕ) (at : ℕ) (d : Done) → (d ≡ done.Reclaimed → HasOther key) → AreOfOthers key c.history (done_class_events c q at d)

@@ -1,5 +1,5 @@
 -- What a call on a store leaves, by what its pass had seen before and has seen after (own).
-use Rattle.std.specs.Prelude.{◌≡◌, ◌++◌, ℕ, List, [], ◌∷◌}
+use Rattle.std.specs.Prelude.{◌≡◌, ◌++◌, ℕ, List, [], ◌∷◌, IfSome}
 use mathlib.Core.List.{IsPrefix}
 use Rattle.mc_item.specs.declared.{call_event.CallEvent.CallEvent, class_event.ClassEvent.ClassEvent, command.Command.Command, config.Config.Config}
 use Rattle.mc_item.specs.declared.{item.ClassNo.ClassNo, item.Who.Who, counts.Moves.Moves, reply.Reply.Reply}
@@ -11,7 +11,11 @@ use Rattle.mc_stripe.specs.{StripeState.Stripe, StripeCalls.KeepsSite}
 use Rattle.mc_pull.specs.{Juggle.IsJuggle, Question.IsClassOf, Question.IsStripeOf, Rounds.rounds}
 use Rattle.mc_pull.specs.declared.looking.Answer.{Answer}
 use Rattle.mc_store.specs.{Commands.IsAnswered, Commands.IsCut, Callers.answered_at, Callers.asked_for, Earned.IsEarned, Locked.class_lock, Locked.setting_of}
-use Rattle.mc_store.specs.{Sides.class_told, Sides.stripe_told}
+use Rattle.mc_store.specs.{Hits.IsAdvancedBy, Hits.queue_of, Passes.PassView, Passes.next_who, Sides.class_told, Sides.stripe_told}
+use Rattle.mc_store.specs.Waking.{MakesActive}
+use Rattle.mc_hits.specs.Views.{HandsView}
+use Rattle.mc_stripe.specs.declared.trying.Turn.{Turn}
+use Rattle.mc_store.specs.declared.replied.Replied.{Replied}
 
 -- a command was answered with this reply, and its caller's history gains one event, the place of the answer; a refusal that the
 -- answer names was earned, by what is seen of its class: a search by the same call came before it
@@ -22,6 +26,13 @@ pub record IsReplied (config : Config) (who : Who) (command : Command) (moment :
   pub reply_is : answered.reply ≡ reply
   pub noted : calls_new ≡ calls ++ answered_at s.site.stripe place ∷ []
   pub earned : IsEarned config s.site sight (record { who = who; command = command; moment = moment; reply = answered.reply; room = answered.room })
+
+-- a command was answered like this, and if its event made an item ACTIVE, this is the item's link
+pub record IsRepliedAs (config : Config) (who : Who) (command : Command) (moment : ℕ) (s s_new : Stripe) (sight : Sight) (calls calls_new : List CallEvent)
+    (replied : Replied) : Type 0 where
+  pub replied_is : IsReplied config who command moment s s_new sight calls calls_new replied.reply
+  pub woken : IfSome replied.woken (MakesActive s.site (s.history ++ replied_is.answered.before)
+      (record { who = who; command = command; moment = moment; reply = replied_is.answered.reply; room = replied_is.answered.room }))
 
 -- a stripe's history grew in a call: what the pass had seen of it is a beginning of what it was when the lock was taken, and now
 -- the pass has seen all of it; it is legal, and each event's partners are in what the pass has seen of the classes
@@ -60,10 +71,19 @@ pub record IsSeenGrowOf (config : Config) (class : ClassNo) (before after : Sigh
   pub now : list_at after.seen (class_lock config class) ≡ class_told history
   pub sound : ClassKeeps (setting_of config) class history (stripes_seen (list_at after.seen))
 
--- a class was juggled, after all that the pass had seen of it: the call added the surveys and walks of its rounds to the history
-pub record IsJuggledBy (config : Config) (class : ClassNo) (before after : Sight) (who : Who) (moment : ℕ) (moves : Moves) : Type 0 where
-  pub old : ClassView
+-- a class went from one history to another: first hits were taken from its queue and made their moves, then the rounds of juggling
+-- made their surveys and walks
+pub record IsUpkept (config : Config) (c : ClassView) (turn : Turn) (hands hands_new : HandsView) (history_new : List ClassEvent) (moves : Moves) : Type 0 where
+  pub advances : List ClassEvent
+  pub advanced : IsAdvancedBy (queue_of c.number) turn hands hands_new c.history (c.history ++ advances)
   pub own : List ClassEvent
+  pub history_is : history_new ≡ (c.history ++ advances) ++ own
   pub answers : List Answer
-  pub grew : IsSeenGrowOf config class before after old (old.history ++ own)
-  pub juggle : IsJuggle (rounds old who moment config) old.history answers (old.history ++ own) moves
+  pub juggle : IsJuggle (rounds c turn.who turn.moment config) (c.history ++ advances) answers ((c.history ++ advances) ++ own) moves
+
+-- a class was juggled, after all that the pass had seen of it
+pub record IsJuggledBy (config : Config) (class : ClassNo) (before after : PassView) (moment : ℕ) (moves : Moves) : Type 0 where
+  pub old : ClassView
+  pub history_new : List ClassEvent
+  pub grew : IsSeenGrowOf config class before.sight after.sight old history_new
+  pub upkept : IsUpkept config old (record { who = next_who before; moment = moment }) before.hands after.hands history_new moves

@@ -1,5 +1,5 @@
 -- One command on a store: the events of its stripe before the answer, and how it ends, answered or broken off (own).
-use Rattle.std.specs.Prelude.{ℕ, ◌≡◌, ◌++◌, ◌⊎◌, List, [], ◌∷◌, Bool, Option, Some, None, length}
+use Rattle.std.specs.Prelude.{ℕ, ◌≡◌, ◌++◌, ◌⊎◌, List, [], ◌∷◌, Option, Some, None, length}
 use Rattle.mc_item.specs.Command.{key_of}
 use Rattle.mc_item.specs.declared.{answer.Need.Need, command.Command.Command, config.Config.Config, item.ClassNo.ClassNo, item.Link.Link, item.Who.Who}
 use Rattle.mc_item.specs.declared.{reply.Reply.Reply, reply.Room.Room, stripe_event.Cause.TheVariants.Expired, stripe_event.StripeEvent.StripeEvent}
@@ -7,7 +7,7 @@ use Rattle.mc_item.specs.declared.answer.Need.TheVariants as needs
 use Rattle.mc_item.specs.declared.stripe_event.StripeEvent.TheVariants as events
 use Rattle.mc_rule.specs.Segment.{rule_of}
 use Rattle.mc_stripe.specs.{Plan.dead_link, Plan.visible_row, StripeState.Stripe, StripeState.cache_now}
-use Rattle.mc_pull.specs.{Lone.AreMadeBy, Performed.cooled_if, Settled.lost_event, Walker.Walker}
+use Rattle.mc_pull.specs.{Lone.AreMadeBy, Settled.lost_event, Walker.Walker}
 
 -- the walker of a call in a class of a configuration
 abbrev pub walker_in : Config → Who → ℕ → ClassNo → Walker
@@ -31,16 +31,14 @@ pub record LeadsUp (config : Config) (who : Who) (command : Command) (moment : �
   pub split : before ≡ burial who (key_of command) moment (dead_link ((cache_now s).items (key_of command)) moment) ++ walked
   pub search : IsSearch config who moment (visible_row s command moment).need walked
 
--- a command was answered at a place of its stripe's history: its event comes after those that lead up to it, and is followed at
--- most by the clearing of its item's mark
+-- a command was answered at a place of its stripe's history: its event comes after those that lead up to it, and is the last one
 pub record IsAnswered (config : Config) (who : Who) (command : Command) (moment : ℕ) (s s_new : Stripe) (place : ℕ) : Type 0 where
   pub before : List StripeEvent
   pub led_up : LeadsUp config who command moment s before
   pub reply : Reply
   pub room : Room
-  pub cooled : Bool
   pub history_is : s_new.history ≡ (s.history ++ before)
-      ++ events.Did (record { who = who; command = command; moment = moment; reply = reply; room = room }) ∷ cooled_if who (key_of command) cooled
+      ++ events.Did (record { who = who; command = command; moment = moment; reply = reply; room = room }) ∷ []
   pub place_is : place ≡ length (s.history ++ before)
 
 -- a command was broken off: the stripe's history gains nothing, or what leads up to the command

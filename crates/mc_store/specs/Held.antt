@@ -4,7 +4,7 @@ use Rattle.std.specs.{Sync.Mutex.mutex_guard_value, declared.sync.MutexGuard.Mut
 use Rattle.mc_item.specs.{Command.key_of, Measure.stripe_of, Stripe.IsAlive}
 use Rattle.mc_item.specs.declared.answer.Need.TheVariants as needs
 use Rattle.mc_item.specs.declared.{command.Command.Command, config.Config.Config, fault.Fault.Fault, fault.Fault.TheVariants.HistoryFull, item.ClassNo.ClassNo}
-use Rattle.mc_item.specs.declared.{reply.Reply.Reply, reply.Room.Room, stripe_event.StripeEvent.StripeEvent}
+use Rattle.mc_item.specs.declared.{reply.Room.Room, stripe_event.StripeEvent.StripeEvent}
 use Rattle.mc_rule.specs.Lists.{IsFull, lists_of}
 use Rattle.mc_segment.specs.ClassState.{ClassView}
 use Rattle.mc_board.specs.declared.rule.Sight.{Sight}
@@ -15,9 +15,10 @@ use Rattle.mc_stripe.specs.declared.wanting.Want.TheVariants as wants
 use Rattle.mc_pull.specs.declared.attempting.Tried.{Tried}
 use Rattle.mc_pull.specs.declared.attempting.Tried.TheVariants as tried
 use Rattle.mc_pull.specs.{Lone.AreMadeBy, Perform.call}
-use Rattle.mc_store.specs.{Callers.answered_at, Calls.IsReplied, Commands.IsCut, Commands.walker_in, Earned.HasGivenUp, Earned.IsEarnedAt, Earned.IsEarnedIn}
+use Rattle.mc_store.specs.{Callers.answered_at, Calls.IsRepliedAs, Commands.IsCut, Commands.walker_in, Earned.HasGivenUp, Earned.IsEarnedAt, Earned.IsEarnedIn}
 use Rattle.mc_store.specs.{Passes.CallerView, Passes.HasAsked, Performing.IsMadeOnStripe, Serving.HasSeenShort, Serving.IsShort, Sides.ClassSide}
-use Rattle.mc_store.specs.{Sides.StripeSide}
+use Rattle.mc_store.specs.Sides.{StripeSide}
+use Rattle.mc_store.specs.declared.replied.Replied.{Replied}
 
 -- the number of a class
 abbrev pub class_number : ClassSide → ClassNo
@@ -60,11 +61,11 @@ IsRefusedAt config s turn key v refused =
     IfSome refused (λ place. IsEarnedAt config (record { 0 = s.site.stripe }) v.number turn.who turn.moment key place v.history)
 
 -- a command whose item isn't dead was made in a room, earned if it is a refusal, and its caller has noted the answer's place
-pub record IsMadeIn (config : Config) (s : Stripe) (own_new : StripeSide) (caller caller_new : CallerView) (made : Command) (turn : Turn) (reply : Reply) : Type
-    0 where
+pub record IsMadeIn (config : Config) (s : Stripe) (own_new : StripeSide) (caller caller_new : CallerView) (made : Command) (turn : Turn)
+    (replied : Replied) : Type 0 where
   pub alive : IsAlive (item_of s made) turn.moment
   pub room : Room
-  pub made_is : IsMadeOnStripe s own_new.stripe (call turn.who made turn.moment room) reply
+  pub made_is : IsMadeOnStripe s own_new.stripe (call turn.who made turn.moment room) replied
   pub noted : caller_new ≡ record caller { calls = caller.calls ++ answered_at s.site.stripe (length s.history) ∷ [] }
   pub earned : IsEarnedIn config s.site.stripe turn.who turn.moment (key_of made) own_new.sight room
 
@@ -88,7 +89,8 @@ module _ (config : Config) (s : Stripe) (own_new : StripeSide) (command : Comman
 -- the outcome of a try on the locked classes: the command was made, or nothing happened and it may want this
 abbrev pub IsTriedOn : Config → (s : Stripe) (own_new : StripeSide) (caller caller_new : CallerView) → Command → Turn → (home other : Option ClassNo) → Type 0
     → Tried → Type 0
-IsTriedOn config s own_new caller caller_new command turn home other AnyFull (tried.Made reply) = IsMadeIn config s own_new caller caller_new command turn reply
+IsTriedOn config s own_new caller caller_new command turn home other AnyFull (tried.Made reply woken) =
+    IsMadeIn config s own_new caller caller_new command turn (record { reply = reply; woken = woken })
 IsTriedOn config s own_new caller caller_new command turn home other AnyFull (tried.Wants want) =
     (own_new.stripe.history ≡ s.history) × (caller_new ≡ caller) × MayWant config s own_new command turn.moment home other AnyFull want
 
@@ -107,8 +109,8 @@ HasGivenUpAny config s turn v =
 -- how a command ends under the lock of its stripe: it was answered, or it was broken off with at most what leads up to it;
 -- `HistoryFull` means that a history has fewer than two places left
 pub record Ends (config : Config) (s : Stripe) (own_new : StripeSide) (caller caller_new : CallerView) (command : Command) (turn : Turn)
-    (result : Result Reply Fault) : Type 0 where
-  pub replied : IfOk result (IsReplied config turn.who command turn.moment s own_new.stripe own_new.sight caller.calls caller_new.calls)
+    (result : Result Replied Fault) : Type 0 where
+  pub replied : IfOk result (IsRepliedAs config turn.who command turn.moment s own_new.stripe own_new.sight caller.calls caller_new.calls)
   pub cut : OnErr result (IsCut config turn.who command turn.moment s own_new.stripe)
   pub unnoted : OnErr result (caller_new ≡ caller)
   pub number : caller_new.number ≡ caller.number

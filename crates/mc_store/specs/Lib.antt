@@ -9,9 +9,11 @@ pub mod Serving
 pub mod Performing
 pub mod Looked
 pub mod Earned
+pub mod Waking
 pub mod Calls
 pub mod Crawls
 pub mod Finals
 pub mod Headline
+pub mod Hits
 pub mod Trying
 pub mod Held

@@ -1,8 +1,9 @@
--- A default board and a default configuration, for a name that picks none.
-use Rattle.std.specs.Prelude.{[]}
+-- A default board, configuration and queues, for a name that picks none.
+use Rattle.std.specs.Prelude.{List, []}
 use Rattle.mc_item.specs.Config.{usual_config}
 use Rattle.mc_item.specs.declared.config.Config.{Config}
 use Rattle.mc_board.specs.Views.{BoardView}
+use Rattle.mc_hits.specs.Views.{HitsView}
 
 -- a board without locks
 abbrev pub some_board : BoardView
@@ -15,3 +16,7 @@ some_board =
 -- the usual configuration, without callers
 abbrev pub some_config : Config
 some_config = usual_config 0
+
+-- no queues
+abbrev pub some_queues : List HitsView
+some_queues = []

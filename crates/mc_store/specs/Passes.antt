@@ -3,6 +3,8 @@ use Rattle.std.specs.Prelude.{◌≡◌, ℕ, ◌<◌, ◌+◌, ◌^◌, ◌++�
 use Rattle.mc_item.specs.declared.{call_event.CallEvent.CallEvent, command.Command.Command, item.Who.Who}
 use Rattle.mc_board.specs.Histories.{blind}
 use Rattle.mc_board.specs.declared.rule.Sight.{Sight}
+use Rattle.mc_hits.specs.Views.{HandsView, untouched_hands}
+use Rattle.atomic_table.specs.Seated.{TableId}
 use Rattle.mc_store.specs.Callers.{IsBegunAs, asked_for, turns_of}
 
 -- a caller: its number, and its history
@@ -10,12 +12,14 @@ pub record CallerView : Type 0 where
   pub number : ℕ
   pub calls : List CallEvent
 
--- a pass: its caller, how many turns (calls) it has had, the caller's history, and what it has seen and noted of all locks
+-- a pass: its caller, how many turns (calls) it has had, the caller's history, what it has seen and noted of all locks, and the
+-- caller's hands in the queues of hits
 pub record PassView : Type 0 where
   pub caller : ℕ
   pub turn : ℕ
   pub calls : List CallEvent
   pub sight : Sight
+  pub hands : HandsView
 
 -- the caller of a pass
 abbrev pub caller_of : PassView → CallerView
@@ -25,14 +29,14 @@ caller_of pass = record { number = pass.caller; calls = pass.calls }
 abbrev pub next_who : PassView → Who
 next_who pass = record { caller = pass.caller; turn = pass.turn }
 
--- the pass of a caller that has had no turn and seen nothing
-abbrev pub new_pass : ℕ → PassView
-new_pass caller = record { caller = caller; turn = 0; calls = []; sight = blind }
+-- the pass, with hands in these queues, of a caller that has had no turn and seen nothing
+abbrev pub new_pass : List TableId → ℕ → PassView
+new_pass tables caller = record { caller = caller; turn = 0; calls = []; sight = blind; hands = untouched_hands tables caller }
 
 -- a new pass for each caller, in their order
-pub record ArePasses (callers : ℕ) (passes : List PassView) : Type 0 where
+pub record ArePasses (tables : List TableId) (callers : ℕ) (passes : List PassView) : Type 0 where
   pub many : length passes ≡ callers
-  pub each : (caller : ℕ) → caller < callers → slice_get passes caller ≡ Some (new_pass caller)
+  pub each : (caller : ℕ) → caller < callers → slice_get passes caller ≡ Some (new_pass tables caller)
 
 -- a caller's last event is that it asked for this command at this moment, in this turn, and its history has room for the answer
 pub record HasAsked (caller : CallerView) (who : Who) (command : Command) (moment : ℕ) : Type 0 where

@@ -1,7 +1,7 @@
 -- One try of a command under locks (own).
 use Rattle.std.specs.Prelude.{◌≡◌, ◌++◌, List, ◌∷◌, [], Bool, true, false, Result, Ok, Err, length}
 use Rattle.mc_item.specs.Command.{key_of}
-use Rattle.mc_item.specs.declared.{command.Command.Command, fault.Fault.Fault, reply.Reply.Reply, reply.Room.Room}
+use Rattle.mc_item.specs.declared.{command.Command.Command, fault.Fault.Fault, reply.Room.Room}
 use Rattle.mc_segment.specs.ClassState.{with_room}
 use Rattle.mc_stripe.specs.{StripeState.Stripe, Trying.item_of, Trying.row_at, Wanting.IsWanting, Wanting.Uses}
 use Rattle.mc_stripe.specs.declared.{fate.Fate.Fate, wanting.Given.Given, trying.Turn.Turn}
@@ -9,10 +9,11 @@ use Rattle.mc_pull.specs.declared.attempting.Tried.{Tried}
 use Rattle.mc_pull.specs.declared.attempting.Tried.TheVariants as tried
 use Rattle.mc_pull.specs.Perform.{call}
 use Rattle.mc_store.specs.{Callers.answered_at, Passes.CallerView, Performing.IsMadeOnStripe, Sides.ClassSide}
+use Rattle.mc_store.specs.declared.replied.Replied.{Replied}
 
 -- whether a try made its command
 abbrev pub is_made_of : Tried → Bool
-is_made_of (tried.Made reply) = true
+is_made_of (tried.Made reply woken) = true
 is_made_of (tried.Wants want) = false
 
 -- whether a try made its command, if it may also have failed
@@ -21,11 +22,11 @@ is_made (Ok t) = is_made_of t
 is_made (Err fault) = false
 
 -- a command was made on its stripe with what it was given, and its caller has noted the place of the answer
-pub record IsMadeBy (s s_new : Stripe) (caller caller_new : CallerView) (made : Command) (turn : Turn) (given : Given) (reply : Reply) : Type 0 where
+pub record IsMadeBy (s s_new : Stripe) (caller caller_new : CallerView) (made : Command) (turn : Turn) (given : Given) (replied : Replied) : Type 0 where
   pub room : Room
   pub fate : Fate
   pub uses : Uses given (key_of made) (item_of s made) turn.moment (row_at s made turn.moment) room fate
-  pub made_is : IsMadeOnStripe s s_new (call turn.who made turn.moment room) reply
+  pub made_is : IsMadeOnStripe s s_new (call turn.who made turn.moment room) replied
   pub noted : caller_new ≡ record caller { calls = caller.calls ++ answered_at s.site.stripe (length s.history) ∷ [] }
 
 -- the locked classes are as they were, but for the memory that their histories have reserved
@@ -37,7 +38,8 @@ Stay (c ∷ cs) (d ∷ ds) = (d.class ≡ with_room c.class d.class.room) × Sta
 
 -- the outcome of a try under locks: the command was made, or it wants something and nothing happened
 abbrev pub IsTriedUnder : (s s_new : Stripe) (caller caller_new : CallerView) → Command → Turn → Given → (cs ds : List ClassSide) → Tried → Type 0
-IsTriedUnder s s_new caller caller_new command turn given cs ds (tried.Made reply) = IsMadeBy s s_new caller caller_new command turn given reply
+IsTriedUnder s s_new caller caller_new command turn given cs ds (tried.Made reply woken) =
+    IsMadeBy s s_new caller caller_new command turn given (record { reply = reply; woken = woken })
 IsTriedUnder s s_new caller caller_new command turn given cs ds (tried.Wants want) =
     (s_new.history ≡ s.history) × (caller_new ≡ caller) × Stay cs ds
     × IsWanting given (key_of command) (item_of s command) turn.moment (row_at s command turn.moment) want

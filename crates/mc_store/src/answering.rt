@@ -13,10 +13,11 @@ use crate::caller::Caller;
 use crate::held::{answer_at_home, answer_at_item, try_home};
 use crate::locked::{LockedClass, LockedStripe};
 use crate::named::Named;
+use crate::replied::Replied;
 use crate::store::Store;
 use crate::trying::try_alone;
 use crate::walking::bury_under;
-use mc_item::{ClassNo, Command, Fault, Key, Link, Reply};
+use mc_item::{ClassNo, Command, Fault, Key, Link};
 use mc_pull::Tried;
 use mc_stripe::{Classes, Turn, Want};
 use std::alloc::Global;
@@ -63,7 +64,7 @@ fn answer_with<N: Named>(
     command: &Command,
     turn: Turn,
     wanted: Classes,
-) -> Result<Reply, Fault>
+) -> Result<Replied, Fault>
     requires called { IsCallOn N.config own.old.stripe caller.old command.now turn }
     requires begun { HasBegunCommand N.config own.old.sight turn.who turn.moment }
     requires wanted { WantsAlone own.old.stripe command.now turn.moment (wants.Classes wanted) }
@@ -123,7 +124,7 @@ fn answer_want<N: Named>(
     command: &Command,
     turn: Turn,
     want: Want,
-) -> Result<Reply, Fault>
+) -> Result<Replied, Fault>
     requires called { IsCallOn N.config own.old.stripe caller.old command.now turn }
     requires wants { WantsAlone own.old.stripe command.now turn.moment want }
     ensures { Ends N.config own.old.stripe own.new caller.old caller.new command.now turn result }
@@ -135,7 +136,7 @@ fn answer_want<N: Named>(
         Want::Burial(link) => {
             bury(alloc, store, rt, own, turn, command.key(), link)?;
             match try_alone(&store.board, own, caller, command, turn)? {
-                Tried::Made(reply) => Ok(reply),
+                Tried::Made { reply, woken } => Ok(Replied { reply, woken }),
                 Tried::Wants(left) => match left {
                     Want::Classes(wanted) => {
                         answer_with(alloc, store, rt, own, caller, command, turn, wanted)
@@ -161,13 +162,13 @@ pub(crate) fn answer<N: Named>(
     caller: &mut Caller<N>,
     command: &Command,
     turn: Turn,
-) -> Result<Reply, Fault>
+) -> Result<Replied, Fault>
     requires called { IsCallOn N.config own.old.stripe caller.old command.now turn }
     ensures { Ends N.config own.old.stripe own.new caller.old caller.new command.now turn result }
 {
     own.law();
     match try_alone(&store.board, own, caller, command, turn)? {
-        Tried::Made(reply) => Ok(reply),
+        Tried::Made { reply, woken } => Ok(Replied { reply, woken }),
         Tried::Wants(want) => answer_want(alloc, store, rt, own, caller, command, turn, want),
     }
 }
@@ -184,7 +185,7 @@ pub(crate) fn answer_for<'a, N: Named>(
     command: &Command,
     turn: Turn,
     class: ClassNo,
-) -> Result<Reply, Fault>
+) -> Result<Replied, Fault>
     requires called { IsCallOn N.config own.old.stripe caller.old command.now turn }
     requires class { IsClass (setting_of N.config) class }
     ensures { Ends N.config own.old.stripe own.new caller.old caller.new command.now turn result }
@@ -197,7 +198,7 @@ pub(crate) fn answer_for<'a, N: Named>(
     match try_home(
         alloc, board, own, home, &mut none, caller, command, turn, None,
     )? {
-        Tried::Made(reply) => Ok(reply),
+        Tried::Made { reply, woken } => Ok(Replied { reply, woken }),
         Tried::Wants(want) => match want {
             Want::Place(_) => Err(Fault::HistoryFull),
             Want::Room => {

@@ -76,6 +76,7 @@ impl<N: Named> Store<N> {
             config: _,
             stripes,
             classes,
+            queues: _,
             shelf,
             of: _,
         } = self;

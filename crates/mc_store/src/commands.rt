@@ -4,13 +4,15 @@ ghost use Rattle.mc_item.specs.{Command.key_of, Measure.stripe_of};
 ghost use Rattle.mc_item.specs.declared.fault.Fault.TheVariants.{HistoryFull};
 ghost use Rattle.mc_board.specs.Histories.{Grows};
 ghost use Rattle.mc_evidence.specs.Setting.{IsClass};
-ghost use Rattle.mc_store.specs.{Calls.IsCutBy, Calls.IsRepliedBy, Locked.setting_of, Passes.next_who, Serving.HasSeenShort};
+ghost use Rattle.mc_store.specs.{Calls.IsCutBy, Calls.IsRepliedBy, Hits.IsOffered, Locked.setting_of, Passes.next_who, Serving.HasSeenShort};
+ghost use Rattle.mc_store.specs.Waking.{reply_in, woken_in};
 
 use crate::answering::{answer, answer_for};
 use crate::named::Named;
 use crate::pass::Pass;
+use crate::replied::Replied;
 use crate::store::Store;
-use mc_item::{Asking, ClassNo, Command, Config, Fault, Reply, class_of, cost, stripe_of};
+use mc_item::{Asking, ClassNo, Command, Config, Fault, Link, Reply, class_of, cost, stripe_of};
 use mc_stripe::Turn;
 use std::alloc::Global;
 use std::sync::Wait;
@@ -30,11 +32,35 @@ fn class_for(config: &Config, command: &Command) -> Option<ClassNo>
     }
 }
 
+// The link of the item that a command's hit made ACTIVE, if it did.
+#[inline(always)]
+fn woken_of(replied: &Result<Replied, Fault>) -> Option<Link>
+    ensures { result ≡ woken_in replied.now }
+{
+    match replied {
+        Ok(replied) => replied.woken,
+        Err(_) => None,
+    }
+}
+
+// The reply of a command, or its fault.
+#[inline(always)]
+fn reply_of(replied: Result<Replied, Fault>) -> Result<Reply, Fault>
+    ensures { result ≡ reply_in replied }
+{
+    match replied {
+        Ok(replied) => Ok(replied.reply),
+        Err(fault) => Err(fault),
+    }
+}
+
 impl<N: Named> Store<N> {
     /// Makes one command and returns its reply. The reply is what a sequential memcached gives at one point of the stripe's
     /// history, after all that the pass had seen. The caller's history gains the call and the place of its answer.
     /// It waits for the lock of the key's stripe, and then for those of at most two classes, the lower number first. `moment` is
     /// the time in whole seconds, at most 2^62.
+    /// If the command's hit made its item ACTIVE, it offers the hit to the queue of the item's class, without any lock. If the queue
+    /// is full, the hit is dropped.
     /// After a fault the stripe's history has gained at most what leads up to the command: the dead item's removal, and a search
     /// for a chunk. The caller's history has gained at most the call. `HistoryFull` comes only if a stripe's or class's history
     /// has fewer than two places left, or the pass has had 2^63 - 1 turns. `NoMemory` comes if an allocation fails.
@@ -52,6 +78,8 @@ impl<N: Named> Store<N> {
         ensures cut { OnErr result ((pass.new ≡ pass.old)
             ⊎ IsCutBy N.config (stripe_of (key_of command) N.config.stripes).0 pass.old.sight pass.new.sight pass.old.calls pass.new.calls (next_who pass.old)
             command moment) }
+        ensures offers { (pass.new.hands ≡ pass.old.hands) ⊎ IsOffered N.config (stripe_of (key_of command) N.config.stripes).0 pass.new.sight
+            (next_who pass.old) command moment pass.old.hands pass.new.hands }
         ensures grows { Grows pass.old.sight pass.new.sight }
         ensures caller { pass.new.caller ≡ pass.old.caller }
         ensures turn { OnOk result (pass.new.turn ≡ pass.old.turn + 1) }
@@ -69,13 +97,14 @@ impl<N: Named> Store<N> {
         let turn = Turn { who, moment };
         let caller = &mut pass.caller;
         // A storage command is tried at once on its new version's class, if it has one, and any other on its stripe alone.
-        let reply = match class_for(&self.config, &command) {
+        let replied = match class_for(&self.config, &command) {
             Some(class) => answer_for(alloc, self, rt, own, caller, &command, turn, class),
             None => answer(alloc, self, rt, own, caller, &command, turn),
         };
         own.side.share(&self.board, &mut pass.seen);
         drop(guard);
         drop(command);
-        reply
+        self.offer(rt, &mut pass.hands, who.turn, woken_of(&replied));
+        reply_of(replied)
     }
 }

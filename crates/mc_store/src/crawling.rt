@@ -168,6 +168,7 @@ impl<N: Named> Store<N> {
         requires class { IsClass (setting_of N.config) class }
         ensures crawled { IfOk result (IsCrawledBy N.config class pass.old.sight pass.new.sight (next_who pass.old) moment) }
         ensures few { IfOk result (λ histogram. histogram.seen ≤ 2 ^ 32) }
+        ensures hands { pass.new.hands ≡ pass.old.hands }
         ensures grows { Grows pass.old.sight pass.new.sight }
         ensures caller { pass.new.caller ≡ pass.old.caller }
         ensures calls { OnOk result (pass.new.calls ≡ pass.old.calls ++ crawling_of class moment ∷ []) }

@@ -15,11 +15,12 @@ use crate::caller::Caller;
 use crate::locked::{LockedClass, LockedStripe};
 use crate::named::Named;
 use crate::pairing::{meet, refuse};
+use crate::replied::Replied;
 use crate::store::Store;
 use crate::trying::{try_on_one, try_on_two};
 use crate::walking::make_room_under;
 use mc_board::Board;
-use mc_item::{Command, Fault, Reply};
+use mc_item::{Command, Fault};
 use mc_pull::{Tried, offer_home, offer_other, ready};
 use mc_stripe::{Given, Turn, Want};
 use std::alloc::Global;
@@ -35,7 +36,7 @@ fn ready_class<N: Named>(class: &mut LockedClass<N>) -> Result<(), Fault>
     ready(&mut class.side.state)
 }
 
-// Tries a command once on the class of its key's item, which it removes or wakes by a hit.
+// Tries a command once on the class of its key's item, which it removes.
 #[inline(always)]
 fn try_other<N: Named>(
     alloc: Global,
@@ -153,7 +154,7 @@ pub(crate) fn answer_at_home<N: Named>(
     caller: &mut Caller<N>,
     command: &Command,
     turn: Turn,
-) -> Result<Reply, Fault>
+) -> Result<Replied, Fault>
     requires called { IsCallOn N.config own.old.stripe caller.old command.now turn }
     requires begun { HasBegunCommand N.config own.old.sight turn.who turn.moment }
     requires apart { class_held other.old ≢ Some home.old.class.number }
@@ -164,7 +165,7 @@ pub(crate) fn answer_at_home<N: Named>(
     own.law();
     search(alloc, store, own, home, turn)?;
     match try_home(alloc, board, own, home, other, caller, command, turn, None)? {
-        Tried::Made(reply) => Ok(reply),
+        Tried::Made { reply, woken } => Ok(Replied { reply, woken }),
         Tried::Wants(want) => match want {
             Want::Room => {
                 let place = refuse(board, own, home, turn.who)?;
@@ -179,7 +180,7 @@ pub(crate) fn answer_at_home<N: Named>(
                     turn,
                     Some(place),
                 )? {
-                    Tried::Made(reply) => Ok(reply),
+                    Tried::Made { reply, woken } => Ok(Replied { reply, woken }),
                     Tried::Wants(_) => Err(Fault::HistoryFull),
                 }
             }
@@ -199,14 +200,14 @@ pub(crate) fn answer_at_item<N: Named>(
     caller: &mut Caller<N>,
     command: &Command,
     turn: Turn,
-) -> Result<Reply, Fault>
+) -> Result<Replied, Fault>
     requires called { IsCallOn N.config own.old.stripe caller.old command.now turn }
     requires suffice { Suffice None (Some other.old.class.number) own.old.stripe command.now turn.moment }
     ensures { Ends N.config own.old.stripe own.new caller.old caller.new command.now turn result }
 {
     own.law();
     match try_other(alloc, &store.board, own, other, caller, command, turn)? {
-        Tried::Made(reply) => Ok(reply),
+        Tried::Made { reply, woken } => Ok(Replied { reply, woken }),
         Tried::Wants(_) => Err(Fault::HistoryFull),
     }
 }

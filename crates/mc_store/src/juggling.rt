@@ -3,20 +3,22 @@ ghost use Rattle.std.specs.Prelude.{◌≡◌, ◌≤◌, ◌⊎◌, ◌+◌, �
 ghost use Rattle.mc_item.specs.declared.fault.Fault.TheVariants.{HistoryFull};
 ghost use Rattle.mc_evidence.specs.Setting.{IsClass};
 ghost use Rattle.mc_board.specs.Histories.{Grows};
-ghost use Rattle.mc_store.specs.{Calls.IsJuggledBy, Locked.setting_of, Passes.next_who, Serving.HasSeenShort, Callers.juggling_of};
+ghost use Rattle.mc_store.specs.{Callers.juggling_of, Calls.IsJuggledBy, Hits.Takes, Hits.queue_of, Locked.setting_of, Serving.HasSeenShort};
 
 use crate::named::Named;
 use crate::pass::Pass;
 use crate::store::Store;
-use crate::walking::juggle_under;
+use crate::taking::upkeep_under;
 use mc_item::{CallEvent, ClassNo, Fault, Moves, Worked};
+use mc_stripe::Turn;
 use std::alloc::Global;
 use std::sync::Wait;
 
 impl<N: Named> Store<N> {
     /// Juggles a class (the LRU maintainer's work), and returns how many entries it reclaimed and moved, at most 10000 in all.
     /// It waits for the class's lock, and only tries those of stripes: an entry is passed if its stripe's lock isn't free.
-    /// `moment` is the time in whole seconds.
+    /// First it takes up to 256 hits from the class's queue. It moves the entry of each from COLD to WARM, if the item is still
+    /// ACTIVE and alive; these moves aren't counted. `moment` is the time in whole seconds.
     /// After a fault what happened so far stays. `HistoryFull` comes only if a stripe's or class's history has fewer than two
     /// places left, or the pass has had 2^63 - 1 turns. `NoMemory` comes if an allocation fails.
     pub fn juggle(
@@ -28,7 +30,8 @@ impl<N: Named> Store<N> {
         moment: u64,
     ) -> Result<Moves, Fault>
         requires class { IsClass (setting_of N.config) class }
-        ensures juggled { IfOk result (IsJuggledBy N.config class pass.old.sight pass.new.sight (next_who pass.old) moment) }
+        ensures juggled { IfOk result (IsJuggledBy N.config class pass.old pass.new moment) }
+        ensures taken { Takes (queue_of class) pass.old.hands pass.new.hands }
         ensures few { IfOk result (λ moves. moves.reclaimed + moves.moved ≤ 10000) }
         ensures grows { Grows pass.old.sight pass.new.sight }
         ensures caller { pass.new.caller ≡ pass.old.caller }
@@ -43,7 +46,8 @@ impl<N: Named> Store<N> {
         let own = &mut *guard;
         own.side.compare(&self.board, &mut pass.seen);
         pass.caller.tell_class(&self.board, own);
-        let moves = juggle_under(alloc, self, own, who, moment);
+        let turn = Turn { who, moment };
+        let moves = upkeep_under(alloc, self, rt, own, &mut pass.hands, turn);
         own.side.share(&self.board, &mut pass.seen);
         moves
     }

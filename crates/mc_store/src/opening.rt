@@ -1,7 +1,8 @@
 //! Opening a store.
-ghost use Rattle.std.specs.Prelude.{◌≡◌, ◌≤◌, ◌<◌, ◌+◌, ◌-◌, ◌^◌, [], IfOk};
+ghost use Rattle.std.specs.Prelude.{◌≡◌, ◌≤◌, ◌<◌, ◌+◌, ◌-◌, ◌^◌, [], IfOk, length};
 ghost use Rattle.mc_item.specs.Config.{IsBounded, IsSound};
 ghost use Rattle.mc_board.specs.{Histories.blind, Views.locks_of, Views.AreOwners};
+ghost use Rattle.mc_hits.specs.Views.{AreHands, tables_of, untouched_hands};
 ghost use Rattle.mc_store.specs.{Locked.histories_for, Locked.locks_for, Passes.ArePasses, Passes.new_pass};
 
 use crate::caller::Caller;
@@ -12,7 +13,9 @@ use crate::owned_stripe::OwnedStripe;
 use crate::pass::Pass;
 use crate::shelf::Shelf;
 use crate::store::Store;
-use mc_board::{Board, Owner, Seen};
+use crate::tokens::Tokens;
+use mc_board::{Owner, Seen};
+use mc_hits::Hands;
 use mc_item::{ClassNo, Config, NoMemory, StripeNo};
 use mc_segment::ClassState;
 use mc_stripe::StripeState;
@@ -58,19 +61,26 @@ fn open_class<N: Named>(
 }
 
 // The pass of the caller whose history has this place on the board, after the locks. It has had no turn and seen nothing.
-fn open_pass<N: Named>(config: &Config, place: usize, owner: Owner, seen: Seen) -> Pass<N>
+fn open_pass<N: Named>(
+    config: &Config,
+    place: usize,
+    owner: Owner,
+    seen: Seen,
+    hands: Hands,
+) -> Pass<N>
     requires config { (config.now ≡ N.config) × IsBounded N.config }
     requires place { (locks_for N.config ≤ place) × (place < histories_for N.config) }
     requires owner { owner ≡ record { board = N.board.table; lock = place; history = [] } }
     requires seen { seen ≡ record { board = N.board.table; sight = blind } }
-    ensures { result ≡ new_pass (place - locks_for N.config) }
+    requires hands { hands ≡ untouched_hands (tables_of N.queues) (place - locks_for N.config) }
+    ensures { result ≡ new_pass (tables_of N.queues) (place - locks_for N.config) }
 {
     let number = (place - locks_in(config)) as u32;
-    Pass::new(Caller::new(number, owner), seen)
+    Pass::new(Caller::new(number, owner), seen, hands)
 }
 
 // How many locks a configuration asks for: one for each stripe and each class.
-fn locks_in(config: &Config) -> usize
+pub(crate) fn locks_in(config: &Config) -> usize
     requires { IsBounded config.now }
     ensures { result ≡ locks_for config.now }
 {
@@ -99,24 +109,30 @@ fn shelf_for<N: Named>(alloc: Global, config: &Config) -> Result<Shelf<N>, NoMem
 impl<N: Named> Store<N> {
     /// Opens a store without events, and returns it with a pass for each caller, which has seen nothing.
     /// The configuration has been checked. The board has as many histories as the store needs: stripes first, then classes, then
-    /// callers. `owners` and `seen` are those that `Board::open` returned with it. Keys are hashed with the seed, on which no
+    /// callers. Each class has a queue of hits, and each caller has its hands in them. Keys are hashed with the seed, on which no
     /// reply depends. The memory that closing needs is reserved here. Errors: `NoMemory` if an allocation fails.
     pub fn open(
         alloc: Global,
         config: Config,
-        board: Board,
-        owners: Vec<Owner>,
-        seen: Seen,
+        tokens: Tokens,
         seed: RandomState,
     ) -> Result<(Store<N>, Vec<Pass<N>>), NoMemory>
-        requires board { board ≡ N.board }
+        requires board { tokens.board ≡ N.board }
         requires config { (config ≡ N.config) × IsBounded N.config × IsSound N.config }
         requires locks { locks_of N.board.counts ≡ histories_for N.config }
-        requires owners { AreOwners N.board.table (histories_for N.config) owners.items }
-        requires seen { seen ≡ record { board = N.board.table; sight = blind } }
-        ensures passes { IfOk result (λ r. ArePasses N.config.callers r.1.items) }
+        requires owners { AreOwners N.board.table (histories_for N.config) tokens.owners.items }
+        requires seen { tokens.seen ≡ record { board = N.board.table; sight = blind } }
+        requires queues { (tokens.queues ≡ N.queues) × (length N.queues ≡ length N.config.sizes) }
+        requires hands { AreHands (tables_of N.queues) N.config.callers tokens.hands.items }
+        ensures passes { IfOk result (λ r. ArePasses (tables_of N.queues) N.config.callers r.1.items) }
     {
-        let mut seen = seen;
+        let Tokens {
+            board,
+            owners,
+            mut seen,
+            queues,
+            mut hands,
+        } = tokens;
         let locks = locks_in(&config);
         let mut stripes = Vec::new(alloc);
         let mut classes = Vec::new(alloc);
@@ -131,7 +147,8 @@ impl<N: Named> Store<N> {
                 let class = open_class::<N>(alloc, &config, place, owner, token);
                 classes.push(Mutex::new(class))?;
             } else {
-                passes.push(open_pass::<N>(&config, place, owner, token))?;
+                let own = hands.remove(0);
+                passes.push(open_pass::<N>(&config, place, owner, token, own))?;
             }
         }
         let shelf = Mutex::new(shelf_for::<N>(alloc, &config)?);
@@ -140,6 +157,7 @@ impl<N: Named> Store<N> {
             config,
             stripes,
             classes,
+            queues,
             shelf,
             of: PhantomData,
         };

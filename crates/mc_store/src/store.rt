@@ -1,4 +1,4 @@
-//! The shared store: stripes and slab classes, each under a lock of its own.
+//! The shared store: stripes and slab classes, each under a lock of its own, and the queues of hits, which need no lock.
 ghost use Rattle.std.specs.Prelude.{◌≡◌, ◌<◌};
 ghost use Rattle.std.specs.Sync.Mutex.{mutex_guard_value};
 ghost use Rattle.mc_evidence.specs.Setting.{IsClass};
@@ -9,17 +9,20 @@ use crate::named::Named;
 use crate::shelf::Shelf;
 use crossbeam_utils::Backoff;
 use mc_board::Board;
+use mc_hits::Queues;
 use mc_item::{ClassNo, Config, StripeNo};
 use std::marker::{Model, PhantomData};
 use std::sync::{Mutex, MutexGuard, Wait};
 
-/// A store that threads share: its stripes and its classes, each under a lock of its own. Contracts see its configuration.
+/// A store that threads share: its stripes and its classes, each under a lock of its own, and for each class a queue of hits.
+/// Contracts see its configuration.
 #[derive(Drop)]
 pub struct Store<N: Named> {
     pub(crate) board: Board,
     pub(crate) config: Config,
     pub(crate) stripes: Vec<Mutex<LockedStripe<N>>>,
     pub(crate) classes: Vec<Mutex<LockedClass<N>>>,
+    pub(crate) queues: Queues,
     pub(crate) shelf: Mutex<Shelf<N>>,
     pub(crate) of: PhantomData<N>,
 }
@@ -41,7 +44,9 @@ impl<N: Named> Model for Store<N> {
         × IsBounded N.config
         × (locks_of N.board.counts ≡ histories_for N.config)
         × (vec_len s.stripes ≡ N.config.stripes)
-        × (vec_len s.classes ≡ length N.config.sizes) };
+        × (vec_len s.classes ≡ length N.config.sizes)
+        × (s.queues ≡ N.queues)
+        × (length N.queues ≡ length N.config.sizes) };
 }
 
 // Locks, and waits if it has to. A lock is held for about a microsecond, and to sleep and be woken takes longer. So it first

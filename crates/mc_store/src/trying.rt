@@ -24,7 +24,7 @@ fn is_made(tried: &Result<Tried, Fault>) -> bool
     ensures { result ≡ words.is_made tried.now }
 {
     match tried {
-        Ok(Tried::Made(_)) => true,
+        Ok(Tried::Made { .. }) => true,
         Ok(Tried::Wants(_)) => false,
         Err(_) => false,
     }

@@ -10,6 +10,8 @@ mod ends;
 mod full_classes;
 mod full_neighbours;
 mod full_store;
+mod hits;
+mod many_hits;
 mod opening;
 mod own_locks;
 mod playing;

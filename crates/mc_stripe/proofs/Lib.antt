@@ -2,3 +2,4 @@ pub mod StateLemmas
 pub mod PutLemmas
 pub mod TryLemmas
 pub mod CountLemmas
+pub mod WakeLemmas

@@ -15,15 +15,15 @@ abbrev pub class_beside : ClassNo → Option Link → Option ClassNo
 class_beside class None = None
 class_beside class (Some link) = if link.class.0 == class.0 then None else Some link.class
 
--- the class of an item that is removed or woken
+-- the class of an item that is removed
 abbrev pub class_of_fate : Fate → Option ClassNo
 class_of_fate fates.Untouched = None
 class_of_fate (fates.Renewed cost expiry old) = None
 class_of_fate (fates.Goes link) = Some link.class
-class_of_fate (fates.Woken link) = Some link.class
+class_of_fate (fates.Woken link) = None
 
 -- the classes that are wanted. For a new version: its class, and that of the old
--- item if it is another one. Else: the class of an item that is removed or woken
+-- item if it is another one. Else: the class of an item that is removed
 abbrev pub classes_of : Need → Option Link → Fate → Classes
 classes_of (needs.Fresh class) old fate = record { home = Some class; other = class_beside class old }
 classes_of needs.Nothing old fate = record { home = None; other = class_of_fate fate }

@@ -7,12 +7,11 @@ ghost use Rattle.mc_item.specs.Measure as measure;
 ghost use Rattle.mc_item.specs.declared.answer.Need.TheVariants as needs;
 ghost use Rattle.mc_item.specs.declared.fault.Fault.TheVariants as faults;
 ghost use Rattle.mc_item.specs.declared.{item.ClassNo.ClassNo as TheClass, reply.Room.Room as TheRoom};
-ghost use Rattle.mc_stripe.specs.{Plan.woken_by, Plan.woken_link, StripeCalls.KeepsSite, StripeState.cache_now, Wanting.IsTaken};
+ghost use Rattle.mc_stripe.specs.{StripeCalls.KeepsSite, Wanting.IsTaken};
 ghost use Rattle.mc_stripe.specs.Trying.{IsDone, IsLeft, IsOpen, MakesRow, ItemsStay};
 
 use crate::counting::count_item;
 use crate::deleting::delete_item;
-use crate::fate::wakes;
 use crate::getting::get_item;
 use crate::huge::refuse_huge;
 use crate::putting::put_item;
@@ -21,9 +20,7 @@ use crate::state::{StripeState, is_full};
 use crate::touching::touch_item;
 use crate::trying::{Done, Made, Turn};
 use crate::wanting::{Given, Want};
-use mc_item::{
-    Command, Content, Expiry, Fault, Item, Key, Link, NoMemory, Site, Step, cost, expiry_of,
-};
+use mc_item::{Command, Content, Expiry, Fault, Item, Key, NoMemory, Site, Step, cost, expiry_of};
 use std::alloc::Global;
 use std::collections::HashMap;
 use std::hash::RandomState;
@@ -59,7 +56,7 @@ fn make(
     ensures spare { spare items.old ≤ spare items.new + 1 }
 {
     match command {
-        Command::Get(key) => get_item(items, key, moment, given, keeps),
+        Command::Get(key) => get_item(items, key, moment, keeps),
         Command::Store {
             verb,
             key,
@@ -91,39 +88,18 @@ fn make(
         }
         Command::Touch(key, exptime) => {
             let expiry = expiry_at(exptime, moment);
-            Ok(touch_item(items, key, expiry, moment, given))
+            Ok(touch_item(items, key, expiry, moment))
         }
         Command::Delete(key) => Ok(delete_item(items, key, moment, given)),
     }
 }
 
 impl StripeState {
-    // The link of a key's item, if a hit at the moment would wake it.
-    #[inline(always)]
-    fn woken_at(&self, key: &Key, moment: u64) -> Option<Link>
-        ensures { result ≡ woken_link ((cache_now self.now).items key.now) moment }
-    {
-        let item = self.find(key)?;
-        (!item.dead(moment) && wakes(item)).then_some(item.link)
-    }
-
-    /// Returns the link of the item that this command would wake at the moment. A get or a touch wakes a live item that isn't
-    /// ACTIVE, if the hit makes it so. Other commands wake nothing.
-    #[inline(always)]
-    pub fn woken(&self, command: &Command, moment: u64) -> Option<Link>
-        ensures { result ≡ woken_by self.now command.now moment }
-    {
-        match command {
-            Command::Get(key) => self.woken_at(key, moment),
-            Command::Touch(key, _) => self.woken_at(key, moment),
-            _ => None,
-        }
-    }
-
     /// Tries a command with the classes that it is given. If it can be made, adds its event and
-    /// returns what was done. If not, changes nothing and returns what it wants. A hit that wakes its
-    /// item wants the item's class. The key is of this stripe, and the moment is at most 2^62 seconds.
-    /// A given room is a link of the home class that no event names, or a refusal of that class.
+    /// returns what was done. If not, changes nothing and returns what it wants. A hit wants no class:
+    /// if it wakes its item, the fate has the item's link. The key is of this stripe, and the moment is
+    /// at most 2^62 seconds. A given room is a link of the home class that no event names, or a refusal
+    /// of that class.
     /// Errors: `HistoryFull` exactly if the history has no place left, `NoMemory`
     /// if the allocator refuses. Items and history are then unchanged.
     pub fn attempt(

@@ -1,8 +1,7 @@
 //! What becomes of a key's item and its chunk by a command.
-ghost use Rattle.std.specs.Prelude.{◌≡◌, ◌&&◌, not, Some};
-ghost use Rattle.mc_item.specs.Item as items;
+ghost use Rattle.std.specs.Prelude.{◌≡◌, Some};
 ghost use Rattle.mc_stripe.specs.Plan as plans;
-ghost use Rattle.mc_stripe.specs.Plan.{fate_of};
+ghost use Rattle.mc_stripe.specs.Plan.{fate_of, woken_of};
 
 use mc_item::{Change, Expiry, Item, Key, Link, Marks, cost};
 
@@ -23,12 +22,17 @@ pub enum Fate {
     Woken(Link),
 }
 
-/// Returns whether a hit would wake an item: the item isn't ACTIVE, and would become so.
-#[inline(always)]
-pub(crate) fn wakes(item: &Item) -> bool
-    ensures { result ≡ ((items.hit_marks item.now.marks).active && not item.now.marks.active) }
-{
-    item.marks.hit().active && !item.marks.active
+impl Fate {
+    /// Returns the link of the item that a hit woke, if one did.
+    #[inline(always)]
+    pub fn woken(self) -> Option<Link>
+        ensures { result ≡ woken_of self }
+    {
+        match self {
+            Fate::Woken(link) => Some(link),
+            Fate::Untouched | Fate::Renewed { .. } | Fate::Goes(_) => None,
+        }
+    }
 }
 
 /// Returns what becomes of a key's item and its chunk by a change of the item.
@@ -39,8 +43,8 @@ pub(crate) fn fate_by_change(key: &Key, item: &Item, change: &Change) -> Fate
         Change::Stays => Fate::Untouched,
         Change::Counted(_, _) => Fate::Untouched,
         Change::Goes => Fate::Goes(item.link),
-        Change::Hit(marks) => woken_by(item, *marks),
-        Change::Touched(_, marks) => woken_by(item, *marks),
+        Change::Hit(marks) => fate_by_marks(item, *marks),
+        Change::Touched(_, marks) => fate_by_marks(item, *marks),
         Change::Renewed(new) => Fate::Renewed {
             cost: cost(key.bytes().len() as u64, new.value.bytes().len() as u64),
             expiry: new.expiry,
@@ -49,8 +53,9 @@ pub(crate) fn fate_by_change(key: &Key, item: &Item, change: &Change) -> Fate
     }
 }
 
-// What new marks of an item mean for its class.
-fn woken_by(item: &Item, marks: Marks) -> Fate
+/// Returns what becomes of an item by new marks.
+#[inline(always)]
+pub(crate) fn fate_by_marks(item: &Item, marks: Marks) -> Fate
     ensures { result ≡ plans.hit_fate marks.active (Some item.now) }
 {
     if marks.active && !item.marks.active {

@@ -1,13 +1,14 @@
 //! The `get` command.
-ghost use Rattle.std.specs.Prelude.{◌≡◌, Bool, Some, IfOk, IfErr, OnErr, nat_eq, true};
+ghost use Rattle.std.specs.Prelude.{◌≡◌, Some, IfOk, IfErr, OnErr, nat_eq, true};
 ghost use Rattle.std.specs.{Cmp.Lexicographic.pointwise, HashMap.get, HashMap.spare};
-ghost use Rattle.mc_item.specs.{Answer.get_row, Cache.changed};
+ghost use Rattle.mc_item.specs.{Answer.get_row, Cache.changed, Item.hit_marks};
 ghost use Rattle.mc_item.specs.declared.reply.Room.TheVariants as rooms;
-ghost use Rattle.mc_stripe.specs.Trying.{IsLeft, MakesRow, ItemsStay};
+ghost use Rattle.mc_stripe.specs.{Plan.hit_fate, Trying.IsLeft, Trying.MakesRow, Trying.ItemsStay};
+ghost use Rattle.mc_stripe.specs.declared.wanting.Given.{Given};
 
-use crate::fate::{Fate, wakes};
+use crate::fate::fate_by_marks;
 use crate::trying::{Done, Made, untouched};
-use crate::wanting::{Given, Want};
+use crate::wanting::Want;
 use mc_item::{Item, Key, NoMemory, Reply, Room};
 use std::collections::HashMap;
 use std::hash::RandomState;
@@ -26,9 +27,9 @@ fn noted_if(reply: &Reply, keeps: bool) -> Result<Option<Reply>, NoMemory>
 
 // Hits an item and replies with its value. The copies are made first, since they may fail.
 #[inline(always)]
-fn hit_item(item: &mut Item, fate: Fate, keeps: bool) -> Result<Made, NoMemory>
+fn hit_item(item: &mut Item, keeps: bool) -> Result<Made, NoMemory>
     ensures reply { IfOk result (λ m. m.done.reply ≡ ((get_row (Some item.old)).answer rooms.Keep).reply) }
-    ensures done { IfOk result (λ m. (m.done.fate ≡ fate) × (m.done.room ≡ rooms.Keep) × (m.added ≡ 0)) }
+    ensures done { IfOk result (λ m. (m.done.fate ≡ hit_fate (hit_marks item.old.marks).active (Some item.old)) × (m.done.room ≡ rooms.Keep) × (m.added ≡ 0)) }
     ensures noted { IfOk result (λ m. keeps ≡ true → m.noted ≡ Some m.done.reply) }
     ensures item { IfOk result (λ m. changed (Some item.old) ((get_row (Some item.old)).answer rooms.Keep).change ≡ Some item.new) }
     ensures err { OnErr result (item.new ≡ item.old) }
@@ -39,7 +40,9 @@ fn hit_item(item: &mut Item, fate: Fate, keeps: bool) -> Result<Made, NoMemory>
         cas: item.cas,
     };
     let noted = noted_if(&reply, keeps)?;
-    item.marks = item.marks.hit();
+    let marks = item.marks.hit();
+    let fate = fate_by_marks(item, marks);
+    item.marks = marks;
     let done = Done {
         reply,
         room: Room::Keep,
@@ -52,34 +55,26 @@ fn hit_item(item: &mut Item, fate: Fate, keeps: bool) -> Result<Made, NoMemory>
     })
 }
 
-/// Makes a get, with one look-up. A hit that wakes its item wants the item's class.
+/// Makes a get, with one look-up. A hit wants no class: if it wakes its item, the fate has the link.
 #[inline(always)]
 pub(crate) fn get_item(
     items: &mut HashMap<Key, Item, RandomState>,
     key: &Key,
     moment: u64,
-    given: &Given,
     keeps: bool,
 ) -> Result<Result<Made, Want>, NoMemory>
-    ensures made { IfOk result (λ t. IfOk t (MakesRow keeps given.now (get (pointwise nat_eq) items.old) (get (pointwise nat_eq) items.new) key.now
-        (get_row (get (pointwise nat_eq) items.old key.now)) moment)) }
-    ensures wants { IfOk result (λ t. IfErr t (IsLeft given.now (get (pointwise nat_eq) items.old) (get (pointwise nat_eq) items.new) key.now moment
-        (get_row (get (pointwise nat_eq) items.old key.now)))) }
+    ensures made { (given : Given) → IfOk result (λ t. IfOk t (MakesRow keeps given (get (pointwise nat_eq) items.old) (get (pointwise nat_eq) items.new)
+        key.now (get_row (get (pointwise nat_eq) items.old key.now)) moment)) }
+    ensures wants { (given : Given) → IfOk result (λ t. IfErr t (IsLeft given (get (pointwise nat_eq) items.old) (get (pointwise nat_eq) items.new)
+        key.now moment (get_row (get (pointwise nat_eq) items.old key.now)))) }
     ensures err { OnErr result (ItemsStay (get (pointwise nat_eq) items.old) (get (pointwise nat_eq) items.new)) }
     ensures spare { spare items.new ≡ spare items.old }
 {
     let Some(item) = items.get_mut(key) else {
         return Ok(Ok(untouched(Reply::Miss, Reply::Miss, 0)));
     };
-    let link = item.link;
     if item.dead(moment) {
-        return Ok(Err(Want::Burial(link)));
+        return Ok(Err(Want::Burial(item.link)));
     }
-    if !wakes(item) {
-        return Ok(Ok(hit_item(item, Fate::Untouched, keeps)?));
-    }
-    if let Err(want) = given.item(link) {
-        return Ok(Err(want));
-    }
-    Ok(Ok(hit_item(item, Fate::Woken(link), keeps)?))
+    Ok(Ok(hit_item(item, keeps)?))
 }

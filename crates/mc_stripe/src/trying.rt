@@ -13,7 +13,7 @@ pub struct Turn {
     pub moment: u64,
 }
 
-/// What a command did: its reply, the room that it took, and what became of its key's chunks.
+/// What a command did: its reply, the room that it took, and what became of its key's item and its chunk.
 #[derive(Drop)]
 pub struct Done {
     pub reply: Reply,

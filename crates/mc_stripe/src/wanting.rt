@@ -166,7 +166,7 @@ impl Given {
         }
     }
 
-    // Checks that the class of an item is held, since the item is to be removed or woken. If not, that class is wanted.
+    // Checks that the class of an item is held, since the item is to be removed. If not, that class is wanted.
     #[inline(always)]
     pub(crate) fn item(&self, link: Link) -> Result<(), Want>
         ensures covers { OnOk result (Covers self.now (record { home = None; other = Some link.class })) }

@@ -9,6 +9,7 @@ mod examples;
 mod failures;
 mod faulty;
 mod histories;
+mod hits;
 mod let_go;
 mod long;
 mod pieces;

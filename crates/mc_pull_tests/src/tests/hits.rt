@@ -1,7 +1,8 @@
-//! Hits and other commands on six items, five of which lie in COLD: what both histories say then, worked out by hand.
+//! Hits and other commands on six items, five of which lie in COLD: what both histories say then, worked out by hand. A hit moves
+//! no entry.
 use super::asking::Asked::{At, Delete, Get, Juggle, See, Set};
 use super::asking::{DOES, ITEM, NONE, Row, play};
-use super::seeing::Seen::{LastOfClass, LastOfStripe, Lengths, List, Time};
+use super::seeing::Seen::{LastOfStripe, Lengths, List, Time};
 use super::trying::Lend::{Home, Nothing, Other};
 use mc_item::Seg::{Cold, Warm};
 use std::test::Fail;
@@ -32,39 +33,26 @@ static SIX: [Row; 7] = [
     ),
 ];
 
-static HIT_IN_COLD: [Row; 14] = [
+const WOKEN: &str = "a value, 0 of class 1 woken";
+
+static HIT_IN_COLD: [Row; 13] = [
     (At(1001), Nothing, "", NONE),
     (Get(b'a'), Other, "a value", DOES),
     (See(Lengths), Nothing, "12 7", NONE),
     (At(1002), Nothing, "", NONE),
-    (
-        Get(b'a'),
-        Other,
-        "a value",
-        [
-            "[moves 0 from Cold to Warm for Hit past [] at 8]",
-            "",
-            "[does][cools [97]]",
-        ],
-    ),
-    (See(Lengths), Nothing, "13 9", NONE),
-    (See(List(Cold)), Nothing, "[1, 2, 3, 4]", NONE),
-    (See(List(Warm)), Nothing, "[0]", NONE),
-    (
-        See(LastOfClass),
-        Nothing,
-        "moves 0 from Cold to Warm for Hit past [] at 8",
-        NONE,
-    ),
-    (See(LastOfStripe), Nothing, "cools [97]", NONE),
-    (See(Time(0)), Nothing, "1002", NONE),
+    (Get(b'a'), Nothing, WOKEN, DOES),
+    (See(Lengths), Nothing, "12 8", NONE),
+    (See(List(Cold)), Nothing, "[0, 1, 2, 3, 4]", NONE),
+    (See(List(Warm)), Nothing, "[]", NONE),
+    (See(LastOfStripe), Nothing, "does", NONE),
+    (See(Time(0)), Nothing, "1000", NONE),
     (At(1003), Nothing, "", NONE),
     (Get(b'a'), Other, "a value", DOES),
-    (See(Lengths), Nothing, "13 10", NONE),
+    (See(Lengths), Nothing, "12 9", NONE),
 ];
 
 #[test]
-fn a_hit_in_cold_goes_to_warm_and_is_cooled(rt: HostRuntime) -> Result<(), Fail> {
+fn a_hit_in_cold_tells_its_link_and_moves_nothing(rt: HostRuntime) -> Result<(), Fail> {
     play(
         &rt,
         rt.alloc(),
@@ -76,7 +64,7 @@ fn a_hit_in_cold_goes_to_warm_and_is_cooled(rt: HostRuntime) -> Result<(), Fail>
 
 const MISS: Row = (Get(b'z'), Other, "Miss", DOES);
 
-static FULL_HISTORY: [Row; 17] = [
+static FULL_HISTORY: [Row; 18] = [
     (At(1001), Nothing, "", NONE),
     (Get(b'a'), Other, "a value", DOES),
     MISS,
@@ -89,14 +77,15 @@ static FULL_HISTORY: [Row; 17] = [
     MISS,
     (See(Lengths), Nothing, "12 15", NONE),
     (At(1002), Nothing, "", NONE),
-    (Get(b'a'), Other, "HistoryFull", NONE),
-    (See(Lengths), Nothing, "12 15", NONE),
-    (See(List(Cold)), Nothing, "[0, 1, 2, 3, 4]", NONE),
-    MISS,
+    (Get(b'a'), Nothing, WOKEN, DOES),
     (See(Lengths), Nothing, "12 16", NONE),
+    (Get(b'a'), Nothing, "HistoryFull", NONE),
+    (Delete(b'b'), Other, "HistoryFull", NONE),
+    (See(Lengths), Nothing, "12 16", NONE),
+    (See(List(Cold)), Nothing, "[0, 1, 2, 3, 4]", NONE),
 ];
 
-// The hit needs two places of the stripe's history, which has one.
+// The hit that wakes an item takes the last place of the stripe's history.
 #[test]
 fn after_a_full_history_nothing_stands(rt: HostRuntime) -> Result<(), Fail> {
     play(
@@ -108,19 +97,19 @@ fn after_a_full_history_nothing_stands(rt: HostRuntime) -> Result<(), Fail> {
     )
 }
 
-// The second hit of an item would wake it.
+// The second hit of an item wakes it.
 static NO_CLASS: [Row; 7] = [
     (At(1001), Nothing, "", NONE),
     (Get(b'a'), Nothing, "a value", DOES),
     (At(1002), Nothing, "", NONE),
-    (Get(b'a'), Nothing, ITEM, NONE),
+    (Get(b'a'), Nothing, WOKEN, DOES),
     (Delete(b'b'), Nothing, ITEM, NONE),
     (Delete(b'z'), Nothing, "NotFound", DOES),
-    (See(Lengths), Nothing, "12 8", NONE),
+    (See(Lengths), Nothing, "12 9", NONE),
 ];
 
 #[test]
-fn a_first_hit_needs_no_class_and_a_second_one_does(rt: HostRuntime) -> Result<(), Fail> {
+fn no_hit_needs_a_class(rt: HostRuntime) -> Result<(), Fail> {
     play(
         &rt,
         rt.alloc(),

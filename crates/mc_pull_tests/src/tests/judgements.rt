@@ -1,6 +1,6 @@
 //! Judgements by direct calls: what no walk of a store meets.
-use super::judging::Judged::{Delete, Get, IsDead, Set, Tail};
-use super::rows::Ask::{Judge, See};
+use super::judging::Judged::{Delete, Get, IsDead, IsHit, Set, Tail};
+use super::rows::Ask::{Judge, See, Store};
 use super::rows::{Row, SIX, SIX_AND_A_DIES, play};
 use super::seeing::Seen::{LastOfClass, LastOfStripe, Lengths, List, Time};
 use mc_item::Seg::{Cold, Hot, Warm};
@@ -72,6 +72,46 @@ fn an_item_is_dead_or_alive(rt: HostRuntime) -> Result<(), Fail> {
         one_class(alloc, 6)?,
         SIX_AND_A_DIES.as_slice(),
         DEAD_OR_ALIVE.as_slice(),
+    )
+}
+
+static BY_A_HIT: [Row; 19] = [
+    (Judge(IsHit(1000)), "Stayed"),
+    // One hit sets FETCHED alone.
+    (Judge(Get(b'a')), "asked"),
+    (Judge(IsHit(1000)), "Stayed"),
+    // It is ACTIVE, and dead at 1001.
+    (Judge(Get(b'a')), "asked"),
+    (Judge(IsHit(1001)), "Stayed"),
+    (See(Lengths), "12 8"),
+    (Judge(IsHit(1000)), "ToWarm"),
+    (
+        See(LastOfClass),
+        "moves 0 from Cold to Warm for Hit past [] at 8",
+    ),
+    (See(LastOfStripe), "cools [97]"),
+    (See(Lengths), "13 9"),
+    // The tail's item has gone, then its key has an ACTIVE item with another link.
+    (Judge(Delete(b'b')), "asked"),
+    (Judge(IsHit(1000)), "Stranger"),
+    (Store(b'b', 0, 1000), "stored"),
+    (Judge(Get(b'b')), "asked"),
+    (Judge(Get(b'b')), "asked"),
+    (Judge(IsHit(1000)), "Stranger"),
+    (See(List(Cold)), "[1, 2, 3, 4]"),
+    (See(List(Warm)), "[0]"),
+    (See(Lengths), "14 13"),
+];
+
+#[test]
+fn a_hit_is_judged_by_the_items_mark_death_and_link(rt: HostRuntime) -> Result<(), Fail> {
+    let alloc = rt.alloc();
+    play(
+        &rt,
+        alloc,
+        one_class(alloc, 7)?,
+        SIX_AND_A_DIES.as_slice(),
+        BY_A_HIT.as_slice(),
     )
 }
 

@@ -16,8 +16,12 @@ pub enum Judged {
     Tail(Seg, u64),
     /// Whether COLD's tail is dead at this moment.
     IsDead(u64),
+    /// What a hit makes of COLD's tail at this moment.
+    IsHit(u64),
     /// A get of the key of one letter at 1000.
     Get(u8),
+    /// A touch at 1000, with this exptime.
+    Touch(u8, i64),
     /// A delete at 1000.
     Delete(u8),
     /// A set at 1000, whose link has no entry.
@@ -109,6 +113,29 @@ fn ask_tail(world: &mut World, moment: u64) -> Result<Option<Done>, Fault> {
     Ok(Some(done))
 }
 
+// Judges COLD's tail by a hit.
+fn hit_tail(world: &mut World, moment: u64) -> Result<Option<Done>, Fault> {
+    let alloc = world.alloc;
+    let class = &mut world.class;
+    let Some(entry) = class.from_tail(Seg::Cold, 0) else {
+        return Ok(None);
+    };
+    let number = entry.number;
+    let stripe = &mut world.stripe;
+    let config = &world.config;
+    let done = settle(
+        alloc,
+        class,
+        stripe,
+        WHO,
+        number,
+        &Judge::Hit,
+        moment,
+        config,
+    )?;
+    Ok(Some(done))
+}
+
 // The text of an outcome.
 fn text_of_done(alloc: Global, done: Result<Option<Done>, Fault>) -> Result<String, Fail> {
     match done {
@@ -130,7 +157,11 @@ pub(super) fn tell_judged(world: &mut World, judged: Judged) -> Result<String, F
     match judged {
         Judged::Tail(seg, moment) => text_of_done(alloc, judge_tail(world, seg, moment)),
         Judged::IsDead(moment) => text_of_done(alloc, ask_tail(world, moment)),
+        Judged::IsHit(moment) => text_of_done(alloc, hit_tail(world, moment)),
         Judged::Get(letter) => text_of_ask(world, Command::Get(key(alloc, letter)?)),
+        Judged::Touch(letter, exptime) => {
+            text_of_ask(world, Command::Touch(key(alloc, letter)?, exptime))
+        }
         Judged::Delete(letter) => text_of_ask(world, Command::Delete(key(alloc, letter)?)),
         Judged::Set(letter) => {
             text_of_ask(world, storage(alloc, Verb::Set, letter, 0, 0, &[letter])?)

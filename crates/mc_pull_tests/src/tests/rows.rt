@@ -1,5 +1,6 @@
 //! Tests as rows: what is done or looked at, and what it tells.
 use super::by_list::{Walked, tell_walked};
+use super::hitting::{Taken, tell_taken};
 use super::judging::{Judged, tell_judged};
 use super::seeing::{Seen, tell_seen};
 use mc_item::Config;
@@ -18,6 +19,8 @@ pub enum Ask {
     Walk(Walked),
     /// A judgement.
     Judge(Judged),
+    /// A hit that is taken to the class.
+    Hit(Taken),
     /// What is there.
     See(Seen),
 }
@@ -70,6 +73,7 @@ fn tell(world: &mut World, ask: Ask) -> Result<String, Fail> {
         Ask::Store(letter, exptime, moment) => text_of_store(world, letter, exptime, moment),
         Ask::Walk(walked) => tell_walked(world, walked),
         Ask::Judge(judged) => tell_judged(world, judged),
+        Ask::Hit(taken) => tell_taken(world, taken),
         Ask::See(seen) => tell_seen(world.alloc, &world.class, &world.stripe, seen),
     }
 }

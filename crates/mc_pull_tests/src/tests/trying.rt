@@ -6,7 +6,7 @@ ghost use Rattle.mc_item.specs.declared.item.Who.{Who};
 ghost use Rattle.mc_pull.specs.Attempt.{IsNoted, IsReady};
 ghost use Rattle.mc_pull_tests.specs.Met.{AreMet};
 
-use mc_item::{ClassEvent, ClassNo, Command, Config, Fault, Numbers, Reply, StripeNo, Who};
+use mc_item::{ClassEvent, ClassNo, Command, Config, Fault, Link, Numbers, Reply, StripeNo, Who};
 use mc_pull::{Tried, attempt_none, attempt_one, attempt_two, offer_home, offer_other, ready};
 use mc_segment::ClassState;
 use mc_stripe::{Given, StripeState, Turn};
@@ -172,9 +172,21 @@ fn text_of_reply(alloc: Global, reply: Reply) -> Result<String, Fail> {
     }
 }
 
+// The reply, and the link of the item that a hit made ACTIVE.
+fn text_of_made(alloc: Global, reply: Reply, woken: Option<Link>) -> Result<String, Fail> {
+    let text = text_of_reply(alloc, reply)?;
+    match woken {
+        None => Ok(text),
+        Some(link) => Ok(format!(in alloc;
+            "{text}, {} of class {} woken",
+            link.number, link.class.0
+        )?),
+    }
+}
+
 fn text_of_tried(alloc: Global, tried: Result<Tried, Fault>) -> Result<String, Fail> {
     match tried {
-        Ok(Tried::Made(reply)) => text_of_reply(alloc, reply),
+        Ok(Tried::Made { reply, woken }) => text_of_made(alloc, reply, woken),
         Ok(Tried::Wants(want)) => Ok(format!(in alloc; "{want:?}")?),
         Err(fault) => Ok(format!(in alloc; "{fault:?}")?),
     }

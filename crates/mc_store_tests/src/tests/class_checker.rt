@@ -2,10 +2,10 @@
 //! entry has one command that was given its chunk, by the same call, for the same key.
 ghost use Rattle.std.specs.Prelude.{◌≡◌, length};
 
-use super::ends::stripe_event;
+use super::ends::{class_event, stripe_event};
 use mc_history::History;
 use mc_item::{ClassEvent, ClassNo, Did, Link, Linked, Room, StripeEvent, StripeNo, Who};
-use mc_segment::{ClassState, ShownClass};
+use mc_segment::ClassState;
 use mc_store::Final;
 use mc_stripe::ShownStripe;
 use mc_testing::{Checked, PlainClass};
@@ -85,15 +85,6 @@ fn find_given<R: Abort>(rt: &R, given: &mut Vec<Given>, link: Link, linked: &Lin
         }
     }
     assert_eq!(rt; many, 1);
-}
-
-// The event at a place of a class's history.
-fn class_event<'a, R: Abort>(
-    rt: &R,
-    history: &'a History<ClassEvent, ShownClass>,
-    place: usize,
-) -> &'a ClassEvent {
-    history.get(place).expect(rt, "an event")
 }
 
 // Ends the test where something is wrong.

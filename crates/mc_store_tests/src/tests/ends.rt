@@ -3,8 +3,8 @@ ghost use Rattle.std.specs.Prelude.{◌≡◌, ◌≤◌, ◌<◌, length};
 
 use super::opening::Shape;
 use mc_history::History;
-use mc_item::{ClassNo, StripeEvent, StripeNo};
-use mc_segment::ClassState;
+use mc_item::{ClassEvent, ClassNo, StripeEvent, StripeNo, Why};
+use mc_segment::{ClassState, ShownClass};
 use mc_store::Final;
 use mc_stripe::ShownStripe;
 use std::alloc::Global;
@@ -19,6 +19,8 @@ pub(super) enum End {
     OfClass(u32),
     /// The events of a stripe.
     OfStripe(u32),
+    /// The moves of a class's entries by hits.
+    ByHits(u32),
     /// The answered commands that name a caller.
     Named(u32),
 }
@@ -32,6 +34,15 @@ pub(super) fn stripe_event<'a, R: Abort>(
     history: &'a History<StripeEvent, ShownStripe>,
     place: usize,
 ) -> &'a StripeEvent {
+    history.get(place).expect(rt, "an event")
+}
+
+/// The event at a place of a class's history.
+pub(super) fn class_event<'a, R: Abort>(
+    rt: &R,
+    history: &'a History<ClassEvent, ShownClass>,
+    place: usize,
+) -> &'a ClassEvent {
     history.get(place).expect(rt, "an event")
 }
 
@@ -65,6 +76,26 @@ fn named<R: Abort>(rt: &R, ledger: &Final, stripes: u32, caller: u32) -> u64
     many
 }
 
+// Whether an event is the move of an entry by a hit.
+fn is_by_hit(event: &ClassEvent) -> bool {
+    match event {
+        ClassEvent::Shifted(shifted) => shifted.why == Why::Hit,
+        _ => false,
+    }
+}
+
+// How many moves of a class's entries were by hits.
+fn by_hits<R: Abort>(rt: &R, class: &ClassState) -> u64 {
+    let history = class.history();
+    let mut many = 0u64;
+    for place in 0..history.len() {
+        if is_by_hit(class_event(rt, history, place)) {
+            many = many.wrapping_add(1);
+        }
+    }
+    many
+}
+
 // The class of a number.
 fn class_of<'a, R: Abort>(rt: &R, ledger: &'a Final, shape: Shape, class: u32) -> &'a ClassState
     requires { length ledger.now.classes ≡ shape.classes }
@@ -88,6 +119,7 @@ fn counted<R: Abort>(rt: &R, alloc: Global, ledger: &Final, shape: Shape, end: E
         End::Entries(class) => class_of(rt, ledger, shape, class).count(),
         End::OfClass(class) => class_of(rt, ledger, shape, class).history().len() as u64,
         End::OfStripe(stripe) => of_stripe(rt, ledger, shape, stripe),
+        End::ByHits(class) => by_hits(rt, class_of(rt, ledger, shape, class)),
         End::Named(caller) => named(rt, ledger, shape.stripes, caller),
     }
 }

@@ -1,13 +1,10 @@
 //! Stores for the tests: what they are opened with, by a name that the caller picks.
 ghost use Rattle.std.specs.Prelude.{◌≡◌, IfOk, length};
 ghost use Rattle.mc_item.specs.Config.{IsBounded, IsSound};
-ghost use Rattle.mc_board.specs.{Histories.blind, Views.locks_of, Views.AreOwners};
-ghost use Rattle.mc_store.specs.Locked.{histories_for};
 ghost use Rattle.mc_store_tests.specs.Opening.{AreParts};
 
-use mc_board::{Board, Owner, Seen};
-use mc_item::{Config, ConfigFault, NoMemory, Numbers};
-use mc_store::{Final, Named, Pass, Store};
+use mc_item::{Config, ConfigFault, Numbers};
+use mc_store::{Final, Named, Pass, Store, Tokens};
 use std::alloc::Global;
 use std::hash::RandomState;
 use std::process::Abort;
@@ -17,9 +14,7 @@ use std::random::RandomSource;
 #[derive(Drop)]
 pub(super) struct Parts {
     pub(super) config: Config,
-    pub(super) board: Board,
-    pub(super) owners: Vec<Owner>,
-    pub(super) seen: Seen,
+    pub(super) tokens: Tokens,
     pub(super) seed: RandomState,
 }
 
@@ -29,17 +24,6 @@ fn checked(config: Config) -> Result<Config, ConfigFault>
     ensures bounded { IfOk result IsBounded }
 {
     Ok(config.check()?)
-}
-
-// A board for the locks and the callers of a configuration.
-fn board_for(alloc: Global, config: &Config) -> Result<(Board, Vec<Owner>, Seen), NoMemory>
-    requires { IsBounded config.now }
-    ensures locks { IfOk result (λ r. locks_of r.0.counts ≡ histories_for config.now) }
-    ensures owners { IfOk result (λ r. AreOwners r.0.table (histories_for config.now) r.1.items) }
-    ensures seen { IfOk result (λ r. r.2 ≡ record { board = r.0.table; sight = blind }) }
-{
-    let locks = config.stripes as usize + config.sizes.as_slice().len();
-    Board::open(alloc, locks + config.callers as usize)
 }
 
 /// So many stripes and callers, and two classes of 96 and of 120 bytes with these many chunks.
@@ -68,16 +52,14 @@ pub(super) fn two_classes<R: Abort>(
 /// The parts of a store of a configuration.
 pub(super) fn parts_for<R: Abort + RandomSource>(rt: &R, alloc: Global, config: Config) -> Parts
     ensures config { result.config ≡ config }
-    ensures fit { AreParts result.board result.config result.owners.items result.seen }
+    ensures fit { AreParts result.tokens.board result.config result.tokens.queues result.tokens }
 {
     let config = checked(config).expect(rt, "a sound configuration");
-    let (board, owners, seen) = board_for(alloc, &config).expect(rt, "a board");
+    let tokens = Tokens::open(alloc, &config).expect(rt, "tokens");
     let seed = RandomState::new(rt).expect(rt, "a seed");
     Parts {
         config,
-        board,
-        owners,
-        seen,
+        tokens,
         seed,
     }
 }
@@ -88,18 +70,16 @@ pub(super) fn opened<N: Named, R: Abort>(
     alloc: Global,
     parts: Parts,
 ) -> (Store<N>, Vec<Pass<N>>)
-    requires named { (parts.board ≡ N.board) × (parts.config ≡ N.config) }
-    requires fit { AreParts N.board N.config parts.owners.items parts.seen }
+    requires named { (parts.tokens.board ≡ N.board) × (parts.config ≡ N.config) × (parts.tokens.queues ≡ N.queues) }
+    requires fit { AreParts N.board N.config N.queues parts.tokens }
     ensures { length result.1.items ≡ N.config.callers }
 {
     let Parts {
         config,
-        board,
-        owners,
-        seen,
+        tokens,
         seed,
     } = parts;
-    Store::<N>::open(alloc, config, board, owners, seen, seed).expect(rt, "a store")
+    Store::<N>::open(alloc, config, tokens, seed).expect(rt, "a store")
 }
 
 /// How many stripes and classes a store has.

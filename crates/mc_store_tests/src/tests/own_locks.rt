@@ -171,8 +171,8 @@ fn ask_under_a_lock<N: Named + Send + Sync, R: Threads + Abort + Wait + Sync>(
     alloc: Global,
     parts: Parts,
 )
-    requires named { (parts.board ≡ N.board) × (parts.config ≡ N.config) }
-    requires fit { AreParts N.board N.config parts.owners.items parts.seen }
+    requires named { (parts.tokens.board ≡ N.board) × (parts.config ≡ N.config) × (parts.tokens.queues ≡ N.queues) }
+    requires fit { AreParts N.board N.config N.queues parts.tokens }
     requires four { N.config.stripes ≡ 4 }
     requires two { length N.config.sizes ≡ 2 }
 {

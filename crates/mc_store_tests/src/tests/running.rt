@@ -275,8 +275,8 @@ fn check_store<N: Named, R: Abort + Wait>(
     rows: &[Row],
     ends: &[Ended],
 )
-    requires named { (parts.board ≡ N.board) × (parts.config ≡ N.config) }
-    requires fit { AreParts N.board N.config parts.owners.items parts.seen }
+    requires named { (parts.tokens.board ≡ N.board) × (parts.config ≡ N.config) × (parts.tokens.queues ≡ N.queues) }
+    requires fit { AreParts N.board N.config N.queues parts.tokens }
     requires shape { (N.config.stripes ≡ shape.stripes) × (length N.config.sizes ≡ shape.classes) }
 {
     let (store, mut passes) = opened::<N, R>(rt, alloc, parts);

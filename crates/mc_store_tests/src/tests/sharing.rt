@@ -181,8 +181,8 @@ fn share_store<N: Named + Send + Sync, R: Threads + Abort + Wait + Sync>(
     before: &[Row],
     behind: &[Row],
 )
-    requires named { (parts.board ≡ N.board) × (parts.config ≡ N.config) }
-    requires fit { AreParts N.board N.config parts.owners.items parts.seen }
+    requires named { (parts.tokens.board ≡ N.board) × (parts.config ≡ N.config) × (parts.tokens.queues ≡ N.queues) }
+    requires fit { AreParts N.board N.config N.queues parts.tokens }
     requires shape { (N.config.stripes ≡ shape.stripes) × (length N.config.sizes ≡ shape.classes) }
     requires two { shape.classes ≡ 2 }
 {

@@ -48,7 +48,7 @@ const LARGER_OVER: Classes = Classes {
     other: Some(ClassNo(1)),
 };
 
-// The class of an item that goes or is woken.
+// The class of an item that goes.
 const ITEM: Classes = Classes {
     home: None,
     other: Some(ClassNo(1)),
@@ -263,8 +263,8 @@ static FOUND: [Row; 5] = [
     (
         FETCHED,
         Get,
-        HELD,
-        ITEM,
+        Nothing,
+        NOTHING,
         "Value { flags: 5, value: Value { bytes: [120] }, cas: 6 }; Item { flags: 5, value: Value { bytes: [120] }, expiry: Never, cas: 6, link: Link { class: ClassNo(1), number: 1 }, marks: Marks { fetched: true, active: true } }",
     ),
     (
@@ -277,8 +277,8 @@ static FOUND: [Row; 5] = [
     (
         FETCHED,
         Touch(10),
-        HELD,
-        ITEM,
+        Nothing,
+        NOTHING,
         "Touched; Item { flags: 5, value: Value { bytes: [120] }, expiry: At(1010), cas: 6, link: Link { class: ClassNo(1), number: 1 }, marks: Marks { fetched: true, active: true } }",
     ),
     (X, Delete, HELD, ITEM, "Deleted; none"),

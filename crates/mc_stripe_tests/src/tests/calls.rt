@@ -5,10 +5,10 @@ ghost use Rattle.mc_stripe.specs.StripeState.{cache_now};
 
 use super::noted::reply_in;
 use super::plain::{classes_of, reply_text, text};
-use super::trying::{Held, Lent, held_for, text_of_try, want_text, woken};
+use super::trying::{Held, Lent, held_for, text_of_try, want_text};
 use super::{Asked, WHO, b, command_of};
 use mc_item::{ClassNo, Command, Fault, Key, Link, Verb, Who};
-use mc_stripe::{Done, Fate, Given, Other, StripeState, Turn, Want};
+use mc_stripe::{Done, Fate, Given, StripeState, Turn, Want};
 use mc_testing::is_dead;
 use std::alloc::Global;
 use std::process::Abort;
@@ -91,16 +91,6 @@ pub(super) fn text_of_unheld<R: Abort>(
     let got = text_of_try(rt, alloc, stripe, WHO, asked, moment, Held::Nothing);
     let last = text_of_last(rt, alloc, stripe);
     unheld_text(rt, alloc, &got, last.as_str())
-}
-
-/// The link of the item that a hit at a moment would wake.
-pub(super) fn text_of_woken<R: Abort>(
-    rt: &R,
-    alloc: Global,
-    stripe: &StripeState,
-    moment: u64,
-) -> String {
-    link_text(rt, alloc, woken(rt, alloc, stripe, moment))
 }
 
 // The link of the item that a new version replaced.
@@ -227,7 +217,7 @@ fn cool_in_room(stripe: &mut StripeState, key: Key) -> &'static str
     }
 }
 
-/// Makes a get of the key `b`, which wakes its item of class 1, and clears the mark that it leaves, with room that was made
+/// Makes a get of the key `b`, which wakes its item, and clears the mark that it leaves, with room that was made
 /// for both before: the second call can't be refused for want of memory.
 pub(super) fn cools_without_memory<R: Abort>(
     rt: &R,
@@ -241,10 +231,7 @@ pub(super) fn cools_without_memory<R: Abort>(
     };
     let given = Given {
         home: None,
-        other: Some(Other {
-            class: ClassNo(1),
-            places: 0,
-        }),
+        other: None,
     };
     stripe.reserve(2).expect(rt, "room");
     assert!(rt; stripe.owns(asked.key()));

@@ -78,7 +78,7 @@ fn left<R: Abort>(rt: &R, found: Option<&Item>, change: Change) -> Option<Item> 
     }
 }
 
-// What becomes of an item's chunk by new marks.
+// What becomes of an item by new marks.
 fn woken_by(item: &Item, marks: Marks) -> Fate {
     if marks.active && !item.marks.active {
         Fate::Woken(item.link)
@@ -87,7 +87,7 @@ fn woken_by(item: &Item, marks: Marks) -> Fate {
     }
 }
 
-// What becomes of the chunk of the key `b` by a change of the item that it has.
+// What becomes of the chunk of the key `b`, or of its item's mark ACTIVE, by a change of the item.
 fn fate_over(item: &Item, change: &Change) -> Fate {
     match change {
         Change::Stays => Fate::Untouched,
@@ -103,7 +103,7 @@ fn fate_over(item: &Item, change: &Change) -> Fate {
     }
 }
 
-// What becomes of chunks by a change of an item that may be absent.
+// The same of an item that may be absent.
 fn fate_of(found: Option<&Item>, change: &Change) -> Fate {
     match found {
         Some(item) => fate_over(item, change),

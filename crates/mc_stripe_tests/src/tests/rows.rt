@@ -1,7 +1,7 @@
 //! A test of stripe 1 of 4 is a list of rows: what is done or looked at, and what it tells.
 use super::calls::{
     cool, cools_without_memory, expire, is_b_active, is_dead_at, take, text_of_last, text_of_reply,
-    text_of_set, text_of_unheld, text_of_woken,
+    text_of_set, text_of_unheld,
 };
 use super::noted::text_of_event;
 use super::plain::{text, text_of_item};
@@ -28,8 +28,6 @@ pub(super) enum Ask {
     Misses(u32),
     // A command at a moment that is given nothing: its reply, or that it was given back.
     Unheld(Asked, u64),
-    // The link of the item that a hit at a moment would wake.
-    Woken(u64),
     // A set of this text at a moment, where just the class of the new version is held: the link that was replaced.
     Set(&'static str, u64),
     // Room for so many events.
@@ -163,7 +161,6 @@ fn tell<R: Abort>(rt: &R, alloc: Global, stripe: &mut StripeState, ask: Ask) -> 
         Ask::FullTurn(turn, asked) => text_of_turn(rt, alloc, stripe, turn, asked, true),
         Ask::Misses(gets) => text_of_misses(rt, alloc, stripe, gets),
         Ask::Unheld(asked, moment) => text_of_unheld(rt, alloc, stripe, asked, moment),
-        Ask::Woken(moment) => text_of_woken(rt, alloc, stripe, moment),
         Ask::Set(set, moment) => text_of_set(rt, alloc, stripe, set, moment),
         _ => keep_up(rt, alloc, stripe, ask),
     }

@@ -6,7 +6,7 @@ use super::calls::expire;
 use super::trying::Held::{Both, Home, Nothing, Other};
 use super::trying::Lent::{Link as Chunk, Nothing as Keep, Refusal};
 use super::trying::Told::{Fails, Made, Wants};
-use super::trying::{Row, Told, check_tries, opened, woken};
+use super::trying::{Row, Told, check_tries, opened};
 use super::{Asked, WHO};
 use mc_item::{ClassNo, Expiry, Fault, Link, Verb};
 use mc_stripe::Fate::{Goes, Renewed, Untouched, Woken};
@@ -161,8 +161,8 @@ fn an_absent_key_wants_a_class_only_for_what_is_stored(rt: HostRuntime) {
 
 const NINE_SHOWN: &str = "Value { flags: 7, value: Value { bytes: [57] }, cas: 10 }";
 
-// The first hit leaves the mark FETCHED, the second one ACTIVE; no more does a third.
-static LIVE: [Row; 14] = [
+// The first hit leaves the mark FETCHED, the second one ACTIVE; no more does a third. What is held is of no matter to a hit.
+static LIVE: [Row; 13] = [
     NINE,
     (
         Store(Verb::Add, "8"),
@@ -184,15 +184,14 @@ static LIVE: [Row; 14] = [
     (Decr(1), Nothing, Made("Number(8)", Keep, Untouched)),
     (Incr(1), Nothing, Made("Number(9)", Keep, Untouched)),
     (Get, Nothing, Made(NINE_SHOWN, Keep, Untouched)),
-    (Get, Nothing, Wants(ITEM)),
-    (Touch(0), Other(2, 9), Wants(ITEM)),
-    (Get, Home(1, Chunk, 9), Wants(ITEM)),
-    (Get, Other(1, 0), Made(NINE_SHOWN, Keep, Woken(OLD))),
+    (Get, Nothing, Made(NINE_SHOWN, Keep, Woken(OLD))),
+    (Get, Home(1, Chunk, 0), Made(NINE_SHOWN, Keep, Untouched)),
+    (Touch(0), Other(1, 0), Made("Touched", Keep, Untouched)),
     (Touch(100), Nothing, Made("Touched", Keep, Untouched)),
 ];
 
 #[test]
-fn the_hit_that_wakes_an_item_wants_its_class(rt: HostRuntime) {
+fn the_hit_that_wakes_an_item_wants_no_class(rt: HostRuntime) {
     let mut stripe = opened(&rt, rt.alloc());
     check_tries(&rt, rt.alloc(), &mut stripe, 1000, LIVE.as_slice());
 }
@@ -387,24 +386,31 @@ fn a_grown_number_dies_with_the_old_one(rt: HostRuntime) {
     check_tries(&rt, rt.alloc(), &mut stripe, 1000, GROWS.as_slice());
 }
 
-static HIT: [Row; 1] = [(Touch(100), Nothing, Made("Touched", Keep, Untouched))];
+const NINE_FIRST: &str = "Value { flags: 7, value: Value { bytes: [57] }, cas: 2 }";
 
-static HIT_AGAIN: [Row; 1] = [(Touch(100), Other(1, 0), Made("Touched", Keep, Woken(OLD)))];
+static HIT: [Row; 2] = [
+    NINE_UNTIL,
+    (Touch(100), Nothing, Made("Touched", Keep, Untouched)),
+];
 
-// The links that a hit would wake after none, one and two hits of an item, and at the moment of its death.
+static HIT_TOO_LATE: [Row; 2] = [
+    (Touch(100), Nothing, Wants(Burial(OLD))),
+    (Get, Nothing, Wants(Burial(OLD))),
+];
+
+static HIT_IN_TIME: [Row; 3] = [
+    (Touch(100), Nothing, Made("Touched", Keep, Woken(OLD))),
+    (Touch(100), Nothing, Made("Touched", Keep, Untouched)),
+    (Get, Nothing, Made(NINE_FIRST, Keep, Untouched)),
+];
+
+// The item dies at the moment 1100.
 #[test]
 fn the_second_hit_of_a_live_item_wakes_it(rt: HostRuntime) {
     let mut stripe = opened(&rt, rt.alloc());
-    let mut got = [None; 5];
-    got[0] = woken(&rt, rt.alloc(), &stripe, 1000);
-    check_tries(&rt, rt.alloc(), &mut stripe, 1000, DIES.as_slice());
-    got[1] = woken(&rt, rt.alloc(), &stripe, 1000);
     check_tries(&rt, rt.alloc(), &mut stripe, 1000, HIT.as_slice());
-    got[2] = woken(&rt, rt.alloc(), &stripe, 1099);
-    got[3] = woken(&rt, rt.alloc(), &stripe, 1100);
-    check_tries(&rt, rt.alloc(), &mut stripe, 1000, HIT_AGAIN.as_slice());
-    got[4] = woken(&rt, rt.alloc(), &stripe, 1000);
-    assert_eq!(rt; got, [None, None, Some(OLD), None, None]);
+    check_tries(&rt, rt.alloc(), &mut stripe, 1100, HIT_TOO_LATE.as_slice());
+    check_tries(&rt, rt.alloc(), &mut stripe, 1099, HIT_IN_TIME.as_slice());
 }
 
 static MISSES: [Row; 16] = [MISS; 16];

@@ -2,8 +2,8 @@
 use super::calls::{asserts_owned, fault_text};
 use super::noted::{did_text, text_of_event};
 use super::plain::{Plain, by_table, classes_of, reply_text, text, text_of_item};
-use super::{Asked, WHO, b, checked, command_of, four_stripes};
-use mc_item::{ClassNo, Command, Fault, Link, Room, StripeNo, Who};
+use super::{Asked, WHO, checked, command_of, four_stripes};
+use mc_item::{ClassNo, Fault, Link, Room, StripeNo, Who};
 use mc_stripe::{Classes, Done, Fate, Given, Home, Other, StripeState, Turn, Want};
 use mc_testing::may_give;
 use std::alloc::Global;
@@ -282,14 +282,4 @@ pub(super) fn check_tries<R: Abort>(
         let (got, wanted) = row_texts(rt, alloc, stripe, moment, *row);
         assert_eq!(rt; got.as_str(), wanted.as_str(), "at row {place}");
     }
-}
-
-/// The link that a hit of the key `b` would wake.
-pub(super) fn woken<R: Abort>(
-    rt: &R,
-    alloc: Global,
-    stripe: &StripeState,
-    moment: u64,
-) -> Option<Link> {
-    stripe.woken(&Command::Get(b(rt, alloc)), moment)
 }

@@ -1,11 +1,12 @@
-//! Which commands are made that are given nothing, and which are given back since they touch a chunk, or may.
+//! Which commands are made that are given nothing, and which are given back since they touch a chunk, or may. A hit is made, and
+//! leaves its mark.
 use super::Asked::{Decr, Delete, Get, Incr, Store, Touch};
-use super::rows::Ask::{Answer, Events, Item, Misses, Unheld, Woken};
+use super::rows::Ask::{Answer, Events, Item, Misses, Unheld};
 use super::rows::{Row, play};
 use mc_item::Verb;
 
-const FETCHED: &str =
-    "Item { flags: 7, value: Value { bytes: [57] }, expiry: Never, cas: 10, link: Link { class: ClassNo(1), number: 5 }, marks: Marks { fetched: true, active: false } }";
+const ACTIVE: &str =
+    "Item { flags: 7, value: Value { bytes: [57] }, expiry: Never, cas: 10, link: Link { class: ClassNo(1), number: 5 }, marks: Marks { fetched: true, active: true } }";
 
 // A number of 7 digits needs more than the largest class has, which is 70 bytes; one of two needs class 2.
 static NO_CHUNK: [Row; 17] = [
@@ -26,18 +27,12 @@ static NO_CHUNK: [Row; 17] = [
     ),
     (
         Unheld(Get, 1000),
-        "given back after Value { flags: 7, value: Value { bytes: [57] }, cas: 10 }",
+        "Value { flags: 7, value: Value { bytes: [57] }, cas: 10 }",
     ),
-    (
-        Unheld(Touch(0), 1000),
-        "given back after Value { flags: 7, value: Value { bytes: [57] }, cas: 10 }",
-    ),
-    (
-        Unheld(Delete, 1000),
-        "given back after Value { flags: 7, value: Value { bytes: [57] }, cas: 10 }",
-    ),
-    (Events, "10"),
-    (Item, FETCHED),
+    (Unheld(Touch(0), 1000), "Touched"),
+    (Unheld(Delete, 1000), "given back after Touched"),
+    (Events, "12"),
+    (Item, ACTIVE),
 ];
 
 #[test]
@@ -49,35 +44,41 @@ static WORD: [Row; 7] = [
     (Answer(Store(Verb::Set, "x")), "Stored"),
     (Unheld(Decr(1), 1000), "NonNumeric"),
     (Unheld(Touch(5), 1000), "Touched"),
-    (Unheld(Touch(5), 1000), "given back after Touched"),
+    (Unheld(Touch(5), 1000), "Touched"),
     (Unheld(Incr(1), 1005), "given back after Touched"),
     (Unheld(Delete, 1005), "given back after Touched"),
-    (Events, "3"),
+    (Events, "4"),
 ];
 
 #[test]
-fn no_word_is_counted_and_no_item_is_woken_without_a_class(rt: HostRuntime) {
+fn no_word_is_counted_and_an_item_is_woken_without_a_class(rt: HostRuntime) {
     play(&rt, rt.alloc(), WORD.as_slice());
 }
 
-// The item has the link of the first event, and the second hit makes it ACTIVE; at the moment 1005 it is dead.
-static TOLD: [Row; 11] = [
+const ACTIVE_UNTIL: &str =
+    "Item { flags: 7, value: Value { bytes: [57] }, expiry: At(1005), cas: 2, link: Link { class: ClassNo(1), number: 0 }, marks: Marks { fetched: true, active: true } }";
+
+const NINE: &str = "Value { flags: 7, value: Value { bytes: [57] }, cas: 2 }";
+
+const AFTER_NINE: &str =
+    "given back after Value { flags: 7, value: Value { bytes: [57] }, cas: 2 }";
+
+// The second hit makes the item ACTIVE; at the moment 1005 it is dead.
+static WOKEN: [Row; 9] = [
     (Answer(Store(Verb::Set, "9")), "Stored"),
     (Unheld(Touch(5), 1000), "Touched"),
-    (Woken(1004), "0 of class 1"),
-    (Unheld(Get, 1004), "given back after Touched"),
-    (Unheld(Touch(0), 1004), "given back after Touched"),
-    (Unheld(Delete, 1004), "given back after Touched"),
-    (Woken(1005), "no link"),
-    (Unheld(Get, 1005), "given back after Touched"),
-    (Unheld(Touch(0), 1005), "given back after Touched"),
-    (Unheld(Delete, 1005), "given back after Touched"),
-    (Events, "2"),
+    (Unheld(Get, 1004), NINE),
+    (Unheld(Delete, 1004), AFTER_NINE),
+    (Unheld(Get, 1005), AFTER_NINE),
+    (Unheld(Touch(0), 1005), AFTER_NINE),
+    (Unheld(Delete, 1005), AFTER_NINE),
+    (Events, "3"),
+    (Item, ACTIVE_UNTIL),
 ];
 
 #[test]
-fn a_hit_that_would_wake_names_the_link(rt: HostRuntime) {
-    play(&rt, rt.alloc(), TOLD.as_slice());
+fn a_hit_makes_a_live_item_active_without_a_class(rt: HostRuntime) {
+    play(&rt, rt.alloc(), WOKEN.as_slice());
 }
 
 static FULL: [Row; 2] = [(Misses(16), "16"), (Unheld(Get, 1000), "HistoryFull")];

@@ -90,11 +90,11 @@ static DEAD: [Row; 5] = [
 // What happened to a stripe, the moment at which a command is asked, and the link of the item that is dead then.
 type State = (&'static [rows::Row], u64, Option<Link>);
 
-// The class of an item that is touched: that it goes, is woken, or is replaced by a version of another class.
+// The class of an item whose chunk is touched: that it goes, or is replaced by a version of another class.
 fn class_touched(need: Need, fate: Fate) -> Option<ClassNo> {
     match fate {
-        Fate::Untouched => None,
-        Fate::Goes(link) | Fate::Woken(link) => Some(link.class),
+        Fate::Untouched | Fate::Woken(_) => None,
+        Fate::Goes(link) => Some(link.class),
         Fate::Renewed { old, .. } => match (need, old) {
             (Fresh(class), Some(link)) if class.0 != link.class.0 => Some(link.class),
             _ => None,

@@ -1,5 +1,6 @@
 use Rattle.std.proofs.Common.{◌≡◌, ◌∙◌, List, ap, arith, length, map, slice_get, slice_index_or, sym, subst}
 use Rattle.std.proofs.lemmas.List.{length-map}
+use Rattle.mc_hits.specs.Views.{tables_of}
 use Rattle.mc_store.specs.{Finals.AreClasses, Finals.AreStripes, Finals.FinalView, Passes.ArePasses, Passes.PassView}
 use Rattle.mc_driver.specs.{Jobs.HasWorked, Jobs.ends_in, Left.IsRunDone, Run.limits_of}
 use Rattle.mc_driver.proofs.{JobLemmas.all_start, RunLeavesLemmas.store_left, RunLemmas.run_left, RunLemmas.written_back}
@@ -7,7 +8,7 @@ use Rattle.mc_driver.proofs.running.run_named.Goals as goal
 
 pub run_jobs-requires-clause-first : goal.run_jobs-requires-clause-first
 run_jobs-requires-clause-first g c = λ lifetimes met.
-    all_start (λ job. job.calls.pass) g.N.Named.config c.as_mut_slice.result.now c.in_ok-store.passes.items g.N.Named.config.callers
+    all_start (λ job. job.calls.pass) g.N.Named.config g.N.Named.queues c.as_mut_slice.result.now c.in_ok-store.passes.items g.N.Named.config.callers
     (ap (λ js. map (λ job. job.calls.pass) js) c.as_mut_slice.ensures.value ∙ c.in_ok-jobs.ensures.passes) c.in_ok-store.ensures.passes c.requires.config.1.some_stripes
 
 pub end_all-requires-clause-room : goal.end_all-requires-clause-room
@@ -32,9 +33,9 @@ returns g c =
     let back = written_back c.in_ok-jobs.jobs.items done c.in_ok-jobs.jobs.len c.in_ok-jobs.jobs.ok.0 many in
     let limits : c.limits_for-limits.result ≡ limits_of config = c.limits_for-limits.ensures ∙ ap limits_of c.requires.config.0 in
     let begun = c.as_mut_slice.result.now in
-    let passes = subst (ArePasses config.callers) (sym (ap (λ js. map (λ job. job.calls.pass) js) c.as_mut_slice.ensures.value ∙ c.in_ok-jobs.ensures.passes)) c.in_ok-store.ensures.passes in
+    let passes = subst (ArePasses (tables_of g.N.Named.queues) config.callers) (sym (ap (λ js. map (λ job. job.calls.pass) js) c.as_mut_slice.ensures.value ∙ c.in_ok-jobs.ensures.passes)) c.in_ok-store.ensures.passes in
     let passes_are = c.end_all.ensures.passes ∙ ap (λ js. map (λ job. job.calls.pass) js) back in
-    let left = run_left g.S.Source.coming g.S.Source.failures g.K.Sink.taken g.K.Sink.failures config c.args.upkeep.now (λ job. job.calls.pass) (λ job. job.work) (λ job. job.outcome)
+    let left = run_left g.S.Source.coming g.S.Source.failures g.K.Sink.taken g.K.Sink.failures config g.N.Named.queues c.args.upkeep.now (λ job. job.calls.pass) (λ job. job.work) (λ job. job.outcome)
     begun done c.args.scripts.items final all all_classes c.run_jobs.ensures.many passes (ap (λ js. map (λ job. job.work) js) c.as_mut_slice.ensures.value ∙ c.in_ok-jobs.ensures.works)
     (λ i d below.
     subst (λ l. HasWorked g.S.Source.coming g.S.Source.failures g.K.Sink.taken g.K.Sink.failures config l c.args.upkeep.now

@@ -22,8 +22,10 @@ returns-in-Made g c =
     let turn = c.args.turn in
     let s = c.args.own.now.stripe in
     let tried = rw c.in-Made.is at c.in_ok-reply.ensures.tried in
-    ends_made config command turn s s tried.uses.alive (searched_itself config turn.who command turn.moment s s refl) (site_itself s) c.try_alone.new.own c.args.caller.now c.try_alone.new.caller c.in-Made.reply
-    c.law.ensures.made_with c.try_alone.ensures.site (made_alone config s c.try_alone.new.own c.args.caller.now c.args.caller.now c.try_alone.new.caller command turn c.in-Made.reply refl tried)
+    ends_made config command turn s s tried.uses.alive (searched_itself config turn.who command turn.moment s s refl) (site_itself s) c.try_alone.new.own c.args.caller.now c.try_alone.new.caller
+    (record { reply = c.in-Made.reply; woken = c.in-Made.woken })
+    c.law.ensures.made_with c.try_alone.ensures.site (made_alone config s c.try_alone.new.own c.args.caller.now c.args.caller.now c.try_alone.new.caller command turn
+    (record { reply = c.in-Made.reply; woken = c.in-Made.woken }) refl tried)
 
 pub returns-in-Wants : goal.returns-in-Wants
 returns-in-Wants g c =

@@ -12,7 +12,7 @@ returns-in-Made g c =
     let s = c.args.own.now.stripe in
     let made = rw c.in-Made.is at c.in_ok-reply.ensures.tried in
     ends_made config command turn s s made.alive (searched_itself config turn.who command turn.moment s s refl) (site_itself s) c.try_home.new.own
-    c.args.caller.now c.try_home.new.caller c.in-Made.reply c.law.ensures.made_with c.try_home.ensures.site made
+    c.args.caller.now c.try_home.new.caller (record { reply = c.in-Made.reply; woken = c.in-Made.woken }) c.law.ensures.made_with c.try_home.ensures.site made
 
 pub answer_at_home-requires-clause-begun : goal.answer_at_home-requires-clause-begun
 answer_at_home-requires-clause-begun g c =

@@ -97,11 +97,12 @@ returns-in-Made g c =
     (rw c.in-Burial.is at c.requires.wants) c.in_ok-bury-in-Burial.ensures.lost in
     let end = c.try_alone.new.own in
     let caller = c.try_alone.new.caller in
-    ends_buried config command turn s mid site buried end c.args.caller.now caller (Ok c.in-Made.reply)
+    ends_buried config command turn s mid site buried end c.args.caller.now caller (Ok (record { reply = c.in-Made.reply; woken = c.in-Made.woken }))
     (ends_made config command turn mid mid (buried_alive s mid turn.who command turn.moment site buried)
-    (searched_itself config turn.who command turn.moment mid mid refl) (site_itself mid) end c.args.caller.now caller c.in-Made.reply
+    (searched_itself config turn.who command turn.moment mid mid refl) (site_itself mid) end c.args.caller.now caller (record { reply = c.in-Made.reply; woken = c.in-Made.woken })
     (stripe_made config s mid site c.law.ensures.made_with) c.try_alone.ensures.site
-    (made_alone config mid end c.args.caller.now c.tell_stripe.new.self caller command turn c.in-Made.reply c.tell_stripe.ensures.same (rw c.in-Made.is at c.in_ok-reply-in-Burial.ensures.tried)))
+    (made_alone config mid end c.args.caller.now c.tell_stripe.new.self caller command turn
+    (record { reply = c.in-Made.reply; woken = c.in-Made.woken }) c.tell_stripe.ensures.same (rw c.in-Made.is at c.in_ok-reply-in-Burial.ensures.tried)))
 
 pub returns-in-Classes-left : goal.returns-in-Classes-left
 returns-in-Classes-left g c =

@@ -59,7 +59,7 @@ returns-in-Made g c =
     let mid = c.search.new.own.stripe in
     let alive = c.requires.wants.suffice.alive in
     let searched = searched_walk config command c.args.turn s mid c.args.home.now.class.number alive c.requires.wants.fresh c.search.ensures.walked in
-    ends_made config command c.args.turn s mid alive searched c.search.ensures.site c.try_home.new.own c.args.caller.now c.try_home.new.caller c.in-Made.reply
+    ends_made config command c.args.turn s mid alive searched c.search.ensures.site c.try_home.new.own c.args.caller.now c.try_home.new.caller (record { reply = c.in-Made.reply; woken = c.in-Made.woken })
     c.law.ensures.made_with c.try_home.ensures.site (rw c.in-Made.is at c.in_ok-reply.ensures.tried)
 
 pub refuse-requires-clause-begun : goal.refuse-requires-clause-begun
@@ -115,8 +115,8 @@ returns-in-Made-2 g c =
     let same = ap (λ (t : Stripe). t.history) own ∙ tried.0 in
     let searched = searched_walk config command turn s mid c.args.home.now.class.number alive c.requires.wants.fresh c.search.ensures.walked in
     ends_made config command turn s last alive (searched_same mid last site same command turn.moment config turn.who s searched) (site_both s mid last c.search.ensures.site site)
-    c.try_home-in-Room.new.own c.args.caller.now c.try_home-in-Room.new.caller c.in-Made-2.reply c.law.ensures.made_with c.try_home-in-Room.ensures.site
-    (made_caller config last c.try_home-in-Room.new.own c.args.caller.now c.try_home.new.caller c.try_home-in-Room.new.caller command turn c.in-Made-2.reply tried.1
+    c.try_home-in-Room.new.own c.args.caller.now c.try_home-in-Room.new.caller (record { reply = c.in-Made-2.reply; woken = c.in-Made-2.woken }) c.law.ensures.made_with c.try_home-in-Room.ensures.site
+    (made_caller config last c.try_home-in-Room.new.own c.args.caller.now c.try_home.new.caller c.try_home-in-Room.new.caller command turn (record { reply = c.in-Made-2.reply; woken = c.in-Made-2.woken }) tried.1
     (rw c.in-Made-2.is at c.in_ok-reply-in-Room.ensures.tried))
 
 pub returns-in_err-reply-in-Room : goal.returns-in_err-reply-in-Room

@@ -8,4 +8,5 @@ returns-in-Made g c =
     let command = c.args.command.now in
     let s = c.args.own.now.stripe in
     ends_made config command c.args.turn s s c.requires.suffice.alive (searched_itself config c.args.turn.who command c.args.turn.moment s s refl) (site_itself s)
-    c.try_other.new.own c.args.caller.now c.try_other.new.caller c.in-Made.reply c.law.ensures.made_with c.try_other.ensures.site (rw c.in-Made.is at c.in_ok-reply.ensures.tried)
+    c.try_other.new.own c.args.caller.now c.try_other.new.caller (record { reply = c.in-Made.reply; woken = c.in-Made.woken }) c.law.ensures.made_with
+    c.try_other.ensures.site (rw c.in-Made.is at c.in_ok-reply.ensures.tried)

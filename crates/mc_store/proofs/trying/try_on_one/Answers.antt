@@ -2,7 +2,7 @@ use Rattle.std.proofs.Common.{rules, ◌∷◌, ◌∙◌, [], ap}
 use Rattle.mc_store.specs.Sides.{ClassSide}
 use Rattle.mc_store.proofs.LentClassLemmas.{class_behind}
 use Rattle.mc_store.proofs.OpenTryLemmas.{class_left, first_lent, grow_in, known_in, left_err, left_first, left_same, left_sees, left_stays, left_told}
-use Rattle.mc_store.proofs.OpenTryLemmas.{left_tried, left_unnoted, one_full, one_left, open_class, open_stripe, step_one, stripe_lacks}
+use Rattle.mc_store.proofs.OpenTryLemmas.{left_full, left_tried, left_unnoted, one_left, open_class, open_stripe, step_one, stripe_lacks}
 use Rattle.mc_store.proofs.trying.try_on_one.Goals as goal
 
 pub put_if-requires-clause-behind : goal.put_if-requires-clause-behind
@@ -77,5 +77,5 @@ returns g c =
       unnoted = left_unnoted step known c.tell_owned.ensures.same;
       sees = left_sees step known own end;
       site = search rules;
-      full = λ full. one_full step known lent end c.history.ensures.legal tr.ensures.refusal full;
+      full = λ full. left_full step known end tr.ensures.full full;
     }

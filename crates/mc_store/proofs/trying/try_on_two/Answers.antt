@@ -2,7 +2,7 @@ use Rattle.std.proofs.Common.{rules, ◌∷◌, ◌∙◌, [], ap, subst, sym}
 use Rattle.mc_store.specs.{Callers.asked_for, Passes.CallerView, Passes.HasCalled, Sides.ClassSide}
 use Rattle.mc_store.proofs.LentClassLemmas.{class_behind}
 use Rattle.mc_store.proofs.OpenTryLemmas.{class_left, first_lent, grow_in, known_in, left_err, left_first, left_same, left_sees, left_stays, left_told}
-use Rattle.mc_store.proofs.OpenTryLemmas.{left_tried, left_unnoted, open_class, open_stripe, second_lent, step_two, stripe_lacks, two_full, two_left}
+use Rattle.mc_store.proofs.OpenTryLemmas.{left_full, left_tried, left_unnoted, open_class, open_stripe, second_lent, step_two, stripe_lacks, two_left}
 use Rattle.mc_store.proofs.trying.try_on_two.Goals as goal
 
 pub put_if-requires-clause-behind : goal.put_if-requires-clause-behind
@@ -136,5 +136,5 @@ returns g c =
       unnoted = left_unnoted step known (c.tell_owned-2.ensures.same ∙ c.tell_owned.ensures.same);
       sees = left_sees step known own end;
       site = search rules;
-      full = λ full. two_full step known lent beside end c.history.ensures.legal tr.ensures.refusal full;
+      full = λ full. left_full step known end tr.ensures.full full;
     }

@@ -1,5 +1,6 @@
-use Rattle.std.proofs.Common.{◌≡◌, ◌∷◌, [], ◌<◌, ◌+◌, ap, refl, subst, sym, arith, length}
+use Rattle.std.proofs.Common.{◌≡◌, ◌∙◌, ◌∷◌, [], ◌<◌, ◌+◌, ap, refl, subst, sym, arith, length}
 use Rattle.mc_store.specs.{Callers.call_events, Callers.turns_of, Passes.CallerView}
+use Rattle.mc_hits.proofs.BeforeLemmas.{later_before}
 use Rattle.mc_store.proofs.SeenStripeLemmas.{turn_taken}
 use Rattle.mc_store.proofs.pass.Pass.take_turn.Goals as goal
 
@@ -14,4 +15,7 @@ invariant_of-self g c =
       i.0,
       subst (λ l. length (turns_of l) ≡ c.self.inside.turn + 1) (sym calls) taken.0,
       omega (arith, few),
+      i.3,
+      i.4 ∙ sym (ap (λ (v : CallerView). v.number) c.begin.ensures),
+      later_before c.self.inside.hands.offers c.self.inside.turn (c.self.inside.turn + 1) (omega arith) i.5,
     )

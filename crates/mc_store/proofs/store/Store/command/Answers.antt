@@ -1,10 +1,15 @@
-use Rattle.std.proofs.Common.{◌≡◌, ◌∙◌, ◌<◌, ◌+◌, ℕ, List, ap, arith, inl, inr, length, subst, sym}
+use Rattle.std.proofs.Common.{◌≡◌, ◌∙◌, ◌⊎◌, ◌<◌, ◌+◌, ℕ, List, Result, ap, arith, inl, inr, length, subst, sym}
+use Rattle.std.specs.Prelude.{IfSome, Option}
 use Rattle.mc_item.specs.{Command.key_of, Measure.stripe_of}
-use Rattle.mc_item.specs.declared.{config.Config.Config, item.StripeNo.StripeNo, item.Who.Who}
+use Rattle.mc_item.specs.declared.{config.Config.Config, fault.Fault.Fault, item.Link.Link, item.StripeNo.StripeNo, item.Who.Who, reply.Reply.Reply}
+use Rattle.mc_evidence.specs.Setting.{IsClass}
+use Rattle.mc_hits.specs.{Rule.AreBefore, Views.HandsView}
 use Rattle.mc_board.specs.{Histories.Grows, Histories.HasSeen, Histories.list_at, Views.SeenView}
 use Rattle.mc_board.specs.declared.rule.Sight.{Sight}
+use Rattle.mc_store.specs.{Hits.IsOffered, Hits.OffersOne, Locked.setting_of, Waking.reply_in, Waking.woken_in}
 use Rattle.mc_store.specs.{Held.Ends, Held.IsCallOn, Locked.IsLockedStripe, Passes.HasAsked, Passes.PassView, Passes.caller_of, Passes.next_who, Sides.StripeSide, Sides.stripe_told}
 use Rattle.mc_store.proofs.{SeenStripeLemmas.IsShared, SeenStripeLemmas.asked_now, SeenStripeLemmas.on_err_more, SeenStripeLemmas.shared_by, SeenStripeLemmas.turns_kept, CallerLemmas.on_ok_always}
+use Rattle.mc_store.proofs.{OfferedHitLemmas.woken_class, SeenStripeLemmas.offered_by}
 use Rattle.mc_store.proofs.store.Store.command.Given.{Over}
 use Rattle.mc_store.proofs.store.Store.command.Goals as goal
 use Rattle.mc_store.proofs.store.Store.command.Goals.{After-compare, After-share, in-None, in-Some}
@@ -27,33 +32,33 @@ called g c =
       early = c.requires.early;
     }
 
-pub answer_for-reply-requires-clause-called : goal.answer_for-reply-requires-clause-called
-answer_for-reply-requires-clause-called g c = called g (goal.at.answer_for-reply-requires-clause-called g c).After-compare
+pub answer_for-replied-requires-clause-called : goal.answer_for-replied-requires-clause-called
+answer_for-replied-requires-clause-called g c = called g (goal.at.answer_for-replied-requires-clause-called g c).After-compare
 
-pub answer-reply-requires : goal.answer-reply-requires
-answer-reply-requires g c = record { called = called g (goal.at.answer-reply-requires g c).After-compare }
+pub answer-replied-requires : goal.answer-replied-requires
+answer-replied-requires g c = record { called = called g (goal.at.answer-replied-requires g c).After-compare }
 
 -- how the command ended, by either way
 ends : (g : Over) (c : After-share g) → Ends g.N.Named.config c.compare.new.self.stripe c.match-class_for.own c.pass.inside.caller
-    c.match-class_for.pass-inside.caller c.args.command (record { who = c.in_ok-who.who; moment = c.args.moment }) c.match-class_for.reply
+    c.match-class_for.pass-inside.caller c.args.command (record { who = c.in_ok-who.who; moment = c.args.moment }) c.match-class_for.replied
 ends g c = elim c.match-class_for.branch [
-  | in-Some w ↦ rw (w.own-is, w.pass-inside-is, w.reply-is) w.answer_for-reply.ensures
-  | in-None w ↦ rw (w.own-is, w.pass-inside-is, w.reply-is) w.answer-reply.ensures
+  | in-Some w ↦ rw (w.own-is, w.pass-inside-is, w.replied-is) w.answer_for-replied.ensures
+  | in-None w ↦ rw (w.own-is, w.pass-inside-is, w.replied-is) w.answer-replied.ensures
 ]
 
 -- of the pass it changed its caller alone
-rest : (g : Over) (c : After-share g) → c.match-class_for.pass-inside ≡ record { caller = c.match-class_for.pass-inside.caller; turn = c.pass.inside.turn; seen = c.compare.new.seen }
+rest : (g : Over) (c : After-share g) → c.match-class_for.pass-inside ≡ record { caller = c.match-class_for.pass-inside.caller; turn = c.pass.inside.turn; seen = c.compare.new.seen; hands = c.pass.inside.hands }
 rest g c = elim c.match-class_for.branch [ in-Some w ↦ rw w.pass-inside-is | in-None w ↦ rw w.pass-inside-is ]
 
 -- and what the pass has of it
-shared : (g : Over) (c : goal.After-drop-3 g)
+shared : (g : Over) (c : goal.After-reply_of g)
     → IsShared g.N.Named.config (stripe_of (key_of c.args.command) g.N.Named.config.stripes).0 c.args.pass.now.sight c.share.new.seen.sight
-    c.args.pass.now.calls c.match-class_for.pass-inside.caller.calls (next_who c.args.pass.now) c.args.command c.args.moment c.match-class_for.reply
+    c.args.pass.now.calls c.match-class_for.pass-inside.caller.calls (next_who c.args.pass.now) c.args.command c.args.moment c.reply_of.result
 shared g c =
     let config = g.N.Named.config in
     let before = c.args.pass.now.sight in
     let after = c.share.new.seen.sight in
-    let r = c.match-class_for.reply in
+    let r = c.match-class_for.replied in
     let at = goal.at.returns-clause-replied g c in
     let number = ap (λ (n : StripeNo). n.0) (sym (own_is g at.After-compare)) in
     let pass = c.pass.view_is ∙ c.in_ok-who.ensures.turn in
@@ -63,15 +68,17 @@ shared g c =
     (subst (λ (s : StripeSide). HasSeen (stripe_told s.stripe.history) c.pass.inside.seen.sight s.lock) (sym c.compare.ensures.same.0) c.compare.ensures.behind.seen) in
     let told = subst (λ (s : StripeSide). list_at after.seen s.lock ≡ stripe_told s.stripe.history) c.own-2.view_is c.share.ensures.told in
     let grows = subst (λ (s : StripeSide). Grows s.sight after) c.own-2.view_is c.share.ensures.all in
-    subst (λ (who : Who). IsShared config (stripe_of (key_of c.args.command) config.stripes).0 before after c.args.pass.now.calls
-    c.match-class_for.pass-inside.caller.calls who c.args.command c.args.moment r) c.in_ok-who.ensures.who
-    (shared_by before old_kept new_kept number seen told grows r c.args.pass.now.calls (ends g at.After-share) (ap (λ (p : PassView). p.calls) pass))
+    subst (λ (x : Result Reply Fault). IsShared config (stripe_of (key_of c.args.command) config.stripes).0 before after c.args.pass.now.calls
+    c.match-class_for.pass-inside.caller.calls (next_who c.args.pass.now) c.args.command c.args.moment x) (sym c.reply_of.ensures)
+    (subst (λ (who : Who). IsShared config (stripe_of (key_of c.args.command) config.stripes).0 before after c.args.pass.now.calls
+    c.match-class_for.pass-inside.caller.calls who c.args.command c.args.moment (reply_in r)) c.in_ok-who.ensures.who
+    (shared_by before old_kept new_kept number seen told grows r c.args.pass.now.calls (ends g at.After-share) (ap (λ (p : PassView). p.calls) pass)))
 
 pub returns-clause-replied : goal.returns-clause-replied
 returns-clause-replied g c = (shared g c).replied
 
 pub returns-clause-cut : goal.returns-clause-cut
-returns-clause-cut g c = on_err_more c.match-class_for.reply _ _ inr (shared g c).cut
+returns-clause-cut g c = on_err_more c.reply_of.result _ _ inr (shared g c).cut
 
 pub returns-clause-full : goal.returns-clause-full
 returns-clause-full g c = λ e. inl ((shared g c).full e)
@@ -87,16 +94,74 @@ returns-clause-caller g c = (ends g (goal.at.returns-clause-caller g c).After-sh
 
 pub returns-clause-turn : goal.returns-clause-turn
 returns-clause-turn g c =
-    on_ok_always c.match-class_for.reply (ap (λ p. p.turn) (rest g (goal.at.returns-clause-turn g c).After-share) ∙ ap (λ (p : PassView). p.turn) (c.pass.view_is ∙ c.in_ok-who.ensures.turn))
+    on_ok_always c.reply_of.result (ap (λ p. p.turn) (rest g (goal.at.returns-clause-turn g c).After-share) ∙ ap (λ (p : PassView). p.turn) (c.pass.view_is ∙ c.in_ok-who.ensures.turn))
+
+-- ---- the hit
+
+-- until it is offered the pass's hands are as the call found them
+hands_are : (g : Over) (c : After-share g) → c.match-class_for.pass-inside.hands ≡ c.args.pass.now.hands
+hands_are g c = ap (λ p. p.hands) (rest g c) ∙ ap (λ (p : PassView). p.hands) (c.pass.view_is ∙ c.in_ok-who.ensures.turn)
+
+pub offer-requires-clause-class : goal.offer-requires-clause-class
+offer-requires-clause-class g c =
+    let table = g.N.Named.board.table in
+    let config = g.N.Named.config in
+    let at = (goal.at.offer-requires-clause-class g c).After-share in
+    subst (λ (o : Option Link). IfSome o (λ link. IsClass (setting_of config) link.class)) (sym c.woken_of.ensures)
+    (woken_class table config c.compare.new.self.stripe c.match-class_for.own c.pass.inside.caller c.match-class_for.pass-inside.caller c.args.command
+    (record { who = c.in_ok-who.who; moment = c.args.moment }) c.match-class_for.replied (subst (IsLockedStripe table config) c.own-2.view_is c.own-2.invariant) (ends g at))
+
+pub offer-requires-clause-hands : goal.offer-requires-clause-hands
+offer-requires-clause-hands g c = ap (λ p. p.hands.tables) (rest g (goal.at.offer-requires-clause-hands g c).After-share) ∙ c.pass.invariant.3
+
+pub offer-requires-clause-turn : goal.offer-requires-clause-turn
+offer-requires-clause-turn g c =
+    let at = (goal.at.offer-requires-clause-turn g c).After-share in
+    let old = c.args.pass.now in
+    subst (λ (n : ℕ). AreBefore n c.match-class_for.pass-inside.hands.offers) (sym (ap (λ (w : Who). w.turn) c.in_ok-who.ensures.who))
+    (subst (λ (h : HandsView). AreBefore old.turn h.offers) (sym (hands_are g at))
+    (subst (λ (p : PassView). AreBefore old.turn p.hands.offers) c.in_ok-who.ensures.turn c.in_ok-who.ensures.before))
+
+pub returns-clause-offers : goal.returns-clause-offers
+returns-clause-offers g c =
+    let config = g.N.Named.config in
+    let old = c.args.pass.now in
+    let after = c.share.new.seen.sight in
+    let r = c.match-class_for.replied in
+    let who = c.in_ok-who.who in
+    let at = goal.at.returns-clause-offers g c in
+    let number = ap (λ (n : StripeNo). n.0) (sym (own_is g at.After-compare)) in
+    let pass = c.pass.view_is ∙ c.in_ok-who.ensures.turn in
+    let old_kept = subst (IsLockedStripe g.N.Named.board.table config) (sym c.compare.ensures.same.0) c.own.invariant in
+    let new_kept = subst (IsLockedStripe g.N.Named.board.table config) c.own-2.view_is c.own-2.invariant in
+    let seen = subst (λ (x : Sight). HasSeen (stripe_told c.compare.new.self.stripe.history) x c.compare.new.self.lock) (ap (λ (p : PassView). p.sight) pass)
+    (subst (λ (s : StripeSide). HasSeen (stripe_told s.stripe.history) c.pass.inside.seen.sight s.lock) (sym c.compare.ensures.same.0) c.compare.ensures.behind.seen) in
+    let told = subst (λ (s : StripeSide). list_at after.seen s.lock ≡ stripe_told s.stripe.history) c.own-2.view_is c.share.ensures.told in
+    let grows = subst (λ (s : StripeSide). Grows s.sight after) c.own-2.view_is c.share.ensures.all in
+    let mine : old.hands.caller ≡ who.caller =
+    sym (ap (λ (p : PassView). p.hands.caller) pass) ∙ (c.pass.invariant.4 ∙ (ap (λ (p : PassView). p.caller) pass ∙ sym (ap (λ (w : Who). w.caller) c.in_ok-who.ensures.who))) in
+    let offers = subst (λ (h : HandsView). OffersOne who.turn (woken_in r) h c.offer.new.hands) (hands_are g at.After-share)
+    (subst (λ (o : Option Link). OffersOne who.turn o c.match-class_for.pass-inside.hands c.offer.new.hands) c.woken_of.ensures c.offer.ensures.offers) in
+    subst (λ (w : Who). (c.offer.new.hands ≡ old.hands)
+    ⊎ IsOffered config (stripe_of (key_of c.args.command) config.stripes).0 after w c.args.command c.args.moment old.hands c.offer.new.hands) c.in_ok-who.ensures.who
+    (offered_by old.sight old_kept new_kept number seen told grows r (ends g at.After-share) old.hands c.offer.new.hands mine offers)
 
 pub invariant_of-pass : goal.invariant_of-pass
 invariant_of-pass g c =
     let i = c.pass.invariant in
     let at = (goal.at.invariant_of-pass g c).After-share in
+    let old = c.args.pass.now in
     let turn : c.match-class_for.pass-inside.turn ≡ c.pass.inside.turn = ap (λ p. p.turn) (rest g at) in
-    let kept = turns_kept c.match-class_for.reply (ends g at) in
-    let room = subst (λ (p : PassView). length p.calls < p.turn + p.turn) (sym c.pass.view_is) c.in_ok-who.ensures.room in (
+    let ended = ends g at in
+    let kept = turns_kept c.match-class_for.replied ended in
+    let room = subst (λ (p : PassView). length p.calls < p.turn + p.turn) (sym c.pass.view_is) c.in_ok-who.ensures.room in
+    let same = c.offer.ensures.same in
+    let next : c.in_ok-who.who.turn + 1 ≡ c.match-class_for.pass-inside.turn =
+    ap (λ (w : Who). w.turn + 1) c.in_ok-who.ensures.who ∙ (sym (ap (λ (p : PassView). p.turn) (c.pass.view_is ∙ c.in_ok-who.ensures.turn)) ∙ sym turn) in (
       c.share.ensures.board ∙ (ap (λ p. p.seen.board) (rest g at) ∙ (ap (λ (v : SeenView). v.board) c.compare.ensures.same.1 ∙ i.0)),
       ap (λ l. length l) kept.0 ∙ (i.1 ∙ sym turn),
       omega (arith, kept.1, room, turn),
+      ap (λ (h : HandsView). h.tables) same ∙ (ap (λ p. p.hands.tables) (rest g at) ∙ i.3),
+      ap (λ (h : HandsView). h.caller) same ∙ (ap (λ p. p.hands.caller) (rest g at) ∙ (i.4 ∙ sym ended.number)),
+      subst (λ (n : ℕ). AreBefore n c.offer.new.hands.offers) next c.offer.ensures.before,
     )

@@ -34,6 +34,7 @@ loop-i-init g c =
       c.in_ok-who.ensures.who,
       ap (λ (p : PassView). p.calls) c.snapshot_of.ensures.same ∙ ap (λ (p : PassView). p.calls) turn,
       c.in_ok-links.ensures.sound,
+      ap (λ (p : PassView). p.hands) c.snapshot_of.ensures.same ∙ ap (λ (p : PassView). p.hands) turn,
     )
 
 pub returns-in_err-crawl_link-clause-grows : goal.returns-in_err-crawl_link-clause-grows
@@ -70,6 +71,7 @@ loop-i-preserved g c =
       i.7,
       ap (λ (p : PassView). p.calls) c.crawl_link.ensures.same ∙ i.8,
       c.crawl_link.ensures.sound,
+      ap (λ (p : PassView). p.hands) c.crawl_link.ensures.same ∙ i.10,
     )
 
 pub returns-clause-crawled : goal.returns-clause-crawled
@@ -80,3 +82,12 @@ returns-clause-crawled g c =
     subst (λ (who : Who). IsCrawledBy g.N.Named.config c.args.class c.args.pass.now.sight c.loop-i.pass.sight who c.args.moment c.loop-i.histogram) i.7
     (so_far_all g.N.Named.config c.args.class c.args.pass.now.sight c.loop-i.pass.sight c.in_ok-who.who c.args.moment links (take c.loop-i.i links) c.loop-i.histogram i.3
     (ap (λ (n : ℕ). take n links) all ∙ take-length links) (i.0 ∙ all) i.1 i.2 i.9)
+
+pub returns-clause-hands : goal.returns-clause-hands
+returns-clause-hands g c = c.loop-i.invariant.10
+
+pub returns-in_err-crawl_link-clause-hands : goal.returns-in_err-crawl_link-clause-hands
+returns-in_err-crawl_link-clause-hands g c = ap (λ (p : PassView). p.hands) c.crawl_link.ensures.same ∙ c.loop-i.invariant.10
+
+pub returns-in_err-links-clause-hands : goal.returns-in_err-links-clause-hands
+returns-in_err-links-clause-hands g c = ap (λ (p : PassView). p.hands) c.snapshot_of.ensures.same ∙ ap (λ (p : PassView). p.hands) c.in_ok-who.ensures.turn

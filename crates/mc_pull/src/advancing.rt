@@ -1,0 +1,86 @@
+//! Advances the entry of an item that was hit.
+ghost use Rattle.std.specs.Prelude.{◌≡◌, IfOk, IfErr, IfSome, OnErr, option_copied};
+ghost use Rattle.mc_item.specs.declared.lists.Seg.TheVariants.{Cold};
+ghost use Rattle.mc_rule.specs.Lists.{find, found, lists_of};
+ghost use Rattle.mc_segment.specs.ClassState.{with_room};
+ghost use Rattle.mc_pull.specs.{Advance.IsAdvance, Advance.MovesIf, Growth.GainsEvents, Growth.KeepsSince, Question.question, Question.IsClassOf};
+ghost use Rattle.mc_pull.specs.{Walker.walker_of};
+ghost use Rattle.mc_pull.specs.Advance as words;
+ghost use Rattle.mc_pull.specs.declared.judge.Judge.TheVariants as judges;
+
+use crate::judge::{Done, Judge};
+use crate::looking::{Gate, Judged};
+use crate::pulling::look_at;
+use mc_item::{Config, Entry, Fault, Seg, Who, stripe_of};
+use mc_segment::ClassState;
+use std::alloc::Global;
+
+// The entry of this number, if it is in COLD.
+fn cold_entry(class: &ClassState, number: u64) -> Option<&Entry>
+    ensures entry { option_copied result ≡ find number (lists_of class.now.history).cold }
+    ensures there { IfSome (option_copied result) (λ e. found number (lists_of class.now.history) ≡ Some (Cold, e)) }
+{
+    class.law();
+    let seg = class.segment_of(number)?;
+    match seg {
+        Seg::Cold => class.entry(number),
+        Seg::Hot => None,
+        Seg::Warm => None,
+        Seg::Temp => None,
+    }
+}
+
+// Whether a look moved the entry to WARM.
+fn is_to_warm(judged: Option<Judged>) -> bool
+    ensures { result ≡ words.is_to_warm_if judged }
+{
+    match judged {
+        None => false,
+        Some(judged) => match judged.done {
+            Done::ToWarm => true,
+            Done::Reclaimed => false,
+            Done::WithinWarm => false,
+            Done::ToCold => false,
+            Done::Evicted => false,
+            Done::Stayed => false,
+            Done::Alive(_) => false,
+            Done::Stranger => false,
+        },
+    }
+}
+
+/// Moves the entry of an item that was hit from COLD to WARM's head, with the moment as its time, clears the item's ACTIVE
+/// mark, and returns true. It looks at the entry once, if it is in COLD, through the gate. If the stripe isn't reached, or its
+/// item has another link, isn't ACTIVE or is dead at the moment, it returns false and changes nothing.
+/// Errors: the gate's faults. Nothing has changed then.
+pub fn advance<G: Gate>(
+    alloc: Global,
+    class: &mut ClassState,
+    number: u64,
+    who: Who,
+    moment: u64,
+    config: &Config,
+    gate: &mut G,
+) -> Result<bool, Fault>
+    requires config { IsClassOf config.now class.old }
+    requires gate { G.serves gate.old config.now class.old }
+    ensures advanced { IfOk result
+        (IsAdvance (question who number judges.Hit moment) config.now class.old class.new (G.answers gate.old) (G.answers gate.new)) }
+    ensures moves { IfOk result (MovesIf (question who number judges.Hit moment) class.old.history class.new.history) }
+    ensures err { OnErr result ((class.new ≡ with_room class.old class.new.room) × (G.answers gate.new ≡ G.answers gate.old)) }
+    ensures grows { GainsEvents class.old class.new }
+    ensures fault { IfErr result (G.faults gate.new class.new) }
+    ensures holds { G.references gate.new ≡ G.references gate.old }
+    ensures serves { G.serves gate.new config.now class.new }
+    ensures kept { KeepsSince (G.keeps (walker_of class.old who moment)) gate.old class.old.history gate.new class.new.history }
+{
+    let Some(entry) = cold_entry(class, number) else {
+        return Ok(false);
+    };
+    let stripe = stripe_of(&entry.key, config.stripes);
+    let hit = Judge::Hit;
+    let judged = look_at(
+        alloc, class, stripe, who, number, &hit, moment, config, gate,
+    )?;
+    Ok(is_to_warm(judged))
+}

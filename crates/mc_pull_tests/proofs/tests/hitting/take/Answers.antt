@@ -1,0 +1,13 @@
+use Rattle.mc_pull.proofs.GrowthLemmas.{class_later}
+use Rattle.mc_pull_tests.proofs.tests.hitting.take.Goals as goal
+
+-- the class has only grown, and the gate serves it still
+pub invariant_of-world : goal.invariant_of-world
+invariant_of-world c =
+    let before = c.args.world.now in
+    record {
+      sound = record {
+        class = class_later before.config before.class c.advance.new.class before.sound.class c.advance.ensures.grows;
+        stripe = c.advance.ensures.serves;
+      };
+    }

@@ -1,0 +1,137 @@
+//! Taking the hits of a class's queue, and advancing the entries that they name.
+ghost use Rattle.std.specs.Prelude.{◌≡◌, ◌+◌, ◌≤◌, IfOk, IfErr, OnOk, OnErr};
+ghost use Rattle.mc_evidence.specs.Setting.{IsClass};
+ghost use Rattle.mc_hits.specs.Views.{tables_of};
+ghost use Rattle.mc_pull.specs.Growth as classes;
+ghost use Rattle.mc_pull.specs.{Advance.MovesIf, Question.question, Question.IsClassOf};
+ghost use Rattle.mc_pull.specs.declared.judge.Judge.TheVariants as judges;
+ghost use Rattle.mc_store.specs.{Callers.juggling_of, Calls.IsUpkept, Hits.IsAdvancedBy, Hits.IsAdvancedTill, Hits.Takes, Hits.queue_of};
+ghost use Rattle.mc_store.specs.{Locked.HasBegun, Locked.HasBegunAs, Locked.setting_of, Made.WalksOwn, Serving.IsServed, Serving.MayFailSeen};
+
+use crate::gates::Trying;
+use crate::locked::LockedClass;
+use crate::named::Named;
+use crate::owned_class::catch_up_class;
+use crate::store::Store;
+use crate::walking::juggle_under;
+use mc_hits::Hands;
+use mc_item::{Config, Fault, Moves};
+use mc_pull::advance;
+use mc_segment::ClassState;
+use mc_stripe::Turn;
+use std::alloc::Global;
+use std::sync::Wait;
+
+/// How many hits a call takes from a queue, at most. A queue has room for as many.
+pub const MOST_HITS: usize = 256;
+
+impl<'a, N: Named> Trying<'a, N> {
+    // Advances the entry of a hit by `advance`, whose contract is for any gate. This one adds what is true of this gate: it holds
+    // the same references, and the class gains only events of this call.
+    fn advance(
+        &mut self,
+        alloc: Global,
+        class: &mut ClassState,
+        number: u64,
+        turn: Turn,
+        config: &Config,
+    ) -> Result<bool, Fault>
+        requires config { IsClassOf config.now class.old }
+        requires names { config.now ≡ N.config }
+        requires served { IsServed N.board.table N.config self.old.owner.now self.old.seen.now class.old }
+        requires begun { HasBegun N.config self.old.seen.now.sight self.old.who self.old.moment }
+        ensures moves { IfOk result (MovesIf (question turn.who number judges.Hit turn.moment) class.old.history class.new.history) }
+        ensures err { OnErr result (class.new.history ≡ class.old.history) }
+        ensures grows { classes.GainsEvents class.old class.new }
+        ensures fault { IfErr result (MayFailSeen N.config self.new.seen.now.sight class.new) }
+        ensures owner_reference { self.new.owner.ghost_name ≡ self.old.owner.ghost_name }
+        ensures seen_reference { self.new.seen.ghost_name ≡ self.old.seen.ghost_name }
+        ensures served { IsServed N.board.table N.config self.new.owner.now self.new.seen.now class.new }
+        ensures walked { WalksOwn turn.who turn.moment self.old.seen.now.sight self.new.seen.now.sight class.old.history class.new.history }
+    {
+        advance(alloc, class, number, turn.who, turn.moment, config, self)
+    }
+}
+
+// Advances the entry of a hit under its class's lock. The lock of the entry's stripe is only tried.
+fn advance_under<N: Named>(
+    alloc: Global,
+    store: &Store<N>,
+    class: &mut LockedClass<N>,
+    number: u64,
+    turn: Turn,
+) -> Result<bool, Fault>
+    requires begun { HasBegunAs N.config class.old.sight turn.who turn.moment (juggling_of class.old.class.number turn.moment) }
+    ensures moves { IfOk result (MovesIf (question turn.who number judges.Hit turn.moment) class.old.class.history class.new.class.history) }
+    ensures err { OnErr result (class.new.class.history ≡ class.old.class.history) }
+    ensures class { classes.GainsEvents class.old.class class.new.class }
+    ensures begun { HasBegunAs N.config class.new.sight turn.who turn.moment (juggling_of class.new.class.number turn.moment) }
+    ensures fault { IfErr result (MayFailSeen N.config class.new.sight class.new.class) }
+{
+    let mut answers = Vec::new(alloc);
+    let side = &mut class.side;
+    let mut gate = Trying {
+        store,
+        owner: &mut side.owner,
+        seen: &mut side.seen,
+        answers: &mut answers,
+        who: turn.who,
+        moment: turn.moment,
+    };
+    let moved = gate.advance(alloc, &mut side.state, number, turn, &store.config);
+    catch_up_class(&side.state, &mut side.owner, &store.board);
+    moved
+}
+
+// Takes hits from the queue of a class whose lock is held, one by one, and advances the entry of each. It ends when the queue is
+// empty, or after 256 hits. After a fault the hit is gone, and the others stay queued.
+fn advance_hits<N: Named>(
+    alloc: Global,
+    store: &Store<N>,
+    rt: &impl Wait,
+    class: &mut LockedClass<N>,
+    hands: &mut Hands,
+    turn: Turn,
+) -> Result<(), Fault>
+    requires class { IsClass (setting_of N.config) class.old.class.number }
+    requires begun { HasBegunAs N.config class.old.sight turn.who turn.moment (juggling_of class.old.class.number turn.moment) }
+    requires hands { hands.old.tables ≡ tables_of N.queues }
+    ensures advanced { OnOk result (IsAdvancedBy (queue_of class.old.class.number) turn hands.old hands.new class.old.class.history class.new.class.history) }
+    ensures cut { OnErr result (IsAdvancedTill (queue_of class.old.class.number) turn hands.old hands.new class.old.class.history class.new.class.history) }
+    ensures same { hands.new ≡ record hands.old { takings = hands.new.takings } }
+    ensures class { classes.GainsEvents class.old.class class.new.class }
+    ensures begun { HasBegunAs N.config class.new.sight turn.who turn.moment (juggling_of class.new.class.number turn.moment) }
+    ensures fault { IfErr result (MayFailSeen N.config class.new.sight class.new.class) }
+{
+    let queue = class.side().number().0 as usize - 1;
+    'hits: for _ in 0..MOST_HITS {
+        let Some(hit) = store.queues.take(rt, hands, queue) else {
+            break;
+        };
+        advance_under(alloc, store, class, hit.number, turn)?;
+    }
+    Ok(())
+}
+
+// Advances the hits of a class's queue, then juggles the class, under its lock. The locks of stripes are only tried.
+pub(crate) fn upkeep_under<N: Named>(
+    alloc: Global,
+    store: &Store<N>,
+    rt: &impl Wait,
+    class: &mut LockedClass<N>,
+    hands: &mut Hands,
+    turn: Turn,
+) -> Result<Moves, Fault>
+    requires class { IsClass (setting_of N.config) class.old.class.number }
+    requires begun { HasBegunAs N.config class.old.sight turn.who turn.moment (juggling_of class.old.class.number turn.moment) }
+    requires hands { hands.old.tables ≡ tables_of N.queues }
+    ensures upkept { IfOk result (IsUpkept N.config class.old.class turn hands.old hands.new class.new.class.history) }
+    ensures taken { Takes (queue_of class.old.class.number) hands.old hands.new }
+    ensures same { hands.new ≡ record hands.old { takings = hands.new.takings } }
+    ensures few { IfOk result (λ moves. moves.reclaimed + moves.moved ≤ 10000) }
+    ensures class { classes.GainsEvents class.old.class class.new.class }
+    ensures fault { IfErr result (MayFailSeen N.config class.new.sight class.new.class) }
+{
+    advance_hits(alloc, store, rt, class, hands, turn)?;
+    juggle_under(alloc, store, class, turn.who, turn.moment)
+}
