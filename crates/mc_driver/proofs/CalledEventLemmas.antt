@@ -1,8 +1,8 @@
 -- Calls that were made to their end, and whose the events of a closed store are.
 use Rattle.std.proofs.Common.{◌≡◌, ◌⊎◌, ◌<◌, ◌≤◌, ◌+◌, ℕ, zero, suc, List, [], ◌∷◌, ◌++◌, Some, Result, Ok, Err, refl, sym, ap, ◌∙◌, subst, inl, inr, ⊎_elim, arith, length, length-append, append-nil}
-use Rattle.std.specs.Prelude.{IfOk, OnOk, slice_get}
+use Rattle.std.specs.Prelude.{IfOk, IsErrOf, OnErr, OnOk, slice_get}
 use Rattle.std.proofs.lemmas.Bool.{cases_lt}
-use Rattle.mc_item.specs.declared.{call_event.CallEvent.CallEvent, command.Command.Command, config.Config.Config, counts.Moves.Moves, fault.Fault.Fault}
+use Rattle.mc_item.specs.declared.{call_event.CallEvent.CallEvent, command.Command.Command, config.Config.Config, counts.Moves.Moves, fault.Fault.Fault, fault.Fault.TheVariants.HistoryFull}
 use Rattle.mc_item.specs.declared.{item.ClassNo.ClassNo, item.Who.Who, reply.Reply.Reply, stripe_event.StripeEvent.StripeEvent, counts.Histogram.Histogram}
 use Rattle.mc_item.specs.declared.call_event.CallEvent.TheVariants as calls
 use Rattle.mc_item.specs.declared.stripe_event.StripeEvent.TheVariants as events
@@ -10,8 +10,8 @@ use Rattle.mc_board.specs.Histories.{Grows}
 use Rattle.mc_evidence.specs.Setting.{IsClass}
 use Rattle.mc_script.specs.Exchanges.{Asks, ScriptCall, Crawls, Exchange, Juggles}
 use Rattle.mc_store.specs.Callers.{IsOf, answered_at, asked_for, juggling_of, moment_of, turns_of, who_of, crawling_of}
-use Rattle.mc_store.specs.{Calls.IsJuggledBy, Calls.IsRepliedBy, Finals.AreItsOwn, Finals.AreStripes, Finals.FinalView, Finals.stripe_histories}
-use Rattle.mc_store.specs.{Finals.stripe_history, Locked.setting_of, Passes.PassView, Passes.next_who, Sides.StripeSide, Crawls.IsCrawledBy}
+use Rattle.mc_store.specs.{Calls.IsCutBy, Calls.IsJuggledBy, Calls.IsRepliedBy, Finals.AreItsOwn, Finals.AreStripes, Finals.FinalView, Finals.stripe_histories}
+use Rattle.mc_store.specs.{Finals.stripe_history, Locked.setting_of, Passes.PassView, Passes.next_who, Serving.HasSeenShort, Sides.StripeSide, Crawls.IsCrawledBy}
 use Rattle.mc_store.proofs.NumberOrderLemmas.{get_some}
 use Rattle.mc_driver.specs.{Called.AreByCallers, Called.AreWholeTurns, Called.HasCalls, Called.IsAtMoment, Called.MadeNone, Caller.AreMadeButLast}
 use Rattle.mc_driver.specs.{Caller.IsMadeCall, Caller.MayCall, Caller.call_event_of, Caller.histories_seen, Run.callers_at_work, Run.histories_left, Stand.Grow}
@@ -178,6 +178,13 @@ moment_of_call stripe place (events.Cooled cooled) call behind moment handed is 
 who_by : (who : Who) (caller : ℕ) → who.caller ≡ caller → who ≡ record { caller = caller; turn = who.turn }
 who_by who caller is = ap (λ (n : ℕ). record who { caller = n }) is
 
+-- all calls of a pass but the last were completed in a closed store
+pub made_left : (config : Config) (final : FinalView) (pass : PassView) → Grow config (histories_seen config pass.sight) (histories_left final)
+    → AreMadeButLast config (histories_seen config pass.sight) pass.caller pass.calls → AreMadeButLast config (histories_left final) pass.caller pass.calls
+made_left config final pass grow made = record {
+  each = λ turn call at behind. made_later config (histories_seen config pass.sight) (histories_left final) (record { caller = pass.caller; turn = turn }) call grow (made.each turn call at behind);
+}
+
 -- the calls of a pass are those of its caller, however it ended
 pub has_calls : (config : Config) (final : FinalView) (pass : PassView) → AreStripes final.board config final.stripes → AreItsOwn pass final.stripes → Grow config (histories_seen config pass.sight) (histories_left final)
     → AreMadeButLast config (histories_seen config pass.sight) pass.caller pass.calls → HasCalls config pass.caller (histories_left final)
@@ -187,9 +194,7 @@ has_calls config final pass all own grow made = record {
       let s = get_some final.stripes number (omega (arith, below, all.many)) in
       let there : stripe_histories final.stripes number ≡ s.0.stripe.history = ap stripe_history s.1 in
       own.each number s.0 place event s.1 (ap (λ (h : List StripeEvent). slice_get h place) (sym there) ∙ found) by;
-  made = record {
-    each = λ turn call at behind. made_later config (histories_seen config pass.sight) (histories_left final) (record { caller = pass.caller; turn = turn }) call grow (made.each turn call at behind);
-  };
+  made = made_left config final pass grow made;
 }
 
 -- where no call of a pass was broken off, each event that names its caller has its call
@@ -250,3 +255,26 @@ by_working config final scripts moments all many none = record {
     working : (moments : List ℕ) (n : ℕ) → n < scripts + 2 → (moments ≡ [] → (n ≡ scripts → ⊥) × (n ≡ suc scripts → ⊥)) → n < callers_at_work scripts moments
     working [] n few none = let both = none refl in below_both n few both.0 both.1
     working (moment ∷ moments) n few none = few
+
+-- ---- a full history
+
+-- a call that was refused for the number of turns finds as many calls in its caller's history
+pub full_calls : {T : Type 0} (config : Config) (old new : PassView) (call : CallEvent) (moment : ℕ) (r : Result T Fault) → MayCall config old → moment_of call ≡ Some moment
+    → OnErr r ((new ≡ old) ⊎ (new.calls ≡ old.calls ++ call ∷ [])) → (IsErrOf r HistoryFull → HasSeenShort config new.sight ⊎ (config.max_events ≤ old.turn))
+    → IsErrOf r HistoryFull → HasSeenShort config new.sight ⊎ (config.max_events ≤ length (turns_of new.calls))
+full_calls config old new call moment r may handed cut full is = ⊎_elim
+    (λ short. inl short)
+    (λ most. inr (many (subst (λ x. OnErr x ((new ≡ old) ⊎ (new.calls ≡ old.calls ++ call ∷ []))) is cut) most))
+    (full is)
+  where
+    many : (new ≡ old) ⊎ (new.calls ≡ old.calls ++ call ∷ []) → config.max_events ≤ old.turn → config.max_events ≤ length (turns_of new.calls)
+    many (inl same) most = omega (arith, may.turns, ap (λ (p : PassView). length (turns_of p.calls)) same, most)
+    many (inr more) most =
+        let all : length (turns_of new.calls) ≡ length (turns_of old.calls ++ call ∷ []) = ap (λ (l : List CallEvent). length l) (ap turns_of more ∙ turns_of-call old.calls call moment handed) in
+        omega (arith, may.turns, all, length-append (turns_of old.calls) (call ∷ []), most)
+
+-- a command that was broken off adds at most its call
+pub cut_calls : {T : Type 0} (config : Config) (number : ℕ) (old new : PassView) (who : Who) (command : Command) (moment : ℕ) (r : Result T Fault)
+    → OnErr r ((new ≡ old) ⊎ IsCutBy config number old.sight new.sight old.calls new.calls who command moment) → OnErr r ((new ≡ old) ⊎ (new.calls ≡ old.calls ++ asked_for command moment ∷ []))
+cut_calls config number old new who command moment (Ok x) cut = tt
+cut_calls config number old new who command moment (Err fault) cut = ⊎_elim (λ same. inl same) (λ by. inr by.noted) cut

@@ -1,5 +1,5 @@
 -- What a caller's work leaves in the store of a run, where its pass was compared with that store.
-use Rattle.std.proofs.Common.{◌≡◌, ℕ, List, [], refl, ap, subst}
+use Rattle.std.proofs.Common.{◌≡◌, ℕ, List, [], refl, ap, inl, inr, subst, ⊎_elim}
 use Rattle.mc_item.specs.declared.config.Config.{Config}
 use Rattle.mc_hits.specs.Views.{HitsView, tables_of}
 use Rattle.mc_proto.specs.declared.request.Limits.{Limits}
@@ -8,10 +8,10 @@ use Rattle.mc_script.specs.declared.{outcome.Outcome.Outcome, upkeep.Keeper.Keep
 use Rattle.mc_script.specs.declared.outcome.Outcome.TheVariants as outcomes
 use Rattle.mc_store.specs.{Finals.AreClasses, Finals.AreStripes, Finals.FinalView, Passes.PassView, Passes.new_pass}
 use Rattle.mc_driver.specs.{Called.AreWholeTurns, Called.HasCalls, Called.IsCompared, Called.MadeNone, Caller.AreNoted, Jobs.HasWorked, Jobs.IsIdle, Jobs.Works}
-use Rattle.mc_driver.specs.{Run.HasFull, Run.histories_left, Stand.AreItsCalls}
+use Rattle.mc_driver.specs.{Called.HasMadeAll, Called.HasNoPlace, Run.histories_left, Stand.AreItsCalls}
 use Rattle.mc_driver.specs.declared.{jobs.Work.Work, jobs.Work.TheVariants.Script, jobs.Work.TheVariants.Upkeep}
 use Rattle.mc_driver.proofs.{ScriptFactLemmas.keeps_some, ScriptFactLemmas.keeps_up_as, ScriptFactLemmas.leaves_known, ScriptFactLemmas.leaves_some, RunLeavesLemmas.left_calls}
-use Rattle.mc_driver.proofs.{RunLeavesLemmas.left_full, RunLeavesLemmas.left_grows, CalledEventLemmas.has_calls, CalledEventLemmas.none_made, CalledEventLemmas.whole_turns}
+use Rattle.mc_driver.proofs.{RunLeavesLemmas.left_full, RunLeavesLemmas.left_grows, CalledEventLemmas.has_calls, CalledEventLemmas.made_left, CalledEventLemmas.none_made, CalledEventLemmas.whole_turns}
 
 module _ {S K : Type 0} (coming : S → List ℕ) (reads : S → ℕ) (taken : K → List ℕ) (writes : K → ℕ) where
   -- what is known of a caller's calls may be said by another fact that follows
@@ -42,9 +42,15 @@ module _ {S K : Type 0} (coming : S → List ℕ) (reads : S → ℕ) (taken : K
         (λ calls noted. subst (λ (k : ℕ). AreItsCalls config k (histories_left final) calls) has.caller
         (left_calls config final all all_classes pass.sight compared.stripes compared.classes pass refl compared.own calls noted)) has.works
 
-    -- where a history was full, one is
-    pub full_left : outcome ≡ outcomes.HistoryFull → HasFull config (histories_left final)
-    full_left is = left_full config final all all_classes pass.sight compared.stripes compared.classes (has.full is)
+    -- where a history was full, one is, or the caller made all calls that it may
+    pub full_left : outcome ≡ outcomes.HistoryFull → HasNoPlace config caller (histories_left final)
+    full_left is = ⊎_elim
+        (λ short. inl (left_full config final all all_classes pass.sight compared.stripes compared.classes short))
+        (λ most.
+        let known = works_some limits moments (AreNoted config pass) caller outcome work work' has.works in
+        inr (subst (λ (k : ℕ). HasMadeAll config k (histories_left final)) has.caller
+        (record { calls = pass.calls; all = most; made = made_left config final pass (left_grows config final all all_classes pass.sight compared.stripes compared.classes) known.1.made })))
+        (has.full is)
 
     -- where it was done, each event in its name has its call
     pub whole_left : outcome ≡ outcomes.Done → AreWholeTurns config caller (histories_left final)

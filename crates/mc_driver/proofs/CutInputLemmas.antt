@@ -8,9 +8,9 @@ use Rattle.mc_proto.specs.Scripts as cut
 use Rattle.mc_script.specs.declared.{outcome.Outcome.Outcome, upkeep.Keeper.TheVariants.Crawler, upkeep.Keeper.TheVariants.Maintainer}
 use Rattle.mc_script.specs.declared.outcome.Outcome.TheVariants as outcomes
 use Rattle.mc_store.specs.Finals.{FinalView}
-use Rattle.mc_driver.specs.{Called.AreByCallers, Called.AreWholeTurns, Called.HasCalls, Input.AreRun, Input.IsRunOf, Input.Printed, Input.ToAndFrom}
+use Rattle.mc_driver.specs.{Called.AreByCallers, Called.AreWholeTurns, Called.HasCalls, Called.HasNoPlace, Input.AreRun, Input.IsRunOf, Input.Printed, Input.ToAndFrom}
 use Rattle.mc_driver.specs.{Left.AreKeepersDone, Left.IsKeptUp, Left.IsRunDone, Left.IsScriptLeft}
-use Rattle.mc_driver.specs.Run.{HasFull, IsAccepted, callers_at_work, histories_left, limits_of, with_callers}
+use Rattle.mc_driver.specs.Run.{IsAccepted, callers_at_work, histories_left, limits_of, with_callers}
 
 -- there is an item where there are some
 an_item : {X : Type 0} (xs : List X) (i : ℕ) → i < length xs → X
@@ -48,7 +48,7 @@ module _ {K : Type 0} (taken : K → List ℕ) (writes : K → ℕ) where
       maintained = subst (λ n. (outcome : Outcome) → IsKeptUp Maintainer config moments n (slice_index_or ended n outcome) (histories_left final)) (sym many) left.maintained;
       crawled = subst (λ n. (outcome : Outcome) → IsKeptUp Crawler config moments (n + 1) (slice_index_or ended (n + 1) outcome) (histories_left final)) (sym many) left.crawled;
       idle = subst (λ n. moments ≡ [] → AreKeepersDone n ended) (sym many) left.idle;
-      full = subst (λ n. (i : ℕ) (outcome : Outcome) → i < n + 2 → slice_index_or ended i outcome ≡ outcomes.HistoryFull → HasFull config (histories_left final)) (sym many) left.full;
+      full = subst (λ n. (i : ℕ) (outcome : Outcome) → i < n + 2 → slice_index_or ended i outcome ≡ outcomes.HistoryFull → HasNoPlace config i (histories_left final)) (sym many) left.full;
       whole = subst (λ n. (i : ℕ) (outcome : Outcome) → i < n + 2 → slice_index_or ended i outcome ≡ outcomes.Done → AreWholeTurns config i (histories_left final)) (sym many) left.whole;
       called = subst (λ n. (i : ℕ) → i < n + 2 → HasCalls config i (histories_left final)) (sym many) left.called;
       by = subst (λ n. AreByCallers config.stripes (callers_at_work n moments) (histories_left final)) (sym many) left.by;

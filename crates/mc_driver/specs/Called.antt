@@ -1,11 +1,11 @@
 -- Which call each event of a stripe belongs to: one by the same caller, in the same turn (its number), at the same moment (own).
-use Rattle.std.specs.Prelude.{ℕ, ◌≡◌, ◌<◌, List, Some, slice_get}
+use Rattle.std.specs.Prelude.{ℕ, ◌≡◌, ◌<◌, ◌≤◌, ◌⊎◌, List, Some, length, slice_get}
 use Rattle.mc_item.specs.declared.{call_event.CallEvent.CallEvent, config.Config.Config, stripe_event.StripeEvent.StripeEvent}
 use Rattle.mc_item.specs.declared.stripe_event.StripeEvent.TheVariants as events
 use Rattle.mc_script.specs.Exchanges.{Exchange}
-use Rattle.mc_store.specs.{Callers.IsCalled, Callers.IsMomentOf, Callers.who_of, Passes.PassView, Sides.StripeSide}
+use Rattle.mc_store.specs.{Callers.IsCalled, Callers.IsMomentOf, Callers.turns_of, Callers.who_of, Passes.PassView, Sides.StripeSide}
 use Rattle.mc_store.specs.Finals.{AreItsOwn, FinalView, IsBehindClasses, IsBehindStripes}
-use Rattle.mc_driver.specs.{Caller.AreMadeButLast, Stand.Histories, Stand.StandsAnywhere}
+use Rattle.mc_driver.specs.{Caller.AreMadeButLast, Run.HasFull, Stand.Histories, Stand.StandsAnywhere}
 
 -- the event has this moment (time in seconds), if it has one: the loss of a taken item and a cleared mark have none
 abbrev pub IsAtMoment : StripeEvent → ℕ → Type 0
@@ -31,6 +31,16 @@ pub record HasCalls (config : Config) (caller : ℕ) (histories : Histories) : T
   pub called : (number place : ℕ) (event : StripeEvent) → number < config.stripes → slice_get (histories.stripes number) place ≡ Some event
       → (who_of event).caller ≡ caller → IsCalled calls number place event
   pub made : AreMadeButLast config histories caller calls
+
+-- a caller made as many calls as a history may have events, and all of them but perhaps the last were completed
+pub record HasMadeAll (config : Config) (caller : ℕ) (histories : Histories) : Type 0 where
+  pub calls : List CallEvent
+  pub all : config.max_events ≤ length (turns_of calls)
+  pub made : AreMadeButLast config histories caller calls
+
+-- a caller may have found a full history: one of the store's has fewer than two places left, or the caller made all calls it may
+abbrev pub HasNoPlace : Config → ℕ → Histories → Type 0
+HasNoPlace config caller histories = HasFull config histories ⊎ HasMadeAll config caller histories
 
 -- each event of each stripe is by one of the first so many callers
 pub record AreByCallers (stripes callers : ℕ) (histories : Histories) : Type 0 where

@@ -1,11 +1,11 @@
 -- The work of a run's callers, and what holds after it (own).
-use Rattle.std.specs.Prelude.{ℕ, ◌≡◌, List, [], ◌∷◌, ◌++◌, map}
+use Rattle.std.specs.Prelude.{ℕ, ◌≡◌, ◌≤◌, ◌⊎◌, List, [], ◌∷◌, ◌++◌, length, map}
 use Rattle.mc_item.specs.declared.config.Config.{Config}
 use Rattle.mc_proto.specs.declared.request.Limits.{Limits}
 use Rattle.mc_script.specs.{Exchanges.Exchange, Run.AreCounted, Run.Leaves, Upkeep.KeepsUp, Upkeep.many_calls, Upkeep.work_of}
 use Rattle.mc_script.specs.declared.{outcome.Outcome.Outcome, upkeep.Keeper.TheVariants.Maintainer, upkeep.Keeper.TheVariants.Crawler}
 use Rattle.mc_script.specs.declared.outcome.Outcome.TheVariants as outcomes
-use Rattle.mc_store.specs.{Passes.PassView, Serving.HasSeenShort}
+use Rattle.mc_store.specs.{Callers.turns_of, Passes.PassView, Serving.HasSeenShort}
 use Rattle.mc_driver.specs.Caller.{AreNoted, MayCall}
 use Rattle.mc_driver.specs.declared.{jobs.Work.Work, jobs.Work.TheVariants.Script, jobs.Work.TheVariants.Upkeep}
 
@@ -56,7 +56,7 @@ module _ {S K : Type 0} (coming : S → List ℕ) (reads : S → ℕ) (taken : K
   pub record HasWorked (config : Config) (limits : Limits) (moments : List ℕ) (pass pass' : PassView) (outcome : Outcome) (work work' : Work S K) : Type 0 where
     pub works : Works coming reads taken writes limits moments (AreNoted config pass') pass.caller outcome work work'
     pub caller : pass'.caller ≡ pass.caller
-    pub full : outcome ≡ outcomes.HistoryFull → HasSeenShort config pass'.sight
+    pub full : outcome ≡ outcomes.HistoryFull → HasSeenShort config pass'.sight ⊎ (config.max_events ≤ length (turns_of pass'.calls))
     pub done : outcome ≡ outcomes.Done → MayCall config pass'
     pub turns : HasHadTurns limits moments outcome work pass'
     pub idle : IsIdle moments work pass pass'

@@ -5,8 +5,8 @@ use Rattle.mc_script.specs.{Run.AreCounted, Run.Leaves, Upkeep.KeepsUp, Upkeep.w
 use Rattle.mc_script.specs.declared.{outcome.Outcome.Outcome, upkeep.Keeper.Keeper, upkeep.Keeper.TheVariants.Maintainer, upkeep.Keeper.TheVariants.Crawler}
 use Rattle.mc_script.specs.declared.outcome.Outcome.TheVariants as outcomes
 use Rattle.mc_store.specs.Finals.{FinalView}
-use Rattle.mc_driver.specs.{Called.AreByCallers, Called.AreWholeTurns, Called.HasCalls, Stand.AreItsCalls, Stand.Histories}
-use Rattle.mc_driver.specs.Run.{HasFull, IsStore, callers_at_work, histories_left, limits_of}
+use Rattle.mc_driver.specs.{Called.AreByCallers, Called.AreWholeTurns, Called.HasCalls, Called.HasNoPlace, Stand.AreItsCalls, Stand.Histories}
+use Rattle.mc_driver.specs.Run.{IsStore, callers_at_work, histories_left, limits_of}
 
 -- what holds after upkeep at these moments with this outcome: the histories have its calls in turn, and no command of its caller
 abbrev pub IsKeptUp : Keeper → Config → List ℕ → ℕ → Outcome → Histories → Type 0
@@ -34,7 +34,7 @@ module _ {S K : Type 0} (coming : S → List ℕ) (reads : S → ℕ) (taken : K
         (histories_left final)
     pub idle : moments ≡ [] → AreKeepersDone (length scripts) ended
     pub full : (i : ℕ) (outcome : Outcome) → i < length scripts + 2 → slice_index_or ended i outcome ≡ outcomes.HistoryFull
-        → HasFull config (histories_left final)
+        → HasNoPlace config i (histories_left final)
     pub whole : (i : ℕ) (outcome : Outcome) → i < length scripts + 2 → slice_index_or ended i outcome ≡ outcomes.Done
         → AreWholeTurns config i (histories_left final)
     pub called : (i : ℕ) → i < length scripts + 2 → HasCalls config i (histories_left final)

@@ -1,6 +1,5 @@
 //! A caller of the shared store: answers the calls of a script or of upkeep.
-ghost use Rattle.std.specs.Prelude.{◌≡◌, ◌<◌, ◌-◌, ◌^◌, OnOk, IfErr};
-ghost use Rattle.mc_item.specs.declared.fault.Fault.TheVariants.{NoMemory};
+ghost use Rattle.std.specs.Prelude.{◌≡◌};
 
 use mc_item::{ClassNo, Command, Fault, Histogram, Moves, Reply};
 use mc_script::Calls;
@@ -30,23 +29,13 @@ impl<'a, N: Named> Caller<'a, N> {
     {
         self.pass
     }
-
-    // Checks that the pass has had fewer than 2^63 - 1 turns, and else returns `NoMemory`. No run is that long.
-    fn check_turn(&self) -> Result<(), Fault>
-        ensures left { OnOk result (self.now.pass.turn < 2 ^ 63 - 1) }
-        ensures full { IfErr result (λ fault. fault ≡ NoMemory) }
-    {
-        if self.pass.next_who().turn >= 0x7fff_ffff_ffff_ffff {
-            return Err(Fault::NoMemory);
-        }
-        Ok(())
-    }
 }
 
 impl<'a, N: Named> Calls for Caller<'a, N> {
     ghost use Rattle.mc_item.specs.declared.config.Config.{Config};
     ghost use Rattle.mc_evidence.specs.Setting.{IsClass};
-    ghost use Rattle.mc_store.specs.{Locked.setting_of, Serving.HasSeenShort};
+    ghost use Rattle.std.specs.Prelude.{◌≤◌, ◌⊎◌, length};
+    ghost use Rattle.mc_store.specs.{Callers.turns_of, Locked.setting_of, Serving.HasSeenShort};
     ghost use Rattle.mc_driver.specs.Caller.{AreNoted, MayCall};
 
     ghost Place = { Config };
@@ -61,24 +50,21 @@ impl<'a, N: Named> Calls for Caller<'a, N> {
 
     ghost notes = { λ s calls. AreNoted N.config s.pass calls };
 
-    ghost is_full = { λ s. HasSeenShort N.config s.pass.sight };
+    ghost is_full = { λ s. HasSeenShort N.config s.pass.sight ⊎ (N.config.max_events ≤ length (turns_of s.pass.calls)) };
 
     ghost may_call = { λ s. MayCall N.config s.pass };
 
     fn command(&mut self, rt: &impl Wait, command: Command, moment: u64) -> Result<Reply, Fault> {
-        self.check_turn()?;
         self.store
             .command(self.alloc, rt, &mut self.pass, command, moment)
     }
 
     fn juggle(&mut self, rt: &impl Wait, class: ClassNo, moment: u64) -> Result<Moves, Fault> {
-        self.check_turn()?;
         self.store
             .juggle(self.alloc, rt, &mut self.pass, class, moment)
     }
 
     fn crawl(&mut self, rt: &impl Wait, class: ClassNo, moment: u64) -> Result<Histogram, Fault> {
-        self.check_turn()?;
         self.store
             .crawl(self.alloc, rt, &mut self.pass, class, moment)
     }

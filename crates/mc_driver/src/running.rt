@@ -8,9 +8,9 @@ ghost use Rattle.mc_script.specs.Run.{AreCounted, Leaves};
 ghost use Rattle.mc_script.specs.declared.{outcome.Outcome.Outcome, upkeep.Keeper.TheVariants.Crawler, upkeep.Keeper.TheVariants.Maintainer};
 ghost use Rattle.mc_script.specs.declared.outcome.Outcome.TheVariants as outcomes;
 ghost use Rattle.mc_store.specs.{Finals.AreStripes, Locked.histories_for, Passes.PassView};
-ghost use Rattle.mc_driver.specs.Called.{AreByCallers, AreWholeTurns, HasCalls, IsCompared};
+ghost use Rattle.mc_driver.specs.Called.{AreByCallers, AreWholeTurns, HasCalls, HasNoPlace, IsCompared};
 ghost use Rattle.mc_driver.specs.{Left.AreKeepersDone, Left.IsKeptUp, Left.IsRunDone, Stand.AreItsCalls};
-ghost use Rattle.mc_driver.specs.Run.{HasFull, IsAccepted, IsRefused, IsStore, callers_at_work, histories_left, limits_of, with_callers};
+ghost use Rattle.mc_driver.specs.Run.{IsAccepted, IsRefused, IsStore, callers_at_work, histories_left, limits_of, with_callers};
 ghost use Rattle.mc_driver.specs.declared.fault.RunFault.TheVariants as faults;
 
 use crate::fault::RunFault;
@@ -171,12 +171,12 @@ pub fn run_scripts<S: Source + Send, K: Sink + Send, R: Threads + Wait + Sync>(
     ensures idle { IfOk result (λ run. upkeep.now ≡ [] → AreKeepersDone (length scripts.items) run.outcomes.items) }
 
     // What holds of every caller, maintainer and crawler too. After `HistoryFull` some history has fewer than two places
-    // left. If the caller is done, each of its events on any stripe has its call in the histories, at the same moment.
-    // However it ended, each of its events belongs to one of its calls, and the histories have all of these except perhaps
-    // the last. Nobody else made an event on a stripe.
+    // left, or the caller has made `max_events` calls. If the caller is done, each of its events on any stripe has its call
+    // in the histories, at the same moment. However it ended, each of its events belongs to one of its calls, and the
+    // histories have all of these except perhaps the last. Nobody else made an event on a stripe.
     ensures full { IfOk result (λ run. (i : ℕ) (outcome : Outcome) → i < length scripts.items + 2
         → slice_index_or run.outcomes.items i outcome ≡ outcomes.HistoryFull
-        → HasFull (with_callers (length scripts.items) config) (histories_left run.ledger)) }
+        → HasNoPlace (with_callers (length scripts.items) config) i (histories_left run.ledger)) }
     ensures whole { IfOk result (λ run. (i : ℕ) (outcome : Outcome) → i < length scripts.items + 2
         → slice_index_or run.outcomes.items i outcome ≡ outcomes.Done
         → AreWholeTurns (with_callers (length scripts.items) config) i (histories_left run.ledger)) }

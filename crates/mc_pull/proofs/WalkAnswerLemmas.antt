@@ -5,9 +5,9 @@ use Rattle.mc_rule.specs.Lists.{lists_of, list_of}
 use Rattle.mc_segment.specs.ClassState.{ClassView}
 use Rattle.mc_pull.specs.declared.{judge.Done.Done, judge.Mode.Mode, looking.Answer.Answer, looking.Judged.Judged, pulled.Pulled.Pulled}
 use Rattle.mc_pull.specs.declared.judge.Done.TheVariants as done
-use Rattle.mc_pull.specs.{Growth.GainsEvents, Pulled.sum_of, Pulled.counts_after, Pulled.counts_if, Pulled.is_end_if}
+use Rattle.mc_pull.specs.{Growth.GainsFor, Growth.looks_for_chunk, Pulled.sum_of, Pulled.counts_after, Pulled.counts_if, Pulled.is_end_if}
 use Rattle.mc_pull.specs.Walk.{Pull, pull, Way, way, next_entry, events_at, is_going, step, run, IsAnswer, IsAlong, start_of, IsWalk}
-use Rattle.mc_pull.proofs.{GrowthLemmas.grows_both, LengthLemmas.few_taken, LengthLemmas.answer_passes}
+use Rattle.mc_pull.proofs.{ChunkEventLemmas.gains_both, ChunkEventLemmas.none_answered, LengthLemmas.few_taken, LengthLemmas.answer_passes}
 
 pub run-push : (p : Pull) (w : Way) (xs : List Answer) (a : Answer) → run p w (xs ++ a ∷ []) ≡ step p (run p w xs) a
 run-push p w [] a = refl
@@ -69,7 +69,7 @@ from_start c history room s mode who moment config w a h = record { goes = h.goe
 -- what holds at each look of a walk
 pub record OnLooks (c now : ClassView) (old new : List Answer) (s : Seg) (mode : Mode) (who : Who) (moment : ℕ) (config : Config) (left : ℕ) (pulled : Pulled) : Type 0 where
   pub on : OnWay (pull c s mode who moment config) old new (way now.history left pulled false)
-  pub grows : GainsEvents c now
+  pub gains : GainsFor (looks_for_chunk mode) c now
   pub few : sum_of pulled + left ≤ 5
   pub enough : pulled.passed + left ≤ length (list_of (lists_of now.history) s)
 
@@ -96,11 +96,11 @@ module _ {c now after : ClassView} {old new later : List Answer} {s : Seg} {mode
 
   asked_first : IsAnswer walk before a
   asked_first = from_start c now.history now.room s mode who moment config before a
-      (subst (λ (x : ClassView). IsAnswer (pull x s mode who moment config) before a) on.grows.same here)
+      (subst (λ (x : ClassView). IsAnswer (pull x s mode who moment config) before a) on.gains.grows.same here)
 
   made_is : after.history ≡ now.history ++ made_events
   made_is = made
-      ∙ (ap (λ (x : ClassView). (step (pull x s mode who moment config) before a).history) on.grows.same
+      ∙ (ap (λ (x : ClassView). (step (pull x s mode who moment config) before a).history) on.gains.grows.same
       ∙ ap (λ (es : List ClassEvent). now.history ++ es)
       (events_at-start c now.history now.room s mode who moment config before (next_entry walk before) a.judged))
 
@@ -113,13 +113,16 @@ module _ {c now after : ClassView} {old new later : List Answer} {s : Seg} {mode
       answered walk old new later before (way after.history (left - 1) next stopped) a on.on asked_first is
       (step_is ∙ ap (λ (b : Bool). way after.history (left - 1) next b) stop)
 
-  pub looked_more : GainsEvents now after
-  looked_more = record { same = same; events = made_events; history_is = made_is }
+  pub looked_more : GainsFor (looks_for_chunk mode) now after
+  looked_more = record {
+    grows = record { same = same; events = made_events; history_is = made_is };
+    none = λ no. none_answered walk before a (next_entry walk before) no asked_first.asks;
+  }
 
   pub looked_on : 0 < left → is_end_if a.judged ≡ false → OnLooks c after old later s mode who moment config (left - 1) next
   looked_on some stop = record {
     on = looked_way false stop;
-    grows = grows_both c now after on.grows looked_more;
+    gains = gains_both (looks_for_chunk mode) c now after on.gains looked_more;
     few = omega (arith, on.few, counts_if-sum a.judged pulled, ap sum_of count, some);
     enough = omega (
       arith,

@@ -1,9 +1,9 @@
 //! Advances the entry of an item that was hit.
-ghost use Rattle.std.specs.Prelude.{◌≡◌, IfOk, IfErr, IfSome, OnErr, option_copied};
+ghost use Rattle.std.specs.Prelude.{◌≡◌, false, IfOk, IfErr, IfSome, OnErr, option_copied};
 ghost use Rattle.mc_item.specs.declared.lists.Seg.TheVariants.{Cold};
 ghost use Rattle.mc_rule.specs.Lists.{find, found, lists_of};
 ghost use Rattle.mc_segment.specs.ClassState.{with_room};
-ghost use Rattle.mc_pull.specs.{Advance.IsAdvance, Advance.MovesIf, Growth.GainsEvents, Growth.KeepsSince, Question.question, Question.IsClassOf};
+ghost use Rattle.mc_pull.specs.{Advance.IsAdvance, Advance.MovesIf, Growth.GainsFor, Growth.KeepsSince, Question.question, Question.IsClassOf};
 ghost use Rattle.mc_pull.specs.{Walker.walker_of};
 ghost use Rattle.mc_pull.specs.Advance as words;
 ghost use Rattle.mc_pull.specs.declared.judge.Judge.TheVariants as judges;
@@ -68,7 +68,7 @@ pub fn advance<G: Gate>(
         (IsAdvance (question who number judges.Hit moment) config.now class.old class.new (G.answers gate.old) (G.answers gate.new)) }
     ensures moves { IfOk result (MovesIf (question who number judges.Hit moment) class.old.history class.new.history) }
     ensures err { OnErr result ((class.new ≡ with_room class.old class.new.room) × (G.answers gate.new ≡ G.answers gate.old)) }
-    ensures grows { GainsEvents class.old class.new }
+    ensures gains { GainsFor false class.old class.new }
     ensures fault { IfErr result (G.faults gate.new class.new) }
     ensures holds { G.references gate.new ≡ G.references gate.old }
     ensures serves { G.serves gate.new config.now class.new }

@@ -1,9 +1,9 @@
 //! Juggling: rounds of walks that go by one survey of the class.
-ghost use Rattle.std.specs.Prelude.{◌≡◌, ◌≤◌, ◌+◌, ◌++◌, ◌∷◌, [], ◌⊎◌, List, IfOk, IfErr, OnOk, OnErr};
+ghost use Rattle.std.specs.Prelude.{◌≡◌, ◌≤◌, ◌+◌, ◌++◌, ◌∷◌, [], ◌⊎◌, List, false, IfOk, IfErr, OnOk, OnErr};
 ghost use Rattle.mc_item.specs.declared.{config.Config.Config, lists.Seg.TheVariants.Temp};
 ghost use Rattle.mc_segment.specs.{ClassCalls.surveyed_event, ClassState.with_room};
 ghost use Rattle.mc_pull.specs.declared.{judge.Mode.TheVariants.Plain, looking.Answer.Answer};
-ghost use Rattle.mc_pull.specs.{Growth.GainsEvents, Growth.KeepsSince, Pulled.none_pulled, Pulled.sum_of, Question.IsClassOf, Question.IsSurveyIn};
+ghost use Rattle.mc_pull.specs.{Growth.GainsFor, Growth.KeepsSince, Pulled.none_pulled, Pulled.sum_of, Question.IsClassOf, Question.IsSurveyIn};
 ghost use Rattle.mc_pull.specs.{Refusal.MayFailAlone};
 ghost use Rattle.mc_pull.specs.{Rounds.rounds, Rounds.Walks, Settled.class_with, Walker.walker_of};
 ghost use Rattle.mc_pull.specs.Juggle.{juggling, survey_at, history_surveyed, KeepsSurveys, OutlastsSurveys, PullsWarm, IsJuggleRound, IsJuggled, JugglesTemp};
@@ -37,7 +37,7 @@ fn pull_warm<G: Gate>(
     ensures walk { IfOk result (λ pulled. (xs : List Answer) × (G.answers gate.new ≡ G.answers gate.old ++ xs)
         × PullsWarm (rounds class.old who moment config.now) survey did class.old.history xs class.new.history pulled) }
     ensures few { IfOk result (λ pulled. sum_of pulled ≤ 5) }
-    ensures grows { GainsEvents class.old class.new }
+    ensures gains { GainsFor false class.old class.new }
     ensures fault { IfErr result (G.faults gate.new class.new) }
     ensures holds { G.references gate.new ≡ G.references gate.old }
     ensures serves { G.serves gate.new config.now class.new }
@@ -66,7 +66,7 @@ fn juggle_round<G: Gate>(
     ensures round { IfOk result (λ sum. (xs : List Answer) × (G.answers gate.new ≡ G.answers gate.old ++ xs)
         × IsJuggleRound (rounds class.old who moment config.now) survey class.old.history xs class.new.history sum) }
     ensures few { IfOk result (λ sum. sum_of sum ≤ 15) }
-    ensures grows { GainsEvents class.old class.new }
+    ensures gains { GainsFor false class.old class.new }
     ensures fault { IfErr result (G.faults gate.new class.new) }
     ensures holds { G.references gate.new ≡ G.references gate.old }
     ensures serves { G.serves gate.new config.now class.new }
@@ -98,7 +98,7 @@ fn juggle_rounds<G: Gate>(
     ensures juggled { IfOk result (λ sum. (xs : List Answer) × (G.answers gate.new ≡ G.answers gate.old ++ xs)
         × IsJuggled (IsJuggleRound (rounds class.old who moment config.now) survey) (juggling class.old.history total) xs (juggling class.new.history sum)) }
     ensures few { IfOk result (λ sum. sum_of sum ≤ 10000) }
-    ensures grows { GainsEvents class.old class.new }
+    ensures gains { GainsFor false class.old class.new }
     ensures fault { IfErr result (G.faults gate.new class.new) }
     ensures holds { G.references gate.new ≡ G.references gate.old }
     ensures serves { G.serves gate.new config.now class.new }
@@ -134,7 +134,7 @@ fn temp_rounds<G: Gate>(
         × IsJuggled (Walks (rounds class.old who moment config.now) Temp (Plain survey)) (juggling class.old.history none_pulled) xs
         (juggling class.new.history sum)) }
     ensures few { IfOk result (λ sum. sum_of sum ≤ 2500) }
-    ensures grows { GainsEvents class.old class.new }
+    ensures gains { GainsFor false class.old class.new }
     ensures fault { IfErr result (G.faults gate.new class.new) }
     ensures holds { G.references gate.new ≡ G.references gate.old }
     ensures serves { G.serves gate.new config.now class.new }
@@ -162,7 +162,7 @@ fn survey_class(class: &mut ClassState, who: Who, moment: u64) -> Result<Survey,
     ensures event { OnOk result (class.new ≡ class_with class.old (surveyed_event class.old who moment ∷ []) class.new.room) }
     ensures err { OnErr result (class.new ≡ with_room class.old class.new.room) }
     ensures fault { IfErr result (MayFailAlone class.new) }
-    ensures grows { GainsEvents class.old class.new }
+    ensures gains { GainsFor false class.old class.new }
 {
     class.survey(who, moment)
 }
@@ -183,7 +183,7 @@ fn juggle_temp<G: Gate>(
     ensures temp { IfOk result (λ sum. (xs : List Answer) × (G.answers gate.new ≡ G.answers gate.old ++ xs)
         × JugglesTemp (rounds class.old who moment config.now) config.now.temp class.old.history xs (juggling class.new.history sum)) }
     ensures few { IfOk result (λ sum. sum_of sum ≤ 2500) }
-    ensures grows { GainsEvents class.old class.new }
+    ensures gains { GainsFor false class.old class.new }
     ensures fault { IfErr result (λ fault. G.faults gate.new class.new fault ⊎ MayFailAlone class.new fault) }
     ensures holds { G.references gate.new ≡ G.references gate.old }
     ensures serves { G.serves gate.new config.now class.new }
@@ -214,7 +214,7 @@ fn juggle_rest<G: Gate>(
     ensures rest { IfOk result (λ sum. (xs : List Answer) × (G.answers gate.new ≡ G.answers gate.old ++ xs)
         × JugglesRounds (rounds class.old who moment config.now) (juggling class.old.history total) xs (juggling class.new.history sum)) }
     ensures few { IfOk result (λ sum. sum_of sum ≤ 10000) }
-    ensures grows { GainsEvents class.old class.new }
+    ensures gains { GainsFor false class.old class.new }
     ensures fault { IfErr result (λ fault. G.faults gate.new class.new fault ⊎ MayFailAlone class.new fault) }
     ensures holds { G.references gate.new ≡ G.references gate.old }
     ensures serves { G.serves gate.new config.now class.new }
@@ -244,7 +244,7 @@ pub fn juggle<G: Gate>(
     ensures juggle { IfOk result (λ moves. (xs : List Answer) × (G.answers gate.new ≡ G.answers gate.old ++ xs)
         × IsJuggle (rounds class.old who moment config.now) class.old.history xs class.new.history moves) }
     ensures few { IfOk result (λ moves. moves.reclaimed + moves.moved ≤ 10000) }
-    ensures grows { GainsEvents class.old class.new }
+    ensures gains { GainsFor false class.old class.new }
     ensures fault { IfErr result (λ fault. G.faults gate.new class.new fault ⊎ MayFailAlone class.new fault) }
     ensures holds { G.references gate.new ≡ G.references gate.old }
     ensures serves { G.serves gate.new config.now class.new }

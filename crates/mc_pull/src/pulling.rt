@@ -2,7 +2,8 @@
 ghost use Rattle.std.specs.Prelude.{◌≡◌, ◌<◌, ◌≤◌, ◌++◌, ◌∷◌, [], List, true, false, length, take, reverse, IfOk, IfErr, OnErr};
 ghost use Rattle.mc_rule.specs.{Lists.lists_of, Lists.list_of, Lists.count_of, Segment.numbers_of};
 ghost use Rattle.mc_segment.specs.ClassState.{with_room};
-ghost use Rattle.mc_pull.specs.{Growth.GainsEvents, Growth.KeepsSince, Looks.answer_by, Looks.events_if, Looks.IsJudgedIf, Pulled.sum_of, Question.question};
+ghost use Rattle.mc_pull.specs.{Growth.GainsEvents, Growth.GainsFor, Growth.KeepsSince, Growth.looks_for_chunk};
+ghost use Rattle.mc_pull.specs.{Looks.answer_by, Looks.events_if, Looks.IsJudgedIf, Pulled.sum_of, Question.question};
 ghost use Rattle.mc_pull.specs.{Question.HasKeyOf, Question.IsClassOf, Question.MayJudge, Question.MayWalk, Settled.class_with, Walker.walker_of};
 ghost use Rattle.mc_pull.specs.Walk as words;
 ghost use Rattle.mc_pull.specs.Walk.{pull, way, step, IsAnswer, IsWalk, IsBrokenWalk};
@@ -143,7 +144,7 @@ pub fn pull_tail<G: Gate>(
         × IsWalk (pull class.old seg mode who moment config.now) xs class.new.history pulled) }
     ensures err { OnErr result ((xs : List Answer) × (G.answers gate.new ≡ G.answers gate.old ++ xs)
         × IsBrokenWalk (pull class.old seg mode who moment config.now) xs class.new.history) }
-    ensures grows { GainsEvents class.old class.new }
+    ensures gains { GainsFor (looks_for_chunk mode) class.old class.new }
     ensures few { IfOk result (λ pulled. sum_of pulled ≤ 5) }
     ensures fault { IfErr result (G.faults gate.new class.new) }
     ensures holds { G.references gate.new ≡ G.references gate.old }

@@ -8,6 +8,7 @@ use Rattle.mc_item.specs.declared.stripe_event.StripeEvent.TheVariants as events
 use Rattle.mc_store.specs.Callers.{IsCalled, IsNext, answered_at, moment_of, turns_of, who_of}
 use Rattle.mc_store.specs.Finals.{AreClasses, AreItsOwn, AreItsOwnInClasses, AreStripes, FinalView}
 use Rattle.mc_store.specs.{Made.IsClassCalled, Made.maker_of, Passes.PassView, Sides.ClassSide, Sides.StripeSide}
+use Rattle.mc_store.proofs.NextTurnLemmas.{turn_more}
 
 -- each event was called
 pub was_called : (config : Config) (final : FinalView) (passes : ℕ → PassView) (number place : ℕ) (s : StripeSide) (event : StripeEvent) → AreStripes final.board config final.stripes
@@ -29,13 +30,6 @@ class_was_called config final passes number place s event all own there at =
     let pass = own (maker_of event).caller of in
     (of, pass.1.each number s place event there at (sym pass.0))
 
--- a call is one turn more
-turn_more : (call : CallEvent) (calls : List CallEvent) (moment : ℕ) → moment_of call ≡ Some moment → length (turns_of (call ∷ calls)) ≡ length (turns_of calls) + 1
-turn_more (Asked a) calls moment handed = omega arith
-turn_more (Juggled w) calls moment handed = omega arith
-turn_more (Crawled w) calls moment handed = omega arith
-turn_more (Answered a) calls moment handed = absurd (cc handed)
-
 -- without what stands first, as many turns are left
 turns_tail : (call : CallEvent) (xs ys : List CallEvent) → length (turns_of (call ∷ xs)) ≡ length (turns_of (call ∷ ys)) → length (turns_of xs) ≡ length (turns_of ys)
 turns_tail (Asked a) xs ys same = omega (arith, same)
@@ -50,7 +44,7 @@ tail_same : (x y : CallEvent) (xs ys : List CallEvent) → x ∷ xs ≡ y ∷ ys
 tail_same x y xs ys e = cc e
 
 -- behind the call of a turn stands one list
-behind_same : (bs cs : List CallEvent) (x y : CallEvent) (xs ys : List CallEvent) (m n : ℕ) → bs ++ x ∷ xs ≡ cs ++ y ∷ ys
+pub behind_same : (bs cs : List CallEvent) (x y : CallEvent) (xs ys : List CallEvent) (m n : ℕ) → bs ++ x ∷ xs ≡ cs ++ y ∷ ys
     → length (turns_of bs) ≡ length (turns_of cs) → moment_of x ≡ Some m → moment_of y ≡ Some n → xs ≡ ys
 behind_same [] [] x y xs ys m n e same one two = tail_same x y xs ys e
 behind_same [] (c ∷ cs) x y xs ys m n e same one two =

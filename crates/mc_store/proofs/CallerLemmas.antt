@@ -18,7 +18,7 @@ use Rattle.mc_pull.specs.{Lone.AreMadeBy, Lone.IsCauseOf, Lone.IsWalkersEvent, L
 use Rattle.mc_pull.specs.Perform as words
 use Rattle.mc_pull.specs.Performed.{IsPerformed, IsUntouched, did_event}
 use Rattle.mc_store.specs.Callers.{AreCalled, IsBegun, IsBegunAs, IsMomentOf, IsCalled, IsNext, IsOf, answered_at, asked_for, call_events, calls_told, who_of}
-use Rattle.mc_store.specs.Locked.{HasBegun, HasBegunAs, HasBegunCommand, caller_place, locks_for}
+use Rattle.mc_store.specs.Locked.{HasBegun, HasBegunAs, HasBegunCommand, HasBegunSearch, caller_place, locks_for}
 use Rattle.mc_store.specs.{Made.IsClassCalled, Made.maker_of, Passes.CallerView, Passes.HasAsked, Passes.HasCalled}
 
 -- ---- a caller's history
@@ -141,9 +141,16 @@ begun_as_sees config old new who moment call more h = record {
 pub command_sees : (config : Config) (old new : Sight) (who : Who) (moment : ℕ) → Grows old new → HasBegunCommand config old who moment → HasBegunCommand config new who moment
 command_sees config old new who moment more h = record { command = h.command; begun = begun_as_sees config old new who moment (asked_for h.command moment) more h.begun }
 
+-- what a command that may need a chunk has begun
+pub search_sees : (config : Config) (old new : Sight) (who : Who) (moment : ℕ) → Grows old new → HasBegunSearch config old who moment → HasBegunSearch config new who moment
+search_sees config old new who moment more h = record { command = h.command; needs = h.needs; begun = begun_as_sees config old new who moment (asked_for h.command moment) more h.begun }
+
 -- what has just this call has a call
 pub begun_any : (config : Config) (sight : Sight) (who : Who) (moment : ℕ) (call : CallEvent) → HasBegunAs config sight who moment call → HasBegun config sight who moment
 begun_any config sight who moment call h = record { of = h.of; begun = h.begun.begun }
+
+pub search_any : (config : Config) (sight : Sight) (who : Who) (moment : ℕ) → HasBegunSearch config sight who moment → HasBegun config sight who moment
+search_any config sight who moment h = begun_any config sight who moment (asked_for h.command moment) h.begun
 
 pub command_any : (config : Config) (sight : Sight) (who : Who) (moment : ℕ) → HasBegunCommand config sight who moment → HasBegun config sight who moment
 command_any config sight who moment h = begun_any config sight who moment (asked_for h.command moment) h.begun

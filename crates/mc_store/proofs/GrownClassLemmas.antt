@@ -11,7 +11,7 @@ use Rattle.mc_board.specs.declared.rule.Sight.{Sight}
 use Rattle.mc_segment.specs.ClassState.{ClassView}
 use Rattle.mc_pull.specs.Growth as classes
 use Rattle.mc_store.specs.{Calls.IsJuggledBy, Calls.IsSeenGrowOf, Calls.IsUpkept, Passes.PassView, Passes.next_who, Crawls.IsSeenSound, Finals.IsBehindAt, Locked.IsHeldClass, Locked.class_lock}
-use Rattle.mc_store.specs.{Locked.setting_of, Serving.HasSeenShort, Serving.MayFailSeen, Sides.ClassSide, Sides.class_told}
+use Rattle.mc_store.specs.{Locked.setting_of, Made.HasNoneMadeBy, Serving.HasSeenShort, Serving.MayFailSeen, Sides.ClassSide, Sides.class_told}
 use Rattle.mc_store.proofs.{GateLemmas.short_seen, LockKeepsLemmas.class_sees, SyncedStepLemmas.short_of}
 
 -- what a class's lock keeps is seen by whoever was told of it all
@@ -57,12 +57,13 @@ module _ (table : TableId) (config : Config) (class : ClassNo) (before after : S
   fails_full r may is = full_seen (subst (λ (x : Result _ Fault). IfErr x (MayFailSeen config new.sight new.class)) is may)
 
   -- the class was juggled
-  pub juggled_so : (p p_new : PassView) (moment : ℕ) (r : Result Moves Fault) → before ≡ p.sight → after ≡ p_new.sight
+  pub juggled_so : (p p_new : PassView) (moment : ℕ) (r : Result Moves Fault) → HasNoneMadeBy (next_who p) old.class.history → before ≡ p.sight → after ≡ p_new.sight
       → IfOk r (IsUpkept config old.class (record { who = next_who p; moment = moment }) p.hands p_new.hands new.class.history) → IfOk r (IsJuggledBy config class p p_new moment)
-  juggled_so p p_new moment (Ok moves) first last made = record {
+  juggled_so p p_new moment (Ok moves) none first last made = record {
     old = old.class;
     history_new = new.class.history;
     grew = subst (λ (s : Sight). IsSeenGrowOf config class s p_new.sight old.class new.class.history) first (subst (λ (s : Sight). IsSeenGrowOf config class before s old.class new.class.history) last class_grew);
+    first = none;
     upkept = made;
   }
-  juggled_so p p_new moment (Err fault) first last made = tt
+  juggled_so p p_new moment (Err fault) none first last made = tt

@@ -7,8 +7,10 @@ pub mod ClosedLemmas
 pub mod HeadlineLemmas
 pub mod ClosedCallLemmas
 pub mod AnsweredTurnLemmas
+mod PlacedLemmas
 pub mod LentClassLemmas
 pub mod LockKeepsLemmas
+mod NextTurnLemmas
 pub mod OwnEventLemmas
 pub mod SyncLemmas
 pub mod NotedRefusalLemmas

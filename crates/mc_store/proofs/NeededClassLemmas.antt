@@ -24,7 +24,10 @@ use Rattle.mc_stripe.specs.{Trying.item_of, Trying.row_at, Wanting.Holds, Wantin
 use Rattle.mc_stripe.specs.declared.{fate.Fate.Fate, wanting.Classes.Classes, trying.Turn.Turn}
 use Rattle.mc_stripe.specs.declared.fate.Fate.TheVariants as fates
 use Rattle.mc_pull.specs.{Lone.AreMadeBy, Question.IsStripeOf}
-use Rattle.mc_store.specs.{Commands.walker_in, Held.IsWalked, Held.Suffice, Locked.IsLockedStripe, Locked.setting_of, Sides.StripeSide}
+use Rattle.mc_item.specs.declared.item.Who.{Who}
+use Rattle.mc_board.specs.declared.rule.Sight.{Sight}
+use Rattle.mc_store.specs.{Callers.asked_for, Commands.walker_in, Held.IsWalked, Held.Suffice, Locked.HasBegunAs, Locked.HasBegunSearch, Locked.IsLockedStripe}
+use Rattle.mc_store.specs.{Locked.setting_of, Made.MayNeedChunk, Sides.StripeSide}
 use Rattle.mc_store.proofs.{CommandLemmas.search_no_commands, CommandLemmas.searched_alive, LockKeepsLemmas.site_of_number, SearchVersionLemmas.versions_behind}
 
 -- a class that a row needs is one of the store's
@@ -300,3 +303,22 @@ home_apart s command moment wanted class is home other =
     let need = home_fresh (row_at s command moment).need (link_of_item (item_of s command)) fate class (ap (λ (w : Classes). w.home) (sym is) ∙ home) in
     let beside = sym (ap (λ (w : Classes). w.other) (fresh_classes (row_at s command moment).need (link_of_item (item_of s command)) fate class need)) ∙ (ap (λ (w : Classes). w.other) (sym is) ∙ other) in
     other_apart key class (link_of_item (item_of s command)) class beside refl
+
+-- only a command that may need a chunk has a row that does
+fresh_needs : (site : Site) (n : ℕ) (found : Option Item) (command : Command) (moment : ℕ) (class : ClassNo) → (row_of site n found command moment).need ≡ needs.Fresh class → MayNeedChunk command
+fresh_needs site n found (Store verb key flags exptime value) moment class is = tt
+fresh_needs site n found (Incr key delta) moment class is = tt
+fresh_needs site n found (Decr key delta) moment class is = tt
+fresh_needs site n None (Get key) moment class is = absurd (cc is)
+fresh_needs site n (Some item) (Get key) moment class is = absurd (cc is)
+fresh_needs site n found (Huge verb key) moment class is = absurd (cc is)
+fresh_needs site n None (Touch key exptime) moment class is = absurd (cc is)
+fresh_needs site n (Some item) (Touch key exptime) moment class is = absurd (cc is)
+fresh_needs site n None (Delete key) moment class is = absurd (cc is)
+fresh_needs site n (Some item) (Delete key) moment class is = absurd (cc is)
+
+-- the call of a command that needs a chunk is that of one that may
+pub begun_search : (config : Config) (sight : Sight) (who : Who) (command : Command) (moment : ℕ) (s : Stripe) (class : ClassNo) → (row_at s command moment).need ≡ needs.Fresh class
+    → HasBegunAs config sight who moment (asked_for command moment) → HasBegunSearch config sight who moment
+begun_search config sight who command moment s class is begun =
+    record { command = command; needs = fresh_needs s.site (cache_now s).versions (item_of s command) command moment class is; begun = begun }

@@ -20,9 +20,10 @@ use Rattle.mc_pull.specs.Growth as classes
 use Rattle.mc_pull.specs.Question as made
 use Rattle.mc_store.specs.{Callers.AreCalled, Callers.answered_at, Callers.asked_for, Callers.calls_told, Passes.CallerView, Passes.HasAsked, Passes.HasCalled}
 use Rattle.mc_store.specs.Locked.{HasBegunAs, IsHeldClass, IsLockedClass, IsLockedStripe, caller_place, locks_for}
-use Rattle.mc_store.specs.{Made.GainsOwn, Performing.IsRefusedIn, Serving.IsShort, Serving.class_side, Sides.ClassSide, Sides.StripeSide, Sides.class_told}
+use Rattle.mc_store.specs.{Made.MayNeedChunk, Performing.IsRefusedIn, Serving.IsShort, Serving.class_side, Sides.ClassSide, Sides.StripeSide, Sides.class_told}
 use Rattle.mc_store.specs.{Sides.stripe_told, Trying.IsTriedUnder, Trying.Stay, Trying.is_made}
-use Rattle.mc_store.proofs.{SeenStripeLemmas.on_err_more, CallerLemmas.called_performed, LentClassLemmas.lent_grow, LentClassLemmas.own_behind, OwnEventLemmas.gains_performed}
+use Rattle.mc_store.proofs.{SeenStripeLemmas.on_err_more, CallerLemmas.called_performed, LentClassLemmas.lent_grow, LentClassLemmas.own_behind}
+use Rattle.mc_store.proofs.OwnEventLemmas.{GainsFit, fits_any, gains_performed}
 use Rattle.mc_store.proofs.{OwnEventLemmas.locked_told, OwnEventLemmas.noted_called, LockKeepsLemmas.grows_trans, LockKeepsLemmas.seen_on, LockKeepsLemmas.stripe_sees}
 use Rattle.mc_store.proofs.SyncedLemmas.{lent_more, lent_said, own_more, own_said, stripe_side}
 use Rattle.mc_store.proofs.SyncedCommandLemmas.{alone_end, class_end, one_end, two_end}
@@ -93,7 +94,7 @@ module _ {table : TableId} {config : Config} {owner : OwnerView} {seen : SeenVie
 pub record IsLent (table : TableId) (config : Config) (turn : Turn) (s s_new : Stripe) (owner : OwnerView) (seen : SeenView) (v w : ClassView) : Type 0 where
   pub kept : IsLockedClass table config (class_side owner seen v)
   pub grows : classes.GainsEvents v w
-  pub gains : GainsOwn turn.who turn.moment v.history w.history
+  pub gains : GainsFit turn.who turn.moment ⊥ v.history w.history
   pub agrees : AgreeNow w s_new
   pub backs : BacksStill s.site v w
   pub suits : SuitsStill s.site v w
@@ -126,7 +127,7 @@ module _ {table : TableId} {config : Config} {command : Command} {turn : Turn} {
   refused_in : IsRefusedIn call_in.room vs
   refused_in = refused_at config s s_new command turn given vs ws step.may.refused step.may.offered t step.tried
 
-  gain_in : EachPair (λ v w. GainsOwn turn.who turn.moment v.history w.history) vs ws
+  gain_in : EachPair (λ v w. GainsFit turn.who turn.moment ⊥ v.history w.history) vs ws
   gain_in = gains_performed s s_new call_in vs ws (result_of t) made_in none_in
 
   -- the classes have only grown
@@ -245,10 +246,10 @@ module _ {table : TableId} {config : Config} {command : Command} {turn : Turn} {
       let held = subst (IsHeldClass table config) (sym (lent_said was first mid w own_told own_end first_is left.is told))
       (class_end table config own_seen kept_seen s_new (call_in step) step.site legal known.called was w lent.kept.held lent.grows lawful lent.agrees lent.backs lent.suits
       (lent_more was first mid w own_told own_end first_is left.is told more)) in
-      locked_told table config was first mid last turn.who turn.moment lent.kept
-      (subst (λ (x : ClassSide). GainsOwn turn.who turn.moment v.history x.class.history) (sym first_is) lent.gains)
+      locked_told table config was first mid last turn.who turn.moment lent.kept (record { command = command; begun = begun })
+      (subst (λ (x : ClassSide). GainsFit turn.who turn.moment (MayNeedChunk command) v.history x.class.history) (sym first_is)
+      (fits_any turn.who turn.moment (MayNeedChunk command) v.history w.history lent.gains))
       (ap (λ (x : ClassSide). x.class.number) first_is ∙ ap (λ (x : ClassView). x.number) lent.grows.same) (ap (λ (x : ClassSide). x.sight) first_is) (ap (λ (x : ClassSide). x.class) told) more held learnt grows
-      (record { command = command; begun = begun })
 
   -- the stripe has seen all that it had, and what a try came to
   pub left_sees : {side own own_new : StripeSide} {sight : Sight} → IsOpenStripe table config owner seen s side own → IsLeft owner s_new noting own_new sight → Grows own.sight own_new.sight

@@ -1,7 +1,7 @@
 -- Events of slab classes: those that one call makes are its own, and a class that gained only such ones has each event called.
-use Rattle.std.proofs.Common.{◌≡◌, ◌<◌, ◌+◌, ℕ, zero, suc, List, [], ◌∷◌, ◌++◌, Some, Result, Ok, Err, slice_get, length, append_assoc, refl, sym, ap, ◌∙◌, subst, ⊎_elim}
+use Rattle.std.proofs.Common.{◌≡◌, ◌<◌, ◌+◌, ℕ, zero, suc, List, [], ◌∷◌, ◌++◌, Some, Result, Ok, Err, slice_get, length, append_assoc, refl, sym, ap, ◌∙◌, subst, false, ◌⊎◌, inl, inr, ⊎_elim}
 use Rattle.std.specs.Prelude.{IfOk, OnOk, OnErr, Option, None}
-use Rattle.std.proofs.lemmas.List.{append-nil}
+use Rattle.std.proofs.lemmas.List.{append-nil, append_cancel_left}
 use Rattle.atomic_table.specs.Seated.{TableId}
 use Rattle.mc_item.specs.declared.{call_event.CallEvent.CallEvent, class_event.ClassEvent.ClassEvent, class_event.Surveyed.Surveyed, command.Command.Command}
 use Rattle.mc_item.specs.declared.{config.Config.Config, fault.Fault.Fault, item.ClassNo.ClassNo, item.Who.Who}
@@ -10,18 +10,18 @@ use Rattle.mc_board.specs.Histories.{Grows, list_at}
 use Rattle.mc_board.specs.declared.rule.Sight.{Sight}
 use Rattle.mc_board.proofs.PrefixLemmas.{prefix_self}
 use Rattle.mc_segment.specs.{ClassCalls.Makes, ClassCalls.Stays, ClassCalls.refused_event, ClassState.ClassView, ClassState.with_room}
-use Rattle.mc_stripe.specs.StripeState.{Stripe}
+use Rattle.mc_stripe.specs.StripeState.{Stripe, cache_now}
 use Rattle.mc_pull.specs.declared.{judge.Done.Done, judge.Judge.Judge, judge.Judge.TheVariants.Walk, judge.Judge.TheVariants.Dead}
 use Rattle.mc_pull.specs.declared.{judge.Judge.TheVariants.Hit, looking.Judged.Judged}
 use Rattle.mc_pull.specs.declared.judge.Done.TheVariants as done
-use Rattle.mc_pull.specs.{Lent.EachPair, Looks.events_if, Perform.Call, Performed.GainsPart, Performed.IsPerformed, Performed.IsUntouched, Question.Question}
+use Rattle.mc_pull.specs.{Growth.GainsFor, Growth.NoneLooks, Judgement.done_of, Lent.EachPair, Looks.events_if, Perform.Call, Performed.GainsPart, Performed.IsPerformed, Performed.IsUntouched, Question.Question}
 use Rattle.mc_pull.specs.Performed as performed
 use Rattle.mc_pull.specs.Settled.{IsSettled, done_class_events, class_with, cold_events, warm_events}
-use Rattle.mc_pull.proofs.EventsLemmas.{events_so}
+use Rattle.mc_pull.proofs.{ChunkEventLemmas.judge_looks, ChunkEventLemmas.none_done, EventsLemmas.events_so}
 use Rattle.mc_crawl.specs.Crawl.{AreReclaims, Reclaims}
 use Rattle.mc_store.specs.Callers.{answered_at, asked_for, call_events, crawling_of, juggling_of}
 use Rattle.mc_store.specs.Locked.{HasBegunAs, HasBegunCommand, IsHeldClass, IsLockedClass, locks_for}
-use Rattle.mc_store.specs.Made.{AreCalledInClass, AreOwnEvents, GainsOwn, IsClassCalled, IsOwnEvent, SuitsCall, WalksOwn, maker_of}
+use Rattle.mc_store.specs.Made.{AreCalledInClass, AreOwnEvents, GainsOwn, IsClassCalled, IsOwnEvent, MayNeedChunk, SuitsCall, WalksOwn, maker_of}
 use Rattle.mc_store.specs.{Passes.CallerView, Passes.HasAsked, Passes.HasCalled, Sides.ClassSide}
 use Rattle.mc_store.proofs.CallerLemmas.{asked_called, begun_as_more, class_called_prefix, get_append}
 use Rattle.mc_store.proofs.LockKeepsLemmas.{class_sees, grows_trans}
@@ -43,6 +43,18 @@ gains_both who moment a b c first more = record {
   history_is = more.history_is ∙ (ap (λ (h : List ClassEvent). h ++ more.events) first.history_is ∙ append_assoc a first.events more.events);
   each = own_both who moment first.events more.events first.each more.each;
 }
+
+-- a call's own events, of which none looks for a chunk unless the call may
+abbrev pub GainsFit : Who → ℕ → Type 0 → List ClassEvent → List ClassEvent → Type 0
+GainsFit who moment May history history_new = (gains : GainsOwn who moment history history_new) × (NoneLooks gains.events ⊎ May)
+
+pub fits_any : (who : Who) (moment : ℕ) (May : Type 0) (history history_new : List ClassEvent) → GainsFit who moment ⊥ history history_new → GainsFit who moment May history history_new
+fits_any who moment May history history_new fit = (fit.0, ⊎_elim (λ none. inl none) (λ never. absurd never) fit.1)
+
+-- a call's own events are those that its class gained
+pub none_own : (who : Who) (moment : ℕ) (c c_new : ClassView) (gains : GainsOwn who moment c.history c_new.history) → GainsFor false c c_new → NoneLooks gains.events
+none_own who moment c c_new gains more =
+    subst NoneLooks (append_cancel_left c.history more.grows.events gains.events (sym more.grows.history_is ∙ gains.history_is)) (more.none refl)
 
 -- ---- what calls make
 
@@ -76,26 +88,34 @@ pub gains_judged : (c c_new : ClassView) (q : Question) (j : Option Judged) → 
 gains_judged c c_new q j is = record { events = events_if c q j; history_is = ap (λ (v : ClassView). v.history) is; each = own_judged c q j }
 
 -- a class after a judgement, however that ended
-pub gains_settled : (c c_new : ClassView) (s s_new : Stripe) (q : Question) (r : Result Done Fault) → IfOk r (λ made. IsSettled c c_new s s_new q made)
-    → OnErr r ((c_new ≡ with_room c c_new.room) × (s_new.history ≡ s.history)) → GainsOwn q.who q.moment c.history c_new.history
-gains_settled c c_new s s_new q (Ok made) settled err =
-    record { events = done_class_events c q (length s.history) made; history_is = ap (λ (v : ClassView). v.history) settled.class; each = own_done c q (length s.history) made }
-gains_settled c c_new s s_new q (Err fault) settled err = gains_none q.who q.moment c.history c_new.history (ap (λ (v : ClassView). v.history) err.0)
+pub gains_settled : (May : Type 0) (c c_new : ClassView) (s s_new : Stripe) (q : Question) → judge_looks q.judge ≡ false → (r : Result Done Fault)
+    → IfOk r (λ made. made ≡ done_of c (cache_now s) q) → IfOk r (λ made. IsSettled c c_new s s_new q made)
+    → OnErr r ((c_new ≡ with_room c c_new.room) × (s_new.history ≡ s.history)) → GainsFit q.who q.moment May c.history c_new.history
+gains_settled May c c_new s s_new q off (Ok made) done settled err = (
+  record { events = done_class_events c q (length s.history) made; history_is = ap (λ (v : ClassView). v.history) settled.class; each = own_done c q (length s.history) made },
+  inl (none_done c q (cache_now s) (length s.history) made off done),
+)
+gains_settled May c c_new s s_new q off (Err fault) done settled err = (record { events = []; history_is = ap (λ (v : ClassView). v.history) err.0 ∙ sym (append-nil c.history); each = tt }, inl tt)
 
 -- a command's events in a class are its own
 own_part : (s : Stripe) (c : Call) (v : ClassView) → AreOwnEvents c.who c.moment (performed.events_in s c v)
 own_part s c v = events_so (AreOwnEvents c.who c.moment) s c v tt (λ key cost expiry. ((refl, refl), tt))
     (λ key cost expiry number. ((refl, refl), ((refl, tt), tt))) (λ number. ((refl, tt), tt))
 
+-- and none looks for a chunk
+none_part : (s : Stripe) (c : Call) (v : ClassView) → NoneLooks (performed.events_in s c v)
+none_part s c v = events_so NoneLooks s c v tt (λ key cost expiry. ((λ h. h), tt))
+    (λ key cost expiry number. ((λ h. h), ((λ h. h), tt))) (λ number. ((λ h. h), tt))
+
 module _ (s s_new : Stripe) (c : Call) where
-  part_gains : (v w : ClassView) → GainsPart s c v w → GainsOwn c.who c.moment v.history w.history
-  part_gains v w gains = record { events = performed.events_in s c v; history_is = ap (λ (x : ClassView). x.history) gains; each = own_part s c v }
+  part_gains : (v w : ClassView) → GainsPart s c v w → GainsFit c.who c.moment ⊥ v.history w.history
+  part_gains v w gains = (record { events = performed.events_in s c v; history_is = ap (λ (x : ClassView). x.history) gains; each = own_part s c v }, inl (none_part s c v))
 
-  stays_gains : (v w : ClassView) → performed.ClassStays v w → GainsOwn c.who c.moment v.history w.history
-  stays_gains v w stays = gains_none c.who c.moment v.history w.history (ap (λ (x : ClassView). x.history) stays)
+  stays_gains : (v w : ClassView) → performed.ClassStays v w → GainsFit c.who c.moment ⊥ v.history w.history
+  stays_gains v w stays = (record { events = []; history_is = ap (λ (x : ClassView). x.history) stays ∙ sym (append-nil v.history); each = tt }, inl tt)
 
-  each_gains : (R : ClassView → ClassView → Type 0) → ((v w : ClassView) → R v w → GainsOwn c.who c.moment v.history w.history) → (xs ys : List ClassView) → EachPair R xs ys
-      → EachPair (λ v w. GainsOwn c.who c.moment v.history w.history) xs ys
+  each_gains : (R : ClassView → ClassView → Type 0) → ((v w : ClassView) → R v w → GainsFit c.who c.moment ⊥ v.history w.history) → (xs ys : List ClassView) → EachPair R xs ys
+      → EachPair (λ v w. GainsFit c.who c.moment ⊥ v.history w.history) xs ys
   each_gains R more [] [] each = tt
   each_gains R more [] (y ∷ ys) each = absurd each
   each_gains R more (x ∷ xs) [] each = absurd each
@@ -103,7 +123,7 @@ module _ (s s_new : Stripe) (c : Call) where
 
   -- classes that were lent to a command, whether it was made or not
   pub gains_performed : {T : Type 0} (vs ws : List ClassView) (r : Result T Fault) → OnOk r (IsPerformed s s_new c vs ws) → OnErr r (IsUntouched s s_new vs ws)
-      → EachPair (λ v w. GainsOwn c.who c.moment v.history w.history) vs ws
+      → EachPair (λ v w. GainsFit c.who c.moment ⊥ v.history w.history) vs ws
   gains_performed vs ws (Ok x) made err = each_gains (λ v w. GainsPart s c v w) (λ v w g. part_gains v w g) vs ws made.classes
   gains_performed vs ws (Err f) made err = each_gains (λ v w. performed.ClassStays v w) (λ v w g. stays_gains v w g) vs ws err.classes
 
@@ -137,15 +157,16 @@ abbrev pub AreOf : ClassNo → List ClassEvent → CallEvent → Type 0
 AreOf class [] call = Unit {0}
 AreOf class (e ∷ es) call = SuitsCall class e call × AreOf class es call
 
--- all may be of a command
-pub of_command : (class : ClassNo) (es : List ClassEvent) (command : Command) (moment : ℕ) → AreOf class es (asked_for command moment)
-of_command class [] command moment = tt
-of_command class (e ∷ es) command moment = (tt, of_command class es command moment)
+-- all may be of a command, if none looks for a chunk or the command may need one
+of_command : (class : ClassNo) (es : List ClassEvent) (command : Command) (moment : ℕ) → NoneLooks es ⊎ MayNeedChunk command → AreOf class es (asked_for command moment)
+of_command class [] command moment fit = tt
+of_command class (e ∷ es) command moment (inl none) = ((λ looks. absurd (none.0 looks)), of_command class es command moment (inl none.1))
+of_command class (e ∷ es) command moment (inr may) = ((λ looks. may), of_command class es command moment (inr may))
 
--- and of juggling of their class
-pub of_juggling : (class : ClassNo) (es : List ClassEvent) (moment : ℕ) → AreOf class es (juggling_of class moment)
-of_juggling class [] moment = tt
-of_juggling class (e ∷ es) moment = (refl, of_juggling class es moment)
+-- and of juggling of their class, if none looks for a chunk
+pub of_juggling : (class : ClassNo) (es : List ClassEvent) (moment : ℕ) → NoneLooks es → AreOf class es (juggling_of class moment)
+of_juggling class [] moment none = tt
+of_juggling class (e ∷ es) moment none = ((refl, none.0), of_juggling class es moment none.1)
 
 -- an event of a class was called by one of the callers, as far as that one's history was seen
 abbrev WasMade : Config → ClassNo → ClassEvent → Sight → Type 0
@@ -214,21 +235,23 @@ locked_gains table config old new who moment call kept held number begun more ga
 
 -- the same of a command
 pub locked_commanded : (table : TableId) (config : Config) (old new : ClassSide) (who : Who) (moment : ℕ) → IsLockedClass table config old → IsHeldClass table config new
-    → new.class.number ≡ old.class.number → HasBegunCommand config new.sight who moment → Grows old.sight new.sight
-    → GainsOwn who moment old.class.history new.class.history → IsLockedClass table config new
+    → new.class.number ≡ old.class.number → (begun : HasBegunCommand config new.sight who moment) → Grows old.sight new.sight
+    → GainsFit who moment (MayNeedChunk begun.command) old.class.history new.class.history → IsLockedClass table config new
 locked_commanded table config old new who moment kept held number begun more gains =
-    locked_gains table config old new who moment (asked_for begun.command moment) kept held number begun.begun more gains (of_command old.class.number gains.events begun.command moment)
+    locked_gains table config old new who moment (asked_for begun.command moment) kept held number begun.begun more gains.0
+    (of_command old.class.number gains.0.events begun.command moment gains.1)
 
 -- behind a step of which it told the stripe it was told of it, and of the command
-pub locked_told : (table : TableId) (config : Config) (old first mid new : ClassSide) (who : Who) (moment : ℕ) → IsLockedClass table config old → GainsOwn who moment old.class.history first.class.history
+pub locked_told : (table : TableId) (config : Config) (old first mid new : ClassSide) (who : Who) (moment : ℕ) → IsLockedClass table config old
+    → (begun : HasBegunCommand config new.sight who moment) → GainsFit who moment (MayNeedChunk begun.command) old.class.history first.class.history
     → first.class.number ≡ old.class.number → first.sight ≡ old.sight
     → mid.class ≡ first.class → Grows first.sight mid.sight → IsHeldClass table config mid → new ≡ record mid { sight = new.sight } → Grows mid.sight new.sight
-    → HasBegunCommand config new.sight who moment → IsLockedClass table config new
-locked_told table config old first mid new who moment kept gains number same told more held learnt grows begun =
+    → IsLockedClass table config new
+locked_told table config old first mid new who moment kept begun gains number same told more held learnt grows =
     subst (IsLockedClass table config) (sym learnt)
     (locked_commanded table config old (record mid { sight = new.sight }) who moment kept (class_sees table config mid new.sight grows held) (ap (λ (v : ClassView). v.number) told ∙ number) begun
     (subst (λ (s : Sight). Grows s new.sight) same (grows_trans first.sight mid.sight new.sight more grows))
-    (subst (λ (v : ClassView). GainsOwn who moment old.class.history v.history) (sym told) gains))
+    (subst (λ (v : ClassView). GainsFit who moment (MayNeedChunk begun.command) old.class.history v.history) (sym told) gains))
 
 -- ---- a crawl's events
 

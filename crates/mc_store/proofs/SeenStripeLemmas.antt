@@ -1,5 +1,5 @@
 -- What a pass has seen of a stripe behind a call.
-use Rattle.std.proofs.Common.{◌≡◌, ◌<◌, ℕ, List, inl, inr, arith, Result, Ok, Err, refl, sym, ap, ◌∙◌, subst, ◌++◌, ◌∷◌, [], ◌≤◌, ◌+◌, length, length-append, ◌^◌, Some}
+use Rattle.std.proofs.Common.{◌≡◌, ◌<◌, ℕ, List, inl, inr, arith, Result, Ok, Err, refl, sym, ap, ◌∙◌, subst, ◌++◌, ◌∷◌, [], ◌+◌, length, Some}
 use Rattle.std.specs.Prelude.{◌⊎◌, IfOk, IfSome, IsErrOf, IsSomeAnd, None, OnErr, Option}
 use mathlib.Core.List.{IsPrefix}
 use Rattle.atomic_table.specs.Seated.{TableId}
@@ -18,7 +18,7 @@ use Rattle.mc_store.specs.{Hits.queue_of, Hits.with_offer, Waking.MakesActive, W
 use Rattle.mc_store.proofs.LockKeepsLemmas.{site_of_number}
 use Rattle.mc_store.specs.declared.replied.Replied.{Replied}
 use Rattle.mc_store.proofs.{EarnedRefusalLemmas.told_sees, ShortHistoryLemmas.short_grows, ShortHistoryLemmas.short_stripe, SyncedStepLemmas.map_length}
-use Rattle.mc_store.specs.Callers.{asked_for, answered_at, turns_of, calls_told, moment_of}
+use Rattle.mc_store.specs.Callers.{HasNoneOf, asked_for, answered_at, turns_of, calls_told, moment_of}
 use Rattle.mc_store.specs.Passes.{CallerView, PassView, HasAsked, HasCalled, caller_of, next_who}
 use Rattle.mc_item.specs.declared.call_event.CallEvent.TheVariants.{Answered, Asked, Crawled, Juggled}
 
@@ -59,14 +59,15 @@ module _ {table : TableId} {config : Config} {number : ℕ} {old new : StripeSid
   -- a command that ended under the lock of its stripe is shared so with its pass
   pub shared_by : {caller caller_new : CallerView} {command : Command} {turn : Turn} (r : Result Replied Fault) (calls : List CallEvent)
       → Ends config old.stripe new caller caller_new command turn r → caller.calls ≡ calls ++ asked_for command turn.moment ∷ []
-      → IsShared config number before after calls caller_new.calls turn.who command turn.moment (reply_in r)
-  shared_by {command = command} {turn = turn} (Ok reply) calls ends asked =
+      → HasNoneOf turn.who old.stripe.history → IsShared config number before after calls caller_new.calls turn.who command turn.moment (reply_in r)
+  shared_by {command = command} {turn = turn} (Ok reply) calls ends asked first =
       let was = ends.replied.replied_is in
       let did : Did = record { who = turn.who; command = command; moment = turn.moment; reply = was.answered.reply; room = was.answered.room } in record {
         replied = record {
           old = old.stripe;
           new = new.stripe;
           grew = seen_grow ends.site;
+          first = first;
           replied = record {
             place = was.place;
             answered = was.answered;
@@ -78,9 +79,9 @@ module _ {table : TableId} {config : Config} {number : ℕ} {old new : StripeSid
         cut = tt;
         full = λ e. absurd (cc e);
       }
-  shared_by (Err fault) calls ends asked = record {
+  shared_by (Err fault) calls ends asked first = record {
     replied = tt;
-    cut = record { old = old.stripe; new = new.stripe; grew = seen_grow ends.site; cut = ends.cut; noted = ap (λ (v : CallerView). v.calls) ends.unnoted ∙ asked };
+    cut = record { old = old.stripe; new = new.stripe; grew = seen_grow ends.site; first = first; cut = ends.cut; noted = ap (λ (v : CallerView). v.calls) ends.unnoted ∙ asked };
     full = λ e. short_shared (ends.full (full_too fault e));
   }
 
@@ -125,41 +126,26 @@ on_err_more (Ok x) P Q more p = tt
 on_err_more (Err f) P Q more p = more p
 
 -- an answer is no turn
-turns_answered : (calls : List CallEvent) (stripe place : ℕ) → turns_of (calls ++ answered_at stripe place ∷ []) ≡ turns_of calls
+pub turns_answered : (calls : List CallEvent) (stripe place : ℕ) → turns_of (calls ++ answered_at stripe place ∷ []) ≡ turns_of calls
 turns_answered [] stripe place = refl
 turns_answered (Asked a ∷ calls) stripe place = ap (λ (l : List CallEvent). Asked a ∷ l) (turns_answered calls stripe place)
 turns_answered (Juggled w ∷ calls) stripe place = ap (λ (l : List CallEvent). Juggled w ∷ l) (turns_answered calls stripe place)
 turns_answered (Crawled w ∷ calls) stripe place = ap (λ (l : List CallEvent). Crawled w ∷ l) (turns_answered calls stripe place)
 turns_answered (Answered a ∷ calls) stripe place = turns_answered calls stripe place
 
--- a command adds no turn to its caller's history once it was asked for, and at most its answer
+-- a command adds no turn to its caller's history once it was asked for
 pub turns_kept : {config : Config} {s : Stripe} {own_new : StripeSide} {caller caller_new : CallerView} {command : Command} {turn : Turn} (r : Result Replied Fault)
     → Ends config s own_new caller caller_new command turn r
-    → (turns_of caller_new.calls ≡ turns_of caller.calls) × (length caller_new.calls ≤ length caller.calls + 1)
+    → turns_of caller_new.calls ≡ turns_of caller.calls
 turns_kept {s = s} {caller = caller} {caller_new = caller_new} (Ok reply) ends =
     let is = ends.replied.replied_is.noted in
     let place = ends.replied.replied_is.place in
-    let long = length-append caller.calls (answered_at s.site.stripe place ∷ []) in
-    let all : length caller_new.calls ≡ length (caller.calls ++ answered_at s.site.stripe place ∷ []) = ap (λ (l : List CallEvent). length l) is in
-    (ap turns_of is ∙ turns_answered caller.calls s.site.stripe place, omega (arith, all, long))
-turns_kept (Err fault) ends =
-    (ap (λ (v : CallerView). turns_of v.calls) ends.unnoted, omega (arith, ap (λ (v : CallerView). length v.calls) ends.unnoted))
-
-turns_both : (xs ys : List CallEvent) → length (turns_of (xs ++ ys)) ≡ length (turns_of xs) + length (turns_of ys)
-turns_both [] ys = omega arith
-turns_both (Asked a ∷ xs) ys = omega (arith, turns_both xs ys)
-turns_both (Juggled w ∷ xs) ys = omega (arith, turns_both xs ys)
-turns_both (Crawled w ∷ xs) ys = omega (arith, turns_both xs ys)
-turns_both (Answered a ∷ xs) ys = turns_both xs ys
+    ap turns_of is ∙ turns_answered caller.calls s.site.stripe place
+turns_kept (Err fault) ends = ap (λ (v : CallerView). turns_of v.calls) ends.unnoted
 
 -- a call is one event, and takes one turn
-pub turn_taken : (calls es : List CallEvent) (told : List Event) (turn : ℕ) → length (turns_of es) ≡ 1 → calls_told es ≡ told → length told ≡ 1 → length (turns_of calls) ≡ turn → length calls ≤ turn + turn
-    → (length (turns_of (calls ++ es)) ≡ turn + 1) × (length (calls ++ es) < (turn + 1) + (turn + 1))
-turn_taken calls es told turn one is single turns few =
-    let both = turns_both calls es in
-    let long = length-append calls es in
-    let event : length es ≡ 1 = sym (map_length Call es) ∙ (ap (λ (l : List Event). length l) is ∙ single) in
-    (omega (arith, both, one, turns), omega (arith, long, event, few))
+pub one_event : (es : List CallEvent) (told : List Event) → calls_told es ≡ told → length told ≡ 1 → length es ≡ 1
+one_event es told is single = sym (map_length Call es) ∙ (ap (λ (l : List Event). length l) is ∙ single)
 
 -- what always holds holds of a failure
 pub on_err_always : {X E P : Type 0} (r : Result X E) → P → OnErr r P
@@ -178,11 +164,10 @@ called_now old now call who moment caller calls is turns handed = record {
 -- and a command is the last that it asked for
 pub asked_now : (old now : PassView) (command : Command) (who : Who) (moment : ℕ)
     → now ≡ record old { turn = old.turn + 1; calls = old.calls ++ asked_for command moment ∷ [] } → who ≡ next_who old → length (turns_of old.calls) ≡ old.turn
-    → length now.calls < now.turn + now.turn → now.turn < 2 ^ 63 → HasAsked (caller_of now) who command moment
-asked_now old now command who moment turn is turns room few = record {
+    → HasAsked (caller_of now) who command moment
+asked_now old now command who moment turn is turns = record {
   number = ap (λ (w : Who). w.caller) is ∙ sym (ap (λ (p : PassView). p.caller) turn);
   before = old.calls;
   last = ap (λ (p : PassView). p.calls) turn;
   turn = turns ∙ sym (ap (λ (w : Who). w.turn) is);
-  room = omega (arith, room, few);
 }

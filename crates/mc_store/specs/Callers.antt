@@ -1,10 +1,11 @@
 -- Callers' histories: each event of a stripe was made by a call of its caller, whose history has that call (own).
 -- On the board they come after those of stripes and classes, and only a caller's pass adds to the caller's.
 -- A turn is the number of a call, from 0. A moment is a time in seconds. A place is the number of earlier events in a history.
-use Rattle.std.specs.Prelude.{◌≡◌, ◌<◌, ◌+◌, ◌++◌, ◌⊎◌, ℕ, List, [], ◌∷◌, Option, Some, None, length, map, slice_get}
+use Rattle.std.specs.Prelude.{◌≡◌, ◌≢◌, ◌<◌, ◌+◌, ◌-◌, ◌++◌, ◌⊎◌, ℕ, List, [], ◌∷◌, Option, Some, None, length, map, slice_get}
 use Rattle.mc_item.specs.declared.{call_event.CallEvent.CallEvent, command.Command.Command, event.Event.Event, event.Event.TheVariants.Call}
 use Rattle.mc_item.specs.declared.{event.Event.TheVariants.Class, event.Event.TheVariants.Stripe, item.ClassNo.ClassNo, item.Who.Who, stripe_event.Cause.Cause}
 use Rattle.mc_item.specs.declared.{stripe_event.Cause.TheVariants.Expired, stripe_event.Cause.TheVariants.Taken, stripe_event.StripeEvent.StripeEvent}
+use Rattle.mc_store.specs.declared.placed.Placed.{Placed}
 use Rattle.mc_item.specs.declared.call_event.CallEvent.TheVariants.{Answered, Asked, Crawled, Juggled}
 use Rattle.mc_item.specs.declared.stripe_event.StripeEvent.TheVariants as events
 
@@ -50,6 +51,38 @@ moment_of (Juggled worked) = Some worked.moment
 moment_of (Crawled worked) = Some worked.moment
 moment_of (Answered answered) = None
 
+-- the answers among these events of a caller that has had so many turns before them: the turn that was answered, and where
+abbrev pub placed_from : ℕ → List CallEvent → List Placed
+placed_from turns [] = []
+placed_from turns (Asked asked ∷ calls) = placed_from (turns + 1) calls
+placed_from turns (Juggled worked ∷ calls) = placed_from (turns + 1) calls
+placed_from turns (Crawled worked ∷ calls) = placed_from (turns + 1) calls
+placed_from turns (Answered answered ∷ calls) = record { turn = turns - 1; stripe = answered.stripe; place = answered.place } ∷ placed_from turns calls
+
+-- where a caller's commands were answered, in their order
+abbrev pub placed_in : List CallEvent → List Placed
+placed_in calls = placed_from 0 calls
+
+-- a caller's command was answered here, as the caller's history says
+abbrev pub IsPlace : List CallEvent → Placed → Type 0
+IsPlace calls placed = (k : ℕ) × (slice_get (placed_in calls) k ≡ Some placed)
+
+-- a caller's last event is a call: it isn't answered yet
+pub record IsUnanswered (calls : List CallEvent) : Type 0 where
+  pub before : List CallEvent
+  pub call : CallEvent
+  pub moment : ℕ
+  pub last : calls ≡ before ++ call ∷ []
+  pub is_call : moment_of call ≡ Some moment
+
+-- the first of these events isn't an answer
+abbrev pub HasNoAnswer : List CallEvent → Type 0
+HasNoAnswer [] = Unit {0}
+HasNoAnswer (Answered answered ∷ calls) = ⊥
+HasNoAnswer (Asked asked ∷ calls) = Unit {0}
+HasNoAnswer (Juggled worked ∷ calls) = Unit {0}
+HasNoAnswer (Crawled worked ∷ calls) = Unit {0}
+
 -- the event is one of these
 abbrev pub IsCall : CallEvent → List CallEvent → Type 0
 IsCall call [] = ⊥
@@ -79,6 +112,10 @@ abbrev pub who_of : StripeEvent → Who
 who_of (events.Did did) = did.who
 who_of (events.Lost lost) = lost.who
 who_of (events.Cooled cooled) = cooled.who
+
+-- no event of this history of a stripe is of this call
+pub record HasNoneOf (who : Who) (history : List StripeEvent) : Type 0 where
+  pub each : (place : ℕ) (event : StripeEvent) → slice_get history place ≡ Some event → who_of event ≢ who
 
 -- if the cause of a loss is that the item was dead, it was so at this moment
 abbrev pub IsMomentOf : Cause → ℕ → Type 0

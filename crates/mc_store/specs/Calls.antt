@@ -10,8 +10,9 @@ use Rattle.mc_segment.specs.ClassState.{ClassView}
 use Rattle.mc_stripe.specs.{StripeState.Stripe, StripeCalls.KeepsSite}
 use Rattle.mc_pull.specs.{Juggle.IsJuggle, Question.IsClassOf, Question.IsStripeOf, Rounds.rounds}
 use Rattle.mc_pull.specs.declared.looking.Answer.{Answer}
-use Rattle.mc_store.specs.{Commands.IsAnswered, Commands.IsCut, Callers.answered_at, Callers.asked_for, Earned.IsEarned, Locked.class_lock, Locked.setting_of}
-use Rattle.mc_store.specs.{Hits.IsAdvancedBy, Hits.queue_of, Passes.PassView, Passes.next_who, Sides.class_told, Sides.stripe_told}
+use Rattle.mc_store.specs.{Commands.IsAnswered, Commands.IsCut, Callers.HasNoneOf, Callers.answered_at, Callers.asked_for, Earned.IsEarned, Locked.class_lock}
+use Rattle.mc_store.specs.Locked.{setting_of}
+use Rattle.mc_store.specs.{Hits.IsAdvancedBy, Hits.queue_of, Made.HasNoneMadeBy, Passes.PassView, Passes.next_who, Sides.class_told, Sides.stripe_told}
 use Rattle.mc_store.specs.Waking.{MakesActive}
 use Rattle.mc_hits.specs.Views.{HandsView}
 use Rattle.mc_stripe.specs.declared.trying.Turn.{Turn}
@@ -44,21 +45,24 @@ pub record IsSeenGrow (config : Config) (number : ℕ) (before after : Sight) (s
   pub now : list_at after.seen number ≡ stripe_told s_new.history
   pub sound : StripeKeeps (setting_of config) number s_new.history (classes_seen config.stripes (list_at after.seen))
 
--- a command was answered with this reply at one point of its stripe's growing history, after all that the pass had seen; its
--- caller's history gains two events, the call and the place of the answer
+-- a command was answered with this reply at one point of its stripe's growing history, after all that the pass had seen and what
+-- other calls made; its caller's history gains two events, the call and the place of the answer
 pub record IsRepliedBy (config : Config) (number : ℕ) (before after : Sight) (calls calls_new : List CallEvent) (who : Who) (command : Command) (moment : ℕ)
     (reply : Reply) : Type 0 where
   pub old : Stripe
   pub new : Stripe
   pub grew : IsSeenGrow config number before after old new
+  pub first : HasNoneOf who old.history
   pub replied : IsReplied config who command moment old new after (calls ++ asked_for command moment ∷ []) calls_new reply
 
--- a command was broken off: its stripe's history gains at most what leads up to it, and its caller's history gains just the call
+-- a command was broken off: after what the pass had seen and what other calls made, its stripe's history gains at most what leads
+-- up to it, and its caller's history gains just the call
 pub record IsCutBy (config : Config) (number : ℕ) (before after : Sight) (calls calls_new : List CallEvent) (who : Who) (command : Command) (moment : ℕ) : Type
     0 where
   pub old : Stripe
   pub new : Stripe
   pub grew : IsSeenGrow config number before after old new
+  pub first : HasNoneOf who old.history
   pub cut : IsCut config who command moment old new
   pub noted : calls_new ≡ calls ++ asked_for command moment ∷ []
 
@@ -81,9 +85,10 @@ pub record IsUpkept (config : Config) (c : ClassView) (turn : Turn) (hands hands
   pub answers : List Answer
   pub juggle : IsJuggle (rounds c turn.who turn.moment config) (c.history ++ advances) answers ((c.history ++ advances) ++ own) moves
 
--- a class was juggled, after all that the pass had seen of it
+-- a class was juggled, after all that the pass had seen of it and what other calls made
 pub record IsJuggledBy (config : Config) (class : ClassNo) (before after : PassView) (moment : ℕ) (moves : Moves) : Type 0 where
   pub old : ClassView
   pub history_new : List ClassEvent
   pub grew : IsSeenGrowOf config class before.sight after.sight old history_new
+  pub first : HasNoneMadeBy (next_who before) old.history
   pub upkept : IsUpkept config old (record { who = next_who before; moment = moment }) before.hands after.hands history_new moves

@@ -1,14 +1,16 @@
 -- A closed store: its stripes and its classes, and what was seen of them before (own).
-use Rattle.std.specs.Prelude.{◌≡◌, ℕ, ◌+◌, ◌-◌, ◌<◌, ◌≤◌, List, [], Option, Some, None, length, slice_get}
+use Rattle.std.specs.Prelude.{◌≡◌, ◌≢◌, ℕ, ◌+◌, ◌-◌, ◌<◌, ◌≤◌, List, [], Option, Some, None, length, slice_get}
 use Rattle.atomic_table.specs.Seated.{TableId}
 use Rattle.mc_item.specs.declared.{class_event.ClassEvent.ClassEvent, config.Config.Config, event.Event.Event, item.ClassNo.ClassNo, item.Item.Item}
-use Rattle.mc_item.specs.declared.{lists.Entry.Entry, lists.Seg.Seg, stripe_event.StripeEvent.StripeEvent}
+use Rattle.mc_item.specs.declared.{lists.Entry.Entry, lists.Seg.Seg, item.Who.Who, stripe_event.Did.Did, stripe_event.StripeEvent.StripeEvent}
+use Rattle.mc_item.specs.declared.stripe_event.StripeEvent.TheVariants as events
 use Rattle.mc_item.specs.Measure.{stripe_of}
 use Rattle.mc_board.specs.Histories.{HasNoted, HasSeen}
 use Rattle.mc_board.specs.declared.rule.Sight.{Sight}
 use Rattle.mc_evidence.specs.Setting.{IsClass, Setting, site_in}
 use Rattle.mc_rule.specs.{Belonging.HasEntry, Belonging.HasItem, Lists.found, Lists.lists_of, Lists.times_in, Pairs.item_after}
-use Rattle.mc_store.specs.{Callers.IsCalled, Callers.who_of, Locked.IsClassUnder, Locked.IsStripeUnder, Made.IsClassCalled, Made.maker_of, Passes.PassView}
+use Rattle.mc_store.specs.{Callers.IsCalled, Callers.who_of, Locked.IsClassUnder, Locked.IsStripeUnder, Made.IsClassCalled, Made.maker_of, Passes.ArePlaced}
+use Rattle.mc_store.specs.{Callers.IsPlace, Passes.IsPlacedIn, Passes.PassView, Passes.caller_of, declared.placed.Placed.Placed}
 use Rattle.mc_store.specs.Sides.{ClassSide, StripeSide, class_told, stripe_told}
 
 -- a closed store: its board, and all stripes and all classes in the order of their numbers
@@ -68,10 +70,21 @@ pub record IsBehindStripes (sight : Sight) (stripes : List StripeSide) : Type 0 
 pub record IsBehindClasses (sight : Sight) (classes : List ClassSide) : Type 0 where
   pub each : (k : ℕ) (s : ClassSide) → slice_get classes k ≡ Some s → IsBehindAt sight s.lock (class_told s.class.history)
 
+-- no command in the stripes' final histories is of this call
+pub record HasNoDid (who : Who) (stripes : List StripeSide) : Type 0 where
+  pub each : (k : ℕ) (s : StripeSide) (place : ℕ) (did : Did) → slice_get stripes k ≡ Some s → slice_get s.stripe.history place ≡ Some (events.Did did)
+      → did.who ≢ who
+
 -- each event of the stripes' final histories that names the pass's caller was called: the caller's history has its call
 pub record AreItsOwn (pass : PassView) (stripes : List StripeSide) : Type 0 where
   pub each : (k : ℕ) (s : StripeSide) (place : ℕ) (event : StripeEvent) → slice_get stripes k ≡ Some s → slice_get s.stripe.history place ≡ Some event
       → (who_of event).caller ≡ pass.caller → IsCalled pass.calls k place event
+
+-- the commands of the pass's caller in the stripes' final histories are just those at the places that the caller's history gives:
+-- each place has the command of its turn, and each of the caller's commands is at one of these places
+pub record AreJustPlaced (config : Config) (pass : PassView) (stripes : List StripeSide) : Type 0 where
+  pub there : ArePlaced config (caller_of pass) (stripe_histories stripes)
+  pub only : (placed : Placed) → IsPlacedIn pass.caller (stripe_histories stripes) placed → IsPlace pass.calls placed
 
 -- each event of the classes' final histories that names the pass's caller was called: the caller's history has its call; the
 -- classes come in the order of their numbers, from 1

@@ -12,7 +12,7 @@ use Rattle.mc_evidence.specs.{Locks.ClassKeeps, Locks.StripeKeeps, Seen.classes_
 use Rattle.mc_store.specs.declared.lock_no.LockNo.{LockNo}
 use Rattle.mc_store.specs.declared.lock_no.LockNo.TheVariants as locks
 use Rattle.mc_store.specs.Callers.{AreCalled, IsBegun, IsBegunAs, asked_for, call_events}
-use Rattle.mc_store.specs.{Made.AreCalledInClass, Sides.ClassSide, Sides.StripeSide}
+use Rattle.mc_store.specs.{Made.AreCalledInClass, Made.MayNeedChunk, Sides.ClassSide, Sides.StripeSide}
 
 -- what a configuration fixes for a store
 abbrev pub setting_of : Config → Setting
@@ -43,6 +43,12 @@ pub record HasBegunAs (config : Config) (sight : Sight) (who : Who) (moment : �
 -- what was seen of a caller's history has, in this turn and at this moment, the call for some command
 pub record HasBegunCommand (config : Config) (sight : Sight) (who : Who) (moment : ℕ) : Type 0 where
   pub command : Command
+  pub begun : HasBegunAs config sight who moment (asked_for command moment)
+
+-- the same of some command that may need a chunk
+pub record HasBegunSearch (config : Config) (sight : Sight) (who : Who) (moment : ℕ) : Type 0 where
+  pub command : Command
+  pub needs : MayNeedChunk command
   pub begun : HasBegunAs config sight who moment (asked_for command moment)
 
 -- the number of a class's lock: those of the stripes come first, and classes are numbered from 1

@@ -1,10 +1,13 @@
 -- Events of slab classes: who made each, at which moment, and that its caller's history has the call that made it (own).
-use Rattle.std.specs.Prelude.{◌≡◌, ◌<◌, ◌+◌, ◌++◌, ℕ, List, [], ◌∷◌, Some, slice_get}
+use Rattle.std.specs.Prelude.{◌≡◌, ◌≢◌, ◌<◌, ◌+◌, ◌++◌, ℕ, List, [], ◌∷◌, Some, slice_get}
 use Rattle.mc_item.specs.declared.{call_event.CallEvent.CallEvent, class_event.ClassEvent.ClassEvent, event.Event.Event, item.ClassNo.ClassNo, item.Who.Who}
 use Rattle.mc_item.specs.declared.call_event.CallEvent.TheVariants.{Answered, Asked, Crawled, Juggled}
 use Rattle.mc_item.specs.declared.class_event.ClassEvent.TheVariants as events
+use Rattle.mc_item.specs.declared.{command.Command.Command, command.Command.TheVariants.Get, command.Command.TheVariants.Store}
+use Rattle.mc_item.specs.declared.command.Command.TheVariants.{Huge, Incr, Decr, Touch, Delete}
 use Rattle.mc_board.specs.Histories.{Grows}
 use Rattle.mc_board.specs.declared.rule.Sight.{Sight}
+use Rattle.mc_pull.specs.Growth.{LooksForChunk}
 use Rattle.mc_store.specs.Callers.{IsBegun, call_events}
 
 -- who made an event of a class
@@ -16,6 +19,10 @@ maker_of (events.Evicted e) = e.who
 maker_of (events.Reclaimed e) = e.who
 maker_of (events.Surveyed e) = e.who
 maker_of (events.Refused e) = e.who
+
+-- no event of this history of a class is of this call
+pub record HasNoneMadeBy (who : Who) (history : List ClassEvent) : Type 0 where
+  pub each : (place : ℕ) (event : ClassEvent) → slice_get history place ≡ Some event → maker_of event ≢ who
 
 -- if an event of a class has a moment, it is this one
 abbrev pub IsTimed : ClassEvent → ℕ → Type 0
@@ -57,11 +64,21 @@ IsReclaimed (events.Evicted e) = ⊥
 IsReclaimed (events.Surveyed e) = ⊥
 IsReclaimed (events.Refused e) = ⊥
 
--- a call may make this event of a class: a command in any class, juggling and a crawl only in their own, and a crawl only if the
--- event reclaims an entry; an answer makes none
+-- a command may need a chunk: it stores a value or counts
+abbrev pub MayNeedChunk : Command → Type 0
+MayNeedChunk (Store verb key flags exptime value) = Unit {0}
+MayNeedChunk (Incr key delta) = Unit {0}
+MayNeedChunk (Decr key delta) = Unit {0}
+MayNeedChunk (Get key) = ⊥
+MayNeedChunk (Huge verb key) = ⊥
+MayNeedChunk (Touch key exptime) = ⊥
+MayNeedChunk (Delete key) = ⊥
+
+-- a call may make this event of a class: a command in any class, but it looks for a chunk only if it may need one; juggling in its
+-- own class, without looking for a chunk; a crawl in its own class, if the event reclaims an entry; an answer makes none
 abbrev pub SuitsCall : ClassNo → ClassEvent → CallEvent → Type 0
-SuitsCall class event (Asked asked) = Unit {0}
-SuitsCall class event (Juggled worked) = worked.class ≡ class
+SuitsCall class event (Asked asked) = LooksForChunk event → MayNeedChunk asked.command
+SuitsCall class event (Juggled worked) = (worked.class ≡ class) × (LooksForChunk event → ⊥)
 SuitsCall class event (Crawled worked) = (worked.class ≡ class) × IsReclaimed event
 SuitsCall class event (Answered answered) = ⊥
 

@@ -1,11 +1,14 @@
 -- What a contract sees of a pass, and the passes of a new store (own).
-use Rattle.std.specs.Prelude.{◌≡◌, ℕ, ◌<◌, ◌+◌, ◌^◌, ◌++◌, ◌∷◌, List, [], Some, length, slice_get}
-use Rattle.mc_item.specs.declared.{call_event.CallEvent.CallEvent, command.Command.Command, item.Who.Who}
+use Rattle.std.specs.Prelude.{◌≡◌, ℕ, ◌<◌, ◌+◌, ◌++◌, ◌∷◌, List, [], Some, IsSomeAnd, length, slice_get}
+use Rattle.mc_item.specs.declared.{call_event.CallEvent.CallEvent, command.Command.Command, config.Config.Config, item.Who.Who}
 use Rattle.mc_board.specs.Histories.{blind}
 use Rattle.mc_board.specs.declared.rule.Sight.{Sight}
-use Rattle.mc_hits.specs.Views.{HandsView, untouched_hands}
+use Rattle.mc_hits.specs.{Rule.AreBefore, Views.HandsView, Views.untouched_hands}
 use Rattle.atomic_table.specs.Seated.{TableId}
-use Rattle.mc_store.specs.Callers.{IsBegunAs, asked_for, turns_of}
+use Rattle.mc_item.specs.declared.stripe_event.StripeEvent.{StripeEvent}
+use Rattle.mc_item.specs.declared.stripe_event.StripeEvent.TheVariants as events
+use Rattle.mc_store.specs.declared.placed.Placed.{Placed}
+use Rattle.mc_store.specs.Callers.{IsBegunAs, IsPlace, asked_for, turns_of}
 
 -- a caller: its number, and its history
 pub record CallerView : Type 0 where
@@ -25,6 +28,11 @@ pub record PassView : Type 0 where
 abbrev pub caller_of : PassView → CallerView
 caller_of pass = record { number = pass.caller; calls = pass.calls }
 
+-- the pass of a caller that has seen and noted this, with these hands
+abbrev pub pass_of : CallerView → Sight → HandsView → PassView
+pass_of caller sight hands =
+    record { caller = caller.number; turn = length (turns_of caller.calls); calls = caller.calls; sight = sight; hands = hands }
+
 -- who makes a pass's next call: its caller, in its next turn
 abbrev pub next_who : PassView → Who
 next_who pass = record { caller = pass.caller; turn = pass.turn }
@@ -38,13 +46,37 @@ pub record ArePasses (tables : List TableId) (callers : ℕ) (passes : List Pass
   pub many : length passes ≡ callers
   pub each : (caller : ℕ) → caller < callers → slice_get passes caller ≡ Some (new_pass tables caller)
 
--- a caller's last event is that it asked for this command at this moment, in this turn, and its history has room for the answer
+-- the event is that this call's command was answered
+abbrev pub IsDidBy : Who → StripeEvent → Type 0
+IsDidBy who (events.Did did) = did.who ≡ who
+IsDidBy who (events.Lost lost) = ⊥
+IsDidBy who (events.Cooled cooled) = ⊥
+
+-- the stripe that a place names has, at this place of its history, the event of a caller's command in the turn that it names
+abbrev pub IsPlacedIn : ℕ → (ℕ → List StripeEvent) → Placed → Type 0
+IsPlacedIn caller stripes placed =
+    IsSomeAnd (slice_get (stripes placed.stripe.0) placed.place) (IsDidBy (record { caller = caller; turn = placed.turn }))
+
+-- each command of a caller that was answered has its event at its place, by these histories of the store's stripes
+pub record ArePlaced (config : Config) (caller : CallerView) (stripes : ℕ → List StripeEvent) : Type 0 where
+  pub each : (placed : Placed) → IsPlace caller.calls placed → (placed.stripe.0 < config.stripes) × IsPlacedIn caller.number stripes placed
+
+-- a pass took its next turn for a call, which these events of the caller's history tell
+pub record TookTurn (old new : PassView) (events : List CallEvent) (maker : Who) : Type 0 where
+  pub who : maker ≡ next_who old
+  pub turn : new ≡ record old { turn = old.turn + 1; calls = old.calls ++ events }
+  pub before : AreBefore old.turn new.hands.offers
+
+-- a caller's last event is that it asked for this command at this moment, in this turn
 pub record HasAsked (caller : CallerView) (who : Who) (command : Command) (moment : ℕ) : Type 0 where
   pub number : who.caller ≡ caller.number
   pub before : List CallEvent
   pub last : caller.calls ≡ before ++ asked_for command moment ∷ []
   pub turn : length (turns_of before) ≡ who.turn
-  pub room : length caller.calls + 1 < 2 ^ 64
+
+-- who makes a caller's next call, by the turns that it has had
+abbrev pub next_call : CallerView → Who
+next_call caller = record { caller = caller.number; turn = length (turns_of caller.calls) }
 
 -- a caller's history has just this call in this turn, made at this moment
 pub record HasCalled (caller : CallerView) (who : Who) (moment : ℕ) (call : CallEvent) : Type 0 where

@@ -6,7 +6,7 @@ ghost use Rattle.mc_board.specs.Histories.{Grows};
 ghost use Rattle.mc_evidence.specs.Setting.{IsClass};
 ghost use Rattle.mc_stripe.specs.{Plan.dead_link, StripeCalls.KeepsSite, StripeState.cache_now};
 ghost use Rattle.mc_stripe.specs.declared.wanting.Want.TheVariants as wants;
-ghost use Rattle.mc_store.specs.{Commands.burial, Locked.HasBegunCommand, Locked.setting_of, Serving.IsShort};
+ghost use Rattle.mc_store.specs.{Callers.asked_for, Commands.burial, Locked.HasBegunAs, Locked.HasBegunCommand, Locked.setting_of, Serving.IsShort};
 ghost use Rattle.mc_store.specs.Held.{Ends, IsCallOn, WantsAlone, class_held};
 
 use crate::caller::Caller;
@@ -66,7 +66,7 @@ fn answer_with<N: Named>(
     wanted: Classes,
 ) -> Result<Replied, Fault>
     requires called { IsCallOn N.config own.old.stripe caller.old command.now turn }
-    requires begun { HasBegunCommand N.config own.old.sight turn.who turn.moment }
+    requires begun { HasBegunAs N.config own.old.sight turn.who turn.moment (asked_for command.now turn.moment) }
     requires wanted { WantsAlone own.old.stripe command.now turn.moment (wants.Classes wanted) }
     ensures { Ends N.config own.old.stripe own.new caller.old caller.new command.now turn result }
 {

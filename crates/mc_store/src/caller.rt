@@ -1,27 +1,38 @@
 //! A caller and its history.
-ghost use Rattle.std.specs.Prelude.{◌≡◌, ◌<◌, ◌+◌, ◌^◌, ◌++◌, ◌∷◌, ℕ, [], length};
+ghost use Rattle.std.specs.Prelude.{◌≡◌, ◌<◌, ◌≤◌, ◌^◌, ◌++◌, ◌∷◌, ℕ, [], if◌then◌else◌, length, OnOk, OnErr, IsErrOf};
+ghost use Rattle.mc_item.specs.declared.fault.Fault.TheVariants.{HistoryFull};
 ghost use Rattle.mc_item.specs.declared.{call_event.CallEvent.CallEvent, item.Who.Who};
 ghost use Rattle.mc_board.specs.Histories.{with_seen, Grows, HasSeen};
-ghost use Rattle.mc_store.specs.{Callers.answered_at, Callers.call_events, Callers.calls_told, Locked.caller_place, Locked.HasBegunAs, Passes.HasCalled};
+ghost use Rattle.mc_store.specs.{Callers.HasNoneOf, Callers.IsUnanswered, Callers.answered_at, Callers.call_events, Callers.calls_told, Callers.placed_in};
+ghost use Rattle.mc_store.specs.{Callers.turns_of, Locked.caller_place, Locked.HasBegunAs};
+ghost use Rattle.mc_store.specs.{Made.HasNoneMadeBy, Passes.HasCalled, Passes.next_call};
 
 use crate::locked::{LockedClass, LockedStripe};
 use crate::named::Named;
 use crate::owned_class::OwnedClass;
+use crate::placed::Placed;
+use crate::store::Store;
 use mc_board::{Board, Owner, Seen};
-use mc_item::{Answered, CallEvent, Logged, StripeNo};
+use mc_item::{Answered, CallEvent, Config, Fault, Logged, StripeNo};
+use std::alloc::Global;
 use std::marker::{Model, PhantomData};
 
-/// A caller: its number, and the owner of its history on the board.
+/// A caller: its number, the owner of its history on the board, how many turns (calls) it has had, and where its commands were
+/// answered, if the store keeps histories.
 #[derive(Drop)]
 pub(crate) struct Caller<N: Named> {
     number: u32,
     owner: Owner,
+    turn: u64,
+    keeps: bool,
+    places: Vec<Placed>,
     of: PhantomData<N>,
 }
 
 impl<N: Named> Model for Caller<N> {
-    ghost use Rattle.std.specs.Prelude.{◌≡◌, ◌<◌};
-    ghost use Rattle.mc_store.specs.{Callers.call_events, Callers.calls_told, Locked.caller_place, Passes.CallerView};
+    ghost use Rattle.std.specs.Prelude.{◌≡◌, ◌<◌, ◌≤◌, ◌+◌, ◌^◌, [], true, if◌then◌else◌, length, vec_capacity, vec_len};
+    ghost use Rattle.mc_store.specs.{Callers.IsUnanswered, Callers.call_events, Callers.calls_told, Callers.placed_in, Callers.turns_of};
+    ghost use Rattle.mc_store.specs.{Locked.caller_place, Passes.CallerView};
 
     ghost Value = { CallerView };
 
@@ -31,12 +42,21 @@ impl<N: Named> Model for Caller<N> {
         (c.number < N.config.callers)
         × (c.owner.board ≡ N.board.table)
         × (c.owner.lock ≡ caller_place N.config c.number)
-        × (c.owner.history ≡ calls_told (call_events c.owner.history)) };
+        × (c.owner.history ≡ calls_told (call_events c.owner.history))
+        × (c.turn ≡ length (turns_of (call_events c.owner.history)))
+        × (c.turn ≤ N.config.max_events)
+        × (length c.owner.history ≤ c.turn + c.turn)
+        × (c.keeps ≡ N.config.keeps_events)
+        × (c.places.items ≡ (if c.keeps then placed_in (call_events c.owner.history) else []))
+        × (IsUnanswered (call_events c.owner.history)
+        → (length c.owner.history < c.turn + c.turn) × (c.keeps ≡ true → vec_len c.places < vec_capacity c.places))
+        × (N.config.max_events ≤ 2 ^ 32) };
 }
 
 impl<N: Named> Caller<N> {
     // A caller that has made no call yet.
-    pub(crate) fn new(number: u32, owner: Owner) -> Caller<N>
+    pub(crate) fn new(alloc: Global, config: &Config, number: u32, owner: Owner) -> Caller<N>
+        requires config { (config.now ≡ N.config) × (N.config.max_events ≤ 2 ^ 32) }
         requires of { number < N.config.callers }
         requires owner { owner ≡ record { board = N.board.table; lock = caller_place N.config number; history = [] } }
         ensures { result ≡ record { number = number; calls = [] } }
@@ -44,6 +64,9 @@ impl<N: Named> Caller<N> {
         Caller {
             number,
             owner,
+            turn: 0,
+            keeps: config.keeps_events,
+            places: Vec::new(alloc),
             of: PhantomData,
         }
     }
@@ -54,21 +77,47 @@ impl<N: Named> Caller<N> {
         self.number
     }
 
-    // Adds a call to the history, before it is made.
-    pub(crate) fn begin<E: Logged>(&mut self, board: &Board, event: &E)
-        requires board { board.now.table ≡ N.board.table }
-        requires call { calls_told (call_events (E.entry event.now ∷ [])) ≡ E.entry event.now ∷ [] }
-        requires room { length self.old.calls + 1 < 2 ^ 64 }
-        ensures { self.new ≡ record self.old { calls = self.old.calls ++ call_events (E.entry event.now ∷ []) } }
+    // How many turns (calls) it has had.
+    pub(crate) fn turn(&self) -> u64
+        ensures { result ≡ length (turns_of self.now.calls) }
     {
-        self.owner.append(board, event);
+        self.turn
     }
 
-    // Adds that a command was answered by the event at this place of the stripe's history, and shows a token the whole history.
+    // Where its commands were answered, in order, if the store keeps histories, and else nothing.
+    pub(crate) fn places(&self) -> &[Placed]
+        ensures { result.now ≡ (if N.config.keeps_events then placed_in self.now.calls else []) }
+    {
+        self.places.as_slice()
+    }
+
+    // Adds a call to the history, before it is made.
+    // Errors: `HistoryFull` if the caller has had `max_events` turns, then `NoMemory` if there is no memory to note where the call
+    // is answered. Then nothing changes.
+    pub(crate) fn begin<E: Logged>(&mut self, store: &Store<N>, event: &E) -> Result<(), Fault>
+        requires call { calls_told (call_events (E.entry event.now ∷ [])) ≡ E.entry event.now ∷ [] }
+        requires one { length (turns_of (call_events (E.entry event.now ∷ []))) ≡ 1 }
+        ensures begun { OnOk result (self.new ≡ record self.old { calls = self.old.calls ++ call_events (E.entry event.now ∷ []) }) }
+        ensures err { OnErr result (self.new ≡ self.old) }
+        ensures full { IsErrOf result HistoryFull → N.config.max_events ≤ length (turns_of self.old.calls) }
+    {
+        if self.turn >= store.config.max_events {
+            return Err(Fault::HistoryFull);
+        }
+        if self.keeps {
+            self.places.reserve(1)?;
+        }
+        self.owner.append(&store.board, event);
+        self.turn += 1;
+        Ok(())
+    }
+
+    // Adds that its last call, a command, was answered by the event at this place of the stripe's history, and shows a token the
+    // whole history.
     #[inline(always)]
     pub(crate) fn note(&mut self, board: &Board, stripe: StripeNo, place: u64, seen: &mut Seen)
         requires board { (board.now.table ≡ N.board.table) × (seen.old.board ≡ N.board.table) }
-        requires room { length self.old.calls + 1 < 2 ^ 64 }
+        requires last { IsUnanswered self.old.calls }
         ensures of { self.old.number < N.config.callers }
         ensures noted { self.new ≡ record self.old { calls = self.old.calls ++ answered_at stripe.0 place ∷ [] } }
         ensures told { seen.new ≡ record seen.old { sight = with_seen seen.old.sight (caller_place N.config self.old.number) (calls_told self.new.calls) } }
@@ -76,6 +125,13 @@ impl<N: Named> Caller<N> {
     {
         let event = CallEvent::Answered(Answered { stripe, place });
         self.owner.append(board, &event);
+        if self.keeps {
+            self.places.push_reserved(Placed {
+                turn: self.turn - 1,
+                stripe,
+                place,
+            });
+        }
         self.owner.tell(board, seen);
     }
 
@@ -125,6 +181,25 @@ impl<N: Named> Caller<N> {
         ensures begun { (who : Who) (moment : ℕ) (call : CallEvent) → HasCalled self.old who moment call → HasBegunAs N.config class.new.sight who moment call }
     {
         self.tell(board, &mut class.side.seen);
+    }
+
+    // Compares the history with a stripe under its lock, which has seen a beginning of it. So no event of the stripe is of the
+    // caller's next turn. Nothing changes.
+    pub(crate) fn compare_stripe(&mut self, board: &Board, stripe: &mut LockedStripe<N>)
+        requires board { board.now.table ≡ N.board.table }
+        ensures same { (self.new ≡ self.old) × (stripe.new ≡ stripe.old) }
+        ensures first { HasNoneOf (next_call self.old) stripe.old.stripe.history }
+    {
+        self.compare(board, &mut stripe.side.seen);
+    }
+
+    // Compares the history with a class under its lock, as `compare_stripe` does with a stripe.
+    pub(crate) fn compare_class(&mut self, board: &Board, class: &mut LockedClass<N>)
+        requires board { board.now.table ≡ N.board.table }
+        ensures same { (self.new ≡ self.old) × (class.new ≡ class.old) }
+        ensures first { HasNoneMadeBy (next_call self.old) class.old.class.history }
+    {
+        self.compare(board, &mut class.side.seen);
     }
 
     // Compares the history with a token: it has seen a beginning of it. Nothing changes.

@@ -4,7 +4,7 @@ ghost use Rattle.mc_item.specs.{Command.key_of, Measure.stripe_of};
 ghost use Rattle.mc_item.specs.declared.fault.Fault.TheVariants.{HistoryFull};
 ghost use Rattle.mc_board.specs.Histories.{Grows};
 ghost use Rattle.mc_evidence.specs.Setting.{IsClass};
-ghost use Rattle.mc_store.specs.{Calls.IsCutBy, Calls.IsRepliedBy, Hits.IsOffered, Locked.setting_of, Passes.next_who, Serving.HasSeenShort};
+ghost use Rattle.mc_store.specs.{Calls.IsCutBy, Calls.IsRepliedBy, Callers.turns_of, Hits.IsOffered, Locked.setting_of, Passes.next_who, Serving.HasSeenShort};
 ghost use Rattle.mc_store.specs.Waking.{reply_in, woken_in};
 
 use crate::answering::{answer, answer_for};
@@ -63,7 +63,7 @@ impl<N: Named> Store<N> {
     /// is full, the hit is dropped.
     /// After a fault the stripe's history has gained at most what leads up to the command: the dead item's removal, and a search
     /// for a chunk. The caller's history has gained at most the call. `HistoryFull` comes only if a stripe's or class's history
-    /// has fewer than two places left, or the pass has had 2^63 - 1 turns. `NoMemory` comes if an allocation fails.
+    /// has fewer than two places left, or the pass has had `max_events` turns. `NoMemory` comes if an allocation fails.
     pub fn command(
         &self,
         alloc: Global,
@@ -82,17 +82,17 @@ impl<N: Named> Store<N> {
             (next_who pass.old) command moment pass.old.hands pass.new.hands }
         ensures grows { Grows pass.old.sight pass.new.sight }
         ensures caller { pass.new.caller ≡ pass.old.caller }
-        ensures turn { OnOk result (pass.new.turn ≡ pass.old.turn + 1) }
-        ensures full { IsErrOf result HistoryFull → HasSeenShort N.config pass.new.sight ⊎ (2 ^ 63 - 1 ≤ pass.old.turn) }
+        ensures turn { (pass.new.turn ≡ length (turns_of pass.new.calls)) × OnOk result (pass.new.turn ≡ pass.old.turn + 1) }
+        ensures full { IsErrOf result HistoryFull → HasSeenShort N.config pass.new.sight ⊎ (N.config.max_events ≤ pass.old.turn) }
     {
         let asking = Asking {
             command: &command,
             moment,
         };
-        let who = pass.take_turn(&self.board, &asking)?;
         let number = stripe_of(command.key(), self.config.stripes);
         let mut guard = self.lock_stripe(rt, number);
         let own = &mut *guard;
+        let who = pass.take_turn_on(self, &asking, own)?;
         own.side.compare(&self.board, &mut pass.seen);
         let turn = Turn { who, moment };
         let caller = &mut pass.caller;

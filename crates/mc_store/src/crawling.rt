@@ -7,7 +7,8 @@ ghost use Rattle.mc_pull.specs.Growth as classes;
 ghost use Rattle.mc_crawl.specs.{Crawl.Reclaims, CrawlCount.IsBalanced, CrawlCount.MayCount};
 ghost use Rattle.mc_store.specs.Crawls.{CountsLink, IsCrawledBy, IsLinkCounted, IsSeenSound, IsSnapshot, ShowsReclaims};
 ghost use Rattle.mc_store.specs.{Locked.class_lock, Locked.setting_of, Locked.HasBegun, Locked.HasBegunAs, Passes.next_who, Passes.caller_of, Passes.HasCalled};
-ghost use Rattle.mc_store.specs.{Made.WalksOwn, Sides.class_told, Serving.HasSeenShort, Serving.IsServed, Serving.MayFailSeen, Callers.crawling_of};
+ghost use Rattle.mc_store.specs.{Made.WalksOwn, Sides.class_told, Serving.HasSeenShort, Serving.IsServed, Serving.MayFailSeen};
+ghost use Rattle.mc_store.specs.Callers.{crawling_of, turns_of};
 ghost use Rattle.mc_pull.specs.Question.{IsClassOf};
 
 use crate::gates::Trying;
@@ -156,7 +157,7 @@ impl<N: Named> Store<N> {
     /// class's lock, and only tries those of stripes. It removes an item that is dead at `moment`, with its entry. `moment` is
     /// the time in whole seconds.
     /// After a fault what happened so far stays. `HistoryFull` comes only if a stripe's or class's history has fewer than two
-    /// places left, or the pass has had 2^63 - 1 turns. `NoMemory` comes if an allocation fails.
+    /// places left, or the pass has had `max_events` turns. `NoMemory` comes if an allocation fails.
     pub fn crawl(
         &self,
         alloc: Global,
@@ -173,11 +174,11 @@ impl<N: Named> Store<N> {
         ensures caller { pass.new.caller ≡ pass.old.caller }
         ensures calls { OnOk result (pass.new.calls ≡ pass.old.calls ++ crawling_of class moment ∷ []) }
         ensures cut { OnErr result ((pass.new ≡ pass.old) ⊎ (pass.new.calls ≡ pass.old.calls ++ crawling_of class moment ∷ [])) }
-        ensures turn { OnOk result (pass.new.turn ≡ pass.old.turn + 1) }
-        ensures full { IsErrOf result HistoryFull → HasSeenShort N.config pass.new.sight ⊎ (2 ^ 63 - 1 ≤ pass.old.turn) }
+        ensures turn { (pass.new.turn ≡ length (turns_of pass.new.calls)) × OnOk result (pass.new.turn ≡ pass.old.turn + 1) }
+        ensures full { IsErrOf result HistoryFull → HasSeenShort N.config pass.new.sight ⊎ (N.config.max_events ≤ pass.old.turn) }
     {
         let event = CallEvent::Crawled(Worked { class, moment });
-        let who = pass.take_turn(&self.board, &event)?;
+        let who = pass.take_turn(self, &event)?;
         let links = self.snapshot_of(alloc, rt, pass, class)?;
         let mut histogram = Histogram::new();
         for i in 0..links.len() {

@@ -1,6 +1,7 @@
 //! Gates: how a walk under a class's lock reaches the stripes of its entries. A stripe's lock is tried, and never waited for.
 ghost use Rattle.std.specs.Prelude.{◌≡◌, ◌≢◌, ◌≤◌, ◌+◌, List, IfErr, IfOk, false, true};
-ghost use Rattle.mc_pull.specs.{Growth.GainsEvents, Juggle.IsJuggle, Lone.StripeGrows, Question.IsClassOf, Rounds.IsRoom, Rounds.rounds, Walker.walker_of};
+ghost use Rattle.mc_pull.specs.{Growth.GainsEvents, Growth.GainsFor, Juggle.IsJuggle, Lone.StripeGrows, Question.IsClassOf, Rounds.IsRoom, Rounds.rounds};
+ghost use Rattle.mc_pull.specs.Walker.{walker_of};
 ghost use Rattle.mc_pull.specs.declared.looking.Answer.{Answer};
 ghost use Rattle.mc_store.specs.{Earned.IsSearchInVain, Looked.IsOfCall, Serving.IsServed, Serving.MayFailSeen, Locked.HasBegun, Made.WalksOwn};
 
@@ -61,7 +62,7 @@ impl<'a, N: Named> Trying<'a, N> {
         ensures juggle { IfOk result (λ moves. (xs : List Answer)
             × IsJuggle (rounds class.old who moment config.now) class.old.history xs class.new.history moves) }
         ensures few { IfOk result (λ moves. moves.reclaimed + moves.moved ≤ 10000) }
-        ensures grows { GainsEvents class.old class.new }
+        ensures gains { GainsFor false class.old class.new }
         ensures fault { IfErr result (MayFailSeen N.config self.new.seen.now.sight class.new) }
         ensures owner_reference { self.new.owner.ghost_name ≡ self.old.owner.ghost_name }
         ensures seen_reference { self.new.seen.ghost_name ≡ self.old.seen.ghost_name }

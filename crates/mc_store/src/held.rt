@@ -9,7 +9,7 @@ ghost use Rattle.mc_rule.specs.Lists.{IsFull, lists_of};
 ghost use Rattle.mc_segment.specs.ClassState.{with_room};
 ghost use Rattle.mc_stripe.specs.StripeCalls.{KeepsSite};
 ghost use Rattle.mc_store.specs.Held.{Ends, HasGivenUpAny, IsCallOn, IsRefusedAt, IsStillFull, IsTriedOn, IsWalked, Suffice, WantsChunk, class_held};
-ghost use Rattle.mc_store.specs.{Locked.HasBegunCommand, Serving.IsShort};
+ghost use Rattle.mc_store.specs.{Callers.asked_for, Locked.HasBegunAs, Locked.HasBegunSearch, Serving.IsShort};
 
 use crate::caller::Caller;
 use crate::locked::{LockedClass, LockedStripe};
@@ -128,11 +128,11 @@ fn search<N: Named>(
     home: &mut LockedClass<N>,
     turn: Turn,
 ) -> Result<(), Fault>
-    requires begun { HasBegunCommand N.config own.old.sight turn.who turn.moment }
+    requires begun { HasBegunSearch N.config own.old.sight turn.who turn.moment }
     ensures tried { OnOk result (IsFull home.new.class.chunks (lists_of home.new.class.history) → HasGivenUpAny N.config own.old.stripe turn home.new.class) }
     ensures walked { IsWalked N.config turn home.old.class.number own.old.stripe own.new.stripe }
     ensures number { home.new.class.number ≡ home.old.class.number }
-    ensures begun { HasBegunCommand N.config own.new.sight turn.who turn.moment }
+    ensures begun { HasBegunSearch N.config own.new.sight turn.who turn.moment }
     ensures site { KeepsSite own.old.stripe own.new.stripe }
     ensures full { IsErrOf result HistoryFull → IsShort N.config own.new }
 {
@@ -156,7 +156,7 @@ pub(crate) fn answer_at_home<N: Named>(
     turn: Turn,
 ) -> Result<Replied, Fault>
     requires called { IsCallOn N.config own.old.stripe caller.old command.now turn }
-    requires begun { HasBegunCommand N.config own.old.sight turn.who turn.moment }
+    requires begun { HasBegunAs N.config own.old.sight turn.who turn.moment (asked_for command.now turn.moment) }
     requires apart { class_held other.old ≢ Some home.old.class.number }
     requires wants { WantsChunk home.old.class.number (class_held other.old) own.old.stripe command.now turn.moment }
     ensures { Ends N.config own.old.stripe own.new caller.old caller.new command.now turn result }

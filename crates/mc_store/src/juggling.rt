@@ -1,9 +1,9 @@
 //! Juggling a class that threads share, which is the LRU maintainer's work.
-ghost use Rattle.std.specs.Prelude.{◌≡◌, ◌≤◌, ◌⊎◌, ◌+◌, ◌-◌, ◌^◌, IfOk, OnOk, IsErrOf, ◌++◌, ◌∷◌, [], OnErr};
+ghost use Rattle.std.specs.Prelude.{◌≡◌, ◌≤◌, ◌⊎◌, ◌+◌, ◌-◌, ◌^◌, IfOk, OnOk, IsErrOf, ◌++◌, ◌∷◌, [], OnErr, length};
 ghost use Rattle.mc_item.specs.declared.fault.Fault.TheVariants.{HistoryFull};
 ghost use Rattle.mc_evidence.specs.Setting.{IsClass};
 ghost use Rattle.mc_board.specs.Histories.{Grows};
-ghost use Rattle.mc_store.specs.{Callers.juggling_of, Calls.IsJuggledBy, Hits.Takes, Hits.queue_of, Locked.setting_of, Serving.HasSeenShort};
+ghost use Rattle.mc_store.specs.{Callers.juggling_of, Callers.turns_of, Calls.IsJuggledBy, Hits.Takes, Hits.queue_of, Locked.setting_of, Serving.HasSeenShort};
 
 use crate::named::Named;
 use crate::pass::Pass;
@@ -20,7 +20,7 @@ impl<N: Named> Store<N> {
     /// First it takes up to 256 hits from the class's queue. It moves the entry of each from COLD to WARM, if the item is still
     /// ACTIVE and alive; these moves aren't counted. `moment` is the time in whole seconds.
     /// After a fault what happened so far stays. `HistoryFull` comes only if a stripe's or class's history has fewer than two
-    /// places left, or the pass has had 2^63 - 1 turns. `NoMemory` comes if an allocation fails.
+    /// places left, or the pass has had `max_events` turns. `NoMemory` comes if an allocation fails.
     pub fn juggle(
         &self,
         alloc: Global,
@@ -37,13 +37,13 @@ impl<N: Named> Store<N> {
         ensures caller { pass.new.caller ≡ pass.old.caller }
         ensures calls { OnOk result (pass.new.calls ≡ pass.old.calls ++ juggling_of class moment ∷ []) }
         ensures cut { OnErr result ((pass.new ≡ pass.old) ⊎ (pass.new.calls ≡ pass.old.calls ++ juggling_of class moment ∷ [])) }
-        ensures turn { OnOk result (pass.new.turn ≡ pass.old.turn + 1) }
-        ensures full { IsErrOf result HistoryFull → HasSeenShort N.config pass.new.sight ⊎ (2 ^ 63 - 1 ≤ pass.old.turn) }
+        ensures turn { (pass.new.turn ≡ length (turns_of pass.new.calls)) × OnOk result (pass.new.turn ≡ pass.old.turn + 1) }
+        ensures full { IsErrOf result HistoryFull → HasSeenShort N.config pass.new.sight ⊎ (N.config.max_events ≤ pass.old.turn) }
     {
         let event = CallEvent::Juggled(Worked { class, moment });
-        let who = pass.take_turn(&self.board, &event)?;
         let mut guard = self.lock_class(rt, class);
         let own = &mut *guard;
+        let who = pass.take_turn_in(self, &event, own)?;
         own.side.compare(&self.board, &mut pass.seen);
         pass.caller.tell_class(&self.board, own);
         let turn = Turn { who, moment };

@@ -1,5 +1,5 @@
 //! The README's headline, said of a closed store: laws, which are contracts without code.
-ghost use Rattle.std.specs.Prelude.{◌≡◌, ◌<◌, ◌+◌, ◌++◌, ℕ, List, IsSomeAnd, None, Some, slice_get};
+ghost use Rattle.std.specs.Prelude.{◌≡◌, ◌<◌, ◌+◌, ◌++◌, ℕ, List, IsSomeAnd, None, Some, ◌∷◌, length, slice_get};
 ghost use Rattle.mc_item.specs.{Cache.visible_items, Stripe.cache_of};
 ghost use Rattle.mc_item.specs.declared.{call_event.CallEvent.CallEvent, class_event.ClassEvent.ClassEvent, command.Command.Command, config.Config.Config};
 ghost use Rattle.mc_item.specs.declared.{item.Item.Item, item.Who.Who, reply.Reply.Reply, stripe_event.StripeEvent.StripeEvent, stripe_event.Did.Did};
@@ -8,9 +8,11 @@ ghost use Rattle.mc_rule.specs.Pairs.{item_after};
 ghost use Rattle.mc_evidence.specs.{Losses.AreNoCommands, Losses.IsSameItem, Losses.WasLost, Setting.site_in, Sound.IsSoundStore};
 ghost use Rattle.mc_board.specs.Histories.{Grows};
 ghost use Rattle.mc_board.specs.declared.rule.Sight.{Sight};
-ghost use Rattle.mc_store.specs.{Calls.IsRepliedBy, Headline.IsBorneOut, Locked.setting_of, Callers.IsCalled, Callers.who_of, Passes.PassView};
+ghost use Rattle.mc_store.specs.{Calls.IsRepliedBy, Headline.IsBorneOut, Locked.setting_of, Passes.PassView};
+ghost use Rattle.mc_store.specs.Callers.{HasNoAnswer, IsCalled, moment_of, turns_of, who_of};
 ghost use Rattle.mc_store.specs.{Made.IsClassCalled, Made.maker_of, Sides.ClassSide, Sides.StripeSide};
-ghost use Rattle.mc_store.specs.Finals.{AreClasses, AreItsOwn, AreItsOwnInClasses, AreStripes, FinalView, IsBehindStripes, class_histories, stripe_histories};
+ghost use Rattle.mc_store.specs.Finals.{AreClasses, AreItsOwn, AreItsOwnInClasses, AreStripes, FinalView, HasNoDid, IsBehindStripes, class_histories};
+ghost use Rattle.mc_store.specs.Finals.{stripe_histories};
 
 /// A closed store bears out each reply to a pass's command. The stripe's final history is legal, and has the command with this
 /// reply in one event, after all that the pass had seen of the stripe before the call.
@@ -59,6 +61,15 @@ pub fn each_class_event_of_a_closed_store_was_called()
         → ((caller : ℕ) → caller < config.callers → ((passes caller).caller ≡ caller) × AreItsOwnInClasses (passes caller) final.classes)
         → slice_get final.classes number ≡ Some s → slice_get s.class.history place ≡ Some event
         → ((maker_of event).caller < config.callers) × IsClassCalled (passes (maker_of event).caller).calls (record { 0 = number + 1 }) event }
+{}
+
+/// A turn that ended in a fault isn't answered: if no answer comes right after a call in its caller's history, a closed store has no
+/// command of that caller and turn.
+/// It holds if the caller's pass was compared with the closed store.
+pub fn a_turn_that_failed_is_not_answered()
+    ensures { (final : FinalView) (pass : PassView) (before behind : List CallEvent) (call : CallEvent) (moment : ℕ)
+        → AreItsOwn pass final.stripes → pass.calls ≡ before ++ call ∷ behind → moment_of call ≡ Some moment → HasNoAnswer behind
+        → HasNoDid (record { caller = pass.caller; turn = length (turns_of before) }) final.stripes }
 {}
 
 /// A turn is answered once: two answered commands of a closed store that name the same caller and turn are the same event.

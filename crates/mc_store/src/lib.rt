@@ -23,6 +23,7 @@ mod owned_class;
 mod owned_stripe;
 mod pairing;
 mod pass;
+mod placed;
 mod replied;
 mod shelf;
 mod store;
@@ -35,12 +36,13 @@ mod walking;
 pub use final_store::Final;
 pub use laws::{
     a_closed_store_bears_out_each_reply, a_turn_of_a_closed_store_is_answered_once,
-    between_commands_a_closed_store_only_lost, each_class_event_of_a_closed_store_was_called,
-    each_event_of_a_closed_store_was_called,
+    a_turn_that_failed_is_not_answered, between_commands_a_closed_store_only_lost,
+    each_class_event_of_a_closed_store_was_called, each_event_of_a_closed_store_was_called,
 };
 pub use lock_no::LockNo;
 pub use named::Named;
 pub use pass::Pass;
+pub use placed::Placed;
 pub use store::Store;
 pub use taking::MOST_HITS;
 pub use tokens::Tokens;

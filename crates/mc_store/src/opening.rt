@@ -62,6 +62,7 @@ fn open_class<N: Named>(
 
 // The pass of the caller whose history has this place on the board, after the locks. It has had no turn and seen nothing.
 fn open_pass<N: Named>(
+    alloc: Global,
     config: &Config,
     place: usize,
     owner: Owner,
@@ -76,7 +77,7 @@ fn open_pass<N: Named>(
     ensures { result ≡ new_pass (tables_of N.queues) (place - locks_for N.config) }
 {
     let number = (place - locks_in(config)) as u32;
-    Pass::new(Caller::new(number, owner), seen, hands)
+    Pass::new(Caller::new(alloc, config, number, owner), seen, hands)
 }
 
 // How many locks a configuration asks for: one for each stripe and each class.
@@ -148,7 +149,7 @@ impl<N: Named> Store<N> {
                 classes.push(Mutex::new(class))?;
             } else {
                 let own = hands.remove(0);
-                passes.push(open_pass::<N>(&config, place, owner, token, own))?;
+                passes.push(open_pass::<N>(alloc, &config, place, owner, token, own))?;
             }
         }
         let shelf = Mutex::new(shelf_for::<N>(alloc, &config)?);

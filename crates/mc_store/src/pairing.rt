@@ -9,7 +9,8 @@ ghost use Rattle.mc_segment.specs.ClassCalls.{Makes, Stays, refused_event};
 ghost use Rattle.mc_board.specs.Histories.{Grows, list_at};
 ghost use Rattle.mc_pull.specs.{Agreeing.AgreeNow, Perform.call};
 ghost use Rattle.mc_pull.specs.Growth as classes;
-ghost use Rattle.mc_store.specs.{Callers.answered_at, Callers.calls_told, Locked.HasBegunCommand, Locked.caller_place, Sides.class_told, Sides.stripe_told};
+ghost use Rattle.mc_store.specs.{Callers.IsUnanswered, Callers.answered_at, Callers.calls_told, Locked.HasBegunSearch, Locked.caller_place};
+ghost use Rattle.mc_store.specs.Sides.{class_told, stripe_told};
 
 use crate::caller::Caller;
 use crate::locked::{LockedClass, LockedStripe};
@@ -44,7 +45,7 @@ pub(crate) fn refuse<N: Named>(
     who: Who,
 ) -> Result<u64, Fault>
     requires board { board.now ≡ N.board }
-    requires begun { (moment : ℕ) × HasBegunCommand N.config own.old.sight who moment }
+    requires begun { (moment : ℕ) × HasBegunSearch N.config own.old.sight who moment }
     requires full { IsFull lent.old.class.chunks (lists_of lent.old.class.history) }
     ensures place { IfOk result (λ place. place ≡ length lent.old.class.history) }
     ensures refused { OnOk result (Makes lent.old.class lent.new.class (refused_event who)) }
@@ -72,7 +73,7 @@ pub(crate) fn put_if<N: Named>(
 )
     requires board { (board.now ≡ N.board) × (owner.old.board ≡ N.board.table) × (seen.old.board ≡ N.board.table) }
     requires behind { IsPrefix owner.old.history (stripe_told state.now.history) }
-    requires turns { length caller.old.calls + 1 < 2 ^ 64 }
+    requires last { IsUnanswered caller.old.calls }
     ensures owner { owner.new ≡ record owner.old { history = stripe_told state.now.history } }
     ensures board { seen.new.board ≡ seen.old.board }
     ensures grows { Grows seen.old.sight seen.new.sight }

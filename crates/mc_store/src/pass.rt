@@ -1,45 +1,46 @@
 //! Passes: what a caller has called and seen.
-ghost use Rattle.std.specs.Prelude.{◌≡◌, ◌<◌, ◌≤◌, ◌+◌, ◌-◌, ◌^◌, ◌++◌, ◌∷◌, IfOk, IfErr, OnOk, OnErr, [], length};
+ghost use Rattle.std.specs.Prelude.{◌≡◌, ◌≤◌, ◌∷◌, IfOk, OnErr, IsErrOf, [], if◌then◌else◌, length};
 ghost use Rattle.mc_item.specs.declared.fault.Fault.TheVariants.{HistoryFull};
-ghost use Rattle.mc_hits.specs.{Rule.AreBefore, Views.tables_of, Views.untouched_hands};
-ghost use Rattle.mc_store.specs.{Callers.call_events, Callers.calls_told, Callers.turns_of, Passes.next_who};
+ghost use Rattle.mc_hits.specs.Views.{tables_of, untouched_hands};
+ghost use Rattle.mc_store.specs.{Callers.HasNoneOf, Callers.call_events, Callers.calls_told, Callers.placed_in, Callers.turns_of};
+ghost use Rattle.mc_store.specs.{Made.HasNoneMadeBy, Passes.TookTurn, Passes.next_who};
 
 use crate::caller::Caller;
+use crate::locked::{LockedClass, LockedStripe};
 use crate::named::Named;
-use mc_board::{Board, Seen};
+use crate::placed::Placed;
+use crate::store::Store;
+use mc_board::Seen;
 use mc_hits::Hands;
 use mc_item::{Fault, Logged, Who};
 use std::marker::Model;
-
-// The most turns of a pass: a caller's history has at most two events for each, and so fewer than 2^64.
-const MOST_TURNS: u64 = 0x7fff_ffff_ffff_ffff;
 
 /// A caller's pass: its number and its history, how many turns (calls) it has had, what it has seen and noted of each lock, and
 /// its hands in the queues of hits.
 #[derive(Drop)]
 pub struct Pass<N: Named> {
     pub(crate) caller: Caller<N>,
-    turn: u64,
     pub(crate) seen: Seen,
     pub(crate) hands: Hands,
 }
 
 impl<N: Named> Model for Pass<N> {
-    ghost use Rattle.std.specs.Prelude.{◌≡◌, ◌≤◌, ◌+◌, length};
+    ghost use Rattle.std.specs.Prelude.{◌≡◌, length};
+    ghost use Rattle.mc_evidence.specs.Seen.{stripes_seen};
+    ghost use Rattle.mc_board.specs.Histories.{list_at};
     ghost use Rattle.mc_hits.specs.{Rule.AreBefore, Views.tables_of};
-    ghost use Rattle.mc_store.specs.{Callers.turns_of, Passes.PassView};
+    ghost use Rattle.mc_store.specs.{Callers.turns_of, Passes.ArePlaced, Passes.PassView, Passes.pass_of};
 
     ghost Value = { PassView };
 
-    ghost view = { λ p. record { caller = p.caller.number; turn = p.turn; calls = p.caller.calls; sight = p.seen.sight; hands = p.hands } };
+    ghost view = { λ p. pass_of p.caller p.seen.sight p.hands };
 
     ghost invariant = { λ p.
         (p.seen.board ≡ N.board.table)
-        × (length (turns_of p.caller.calls) ≡ p.turn)
-        × (length p.caller.calls ≤ p.turn + p.turn)
+        × ArePlaced N.config p.caller (stripes_seen (list_at p.seen.sight.seen))
         × (p.hands.tables ≡ tables_of N.queues)
         × (p.hands.caller ≡ p.caller.number)
-        × AreBefore p.turn p.hands.offers };
+        × AreBefore (length (turns_of p.caller.calls)) p.hands.offers };
 }
 
 impl<N: Named> Pass<N> {
@@ -52,7 +53,6 @@ impl<N: Named> Pass<N> {
     {
         Pass {
             caller,
-            turn: 0,
             seen,
             hands,
         }
@@ -64,31 +64,71 @@ impl<N: Named> Pass<N> {
     {
         Who {
             caller: self.caller.number(),
-            turn: self.turn,
+            turn: self.caller.turn(),
         }
     }
 
-    // Takes the next turn for a call, adds the call to the caller's history, and returns who makes it. `HistoryFull` comes if the
-    // pass has had 2^63 - 1 turns; then nothing changes.
-    pub(crate) fn take_turn<E: Logged>(&mut self, board: &Board, event: &E) -> Result<Who, Fault>
-        requires board { board.now.table ≡ N.board.table }
+    /// Returns where the pass's commands were answered, in their order: each one's turn, its stripe, and the place of its event in
+    /// the stripe's history. It returns nothing if the store lets its histories go (`Config::keeps_events`).
+    pub fn places(&self) -> &[Placed]
+        ensures { result.now ≡ (if N.config.keeps_events then placed_in self.now.calls else []) }
+    {
+        self.caller.places()
+    }
+
+    // Takes the next turn for a call, adds the call to the caller's history, and returns who makes it.
+    // Errors: `HistoryFull` if the pass has had `max_events` turns, then `NoMemory` if there is no memory to note where the call is
+    // answered. Then nothing changes.
+    pub(crate) fn take_turn<E: Logged>(&mut self, store: &Store<N>, event: &E) -> Result<Who, Fault>
         requires call { calls_told (call_events (E.entry event.now ∷ [])) ≡ E.entry event.now ∷ [] }
         requires one { length (turns_of (call_events (E.entry event.now ∷ []))) ≡ 1 }
-        ensures who { IfOk result (λ who. who ≡ next_who self.old) }
-        ensures turn { OnOk result (self.new ≡ record self.old { turn = self.old.turn + 1; calls = self.old.calls ++ call_events (E.entry event.now ∷ []) }) }
-        ensures turns { OnOk result (length (turns_of self.old.calls) ≡ self.old.turn) }
-        ensures room { OnOk result (length self.new.calls < self.new.turn + self.new.turn) }
-        ensures few { OnOk result (self.new.turn < 2 ^ 63) }
-        ensures before { OnOk result (AreBefore self.old.turn self.new.hands.offers) }
-        ensures err { OnErr result ((self.new ≡ self.old) × (2 ^ 63 - 1 ≤ self.old.turn)) }
-        ensures full { IfErr result (λ fault. fault ≡ HistoryFull) }
+        ensures took { IfOk result (TookTurn self.old self.new (call_events (E.entry event.now ∷ []))) }
+        ensures err { OnErr result (self.new ≡ self.old) }
+        ensures full { IsErrOf result HistoryFull → N.config.max_events ≤ self.old.turn }
+        ensures turns { length (turns_of self.old.calls) ≡ self.old.turn }
     {
-        if self.turn >= MOST_TURNS {
-            return Err(Fault::HistoryFull);
-        }
         let who = self.next_who();
-        self.caller.begin(board, event);
-        self.turn += 1;
+        self.caller.begin(store, event)?;
         Ok(who)
+    }
+
+    // Takes the next turn for a call on a stripe whose lock is held, as `take_turn` does. No event of the stripe is of that turn.
+    pub(crate) fn take_turn_on<E: Logged>(
+        &mut self,
+        store: &Store<N>,
+        event: &E,
+        stripe: &mut LockedStripe<N>,
+    ) -> Result<Who, Fault>
+        requires call { calls_told (call_events (E.entry event.now ∷ [])) ≡ E.entry event.now ∷ [] }
+        requires one { length (turns_of (call_events (E.entry event.now ∷ []))) ≡ 1 }
+        ensures took { IfOk result (TookTurn self.old self.new (call_events (E.entry event.now ∷ []))) }
+        ensures err { OnErr result (self.new ≡ self.old) }
+        ensures full { IsErrOf result HistoryFull → N.config.max_events ≤ self.old.turn }
+        ensures turns { length (turns_of self.old.calls) ≡ self.old.turn }
+        ensures stripe { stripe.new ≡ stripe.old }
+        ensures first { HasNoneOf (next_who self.old) stripe.old.stripe.history }
+    {
+        self.caller.compare_stripe(&store.board, stripe);
+        self.take_turn(store, event)
+    }
+
+    // Takes the next turn for a call on a class whose lock is held, as `take_turn` does. No event of the class is of that turn.
+    pub(crate) fn take_turn_in<E: Logged>(
+        &mut self,
+        store: &Store<N>,
+        event: &E,
+        class: &mut LockedClass<N>,
+    ) -> Result<Who, Fault>
+        requires call { calls_told (call_events (E.entry event.now ∷ [])) ≡ E.entry event.now ∷ [] }
+        requires one { length (turns_of (call_events (E.entry event.now ∷ []))) ≡ 1 }
+        ensures took { IfOk result (TookTurn self.old self.new (call_events (E.entry event.now ∷ []))) }
+        ensures err { OnErr result (self.new ≡ self.old) }
+        ensures full { IsErrOf result HistoryFull → N.config.max_events ≤ self.old.turn }
+        ensures turns { length (turns_of self.old.calls) ≡ self.old.turn }
+        ensures class { class.new ≡ class.old }
+        ensures first { HasNoneMadeBy (next_who self.old) class.old.class.history }
+    {
+        self.caller.compare_class(&store.board, class);
+        self.take_turn(store, event)
     }
 }

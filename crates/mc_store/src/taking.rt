@@ -1,5 +1,5 @@
 //! Taking the hits of a class's queue, and advancing the entries that they name.
-ghost use Rattle.std.specs.Prelude.{◌≡◌, ◌+◌, ◌≤◌, IfOk, IfErr, OnOk, OnErr};
+ghost use Rattle.std.specs.Prelude.{false, ◌≡◌, ◌+◌, ◌≤◌, IfOk, IfErr, OnOk, OnErr};
 ghost use Rattle.mc_evidence.specs.Setting.{IsClass};
 ghost use Rattle.mc_hits.specs.Views.{tables_of};
 ghost use Rattle.mc_pull.specs.Growth as classes;
@@ -42,7 +42,7 @@ impl<'a, N: Named> Trying<'a, N> {
         requires begun { HasBegun N.config self.old.seen.now.sight self.old.who self.old.moment }
         ensures moves { IfOk result (MovesIf (question turn.who number judges.Hit turn.moment) class.old.history class.new.history) }
         ensures err { OnErr result (class.new.history ≡ class.old.history) }
-        ensures grows { classes.GainsEvents class.old class.new }
+        ensures gains { classes.GainsFor false class.old class.new }
         ensures fault { IfErr result (MayFailSeen N.config self.new.seen.now.sight class.new) }
         ensures owner_reference { self.new.owner.ghost_name ≡ self.old.owner.ghost_name }
         ensures seen_reference { self.new.seen.ghost_name ≡ self.old.seen.ghost_name }

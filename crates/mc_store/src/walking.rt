@@ -6,7 +6,7 @@ ghost use Rattle.mc_pull.specs.Growth as classes;
 ghost use Rattle.mc_pull.specs.{Juggle.IsJuggle, Lone.StripeGrows, Rounds.IsRoom, Rounds.rounds, Settled.lost_event, Walker.walker_of};
 ghost use Rattle.mc_pull.specs.declared.looking.Answer.{Answer};
 ghost use Rattle.mc_store.specs.{Callers.juggling_of, Earned.IsSearchInVain, Serving.IsServed, Serving.IsShort, Serving.MayFailSeen, Locked.HasBegun};
-ghost use Rattle.mc_store.specs.{Locked.HasBegunAs, Locked.HasBegunCommand, Made.WalksOwn};
+ghost use Rattle.mc_store.specs.{Locked.HasBegunAs, Locked.HasBegunCommand, Locked.HasBegunSearch, Made.WalksOwn};
 ghost use Rattle.mc_board.specs.Histories.{Grows};
 
 use crate::gates::{Holding, Trying};
@@ -69,13 +69,13 @@ pub(crate) fn make_room_under<N: Named>(
     who: Who,
     moment: u64,
 ) -> Result<bool, Fault>
-    requires begun { HasBegunCommand N.config own.old.sight who moment }
+    requires begun { HasBegunSearch N.config own.old.sight who moment }
     ensures room { IfOk result (λ found. (xs : List Answer)
         × IsRoom (rounds class.old.class who moment N.config) class.old.class.history xs class.new.class.history found) }
     ensures class { classes.GainsEvents class.old.class class.new.class }
     ensures stripe { StripeGrows (walker_of class.old.class who moment) own.old.stripe own.new.stripe }
     ensures tried { IfOk result (λ found. found ≡ false → IsSearchInVain N.config class.old.class own.old.stripe who moment class.new.class.history) }
-    ensures begun { HasBegunCommand N.config own.new.sight who moment }
+    ensures begun { HasBegunSearch N.config own.new.sight who moment }
     ensures full { IsErrOf result HistoryFull → IsShort N.config own.new }
 {
     let board = &store.board;

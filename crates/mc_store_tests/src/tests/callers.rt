@@ -3,7 +3,7 @@
 use super::asking::Ask::{Get, Store as Put};
 use super::ends::{End, Ended};
 use super::opening::four_stripes;
-use super::running::Act::{Callers, Juggle, OfClass, OfStripe, On, Turn, Visit};
+use super::running::Act::{Callers, Juggle, OfClass, OfStripe, On, Places, Turn, Visit};
 use super::running::{Row, check_script};
 use mc_item::Verb::Set;
 
@@ -83,4 +83,34 @@ fn a_second_pass_counts_a_first_ones_command(rt: HostRuntime) {
     let alloc = rt.alloc();
     let config = four_stripes(&rt, alloc);
     check_script(&rt, alloc, config, OF_ANOTHER.as_slice(), &[]);
+}
+
+// A pass has a place for each answered command: the turn, the stripe, and the place of its event there. Juggling takes a turn,
+// and has no place.
+static PLACED: [Row; 7] = [
+    (0, 1000, On(b'a', Put(Set, 0, "1")), "Stored"),
+    (0, 1000, On(b'a', Get), "0 1"),
+    (0, 1000, Places, "0 0 0;1 0 1;"),
+    (0, 1000, Juggle(1), "reclaimed 0, moved 1"),
+    (0, 1000, On(b'b', Get), "Miss"),
+    (0, 1000, Places, "0 0 0;1 0 1;3 1 0;"),
+    (1, 1000, Places, ""),
+];
+
+#[test]
+fn a_pass_has_the_places_of_its_commands(rt: HostRuntime) {
+    let alloc = rt.alloc();
+    let config = four_stripes(&rt, alloc);
+    check_script(&rt, alloc, config, PLACED.as_slice(), &[]);
+}
+
+// A store that lets its histories go has no place to show.
+static LET_GO: [Row; 2] = [(0, 1000, On(b'a', Get), "Miss"), (0, 1000, Places, "")];
+
+#[test]
+fn no_place_is_kept_where_histories_are_let_go(rt: HostRuntime) {
+    let alloc = rt.alloc();
+    let mut config = four_stripes(&rt, alloc);
+    config.keeps_events = false;
+    check_script(&rt, alloc, config, LET_GO.as_slice(), &[]);
 }

@@ -6,7 +6,7 @@ use super::asking::{self, Ask, command_of, text_of_reply, text_of_value};
 use super::ends::{Ended, check_ends};
 use super::opening::{Parts, Shape, compare_all, opened, parts_for, shape_of};
 use mc_item::{ClassNo, Config, Reply, StripeNo, Who};
-use mc_store::{LockNo, Named, Pass, Store};
+use mc_store::{LockNo, Named, Pass, Placed, Store};
 use std::alloc::Global;
 use std::marker::Brand;
 use std::process::Abort;
@@ -32,6 +32,8 @@ pub(super) enum Act {
     Visit(u32),
     /// Tells whose the caller's next turn is, and its number.
     Turn,
+    /// Tells where the caller's commands were answered: the turn, the stripe and the place of each.
+    Places,
     /// Tells how many callers there are.
     Callers,
 }
@@ -47,6 +49,18 @@ fn digits<R: Abort>(rt: &R, alloc: Global, number: u64) -> String {
 // A caller and a turn as a text.
 fn turn_of<R: Abort>(rt: &R, alloc: Global, who: Who) -> String {
     format!(in alloc; "{} {}", who.caller, who.turn).expect(rt, "a text")
+}
+
+// The places of answered commands as a text.
+fn places_of<R: Abort>(rt: &R, alloc: Global, places: &[Placed]) -> String {
+    let mut text = String::new(alloc);
+    for placed in places {
+        let one = format!(in alloc; "{} {} {};", placed.turn, placed.stripe.0, placed.place).expect(
+            rt, "a text",
+        );
+        text.push_str(one.as_str()).expect(rt, "a text");
+    }
+    text
 }
 
 // What a command is answered; the cas number that it shows is noted.
@@ -208,6 +222,7 @@ fn tell<N: Named, R: Abort + Wait>(
         Act::Juggle(class) => juggled(rt, alloc, store, pass, moment, shape, class),
         Act::Crawl(class) => crawled(rt, alloc, store, pass, moment, shape, class),
         Act::Turn => turn_of(rt, alloc, pass.next_who()),
+        Act::Places => places_of(rt, alloc, pass.places()),
         other => digits(rt, alloc, counted(rt, store, pass, shape, other)),
     }
 }

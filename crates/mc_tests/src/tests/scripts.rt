@@ -1,7 +1,7 @@
 //! Several scripts through the program, with and without upkeep.
 use super::{Example, all_hold};
 
-static EXAMPLES: [Example; 10] = [
+static EXAMPLES: [Example; 11] = [
     Example {
         name: "two scripts and upkeep on four stripes",
         words: &["mcseg", "--stripes", "4", "--upkeep", "1000,1001,1002"],
@@ -83,12 +83,20 @@ static EXAMPLES: [Example; 10] = [
         errors: "",
     },
     Example {
-        name: "the maintainer's turns are no events, so 43 of them fill no history of 16",
+        name: "a caller has as many turns as a history has places: the maintainer needs 43, and has 16",
         words: &["mcseg", "--events", "16", "--upkeep", "1000"],
         input: "",
         output: "",
-        status: 0,
-        errors: "",
+        status: 1,
+        errors: "mcseg: history full\n",
+    },
+    Example {
+        name: "a script's turns count for all its stripes together",
+        words: &["mcseg", "--stripes", "2", "--events", "16"],
+        input: "get a|get b|get a|get b|get a|get b|get a|get b|get a|get b|get a|get b|get a|get b|get a|get b|get a|get b|",
+        output: "END|END|END|END|END|END|END|END|END|END|END|END|END|END|END|END|",
+        status: 1,
+        errors: "mcseg: history full\n",
     },
 ];
 

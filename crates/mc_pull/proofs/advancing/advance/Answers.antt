@@ -1,9 +1,9 @@
-use Rattle.std.proofs.Common.{◌≡◌, ◌∙◌, Bool, Some, ap, subst, sym}
+use Rattle.std.proofs.Common.{◌≡◌, ◌∙◌, Bool, false, Some, refl, ap, subst, sym}
 use Rattle.std.specs.Option.{option_copied}
 use Rattle.mc_rule.specs.Lists.{find, lists_of}
 use Rattle.mc_pull.specs.declared.judge.Judge.TheVariants.{Hit}
 use Rattle.mc_pull.specs.{Advance.IsAdvance, Advance.MovesIf, Question.question}
-use Rattle.mc_pull.proofs.AdvanceLemmas.{advanced, moves_by}
+use Rattle.mc_pull.proofs.{AdvanceLemmas.advanced, AdvanceLemmas.moves_by, ChunkEventLemmas.gains_itself, ChunkEventLemmas.gains_judged, ChunkEventLemmas.gains_room}
 use Rattle.mc_pull.proofs.advancing.advance.Goals as goal
 
 pub returns-clause-advanced : goal.returns-clause-advanced
@@ -22,3 +22,14 @@ returns-clause-moves g c =
     subst (MovesIf (question c.args.who c.args.number Hit c.args.moment) class.history c.look_at.new.class.history) (sym c.is_to_warm.ensures)
     (moves_by class c.args.who c.args.number c.args.moment c.args.config.now c.stripe_of-stripe.result c.in_ok-judged.judged c.look_at.new.class
     c.in_ok-judged.ensures.class c.in_ok-judged.ensures.judged)
+
+pub returns-in_default-clause-gains : goal.returns-in_default-clause-gains
+returns-in_default-clause-gains g c = gains_itself false c.args.class.now
+
+pub returns-in_err-judged-clause-gains : goal.returns-in_err-judged-clause-gains
+returns-in_err-judged-clause-gains g c = gains_room false c.args.class.now c.look_at.new.class c.in_err-judged.ensures.err.0
+
+pub returns-clause-gains : goal.returns-clause-gains
+returns-clause-gains g c =
+    gains_judged c.args.class.now (question c.args.who c.args.number Hit c.args.moment) c.args.config.now c.stripe_of-stripe.result c.in_ok-judged.judged c.look_at.new.class refl
+    c.in_ok-judged.ensures.judged c.in_ok-judged.ensures.class

@@ -1,8 +1,9 @@
-use Rattle.std.proofs.Common.{List, ◌++◌, Bool, refl, ap, ◌∙◌, sym, subst, append_assoc}
+use Rattle.std.proofs.Common.{List, ◌++◌, Bool, false, refl, ap, ◌∙◌, sym, subst, append_assoc}
 use Rattle.mc_segment.specs.ClassState.{ClassView}
 use Rattle.mc_rule.specs.Segment.{Rule}
 use Rattle.mc_pull.specs.{Juggle.juggling, Juggle.JugglesTemp, Juggle.JugglesRounds, Rounds.rounds}
 use Rattle.mc_pull.specs.declared.looking.Answer.{Answer}
+use Rattle.mc_pull.proofs.ChunkEventLemmas.{gains_both}
 use Rattle.mc_pull.proofs.juggling.juggle.Goals as goal
 
 pub returns-clause-juggle : goal.returns-clause-juggle
@@ -15,7 +16,7 @@ returns-clause-juggle g c =
     let between = juggling mid.history c.in_ok-before.before in
     let end = juggling after.history c.in_ok-sum.sum in
     let r = rounds old c.args.who c.args.moment c.args.config.now in
-    let rest_is = subst (λ (x : ClassView). JugglesRounds (rounds x c.args.who c.args.moment c.args.config.now) between rest.0 end) c.in_ok-before.ensures.grows.same rest.2 in
+    let rest_is = subst (λ (x : ClassView). JugglesRounds (rounds x c.args.who c.args.moment c.args.config.now) between rest.0 end) c.in_ok-before.ensures.gains.grows.same rest.2 in
     let temp_is = subst (λ (b : Bool). JugglesTemp r b old.history temp.0 between) (ap (λ (x : Rule). x.temp) (sym c.requires.config.rule)) temp.2 in (
       temp.0 ++ rest.0,
       rest.1 ∙ (ap (λ (ys : List Answer). ys ++ rest.0) temp.1 ∙ append_assoc _ temp.0 rest.0),
@@ -30,3 +31,9 @@ returns-clause-juggle g c =
         answers = refl;
       },
     )
+
+pub returns-in_err-sum-clause-gains : goal.returns-in_err-sum-clause-gains
+returns-in_err-sum-clause-gains g c = gains_both false c.args.class.now c.juggle_temp.new.class c.juggle_rest.new.class c.in_ok-before.ensures.gains c.in_err-sum.ensures.gains
+
+pub returns-clause-gains : goal.returns-clause-gains
+returns-clause-gains g c = gains_both false c.args.class.now c.juggle_temp.new.class c.juggle_rest.new.class c.in_ok-before.ensures.gains c.in_ok-sum.ensures.gains

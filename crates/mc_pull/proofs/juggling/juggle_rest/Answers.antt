@@ -1,11 +1,11 @@
-use Rattle.std.proofs.Common.{List, ◌≡◌, ◌++◌, sym, subst, refl}
+use Rattle.std.proofs.Common.{List, ◌≡◌, ◌++◌, false, sym, subst, refl}
 use Rattle.std.specs.Prelude.{IfOk}
 use Rattle.mc_item.specs.declared.class_event.ClassEvent.{ClassEvent}
 use Rattle.mc_segment.specs.ClassState.{ClassView}
 use Rattle.mc_segment.specs.declared.surveying.Survey.{Survey}
 use Rattle.mc_pull.specs.{Juggle.juggling, Juggle.survey_at, Juggle.IsJuggled, Juggle.IsJuggleRound, Rounds.rounds, Walker.walker_of}
 use Rattle.mc_pull.specs.declared.looking.Answer.{Answer}
-use Rattle.mc_pull.proofs.GrowthLemmas.{kept_later}
+use Rattle.mc_pull.proofs.{ChunkEventLemmas.gains_both, GrowthLemmas.kept_later}
 use Rattle.mc_pull.proofs.juggling.juggle_rest.Goals as goal
 
 pub returns-clause-rest : goal.returns-clause-rest
@@ -18,12 +18,15 @@ returns-clause-rest g c =
     let P : ClassView → Survey → List ClassEvent → Type 0 =
     λ x s h. IfOk c.juggle_rounds.result (λ sum. (xs : List Answer) × (g.G.Gate.answers c.juggle_rounds.new.gate ≡ g.G.Gate.answers c.args.gate.now ++ xs)
     × IsJuggled (IsJuggleRound (rounds x c.args.who c.args.moment config) s) (juggling h c.args.total) xs (juggling after.history sum)) in
-    let made = subst (λ (x : ClassView). P x c.in_ok-survey.survey c.survey_class.new.class.history) survey.grows.same c.juggle_rounds.ensures.juggled in
+    let made = subst (λ (x : ClassView). P x c.in_ok-survey.survey c.survey_class.new.class.history) survey.gains.grows.same c.juggle_rounds.ensures.juggled in
     let named = subst (λ (s : Survey). P old s c.survey_class.new.class.history) (survey.survey config) made in
     subst (λ (h : List ClassEvent). P old (survey_at r old.history) h) (survey.history config) named
 
 pub returns-clause-kept : goal.returns-clause-kept
 returns-clause-kept g c = λ first begun k.
-    kept_later g.G.Gate.keeps c.args.who c.args.moment c.args.class.now c.survey_class.new.class c.in_ok-survey.ensures.grows _ _ _ _ c.juggle_rounds.ensures.kept first begun
+    kept_later g.G.Gate.keeps c.args.who c.args.moment c.args.class.now c.survey_class.new.class c.in_ok-survey.ensures.gains.grows _ _ _ _ c.juggle_rounds.ensures.kept first begun
     (subst (λ (h : List ClassEvent). g.G.Gate.keeps (walker_of c.args.class.now c.args.who c.args.moment) first begun c.args.gate.now h) (sym (c.in_ok-survey.ensures.history c.args.config.now))
     (c.requires.surveys first begun c.args.gate.now c.args.class.now.history _ refl refl k))
+
+pub returns-clause-gains : goal.returns-clause-gains
+returns-clause-gains g c = gains_both false c.args.class.now c.survey_class.new.class c.juggle_rounds.new.class c.in_ok-survey.ensures.gains c.juggle_rounds.ensures.gains

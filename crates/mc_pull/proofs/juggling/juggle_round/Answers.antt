@@ -1,9 +1,9 @@
-use Rattle.std.proofs.Common.{List, ◌++◌, Bool, refl, ap, ◌∙◌, subst, append_assoc}
+use Rattle.std.proofs.Common.{List, ◌++◌, Bool, false, refl, ap, ◌∙◌, subst, append_assoc}
 use Rattle.mc_item.specs.declared.lists.Seg.TheVariants.{Cold}
 use Rattle.mc_segment.specs.ClassState.{ClassView}
 use Rattle.mc_pull.specs.declared.{judge.Mode.TheVariants.Plain, looking.Answer.Answer, pulled.Pulled.Pulled}
 use Rattle.mc_pull.specs.{Juggle.PullsWarm, Pulled.plus, Rounds.rounds, Walk.pull, Walk.IsWalk}
-use Rattle.mc_pull.proofs.GrowthLemmas.{grows_both}
+use Rattle.mc_pull.proofs.{ChunkEventLemmas.gains_both, GrowthLemmas.grows_both, GrowthLemmas.survey_later}
 use Rattle.mc_pull.proofs.juggling.juggle_round.Goals as goal
 
 pub returns-clause-round : goal.returns-clause-round
@@ -18,8 +18,8 @@ returns-clause-round g c =
     let hot = c.in_ok-hot.ensures.walk in
     let warm = c.in_ok-warm.ensures.walk in
     let cold = c.in_ok-cold.ensures.walk in
-    let grows = c.in_ok-hot.ensures.grows in
-    let later = grows_both _ mid next grows c.in_ok-warm.ensures.grows in
+    let grows = c.in_ok-hot.ensures.gains.grows in
+    let later = grows_both _ mid next grows c.in_ok-warm.ensures.gains.grows in
     let warm_is = subst (λ (b : Bool). PullsWarm (rounds c.args.class.now who moment config) survey b mid.history warm.0 next.history c.in_ok-warm.warm) c.did_something-did.ensures
     (subst (λ (x : ClassView). PullsWarm (rounds x who moment config) survey c.did_something-did.result mid.history warm.0 next.history c.in_ok-warm.warm) grows.same warm.2) in
     let cold_is = subst (λ (x : ClassView). IsWalk (pull x Cold (Plain survey) who moment config) cold.0 last.history c.in_ok-cold.cold) later.same cold.2 in (
@@ -41,3 +41,21 @@ returns-clause-round g c =
         answers = refl;
       },
     )
+
+pub returns-in_err-warm-clause-gains : goal.returns-in_err-warm-clause-gains
+returns-in_err-warm-clause-gains g c = gains_both false c.args.class.now c.pull_tail.new.class c.pull_warm.new.class c.in_ok-hot.ensures.gains c.in_err-warm.ensures.gains
+
+pub pull_tail-requires-2-clause-walk : goal.pull_tail-requires-2-clause-walk
+pull_tail-requires-2-clause-walk g c =
+    survey_later c.args.class.now c.pull_warm.new.class c.args.who c.args.moment c.args.survey
+    (gains_both false c.args.class.now c.pull_tail.new.class c.pull_warm.new.class c.in_ok-hot.ensures.gains c.in_ok-warm.ensures.gains).grows c.requires.survey
+
+pub returns-in_err-cold-clause-gains : goal.returns-in_err-cold-clause-gains
+returns-in_err-cold-clause-gains g c =
+    gains_both false c.args.class.now c.pull_warm.new.class c.pull_tail-2.new.class
+    (gains_both false c.args.class.now c.pull_tail.new.class c.pull_warm.new.class c.in_ok-hot.ensures.gains c.in_ok-warm.ensures.gains) c.in_err-cold.ensures.gains
+
+pub returns-clause-gains : goal.returns-clause-gains
+returns-clause-gains g c =
+    gains_both false c.args.class.now c.pull_warm.new.class c.pull_tail-2.new.class
+    (gains_both false c.args.class.now c.pull_tail.new.class c.pull_warm.new.class c.in_ok-hot.ensures.gains c.in_ok-warm.ensures.gains) c.in_ok-cold.ensures.gains

@@ -1,8 +1,8 @@
-use Rattle.std.proofs.Common.{◌≡◌, ◌-◌, suc, ◌∙◌, sym, ap, subst, arith}
+use Rattle.std.proofs.Common.{rules, refl, ◌≡◌, ◌-◌, suc, false, ◌∙◌, sym, ap, subst, arith}
 use Rattle.mc_segment.specs.ClassState.{ClassView}
 use Rattle.mc_pull.specs.{Juggle.IsJuggleRound, Pulled.sum_of, Pulled.plus, Rounds.rounds}
 use Rattle.mc_pull.proofs.RoundLemmas.{rounds_more, plus_sum, juggled_all}
-use Rattle.mc_pull.proofs.GrowthLemmas.{grows_both, class_later, survey_later, kept_later}
+use Rattle.mc_pull.proofs.{ChunkEventLemmas.gains_both, ChunkEventLemmas.gains_itself, GrowthLemmas.class_later, GrowthLemmas.survey_later, GrowthLemmas.kept_later}
 use Rattle.mc_pull.proofs.juggling.juggle_rounds.Goals as goal
 
 pub rounds-preserved : goal.rounds-preserved
@@ -13,22 +13,41 @@ rounds-preserved g c =
     let after = c.juggle_round.new.class in
     let few = inv.1 in
     let some = c.rounds-test.true in
-    let round = subst (λ (x : ClassView). IsJuggleRound (rounds x c.args.who c.args.moment c.args.config.now) c.args.survey before.history made.round.0 after.history c.in_ok-made.made) inv.3.same made.round.2 in
+    let round = subst (λ (x : ClassView). IsJuggleRound (rounds x c.args.who c.args.moment c.args.config.now) c.args.survey before.history made.round.0 after.history c.in_ok-made.made) inv.3.grows.same made.round.2 in
     let count : 500 - (c.rounds.left - 1) ≡ suc (500 - c.rounds.left) = omega (arith, few, some) in
     let total : sum_of c.plus-sum.result ≡ sum_of (plus c.rounds.sum c.in_ok-made.made) = ap sum_of c.plus-sum.ensures in (
       rounds_more made.round.0 inv.0 made.round.1
           (record { sum = c.in_ok-made.made; made = round; did_is = sym c.did_something.ensures ∙ c.if-not-did_something.false; count = c.plus-sum.ensures }) count,
       omega (arith, few),
       omega (arith, inv.2, made.few, some, plus_sum c.rounds.sum c.in_ok-made.made, total),
-      grows_both _ before after inv.3 made.grows,
-      survey_later before after c.args.who c.args.moment c.args.survey made.grows inv.4,
-      class_later c.args.config.now before after inv.5 made.grows,
+      gains_both false _ before after inv.3 made.gains,
+      survey_later before after c.args.who c.args.moment c.args.survey made.gains.grows inv.4,
+      class_later c.args.config.now before after inv.5 made.gains.grows,
       made.serves,
       made.holds ∙ inv.7,
-      λ h v k. kept_later g.G.Gate.keeps c.args.who c.args.moment c.args.class.now before inv.3 _ _ _ _ made.kept h v (inv.8 h v k),
+      λ h v k. kept_later g.G.Gate.keeps c.args.who c.args.moment c.args.class.now before inv.3.grows _ _ _ _ made.kept h v (inv.8 h v k),
     )
 
 pub returns-after-rounds-clause-juggled : goal.returns-after-rounds-clause-juggled
 returns-after-rounds-clause-juggled g c =
     juggled_all c.rounds.invariant.0
     (omega (arith, c.rounds-test.false))
+
+pub rounds-init : goal.rounds-init
+rounds-init g c = (
+  search rules,
+  omega arith,
+  omega (arith, c.requires.small),
+  gains_itself false c.args.class.now,
+  c.requires.survey,
+  c.requires.config,
+  c.requires.gate,
+  refl,
+  λ first begun k. k,
+)
+
+pub returns-in_err-made-clause-gains : goal.returns-in_err-made-clause-gains
+returns-in_err-made-clause-gains g c = gains_both false c.args.class.now c.rounds.class c.juggle_round.new.class c.rounds.invariant.3 c.in_err-made.ensures.gains
+
+pub returns-then-not-did_something-clause-gains : goal.returns-then-not-did_something-clause-gains
+returns-then-not-did_something-clause-gains g c = gains_both false c.args.class.now c.rounds.class c.juggle_round.new.class c.rounds.invariant.3 c.in_ok-made.ensures.gains

@@ -1,6 +1,6 @@
-use Rattle.std.proofs.Common.{List, ◌≡◌, ◌+◌, ◌-◌, ◌*◌, ◌≤◌, true}
+use Rattle.std.proofs.Common.{List, ◌≡◌, ◌+◌, ◌-◌, ◌*◌, ◌≤◌, true, false}
 use Rattle.mc_item.specs.declared.class_event.ClassEvent.{ClassEvent}
-use Rattle.mc_pull.specs.{Growth.GainsEvents, Question.IsClassOf, Question.IsSurveyIn, Pulled.sum_of, Rounds.rounds, Walker.walker_of}
+use Rattle.mc_pull.specs.{Growth.GainsFor, Question.IsClassOf, Question.IsSurveyIn, Pulled.sum_of, Rounds.rounds, Walker.walker_of}
 use Rattle.mc_pull.specs.Juggle.{juggling, Adds, IsJuggleRound}
 use Rattle.mc_pull.proofs.RoundLemmas.{OnRounds}
 use Rattle.mc_pull.proofs.juggling.juggle_rounds.Given as goal
@@ -9,7 +9,7 @@ abbrev pub invariant-rounds : goal.invariant-rounds
 invariant-rounds g l =
     OnRounds (Adds (IsJuggleRound (rounds l.fn.class l.who l.moment l.config) l.survey) true) (g.G.Gate.answers l.fn.gate) (g.G.Gate.answers l.gate)
     (juggling l.fn.class.history l.fn.total) (juggling l.class.history l.sum) (500 - l.left)
-    × (l.left ≤ 500) × (sum_of l.sum + 15 * l.left ≤ 10000) × GainsEvents l.fn.class l.class
+    × (l.left ≤ 500) × (sum_of l.sum + 15 * l.left ≤ 10000) × GainsFor false l.fn.class l.class
     × IsSurveyIn l.class.history l.who l.moment l.survey × IsClassOf l.config l.class × g.G.Gate.serves l.gate l.config l.class
     × (g.G.Gate.references l.gate ≡ g.G.Gate.references l.fn.gate)
     × ((first : g.row.G.Denot) (begun : List ClassEvent) → g.G.Gate.keeps (walker_of l.fn.class l.who l.moment) first begun l.fn.gate l.fn.class.history

@@ -1,4 +1,4 @@
-use Rattle.std.proofs.Common.{List, ◌≡◌, ◌++◌, Bool, sym, subst, refl}
+use Rattle.std.proofs.Common.{List, ◌≡◌, ◌++◌, Bool, false, sym, subst, refl}
 use Rattle.std.specs.Prelude.{IfOk}
 use Rattle.mc_item.specs.declared.{class_event.ClassEvent.ClassEvent, lists.Seg.TheVariants.Temp}
 use Rattle.mc_segment.specs.ClassState.{ClassView}
@@ -6,7 +6,7 @@ use Rattle.mc_segment.specs.declared.surveying.Survey.{Survey}
 use Rattle.mc_pull.specs.Juggle.{juggling, survey_at, IsJuggled, JugglesTemp}
 use Rattle.mc_pull.specs.{Pulled.none_pulled, Rounds.rounds, Rounds.Walks, Walker.walker_of}
 use Rattle.mc_pull.specs.declared.{judge.Mode.TheVariants.Plain, looking.Answer.Answer}
-use Rattle.mc_pull.proofs.GrowthLemmas.{kept_later}
+use Rattle.mc_pull.proofs.{ChunkEventLemmas.gains_both, ChunkEventLemmas.gains_itself, GrowthLemmas.kept_later}
 use Rattle.mc_pull.proofs.juggling.juggle_temp.Goals as goal
 
 pub returns-clause-temp : goal.returns-clause-temp
@@ -19,7 +19,7 @@ returns-clause-temp g c =
     let P : ClassView → Survey → List ClassEvent → Type 0 =
     λ x s h. IfOk c.temp_rounds.result (λ sum. (xs : List Answer) × (g.G.Gate.answers c.temp_rounds.new.gate ≡ g.G.Gate.answers c.args.gate.now ++ xs)
     × IsJuggled (Walks (rounds x c.args.who c.args.moment config) Temp (Plain s)) (juggling h none_pulled) xs (juggling after.history sum)) in
-    let made = subst (λ (x : ClassView). P x c.in_ok-survey.survey c.survey_class.new.class.history) survey.grows.same c.temp_rounds.ensures.juggled in
+    let made = subst (λ (x : ClassView). P x c.in_ok-survey.survey c.survey_class.new.class.history) survey.gains.grows.same c.temp_rounds.ensures.juggled in
     let named = subst (λ (s : Survey). P old s c.survey_class.new.class.history) (survey.survey config) made in
     let noted = subst (λ (h : List ClassEvent). P old (survey_at r old.history) h) (survey.history config) named in
     subst (λ (b : Bool). IfOk c.temp_rounds.result (λ sum. (xs : List Answer) × (g.G.Gate.answers c.temp_rounds.new.gate ≡ g.G.Gate.answers c.args.gate.now ++ xs)
@@ -27,6 +27,12 @@ returns-clause-temp g c =
 
 pub returns-clause-kept : goal.returns-clause-kept
 returns-clause-kept g c = λ first begun k.
-    kept_later g.G.Gate.keeps c.args.who c.args.moment c.args.class.now c.survey_class.new.class c.in_ok-survey.ensures.grows _ _ _ _ c.temp_rounds.ensures.kept first begun
+    kept_later g.G.Gate.keeps c.args.who c.args.moment c.args.class.now c.survey_class.new.class c.in_ok-survey.ensures.gains.grows _ _ _ _ c.temp_rounds.ensures.kept first begun
     (subst (λ (h : List ClassEvent). g.G.Gate.keeps (walker_of c.args.class.now c.args.who c.args.moment) first begun c.args.gate.now h) (sym (c.in_ok-survey.ensures.history c.args.config.now))
     (c.requires.surveys first begun c.args.gate.now c.args.class.now.history _ refl refl k))
+
+pub returns-then-not-config-clause-gains : goal.returns-then-not-config-clause-gains
+returns-then-not-config-clause-gains g c = gains_itself false c.args.class.now
+
+pub returns-clause-gains : goal.returns-clause-gains
+returns-clause-gains g c = gains_both false c.args.class.now c.survey_class.new.class c.temp_rounds.new.class c.in_ok-survey.ensures.gains c.temp_rounds.ensures.gains

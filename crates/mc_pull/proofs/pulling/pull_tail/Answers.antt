@@ -1,5 +1,7 @@
-use Rattle.std.proofs.Common.{◌∙◌, sym, arith}
-use Rattle.mc_pull.proofs.{GrowthLemmas.may_later, GrowthLemmas.class_later, GrowthLemmas.kept_later, WalkAnswerLemmas.looked_on, WalkAnswerLemmas.looked_whole}
+use Rattle.std.proofs.Common.{rules, ◌∙◌, refl, sym, arith}
+use Rattle.mc_pull.specs.Growth.{looks_for_chunk}
+use Rattle.mc_pull.proofs.ChunkEventLemmas.{gains_both, gains_itself, gains_nothing}
+use Rattle.mc_pull.proofs.{GrowthLemmas.may_later, GrowthLemmas.class_later, GrowthLemmas.kept_later, WalkAnswerLemmas.looked_more, WalkAnswerLemmas.looked_on, WalkAnswerLemmas.looked_whole}
 use Rattle.mc_pull.proofs.pulling.pull_tail.Goals as goal
 
 pub looks-preserved : goal.looks-preserved
@@ -13,7 +15,7 @@ looks-preserved g c =
       class_later _ _ _ inv.2 grows,
       c.in_ok-answer.ensures.serves,
       c.in_ok-answer.ensures.holds ∙ inv.4,
-      λ h v k. kept_later g.G.Gate.keeps c.args.who c.args.moment c.args.class.now c.looks.class inv.0.grows _ _ _ _ c.in_ok-answer.ensures.kept h v (inv.5 h v k),
+      λ h v k. kept_later g.G.Gate.keeps c.args.who c.args.moment c.args.class.now c.looks.class inv.0.gains.grows _ _ _ _ c.in_ok-answer.ensures.kept h v (inv.5 h v k),
     )
 
 pub returns-then-ends_with-clause-walk : goal.returns-then-ends_with-clause-walk
@@ -25,3 +27,26 @@ returns-then-ends_with-clause-walk g c =
 
 pub look_next-requires-clause-there : goal.look_next-requires-clause-there
 look_next-requires-clause-there g c = omega (arith, c.looks.invariant.0.enough, c.looks-test.true)
+
+pub looks-init : goal.looks-init
+looks-init g c = (
+  record { on = search rules; gains = gains_itself (looks_for_chunk c.args.mode) c.args.class.now; few = search rules; enough = search rules },
+  c.requires.walk,
+  c.requires.config,
+  c.requires.gate,
+  refl,
+  λ first begun k. k,
+)
+
+pub returns-in_err-answer-clause-gains : goal.returns-in_err-answer-clause-gains
+returns-in_err-answer-clause-gains g c =
+    let looks = looks_for_chunk c.args.mode in
+    gains_both looks c.args.class.now c.looks.class c.look_next.new.class c.looks.invariant.0.gains
+    (gains_nothing looks c.looks.class c.look_next.new.class c.in_err-answer.ensures.grows c.in_err-answer.ensures.err.0)
+
+pub returns-then-ends_with-clause-gains : goal.returns-then-ends_with-clause-gains
+returns-then-ends_with-clause-gains g c =
+    let inv = c.looks.invariant in
+    let look = c.in_ok-answer.ensures.answer in
+    gains_both (looks_for_chunk c.args.mode) c.args.class.now c.looks.class c.look_next.new.class inv.0.gains
+    (looked_more c.in_ok-answer.answer inv.0 look.0 look.1 c.in_ok-answer.ensures.class c.in_ok-answer.ensures.grows.same c.counted-pulled.ensures)

@@ -20,7 +20,7 @@ answer_at_home-requires-clause-begun g c =
     let turn = c.args.turn in
     let tried = rw c.in-Wants.is at c.in_ok-reply.ensures.tried in
     let asked = subst (λ (x : CallerView). HasAsked x turn.who command turn.moment) (sym tried.1) c.requires.called.asked in
-    record { command = command; begun = c.tell_stripe.ensures.begun turn.who turn.moment (asked_for command turn.moment) (asked_called c.try_home.new.caller turn.who command turn.moment asked) }
+    c.tell_stripe.ensures.begun turn.who turn.moment (asked_for command turn.moment) (asked_called c.try_home.new.caller turn.who command turn.moment asked)
 
 pub returns-in-Room : goal.returns-in-Room
 returns-in-Room g c =

@@ -4,7 +4,7 @@ use Rattle.mc_item.specs.{Command.key_of, Measure.stripe_of}
 use Rattle.mc_item.specs.declared.answer.Site.{Site}
 use Rattle.mc_stripe.specs.{StripeCalls.KeepsSite, StripeState.Stripe, Trying.item_of}
 use Rattle.mc_store.specs.{Callers.asked_for, Held.Ends, Passes.CallerView, Sides.StripeSide}
-use Rattle.mc_store.proofs.{CallerLemmas.asked_called, CallerLemmas.command_sees, CommandLemmas.buried_alive, CommandLemmas.not_dead, HeldTryLemmas.made_alone}
+use Rattle.mc_store.proofs.{CallerLemmas.asked_called, CallerLemmas.begun_as_sees, CommandLemmas.buried_alive, CommandLemmas.not_dead, HeldTryLemmas.made_alone}
 use Rattle.mc_store.proofs.{HeldTryLemmas.some_none, ShortHistoryLemmas.stripe_made, UnderLockLemmas.searched_itself, UnderLockLemmas.site_itself}
 use Rattle.mc_store.proofs.CommandEndLemmas.{buried_now, ends_buried, ends_early, ends_err, ends_made, ends_same}
 use Rattle.mc_store.proofs.answering.answer_want.Goals as goal
@@ -13,7 +13,7 @@ pub answer_with-requires-clause-begun : goal.answer_with-requires-clause-begun
 answer_with-requires-clause-begun g c =
     let command = c.args.command.now in
     let turn = c.args.turn in
-    record { command = command; begun = c.tell_stripe.ensures.begun turn.who turn.moment (asked_for command turn.moment) (asked_called c.args.caller.now turn.who command turn.moment c.requires.called.asked) }
+    c.tell_stripe.ensures.begun turn.who turn.moment (asked_for command turn.moment) (asked_called c.args.caller.now turn.who command turn.moment c.requires.called.asked)
 
 pub bury-requires-clause-begun : goal.bury-requires-clause-begun
 bury-requires-clause-begun g c =
@@ -67,9 +67,10 @@ answer_with-requires-in-Classes-left-clause-begun g c =
     let config = g.N.Named.config in
     let command = c.args.command.now in
     let turn = c.args.turn in
-    command_sees config c.bury.new.own.sight c.try_alone.new.own.sight turn.who turn.moment c.try_alone.ensures.sees
-    (command_sees config c.tell_stripe.new.stripe.sight c.bury.new.own.sight turn.who turn.moment c.bury.ensures.sees
-    (record { command = command; begun = c.tell_stripe.ensures.begun turn.who turn.moment (asked_for command turn.moment) (asked_called c.args.caller.now turn.who command turn.moment c.requires.called.asked) }))
+    let call = asked_for command turn.moment in
+    begun_as_sees config c.bury.new.own.sight c.try_alone.new.own.sight turn.who turn.moment call c.try_alone.ensures.sees
+    (begun_as_sees config c.tell_stripe.new.stripe.sight c.bury.new.own.sight turn.who turn.moment call c.bury.ensures.sees
+    (c.tell_stripe.ensures.begun turn.who turn.moment call (asked_called c.args.caller.now turn.who command turn.moment c.requires.called.asked)))
 
 pub unreachable-requires : goal.unreachable-requires
 unreachable-requires g c =

@@ -6,7 +6,7 @@ use Rattle.mc_item.specs.declared.{item.StripeNo.StripeNo}
 use Rattle.mc_segment.specs.ClassState.{ClassView}
 use Rattle.mc_stripe.specs.{StripeCalls.KeepsSite, StripeState.Stripe}
 use Rattle.mc_store.specs.{Earned.HasGivenUp, Earned.IsEarnedAt, Held.Ends, Held.Suffice, Held.class_held, Sides.StripeSide}
-use Rattle.mc_store.proofs.{CallerLemmas.command_sees, NeededClassLemmas.suffice_behind, UnderLockLemmas.site_both}
+use Rattle.mc_store.proofs.{CallerLemmas.search_sees, NeededClassLemmas.begun_search, NeededClassLemmas.suffice_behind, UnderLockLemmas.site_both}
 use Rattle.mc_store.proofs.CommandEndLemmas.{ends_cut, ends_err, ends_made, searched_same, searched_walk, suffice_same}
 use Rattle.mc_store.proofs.HeldTryLemmas.{earned_now, made_caller, no_burial, refuse_short, some_none, wants_place}
 use Rattle.mc_store.proofs.held.answer_at_home.Goals as goal
@@ -62,9 +62,14 @@ returns-in-Made g c =
     ends_made config command c.args.turn s mid alive searched c.search.ensures.site c.try_home.new.own c.args.caller.now c.try_home.new.caller (record { reply = c.in-Made.reply; woken = c.in-Made.woken })
     c.law.ensures.made_with c.try_home.ensures.site (rw c.in-Made.is at c.in_ok-reply.ensures.tried)
 
+pub search-requires : goal.search-requires
+search-requires g c = record {
+  begun = begun_search g.N.Named.config c.args.own.now.sight c.args.turn.who c.args.command.now c.args.turn.moment c.args.own.now.stripe c.args.home.now.class.number c.requires.wants.fresh c.requires.begun;
+}
+
 pub refuse-requires-clause-begun : goal.refuse-requires-clause-begun
 refuse-requires-clause-begun g c =
-    (c.args.turn.moment, command_sees g.N.Named.config c.search.new.own.sight c.try_home.new.own.sight c.args.turn.who c.args.turn.moment c.try_home.ensures.sees c.search.ensures.begun)
+    (c.args.turn.moment, search_sees g.N.Named.config c.search.new.own.sight c.try_home.new.own.sight c.args.turn.who c.args.turn.moment c.try_home.ensures.sees c.search.ensures.begun)
 
 pub returns-in_err-place-in-Room : goal.returns-in_err-place-in-Room
 returns-in_err-place-in-Room g c =

@@ -1,9 +1,9 @@
-use Rattle.std.proofs.Common.{ap, refl, sym, subst}
+use Rattle.std.proofs.Common.{inr, ap, refl, sym, subst}
 use Rattle.mc_board.specs.{Histories.Grows, Histories.list_at, Views.OwnerView}
 use Rattle.mc_board.proofs.PrefixLemmas.{prefix_self}
 use Rattle.mc_segment.specs.ClassState.{ClassView}
-use Rattle.mc_store.specs.{Locked.HasBegunCommand, Locked.IsLockedClass, Serving.class_side, Sides.ClassSide, Sides.StripeSide}
-use Rattle.mc_store.proofs.{CallerLemmas.command_sees, OwnEventLemmas.gains_refused, OwnEventLemmas.locked_told, LentClassLemmas.class_behind, NotedRefusalLemmas.refusal_grows}
+use Rattle.mc_store.specs.{Locked.HasBegunSearch, Locked.IsLockedClass, Serving.class_side, Sides.ClassSide, Sides.StripeSide}
+use Rattle.mc_store.proofs.{CallerLemmas.search_sees, OwnEventLemmas.gains_refused, OwnEventLemmas.locked_told, LentClassLemmas.class_behind, NotedRefusalLemmas.refusal_grows}
 use Rattle.mc_store.proofs.{NotedRefusalLemmas.refused_after}
 use Rattle.mc_store.proofs.pairing.refuse.Goals as goal
 
@@ -27,9 +27,9 @@ invariant_of-lent g c =
     (ap (λ (o : OwnerView). o.board) c.catch_up_class.ensures) (ap (λ (o : OwnerView). o.lock) c.catch_up_class.ensures) none c.law.ensures.lawful
     c.refuse-place.result c.refuse-place.ensures.ok c.refuse-place.ensures.err in
     let moment = c.requires.begun.0 in
-    let begun = subst (λ (x : StripeSide). HasBegunCommand config x.sight c.args.who moment) (sym c.own.view_is) c.requires.begun.1 in
-    locked_told table config old mid mid c.learn.new.self c.args.who moment kept
-    (gains_refused raw.state c.refuse-place.new.self c.args.who moment c.refuse-place.result c.refuse-place.ensures.ok c.refuse-place.ensures.err)
+    let begun = search_sees config c.own.inside.side.sight c.learn.new.self.sight c.args.who moment c.learn.ensures.learnt
+    (subst (λ (x : StripeSide). HasBegunSearch config x.sight c.args.who moment) (sym c.own.view_is) c.requires.begun.1) in
+    locked_told table config old mid mid c.learn.new.self c.args.who moment kept (record { command = begun.command; begun = begun.begun })
+    (gains_refused raw.state c.refuse-place.new.self c.args.who moment c.refuse-place.result c.refuse-place.ensures.ok c.refuse-place.ensures.err, inr begun.needs)
     (ap (λ (v : ClassView). v.number) (refusal_grows raw.state c.refuse-place.new.self c.args.who c.refuse-place.result c.refuse-place.ensures.ok
     c.refuse-place.ensures.err).same) refl refl none held c.learn.ensures.class c.learn.ensures.grows
-    (command_sees config c.own.inside.side.sight c.learn.new.self.sight c.args.who moment c.learn.ensures.learnt begun)

@@ -3,7 +3,7 @@ use Rattle.mc_item.specs.declared.item.ClassNo.{ClassNo}
 use Rattle.mc_board.specs.Views.{OwnerView}
 use Rattle.mc_segment.specs.ClassState.{ClassView}
 use Rattle.mc_store.specs.{Callers.juggling_of, Locked.HasBegunAs, Locked.IsLockedClass, Serving.class_side, Sides.ClassSide}
-use Rattle.mc_store.proofs.{CallerLemmas.begun_as_sees, OwnEventLemmas.locked_gains, OwnEventLemmas.of_juggling}
+use Rattle.mc_store.proofs.{CallerLemmas.begun_as_sees, OwnEventLemmas.locked_gains, OwnEventLemmas.none_own, OwnEventLemmas.of_juggling}
 use Rattle.mc_store.proofs.taking.advance_under.Goals as goal
 
 pub invariant_of-class : goal.invariant_of-class
@@ -18,9 +18,10 @@ invariant_of-class g c =
     let begun = subst (λ (x : ClassSide). HasBegunAs config x.sight turn.who turn.moment (juggling_of x.class.number turn.moment)) (sym (c.side.view_is ∙ c.class.view_is)) c.requires.begun in
     subst (IsLockedClass table config) (sym (ap (λ (o : OwnerView). class_side o made.new.self.seen.now made.new.class) c.catch_up_class.ensures))
     (locked_gains table config old new turn.who turn.moment call (subst (IsLockedClass table config) (sym c.side.view_is) c.class.invariant)
-    made.ensures.served.kept (ap (λ (v : ClassView). v.number) made.ensures.grows.same)
+    made.ensures.served.kept (ap (λ (v : ClassView). v.number) made.ensures.gains.grows.same)
     (begun_as_sees config old.sight new.sight turn.who turn.moment call made.ensures.walked.sees begun) made.ensures.walked.sees made.ensures.walked.gains
-    (of_juggling old.class.number made.ensures.walked.gains.events turn.moment))
+    (of_juggling old.class.number made.ensures.walked.gains.events turn.moment
+    (none_own turn.who turn.moment c.side.inside.state made.new.class made.ensures.walked.gains made.ensures.gains)))
 
 pub returns-clause-begun : goal.returns-clause-begun
 returns-clause-begun g c =
@@ -29,5 +30,5 @@ returns-clause-begun g c =
     let made = c.advance-moved in
     let old : ClassSide = class_side c.side.inside.owner c.side.inside.seen c.side.inside.state in
     let begun = subst (λ (x : ClassSide). HasBegunAs config x.sight turn.who turn.moment (juggling_of x.class.number turn.moment)) (sym (c.side.view_is ∙ c.class.view_is)) c.requires.begun in
-    subst (λ (n : ClassNo). HasBegunAs config made.new.self.seen.now.sight turn.who turn.moment (juggling_of n turn.moment)) (sym (ap (λ (v : ClassView). v.number) made.ensures.grows.same))
+    subst (λ (n : ClassNo). HasBegunAs config made.new.self.seen.now.sight turn.who turn.moment (juggling_of n turn.moment)) (sym (ap (λ (v : ClassView). v.number) made.ensures.gains.grows.same))
     (begun_as_sees config old.sight made.new.self.seen.now.sight turn.who turn.moment (juggling_of old.class.number turn.moment) made.ensures.walked.sees begun)

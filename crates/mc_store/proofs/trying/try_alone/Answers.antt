@@ -1,5 +1,6 @@
 use Rattle.std.proofs.Common.{[], ap, refl}
 use Rattle.mc_store.proofs.OpenTryLemmas.{alone_left, known_in, left_first, left_tried, open_stripe, step_on, stripe_lacks}
+use Rattle.mc_store.proofs.PlacedLemmas.{asked_unanswered}
 use Rattle.mc_store.proofs.trying.try_alone.Goals as goal
 
 pub put_if-requires-clause-behind : goal.put_if-requires-clause-behind
@@ -29,3 +30,6 @@ returns-clause-tried g c =
     let put = c.put_if in
     let known = known_in step own c.requires.asked c.events-place.ensures c.is_made.ensures put.ensures.grows put.ensures.of put.ensures.told put.ensures.noted put.ensures.unnoted in
     left_tried step known own (left_first put.new.seen.sight put.ensures.owner) refl [] [] (λ untouched. tt)
+
+pub put_if-requires-clause-last : goal.put_if-requires-clause-last
+put_if-requires-clause-last g c = asked_unanswered c.args.caller.now c.args.turn.who c.args.command.now c.args.turn.moment c.requires.asked

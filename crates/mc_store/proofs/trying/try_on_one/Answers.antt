@@ -3,6 +3,7 @@ use Rattle.mc_store.specs.Sides.{ClassSide}
 use Rattle.mc_store.proofs.LentClassLemmas.{class_behind}
 use Rattle.mc_store.proofs.OpenTryLemmas.{class_left, first_lent, grow_in, known_in, left_err, left_first, left_same, left_sees, left_stays, left_told}
 use Rattle.mc_store.proofs.OpenTryLemmas.{left_full, left_tried, left_unnoted, one_left, open_class, open_stripe, step_one, stripe_lacks}
+use Rattle.mc_store.proofs.PlacedLemmas.{asked_unanswered}
 use Rattle.mc_store.proofs.trying.try_on_one.Goals as goal
 
 pub put_if-requires-clause-behind : goal.put_if-requires-clause-behind
@@ -79,3 +80,6 @@ returns g c =
       site = search rules;
       full = λ full. left_full step known end tr.ensures.full full;
     }
+
+pub put_if-requires-clause-last : goal.put_if-requires-clause-last
+put_if-requires-clause-last g c = asked_unanswered c.args.caller.now c.args.turn.who c.args.command.now c.args.turn.moment c.requires.asked

@@ -3,6 +3,7 @@ use Rattle.mc_store.specs.{Callers.asked_for, Passes.CallerView, Passes.HasCalle
 use Rattle.mc_store.proofs.LentClassLemmas.{class_behind}
 use Rattle.mc_store.proofs.OpenTryLemmas.{class_left, first_lent, grow_in, known_in, left_err, left_first, left_same, left_sees, left_stays, left_told}
 use Rattle.mc_store.proofs.OpenTryLemmas.{left_full, left_tried, left_unnoted, open_class, open_stripe, second_lent, step_two, stripe_lacks, two_left}
+use Rattle.mc_store.proofs.PlacedLemmas.{asked_unanswered}
 use Rattle.mc_store.proofs.trying.try_on_two.Goals as goal
 
 pub put_if-requires-clause-behind : goal.put_if-requires-clause-behind
@@ -138,3 +139,6 @@ returns g c =
       site = search rules;
       full = λ full. left_full step known end tr.ensures.full full;
     }
+
+pub put_if-requires-clause-last : goal.put_if-requires-clause-last
+put_if-requires-clause-last g c = asked_unanswered c.args.caller.now c.args.turn.who c.args.command.now c.args.turn.moment c.requires.asked

@@ -5,7 +5,7 @@ use Rattle.mc_segment.specs.ClassState.{ClassView}
 use Rattle.mc_pull.specs.{Juggle.IsJuggle, Rounds.rounds}
 use Rattle.mc_pull.specs.declared.looking.Answer.{Answer}
 use Rattle.mc_store.specs.{Callers.juggling_of, Locked.HasBegunAs, Locked.IsLockedClass, Serving.class_side, Sides.ClassSide}
-use Rattle.mc_store.proofs.{CallerLemmas.begun_as_sees, GateLemmas.ok_more, OwnEventLemmas.locked_gains, OwnEventLemmas.of_juggling}
+use Rattle.mc_store.proofs.{CallerLemmas.begun_as_sees, GateLemmas.ok_more, OwnEventLemmas.locked_gains, OwnEventLemmas.none_own, OwnEventLemmas.of_juggling}
 use Rattle.mc_store.proofs.walking.juggle_under.Goals as goal
 
 pub returns-clause-juggle : goal.returns-clause-juggle
@@ -28,6 +28,7 @@ invariant_of-class g c =
     let begun = subst (λ (x : ClassSide). HasBegunAs config x.sight c.args.who c.args.moment (juggling_of x.class.number c.args.moment)) (sym (c.side.view_is ∙ c.class.view_is)) c.requires.begun in
     subst (IsLockedClass table config) (sym (ap (λ (o : OwnerView). class_side o made.new.self.seen.now made.new.class) c.catch_up_class.ensures))
     (locked_gains table config old new c.args.who c.args.moment call (subst (IsLockedClass table config) (sym c.side.view_is) c.class.invariant)
-    made.ensures.served.kept (ap (λ (v : ClassView). v.number) made.ensures.grows.same)
+    made.ensures.served.kept (ap (λ (v : ClassView). v.number) made.ensures.gains.grows.same)
     (begun_as_sees config old.sight new.sight c.args.who c.args.moment call made.ensures.walked.sees begun) made.ensures.walked.sees made.ensures.walked.gains
-    (of_juggling old.class.number made.ensures.walked.gains.events c.args.moment))
+    (of_juggling old.class.number made.ensures.walked.gains.events c.args.moment
+    (none_own c.args.who c.args.moment c.side.inside.state made.new.class made.ensures.walked.gains made.ensures.gains)))

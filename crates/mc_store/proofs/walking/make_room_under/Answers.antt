@@ -6,11 +6,11 @@ use Rattle.mc_board.specs.{Histories.list_at, Views.OwnerView, Views.SeenView}
 use Rattle.mc_board.specs.declared.rule.Sight.{Sight}
 use Rattle.mc_pull.specs.{Lone.StripeGrows, Rounds.IsRoom, Rounds.rounds, Walker.walker_of}
 use Rattle.mc_pull.specs.declared.looking.Answer.{Answer}
-use Rattle.mc_store.specs.{Earned.IsSearchInVain, Locked.HasBegunCommand, Locked.IsLockedClass, Serving.class_side}
+use Rattle.mc_store.specs.{Earned.IsSearchInVain, Locked.HasBegunSearch, Locked.IsLockedClass, Serving.class_side}
 use Rattle.mc_store.specs.Sides.{ClassSide, StripeSide, class_told}
 use Rattle.mc_store.specs.declared.locked.LockedStripe.TheInside.{Inside}
 use Rattle.mc_store.proofs.{GateLemmas.ok_more, GateLemmas.room_full, LockKeepsLemmas.grows_trans, SyncedStepLemmas.stripe_heard, OwnEventLemmas.locked_commanded}
-use Rattle.mc_store.proofs.{CallerLemmas.command_any, CallerLemmas.command_sees}
+use Rattle.mc_store.proofs.{CallerLemmas.search_any, CallerLemmas.search_sees}
 use Rattle.mc_store.proofs.walking.make_room_under.Goals as goal
 
 pub invariant_of-own : goal.invariant_of-own
@@ -61,9 +61,9 @@ returns-clause-full g c = λ is.
 
 pub make_room_with-found-requires-clause-begun : goal.make_room_with-found-requires-clause-begun
 make_room_with-found-requires-clause-begun g c =
-    command_any g.N.Named.config c.side.inside.seen.sight c.args.who c.args.moment
-    (subst (λ (x : ClassSide). HasBegunCommand g.N.Named.config x.sight c.args.who c.args.moment) (sym (c.side.view_is ∙ c.class.view_is))
-    (command_sees g.N.Named.config c.args.own.now.sight c.learn_from.new.self.sight c.args.who c.args.moment c.learn_from.ensures.learnt c.requires.begun))
+    search_any g.N.Named.config c.side.inside.seen.sight c.args.who c.args.moment
+    (subst (λ (x : ClassSide). HasBegunSearch g.N.Named.config x.sight c.args.who c.args.moment) (sym (c.side.view_is ∙ c.class.view_is))
+    (search_sees g.N.Named.config c.args.own.now.sight c.learn_from.new.self.sight c.args.who c.args.moment c.learn_from.ensures.learnt c.requires.begun))
 
 pub invariant_of-class : goal.invariant_of-class
 invariant_of-class g c =
@@ -73,23 +73,24 @@ invariant_of-class g c =
     let new = made.new in
     let old : ClassSide = class_side c.side.inside.owner c.side.inside.seen c.side.inside.state in
     let mid : ClassSide = class_side new.owner new.seen new.class in
-    let begun = subst (λ (x : ClassSide). HasBegunCommand config x.sight c.args.who c.args.moment) (sym (c.side.view_is ∙ c.class.view_is))
-    (command_sees config c.args.own.now.sight c.learn_from.new.self.sight c.args.who c.args.moment c.learn_from.ensures.learnt c.requires.begun) in
+    let begun = subst (λ (x : ClassSide). HasBegunSearch config x.sight c.args.who c.args.moment) (sym (c.side.view_is ∙ c.class.view_is))
+    (search_sees config c.args.own.now.sight c.learn_from.new.self.sight c.args.who c.args.moment c.learn_from.ensures.learnt c.requires.begun) in
     let last : c.hear.new.class ≡ mid =
     c.hear.ensures.class
     ∙ (ap (λ (x : SeenView). class_side c.catch_up_class.new.owner x new.class) c.learn.ensures.other ∙ ap (λ (o : OwnerView). class_side o new.seen new.class) c.catch_up_class.ensures) in
+    let searched = search_sees config old.sight mid.sight c.args.who c.args.moment made.ensures.walked.sees begun in
     subst (IsLockedClass table config) (sym last)
     (locked_commanded table config old mid c.args.who c.args.moment (subst (IsLockedClass table config) (sym c.side.view_is) c.class.invariant)
     made.ensures.served.kept (ap (λ (v : ClassView). v.number) made.ensures.class.same)
-    (command_sees config old.sight mid.sight c.args.who c.args.moment made.ensures.walked.sees begun) made.ensures.walked.sees made.ensures.walked.gains)
+    (record { command = searched.command; begun = searched.begun }) made.ensures.walked.sees (made.ensures.walked.gains, inr searched.needs))
 
 pub returns-clause-begun : goal.returns-clause-begun
 returns-clause-begun g c =
     let config = g.N.Named.config in
-    let begun = subst (λ (x : ClassSide). HasBegunCommand config x.sight c.args.who c.args.moment) (sym (c.side.view_is ∙ c.class.view_is))
-    (command_sees config c.args.own.now.sight c.learn_from.new.self.sight c.args.who c.args.moment c.learn_from.ensures.learnt c.requires.begun) in
+    let begun = subst (λ (x : ClassSide). HasBegunSearch config x.sight c.args.who c.args.moment) (sym (c.side.view_is ∙ c.class.view_is))
+    (search_sees config c.args.own.now.sight c.learn_from.new.self.sight c.args.who c.args.moment c.learn_from.ensures.learnt c.requires.begun) in
     let seen = c.make_room_with-found.new.seen.sight in
     let told = c.learn.new.self.sight in
-    command_sees g.N.Named.config c.side.inside.seen.sight c.hear.new.self.sight c.args.who c.args.moment
+    search_sees g.N.Named.config c.side.inside.seen.sight c.hear.new.self.sight c.args.who c.args.moment
     (grows_trans c.side.inside.seen.sight seen c.hear.new.self.sight c.make_room_with-found.ensures.walked.sees (grows_trans seen told c.hear.new.self.sight c.learn.ensures.theirs c.hear.ensures.grows))
     begun

@@ -1,5 +1,8 @@
 use Rattle.mc_store.specs.Passes.{next_who}
 use Rattle.mc_driver.proofs.{SharedCallLemmas.crawled_kinds, SharedCallLemmas.crawled_ok, SharedCallLemmas.crawling_failed, CalledEventLemmas.crawled_may}
+use Rattle.std.proofs.Common.{refl}
+use Rattle.mc_store.specs.Callers.{crawling_of}
+use Rattle.mc_driver.proofs.CalledEventLemmas.{full_calls}
 use Rattle.mc_driver.proofs.caller.CallerCalls.crawl.Goals as goal
 
 pub returns-clause-ok : goal.returns-clause-ok
@@ -17,4 +20,8 @@ returns-clause-err g c = crawling_failed g.N.Named.config c.args.self.now.pass c
 pub returns-clause-may : goal.returns-clause-may
 returns-clause-may g c =
     crawled_may g.N.Named.config c.args.self.now.pass c.crawl.new.pass c.args.class c.args.moment c.crawl.result c.requires.may c.requires.there
-    c.crawl.ensures.caller c.crawl.ensures.turn c.crawl.ensures.calls c.crawl.ensures.grows c.crawl.ensures.crawled
+    c.crawl.ensures.caller c.crawl.ensures.turn.1 c.crawl.ensures.calls c.crawl.ensures.grows c.crawl.ensures.crawled
+
+pub returns-clause-full : goal.returns-clause-full
+returns-clause-full g c =
+    full_calls g.N.Named.config c.args.self.now.pass c.crawl.new.pass (crawling_of c.args.class c.args.moment) c.args.moment c.crawl.result c.requires.may refl c.crawl.ensures.cut c.crawl.ensures.full

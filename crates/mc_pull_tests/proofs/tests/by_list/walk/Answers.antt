@@ -7,7 +7,7 @@ invariant_of-world-2 c =
     let before = c.args.world.now in
     record {
       sound = record {
-        class = class_later before.config before.class c.pull_tail.new.class before.sound.class c.pull_tail.ensures.grows;
+        class = class_later before.config before.class c.pull_tail.new.class before.sound.class c.pull_tail.ensures.gains.grows;
         stripe = c.pull_tail.ensures.serves;
       };
     }

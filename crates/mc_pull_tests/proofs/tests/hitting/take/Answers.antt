@@ -7,7 +7,7 @@ invariant_of-world c =
     let before = c.args.world.now in
     record {
       sound = record {
-        class = class_later before.config before.class c.advance.new.class before.sound.class c.advance.ensures.grows;
+        class = class_later before.config before.class c.advance.new.class before.sound.class c.advance.ensures.gains.grows;
         stripe = c.advance.ensures.serves;
       };
     }

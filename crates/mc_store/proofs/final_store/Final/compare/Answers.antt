@@ -2,6 +2,10 @@ use Rattle.std.proofs.Common.{◌≡◌, List, slice_get, ap, ◌∙◌, subst}
 use Rattle.mc_board.specs.Histories.{HasSeen}
 use Rattle.mc_store.specs.{Callers.calls_told, Finals.FinalView, Locked.caller_place, Passes.CallerView, Passes.PassView, Sides.ClassSide, Sides.StripeSide}
 use Rattle.mc_store.proofs.ClosedCallLemmas.{its_own, its_own_in_classes}
+use Rattle.mc_board.specs.Histories.{list_at}
+use Rattle.mc_evidence.specs.Seen.{stripes_seen}
+use Rattle.mc_store.specs.{Finals.IsBehindStripes, Passes.ArePlaced, Passes.caller_of}
+use Rattle.mc_store.proofs.PlacedLemmas.{placed_just}
 use Rattle.mc_store.proofs.final_store.Final.compare.Goals as goal
 
 pub returns-clause-own : goal.returns-clause-own
@@ -22,3 +26,19 @@ returns-clause-own_in_classes g c = λ are.
     subst (λ (p : PassView). HasSeen (calls_told p.calls) s.sight (caller_place config p.caller)) c.pass.view_is
     (subst (λ (v : CallerView). HasSeen (calls_told v.calls) s.sight (caller_place config v.number)) c.compare_calls.ensures.same.1
     (c.compare_class_calls.ensures.behind k s (ap (λ (ys : List ClassSide). slice_get ys k) same ∙ e))))
+
+pub returns-clause-placed : goal.returns-clause-placed
+returns-clause-placed g c = λ are.
+    let config = g.N.Named.config in
+    let pass = c.args.pass.now in
+    let stripes = c.args.self.now.stripes in
+    let same : c.compare_stripes.new.stripes.items ≡ stripes = c.compare_stripes.ensures.same.0 ∙ ap (λ (f : FinalView). f.stripes) c.self.view_is in
+    let own = its_own g.N.Named.board.table config pass stripes are
+    (λ k s e.
+    subst (λ (p : PassView). HasSeen (calls_told p.calls) s.sight (caller_place config p.caller)) c.pass.view_is
+    (c.compare_calls.ensures.behind k s (ap (λ (ys : List StripeSide). slice_get ys k) same ∙ e))) in
+    let behind : IsBehindStripes pass.sight stripes =
+    subst (λ (p : PassView). IsBehindStripes p.sight stripes) c.pass.view_is
+    (subst (IsBehindStripes c.pass.inside.seen.sight) (ap (λ (f : FinalView). f.stripes) c.self.view_is) c.compare_stripes.ensures.behind) in
+    placed_just g.N.Named.board.table config pass stripes are own behind
+    (subst (λ (p : PassView). ArePlaced config (caller_of p) (stripes_seen (list_at p.sight.seen))) c.pass.view_is c.pass.invariant.1)

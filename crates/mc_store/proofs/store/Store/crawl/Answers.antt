@@ -9,6 +9,7 @@ use Rattle.mc_store.specs.Crawls.{IsCrawledBy, IsSnapshot, ShowsReclaims}
 use Rattle.mc_store.specs.{Locked.class_lock, Passes.PassView, Sides.class_told, Callers.crawling_of}
 use Rattle.mc_store.proofs.CrawledLemmas.{shows_both, shows_none, so_far_all, so_far_more, so_far_none}
 use Rattle.mc_store.proofs.{LockKeepsLemmas.grows_trans, SeenStripeLemmas.on_err_always, SeenStripeLemmas.called_now}
+use Rattle.mc_store.proofs.{CallerLemmas.on_ok_always, NextTurnLemmas.turn_called}
 use Rattle.mc_store.proofs.store.Store.crawl.Goals as goal
 
 pub loop-i-init : goal.loop-i-init
@@ -17,7 +18,7 @@ loop-i-init g c =
     let pass = c.args.pass.now in
     let seen = c.snapshot_of.new.pass.sight in
     let none : c.new-histogram.result ≡ no_counts = c.new-histogram.ensures in
-    let turn = c.in_ok-who.ensures.turn in
+    let turn = c.in_ok-who.ensures.took.turn in
     let links = c.in_ok-links.links.items in
     let grows : Grows pass.sight seen = subst (λ (p : PassView). Grows p.sight seen) turn c.snapshot_of.ensures.grows in (
       ap (λ (h : Histogram). h.seen) none,
@@ -31,7 +32,7 @@ loop-i-init g c =
       grows,
       ap (λ (p : PassView). p.caller) c.snapshot_of.ensures.same ∙ ap (λ (p : PassView). p.caller) turn,
       ap (λ (p : PassView). p.turn) c.snapshot_of.ensures.same ∙ ap (λ (p : PassView). p.turn) turn,
-      c.in_ok-who.ensures.who,
+      c.in_ok-who.ensures.took.who,
       ap (λ (p : PassView). p.calls) c.snapshot_of.ensures.same ∙ ap (λ (p : PassView). p.calls) turn,
       c.in_ok-links.ensures.sound,
       ap (λ (p : PassView). p.hands) c.snapshot_of.ensures.same ∙ ap (λ (p : PassView). p.hands) turn,
@@ -90,4 +91,32 @@ pub returns-in_err-crawl_link-clause-hands : goal.returns-in_err-crawl_link-clau
 returns-in_err-crawl_link-clause-hands g c = ap (λ (p : PassView). p.hands) c.crawl_link.ensures.same ∙ c.loop-i.invariant.10
 
 pub returns-in_err-links-clause-hands : goal.returns-in_err-links-clause-hands
-returns-in_err-links-clause-hands g c = ap (λ (p : PassView). p.hands) c.snapshot_of.ensures.same ∙ ap (λ (p : PassView). p.hands) c.in_ok-who.ensures.turn
+returns-in_err-links-clause-hands g c = ap (λ (p : PassView). p.hands) c.snapshot_of.ensures.same ∙ ap (λ (p : PassView). p.hands) c.in_ok-who.ensures.took.turn
+
+pub returns-in_err-links-clause-turn : goal.returns-in_err-links-clause-turn
+returns-in_err-links-clause-turn g c =
+    let old = c.args.pass.now in
+    let took = c.in_ok-who.ensures.took.turn in
+    let same = c.snapshot_of.ensures.same in
+    let turn : c.snapshot_of.new.pass.turn ≡ old.turn + 1 = ap (λ (p : PassView). p.turn) same ∙ ap (λ (p : PassView). p.turn) took in (
+      turn_called old.calls c.snapshot_of.new.pass.calls old.turn c.snapshot_of.new.pass.turn c.args.moment (crawling_of c.args.class c.args.moment) turn
+          (ap (λ (p : PassView). p.calls) same ∙ ap (λ (p : PassView). p.calls) took) refl c.in_ok-who.ensures.turns,
+      on_ok_always c.from_residual-in_err-links.result turn,
+    )
+
+pub returns-in_err-crawl_link-clause-turn : goal.returns-in_err-crawl_link-clause-turn
+returns-in_err-crawl_link-clause-turn g c =
+    let old = c.args.pass.now in
+    let i = c.loop-i.invariant in
+    let same = c.crawl_link.ensures.same in
+    let turn : c.crawl_link.new.pass.turn ≡ old.turn + 1 = ap (λ (p : PassView). p.turn) same ∙ i.6 in (
+      turn_called old.calls c.crawl_link.new.pass.calls old.turn c.crawl_link.new.pass.turn c.args.moment (crawling_of c.args.class c.args.moment) turn
+          (ap (λ (p : PassView). p.calls) same ∙ i.8) refl c.in_ok-who.ensures.turns,
+      on_ok_always c.from_residual-in_err-crawl_link.result turn,
+    )
+
+pub returns-clause-turn : goal.returns-clause-turn
+returns-clause-turn g c =
+    let old = c.args.pass.now in
+    let i = c.loop-i.invariant in
+    (turn_called old.calls c.loop-i.pass.calls old.turn c.loop-i.pass.turn c.args.moment (crawling_of c.args.class c.args.moment) i.6 i.8 refl c.in_ok-who.ensures.turns, i.6)

@@ -1,4 +1,4 @@
-use Rattle.std.proofs.Common.{◌≡◌, ap, ◌∙◌, subst, sym}
+use Rattle.std.proofs.Common.{length, ◌≡◌, ap, ◌∙◌, subst, sym}
 use Rattle.std.specs.Prelude.{OnOk}
 use Rattle.mc_board.specs.Histories.{Grows, list_at}
 use Rattle.mc_board.specs.declared.rule.Sight.{Sight}
@@ -10,6 +10,11 @@ use Rattle.mc_store.specs.{Callers.crawling_of, Crawls.CountsLink, Crawls.IsLink
 use Rattle.mc_store.specs.{Locked.IsHeldClass, Locked.class_lock, Passes.PassView, Passes.HasCalled, Passes.caller_of, Sides.ClassSide, Sides.class_told}
 use Rattle.mc_store.proofs.{CrawledLemmas.link_counted, CrawledLemmas.on_ok_more, CrawledLemmas.shows_one, GrownClassLemmas.class_grew, GrownClassLemmas.fails_full}
 use Rattle.mc_store.proofs.{GrownClassLemmas.seen_sound}
+use Rattle.mc_board.specs.Views.{SeenView}
+use Rattle.mc_evidence.specs.Seen.{stripes_seen}
+use Rattle.mc_hits.specs.Rule.{AreBefore}
+use Rattle.mc_store.specs.{Callers.turns_of, Passes.ArePlaced, Passes.CallerView}
+use Rattle.mc_store.proofs.PlacedLemmas.{placed_sees}
 use Rattle.mc_store.proofs.store.Store.crawl_link.Goals as goal
 
 pub returns-clause-reclaims : goal.returns-clause-reclaims
@@ -113,3 +118,18 @@ returns-clause-counted g c =
     (list_at c.share.new.seen.sight.seen (class_lock config c.args.class)) c.args.who c.args.moment c.args.link first last)
     (link_counted config c.args.class c.args.pass.now.sight c.share.new.seen.sight c.args.who c.args.moment c.args.link first last old.class new.class grew)
     (subst (λ (v : ClassView). OnOk c.crawl_under-done.result (CountsLink config v new.class c.args.who c.args.moment c.args.link first last)) cls c.crawl_under-done.ensures.counted)
+
+pub invariant_of-pass : goal.invariant_of-pass
+invariant_of-pass g c =
+    let config = g.N.Named.config in
+    let i = c.pass.invariant in
+    let caller = c.tell_class.ensures.same in
+    let seen : c.compare.new.seen ≡ c.pass.inside.seen = c.compare.ensures.same.1 in
+    let grows : Grows c.pass.inside.seen.sight c.share.new.seen.sight = subst (λ (v : SeenView). Grows v.sight c.share.new.seen.sight) seen c.share.ensures.grows in (
+      c.share.ensures.board ∙ (ap (λ (v : SeenView). v.board) seen ∙ i.0),
+      subst (λ (k : CallerView). ArePlaced config k (stripes_seen (list_at c.share.new.seen.sight.seen))) (sym caller)
+          (placed_sees config c.pass.inside.caller c.pass.inside.seen.sight c.share.new.seen.sight grows i.1),
+      i.2,
+      i.3 ∙ sym (ap (λ (k : CallerView). k.number) caller),
+      subst (λ (k : CallerView). AreBefore (length (turns_of k.calls)) c.pass.inside.hands.offers) (sym caller) i.4,
+    )

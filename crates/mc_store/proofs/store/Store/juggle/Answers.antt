@@ -1,4 +1,4 @@
-use Rattle.std.proofs.Common.{◌≡◌, ◌≤◌, ◌+◌, ap, ◌∙◌, inl, length, subst, sym, refl}
+use Rattle.std.proofs.Common.{◌≡◌, ap, ◌∙◌, inl, length, subst, sym, refl}
 use Rattle.std.specs.Prelude.{IfOk}
 use Rattle.mc_item.specs.declared.{item.Who.Who, item.ClassNo.ClassNo}
 use Rattle.mc_board.specs.{Histories.Grows, Histories.list_at, Views.SeenView}
@@ -8,7 +8,9 @@ use Rattle.mc_segment.specs.ClassState.{ClassView}
 use Rattle.mc_pull.specs.Growth as classes
 use Rattle.mc_hits.specs.{Rule.AreBefore, Views.HandsView}
 use Rattle.mc_store.specs.{Calls.IsUpkept, Finals.IsBehindAt, Locked.HasBegunAs, Locked.IsHeldClass, Sides.ClassSide, Sides.class_told, Callers.juggling_of}
-use Rattle.mc_store.specs.{Callers.turns_of, Hits.Takes, Hits.queue_of, Locked.setting_of}
+use Rattle.mc_evidence.specs.Seen.{stripes_seen}
+use Rattle.mc_store.proofs.PlacedLemmas.{placed_sees}
+use Rattle.mc_store.specs.{Callers.turns_of, Passes.ArePlaced, Made.HasNoneMadeBy, Passes.next_who, Hits.Takes, Hits.queue_of, Locked.setting_of}
 use Rattle.mc_store.specs.Passes.{CallerView, PassView, HasCalled, caller_of}
 use Rattle.mc_store.proofs.{GrownClassLemmas.fails_full, GrownClassLemmas.juggled_so, SeenStripeLemmas.called_now, TakenHitLemmas.takes_none}
 use Rattle.mc_store.proofs.store.Store.juggle.Goals as goal
@@ -24,22 +26,24 @@ returns-clause-juggled g c =
     let new_kept : IsHeldClass table config new = subst (IsHeldClass table config) c.own-2.view_is c.own-2.invariant.held in
     let cls : c.tell_class.new.class.class ≡ old.class = ap (λ (x : ClassSide). x.class) c.tell_class.ensures.class in
     let grows = subst (λ (v : ClassView). classes.GainsEvents v new.class) cls c.upkeep_under-moves.ensures.class in
-    let number : old.class.number ≡ c.args.class = ap (λ (x : ClassSide). x.class.number) (same ∙ (c.own.view_is ∙ c.deref_mut-own.ensures.value)) ∙ c.lock_class-guard.ensures in
-    let sight : c.pass.inside.seen.sight ≡ c.args.pass.now.sight = ap (λ (v : PassView). v.sight) (c.pass.view_is ∙ c.in_ok-who.ensures.turn) in
+    let number : old.class.number ≡ c.args.class = ap (λ (x : ClassSide). x.class.number) (same ∙ (c.own.view_is ∙ (c.in_ok-who.ensures.class ∙ c.deref_mut-own.ensures.value))) ∙ c.lock_class-guard.ensures in
+    let sight : c.pass.inside.seen.sight ≡ c.args.pass.now.sight = ap (λ (v : PassView). v.sight) (c.pass.view_is ∙ c.in_ok-who.ensures.took.turn) in
     let behind : IsBehindAt c.args.pass.now.sight old.lock (class_told old.class.history) =
     subst (λ (t : Sight). IsBehindAt t old.lock (class_told old.class.history)) sight
     (subst (λ (x : ClassSide). IsBehindAt c.pass.inside.seen.sight x.lock (class_told x.class.history)) (sym same) c.compare.ensures.behind) in
     let told : list_at c.share.new.seen.sight.seen new.lock ≡ class_told new.class.history =
     subst (λ (x : ClassSide). list_at c.share.new.seen.sight.seen x.lock ≡ class_told x.class.history) c.own-2.view_is c.share.ensures.told in
     let all : Grows new.sight c.share.new.seen.sight = subst (λ (x : ClassSide). Grows x.sight c.share.new.seen.sight) c.own-2.view_is c.share.ensures.all in
-    let hands : c.pass.inside.hands ≡ c.args.pass.now.hands = ap (λ (v : PassView). v.hands) (c.pass.view_is ∙ c.in_ok-who.ensures.turn) in
+    let hands : c.pass.inside.hands ≡ c.args.pass.now.hands = ap (λ (v : PassView). v.hands) (c.pass.view_is ∙ c.in_ok-who.ensures.took.turn) in
     let r = c.upkeep_under-moves.result in
-    let made = subst (λ (who : Who). IfOk r (IsUpkept config old.class (record { who = who; moment = c.args.moment }) c.args.pass.now.hands c.upkeep_under-moves.new.hands new.class.history)) c.in_ok-who.ensures.who
+    let made = subst (λ (who : Who). IfOk r (IsUpkept config old.class (record { who = who; moment = c.args.moment }) c.args.pass.now.hands c.upkeep_under-moves.new.hands new.class.history)) c.in_ok-who.ensures.took.who
     (subst (λ (h : HandsView). IfOk r (IsUpkept config old.class (record { who = c.in_ok-who.who; moment = c.args.moment }) h c.upkeep_under-moves.new.hands new.class.history)) hands
     (subst (λ (v : ClassView). IfOk r (IsUpkept config v (record { who = c.in_ok-who.who; moment = c.args.moment }) c.pass.inside.hands c.upkeep_under-moves.new.hands new.class.history)) cls
     c.upkeep_under-moves.ensures.upkept)) in
+    let first = subst (λ (x : ClassSide). HasNoneMadeBy (next_who c.args.pass.now) x.class.history)
+    (sym (same ∙ (c.own.view_is ∙ c.in_ok-who.ensures.class))) c.in_ok-who.ensures.first in
     juggled_so table config c.args.class c.args.pass.now.sight c.share.new.seen.sight old new old_kept new_kept number grows behind told all
-    c.args.pass.now _ c.args.moment r refl refl made
+    c.args.pass.now _ c.args.moment r first refl refl made
 
 pub returns-clause-full : goal.returns-clause-full
 returns-clause-full g c = λ is.
@@ -52,8 +56,8 @@ returns-clause-full g c = λ is.
     let new_kept : IsHeldClass table config new = subst (IsHeldClass table config) c.own-2.view_is c.own-2.invariant.held in
     let cls : c.tell_class.new.class.class ≡ old.class = ap (λ (x : ClassSide). x.class) c.tell_class.ensures.class in
     let grows = subst (λ (v : ClassView). classes.GainsEvents v new.class) cls c.upkeep_under-moves.ensures.class in
-    let number : old.class.number ≡ c.args.class = ap (λ (x : ClassSide). x.class.number) (same ∙ (c.own.view_is ∙ c.deref_mut-own.ensures.value)) ∙ c.lock_class-guard.ensures in
-    let sight : c.pass.inside.seen.sight ≡ c.args.pass.now.sight = ap (λ (v : PassView). v.sight) (c.pass.view_is ∙ c.in_ok-who.ensures.turn) in
+    let number : old.class.number ≡ c.args.class = ap (λ (x : ClassSide). x.class.number) (same ∙ (c.own.view_is ∙ (c.in_ok-who.ensures.class ∙ c.deref_mut-own.ensures.value))) ∙ c.lock_class-guard.ensures in
+    let sight : c.pass.inside.seen.sight ≡ c.args.pass.now.sight = ap (λ (v : PassView). v.sight) (c.pass.view_is ∙ c.in_ok-who.ensures.took.turn) in
     let behind : IsBehindAt c.args.pass.now.sight old.lock (class_told old.class.history) =
     subst (λ (t : Sight). IsBehindAt t old.lock (class_told old.class.history)) sight
     (subst (λ (x : ClassSide). IsBehindAt c.pass.inside.seen.sight x.lock (class_told x.class.history)) (sym same) c.compare.ensures.behind) in
@@ -66,43 +70,48 @@ returns-clause-full g c = λ is.
 pub upkeep_under-moves-requires : goal.upkeep_under-moves-requires
 upkeep_under-moves-requires g c =
     let config = g.N.Named.config in
-    let turn = c.in_ok-who.ensures.turn in
-    let called = called_now c.args.pass.now c.take_turn.new.self (juggling_of c.args.class c.args.moment) c.in_ok-who.who c.args.moment
-    (ap (λ (p : PassView). p.caller) turn) (ap (λ (p : PassView). p.calls) turn) c.in_ok-who.ensures.who c.in_ok-who.ensures.turns refl in
+    let turn = c.in_ok-who.ensures.took.turn in
+    let called = called_now c.args.pass.now c.take_turn_in.new.self (juggling_of c.args.class c.args.moment) c.in_ok-who.who c.args.moment
+    (ap (λ (p : PassView). p.caller) turn) (ap (λ (p : PassView). p.calls) turn) c.in_ok-who.ensures.took.who c.in_ok-who.ensures.turns refl in
     let call = juggling_of c.args.class c.args.moment in
     let same : c.compare.new.self ≡ c.own.inside.side = c.compare.ensures.same.0 in
     let number : c.tell_class.new.class.class.number ≡ c.args.class =
-    ap (λ (x : ClassSide). x.class.number) c.tell_class.ensures.class ∙ (ap (λ (x : ClassSide). x.class.number) (same ∙ (c.own.view_is ∙ c.deref_mut-own.ensures.value)) ∙ c.lock_class-guard.ensures) in
+    ap (λ (x : ClassSide). x.class.number) c.tell_class.ensures.class
+    ∙ (ap (λ (x : ClassSide). x.class.number) (same ∙ (c.own.view_is ∙ (c.in_ok-who.ensures.class ∙ c.deref_mut-own.ensures.value))) ∙ c.lock_class-guard.ensures) in
     let begun = c.tell_class.ensures.begun c.in_ok-who.who c.args.moment call (subst (λ (p : PassView). HasCalled (caller_of p) c.in_ok-who.who c.args.moment call) (sym c.pass.view_is) called) in
     record {
       class = subst (IsClass (setting_of config)) (sym number) c.requires.class;
       begun = subst (λ (n : ClassNo). HasBegunAs config c.tell_class.new.class.sight c.in_ok-who.who c.args.moment (juggling_of n c.args.moment)) (sym number) begun;
-      hands = c.pass.invariant.3;
+      hands = c.pass.invariant.2;
     }
 
 pub returns-clause-taken : goal.returns-clause-taken
 returns-clause-taken g c =
     let same : c.compare.new.self ≡ c.own.inside.side = c.compare.ensures.same.0 in
     let number : c.tell_class.new.class.class.number ≡ c.args.class =
-    ap (λ (x : ClassSide). x.class.number) c.tell_class.ensures.class ∙ (ap (λ (x : ClassSide). x.class.number) (same ∙ (c.own.view_is ∙ c.deref_mut-own.ensures.value)) ∙ c.lock_class-guard.ensures) in
-    let hands : c.pass.inside.hands ≡ c.args.pass.now.hands = ap (λ (v : PassView). v.hands) (c.pass.view_is ∙ c.in_ok-who.ensures.turn) in
+    ap (λ (x : ClassSide). x.class.number) c.tell_class.ensures.class
+    ∙ (ap (λ (x : ClassSide). x.class.number) (same ∙ (c.own.view_is ∙ (c.in_ok-who.ensures.class ∙ c.deref_mut-own.ensures.value))) ∙ c.lock_class-guard.ensures) in
+    let hands : c.pass.inside.hands ≡ c.args.pass.now.hands = ap (λ (v : PassView). v.hands) (c.pass.view_is ∙ c.in_ok-who.ensures.took.turn) in
     subst (λ (n : ClassNo). Takes (queue_of n) c.args.pass.now.hands c.upkeep_under-moves.new.hands) number
     (subst (λ (h : HandsView). Takes (queue_of c.tell_class.new.class.class.number) h c.upkeep_under-moves.new.hands) hands c.upkeep_under-moves.ensures.taken)
 
 pub returns-in_err-who-clause-taken : goal.returns-in_err-who-clause-taken
 returns-in_err-who-clause-taken g c =
-    takes_none (queue_of c.args.class) c.args.pass.now.hands c.take_turn.new.self.hands (ap (λ (p : PassView). p.hands) c.in_err-who.ensures.err.0)
+    takes_none (queue_of c.args.class) c.args.pass.now.hands c.take_turn_in.new.self.hands (ap (λ (p : PassView). p.hands) c.in_err-who.ensures.err)
 
 pub invariant_of-pass : goal.invariant_of-pass
 invariant_of-pass g c =
+    let config = g.N.Named.config in
     let i = c.pass.invariant in
-    let turn = c.pass.inside.turn in
     let same = c.upkeep_under-moves.ensures.same in
-    let caller = c.tell_class.ensures.same in (
-      c.share.ensures.board ∙ (ap (λ (v : SeenView). v.board) c.compare.ensures.same.1 ∙ i.0),
-      subst (λ (k : CallerView). length (turns_of k.calls) ≡ turn) (sym caller) i.1,
-      subst (λ (k : CallerView). length k.calls ≤ turn + turn) (sym caller) i.2,
-      ap (λ (h : HandsView). h.tables) same ∙ i.3,
-      ap (λ (h : HandsView). h.caller) same ∙ (i.4 ∙ sym (ap (λ (k : CallerView). k.number) caller)),
-      subst (λ (h : HandsView). AreBefore turn h.offers) (sym same) i.5,
+    let caller = c.tell_class.ensures.same in
+    let seen : c.compare.new.seen ≡ c.pass.inside.seen = c.compare.ensures.same.1 in
+    let grows : Grows c.pass.inside.seen.sight c.share.new.seen.sight = subst (λ (v : SeenView). Grows v.sight c.share.new.seen.sight) seen c.share.ensures.grows in (
+      c.share.ensures.board ∙ (ap (λ (v : SeenView). v.board) seen ∙ i.0),
+      subst (λ (k : CallerView). ArePlaced config k (stripes_seen (list_at c.share.new.seen.sight.seen))) (sym caller)
+          (placed_sees config c.pass.inside.caller c.pass.inside.seen.sight c.share.new.seen.sight grows i.1),
+      ap (λ (h : HandsView). h.tables) same ∙ i.2,
+      ap (λ (h : HandsView). h.caller) same ∙ (i.3 ∙ sym (ap (λ (k : CallerView). k.number) caller)),
+      subst (λ (k : CallerView). AreBefore (length (turns_of k.calls)) c.upkeep_under-moves.new.hands.offers) (sym caller)
+          (subst (λ (h : HandsView). AreBefore (length (turns_of c.pass.inside.caller.calls)) h.offers) (sym same) i.4),
     )

@@ -7,6 +7,8 @@ use Rattle.mc_segment.specs.ClassState.{ClassView}
 use Rattle.mc_crawl.specs.Snapshot.{links_of}
 use Rattle.mc_store.specs.{Finals.IsBehindAt, Locked.IsHeldClass, Locked.class_lock, Passes.PassView, Sides.ClassSide, Sides.class_told}
 use Rattle.mc_store.proofs.{CrawledLemmas.snapshot_taken, GrownClassLemmas.seen_sound}
+use Rattle.mc_board.specs.{Histories.Grows, Views.SeenView}
+use Rattle.mc_store.proofs.PlacedLemmas.{placed_sees}
 use Rattle.mc_store.proofs.store.Store.snapshot_of.Goals as goal
 
 pub returns-clause-links : goal.returns-clause-links
@@ -39,3 +41,27 @@ returns-clause-sound g c =
     let kept : IsHeldClass table config side = subst (IsHeldClass table config) (sym same) c.own.invariant.held in
     let number = ap (λ (x : ClassSide). x.class.number) (same ∙ (c.own.view_is ∙ c.deref_mut-own.ensures.value)) ∙ c.lock_class-guard.ensures in
     seen_sound table config c.args.class c.share.new.seen.sight side kept number c.share.ensures.told c.share.ensures.all
+
+pub invariant_of-pass : goal.invariant_of-pass
+invariant_of-pass g c =
+    let i = c.pass.invariant in
+    let seen : c.compare.new.seen ≡ c.pass.inside.seen = c.compare.ensures.same.1 in
+    let grows : Grows c.pass.inside.seen.sight c.share.new.seen.sight = subst (λ (v : SeenView). Grows v.sight c.share.new.seen.sight) seen c.share.ensures.grows in (
+      c.share.ensures.board ∙ (ap (λ (v : SeenView). v.board) seen ∙ i.0),
+      placed_sees g.N.Named.config c.pass.inside.caller c.pass.inside.seen.sight c.share.new.seen.sight grows i.1,
+      i.2,
+      i.3,
+      i.4,
+    )
+
+pub invariant_of-pass-2 : goal.invariant_of-pass-2
+invariant_of-pass-2 g c =
+    let i = c.pass.invariant in
+    let seen : c.compare.new.seen ≡ c.pass.inside.seen = c.compare.ensures.same.1 in
+    let grows : Grows c.pass.inside.seen.sight c.share.new.seen.sight = subst (λ (v : SeenView). Grows v.sight c.share.new.seen.sight) seen c.share.ensures.grows in (
+      c.share.ensures.board ∙ (ap (λ (v : SeenView). v.board) seen ∙ i.0),
+      placed_sees g.N.Named.config c.pass.inside.caller c.pass.inside.seen.sight c.share.new.seen.sight grows i.1,
+      i.2,
+      i.3,
+      i.4,
+    )
