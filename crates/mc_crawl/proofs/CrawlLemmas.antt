@@ -43,6 +43,14 @@ kind_by q c e stripe (Some j) is judged = record {
   kind_is = ap (kind_done q.moment) judged.done_is ∙ by_entry q c (cache_now judged.stripe) (entry_of q.number (lists_of c.history)) e is;
 }
 
+-- the kind by what was answered
+pub kind_answered_is : (q : Crawl) (c : ClassView) (e : Entry) (stripe : StripeNo) (j : Option Judged) (k : Kind) → entry_of q.number (lists_of c.history) ≡ Some e
+    → IsKindIf q stripe c j k → k ≡ kind_answered q.moment j
+kind_answered_is q c e stripe None k is kind = kind
+kind_answered_is q c e stripe (Some j) k is kind =
+    kind.kind_is
+    ∙ sym (ap (kind_done q.moment) kind.judged.done_is ∙ by_entry q c (cache_now kind.judged.stripe) (entry_of q.number (lists_of c.history)) e is)
+
 -- an entry that was looked at was crawled
 pub looked : (q : Crawl) (c c_new : ClassView) (xs ys : List Answer) (e : Entry) (stripe : StripeNo) (j : Option Judged) → entry_of q.number (lists_of c.history) ≡ Some e
     → stripe ≡ stripe_of e.key q.config.stripes → ys ≡ xs ++ answer_by stripe j ∷ [] → c_new ≡ class_with c (events_if c (asked_by q) j) c_new.room

@@ -3,3 +3,4 @@ pub mod EntryCountLemmas
 pub mod CrawlLemmas
 pub mod CrawlCountLemmas
 pub mod CrawlKindLemmas
+pub mod CrawlLivingLemmas

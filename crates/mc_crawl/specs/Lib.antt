@@ -1,4 +1,5 @@
 pub mod CrawlKind
 pub mod CrawlCount
 pub mod Crawl
+pub mod CrawlLiving
 pub mod Snapshot

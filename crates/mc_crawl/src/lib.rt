@@ -9,7 +9,7 @@ mod lone;
 mod snapping;
 
 pub use crawling::crawl_one;
-pub use laws::{kinds_add_up, kinds_go_by_minutes};
+pub use laws::{a_histogram_counts_the_living, kinds_add_up, kinds_go_by_minutes};
 pub use lone::crawl_lone;
 pub use mc_item::Histogram;
 pub use snapping::snapshot;

@@ -8,7 +8,7 @@ use Rattle.mc_proto.specs.Scripts as cut
 use Rattle.mc_script.specs.declared.{outcome.Outcome.Outcome, upkeep.Keeper.TheVariants.Crawler, upkeep.Keeper.TheVariants.Maintainer}
 use Rattle.mc_script.specs.declared.outcome.Outcome.TheVariants as outcomes
 use Rattle.mc_store.specs.Finals.{FinalView}
-use Rattle.mc_driver.specs.{Called.AreByCallers, Called.AreWholeTurns, Called.HasCalls, Called.HasNoPlace, Input.AreRun, Input.IsRunOf, Input.Printed, Input.ToAndFrom}
+use Rattle.mc_driver.specs.{Called.AreByCallers, Called.AreWholeTurns, Called.HasNoPlace, Input.AreRun, Input.IsRunOf, Input.Printed, Input.ToAndFrom}
 use Rattle.mc_driver.specs.{Left.AreKeepersDone, Left.IsKeptUp, Left.IsRunDone, Left.IsScriptLeft}
 use Rattle.mc_driver.specs.Run.{IsAccepted, callers_at_work, histories_left, limits_of, with_callers}
 
@@ -50,8 +50,7 @@ module _ {K : Type 0} (taken : K → List ℕ) (writes : K → ℕ) where
       idle = subst (λ n. moments ≡ [] → AreKeepersDone n ended) (sym many) left.idle;
       full = subst (λ n. (i : ℕ) (outcome : Outcome) → i < n + 2 → slice_index_or ended i outcome ≡ outcomes.HistoryFull → HasNoPlace config i (histories_left final)) (sym many) left.full;
       whole = subst (λ n. (i : ℕ) (outcome : Outcome) → i < n + 2 → slice_index_or ended i outcome ≡ outcomes.Done → AreWholeTurns config i (histories_left final)) (sym many) left.whole;
-      called = subst (λ n. (i : ℕ) → i < n + 2 → HasCalls config i (histories_left final)) (sym many) left.called;
-      by = subst (λ n. AreByCallers config.stripes (callers_at_work n moments) (histories_left final)) (sym many) left.by;
+      by = subst (λ n. AreByCallers config (callers_at_work n moments) (histories_left final)) (sym many) left.by;
       many = left.many ∙ ap (λ n. n + 2) (sym many);
       pairs = length-map ends shown ∙ left.pairs ∙ sym many;
       store = left.store;

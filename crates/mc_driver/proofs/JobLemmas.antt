@@ -164,9 +164,9 @@ fewer all yielded rest x is = omega (arith, ap length is, length-append yielded 
 -- the pass of a caller that has had no turn is at its start
 starts : (config : Config) (queues : List HitsView) (caller : ℕ) → 0 < config.stripes → IsAtStart config (new_pass (tables_of queues) caller)
 starts config queues caller some = record {
-  may = record { some = some; made = record { each = λ turn call at. absurd (cc at) }; turns = refl };
+  may = record { some = some; turns = refl };
   first = refl;
-  none = record { stand = grow_nothing config _; at = λ n below. tt; rising = λ n below. tt; made = record { each = λ turn call at behind. absurd (cc at) } };
+  none = record { stand = grow_nothing config _; at = λ n below. tt; rising = λ n below. tt; own = record { each = λ turn call at. absurd (cc at) }; turns = refl };
 }
 
 -- each job begins with such a pass

@@ -2,6 +2,7 @@ pub mod StandingCallLemmas
 pub mod SeenByCallLemmas
 pub mod SharedCallLemmas
 pub mod CalledEventLemmas
+pub mod LeftEventLemmas
 pub mod OnlyCallsLemmas
 pub mod NotedPlaceLemmas
 pub mod ScriptFactLemmas

@@ -1,24 +1,23 @@
 -- What a run leaves: the closed store, and what the caller's pass has seen of it.
 use Rattle.std.proofs.Common.{◌≡◌, ◌<◌, ◌≤◌, ◌+◌, ◌-◌, ℕ, suc, List, Option, length, sym, ap, ◌∙◌, subst, arith, inl, inr}
 use Rattle.std.proofs.lemmas.Bool.{cases_lt}
-use Rattle.std.specs.List.{slice_get}
 use mathlib.Core.List.{IsPrefix}
-use Rattle.mc_item.specs.declared.{answer.Site.Site, config.Config.Config, item.ClassNo.ClassNo, stripe_event.StripeEvent.StripeEvent}
+use Rattle.mc_item.specs.declared.{answer.Site.Site, config.Config.Config, item.ClassNo.ClassNo}
 use Rattle.mc_item.specs.declared.stripe_event.StripeEvent.TheVariants as events
 use Rattle.mc_board.specs.Histories.{list_at}
 use Rattle.mc_board.specs.declared.rule.Sight.{Sight}
 use Rattle.mc_board.proofs.PrefixLemmas.{prefix_length}
-use Rattle.mc_evidence.specs.{Seen.stripe_events, Setting.IsClass, Sound.IsSoundStore}
+use Rattle.mc_evidence.specs.{Setting.IsClass, Sound.IsSoundStore}
 use Rattle.mc_item.specs.Stripe.{IsLegal}
-use Rattle.mc_script.specs.Exchanges.{Exchange}
-use Rattle.mc_store.specs.Finals.{AreClasses, AreExactlyEntries, AreItsOwn, AreStripes, FinalView, IsBehindClasses, IsBehindStripes, class_histories, class_history, stripe_histories, stripe_history}
+use Rattle.mc_script.specs.Exchanges.{Begun, Exchange}
+use Rattle.mc_store.specs.Finals.{AreClasses, AreExactlyEntries, AreStripes, FinalView, class_histories, class_history, stripe_histories, stripe_history}
 use Rattle.mc_store.specs.{Locked.class_lock, Locked.setting_of, Passes.PassView, Serving.HasSeenShort, Sides.ClassSide, Sides.StripeSide, Sides.class_told}
 use Rattle.mc_store.specs.{Sides.stripe_told}
 use Rattle.mc_store.proofs.{NumberOrderLemmas.get_some, SyncedStepLemmas.map_length}
-use Rattle.mc_driver.specs.{Caller.AreAt, Caller.AreNoted, Caller.histories_seen, Caller.places_in, Run.HasFull, Run.IsStore, Run.histories_left}
-use Rattle.mc_driver.specs.Stand.{AreItsCalls, Grow, Stand, calls_at, nothing_seen}
+use Rattle.mc_driver.specs.{Called.AreCalledBy, Called.AreItsCalls, Called.IsCompared, Caller.AreNoted, Caller.histories_seen, Caller.places_in, Run.HasFull, Run.IsStore}
+use Rattle.mc_driver.specs.{Run.histories_left, Stand.Grow, Stand.calls_at, Stand.nothing_seen}
 use Rattle.mc_driver.proofs.{NotedPlaceLemmas.at_later, NotedPlaceLemmas.called_place, NotedPlaceLemmas.class_begins, NotedPlaceLemmas.stripe_begins, OnlyCallsLemmas.only_these}
-use Rattle.mc_driver.proofs.{StandingCallLemmas.stand_later}
+use Rattle.mc_driver.proofs.{LeftEventLemmas.called_by, StandingCallLemmas.stand_later}
 
 -- a site by its parts
 site_is : (s : Site) (stripe stripes : ℕ) (sizes : List ℕ) → s.stripe ≡ stripe → s.stripes ≡ stripes → s.sizes ≡ sizes → s ≡ record { stripe = stripe; stripes = stripes; sizes = sizes }
@@ -54,14 +53,17 @@ module _ (config : Config) (final : FinalView) (all : AreStripes final.board con
     entries = entries;
   }
 
-  module _ (sight : Sight) (behind : IsBehindStripes sight final.stripes) (behind_of : IsBehindClasses sight final.classes) where
+  module _ (pass : PassView) (compared : IsCompared pass final) where
+    abbrev sight : Sight
+    sight = pass.sight
+
     stripe_seen : (number : ℕ) → number < config.stripes → IsPrefix (list_at sight.seen number) (stripe_told (stripe_histories final.stripes number))
     stripe_seen number below =
         let g = get_some final.stripes number (omega (arith, below, all.many)) in
         let under = all.each number g.0 g.1 in
         let lock : g.0.lock ≡ number = under.kept.lock_is ∙ under.number_is in
         subst (λ (o : Option StripeSide). IsPrefix (list_at sight.seen number) (stripe_told (stripe_history o))) (sym g.1)
-        (subst (λ (k : ℕ). IsPrefix (list_at sight.seen k) (stripe_told g.0.stripe.history)) lock (behind.each number g.0 g.1).seen)
+        (subst (λ (k : ℕ). IsPrefix (list_at sight.seen k) (stripe_told g.0.stripe.history)) lock (compared.stripes.each number g.0 g.1).seen)
 
     class_seen : (class : ClassNo) → IsClass (setting_of config) class → IsPrefix (list_at sight.seen (class_lock config class)) (class_told (class_histories final.classes class))
     class_seen class is =
@@ -70,7 +72,7 @@ module _ (config : Config) (final : FinalView) (all : AreStripes final.board con
         let same : g.0.class.number.0 ≡ class.0 = under.number_is ∙ omega (arith, is.0) in
         let lock : g.0.lock ≡ class_lock config class = under.kept.held.lock_is ∙ ap (λ (n : ℕ). config.stripes + (n - 1)) same in
         subst (λ (o : Option ClassSide). IsPrefix (list_at sight.seen (class_lock config class)) (class_told (class_history o))) (sym g.1)
-        (subst (λ (k : ℕ). IsPrefix (list_at sight.seen k) (class_told g.0.class.history)) lock (behind_of.each (class.0 - 1) g.0 g.1).seen)
+        (subst (λ (k : ℕ). IsPrefix (list_at sight.seen k) (class_told g.0.class.history)) lock (compared.classes.each (class.0 - 1) g.0 g.1).seen)
 
     -- what the pass has seen of it is a beginning
     pub left_grows : Grow config (histories_seen config sight) (histories_left final)
@@ -98,19 +100,19 @@ module _ (config : Config) (final : FinalView) (all : AreStripes final.board con
     ]
 
     -- the calls that the pass has noted stand in it, and of the caller there are only these
-    pub left_calls : (pass : PassView) → pass.sight ≡ sight → AreItsOwn pass final.stripes → (calls : List Exchange) → AreNoted config pass calls → AreItsCalls config pass.caller (histories_left final) calls
-    left_calls pass is own calls noted = record {
-      stand = stand_later config nothing_seen (histories_seen config sight) (histories_left final) calls left_grows
-          (subst (λ (t : Sight). Stand config nothing_seen (histories_seen config t) calls) is noted.stand);
+    pub left_calls : (calls : List Exchange) (begun : Option Begun) → AreNoted config pass calls begun → AreItsCalls config pass.caller (histories_left final) calls begun
+    left_calls calls begun noted = record {
+      stand = stand_later config nothing_seen (histories_seen config sight) (histories_left final) calls left_grows noted.stand;
       only = record {
         at = λ number below.
-            let g = get_some final.stripes number (omega (arith, below, all.many)) in
-            let there : stripe_histories final.stripes number ≡ g.0.stripe.history = ap stripe_history g.1 in
-            let at = at_later _ (stripe_histories final.stripes number) pass.caller _ _
-            (left_grows.stripes number below) (subst (λ (t : Sight). AreAt (stripe_events (list_at t.seen number)) pass.caller (places_in number pass.calls)
-            (calls_at config.stripes number calls)) is (noted.at number below)) in
+            let at = at_later _ (stripe_histories final.stripes number) pass.caller _ _ (left_grows.stripes number below) (noted.at number below) in
             only_these pass.caller (stripe_histories final.stripes number) (places_in number pass.calls) (calls_at config.stripes number calls) (noted.rising number below) at
-            (λ place did found by. called_place number place pass.calls
-            did (own.each number g.0 place (events.Did did) g.1 (ap (λ (h : List StripeEvent). slice_get h place) (sym there) ∙ found) by));
+            (λ place did found by. called_place number place pass.calls did (left_events.called number place (events.Did did) below found by));
       };
+      history = pass.calls;
+      just = noted.turns;
+      events = left_events;
     }
+      where
+        left_events : AreCalledBy config pass.caller (histories_left final) pass.calls
+        left_events = called_by config final all all_classes pass compared

@@ -1,20 +1,21 @@
 -- What a run leaves, put together of what each of its callers left.
-use Rattle.std.proofs.Common.{◌≡◌, ◌+◌, ◌<◌, ℕ, suc, List, [], ◌∷◌, ◌++◌, length, map, take, drop, refl, sym, ap, ◌∙◌, subst, arith}
+use Rattle.std.proofs.Common.{◌≡◌, ◌+◌, ◌<◌, ℕ, suc, List, [], ◌∷◌, ◌++◌, None, length, map, take, drop, refl, sym, ap, ◌∙◌, subst, arith}
 use Rattle.std.specs.Prelude.{Some, slice_get, slice_index_or}
 use Rattle.std.proofs.lemmas.{List.length-map, List.take-append-le, List.take_all, Option.get_or_from_slice_get}
 use Rattle.mc_item.specs.declared.config.Config.{Config}
-use Rattle.mc_script.specs.{Exchanges.Exchange, Upkeep.KeepsUp, Upkeep.work_of}
+use Rattle.mc_script.specs.{Calls.Notes, Run.first_moment, Upkeep.KeepsUp, Upkeep.work_of}
+use Rattle.mc_script.specs.Script.{Answered, all_exchanges, requests_of}
 use Rattle.mc_script.specs.declared.{ends.Both.Both, outcome.Outcome.Outcome, upkeep.Keeper.Keeper, upkeep.Keeper.TheVariants.Maintainer}
 use Rattle.mc_script.specs.declared.{upkeep.Keeper.TheVariants.Crawler}
 use Rattle.mc_hits.specs.Views.{HitsView, tables_of}
 use Rattle.mc_proto.specs.declared.request.Limits.{Limits}
 use Rattle.mc_script.specs.declared.outcome.Outcome.TheVariants as outcomes
 use Rattle.mc_store.specs.{Finals.AreClasses, Finals.AreStripes, Finals.FinalView, Passes.ArePasses, Passes.PassView}
-use Rattle.mc_driver.specs.{Called.IsCompared, Called.MadeNone, Jobs.HasWorked, Jobs.Works, Jobs.ends_in, Jobs.script_of, Jobs.works_of, Left.IsKeptUp}
-use Rattle.mc_driver.specs.{Left.IsRunDone, Left.IsScriptLeft, Run.IsStore, Run.histories_left, Run.limits_of, Stand.AreItsCalls}
+use Rattle.mc_driver.specs.{Called.AreItsCalls, Called.IsCompared, Jobs.HasWorked, Jobs.Works, Jobs.ends_in, Jobs.script_of, Jobs.works_of, Left.IsKeptUp}
+use Rattle.mc_driver.specs.{Left.IsRunDone, Left.IsScriptLeft, Run.IsStore, Run.histories_left, Run.limits_of}
 use Rattle.mc_driver.specs.declared.{jobs.Work.Work, jobs.Work.TheVariants.Script, jobs.Work.TheVariants.Upkeep}
-use Rattle.mc_driver.proofs.{ComparedPassLemmas.called_left, ComparedPassLemmas.full_left, ComparedPassLemmas.none_left, ComparedPassLemmas.whole_left, ComparedPassLemmas.works_left}
-use Rattle.mc_driver.proofs.{CalledEventLemmas.by_working}
+use Rattle.mc_driver.proofs.{ComparedPassLemmas.full_left, ComparedPassLemmas.whole_left, ComparedPassLemmas.works_left}
+use Rattle.mc_driver.proofs.{LeftEventLemmas.by_working}
 use Rattle.mc_driver.proofs.JobLemmas.{AreScripts, HasWorkedAt, crawler_at, ends_at, ends_many, maintainer_at, script_at, worked_at, works_many}
 
 -- nothing has no item
@@ -22,27 +23,31 @@ nothing_split : {A : Type 0} (xs : List A) (x : A) (ys : List A) → [] ≡ xs +
 nothing_split [] x ys is = absurd (cc is)
 nothing_split (z ∷ zs) x ys is = absurd (cc is)
 
--- where there is no work none was broken off
-none_broken : (outcome : Outcome) (limits : Limits) (notes : List Exchange → Type 0) (caller : ℕ) → KeepsUp outcome limits [] notes caller → outcome ≡ outcomes.Done
-none_broken outcomes.Done limits notes caller kept = refl
-none_broken outcomes.Memory limits notes caller off = absurd (nothing_split _ _ _ off.asked)
-none_broken outcomes.HistoryFull limits notes caller off = absurd (nothing_split _ _ _ off.asked)
-none_broken outcomes.Input limits notes caller none = absurd none
-none_broken outcomes.Output limits notes caller none = absurd none
+-- where there is no work none was broken off, and no call was made
+none_kept : (outcome : Outcome) (limits : Limits) (notes : Notes) (caller : ℕ) → KeepsUp outcome limits [] notes caller → (outcome ≡ outcomes.Done) × notes [] None
+none_kept outcomes.Done limits notes caller kept = (refl, none_asked kept.answered kept.asked kept.calls)
+  where
+    none_asked : (answered : List Answered) → requests_of answered ≡ [] → notes (all_exchanges limits caller 0 first_moment answered) None → notes [] None
+    none_asked [] asked calls = calls
+    none_asked (a ∷ more) asked calls = absurd (cc asked)
+none_kept outcomes.Memory limits notes caller off = absurd (nothing_split _ _ _ off.asked)
+none_kept outcomes.HistoryFull limits notes caller off = absurd (nothing_split _ _ _ off.asked)
+none_kept outcomes.Input limits notes caller none = absurd none
+none_kept outcomes.Output limits notes caller none = absurd none
 
 some_is : {A : Type 0} {a b : A} → Some a ≡ Some b → a ≡ b
 some_is e = cc
 
 module _ {S K : Type 0} (coming : S → List ℕ) (reads : S → ℕ) (taken : K → List ℕ) (writes : K → ℕ) (config : Config) (queues : List HitsView) (moments : List ℕ) where
   -- a script leaves a script
-  script_works : (notes : List Exchange → Type 0) (caller : ℕ) (outcome : Outcome) (ends : Both S K) (work' : Work S K)
+  script_works : (notes : Notes) (caller : ℕ) (outcome : Outcome) (ends : Both S K) (work' : Work S K)
       → Works coming reads taken writes (limits_of config) moments notes caller outcome (Script ends) work'
       → (left : Both S K) × (work' ≡ Script left) × Works coming reads taken writes (limits_of config) moments notes caller outcome (Script ends) (Script left)
   script_works notes caller outcome ends (Script left) works = (left, refl, works)
   script_works notes caller outcome ends (Upkeep keeper) works = absurd works
 
   -- and upkeep leaves upkeep
-  upkeep_works : (notes : List Exchange → Type 0) (caller : ℕ) (outcome : Outcome) (keeper : Keeper) (work' : Work S K)
+  upkeep_works : (notes : Notes) (caller : ℕ) (outcome : Outcome) (keeper : Keeper) (work' : Work S K)
       → Works coming reads taken writes (limits_of config) moments notes caller outcome (Upkeep keeper) work'
       → (work' ≡ Upkeep keeper) × KeepsUp outcome (limits_of config) (work_of keeper moments) notes caller
   upkeep_works notes caller outcome keeper (Script left) works = absurd works
@@ -96,10 +101,11 @@ module _ {S K : Type 0} (coming : S → List ℕ) (reads : S → ℕ) (taken : K
         let k = upkeep_works (AreItsCalls config i (histories_left final)) i w.outcome keeper w.work' (left_at i below (Upkeep keeper) there) in
         subst (λ (o : Outcome). IsKeptUp keeper config moments i o (histories_left final)) (sym (get_or_from_slice_get ended i w.outcome outcome w.ended)) k.1
 
-    -- without moments it is done
-    kept_idle : (i : ℕ) (keeper : Keeper) (outcome : Outcome) → i < length scripts + 2 → slice_get (works_of scripts) i ≡ Some (Upkeep keeper) → moments ≡ [] → slice_index_or ended i outcome ≡ outcomes.Done
+    -- without moments it is done, and made nothing
+    kept_idle : (i : ℕ) (keeper : Keeper) (outcome : Outcome) → i < length scripts + 2 → slice_get (works_of scripts) i ≡ Some (Upkeep keeper) → moments ≡ []
+        → (slice_index_or ended i outcome ≡ outcomes.Done) × AreItsCalls config i (histories_left final) [] None
     kept_idle i keeper outcome below there none =
-        none_broken (slice_index_or ended i outcome) (limits_of config) (AreItsCalls config i (histories_left final)) i
+        none_kept (slice_index_or ended i outcome) (limits_of config) (AreItsCalls config i (histories_left final)) i
         (subst (λ (ms : List ℕ). IsKeptUp keeper config ms i (slice_index_or ended i outcome) (histories_left final)) none (kept_left i keeper outcome below there))
 
     -- it stands where it stood
@@ -107,12 +113,6 @@ module _ {S K : Type 0} (coming : S → List ℕ) (reads : S → ℕ) (taken : K
     upkeep_stays i keeper below there =
         let w = worked i below in
         w.is ∙ ap (λ (x : Work S K). Some x) (upkeep_works (AreItsCalls config i (histories_left final)) i w.outcome keeper w.work' (left_at i below (Upkeep keeper) there)).0
-
-    -- and without moments it made nothing
-    upkeep_none : (i : ℕ) (keeper : Keeper) → i < length scripts + 2 → slice_get (works_of scripts) i ≡ Some (Upkeep keeper) → moments ≡ [] → MadeNone i final.stripes
-    upkeep_none i keeper below there none =
-        let w = worked i below in
-        none_left coming reads taken writes config queues (limits_of config) moments final all all_classes i w.pass w.outcome w.work w.work' w.has (compared i w.pass w.passed) none keeper (some_is (sym w.was ∙ there))
 
     -- all of it
     pub is_left : (ends : List (S × K)) → ends ≡ ends_in after → config.callers ≡ length scripts + 2 → length ended ≡ length scripts + 2 → length after ≡ length scripts + 2 → IsStore config final
@@ -127,8 +127,8 @@ module _ {S K : Type 0} (coming : S → List ℕ) (reads : S → ℕ) (taken : K
           maintained = λ outcome. kept_left (length scripts) Maintainer outcome (omega arith) (maintainer_at scripts);
           crawled = λ outcome. kept_left (length scripts + 1) Crawler outcome (omega arith) crawler;
           idle = λ none. record {
-            maintainer = λ outcome. kept_idle (length scripts) Maintainer outcome (omega arith) (maintainer_at scripts) none;
-            crawler = λ outcome. kept_idle (length scripts + 1) Crawler outcome (omega arith) crawler none;
+            maintainer = λ outcome. (kept_idle (length scripts) Maintainer outcome (omega arith) (maintainer_at scripts) none).0;
+            crawler = λ outcome. (kept_idle (length scripts + 1) Crawler outcome (omega arith) crawler none).0;
           };
           full = λ i outcome below so.
               let w = worked i below in
@@ -138,13 +138,10 @@ module _ {S K : Type 0} (coming : S → List ℕ) (reads : S → ℕ) (taken : K
               let w = worked i below in
               whole_left coming reads taken writes config queues (limits_of config) moments final all all_classes i w.pass w.outcome w.work w.work' w.has (compared i w.pass w.passed)
               (sym (get_or_from_slice_get ended i w.outcome outcome w.ended) ∙ so);
-          called = λ i below.
-              let w = worked i below in
-              called_left coming reads taken writes config queues (limits_of config) moments final all all_classes i w.pass w.outcome w.work w.work' w.has (compared i w.pass w.passed);
-          by = by_working config final (length scripts) moments all callers
+          by = by_working config final all all_classes (length scripts) moments callers
               (λ none. (
-                upkeep_none (length scripts) Maintainer (omega arith) (maintainer_at scripts) none,
-                upkeep_none (suc (length scripts)) Crawler (omega arith) (crawler_at scripts) none,
+                (kept_idle (length scripts) Maintainer outcomes.Done (omega arith) (maintainer_at scripts) none).1,
+                (kept_idle (suc (length scripts)) Crawler outcomes.Done (omega arith) (crawler_at scripts) none).1,
               ));
           many = many;
           pairs = ap length is

@@ -2,24 +2,25 @@
 use Rattle.std.proofs.Common.{◌≡◌, ◌<◌, ℕ, List, [], ◌∷◌, ◌++◌, sym, ap, ◌∙◌, append-nil, subst, arith, inl, inr}
 use mathlib.Core.List.{IsPrefix}
 use Rattle.std.proofs.Math.Nat.{mod-lt}
-use Rattle.mc_item.specs.{Command.key_of, Measure.fnv1a, Counts.no_counts}
+use Rattle.mc_item.specs.{Command.key_of, Measure.fnv1a, Counts.no_counts, Stripe.cache_of}
 use Rattle.mc_item.specs.declared.{call_event.CallEvent.CallEvent, answer.Site.Site, class_event.ClassEvent.ClassEvent, command.Command.Command}
 use Rattle.mc_item.specs.declared.{config.Config.Config, counts.Moves.Moves, event.Event.Event, item.ClassNo.ClassNo, item.Who.Who, reply.Reply.Reply}
 use Rattle.mc_item.specs.declared.{stripe_event.StripeEvent.StripeEvent, counts.Histogram.Histogram, item.Link.Link}
 use Rattle.mc_item.specs.declared.event.Event.TheVariants as board_events
 use Rattle.mc_board.specs.Histories.{Grows, list_at}
 use Rattle.mc_board.specs.declared.rule.Sight.{Sight}
-use Rattle.mc_board.proofs.PrefixLemmas.{prefix_more}
 use Rattle.mc_evidence.specs.{Seen.class_events, Seen.stripe_events, Refusals.WasTried, Setting.IsClass, Setting.site_in, Locks.ClassKeeps, Locks.StripeKeeps}
 use Rattle.mc_evidence.proofs.SeenLemmas.{class_events-append, class_events-map, classes_grow, stripe_events-map, stripes_grow}
 use Rattle.mc_proto.specs.Answers.{Moved, Replied, Counted}
 use Rattle.mc_pull.specs.{Juggle.IsJuggle, Rounds.Rounds, Rounds.rounds}
 use Rattle.mc_script.specs.Exchanges.{Asks, Juggles, exchange, Crawls}
 use Rattle.mc_segment.specs.ClassState.{ClassView}
+use Rattle.mc_stripe.specs.{Plan.dead_link, Plan.visible_row, StripeState.Stripe, StripeState.stripe}
+use Rattle.mc_store.specs.{Commands.IsSearch, Commands.LeadsUp, Commands.burial}
 use Rattle.mc_store.specs.{Calls.IsJuggledBy, Calls.IsRepliedBy, Locked.setting_of, Locked.class_lock, Sides.class_told, Crawls.AreLinksCounted}
 use Rattle.mc_store.specs.{Crawls.HasReclaims, Crawls.IsCrawledBy, Earned.IsLastResort, Passes.PassView, Passes.next_who}
 use Rattle.mc_store.proofs.{EarnedRefusalLemmas.opened_again, LockKeepsLemmas.site_of_number}
-use Rattle.mc_driver.specs.{Caller.histories_seen, Noted.answered_command, Noted.answered_event, Stand.Grow, Stand.StandsBetween, Stand.stripe_number}
+use Rattle.mc_driver.specs.{Caller.histories_seen, Noted.answered_command, Noted.answered_event, Noted.stripe_with, Stand.Grow, Stand.StandsBetween, Stand.stripe_number}
 use Rattle.mc_driver.proofs.NotedPlaceLemmas.{class_begins, stripe_begins}
 
 -- what a pass has seen grows
@@ -27,6 +28,15 @@ pub seen_grow : (config : Config) (old new : Sight) → Grows old new → Grow c
 seen_grow config old new grows = record {
   stripes = λ number below. stripes_grow (list_at old.seen) (list_at new.seen) grows.at number;
   classes = λ class is. classes_grow config.stripes (list_at old.seen) (list_at new.seen) grows.at class;
+}
+
+-- what led up to a command on a stripe did so on that of its number, with its history
+led_up_there : (config : Config) (number : ℕ) (who : Who) (command : Command) (moment : ℕ) (s : Stripe) (made : List StripeEvent) → s.site ≡ site_in (setting_of config) number
+    → LeadsUp config who command moment s made → LeadsUp config who command moment (stripe_with config number s.history) made
+led_up_there config number who command moment s made site led = record {
+  walked = led.walked;
+  split = subst (λ (t : Site). made ≡ burial who (key_of command) moment (dead_link ((cache_of t s.history).items (key_of command)) moment) ++ led.walked) site led.split;
+  search = subst (λ (t : Site). IsSearch config who moment (visible_row (stripe t config.max_events config.keeps_events s.history 0) command moment).need led.walked) site led.search;
 }
 
 -- by a command that was replied to the pass came from what it had seen to what it has seen now
@@ -42,10 +52,13 @@ replied_between config before after calls calls_new who command moment reply som
       grew = seen_grow config before after grows;
       placed = mod-lt (fnv1a (key_of command)) some;
       stands = record {
-        before = by.old.history ++ answered.before;
+        older = by.old.history;
+        made = answered.before;
         room = answered.room;
         behind = [];
-        past = prefix_more (stripe_events (list_at before.seen number)) by.old.history answered.before (stripe_begins (list_at before.seen number) by.old.history by.grew.seen);
+        past = stripe_begins (list_at before.seen number) by.old.history by.grew.seen;
+        first = by.first;
+        led_up = led_up_there config number who command moment by.old answered.before site answered.led_up;
         split = now ∙ (answered.history_is
             ∙ ap (λ (r : Reply). (by.old.history ++ answered.before) ++ answered_event who command moment r answered.room ∷ []) by.replied.reply_is);
         earned = λ class is.

@@ -1,6 +1,6 @@
 -- What a call on a store that threads share leaves of what its pass knows.
-use Rattle.std.proofs.Common.{◌≡◌, ◌<◌, ◌≤◌, ℕ, List, [], ◌∷◌, ◌++◌, Result, Ok, Err, refl, sym, ap, ◌∙◌, append-nil, subst, arith, length, length-append, ◌⊎◌, inl, inr, ⊎_elim}
-use Rattle.std.specs.Prelude.{IfOk, OnErr, Some, cond, nat_eq, true, OnOk}
+use Rattle.std.proofs.Common.{◌≡◌, ◌<◌, ◌≤◌, ℕ, List, [], ◌∷◌, ◌++◌, Result, Ok, Err, refl, sym, ap, ◌∙◌, append-nil, subst, arith, length, length-append, ◌⊎◌, inl, inr}
+use Rattle.std.specs.Prelude.{IfOk, None, OnErr, Some, cond, nat_eq, true, OnOk}
 use Rattle.std.specs.List.{slice_get}
 use Rattle.std.proofs.lemmas.List.Elements.{filter-append}
 use Rattle.mc_item.specs.declared.{call_event.CallEvent.CallEvent, command.Command.Command, config.Config.Config, counts.Moves.Moves, fault.Fault.Fault}
@@ -13,15 +13,17 @@ use Rattle.mc_board.proofs.PrefixLemmas.{prefix_length}
 use Rattle.mc_evidence.specs.{Seen.stripe_events, Setting.IsClass}
 use Rattle.mc_evidence.proofs.SeenLemmas.{stripe_events-map}
 use Rattle.mc_proto.specs.Answers.{Moved, Replied, Counted}
-use Rattle.mc_script.specs.{Calls.AddsCalls, Calls.AddsUp, Exchanges.Asks, Exchanges.Exchange, Exchanges.Juggles, Exchanges.exchange, Exchanges.Crawls}
+use Rattle.mc_script.specs.{Calls.AddsCalls, Calls.AddsUp, Calls.BreaksOff, Exchanges.Asks, Exchanges.Begun, Exchanges.Crawls, Exchanges.Exchange}
+use Rattle.mc_script.specs.Exchanges.{Juggles, ScriptCall, exchange}
 use Rattle.mc_store.specs.Callers.{answered_at, asked_for, juggling_of, moment_of, crawling_of, turns_of}
-use Rattle.mc_store.specs.{Calls.IsJuggledBy, Calls.IsRepliedBy, Calls.IsCutBy, Locked.setting_of, Passes.PassView, Passes.next_who, Crawls.IsCrawledBy}
-use Rattle.mc_driver.specs.Caller.{AreAt, AreMadeButLast, AreNoted, AreRising, IsAt, MayCall, histories_seen, places_in}
-use Rattle.mc_driver.specs.Stand.{calls_at, is_command_at, nothing_seen, stripe_number}
+use Rattle.mc_store.specs.{Calls.IsJuggledBy, Calls.IsRepliedBy, Locked.setting_of, Passes.PassView, Passes.next_who, Crawls.IsCrawledBy}
+use Rattle.mc_driver.specs.{Called.AreInTurn, Called.call_event_of}
+use Rattle.mc_driver.specs.Caller.{AreAt, AreNoted, AreRising, IsAt, MayCall, histories_seen, places_in}
+use Rattle.mc_driver.specs.Stand.{StandsBetween, calls_at, is_command_at, nothing_seen, stripe_number}
 use Rattle.mc_driver.proofs.NotedPlaceLemmas.{at_later, at_push_if, get_next, places_in-push, rising_push_if, stripe_begins, places_in-call}
 use Rattle.mc_driver.proofs.{SeenByCallLemmas.crawled_between, SeenByCallLemmas.juggled_between, SeenByCallLemmas.replied_between, SeenByCallLemmas.seen_grow}
-use Rattle.mc_driver.proofs.{CalledEventLemmas.made_but_last, CalledEventLemmas.replied_turns, CalledEventLemmas.turns_of-call, OnlyCallsLemmas.is_same, StandingCallLemmas.stand_more}
-use Rattle.mc_driver.proofs.{StandingCallLemmas.stand_same}
+use Rattle.mc_driver.proofs.CalledEventLemmas.{event_for, in_turn_more, moment_of_call_event, replied_turns, turns_begun, turns_more, turns_of-call}
+use Rattle.mc_driver.proofs.{OnlyCallsLemmas.is_same, StandingCallLemmas.stand_later, StandingCallLemmas.stand_more}
 
 -- where a reply was noted, and what stands there
 module _ (config : Config) (old new : PassView) (command : Command) (moment : ℕ) (reply : Reply)
@@ -64,7 +66,7 @@ module _ (config : Config) (old new : PassView) (command : Command) (moment : �
       let long = prefix_length (stripe_events (list_at old.sight.seen (stripe_number config.stripes command))) by.old.history begins in
       omega (arith, long, by.replied.answered.place_is, length-append by.old.history by.replied.answered.before)
 
-  module _ (calls : List Exchange) (noted : AreNoted config old calls) (grows : Grows old.sight new.sight) (n : ℕ) (below : n < config.stripes) where
+  module _ (calls : List Exchange) (noted : AreNoted config old calls None) (grows : Grows old.sight new.sight) (n : ℕ) (below : n < config.stripes) where
     places : places_in n new.calls ≡ places_in n old.calls ++ cond (nat_eq number n) (place ∷ []) []
     places =
         ap (places_in n) noted_as
@@ -92,141 +94,114 @@ module _ (config : Config) (old new : PassView) (command : Command) (moment : �
         (rising_push_if (nat_eq number n) (stripe_events (list_at old.sight.seen n)) old.caller _ _ place (noted.at n below) (noted.rising n below)
         (λ passed. subst (λ (k : ℕ). length (stripe_events (list_at old.sight.seen k)) ≤ place) (is_same number n passed) behind))
 
--- so it is noted
-pub replied_adds : (config : Config) (old new : PassView) (command : Command) (moment : ℕ) (reply : Reply) → MayCall config old → new.caller ≡ old.caller → Grows old.sight new.sight
-    → IsRepliedBy config (stripe_number config.stripes command) old.sight new.sight old.calls new.calls (record { caller = old.caller; turn = old.turn }) command moment reply
-    → AddsCalls (AreNoted config old) (AreNoted config new) (exchange old.caller old.turn (Asks command) moment (Replied reply) ∷ [])
-replied_adds config old new command moment reply may same grows by = record {
-  at = λ calls noted. record {
-    stand = stand_more config nothing_seen (histories_seen config old.sight) (histories_seen config new.sight) calls _ noted.stand
-        (replied_between config old.sight new.sight old.calls new.calls (next_who old) command moment reply may.some grows by);
-    at = λ n below.
-        subst (λ (k : ℕ). AreAt (stripe_events (list_at new.sight.seen n)) k (places_in n new.calls)
-        (calls_at config.stripes n (calls ++ exchange old.caller old.turn (Asks command) moment (Replied reply) ∷ []))) (sym same)
-        (noted_at config old new command moment reply by calls noted grows n below);
-    rising = λ n below. noted_rising config old new command moment reply by calls noted grows n below;
-    made = made_but_last config old new (asked_for command moment ∷ []) may same grows (replied_turns old.calls new.calls (asked_for command moment) by.old.site.stripe by.replied.place by.replied.noted) (omega arith);
-  };
-}
-
--- a call that is no answer leaves the places as they are
-kept_places : (old new : PassView) (moment : ℕ) (call : CallEvent) → moment_of call ≡ Some moment → new.calls ≡ old.calls ++ call ∷ [] → (n : ℕ) → places_in n new.calls ≡ places_in n old.calls
-kept_places old new moment call handed noted_as n = ap (places_in n) noted_as ∙ places_in-call n moment old.calls call handed
-
--- calls of which none is a command leave the places as they are
-kept_at : (config : Config) (old new : PassView) (calls more : List Exchange) → new.caller ≡ old.caller → ((n : ℕ) → places_in n new.calls ≡ places_in n old.calls) → Grows old.sight new.sight → AreNoted config old calls
-    → (n : ℕ) → n < config.stripes → calls_at config.stripes n more ≡ [] → AreAt (stripe_events (list_at new.sight.seen n)) new.caller (places_in n new.calls) (calls_at config.stripes n (calls ++ more))
-kept_at config old new calls more caller same grows noted n below none =
-    let all : calls_at config.stripes n (calls ++ more) ≡ calls_at config.stripes n calls =
-    filter-append (λ (c : Exchange). is_command_at config.stripes n c.call) calls more ∙ ap (λ (l : List Exchange). calls_at config.stripes n calls ++ l) none ∙ append-nil (calls_at config.stripes n calls) in
-    subst (λ (l : List Exchange). AreAt (stripe_events (list_at new.sight.seen n)) new.caller (places_in n new.calls) l) (sym all)
-    (subst (λ (l : List ℕ). AreAt (stripe_events (list_at new.sight.seen n)) new.caller l (calls_at config.stripes n calls)) (sym (same n))
-    (subst (λ (k : ℕ). AreAt (stripe_events (list_at new.sight.seen n)) k (places_in n old.calls) (calls_at config.stripes n calls)) (sym caller)
-    (at_later _ _ old.caller _ _ ((seen_grow config old.sight new.sight grows).stripes n below) (noted.at n below))))
-
--- juggling is noted too
-pub juggled_adds : (config : Config) (old new : PassView) (class : ClassNo) (moment : ℕ) (moves : Moves) → MayCall config old
-    → IsClass (setting_of config) class → new.caller ≡ old.caller → new.calls ≡ old.calls ++ juggling_of class moment ∷ [] → Grows old.sight new.sight
-    → IsJuggledBy config class old new moment moves
-    → AddsCalls (AreNoted config old) (AreNoted config new) (exchange old.caller old.turn (Juggles class) moment (Moved moves) ∷ [])
-juggled_adds config old new class moment moves may is caller noted_as grows by = let same = kept_places old new moment (juggling_of class moment) refl noted_as in record {
-  at = λ calls noted. record {
-    stand = stand_more config nothing_seen (histories_seen config old.sight) (histories_seen config new.sight) calls _ noted.stand
-        (juggled_between config class old new moment moves is grows by);
-    at = λ n below. kept_at config old new calls _ caller same grows noted n below refl;
-    rising = λ n below. subst (AreRising 0) (sym (same n)) (noted.rising n below);
-    made = made_but_last config old new (juggling_of class moment ∷ []) may caller grows (ap turns_of noted_as ∙ turns_of-call old.calls (juggling_of class moment) moment refl) (omega arith);
-  };
-}
-
--- and so is a crawl
-pub crawled_adds : (config : Config) (old new : PassView) (class : ClassNo) (moment : ℕ) (histogram : Histogram) → MayCall config old
-    → IsClass (setting_of config) class → new.caller ≡ old.caller → new.calls ≡ old.calls ++ crawling_of class moment ∷ [] → Grows old.sight new.sight
-    → IsCrawledBy config class old.sight new.sight (record { caller = old.caller; turn = old.turn }) moment histogram
-    → AddsCalls (AreNoted config old) (AreNoted config new) (exchange old.caller old.turn (Crawls class) moment (Counted histogram) ∷ [])
-crawled_adds config old new class moment histogram may is caller noted_as grows by = let same = kept_places old new moment (crawling_of class moment) refl noted_as in record {
-  at = λ calls noted. record {
-    stand = stand_more config nothing_seen (histories_seen config old.sight) (histories_seen config new.sight) calls _ noted.stand
-        (crawled_between config class old.sight new.sight (next_who old) moment histogram is grows by);
-    at = λ n below. kept_at config old new calls _ caller same grows noted n below refl;
-    rising = λ n below. subst (AreRising 0) (sym (same n)) (noted.rising n below);
-    made = made_but_last config old new (crawling_of class moment ∷ []) may caller grows (ap turns_of noted_as ∙ turns_of-call old.calls (crawling_of class moment) moment refl) (omega arith);
-  };
-}
-
 -- how a call that went wrong leaves its caller's history: as it was, or with the call in it
 abbrev IsCut : PassView → PassView → CallEvent → Type 0
 IsCut old new made = (new ≡ old) ⊎ (new.calls ≡ old.calls ++ made ∷ [])
 
--- the places stay as they were
-cut_places : (old new : PassView) (moment : ℕ) (made : CallEvent) → moment_of made ≡ Some moment → IsCut old new made → (n : ℕ) → places_in n new.calls ≡ places_in n old.calls
-cut_places old new moment made handed (inl same) n = ap (λ (p : PassView). places_in n p.calls) same
-cut_places old new moment made handed (inr noted_as) n = kept_places old new moment made handed noted_as n
+module _ (config : Config) (old new : PassView) (same : new.caller ≡ old.caller) (grows : Grows old.sight new.sight) where
+  -- a reply is noted
+  replied_adds : (command : Command) (moment : ℕ) (reply : Reply) → MayCall config old
+      → IsRepliedBy config (stripe_number config.stripes command) old.sight new.sight old.calls new.calls (record { caller = old.caller; turn = old.turn }) command moment reply
+      → AddsCalls (AreNoted config old) (AreNoted config new) (exchange old.caller old.turn (Asks command) moment (Replied reply) ∷ [])
+  replied_adds command moment reply may by = record {
+    at = λ calls noted.
+        let call = exchange old.caller old.turn (Asks command) moment (Replied reply) in
+        record {
+          stand = stand_more config nothing_seen (histories_seen config old.sight) (histories_seen config new.sight) calls call noted.stand
+              (replied_between config old.sight new.sight old.calls new.calls (next_who old) command moment reply may.some grows by);
+          at = λ n below.
+              subst (λ (k : ℕ). AreAt (stripe_events (list_at new.sight.seen n)) k (places_in n new.calls) (calls_at config.stripes n (calls ++ call ∷ []))) (sym same)
+              (noted_at config old new command moment reply by calls noted grows n below);
+          rising = λ n below. noted_rising config old new command moment reply by calls noted grows n below;
+          own = subst (λ (k : ℕ). AreInTurn k (calls ++ call ∷ [])) (sym same) (in_turn_more old calls call noted.own refl may.turns noted.turns);
+          turns = turns_more old.calls new.calls calls call (replied_turns old.calls new.calls (asked_for command moment) by.old.site.stripe by.replied.place by.replied.noted) noted.turns;
+        };
+  }
 
--- and all calls but the last were made
-cut_made : (config : Config) (old new : PassView) (moment : ℕ) (made : CallEvent) → moment_of made ≡ Some moment → MayCall config old → new.caller ≡ old.caller → Grows old.sight new.sight → IsCut old new made
-    → AreMadeButLast config (histories_seen config new.sight) new.caller new.calls
-cut_made config old new moment made handed may caller grows (inl same) =
-    made_but_last config old new [] may caller grows (ap (λ (p : PassView). turns_of p.calls) same ∙ sym (append-nil (turns_of old.calls))) (omega arith)
-cut_made config old new moment made handed may caller grows (inr noted_as) =
-    made_but_last config old new (made ∷ []) may caller grows (ap turns_of noted_as ∙ turns_of-call old.calls made moment handed) (omega arith)
+  -- a call that is no answer leaves the places as they are, and what is there
+  module _ (call : CallEvent) (moment : ℕ) (handed : moment_of call ≡ Some moment) (noted_as : new.calls ≡ old.calls ++ call ∷ []) (calls : List Exchange) (noted : AreNoted config old calls None)
+      (n : ℕ) (below : n < config.stripes) where
+    kept_places : places_in n new.calls ≡ places_in n old.calls
+    kept_places = ap (places_in n) noted_as ∙ places_in-call n moment old.calls call handed
 
--- what went wrong adds none, whether the call was begun or not
-pub none_adds : (config : Config) (old new : PassView) (moment : ℕ) (made : CallEvent) → moment_of made ≡ Some moment → MayCall config old → new.caller ≡ old.caller → IsCut old new made → Grows old.sight new.sight
-    → AddsCalls (AreNoted config old) (AreNoted config new) []
-none_adds config old new moment made handed may caller cut grows = let same = cut_places old new moment made handed cut in record {
-  at = λ calls noted. record {
-    stand = stand_same config nothing_seen (histories_seen config old.sight) (histories_seen config new.sight) calls (seen_grow config old.sight new.sight grows) noted.stand;
-    at = λ n below. kept_at config old new calls [] caller same grows noted n below refl;
-    rising = λ n below. subst (AreRising 0) (sym (same n)) (noted.rising n below);
-    made = cut_made config old new moment made handed may caller grows cut;
-  };
-}
+    kept_at : AreAt (stripe_events (list_at new.sight.seen n)) new.caller (places_in n new.calls) (calls_at config.stripes n calls)
+    kept_at =
+        subst (λ (l : List ℕ). AreAt (stripe_events (list_at new.sight.seen n)) new.caller l (calls_at config.stripes n calls)) (sym kept_places)
+        (subst (λ (k : ℕ). AreAt (stripe_events (list_at new.sight.seen n)) k (places_in n old.calls) (calls_at config.stripes n calls)) (sym same)
+        (at_later _ _ old.caller _ _ ((seen_grow config old.sight new.sight grows).stripes n below) (noted.at n below)))
 
--- as a call answers it: a reply is noted
-pub replied_ok : (config : Config) (old new : PassView) (command : Command) (moment : ℕ) (r : Result Reply Fault) → MayCall config old → new.caller ≡ old.caller → Grows old.sight new.sight
-    → IfOk r (IsRepliedBy config (stripe_number config.stripes command) old.sight new.sight old.calls new.calls (record { caller = old.caller; turn = old.turn }) command moment)
-    → IfOk r (λ reply. AddsCalls (AreNoted config old) (AreNoted config new) (exchange old.caller old.turn (Asks command) moment (Replied reply) ∷ []))
-replied_ok config old new command moment (Ok reply) may same grows by = replied_adds config old new command moment reply may same grows by
-replied_ok config old new command moment (Err fault) may same grows by = tt
+    kept_rising : AreRising 0 (places_in n new.calls)
+    kept_rising = subst (AreRising 0) (sym kept_places) (noted.rising n below)
 
--- juggling is noted where it was done
-pub juggled_ok : (config : Config) (old new : PassView) (class : ClassNo) (moment : ℕ) (r : Result Moves Fault) → MayCall config old
-    → IsClass (setting_of config) class → new.caller ≡ old.caller → OnOk r (new.calls ≡ old.calls ++ juggling_of class moment ∷ []) → Grows old.sight new.sight
-    → IfOk r (IsJuggledBy config class old new moment)
-    → IfOk r (λ moves. AddsCalls (AreNoted config old) (AreNoted config new) (exchange old.caller old.turn (Juggles class) moment (Moved moves) ∷ []))
-juggled_ok config old new class moment (Ok moves) may is caller same grows by = juggled_adds config old new class moment moves may is caller same grows by
-juggled_ok config old new class moment (Err fault) may is caller same grows by = tt
+  -- a call on a class is noted
+  class_adds : (call : Exchange) → MayCall config old → call.who ≡ next_who old → new.calls ≡ old.calls ++ event_for call ∷ [] → ((n : ℕ) → calls_at config.stripes n (call ∷ []) ≡ [])
+      → StandsBetween config (histories_seen config old.sight) (histories_seen config new.sight) call → AddsCalls (AreNoted config old) (AreNoted config new) (call ∷ [])
+  class_adds call may who noted_as none between =
+      let handed = moment_of_call_event call.call call.moment in record {
+        at = λ calls noted. record {
+          stand = stand_more config nothing_seen (histories_seen config old.sight) (histories_seen config new.sight) calls call noted.stand between;
+          at = λ n below.
+              let all = filter-append (λ (c : Exchange). is_command_at config.stripes n c.call) calls (call ∷ [])
+              ∙ (ap (λ (l : List Exchange). calls_at config.stripes n calls ++ l) (none n) ∙ append-nil (calls_at config.stripes n calls)) in
+              subst (λ (l : List Exchange). AreAt (stripe_events (list_at new.sight.seen n)) new.caller (places_in n new.calls) l) (sym all)
+              (kept_at (event_for call) call.moment handed noted_as calls noted n below);
+          rising = λ n below. kept_rising (event_for call) call.moment handed noted_as calls noted n below;
+          own = subst (λ (k : ℕ). AreInTurn k (calls ++ call ∷ [])) (sym same) (in_turn_more old calls call noted.own who may.turns noted.turns);
+          turns = turns_more old.calls new.calls calls call (ap turns_of noted_as ∙ turns_of-call old.calls (event_for call) call.moment handed) noted.turns;
+        };
+      }
 
--- and what went wrong adds none
-pub juggling_failed : (config : Config) (old new : PassView) (class : ClassNo) (moment : ℕ) (r : Result Moves Fault) → MayCall config old
-    → new.caller ≡ old.caller → OnErr r (IsCut old new (juggling_of class moment)) → Grows old.sight new.sight
-    → OnErr r (AddsCalls (AreNoted config old) (AreNoted config new) [])
-juggling_failed config old new class moment (Ok x) may caller cut grows = tt
-juggling_failed config old new class moment (Err fault) may caller cut grows = none_adds config old new moment (juggling_of class moment) refl may caller cut grows
+  -- a call that went wrong is the last one begun, unless nothing happened
+  breaks_off : (made : ScriptCall) (moment : ℕ) → IsCut old new (call_event_of made moment) → BreaksOff (AreNoted config old) (AreNoted config new) made moment
+  breaks_off made moment (inl is) = record { at = λ calls noted. (None, tt, subst (λ (p : PassView). AreNoted config p calls None) (sym is) noted) }
+  breaks_off made moment (inr gained) =
+      let begun : Begun = record { call = made; moment = moment } in
+      let event = call_event_of made moment in
+      let handed = moment_of_call_event made moment in
+      record {
+        at = λ calls noted. (
+          Some begun,
+          (refl, refl),
+          record {
+            stand = stand_later config nothing_seen (histories_seen config old.sight) (histories_seen config new.sight) calls (seen_grow config old.sight new.sight grows) noted.stand;
+            at = λ n below. kept_at event moment handed gained calls noted n below;
+            rising = λ n below. kept_rising event moment handed gained calls noted n below;
+            own = subst (λ (k : ℕ). AreInTurn k calls) (sym same) noted.own;
+            turns = turns_begun old.calls new.calls calls begun gained noted.turns;
+          },
+        );
+      }
 
-pub crawling_failed : (config : Config) (old new : PassView) (class : ClassNo) (moment : ℕ) (r : Result Histogram Fault) → MayCall config old
-    → new.caller ≡ old.caller → OnErr r (IsCut old new (crawling_of class moment)) → Grows old.sight new.sight
-    → OnErr r (AddsCalls (AreNoted config old) (AreNoted config new) [])
-crawling_failed config old new class moment (Ok x) may caller cut grows = tt
-crawling_failed config old new class moment (Err fault) may caller cut grows = none_adds config old new moment (crawling_of class moment) refl may caller cut grows
+  -- as a call answers it: a reply is noted
+  pub replied_ok : (command : Command) (moment : ℕ) (r : Result Reply Fault) → MayCall config old
+      → IfOk r (IsRepliedBy config (stripe_number config.stripes command) old.sight new.sight old.calls new.calls (record { caller = old.caller; turn = old.turn }) command moment)
+      → IfOk r (λ reply. AddsCalls (AreNoted config old) (AreNoted config new) (exchange old.caller old.turn (Asks command) moment (Replied reply) ∷ []))
+  replied_ok command moment (Ok reply) may by = replied_adds command moment reply may by
+  replied_ok command moment (Err fault) may by = tt
 
--- a crawl is noted where it was made
-pub crawled_ok : (config : Config) (old new : PassView) (class : ClassNo) (moment : ℕ) (r : Result Histogram Fault) → MayCall config old
-    → IsClass (setting_of config) class → new.caller ≡ old.caller → OnOk r (new.calls ≡ old.calls ++ crawling_of class moment ∷ []) → Grows old.sight new.sight
-    → IfOk r (IsCrawledBy config class old.sight new.sight (record { caller = old.caller; turn = old.turn }) moment)
-    → IfOk r (λ histogram. AddsCalls (AreNoted config old) (AreNoted config new) (exchange old.caller old.turn (Crawls class) moment (Counted histogram) ∷ []))
-crawled_ok config old new class moment (Ok histogram) may is caller same grows by = crawled_adds config old new class moment histogram may is caller same grows by
-crawled_ok config old new class moment (Err fault) may is caller same grows by = tt
+  -- juggling is noted where it was done
+  pub juggled_ok : (class : ClassNo) (moment : ℕ) (r : Result Moves Fault) → MayCall config old → IsClass (setting_of config) class
+      → OnOk r (new.calls ≡ old.calls ++ juggling_of class moment ∷ []) → IfOk r (IsJuggledBy config class old new moment)
+      → IfOk r (λ moves. AddsCalls (AreNoted config old) (AreNoted config new) (exchange old.caller old.turn (Juggles class) moment (Moved moves) ∷ []))
+  juggled_ok class moment (Ok moves) may is gained by = class_adds _ may refl gained (λ n. refl) (juggled_between config class old new moment moves is grows by)
+  juggled_ok class moment (Err fault) may is gained by = tt
 
--- where it was made, each entry that was seen is counted as one kind
+  -- and a crawl where it was made
+  pub crawled_ok : (class : ClassNo) (moment : ℕ) (r : Result Histogram Fault) → MayCall config old → IsClass (setting_of config) class
+      → OnOk r (new.calls ≡ old.calls ++ crawling_of class moment ∷ [])
+      → IfOk r (IsCrawledBy config class old.sight new.sight (record { caller = old.caller; turn = old.turn }) moment)
+      → IfOk r (λ histogram. AddsCalls (AreNoted config old) (AreNoted config new) (exchange old.caller old.turn (Crawls class) moment (Counted histogram) ∷ []))
+  crawled_ok class moment (Ok histogram) may is gained by =
+      class_adds _ may refl gained (λ n. refl) (crawled_between config class old.sight new.sight (next_who old) moment histogram is grows by)
+  crawled_ok class moment (Err fault) may is gained by = tt
+
+  -- and what went wrong breaks off
+  pub call_failed : {T : Type 0} (made : ScriptCall) (moment : ℕ) (r : Result T Fault) → OnErr r (IsCut old new (call_event_of made moment))
+      → OnErr r (BreaksOff (AreNoted config old) (AreNoted config new) made moment)
+  call_failed made moment (Ok x) cut = tt
+  call_failed made moment (Err fault) cut = breaks_off made moment cut
+
+-- where a class was crawled, each entry that was seen is counted as one kind
 pub crawled_kinds : (config : Config) (class : ClassNo) (before after : Sight) (who : Who) (moment : ℕ) (r : Result Histogram Fault) → IfOk r (IsCrawledBy config class before after who moment) → IfOk r AddsUp
 crawled_kinds config class before after who moment (Ok histogram) by = by.balanced
 crawled_kinds config class before after who moment (Err fault) by = tt
-
-pub command_failed : (config : Config) (old new : PassView) (who : Who) (command : Command) (moment n : ℕ) (r : Result Reply Fault) → MayCall config old → new.caller ≡ old.caller
-    → OnErr r ((new ≡ old) ⊎ IsCutBy config n old.sight new.sight old.calls new.calls who command moment) → Grows old.sight new.sight → OnErr r (AddsCalls (AreNoted config old) (AreNoted config new) [])
-command_failed config old new who command moment n (Ok reply) may caller cut grows = tt
-command_failed config old new who command moment n (Err fault) may caller cut grows =
-    none_adds config old new moment (asked_for command moment) refl may caller
-    (⊎_elim (λ (same : new ≡ old). inl same) (λ (c : IsCutBy config n old.sight new.sight old.calls new.calls who command moment). inr c.noted) cut) grows

@@ -1,5 +1,6 @@
 -- Calls that stand in histories go on standing where these grow, and behind less that was seen.
-use Rattle.std.proofs.Common.{ℕ, List, [], ◌∷◌, ◌++◌, sym, ap, ◌∙◌, append-nil, append_assoc, subst, refl, inl, inr}
+use Rattle.std.proofs.Common.{◌≡◌, ℕ, zero, suc, List, [], ◌∷◌, ◌++◌, Some, sym, ap, ◌∙◌, append_assoc, subst, refl, inl, inr}
+use Rattle.std.specs.List.{slice_get}
 use mathlib.Core.List.{IsPrefix}
 use Rattle.mc_item.specs.declared.{class_event.ClassEvent.ClassEvent, command.Command.Command, config.Config.Config, counts.Histogram.Histogram}
 use Rattle.mc_item.specs.declared.{counts.Moves.Moves, item.ClassNo.ClassNo, item.Who.Who, reply.Reply.Reply, stripe_event.StripeEvent.StripeEvent}
@@ -12,7 +13,7 @@ use Rattle.mc_script.specs.Exchanges.{Asks, ScriptCall, Exchange, Juggles, Crawl
 use Rattle.mc_segment.specs.ClassCalls.{refused_event}
 use Rattle.mc_store.specs.{Crawls.HasReclaims, Earned.IsLastResort, Locked.setting_of, Sides.class_told}
 use Rattle.mc_driver.specs.Noted.{NotesCommand, NotesCrawling, NotesJuggling, answered_command, answered_event}
-use Rattle.mc_driver.specs.Stand.{Grow, Histories, IsPlaced, Stand, StandsAs, StandsBetween, nothing_seen, stripe_number}
+use Rattle.mc_driver.specs.Stand.{Grow, Histories, IsPlaced, Stand, StandsAnywhere, StandsAs, StandsBetween, nothing_seen, stripe_number}
 
 -- ---- histories that grow
 
@@ -51,11 +52,14 @@ NotesCommand-append : (config : Config) (number : ℕ) (seen history more : List
     → ((class : ClassNo) → IsClass (setting_of config) class → IsPrefix (classes class) (classes_new class)) → NotesCommand config number seen history classes who command moment reply
     → NotesCommand config number seen (history ++ more) classes_new who command moment reply
 NotesCommand-append config number seen history more classes classes_new who command moment reply grow noted = record {
-  before = noted.before;
+  older = noted.older;
+  made = noted.made;
   room = noted.room;
   behind = noted.behind ++ more;
   past = noted.past;
-  split = ap (λ (h : List StripeEvent). h ++ more) noted.split ∙ append_assoc noted.before (answered_event who command moment reply noted.room ∷ noted.behind) more;
+  first = noted.first;
+  led_up = noted.led_up;
+  split = ap (λ (h : List StripeEvent). h ++ more) noted.split ∙ append_assoc (noted.older ++ noted.made) (answered_event who command moment reply noted.room ∷ noted.behind) more;
   earned = λ class is.
       let site = site_in (setting_of config) number in
       let did = answered_command who command moment reply noted.room in
@@ -145,10 +149,13 @@ stands_as_later config seen old new who moment (Juggles class) (Replied reply) g
 NotesCommand-less : (config : Config) (number : ℕ) (less seen history : List StripeEvent) (classes : ClassNo → List ClassEvent) (who : Who) (command : Command) (moment : ℕ) (reply : Reply) → IsPrefix less seen
     → NotesCommand config number seen history classes who command moment reply → NotesCommand config number less history classes who command moment reply
 NotesCommand-less config number less seen history classes who command moment reply begins noted = record {
-  before = noted.before;
+  older = noted.older;
+  made = noted.made;
   room = noted.room;
   behind = noted.behind;
-  past = prefix_trans less seen noted.before begins noted.past;
+  past = prefix_trans less seen noted.older begins noted.past;
+  first = noted.first;
+  led_up = noted.led_up;
   split = noted.split;
   earned = noted.earned;
   last = noted.last;
@@ -228,6 +235,20 @@ stand_more config seen old new [] call stand between = record { reached = new; b
 stand_more config seen old new (first ∷ calls) call stand between =
     record { reached = stand.reached; between = stand.between; behind = stand_more config stand.reached old new calls call stand.behind between }
 
--- no call more
-pub stand_same : (config : Config) (seen old new : Histories) (calls : List Exchange) → Grow config old new → Stand config seen old calls → Stand config seen new (calls ++ [])
-stand_same config seen old new calls grow stand = subst (Stand config seen new) (sym (append-nil calls)) (stand_later config seen old new calls grow stand)
+-- histories in which calls stand begin with what was seen before these
+stand_grows : (config : Config) (seen histories : Histories) (calls : List Exchange) → Stand config seen histories calls → Grow config seen histories
+stand_grows config seen histories [] stand = stand
+stand_grows config seen histories (call ∷ calls) stand = grow_trans config seen stand.reached histories stand.between.grew (stand_grows config stand.reached histories calls stand.behind)
+
+-- each of the calls that stand in turn stands there
+pub stand_at : (config : Config) (seen histories : Histories) (calls : List Exchange) (turn : ℕ) (call : Exchange) → Stand config seen histories calls → slice_get calls turn ≡ Some call
+    → StandsAnywhere config histories call
+stand_at config seen histories [] turn call stand at = absurd (cc at)
+stand_at config seen histories (first ∷ calls) zero call stand at =
+    let same : first ≡ call = cc in
+    let grows = stand_grows config stand.reached histories calls stand.behind in
+    let between = stand.between in
+    subst (λ (x : Exchange). StandsAnywhere config histories x) same
+    (stands_as_less config nothing_seen seen histories first.who first.moment first.call first.answer (grow_nothing config seen) between.placed
+    (stands_as_later config seen stand.reached histories first.who first.moment first.call first.answer grows between.placed between.stands))
+stand_at config seen histories (first ∷ calls) (suc turn) call stand at = stand_at config stand.reached histories calls turn call stand.behind at

@@ -1,11 +1,29 @@
--- Which call each event of a stripe belongs to: one by the same caller, in the same turn (its number), at the same moment (own).
-use Rattle.std.specs.Prelude.{ℕ, ◌≡◌, ◌<◌, ◌≤◌, ◌⊎◌, List, Some, length, slice_get}
-use Rattle.mc_item.specs.declared.{call_event.CallEvent.CallEvent, config.Config.Config, stripe_event.StripeEvent.StripeEvent}
+-- Which calls a caller made, and which of them each of its events belongs to: one in the same turn (its number), at the same moment (own).
+use Rattle.std.specs.Prelude.{ℕ, ◌≡◌, ◌<◌, ◌≤◌, ◌⊎◌, List, [], ◌∷◌, ◌++◌, Option, Some, None, length, map, slice_get}
+use Rattle.mc_item.specs.declared.{call_event.CallEvent.CallEvent, class_event.ClassEvent.ClassEvent, config.Config.Config, item.ClassNo.ClassNo}
+use Rattle.mc_item.specs.declared.{stripe_event.StripeEvent.StripeEvent}
 use Rattle.mc_item.specs.declared.stripe_event.StripeEvent.TheVariants as events
-use Rattle.mc_script.specs.Exchanges.{Exchange}
-use Rattle.mc_store.specs.{Callers.IsCalled, Callers.IsMomentOf, Callers.turns_of, Callers.who_of, Passes.PassView, Sides.StripeSide}
-use Rattle.mc_store.specs.Finals.{AreItsOwn, FinalView, IsBehindClasses, IsBehindStripes}
-use Rattle.mc_driver.specs.{Caller.AreMadeButLast, Run.HasFull, Stand.Histories, Stand.StandsAnywhere}
+use Rattle.mc_script.specs.Exchanges.{Asks, Begun, Crawls, Exchange, Juggles, ScriptCall}
+use Rattle.mc_evidence.specs.Setting.{IsClass}
+use Rattle.mc_store.specs.Callers.{IsCalled, IsMomentOf, asked_for, crawling_of, juggling_of, turns_of, who_of}
+use Rattle.mc_store.specs.{Locked.setting_of, Made.IsClassCalled, Made.maker_of, Passes.PassView}
+use Rattle.mc_store.specs.Finals.{AreItsOwn, AreItsOwnInClasses, FinalView, IsBehindClasses, IsBehindStripes}
+use Rattle.mc_driver.specs.{Run.HasFull, Stand.AreOnly, Stand.Histories, Stand.Stand, Stand.StandsAnywhere, Stand.nothing_seen}
+
+-- the event of a caller's history for this call at this moment
+abbrev pub call_event_of : ScriptCall → ℕ → CallEvent
+call_event_of (Asks command) moment = asked_for command moment
+call_event_of (Juggles class) moment = juggling_of class moment
+call_event_of (Crawls class) moment = crawling_of class moment
+
+-- the event of a caller's history for a call that was begun and broke off, if there is one
+abbrev pub begun_event : Option Begun → List CallEvent
+begun_event None = []
+begun_event (Some begun) = call_event_of begun.call begun.moment ∷ []
+
+-- the turns of a caller that made just these calls, and then began this one, which broke off, if there is one
+abbrev pub turns_for : List Exchange → Option Begun → List CallEvent
+turns_for calls begun = map (λ call. call_event_of call.call call.moment) calls ++ begun_event begun
 
 -- the event has this moment (time in seconds), if it has one: the loss of a taken item and a cleared mark have none
 abbrev pub IsAtMoment : StripeEvent → ℕ → Type 0
@@ -25,35 +43,48 @@ pub record AreWholeTurns (config : Config) (caller : ℕ) (histories : Histories
   pub at : (number place : ℕ) (event : StripeEvent) → number < config.stripes → slice_get (histories.stripes number) place ≡ Some event
       → (who_of event).caller ≡ caller → HasCall config histories event
 
--- a caller made calls: each of its events, on any stripe, belongs to one, and all calls but perhaps the last were completed
-pub record HasCalls (config : Config) (caller : ℕ) (histories : Histories) : Type 0 where
-  pub calls : List CallEvent
+-- each event of this caller, on any stripe or class, belongs to one of these calls
+pub record AreCalledBy (config : Config) (caller : ℕ) (histories : Histories) (calls : List CallEvent) : Type 0 where
   pub called : (number place : ℕ) (event : StripeEvent) → number < config.stripes → slice_get (histories.stripes number) place ≡ Some event
       → (who_of event).caller ≡ caller → IsCalled calls number place event
-  pub made : AreMadeButLast config histories caller calls
+  pub called_in_classes : (class : ClassNo) (place : ℕ) (event : ClassEvent) → IsClass (setting_of config) class
+      → slice_get (histories.classes class) place ≡ Some event → (maker_of event).caller ≡ caller → IsClassCalled calls class event
 
--- a caller made as many calls as a history may have events, and all of them but perhaps the last were completed
+-- what is known of a caller's calls: the histories have them in turn, and the stripes have no other commands of that caller. The
+-- caller's own history has just these calls, then the one that broke off if one did, and each of its events belongs to one of these
+pub record AreItsCalls (config : Config) (caller : ℕ) (histories : Histories) (calls : List Exchange) (begun : Option Begun) : Type 0 where
+  pub stand : Stand config nothing_seen histories calls
+  pub only : AreOnly config.stripes caller histories calls
+  pub history : List CallEvent
+  pub just : turns_of history ≡ turns_for calls begun
+  pub events : AreCalledBy config caller histories history
+
+-- each of these calls is of this caller, in the turn of its place
+pub record AreInTurn (caller : ℕ) (calls : List Exchange) : Type 0 where
+  pub each : (turn : ℕ) (call : Exchange) → slice_get calls turn ≡ Some call → call.who ≡ record { caller = caller; turn = turn }
+
+-- a caller made as many calls as a history may have events, with the one that broke off if one did
 pub record HasMadeAll (config : Config) (caller : ℕ) (histories : Histories) : Type 0 where
-  pub calls : List CallEvent
-  pub all : config.max_events ≤ length (turns_of calls)
-  pub made : AreMadeButLast config histories caller calls
+  pub calls : List Exchange
+  pub begun : Option Begun
+  pub are : AreItsCalls config caller histories calls begun
+  pub own : AreInTurn caller calls
+  pub all : config.max_events ≤ length (turns_for calls begun)
 
 -- a caller may have found a full history: one of the store's has fewer than two places left, or the caller made all calls it may
 abbrev pub HasNoPlace : Config → ℕ → Histories → Type 0
 HasNoPlace config caller histories = HasFull config histories ⊎ HasMadeAll config caller histories
 
--- each event of each stripe is by one of the first so many callers
-pub record AreByCallers (stripes callers : ℕ) (histories : Histories) : Type 0 where
-  pub at : (number place : ℕ) (event : StripeEvent) → number < stripes → slice_get (histories.stripes number) place ≡ Some event
+-- each event of each stripe and class is by one of the first so many callers
+pub record AreByCallers (config : Config) (callers : ℕ) (histories : Histories) : Type 0 where
+  pub at : (number place : ℕ) (event : StripeEvent) → number < config.stripes → slice_get (histories.stripes number) place ≡ Some event
       → (who_of event).caller < callers
+  pub at_classes : (class : ClassNo) (place : ℕ) (event : ClassEvent) → IsClass (setting_of config) class
+      → slice_get (histories.classes class) place ≡ Some event → (maker_of event).caller < callers
 
--- no event of these stripes is by this caller
-pub record MadeNone (caller : ℕ) (stripes : List StripeSide) : Type 0 where
-  pub at : (k place : ℕ) (s : StripeSide) (event : StripeEvent) → slice_get stripes k ≡ Some s → slice_get s.stripe.history place ≡ Some event
-      → (who_of event).caller ≡ caller → ⊥
-
--- a pass agrees with the closed store: each history begins with what it has seen, and its caller's stripe events are of its calls
+-- a pass agrees with the closed store: each history begins with what it has seen, and its caller's events are of its calls
 pub record IsCompared (pass : PassView) (final : FinalView) : Type 0 where
   pub stripes : IsBehindStripes pass.sight final.stripes
   pub classes : IsBehindClasses pass.sight final.classes
   pub own : AreItsOwn pass final.stripes
+  pub own_in_classes : AreItsOwnInClasses pass final.classes

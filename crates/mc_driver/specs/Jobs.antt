@@ -1,8 +1,8 @@
 -- The work of a run's callers, and what holds after it (own).
-use Rattle.std.specs.Prelude.{ℕ, ◌≡◌, ◌≤◌, ◌⊎◌, List, [], ◌∷◌, ◌++◌, length, map}
+use Rattle.std.specs.Prelude.{ℕ, ◌≡◌, ◌≤◌, ◌⊎◌, List, [], ◌∷◌, ◌++◌, None, length, map}
 use Rattle.mc_item.specs.declared.config.Config.{Config}
 use Rattle.mc_proto.specs.declared.request.Limits.{Limits}
-use Rattle.mc_script.specs.{Exchanges.Exchange, Run.AreCounted, Run.Leaves, Upkeep.KeepsUp, Upkeep.many_calls, Upkeep.work_of}
+use Rattle.mc_script.specs.{Calls.Notes, Run.AreCounted, Run.Leaves, Upkeep.KeepsUp, Upkeep.work_of}
 use Rattle.mc_script.specs.declared.{outcome.Outcome.Outcome, upkeep.Keeper.TheVariants.Maintainer, upkeep.Keeper.TheVariants.Crawler}
 use Rattle.mc_script.specs.declared.outcome.Outcome.TheVariants as outcomes
 use Rattle.mc_store.specs.{Callers.turns_of, Passes.PassView, Serving.HasSeenShort}
@@ -26,7 +26,7 @@ module _ {S K : Type 0} where
 
   module _ (coming : S → List ℕ) (reads : S → ℕ) (taken : K → List ℕ) (writes : K → ℕ) where
     -- what holds after work with this outcome: a script's bytes, calls and failures, or the calls of upkeep at these moments
-    abbrev pub Works : Limits → List ℕ → (List Exchange → Type 0) → ℕ → Outcome → Work S K → Work S K → Type 0
+    abbrev pub Works : Limits → List ℕ → Notes → ℕ → Outcome → Work S K → Work S K → Type 0
     Works limits moments notes caller outcome (Script ends) (Script left) =
         Leaves outcome limits (coming ends.source) (coming left.source) (taken ends.sink) (taken left.sink) notes caller
         × AreCounted outcome (reads ends.source) (reads left.source) (writes ends.sink) (writes left.sink)
@@ -39,17 +39,7 @@ module _ {S K : Type 0} where
 pub record IsAtStart (config : Config) (pass : PassView) : Type 0 where
   pub may : MayCall config pass
   pub first : pass.turn ≡ 0
-  pub none : AreNoted config pass []
-
--- upkeep without moments leaves the pass as it was
-abbrev pub IsIdle : {S K : Type 0} → List ℕ → Work S K → PassView → PassView → Type 0
-IsIdle moments (Script ends) pass pass' = Unit {0}
-IsIdle moments (Upkeep keeper) pass pass' = moments ≡ [] → pass' ≡ pass
-
--- upkeep that is done has taken a turn for each call of its work
-abbrev pub HasHadTurns : {S K : Type 0} → Limits → List ℕ → Outcome → Work S K → PassView → Type 0
-HasHadTurns limits moments outcome (Script ends) pass = Unit {0}
-HasHadTurns limits moments outcome (Upkeep keeper) pass = outcome ≡ outcomes.Done → pass.turn ≡ many_calls limits keeper moments
+  pub none : AreNoted config pass [] None
 
 module _ {S K : Type 0} (coming : S → List ℕ) (reads : S → ℕ) (taken : K → List ℕ) (writes : K → ℕ) where
   -- a caller has worked, with this outcome: what holds of its work and of its pass, before and after
@@ -57,6 +47,3 @@ module _ {S K : Type 0} (coming : S → List ℕ) (reads : S → ℕ) (taken : K
     pub works : Works coming reads taken writes limits moments (AreNoted config pass') pass.caller outcome work work'
     pub caller : pass'.caller ≡ pass.caller
     pub full : outcome ≡ outcomes.HistoryFull → HasSeenShort config pass'.sight ⊎ (config.max_events ≤ length (turns_of pass'.calls))
-    pub done : outcome ≡ outcomes.Done → MayCall config pass'
-    pub turns : HasHadTurns limits moments outcome work pass'
-    pub idle : IsIdle moments work pass pass'

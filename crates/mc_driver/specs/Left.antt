@@ -5,10 +5,10 @@ use Rattle.mc_script.specs.{Run.AreCounted, Run.Leaves, Upkeep.KeepsUp, Upkeep.w
 use Rattle.mc_script.specs.declared.{outcome.Outcome.Outcome, upkeep.Keeper.Keeper, upkeep.Keeper.TheVariants.Maintainer, upkeep.Keeper.TheVariants.Crawler}
 use Rattle.mc_script.specs.declared.outcome.Outcome.TheVariants as outcomes
 use Rattle.mc_store.specs.Finals.{FinalView}
-use Rattle.mc_driver.specs.{Called.AreByCallers, Called.AreWholeTurns, Called.HasCalls, Called.HasNoPlace, Stand.AreItsCalls, Stand.Histories}
+use Rattle.mc_driver.specs.{Called.AreByCallers, Called.AreItsCalls, Called.AreWholeTurns, Called.HasNoPlace, Stand.Histories}
 use Rattle.mc_driver.specs.Run.{IsStore, callers_at_work, histories_left, limits_of}
 
--- what holds after upkeep at these moments with this outcome: the histories have its calls in turn, and no command of its caller
+-- what holds after upkeep at these moments with this outcome: the histories have its calls in turn, and nothing else of its caller
 abbrev pub IsKeptUp : Keeper → Config → List ℕ → ℕ → Outcome → Histories → Type 0
 IsKeptUp keeper config moments caller outcome histories =
     KeepsUp outcome (limits_of config) (work_of keeper moments) (AreItsCalls config caller histories) caller
@@ -37,8 +37,7 @@ module _ {S K : Type 0} (coming : S → List ℕ) (reads : S → ℕ) (taken : K
         → HasNoPlace config i (histories_left final)
     pub whole : (i : ℕ) (outcome : Outcome) → i < length scripts + 2 → slice_index_or ended i outcome ≡ outcomes.Done
         → AreWholeTurns config i (histories_left final)
-    pub called : (i : ℕ) → i < length scripts + 2 → HasCalls config i (histories_left final)
-    pub by : AreByCallers config.stripes (callers_at_work (length scripts) moments) (histories_left final)
+    pub by : AreByCallers config (callers_at_work (length scripts) moments) (histories_left final)
     pub many : length ended ≡ length scripts + 2
     pub pairs : length ends ≡ length scripts
     pub store : IsStore config final

@@ -17,7 +17,9 @@ use Rattle.mc_evidence.specs.{Refusals.WasTried, Setting.IsClass, Setting.site_i
 use Rattle.mc_crawl.specs.{CrawlCount.IsBalanced, Snapshot.links_of}
 use Rattle.mc_item.specs.Counts.{no_counts}
 use Rattle.mc_item.specs.declared.reply.Room.TheVariants as rooms
-use Rattle.mc_store.specs.{Crawls.AreLinksCounted, Crawls.HasReclaims, Earned.IsLastResort, Hits.AreAdvanced, Locked.setting_of, Sides.class_told}
+use Rattle.mc_store.specs.{Callers.HasNoneOf, Commands.LeadsUp, Crawls.AreLinksCounted, Crawls.HasReclaims, Earned.IsLastResort, Hits.AreAdvanced}
+use Rattle.mc_store.specs.{Locked.setting_of, Sides.class_told}
+use Rattle.mc_stripe.specs.StripeState.{Stripe, stripe}
 
 -- an answered command as an exchange, without its room (the link or the refusal that it was given)
 abbrev pub exchange_of : Did → Exchange
@@ -41,15 +43,23 @@ answered_command who command moment reply room = record { who = who; command = c
 abbrev pub answered_event : Who → Command → ℕ → Reply → Room → StripeEvent
 answered_event who command moment reply room = events.Did (answered_command who command moment reply room)
 
--- a stripe's history has this answered command after what was seen of it. If it cites a refusal, the class's history has that
--- one, by the same call, made not at once but after all rounds of a search
+-- the stripe with this number in a configuration, with this history
+abbrev pub stripe_with : Config → ℕ → List StripeEvent → Stripe
+stripe_with config number history = stripe (site_in (setting_of config) number) config.max_events config.keeps_events history 0
+
+-- a stripe's history has this answered command after what was seen of it: older events, none of them of this call, then just what
+-- leads up to the command, then its answer. If that cites a refusal, the class's history has that one, by the same call, made not
+-- at once but after all rounds of a search
 pub record NotesCommand (config : Config) (number : ℕ) (seen history : List StripeEvent) (classes : ClassNo
     → List ClassEvent) (who : Who) (command : Command) (moment : ℕ) (reply : Reply) : Type 0 where
-  pub before : List StripeEvent
+  pub older : List StripeEvent
+  pub made : List StripeEvent
   pub room : Room
   pub behind : List StripeEvent
-  pub past : IsPrefix seen before
-  pub split : history ≡ before ++ answered_event who command moment reply room ∷ behind
+  pub past : IsPrefix seen older
+  pub first : HasNoneOf who older
+  pub led_up : LeadsUp config who command moment (stripe_with config number older) made
+  pub split : history ≡ (older ++ made) ++ answered_event who command moment reply room ∷ behind
   pub earned : (class : ClassNo) → IsClass (setting_of config) class
       → WasTried (site_in (setting_of config) number) class (classes class) (answered_command who command moment reply room)
   pub last : (class : ClassNo) (place : ℕ) → IsClass (setting_of config) class → room ≡ rooms.Refused class place

@@ -103,8 +103,3 @@ calls_by caller history = filter (λ call. nat_eq call.who.caller caller) (excha
 -- each stripe's history notes, of this caller, just those of these calls that are commands on that stripe
 pub record AreOnly (stripes caller : ℕ) (histories : Histories) (calls : List Exchange) : Type 0 where
   pub at : (number : ℕ) → number < stripes → calls_by caller (histories.stripes number) ≡ calls_at stripes number calls
-
--- what is known of a caller's calls: the histories have them in turn, and the stripes have no other commands of that caller
-pub record AreItsCalls (config : Config) (caller : ℕ) (histories : Histories) (calls : List Exchange) : Type 0 where
-  pub stand : Stand config nothing_seen histories calls
-  pub only : AreOnly config.stripes caller histories calls

@@ -48,7 +48,7 @@ impl<'a, N: Named> Calls for Caller<'a, N> {
 
     ghost turn = { λ s. s.pass.turn };
 
-    ghost notes = { λ s calls. AreNoted N.config s.pass calls };
+    ghost notes = { λ s. AreNoted N.config s.pass };
 
     ghost is_full = { λ s. HasSeenShort N.config s.pass.sight ⊎ (N.config.max_events ≤ length (turns_of s.pass.calls)) };
 

@@ -1,10 +1,11 @@
 //! The whole program, over any reader and writers.
-ghost use Rattle.std.specs.Prelude.{◌≡◌, ◌≢◌, ◌≤◌, ◌<◌, ◌^◌, ◌⊎◌, IsTrue, ◌↔◌, []};
-ghost use Rattle.std.specs.{List.All, List.flat_map, Io.KnownBytes.Keeps};
+ghost use Rattle.std.specs.Prelude.{◌≡◌, ◌≢◌, ◌≤◌, ◌<◌, ◌^◌, ◌⊎◌, []};
+ghost use Rattle.std.specs.{List.All, List.flat_map, Io.KnownBytes.Appends, Io.KnownBytes.Keeps};
 ghost use Rattle.clap.specs.Words.{kind_of};
 ghost use Rattle.clap.specs.Walk.{texts};
 ghost use Rattle.clap.specs.declared.error.kind.ErrorKind.TheVariants.{DisplayHelp, DisplayVersion, OutOfMemory};
 ghost use Rattle.mc_item.specs.Config.{IsSound};
+ghost use Rattle.mc_proto.specs.Gathered.{bytes_of_parts};
 ghost use Rattle.mc_script.specs.declared.outcome.Outcome.TheVariants.{Done};
 ghost use Rattle.mc_driver.specs.Input.{HasServed, IsInputAnswered, IsUnrun};
 ghost use Rattle.mc_driver.specs.Status.{AreForHelp, AreRefused, HasServedInPart, HasTooMany, IsAnsweredInPart, IsFirstFault, status_of};
@@ -13,8 +14,10 @@ ghost use Rattle.mc_options.specs.Words.{refusals};
 
 use crate::cutting::{MOST_SCRIPTS, run_cut};
 use crate::fault::RunFault;
+use crate::memory::{Kept, Pieces};
 use crate::printing::print_scripts;
 use crate::reading::read_pieces;
+use crate::running::Run;
 use clap::Error;
 use clap::error::ErrorKind;
 use mc_options::{Plan, WordsFault, read_words};
@@ -129,6 +132,26 @@ fn say_fault<E: Write>(fault: RunFault, errors: &mut E) -> u8
     }
 }
 
+// After a run, prints what was answered, script by script, and returns the status. No status but 3 (reading or writing failed)
+// leaves a reply unwritten, whether memory ran out, a history was full, or all went well.
+fn print_answered<R: Wait, L: Ledger, W: Write, E: Write>(
+    run: &Run<Pieces, Kept<'_, R, L>>,
+    writer: &mut W,
+    errors: &mut E,
+) -> u8
+    ensures printed { result ≢ 3 → Appends (W.contents writer.old) (W.contents writer.new)
+        (flat_map (λ end. bytes_of_parts end.1.pieces.items) run.now.ends.items) }
+    ensures done { result ≡ 0 → All (λ outcome. outcome ≡ Done) run.now.outcomes.items }
+    ensures first { result ≡ 1 → IsFirstFault 1 run.now.outcomes.items }
+    ensures never { result ≢ 2 }
+    ensures few { result ≤ 3 }
+{
+    let Ok(()) = print_scripts(writer, run.ends.as_slice()) else {
+        return say_line(errors, OUTPUT, 3);
+    };
+    say_outcomes(run.outcomes.as_slice(), errors)
+}
+
 // Runs the scripts of an input, and prints their replies.
 fn run_input<R: Threads + Wait + Sync, L: Ledger + Send + Sync, W: Write, E: Write>(
     rt: &R,
@@ -160,10 +183,7 @@ fn run_input<R: Threads + Wait + Sync, L: Ledger + Send + Sync, W: Write, E: Wri
         Ok(run) => run,
         Err(fault) => return say_fault(fault, errors),
     };
-    let Ok(()) = print_scripts(writer, run.ends.as_slice()) else {
-        return say_line(errors, OUTPUT, 3);
-    };
-    let status = say_outcomes(run.outcomes.as_slice(), errors);
+    let status = print_answered(&run, writer, errors);
     // Freeing the store and the replies piece by piece costs time, and the process is about to end.
     mem::forget(run);
     status

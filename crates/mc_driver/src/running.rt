@@ -7,9 +7,9 @@ ghost use Rattle.mc_hits.specs.Views.{AreHands, tables_of};
 ghost use Rattle.mc_script.specs.Run.{AreCounted, Leaves};
 ghost use Rattle.mc_script.specs.declared.{outcome.Outcome.Outcome, upkeep.Keeper.TheVariants.Crawler, upkeep.Keeper.TheVariants.Maintainer};
 ghost use Rattle.mc_script.specs.declared.outcome.Outcome.TheVariants as outcomes;
-ghost use Rattle.mc_store.specs.{Finals.AreStripes, Locked.histories_for, Passes.PassView};
-ghost use Rattle.mc_driver.specs.Called.{AreByCallers, AreWholeTurns, HasCalls, HasNoPlace, IsCompared};
-ghost use Rattle.mc_driver.specs.{Left.AreKeepersDone, Left.IsKeptUp, Left.IsRunDone, Stand.AreItsCalls};
+ghost use Rattle.mc_store.specs.{Finals.AreClasses, Finals.AreStripes, Locked.histories_for, Passes.PassView};
+ghost use Rattle.mc_driver.specs.Called.{AreByCallers, AreItsCalls, AreWholeTurns, HasNoPlace, IsCompared};
+ghost use Rattle.mc_driver.specs.{Left.AreKeepersDone, Left.IsKeptUp, Left.IsRunDone};
 ghost use Rattle.mc_driver.specs.Run.{IsAccepted, IsRefused, IsStore, callers_at_work, histories_left, limits_of, with_callers};
 ghost use Rattle.mc_driver.specs.declared.fault.RunFault.TheVariants as faults;
 
@@ -63,6 +63,7 @@ fn checked(config: Config, scripts: usize) -> Result<Config, RunFault>
 fn compare_all<N: Named>(ledger: &mut Final, passes: &mut Vec<Pass<N>>)
     requires board { ledger.old.board ≡ N.board.table }
     requires stripes { AreStripes N.board.table N.config ledger.old.stripes }
+    requires classes { AreClasses N.board.table N.config ledger.old.classes }
     ensures same { ledger.new ≡ ledger.old }
     ensures compared { (k : ℕ) (p : PassView) → slice_get passes.old.items k ≡ Some p → IsCompared p ledger.old }
 {
@@ -150,7 +151,8 @@ pub fn run_scripts<S: Source + Send, K: Sink + Send, R: Threads + Wait + Sync>(
     ensures accepted { IfOk result (λ _. IsAccepted (length scripts.items) config) }
 
     // What each script leaves: the bytes still to come, what its sink took, its calls in the histories, and which side
-    // failed. Each call is there after all that the script had seen by then.
+    // failed. Each call is there after all that the script had seen by then. The script's own history has just these calls, with
+    // the one that broke off if one did, and each of its events on any stripe or class belongs to one of them.
     ensures leaves { IfOk result (λ run. (i : ℕ) (ends : S × K) (outcome : Outcome) → i < length scripts.items
         → Leaves (slice_index_or run.outcomes.items i outcome) (limits_of config)
         (S.coming (slice_index_or scripts.items i ends).0) (S.coming (slice_index_or run.ends.items i ends).0)
@@ -161,7 +163,8 @@ pub fn run_scripts<S: Source + Send, K: Sink + Send, R: Threads + Wait + Sync>(
         (S.failures (slice_index_or scripts.items i ends).0) (S.failures (slice_index_or run.ends.items i ends).0)
         (K.failures (slice_index_or scripts.items i ends).1) (K.failures (slice_index_or run.ends.items i ends).1)) }
 
-    // What upkeep leaves: the calls of maintainer and crawler at these moments, in turn. Without moments both are done.
+    // What upkeep leaves: the calls of maintainer and crawler at these moments, in turn, and no others, as for a script. Without
+    // moments both are done.
     ensures maintained { IfOk result (λ run. (outcome : Outcome)
         → IsKeptUp Maintainer (with_callers (length scripts.items) config) upkeep.now (length scripts.items)
         (slice_index_or run.outcomes.items (length scripts.items) outcome) (histories_left run.ledger)) }
@@ -172,17 +175,15 @@ pub fn run_scripts<S: Source + Send, K: Sink + Send, R: Threads + Wait + Sync>(
 
     // What holds of every caller, maintainer and crawler too. After `HistoryFull` some history has fewer than two places
     // left, or the caller has made `max_events` calls. If the caller is done, each of its events on any stripe has its call
-    // in the histories, at the same moment. However it ended, each of its events belongs to one of its calls, and the
-    // histories have all of these except perhaps the last. Nobody else made an event on a stripe.
+    // in the histories, at the same moment. Nobody else made an event.
     ensures full { IfOk result (λ run. (i : ℕ) (outcome : Outcome) → i < length scripts.items + 2
         → slice_index_or run.outcomes.items i outcome ≡ outcomes.HistoryFull
         → HasNoPlace (with_callers (length scripts.items) config) i (histories_left run.ledger)) }
     ensures whole { IfOk result (λ run. (i : ℕ) (outcome : Outcome) → i < length scripts.items + 2
         → slice_index_or run.outcomes.items i outcome ≡ outcomes.Done
         → AreWholeTurns (with_callers (length scripts.items) config) i (histories_left run.ledger)) }
-    ensures called { IfOk result (λ run. (i : ℕ) → i < length scripts.items + 2
-        → HasCalls (with_callers (length scripts.items) config) i (histories_left run.ledger)) }
-    ensures by { IfOk result (λ run. AreByCallers config.stripes (callers_at_work (length scripts.items) upkeep.now) (histories_left run.ledger)) }
+    ensures by { IfOk result (λ run. AreByCallers (with_callers (length scripts.items) config) (callers_at_work (length scripts.items) upkeep.now)
+        (histories_left run.ledger)) }
 
     // What is left: an outcome for each caller, a source and a sink for each script, and the store.
     ensures outcomes { IfOk result (λ run. length run.outcomes.items ≡ length scripts.items + 2) }

@@ -3,20 +3,20 @@ use Rattle.std.proofs.Common.{◌≡◌, ◌++◌, ◌∷◌, [], ℕ, List, Boo
 use Rattle.std.specs.Prelude.{◌&&◌, not, if◌then◌else◌, IsSomeAnd, OnErr, OnOk}
 use Rattle.std.proofs.lemmas.List.{append-nil}
 use Rattle.mc_item.specs.{Cache.Cache, Item.is_dead}
-use Rattle.mc_item.specs.declared.{class_event.ClassEvent.ClassEvent, class_event.Why.Why, config.Config.Config, fault.Fault.Fault, item.Item.Item, item.Who.Who, item.StripeNo.StripeNo}
-use Rattle.mc_item.specs.declared.{lists.Entry.Entry, lists.Seg.Seg}
+use Rattle.mc_item.specs.declared.{class_event.ClassEvent.ClassEvent, config.Config.Config, fault.Fault.Fault, item.Item.Item, item.Who.Who, item.StripeNo.StripeNo}
+use Rattle.mc_item.specs.declared.{lists.Entry.Entry}
 use Rattle.mc_item.specs.declared.class_event.Why.TheVariants as whys
 use Rattle.mc_item.specs.Measure.{stripe_of}
 use Rattle.mc_rule.specs.Lists.{lists_of}
 use Rattle.mc_segment.specs.{ClassCalls.Makes, ClassCalls.Stays, ClassCalls.surveyed_event, ClassState.ClassView, ClassState.with_room, Entries.entry_of}
 use Rattle.mc_stripe.specs.StripeState.{cache_now}
-use Rattle.mc_pull.specs.declared.{judge.Done.Done, judge.Judge.Judge, judge.Mode.Mode, looking.Answer.Answer, looking.Judged.Judged}
+use Rattle.mc_pull.specs.declared.{judge.Done.Done, judge.Judge.Judge, looking.Answer.Answer, looking.Judged.Judged}
 use Rattle.mc_pull.specs.declared.judge.Judge.TheVariants.{Walk, Dead, Hit}
 use Rattle.mc_pull.specs.declared.judge.Mode.TheVariants.{Plain, Evict, Force}
 use Rattle.mc_pull.specs.declared.judge.Done.TheVariants as done
 use Rattle.mc_pull.specs.Growth.{GainsEvents, GainsFor, NoneLooks, looks_for_chunk}
-use Rattle.mc_pull.specs.{Judgement.done_by, Judgement.done_of, Judgement.done_with, Judgement.has_link, Looks.IsJudgedIf, Looks.events_if, Outcome.cold_why}
-use Rattle.mc_pull.specs.{Outcome.is_due, Outcome.is_over, Outcome.outcome_of, Question.Question, Settled.class_with, Settled.cold_events, Settled.done_class_events}
+use Rattle.mc_pull.specs.{Judgement.done_by, Judgement.done_of, Judgement.done_with, Judgement.has_link, Looks.IsJudgedIf, Looks.events_if}
+use Rattle.mc_pull.specs.{Outcome.is_due, Outcome.is_over, Question.Question, Settled.class_with, Settled.cold_events, Settled.done_class_events}
 use Rattle.mc_pull.specs.Settled.{warm_events}
 use Rattle.mc_pull.specs.Walk.{Pull, Way, class_at, events_at, question_at}
 use Rattle.mc_pull.proofs.{OutcomeLemmas.Means, OutcomeLemmas.done_is, OutcomeLemmas.outcome_means}

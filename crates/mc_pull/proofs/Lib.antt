@@ -8,11 +8,14 @@ pub mod GrowthLemmas
 pub mod ChunkEventLemmas
 pub mod AdvanceLemmas
 pub mod WalkAnswerLemmas
+pub mod WalkRuleLemmas
 pub mod RoundLemmas
+pub mod BrokenLemmas
 pub mod SearchTriedLemmas
 pub mod NoStrangerLemmas
 pub mod OneStripeGateLemmas
 pub mod EventsLemmas
+pub mod SuitedLemmas
 mod ListedEntryLemmas
 mod NewVersionLemmas
 mod CallItemLemmas

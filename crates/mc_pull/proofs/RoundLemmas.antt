@@ -1,7 +1,7 @@
 -- One round more.
 use Rattle.std.proofs.Common.{suc, ◌≡◌, ℕ, ◌+◌, List, [], ◌++◌, Bool, true, false, inl, refl, sym, ap, ◌∙◌, subst, arith, append_assoc}
-use Rattle.mc_item.specs.declared.{class_event.ClassEvent.ClassEvent, lists.Seg.Seg, lists.Seg.TheVariants.Cold}
-use Rattle.mc_pull.specs.declared.{looking.Answer.Answer, judge.Mode.Mode, judge.Mode.TheVariants.Evict, pulled.Pulled.Pulled}
+use Rattle.mc_item.specs.declared.{class_event.ClassEvent.ClassEvent, lists.Seg.Seg, lists.Seg.TheVariants.Hot, lists.Seg.TheVariants.Cold}
+use Rattle.mc_pull.specs.declared.{looking.Answer.Answer, judge.Mode.Mode, judge.Mode.TheVariants.Evict, judge.Mode.TheVariants.Force, pulled.Pulled.Pulled}
 use Rattle.std.proofs.lemmas.List.{append-nil}
 use Rattle.mc_pull.specs.{Juggle.Juggling, Juggle.JuggleStep, Juggle.Adds, Juggle.IsJuggled, Pulled.sum_of, Pulled.did_something, Pulled.plus}
 use Rattle.mc_pull.specs.Rounds.{Rounds, Repeats, Walks, ForcesHot, IsRoomRound, is_free}
@@ -43,6 +43,22 @@ module _ (r : Rounds) (old mid : List Answer) (before between : List ClassEvent)
       cold_is = cold.2;
       hot_is = subst (λ (b : Bool). ForcesHot r b between [] between) (sym did) (refl, refl);
       answers = sym (append-nil cold.0);
+    },
+  )
+
+  pub room_hot : did_something pulled ≡ false → (new : List Answer) (after : List ClassEvent) (by_hot : Pulled) → Walked r Hot Force mid new between after by_hot → RoundMade r old new before after
+  room_hot none new after by_hot hot = (
+    cold.0 ++ hot.0,
+    hot.1 ∙ (ap (λ (ys : List Answer). ys ++ hot.0) cold.1 ∙ append_assoc old cold.0 hot.0),
+    record {
+      full = full;
+      cold = cold.0;
+      hot = hot.0;
+      between = between;
+      pulled = pulled;
+      cold_is = cold.2;
+      hot_is = subst (λ (b : Bool). ForcesHot r b between hot.0 after) (sym none) (by_hot, hot.2);
+      answers = refl;
     },
   )
 

@@ -6,12 +6,15 @@ pub mod Refusal
 pub mod Walker
 pub mod Looks
 pub mod Growth
+pub mod Suited
 pub mod Advance
 pub mod Pulled
 pub mod Walk
+pub mod WalkRule
 pub mod Rounds
 pub mod Tried
 pub mod Juggle
+pub mod Broken
 pub mod Lone
 pub mod Lent
 pub mod Parts

@@ -95,7 +95,8 @@ pub record IsWalk (p : Pull) (xs : List Answer) (history : List ClassEvent) (pul
   pub history_is : history ≡ (run p (start_of p) xs).history
   pub pulled_is : pulled ≡ (run p (start_of p) xs).pulled
 
--- a walk that a fault ended after these answers leaves this history
+-- a walk that a fault ended after these answers, when it was to look at one more entry, leaves this history
 pub record IsBrokenWalk (p : Pull) (xs : List Answer) (history : List ClassEvent) : Type 0 where
   pub along : IsAlong p (start_of p) xs
+  pub goes : is_going p (run p (start_of p) xs) ≡ true
   pub history_is : history ≡ (run p (start_of p) xs).history

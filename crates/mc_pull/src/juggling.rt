@@ -1,13 +1,14 @@
 //! Juggling: rounds of walks that go by one survey of the class.
 ghost use Rattle.std.specs.Prelude.{◌≡◌, ◌≤◌, ◌+◌, ◌++◌, ◌∷◌, [], ◌⊎◌, List, false, IfOk, IfErr, OnOk, OnErr};
-ghost use Rattle.mc_item.specs.declared.{config.Config.Config, lists.Seg.TheVariants.Temp};
-ghost use Rattle.mc_segment.specs.{ClassCalls.surveyed_event, ClassState.with_room};
+ghost use Rattle.mc_item.specs.declared.{config.Config.Config, lists.Seg.TheVariants.Temp, lists.Seg.TheVariants.Warm};
+ghost use Rattle.mc_segment.specs.{ClassCalls.surveyed_event, ClassCalls.MayEnd, ClassState.with_room};
 ghost use Rattle.mc_pull.specs.declared.{judge.Mode.TheVariants.Plain, looking.Answer.Answer};
 ghost use Rattle.mc_pull.specs.{Growth.GainsFor, Growth.KeepsSince, Pulled.none_pulled, Pulled.sum_of, Question.IsClassOf, Question.IsSurveyIn};
 ghost use Rattle.mc_pull.specs.{Refusal.MayFailAlone};
 ghost use Rattle.mc_pull.specs.{Rounds.rounds, Rounds.Walks, Settled.class_with, Walker.walker_of};
 ghost use Rattle.mc_pull.specs.Juggle.{juggling, survey_at, history_surveyed, KeepsSurveys, OutlastsSurveys, PullsWarm, IsJuggleRound, IsJuggled, JugglesTemp};
 ghost use Rattle.mc_pull.specs.Juggle.{JugglesRounds, IsJuggle};
+ghost use Rattle.mc_pull.specs.Broken.{BreaksWalk, BreaksRound, BreaksJuggled, BreaksTemp, BreaksRounds, BreaksJuggle};
 
 use crate::judge::Mode;
 use crate::looking::Gate;
@@ -36,6 +37,8 @@ fn pull_warm<G: Gate>(
     requires gate { G.serves gate.old config.now class.old }
     ensures walk { IfOk result (λ pulled. (xs : List Answer) × (G.answers gate.new ≡ G.answers gate.old ++ xs)
         × PullsWarm (rounds class.old who moment config.now) survey did class.old.history xs class.new.history pulled) }
+    ensures err { OnErr result ((xs : List Answer) × (G.answers gate.new ≡ G.answers gate.old ++ xs)
+        × (did ≡ false) × BreaksWalk (rounds class.old who moment config.now) Warm (Plain survey) class.old.history xs class.new.history) }
     ensures few { IfOk result (λ pulled. sum_of pulled ≤ 5) }
     ensures gains { GainsFor false class.old class.new }
     ensures fault { IfErr result (G.faults gate.new class.new) }
@@ -65,6 +68,8 @@ fn juggle_round<G: Gate>(
     requires gate { G.serves gate.old config.now class.old }
     ensures round { IfOk result (λ sum. (xs : List Answer) × (G.answers gate.new ≡ G.answers gate.old ++ xs)
         × IsJuggleRound (rounds class.old who moment config.now) survey class.old.history xs class.new.history sum) }
+    ensures err { OnErr result ((xs : List Answer) × (G.answers gate.new ≡ G.answers gate.old ++ xs)
+        × BreaksRound (rounds class.old who moment config.now) survey class.old.history xs class.new.history) }
     ensures few { IfOk result (λ sum. sum_of sum ≤ 15) }
     ensures gains { GainsFor false class.old class.new }
     ensures fault { IfErr result (G.faults gate.new class.new) }
@@ -97,6 +102,9 @@ fn juggle_rounds<G: Gate>(
     requires gate { G.serves gate.old config.now class.old }
     ensures juggled { IfOk result (λ sum. (xs : List Answer) × (G.answers gate.new ≡ G.answers gate.old ++ xs)
         × IsJuggled (IsJuggleRound (rounds class.old who moment config.now) survey) (juggling class.old.history total) xs (juggling class.new.history sum)) }
+    ensures err { OnErr result ((xs : List Answer) × (G.answers gate.new ≡ G.answers gate.old ++ xs)
+        × BreaksJuggled (IsJuggleRound (rounds class.old who moment config.now) survey) (BreaksRound (rounds class.old who moment config.now) survey)
+        (juggling class.old.history total) xs class.new.history) }
     ensures few { IfOk result (λ sum. sum_of sum ≤ 10000) }
     ensures gains { GainsFor false class.old class.new }
     ensures fault { IfErr result (G.faults gate.new class.new) }
@@ -133,6 +141,9 @@ fn temp_rounds<G: Gate>(
     ensures juggled { IfOk result (λ sum. (xs : List Answer) × (G.answers gate.new ≡ G.answers gate.old ++ xs)
         × IsJuggled (Walks (rounds class.old who moment config.now) Temp (Plain survey)) (juggling class.old.history none_pulled) xs
         (juggling class.new.history sum)) }
+    ensures err { OnErr result ((xs : List Answer) × (G.answers gate.new ≡ G.answers gate.old ++ xs)
+        × BreaksJuggled (Walks (rounds class.old who moment config.now) Temp (Plain survey))
+        (BreaksWalk (rounds class.old who moment config.now) Temp (Plain survey)) (juggling class.old.history none_pulled) xs class.new.history) }
     ensures few { IfOk result (λ sum. sum_of sum ≤ 2500) }
     ensures gains { GainsFor false class.old class.new }
     ensures fault { IfErr result (G.faults gate.new class.new) }
@@ -161,6 +172,7 @@ fn survey_class(class: &mut ClassState, who: Who, moment: u64) -> Result<Survey,
     ensures history { (config : Config) → OnOk result (class.new.history ≡ history_surveyed (rounds class.old who moment config) class.old.history) }
     ensures event { OnOk result (class.new ≡ class_with class.old (surveyed_event class.old who moment ∷ []) class.new.room) }
     ensures err { OnErr result (class.new ≡ with_room class.old class.new.room) }
+    ensures refusal { MayEnd class.old result }
     ensures fault { IfErr result (MayFailAlone class.new) }
     ensures gains { GainsFor false class.old class.new }
 {
@@ -182,6 +194,8 @@ fn juggle_temp<G: Gate>(
     requires outlasts { OutlastsSurveys G.serves }
     ensures temp { IfOk result (λ sum. (xs : List Answer) × (G.answers gate.new ≡ G.answers gate.old ++ xs)
         × JugglesTemp (rounds class.old who moment config.now) config.now.temp class.old.history xs (juggling class.new.history sum)) }
+    ensures err { IfErr result (λ fault. (xs : List Answer) × (G.answers gate.new ≡ G.answers gate.old ++ xs)
+        × BreaksTemp (rounds class.old who moment config.now) (G.faults gate.new class.new) fault config.now.temp class.old.history xs class.new.history) }
     ensures few { IfOk result (λ sum. sum_of sum ≤ 2500) }
     ensures gains { GainsFor false class.old class.new }
     ensures fault { IfErr result (λ fault. G.faults gate.new class.new fault ⊎ MayFailAlone class.new fault) }
@@ -213,6 +227,8 @@ fn juggle_rest<G: Gate>(
     requires outlasts { OutlastsSurveys G.serves }
     ensures rest { IfOk result (λ sum. (xs : List Answer) × (G.answers gate.new ≡ G.answers gate.old ++ xs)
         × JugglesRounds (rounds class.old who moment config.now) (juggling class.old.history total) xs (juggling class.new.history sum)) }
+    ensures err { IfErr result (λ fault. (xs : List Answer) × (G.answers gate.new ≡ G.answers gate.old ++ xs)
+        × BreaksRounds (rounds class.old who moment config.now) (G.faults gate.new class.new) fault (juggling class.old.history total) xs class.new.history) }
     ensures few { IfOk result (λ sum. sum_of sum ≤ 10000) }
     ensures gains { GainsFor false class.old class.new }
     ensures fault { IfErr result (λ fault. G.faults gate.new class.new fault ⊎ MayFailAlone class.new fault) }
@@ -243,6 +259,8 @@ pub fn juggle<G: Gate>(
     requires outlasts { OutlastsSurveys G.serves }
     ensures juggle { IfOk result (λ moves. (xs : List Answer) × (G.answers gate.new ≡ G.answers gate.old ++ xs)
         × IsJuggle (rounds class.old who moment config.now) class.old.history xs class.new.history moves) }
+    ensures err { IfErr result (λ fault. (xs : List Answer) × (G.answers gate.new ≡ G.answers gate.old ++ xs)
+        × BreaksJuggle (rounds class.old who moment config.now) (G.faults gate.new class.new) fault class.old.history xs class.new.history) }
     ensures few { IfOk result (λ moves. moves.reclaimed + moves.moved ≤ 10000) }
     ensures gains { GainsFor false class.old class.new }
     ensures fault { IfErr result (λ fault. G.faults gate.new class.new fault ⊎ MayFailAlone class.new fault) }

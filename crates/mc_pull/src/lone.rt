@@ -1,7 +1,7 @@
 //! A gate that is lent one stripe, and reaches no other.
-ghost use Rattle.std.specs.Prelude.{◌≡◌, ◌≤◌, ◌+◌, ◌++◌, List, IfOk, IfErr};
+ghost use Rattle.std.specs.Prelude.{◌≡◌, ◌≤◌, ◌+◌, ◌++◌, List, IfOk, IfErr, OnErr};
 ghost use Rattle.mc_pull.specs.{Growth.GainsEvents, Juggle.IsJuggle, Lone.Serves, Lone.Walked, Question.IsClassOf, Refusal.MayFail, Rounds.rounds};
-ghost use Rattle.mc_pull.specs.{Rounds.IsRoom};
+ghost use Rattle.mc_pull.specs.{Rounds.IsRoom, Broken.BreaksRoom, Broken.BreaksJuggle};
 ghost use Rattle.mc_pull.specs.{Walker.walker_of};
 ghost use Rattle.mc_pull.specs.declared.looking.Answer.{Answer};
 
@@ -69,6 +69,8 @@ impl<'a> Lone<'a> {
         requires gate { Serves self.old.number.0 self.old.stripe.now config.now }
         ensures room { IfOk result (λ found. (xs : List Answer) × (self.new.answers.now.items ≡ self.old.answers.now.items ++ xs)
             × IsRoom (rounds class.old who moment config.now) class.old.history xs class.new.history found) }
+        ensures err { OnErr result ((xs : List Answer) × (self.new.answers.now.items ≡ self.old.answers.now.items ++ xs)
+            × BreaksRoom (rounds class.old who moment config.now) class.old.history xs class.new.history) }
         ensures fault { IfErr result (MayFail class.new self.new.stripe.now) }
         ensures grows { GainsEvents class.old class.new }
         ensures same_reference { self.new.stripe.ghost_name ≡ self.old.stripe.ghost_name }
@@ -91,6 +93,8 @@ impl<'a> Lone<'a> {
         requires gate { Serves self.old.number.0 self.old.stripe.now config.now }
         ensures juggle { IfOk result (λ moves. (xs : List Answer) × (self.new.answers.now.items ≡ self.old.answers.now.items ++ xs)
             × IsJuggle (rounds class.old who moment config.now) class.old.history xs class.new.history moves) }
+        ensures err { IfErr result (λ fault. (xs : List Answer) × (self.new.answers.now.items ≡ self.old.answers.now.items ++ xs)
+            × BreaksJuggle (rounds class.old who moment config.now) (MayFail class.new self.new.stripe.now) fault class.old.history xs class.new.history) }
         ensures few { IfOk result (λ moves. moves.reclaimed + moves.moved ≤ 10000) }
         ensures fault { IfErr result (MayFail class.new self.new.stripe.now) }
         ensures grows { GainsEvents class.old class.new }

@@ -1,7 +1,8 @@
 //! Rounds of walks that make room in a full class.
-ghost use Rattle.std.specs.Prelude.{◌≡◌, ◌++◌, List, false, IfOk, IfErr};
+ghost use Rattle.std.specs.Prelude.{◌≡◌, ◌++◌, List, false, IfOk, IfErr, OnErr};
 ghost use Rattle.mc_pull.specs.{Growth.GainsEvents, Growth.KeepsSince, Question.IsClassOf, Rounds.rounds, Rounds.IsRoomRound, Rounds.IsRoom, Walker.walker_of};
 ghost use Rattle.mc_pull.specs.Rounds as words;
+ghost use Rattle.mc_pull.specs.Broken.{BreaksRoomRound, BreaksRoom};
 ghost use Rattle.mc_pull.specs.declared.looking.Answer.{Answer};
 
 use crate::judge::Mode;
@@ -34,6 +35,8 @@ fn room_round<G: Gate>(
     requires gate { G.serves gate.old config.now class.old }
     ensures round { IfOk result (λ _. (xs : List Answer) × (G.answers gate.new ≡ G.answers gate.old ++ xs)
         × IsRoomRound (rounds class.old who moment config.now) class.old.history xs class.new.history) }
+    ensures err { OnErr result ((xs : List Answer) × (G.answers gate.new ≡ G.answers gate.old ++ xs)
+        × BreaksRoomRound (rounds class.old who moment config.now) class.old.history xs class.new.history) }
     ensures grows { GainsEvents class.old class.new }
     ensures fault { IfErr result (G.faults gate.new class.new) }
     ensures holds { G.references gate.new ≡ G.references gate.old }
@@ -80,6 +83,8 @@ pub fn make_room<G: Gate>(
     requires gate { G.serves gate.old config.now class.old }
     ensures room { IfOk result (λ found. (xs : List Answer) × (G.answers gate.new ≡ G.answers gate.old ++ xs)
         × IsRoom (rounds class.old who moment config.now) class.old.history xs class.new.history found) }
+    ensures err { OnErr result ((xs : List Answer) × (G.answers gate.new ≡ G.answers gate.old ++ xs)
+        × BreaksRoom (rounds class.old who moment config.now) class.old.history xs class.new.history) }
     ensures grows { GainsEvents class.old class.new }
     ensures fault { IfErr result (G.faults gate.new class.new) }
     ensures holds { G.references gate.new ≡ G.references gate.old }

@@ -3,8 +3,8 @@ use Rattle.std.proofs.Common.{◌≡◌, ◌+◌, ◌-◌, ◌<◌, ℕ, zero, s
 use Rattle.std.proofs.lemmas.List.{map-append}
 use Rattle.mc_item.specs.declared.{fault.Fault.Fault, item.ClassNo.ClassNo}
 use Rattle.mc_proto.specs.Answers.{Answer}
-use Rattle.mc_script.specs.{Calls.AddsCalls, Calls.Breaks, Calls.MakesCalls, Calls.SumsUp, Script.classes_from}
-use Rattle.mc_script.specs.Exchanges.{ScriptCall, Exchange, IsOfKind, exchange}
+use Rattle.mc_script.specs.{Calls.AddsCalls, Calls.Breaks, Calls.BreaksOff, Calls.MakesCalls, Calls.Notes, Calls.SumsUp, Script.classes_from}
+use Rattle.mc_script.specs.Exchanges.{ScriptCall, IsOfKind, exchange}
 use Rattle.mc_script.proofs.MadeCallLemmas.{breaks_first, breaks_later, makes_both, makes_one}
 
 -- classes from one on, and those behind them
@@ -31,7 +31,7 @@ classes_from-split first n all below =
 
 -- the call of one class more was made
 pub class_more : {S : Type 0} (call : ClassNo → ScriptCall) (sum_of : List Answer
-    → S) (first n : ℕ) (sums sums' : S) (answer : Answer) (caller caller' turn turn' turn'' moment : ℕ) (notes notes' notes'' : List Exchange → Type 0)
+    → S) (first n : ℕ) (sums sums' : S) (answer : Answer) (caller caller' turn turn' turn'' moment : ℕ) (notes notes' notes'' : Notes)
     → (so_far : SumsUp call sum_of (classes_from first n) sums caller turn turn' moment notes notes') → sums' ≡ sum_of (so_far.answers ++ answer ∷ [])
     → caller' ≡ caller → IsOfKind (call (record { 0 = first + n })) answer
     → AddsCalls notes' notes'' (exchange caller' turn' (call (record { 0 = first + n })) moment answer ∷ []) → turn'' ≡ turn' + 1
@@ -46,13 +46,13 @@ class_more call sum_of first n sums sums' answer caller caller' turn turn' turn'
     record { answers = answers ++ answer ∷ []; added = added; makes = subst (λ (cs : List ScriptCall). MakesCalls cs (so_far.answers ++ answer ∷ []) caller turn turn'' moment notes notes'') same_calls both }
 
 -- the call of a class failed behind those of others
-pub class_fails : {S : Type 0} (call : ClassNo → ScriptCall) (sum_of : List Answer → S) (first n all : ℕ) (fault : Fault) (sums : S) (caller caller' turn turn' moment : ℕ) (notes notes' notes'' : List Exchange → Type 0)
-    → n < all → SumsUp call sum_of (classes_from first n) sums caller turn turn' moment notes notes' → caller' ≡ caller → AddsCalls notes' notes'' []
+pub class_fails : {S : Type 0} (call : ClassNo → ScriptCall) (sum_of : List Answer → S) (first n all : ℕ) (fault : Fault) (sums : S) (caller caller' turn turn' moment : ℕ) (notes notes' notes'' : Notes)
+    → n < all → SumsUp call sum_of (classes_from first n) sums caller turn turn' moment notes notes' → caller' ≡ caller → BreaksOff notes' notes'' (call (record { 0 = first + n })) moment
     → Breaks fault (map call (classes_from first all)) caller turn moment notes notes''
-class_fails call sum_of first n all fault sums caller caller' turn turn' moment notes notes' notes'' below so_far same none =
+class_fails call sum_of first n all fault sums caller caller' turn turn' moment notes notes' notes'' below so_far same off =
     let here = call (record { 0 = first + n }) in
     let later = map call (classes_from (first + n + 1) (all - (n + 1))) in
     let made = breaks_later fault (map call (classes_from first n)) (here ∷ []) later so_far.answers caller caller' turn turn' moment notes notes' notes'' so_far.makes same
-    (breaks_first fault here [] caller' turn' moment notes' notes'' none) in
+    (breaks_first fault here [] caller' turn' moment notes' notes'' off) in
     subst (λ (cs : List ScriptCall). Breaks fault cs caller turn moment notes notes'')
     (sym (ap (map call) (classes_from-split first n all below) ∙ map-append call (classes_from first n) (record { 0 = first + n } ∷ classes_from (first + n + 1) (all - (n + 1))))) made

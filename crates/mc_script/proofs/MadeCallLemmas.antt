@@ -1,5 +1,6 @@
 -- Calls that were made, one behind the other, and a get, key by key.
-use Rattle.std.proofs.Common.{◌≡◌, ◌+◌, ◌≤◌, ℕ, List, [], ◌∷◌, ◌++◌, refl, sym, ap, ◌∙◌, append_assoc, append-nil, length, arith, Bool, length-append, map, take, subst}
+use Rattle.std.proofs.Common.{◌≡◌, ◌+◌, ◌≤◌, ℕ, zero, suc, List, [], ◌∷◌, ◌++◌, refl, sym, ap, ◌∙◌, append_assoc, append-nil, length, arith, Bool, length-append, map, take, drop, subst}
+use Rattle.std.specs.Prelude.{Option, None, Some}
 use Rattle.std.proofs.lemmas.List.{map-append}
 use Rattle.mc_item.specs.declared.command.Command.TheVariants as commands
 use Rattle.mc_item.specs.declared.{fault.Fault.Fault, reply.Reply.Reply}
@@ -7,19 +8,19 @@ use Rattle.mc_item.specs.declared.fault.Fault.TheVariants as faults
 use Rattle.mc_proto.specs.{Answers.Answer, Answers.Replied, Answers.replies_of, Text.end_text, Text.value_text, Text.values_text}
 use Rattle.mc_proto.specs.declared.request.Limits.{Limits}
 use Rattle.mc_proto.specs.declared.request.Request.TheVariants as requests
-use Rattle.mc_script.specs.Calls.{AddsCalls, Answers, AnswersKey, Begins, Breaks, Fails, FailsKey, IsPart, MakesCalls}
-use Rattle.mc_script.specs.Exchanges.{AreAnswers, Asks, ScriptCall, Exchange, IsOfKind, exchange, exchanges}
+use Rattle.mc_script.specs.Calls.{AddsCalls, Answers, AnswersKey, AreCutOff, Begins, Breaks, BreaksOff, Fails, FailsKey, IsPart, MakesCalls, Notes}
+use Rattle.mc_script.specs.Exchanges.{AreAnswers, Asks, Begun, ScriptCall, Exchange, IsOfKind, MayBegin, exchange, exchanges}
 
 -- nothing was added
-pub adds_none : (notes : List Exchange → Type 0) → AddsCalls notes notes []
-adds_none notes = record { at = λ calls by. subst notes (sym (append-nil calls)) by }
+pub adds_none : (notes : Notes) → AddsCalls notes notes []
+adds_none notes = record { at = λ calls by. subst (λ (t : List Exchange). notes t None) (sym (append-nil calls)) by }
 
 -- some calls were added, and then others
-pub adds_both : (a b c : List Exchange → Type 0) (xs ys : List Exchange) → AddsCalls a b xs → AddsCalls b c ys → AddsCalls a c (xs ++ ys)
-adds_both a b c xs ys first second = record { at = λ calls by. subst c (append_assoc calls xs ys) (second.at (calls ++ xs) (first.at calls by)) }
+pub adds_both : (a b c : Notes) (xs ys : List Exchange) → AddsCalls a b xs → AddsCalls b c ys → AddsCalls a c (xs ++ ys)
+adds_both a b c xs ys first second = record { at = λ calls by. subst (λ (t : List Exchange). c t None) (append_assoc calls xs ys) (second.at (calls ++ xs) (first.at calls by)) }
 
 -- the same list was added
-pub adds_same : (a b : List Exchange → Type 0) (xs ys : List Exchange) → xs ≡ ys → AddsCalls a b xs → AddsCalls a b ys
+pub adds_same : (a b : Notes) (xs ys : List Exchange) → xs ≡ ys → AddsCalls a b xs → AddsCalls a b ys
 adds_same a b xs ys same by = subst (λ (t : List Exchange). AddsCalls a b t) same by
 
 -- calls that were answered, and those behind them, as far as there are answers
@@ -70,11 +71,11 @@ AreAnswers-front (c ∷ cs) others [] are = tt
 AreAnswers-front (c ∷ cs) others (a ∷ bs) are = (are.0, AreAnswers-front cs others bs are.1)
 
 -- no calls were made
-pub makes_none : (caller turn moment : ℕ) (notes : List Exchange → Type 0) → MakesCalls [] [] caller turn turn moment notes notes
+pub makes_none : (caller turn moment : ℕ) (notes : Notes) → MakesCalls [] [] caller turn turn moment notes notes
 makes_none caller turn moment notes = record { long = refl; kinds = tt; noted = adds_none notes; turns = omega arith }
 
 -- some calls were made, and then others
-pub makes_both : (calls others : List ScriptCall) (answers more : List Answer) (caller caller' turn turn' turn'' moment : ℕ) (notes notes' notes'' : List Exchange → Type 0)
+pub makes_both : (calls others : List ScriptCall) (answers more : List Answer) (caller caller' turn turn' turn'' moment : ℕ) (notes notes' notes'' : Notes)
     → MakesCalls calls answers caller turn turn' moment notes notes' → caller' ≡ caller → MakesCalls others more caller' turn' turn'' moment notes' notes''
     → MakesCalls (calls ++ others) (answers ++ more) caller turn turn'' moment notes notes''
 makes_both calls others answers more caller caller' turn turn' turn'' moment notes notes' notes'' first same second = record {
@@ -98,11 +99,26 @@ pub part_few : (fault : Fault) (n m : ℕ) → IsPart fault n m → n ≤ m
 part_few faults.NoMemory n m part = part
 part_few faults.HistoryFull n m part = omega arith
 
--- some calls were made, and then one failed of those behind them
-pub breaks_later : (fault : Fault) (calls others further : List ScriptCall) (answers : List Answer) (caller caller' turn turn' moment : ℕ) (notes notes' notes'' : List Exchange → Type 0)
-    → MakesCalls calls answers caller turn turn' moment notes notes' → caller' ≡ caller → Breaks fault others caller' turn' moment notes' notes''
-    → Breaks fault (calls ++ (others ++ further)) caller turn moment notes notes''
-breaks_later fault calls others further answers caller caller' turn turn' moment notes notes' notes'' first same second =
+-- a call that may begin among some may begin among these and others
+may_begin_front : (begun : Option Begun) (n : ℕ) (calls others : List ScriptCall) (moment : ℕ) → MayBegin begun (drop n calls) moment → MayBegin begun (drop n (calls ++ others)) moment
+may_begin_front None n calls others moment may = tt
+may_begin_front (Some b) zero [] others moment may = absurd may
+may_begin_front (Some b) zero (c ∷ cs) others moment may = may
+may_begin_front (Some b) (suc n) [] others moment may = absurd may
+may_begin_front (Some b) (suc n) (c ∷ cs) others moment may = may_begin_front (Some b) n cs others moment may
+
+-- what is left of calls when some were answered, and then more of them
+drop_both : (calls others : List ScriptCall) (answers more : List Answer) → length answers ≡ length calls → drop (length more) others ≡ drop (length (answers ++ more)) (calls ++ others)
+drop_both [] others [] more long = refl
+drop_both [] others (a ∷ bs) more long = absurd (omega arith)
+drop_both (c ∷ cs) others [] more long = absurd (omega arith)
+drop_both (c ∷ cs) others (a ∷ bs) more long = drop_both cs others bs more (omega arith)
+
+-- some calls were made, and then the later ones were cut off
+cut_later : (fault : Fault) (calls others further : List ScriptCall) (answers : List Answer) (caller turn turn' moment : ℕ) (before : List Exchange) (notes notes' notes'' : Notes)
+    → MakesCalls calls answers caller turn turn' moment notes notes' → AreCutOff fault others caller turn' moment (before ++ exchanges caller turn moment calls answers) notes''
+    → AreCutOff fault (calls ++ (others ++ further)) caller turn moment before notes''
+cut_later fault calls others further answers caller turn turn' moment before notes notes' notes'' first second =
     let long : length (calls ++ (others ++ further)) ≡ length calls + (length others + length further) =
     omega (arith, length-append calls (others ++ further), length-append others further) in
     record {
@@ -110,36 +126,74 @@ breaks_later fault calls others further answers caller caller' turn turn' moment
       part = subst (λ (n : ℕ). IsPart fault n (length (calls ++ (others ++ further)))) (sym (length-append answers second.answers))
           (part_more fault (length second.answers) (length answers) (length others) (length (calls ++ (others ++ further))) second.part (omega (arith, first.long, long)));
       kinds = AreAnswers-append calls (others ++ further) answers second.answers first.long first.kinds (AreAnswers-front others further second.answers second.kinds);
-      noted = adds_same notes notes'' _ _
-          (ap (λ (n : ℕ). exchanges caller turn moment calls answers ++ exchanges n turn' moment others second.answers) same
-          ∙ ap (λ (n : ℕ). exchanges caller turn moment calls answers ++ exchanges caller n moment others second.answers) first.turns
-          ∙ ap (λ (t : List Exchange). exchanges caller turn moment calls answers ++ t)
-          (exchanges-front caller (turn + length calls) moment others further second.answers
-          (part_few fault (length second.answers) (length others) second.part))
-          ∙ sym (exchanges-append caller turn moment calls (others ++ further) answers second.answers first.long))
-          (adds_both notes notes' notes'' (exchanges caller turn moment calls answers) (exchanges caller' turn' moment others second.answers) first.noted second.noted);
+      begun = second.begun;
+      next = subst (λ (cs : List ScriptCall). MayBegin second.begun cs moment) (drop_both calls (others ++ further) answers second.answers first.long)
+          (may_begin_front second.begun (length second.answers) others further moment second.next);
+      noted = subst (λ (t : List Exchange). notes'' t second.begun)
+          (append_assoc before (exchanges caller turn moment calls answers) (exchanges caller turn' moment others second.answers)
+          ∙ ap (λ (t : List Exchange). before ++ (exchanges caller turn moment calls answers ++ t))
+          (ap (λ (n : ℕ). exchanges caller n moment others second.answers) first.turns
+          ∙ exchanges-front caller (turn + length calls) moment others further second.answers (part_few fault (length second.answers) (length others) second.part))
+          ∙ ap (λ (t : List Exchange). before ++ t) (sym (exchanges-append caller turn moment calls (others ++ further) answers second.answers first.long)))
+          second.noted;
+    }
+
+-- some calls were made, and then one failed of those behind them
+pub breaks_later : (fault : Fault) (calls others further : List ScriptCall) (answers : List Answer) (caller caller' turn turn' moment : ℕ) (notes notes' notes'' : Notes)
+    → MakesCalls calls answers caller turn turn' moment notes notes' → caller' ≡ caller → Breaks fault others caller' turn' moment notes' notes''
+    → Breaks fault (calls ++ (others ++ further)) caller turn moment notes notes''
+breaks_later fault calls others further answers caller caller' turn turn' moment notes notes' notes'' first same second =
+    let second' = subst (λ (n : ℕ). Breaks fault others n turn' moment notes' notes'') same second in
+    record {
+      at = λ before by. cut_later fault calls others further answers caller turn turn' moment before notes notes' notes'' first
+          (second'.at (before ++ exchanges caller turn moment calls answers) (first.noted.at before by));
     }
 
 -- all calls were made, and then there was no memory for the text
-pub breaks_end : (calls : List ScriptCall) (answers : List Answer) (caller turn turn' moment : ℕ) (notes notes' : List Exchange → Type 0)
+pub breaks_end : (calls : List ScriptCall) (answers : List Answer) (caller turn turn' moment : ℕ) (notes notes' : Notes)
     → MakesCalls calls answers caller turn turn' moment notes notes' → Breaks faults.NoMemory calls caller turn moment notes notes'
-breaks_end calls answers caller turn turn' moment notes notes' all = record { answers = answers; part = omega (arith, all.long); kinds = all.kinds; noted = all.noted }
+breaks_end calls answers caller turn turn' moment notes notes' all = record {
+  at = λ before by. record { answers = answers; part = omega (arith, all.long); kinds = all.kinds; begun = None; next = tt; noted = all.noted.at before by };
+}
 
 -- one call was made
-pub makes_one : (call : ScriptCall) (answer : Answer) (caller turn turn' moment : ℕ) (notes notes' : List Exchange → Type 0) → IsOfKind call answer
+pub makes_one : (call : ScriptCall) (answer : Answer) (caller turn turn' moment : ℕ) (notes notes' : Notes) → IsOfKind call answer
     → AddsCalls notes notes' (exchange caller turn call moment answer ∷ []) → turn' ≡ turn + 1 → MakesCalls (call ∷ []) (answer ∷ []) caller turn turn' moment notes notes'
 makes_one call answer caller turn turn' moment notes notes' kind noted next = record { long = refl; kinds = (kind, tt); noted = noted; turns = next }
 
+-- no call is a part of one call and more
+part_first : (fault : Fault) (more : ℕ) → IsPart fault 0 (suc more)
+part_first faults.NoMemory more = omega arith
+part_first faults.HistoryFull more = omega arith
+
 -- the first call failed
-pub breaks_first : (fault : Fault) (call : ScriptCall) (calls : List ScriptCall) (caller turn moment : ℕ) (notes notes' : List Exchange → Type 0)
-    → AddsCalls notes notes' [] → Breaks fault (call ∷ calls) caller turn moment notes notes'
-breaks_first faults.NoMemory call calls caller turn moment notes notes' none = record { answers = []; part = omega arith; kinds = tt; noted = none }
-breaks_first faults.HistoryFull call calls caller turn moment notes notes' none = record { answers = []; part = omega arith; kinds = tt; noted = none }
+pub breaks_first : (fault : Fault) (call : ScriptCall) (calls : List ScriptCall) (caller turn moment : ℕ) (notes notes' : Notes)
+    → BreaksOff notes notes' call moment → Breaks fault (call ∷ calls) caller turn moment notes notes'
+breaks_first fault call calls caller turn moment notes notes' off = record {
+  at = λ before by.
+      let b = off.at before by in
+      record {
+        answers = [];
+        part = part_first fault (length calls);
+        kinds = tt;
+        begun = b.0;
+        next = may_begin_front b.0 0 (call ∷ []) calls moment b.1;
+        noted = subst (λ (t : List Exchange). notes' t b.0) (sym (append-nil before)) b.2;
+      };
+}
 
 -- no call was made, and then there was no memory for the text
-pub breaks_none : (calls : List ScriptCall) (caller turn moment : ℕ) (notes notes' : List Exchange → Type 0) → AddsCalls notes notes' [] → Breaks faults.NoMemory calls caller turn moment notes notes'
-breaks_none calls caller turn moment notes notes' none =
-    record { answers = []; part = omega arith; kinds = AreAnswers-none calls; noted = adds_same notes notes' [] _ (sym (exchanges-none caller turn moment calls)) none }
+pub breaks_none : (calls : List ScriptCall) (caller turn moment : ℕ) (notes : Notes) → Breaks faults.NoMemory calls caller turn moment notes notes
+breaks_none calls caller turn moment notes = record {
+  at = λ before by. record {
+    answers = [];
+    part = omega arith;
+    kinds = AreAnswers-none calls;
+    begun = None;
+    next = tt;
+    noted = subst (λ (t : List Exchange). notes t None) (sym (append-nil before) ∙ ap (λ (t : List Exchange). before ++ t) (sym (exchanges-none caller turn moment calls))) by;
+  };
+}
 
 -- one key more is printed last
 pub values_text-push : (with_cas : Bool) (keys : List (List ℕ)) (replies : List Reply) (key : List ℕ) (reply : Reply) → length replies ≡ length keys
@@ -179,14 +233,14 @@ replies_of-map [] = refl
 replies_of-map (r ∷ rs) = ap (λ (t : List Reply). r ∷ t) (replies_of-map rs)
 
 -- so far these keys of a get were answered
-pub record HasKeys (keys : List (List ℕ)) (with_cas : Bool) (caller turn turn' moment : ℕ) (notes notes' : List Exchange → Type 0) (text text' : List ℕ) : Type 0 where
+pub record HasKeys (keys : List (List ℕ)) (with_cas : Bool) (caller turn turn' moment : ℕ) (notes notes' : Notes) (text text' : List ℕ) : Type 0 where
   pub replies : List Reply
   pub long : length replies ≡ length keys
   pub texts : text' ≡ text ++ values_text with_cas keys replies
   pub makes : MakesCalls (map (λ key. Asks (commands.Get key)) keys) (map Replied replies) caller turn turn' moment notes notes'
 
 -- none yet
-pub keys_none : (with_cas : Bool) (caller turn moment : ℕ) (notes : List Exchange → Type 0) (text : List ℕ) → HasKeys [] with_cas caller turn turn moment notes notes text text
+pub keys_none : (with_cas : Bool) (caller turn moment : ℕ) (notes : Notes) (text : List ℕ) → HasKeys [] with_cas caller turn turn moment notes notes text text
 keys_none with_cas caller turn moment notes text = record {
   replies = [];
   long = refl;
@@ -195,7 +249,7 @@ keys_none with_cas caller turn moment notes text = record {
 }
 
 -- one key more
-pub keys_more : (keys : List (List ℕ)) (key : List ℕ) (with_cas : Bool) (caller caller' turn turn' turn'' moment : ℕ) (notes notes' notes'' : List Exchange → Type 0) (text text' text'' : List ℕ)
+pub keys_more : (keys : List (List ℕ)) (key : List ℕ) (with_cas : Bool) (caller caller' turn turn' turn'' moment : ℕ) (notes notes' notes'' : Notes) (text text' text'' : List ℕ)
     → HasKeys keys with_cas caller turn turn' moment notes notes' text text' → caller' ≡ caller
     → AnswersKey key with_cas caller' turn' turn'' moment notes' notes'' text' text''
     → HasKeys (keys ++ key ∷ []) with_cas caller turn turn'' moment notes notes'' text text''
@@ -211,7 +265,7 @@ keys_more keys key with_cas caller caller' turn turn' turn'' moment notes notes'
     }
 
 -- all keys, and the end of the text
-pub keys_all : (all keys : List (List ℕ)) (with_cas : Bool) (caller turn turn' moment : ℕ) (notes notes' : List Exchange → Type 0) (text text' text'' : List ℕ)
+pub keys_all : (all keys : List (List ℕ)) (with_cas : Bool) (caller turn turn' moment : ℕ) (notes notes' : Notes) (text text' text'' : List ℕ)
     → all ≡ keys → HasKeys keys with_cas caller turn turn' moment notes notes' text text' → text'' ≡ text' ++ end_text
     → (limits : Limits) → Answers limits (requests.Get all with_cas) caller turn turn' moment notes notes' text text''
 keys_all all keys with_cas caller turn turn' moment notes notes' text text' text'' whole so_far last limits =
@@ -225,7 +279,7 @@ keys_all all keys with_cas caller turn turn' moment notes notes' text text' text
 
 -- one key failed behind others
 pub keys_fail : (all keys : List (List ℕ)) (key : List ℕ) (others : List (List ℕ)) (fault : Fault) (with_cas : Bool) (caller caller' turn turn' moment : ℕ)
-    (notes notes' notes'' : List Exchange → Type 0) (text text' : List ℕ)
+    (notes notes' notes'' : Notes) (text text' : List ℕ)
     → all ≡ keys ++ key ∷ others → HasKeys keys with_cas caller turn turn' moment notes notes' text text' → caller' ≡ caller
     → FailsKey fault key caller' turn' moment notes' notes''
     → (limits : Limits) → Fails fault limits (requests.Get all with_cas) caller turn moment notes notes''
@@ -236,7 +290,7 @@ keys_fail all keys key others fault with_cas caller caller' turn turn' moment no
     (subst (λ (cs : List ScriptCall). Breaks fault cs caller turn moment notes notes'') (sym (map-append asks keys (key ∷ others))) made)
 
 -- all keys were answered, and then there was no memory for the end of the text
-pub keys_end_fails : (all keys : List (List ℕ)) (with_cas : Bool) (caller turn turn' moment : ℕ) (notes notes' : List Exchange → Type 0) (text text' : List ℕ)
+pub keys_end_fails : (all keys : List (List ℕ)) (with_cas : Bool) (caller turn turn' moment : ℕ) (notes notes' : Notes) (text text' : List ℕ)
     → all ≡ keys → HasKeys keys with_cas caller turn turn' moment notes notes' text text' → (limits : Limits) → Fails faults.NoMemory limits (requests.Get all with_cas) caller turn moment notes notes'
 keys_end_fails all keys with_cas caller turn turn' moment notes notes' text text' whole so_far limits =
     subst (λ (ks : List (List ℕ)). Fails faults.NoMemory limits (requests.Get ks with_cas) caller turn moment notes notes') (sym whole)

@@ -4,7 +4,8 @@ use Rattle.mc_item.specs.declared.fault.Fault.{Fault}
 use Rattle.mc_item.specs.declared.fault.Fault.TheVariants as faults
 use Rattle.mc_proto.specs.{Answers.Answer, Answers.text_of, Grammar.IsModerate, Text.IsBeginning}
 use Rattle.mc_proto.specs.declared.{request.Limits.Limits, request.Request.Request}
-use Rattle.mc_script.specs.{Calls.Answers, Calls.Fails, Run.NoneEnds, Run.first_moment, Exchanges.Exchange, Exchanges.exchanges}
+use Rattle.std.specs.Prelude.{None}
+use Rattle.mc_script.specs.{Calls.Answers, Calls.AreCutOff, Calls.Fails, Calls.Notes, Run.NoneEnds, Run.first_moment, Exchanges.Exchange, Exchanges.exchanges}
 use Rattle.mc_script.specs.Progress.{AreModerate, Goes, HasAnswered, HasFailed, HasTorn, Went}
 use Rattle.mc_script.specs.Script.{Answered, AreWhole, IsAnsweredWhole, all_exchanges, answered, calls_of, ends, moment_after, moment_behind, requests_of, texts_of, turn_behind}
 use Rattle.mc_script.specs.declared.scripting.Progress.TheVariants as progress
@@ -49,7 +50,7 @@ exchanges_at limits caller turn moment before request answers turn_is moment_is 
     ap (λ (n : ℕ). exchanges caller n moment (calls_of limits request) answers) turn_is ∙ ap (λ (n : ℕ). exchanges caller (turn_behind limits 0 before) n (calls_of limits request) answers) moment_is
 
 -- a request more was answered, and its text gathered
-pub answered_more : (limits : Limits) (before : List Answered) (start taken text text' : List ℕ) (request : Request) (notes notes' : List Exchange → Type 0) (caller turn turn' moment moment' : ℕ)
+pub answered_more : (limits : Limits) (before : List Answered) (start taken text text' : List ℕ) (request : Request) (notes notes' : Notes) (caller turn turn' moment moment' : ℕ)
     → HasAnswered limits before start taken text notes caller turn moment → (by : Answers limits request caller turn turn' moment notes notes' text text') → moment' ≡ moment_after moment request
     → HasAnswered limits (before ++ answered request by.answers ∷ []) start taken text' notes' caller turn' moment'
 answered_more limits before start taken text text' request notes notes' caller turn turn' moment moment' has by next = record {
@@ -58,7 +59,8 @@ answered_more limits before start taken text text' request notes notes' caller t
   took = has.took;
   texts = ap (λ (t : List ℕ). has.printed ++ t) by.texts ∙ sym (append_assoc has.printed text (text_of request by.answers)) ∙ ap (λ (t : List ℕ). t ++ text_of request by.answers) has.texts
       ∙ sym (texts_of-push before (answered request by.answers));
-  notes_all = subst notes' (ap (λ (t : List Exchange). all_exchanges limits caller 0 first_moment before ++ t) (exchanges_at limits caller turn moment before request by.answers has.turn_is has.moment_is)
+  notes_all = subst (λ (t : List Exchange). notes' t None)
+      (ap (λ (t : List Exchange). all_exchanges limits caller 0 first_moment before ++ t) (exchanges_at limits caller turn moment before request by.answers has.turn_is has.moment_is)
       ∙ sym (all_exchanges-push limits caller 0 first_moment before (answered request by.answers)))
       (by.makes.noted.at (all_exchanges limits caller 0 first_moment before) has.notes_all);
   turn_is = by.makes.turns ∙ ap (λ (n : ℕ). n + length (calls_of limits request)) has.turn_is ∙ sym (turn_behind-push limits 0 before (answered request by.answers));
@@ -66,7 +68,7 @@ answered_more limits before start taken text text' request notes notes' caller t
 }
 
 -- a part of what is gathered was printed
-pub printed_more : (limits : Limits) (before : List Answered) (start taken text taken' text' : List ℕ) (notes : List Exchange → Type 0) (caller turn moment : ℕ)
+pub printed_more : (limits : Limits) (before : List Answered) (start taken text taken' text' : List ℕ) (notes : Notes) (caller turn moment : ℕ)
     → HasAnswered limits before start taken text notes caller turn moment
     → ((more : List ℕ) × (taken' ≡ taken ++ more) × (text ≡ more ++ text')) → HasAnswered limits before start taken' text' notes caller turn moment
 printed_more limits before start taken text taken' text' notes caller turn moment has by = record {
@@ -80,7 +82,7 @@ printed_more limits before start taken text taken' text' notes caller turn momen
 }
 
 -- a request failed behind these
-pub failed : (fault : Fault) (limits : Limits) (before : List Answered) (start taken text text' : List ℕ) (request : Request) (notes notes' : List Exchange → Type 0) (caller turn moment : ℕ)
+pub failed : (fault : Fault) (limits : Limits) (before : List Answered) (start taken text text' : List ℕ) (request : Request) (notes notes' : Notes) (caller turn moment : ℕ)
     → HasAnswered limits before start taken text notes caller turn moment → Fails fault limits request caller turn moment notes notes' → text' ≡ text → ends request ≡ false
     → HasFailed fault limits request before start taken text' notes' caller
 failed fault limits before start taken text text' request notes notes' caller turn moment has by same own = record {
@@ -89,15 +91,13 @@ failed fault limits before start taken text text' request notes notes' caller tu
   took = has.took;
   texts = ap (λ (t : List ℕ). has.printed ++ t) same ∙ has.texts;
   own = own;
-  answers = by.answers;
-  part = by.part;
-  kinds = by.kinds;
-  notes_part = subst notes' (ap (λ (t : List Exchange). all_exchanges limits caller 0 first_moment before ++ t) (exchanges_at limits caller turn moment before request by.answers has.turn_is has.moment_is))
-      (by.noted.at (all_exchanges limits caller 0 first_moment before) has.notes_all);
+  cut = subst (λ (n : ℕ). AreCutOff fault (calls_of limits request) caller (turn_behind limits 0 before) n (all_exchanges limits caller 0 first_moment before) notes') has.moment_is
+      (subst (λ (n : ℕ). AreCutOff fault (calls_of limits request) caller n moment (all_exchanges limits caller 0 first_moment before) notes') has.turn_is
+      (by.at (all_exchanges limits caller 0 first_moment before) has.notes_all));
 }
 
 -- the sink took only a beginning
-pub torn : (limits : Limits) (before : List Answered) (start taken text taken' : List ℕ) (notes : List Exchange → Type 0) (caller turn moment : ℕ)
+pub torn : (limits : Limits) (before : List Answered) (start taken text taken' : List ℕ) (notes : Notes) (caller turn moment : ℕ)
     → HasAnswered limits before start taken text notes caller turn moment → IsBeginning taken taken' text
     → HasTorn limits before start taken' notes caller
 torn limits before start taken text taken' notes caller turn moment has by = record {
@@ -122,7 +122,7 @@ NoneEnds-push [] request before not = (not, tt)
 NoneEnds-push (r ∷ rs) request before not = (before.0, NoneEnds-push rs request before.1 not)
 
 -- nothing was answered yet
-pub went_none : (limits : Limits) (before : List Answered) (start taken text : List ℕ) (notes : List Exchange → Type 0) (caller turn moment : ℕ) → HasAnswered limits before start taken text notes caller turn moment
+pub went_none : (limits : Limits) (before : List Answered) (start taken text : List ℕ) (notes : Notes) (caller turn moment : ℕ) → HasAnswered limits before start taken text notes caller turn moment
     → Went limits [] before start taken text notes caller turn moment
 went_none limits before start taken text notes caller turn moment has = record {
   added = [];
@@ -132,7 +132,7 @@ went_none limits before start taken text notes caller turn moment has = record {
 
 -- one request more was answered
 pub went_further : (limits : Limits) (yielded : List Request) (request : Request) (before : List Answered) (start taken text text' : List ℕ)
-    (notes notes' : List Exchange → Type 0) (caller caller' turn turn' moment moment' : ℕ)
+    (notes notes' : Notes) (caller caller' turn turn' moment moment' : ℕ)
     → Went limits yielded before start taken text notes caller turn moment → caller' ≡ caller → Answers limits request caller' turn turn' moment notes notes' text text' → moment' ≡ moment_after moment request
     → Went limits (yielded ++ request ∷ []) before start taken text' notes' caller turn' moment'
 went_further limits yielded request before start taken text text' notes notes' caller caller' turn turn' moment moment' went same by next =
@@ -145,8 +145,8 @@ went_further limits yielded request before start taken text text' notes notes' c
     }
 
 -- and some of what is gathered was printed
-pub went_printed : (limits : Limits) (yielded : List Request) (before : List Answered) (start taken text taken' text' : List ℕ) (notes : List Exchange
-    → Type 0) (caller turn moment : ℕ) → Went limits yielded before start taken text notes caller turn moment
+pub went_printed : (limits : Limits) (yielded : List Request) (before : List Answered) (start taken text taken' text' : List ℕ)
+    (notes : Notes) (caller turn moment : ℕ) → Went limits yielded before start taken text notes caller turn moment
     → ((more : List ℕ) × (taken' ≡ taken ++ more) × (text ≡ more ++ text')) → Went limits yielded before start taken' text' notes caller turn moment
 went_printed limits yielded before start taken text taken' text' notes caller turn moment went by = record {
   added = went.added;
@@ -156,7 +156,7 @@ went_printed limits yielded before start taken text taken' text' notes caller tu
 
 -- the script ended here
 pub goes_ended : (limits : Limits) (requests yielded : List Request) (request : Request) (rest : List Request) (before : List Answered)
-    (start taken text : List ℕ) (notes : List Exchange → Type 0) (caller turn moment : ℕ)
+    (start taken text : List ℕ) (notes : Notes) (caller turn moment : ℕ)
     → requests ≡ yielded ++ request ∷ rest → NoneEnds yielded → ends request ≡ true → Went limits yielded before start taken text notes caller turn moment
     → Goes progress.Ended limits requests before start taken text notes caller turn moment
 goes_ended limits requests yielded request rest before start taken text notes caller turn moment split own last went = record {
@@ -170,7 +170,7 @@ goes_ended limits requests yielded request rest before start taken text notes ca
 }
 
 -- all of the requests were answered
-pub goes_more : (limits : Limits) (requests yielded : List Request) (before : List Answered) (start taken text : List ℕ) (notes : List Exchange → Type 0) (caller turn moment : ℕ)
+pub goes_more : (limits : Limits) (requests yielded : List Request) (before : List Answered) (start taken text : List ℕ) (notes : Notes) (caller turn moment : ℕ)
     → requests ≡ yielded → NoneEnds yielded → Went limits yielded before start taken text notes caller turn moment → Goes progress.More limits requests before start taken text notes caller turn moment
 goes_more limits requests yielded before start taken text notes caller turn moment split own went = record {
   front = yielded;
@@ -184,7 +184,7 @@ goes_more limits requests yielded before start taken text notes caller turn mome
 
 -- a request failed for want of memory
 pub goes_memory : (limits : Limits) (requests yielded : List Request) (request : Request) (rest : List Request) (before : List Answered)
-    (start taken text text' : List ℕ) (notes notes' : List Exchange → Type 0) (caller caller' turn moment turn' moment' : ℕ)
+    (start taken text text' : List ℕ) (notes notes' : Notes) (caller caller' turn moment turn' moment' : ℕ)
     → requests ≡ yielded ++ request ∷ rest → NoneEnds yielded → ends request ≡ false → Went limits yielded before start taken text notes caller turn moment
     → caller' ≡ caller → Fails faults.NoMemory limits request caller' turn moment notes notes' → text' ≡ text → Goes progress.Memory limits requests before start taken text' notes' caller turn' moment'
 goes_memory limits requests yielded request rest before start taken text text' notes notes' caller caller' turn moment turn' moment' split own not went is by same = record {
@@ -200,7 +200,7 @@ goes_memory limits requests yielded request rest before start taken text text' n
 
 -- a request failed since the history is full
 pub goes_full : (limits : Limits) (requests yielded : List Request) (request : Request) (rest : List Request) (before : List Answered)
-    (start taken text text' : List ℕ) (notes notes' : List Exchange → Type 0) (caller caller' turn moment turn' moment' : ℕ)
+    (start taken text text' : List ℕ) (notes notes' : Notes) (caller caller' turn moment turn' moment' : ℕ)
     → requests ≡ yielded ++ request ∷ rest → NoneEnds yielded → ends request ≡ false → Went limits yielded before start taken text notes caller turn moment
     → caller' ≡ caller → Fails faults.HistoryFull limits request caller' turn moment notes notes' → text' ≡ text → Goes progress.Full limits requests before start taken text' notes' caller turn' moment'
 goes_full limits requests yielded request rest before start taken text text' notes notes' caller caller' turn moment turn' moment' split own not went is by same = record {
@@ -216,7 +216,7 @@ goes_full limits requests yielded request rest before start taken text text' not
 
 -- or the sink failed
 pub goes_torn : (limits : Limits) (requests yielded : List Request) (request : Request) (rest : List Request) (before : List Answered)
-    (start taken text taken' text' : List ℕ) (notes : List Exchange → Type 0) (caller turn moment turn' moment' : ℕ)
+    (start taken text taken' text' : List ℕ) (notes : Notes) (caller turn moment turn' moment' : ℕ)
     → requests ≡ yielded ++ request ∷ rest → NoneEnds (yielded ++ request ∷ []) → Went limits (yielded ++ request ∷ []) before start taken text notes caller turn moment
     → IsBeginning taken taken' text → Goes progress.Output limits requests before start taken' text' notes caller turn' moment'
 goes_torn limits requests yielded request rest before start taken text taken' text' notes caller turn moment turn' moment' split own went by = record {

@@ -1,18 +1,17 @@
 -- What a piece leaves: the script goes on, or ends there.
-use Rattle.std.proofs.Common.{◌≡◌, ℕ, List, [], ◌∷◌, ◌++◌, refl, sym, ap, ◌∙◌, append_assoc, append-nil, arith, Bool, subst, false, length}
-use Rattle.std.specs.Prelude.{if◌then◌else◌}
+use Rattle.std.proofs.Common.{◌≡◌, ℕ, List, [], ◌∷◌, ◌++◌, refl, sym, ap, ◌∙◌, append_assoc, append-nil, Bool, subst, false}
+use Rattle.std.specs.Prelude.{None, if◌then◌else◌}
 use Rattle.mc_item.specs.declared.fault.Fault.{Fault}
 use Rattle.mc_item.specs.declared.fault.Fault.TheVariants as faults
 use Rattle.mc_proto.specs.{Grammar.Reads, Text.IsBeginning}
 use Rattle.mc_proto.specs.declared.{request.Limits.Limits, request.Request.Request}
 use Rattle.mc_proto.proofs.{KeptRestLemmas.after_reads, StreamLemmas.stream_reads, StreamLemmas.reading_on}
-use Rattle.mc_script.specs.{Progress.EndsHere, Progress.FailsHere, Progress.Goes, Progress.AnswersWhole, Progress.HasAnswered, Progress.HasCome, Run.ArePartOf}
-use Rattle.mc_script.specs.{Run.first_moment, Run.HasBroken, Run.HasRead, Run.HasRun, Run.HasStopped, Run.NoneEnds, Exchanges.Exchange, Exchanges.exchanges}
+use Rattle.mc_script.specs.{Calls.Notes, Progress.EndsHere, Progress.FailsHere, Progress.Goes, Progress.AnswersWhole, Progress.HasAnswered, Progress.HasCome}
+use Rattle.mc_script.specs.Run.{HasBroken, HasEnded, HasRead, HasRun, HasStopped, MayBeCutOff, NoneEnds, first_moment}
 use Rattle.mc_script.specs.Script.{Answered, all_exchanges, calls_of, ends, moment_behind, own_requests, requests_of, texts_of, turn_behind}
 use Rattle.mc_script.specs.declared.scripting.Progress.{Progress}
 use Rattle.mc_script.specs.declared.scripting.Progress.TheVariants as progress
-use Rattle.mc_script.proofs.{MadeCallLemmas.AreAnswers-none, MadeCallLemmas.exchanges-none, MadeCallLemmas.part_few, ProgressLemmas.requests_of-append}
-use Rattle.mc_script.proofs.{ProgressLemmas.printed_more}
+use Rattle.mc_script.proofs.{MadeCallLemmas.breaks_none, ProgressLemmas.printed_more, ProgressLemmas.requests_of-append}
 
 -- requests none of which ends the script are its own, and so are those behind them
 own_requests-append : (front back : List Request) → NoneEnds front → own_requests (front ++ back) ≡ front ++ own_requests back
@@ -51,10 +50,12 @@ now_torn printed start taken text taken' texts took is by = (
 )
 
 -- no call of the next request was made
-part_none : (limits : Limits) (back : List Request) (caller turn moment : ℕ) → ArePartOf limits back caller turn moment []
-part_none limits [] caller turn moment = refl
-part_none limits (r ∷ rs) caller turn moment =
-    record { answers = []; part = omega arith; kinds = AreAnswers-none (calls_of limits r); are = sym (exchanges-none caller turn moment (calls_of limits r)) }
+cut_none : (limits : Limits) (back : List Request) (done : List Answered) (notes : Notes) (caller : ℕ) → notes (all_exchanges limits caller 0 first_moment done) None
+    → MayBeCutOff limits back done notes caller
+cut_none limits [] done notes caller all = all
+cut_none limits (r ∷ rs) done notes caller all =
+    let none = breaks_none (calls_of limits r) caller (turn_behind limits 0 done) (moment_behind first_moment done) notes in
+    (faults.NoMemory, none.at (all_exchanges limits caller 0 first_moment done) all)
 
 -- what was read, where the first of these requests were answered
 come_read : (limits : Limits) (bytes left : List ℕ) (done : List Answered) (added front back : List Request) (more : List Answered)
@@ -73,10 +74,10 @@ come_read limits bytes left done added front back more come split own asked =
           ∙ ap (λ (t : List Request). t ++ own_requests back) (sym (requests_of-append done more));
     }
 
--- the script ended in a piece
-pub piece_ended : (limits : Limits) (bytes left start taken text taken' : List ℕ) (notes : List Exchange → Type 0) (caller turn moment : ℕ) (done : List Answered) (added : List Request)
+-- all requests before the one that ends the script were answered
+abbrev piece_runs : (limits : Limits) (bytes left start taken text taken' : List ℕ) (notes : Notes) (caller turn moment : ℕ) (done : List Answered) (added : List Request)
     → HasCome limits bytes left done added → Goes progress.Ended limits added done start taken text notes caller turn moment → taken' ≡ taken ++ text → HasRun limits bytes start taken' notes caller
-piece_ended limits bytes left start taken text taken' notes caller turn moment done added come g out =
+piece_runs limits bytes left start taken text taken' notes caller turn moment done added come g out =
     let whole = stream_reads limits bytes in
     let on = reading_on limits come.came left come.after.rest whole.1 (come.requests ++ added) whole.0 come.after.spelt (subst (λ (t : List ℕ). Reads limits t whole.0 whole.1) come.split whole.2) in
     let cut_at : whole.0 ≡ come.requests ++ (g.front ++ (g.back ++ on.0)) =
@@ -95,8 +96,23 @@ piece_ended limits bytes left start taken text taken' notes caller turn moment d
       calls = g.state.1.notes_all;
     }
 
+-- the requests before the one that ends the script are those in what came
+read_ended : (limits : Limits) (bytes left : List ℕ) (answered : List Answered) (back : List Request) → HasRead limits bytes left (requests_of answered ++ own_requests back) → EndsHere back
+    → HasRead limits bytes left (requests_of answered)
+read_ended limits bytes left answered back read last =
+    let none : own_requests back ≡ [] = sym (ap own_requests (append-nil back)) ∙ own_requests-ends back [] last in
+    subst (HasRead limits bytes left) (ap (λ (t : List Request). requests_of answered ++ t) none ∙ append-nil (requests_of answered)) read
+
+-- the script ended in a piece
+pub piece_ended : (limits : Limits) (bytes left start taken text taken' : List ℕ) (notes : Notes) (caller turn moment : ℕ) (done : List Answered) (added : List Request)
+    → HasCome limits bytes left done added → Goes progress.Ended limits added done start taken text notes caller turn moment → taken' ≡ taken ++ text → HasEnded limits bytes left start taken' notes caller
+piece_ended limits bytes left start taken text taken' notes caller turn moment done added come g out = record {
+  run = piece_runs limits bytes left start taken text taken' notes caller turn moment done added come g out;
+  read = read_ended limits bytes left (done ++ g.added) g.back (come_read limits bytes left done added g.front g.back g.added come g.split g.own g.asked) g.state.0;
+}
+
 -- all requests of a piece were answered, and the script goes on
-pub piece_goes_on : (limits : Limits) (start taken text taken' text' : List ℕ) (notes : List Exchange → Type 0) (caller turn moment : ℕ) (done : List Answered) (added : List Request)
+pub piece_goes_on : (limits : Limits) (start taken text taken' text' : List ℕ) (notes : Notes) (caller turn moment : ℕ) (done : List Answered) (added : List Request)
     → Goes progress.More limits added done start taken text notes caller turn moment → taken' ≡ taken ++ text → text' ≡ [] → AnswersWhole limits start taken' text' notes caller turn moment done added
 piece_goes_on limits start taken text taken' text' notes caller turn moment done added g out none =
     let all : added ≡ g.front = g.split ∙ ap (λ (t : List Request). g.front ++ t) g.state.0 ∙ append-nil g.front in
@@ -109,7 +125,7 @@ piece_goes_on limits start taken text taken' text' notes caller turn moment done
     }
 
 -- a request failed, and the texts before it are out
-failed_stops : (fault : Fault) (limits : Limits) (bytes left start taken text taken' : List ℕ) (notes : List Exchange → Type 0) (caller : ℕ) (done : List Answered) (back : List Request)
+failed_stops : (fault : Fault) (limits : Limits) (bytes left start taken text taken' : List ℕ) (notes : Notes) (caller : ℕ) (done : List Answered) (back : List Request)
     → HasRead limits bytes left (requests_of done ++ own_requests back) → FailsHere fault limits back done start taken text notes caller
     → taken' ≡ taken ++ text → HasStopped fault limits bytes left start taken' notes caller
 failed_stops fault limits bytes left start taken text taken' notes caller done [] read has out = absurd has
@@ -120,14 +136,11 @@ failed_stops fault limits bytes left start taken text taken' notes caller done (
   read = subst (λ (t : List Request). HasRead limits bytes left (requests_of done ++ t)) (own_requests-one r rs has.own) read;
   whole = has.whole;
   texts = now_printed has.printed start taken text taken' (texts_of done) has.took has.texts out;
-  answers = has.answers;
-  part = has.part;
-  kinds = has.kinds;
-  calls = has.notes_part;
+  cut = has.cut;
 }
 
 -- a request failed, and then the sink
-failed_breaks : (fault : Fault) (limits : Limits) (bytes left start taken text taken' : List ℕ) (notes : List Exchange → Type 0) (caller : ℕ) (done : List Answered) (back : List Request)
+failed_breaks : (fault : Fault) (limits : Limits) (bytes left start taken text taken' : List ℕ) (notes : Notes) (caller : ℕ) (done : List Answered) (back : List Request)
     → HasRead limits bytes left (requests_of done ++ own_requests back) → FailsHere fault limits back done start taken text notes caller
     → IsBeginning taken taken' text → HasBroken limits bytes left start taken' notes caller
 failed_breaks fault limits bytes left start taken text taken' notes caller done [] read has by = absurd has
@@ -137,13 +150,11 @@ failed_breaks fault limits bytes left start taken text taken' notes caller done 
   read = subst (λ (t : List Request). HasRead limits bytes left (requests_of done ++ t)) (own_requests-one r rs has.own) read;
   whole = has.whole;
   texts = now_torn has.printed start taken text taken' (texts_of done) has.took has.texts by;
-  more = exchanges caller (turn_behind limits 0 done) (moment_behind first_moment done) (calls_of limits r) has.answers;
-  part = record { answers = has.answers; part = part_few fault (length has.answers) (length (calls_of limits r)) has.part; kinds = has.kinds; are = refl };
-  calls = has.notes_part;
+  calls = (fault, has.cut);
 }
 
 -- requests were answered, and then the sink failed
-answered_breaks : (limits : Limits) (bytes left start taken text taken' : List ℕ) (notes : List Exchange → Type 0) (caller turn moment : ℕ) (done : List Answered) (back : List Request)
+answered_breaks : (limits : Limits) (bytes left start taken text taken' : List ℕ) (notes : Notes) (caller turn moment : ℕ) (done : List Answered) (back : List Request)
     → HasRead limits bytes left (requests_of done ++ own_requests back) → HasAnswered limits done start taken text notes caller turn moment
     → IsBeginning taken taken' text → HasBroken limits bytes left start taken' notes caller
 answered_breaks limits bytes left start taken text taken' notes caller turn moment done back read has by = record {
@@ -152,13 +163,11 @@ answered_breaks limits bytes left start taken text taken' notes caller turn mome
   read = read;
   whole = has.whole;
   texts = now_torn has.printed start taken text taken' (texts_of done) has.took has.texts by;
-  more = [];
-  part = part_none limits (own_requests back) caller (turn_behind limits 0 done) (moment_behind first_moment done);
-  calls = subst notes (sym (append-nil (all_exchanges limits caller 0 first_moment done))) has.notes_all;
+  calls = cut_none limits (own_requests back) done notes caller has.notes_all;
 }
 
 -- the sink failed within a piece
-pub piece_torn : (limits : Limits) (bytes left start taken text : List ℕ) (notes : List Exchange → Type 0) (caller turn moment : ℕ) (done : List Answered) (added : List Request)
+pub piece_torn : (limits : Limits) (bytes left start taken text : List ℕ) (notes : Notes) (caller turn moment : ℕ) (done : List Answered) (added : List Request)
     → HasCome limits bytes left done added → Goes progress.Output limits added done start taken text notes caller turn moment → HasBroken limits bytes left start taken notes caller
 piece_torn limits bytes left start taken text notes caller turn moment done added come g =
     let read = come_read limits bytes left done added g.front g.back g.added come g.split g.own g.asked in
@@ -168,13 +177,11 @@ piece_torn limits bytes left start taken text notes caller turn moment done adde
       read = come_read limits bytes left done added g.front g.back g.added come g.split g.own g.asked;
       whole = g.state.whole;
       texts = g.state.texts;
-      more = [];
-      part = part_none limits (own_requests g.back) caller (turn_behind limits 0 (done ++ g.added)) (moment_behind first_moment (done ++ g.added));
-      calls = subst notes (sym (append-nil (all_exchanges limits caller 0 first_moment (done ++ g.added)))) g.state.notes_all;
+      calls = cut_none limits (own_requests g.back) (done ++ g.added) notes caller g.state.notes_all;
     }
 
 -- a request failed for want of memory
-pub piece_memory : (limits : Limits) (bytes left start taken text taken' : List ℕ) (notes : List Exchange → Type 0) (caller turn moment : ℕ) (done : List Answered) (added : List Request)
+pub piece_memory : (limits : Limits) (bytes left start taken text taken' : List ℕ) (notes : Notes) (caller turn moment : ℕ) (done : List Answered) (added : List Request)
     → HasCome limits bytes left done added → Goes progress.Memory limits added done start taken text notes caller turn moment → taken' ≡ taken ++ text
     → HasStopped faults.NoMemory limits bytes left start taken' notes caller
 piece_memory limits bytes left start taken text taken' notes caller turn moment done added come g out =
@@ -182,7 +189,7 @@ piece_memory limits bytes left start taken text taken' notes caller turn moment 
     (come_read limits bytes left done added g.front g.back g.added come g.split g.own g.asked) g.state out
 
 -- or since the history is full
-pub piece_full : (limits : Limits) (bytes left start taken text taken' : List ℕ) (notes : List Exchange → Type 0) (caller turn moment : ℕ) (done : List Answered) (added : List Request)
+pub piece_full : (limits : Limits) (bytes left start taken text taken' : List ℕ) (notes : Notes) (caller turn moment : ℕ) (done : List Answered) (added : List Request)
     → HasCome limits bytes left done added → Goes progress.Full limits added done start taken text notes caller turn moment → taken' ≡ taken ++ text
     → HasStopped faults.HistoryFull limits bytes left start taken' notes caller
 piece_full limits bytes left start taken text taken' notes caller turn moment done added come g out =
@@ -190,7 +197,7 @@ piece_full limits bytes left start taken text taken' notes caller turn moment do
     (come_read limits bytes left done added g.front g.back g.added come g.split g.own g.asked) g.state out
 
 -- the sink failed behind a piece
-pub piece_breaks : (p : Progress) (limits : Limits) (bytes left start taken text taken' : List ℕ) (notes : List Exchange → Type 0) (caller turn moment : ℕ) (done : List Answered) (added : List Request)
+pub piece_breaks : (p : Progress) (limits : Limits) (bytes left start taken text taken' : List ℕ) (notes : Notes) (caller turn moment : ℕ) (done : List Answered) (added : List Request)
     → HasCome limits bytes left done added → Goes p limits added done start taken text notes caller turn moment → (p ≡ progress.Output → ⊥)
     → IsBeginning taken taken' text → HasBroken limits bytes left start taken' notes caller
 piece_breaks progress.More limits bytes left start taken text taken' notes caller turn moment done added come g not by =

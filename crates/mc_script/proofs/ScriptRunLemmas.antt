@@ -1,16 +1,16 @@
 -- How a run starts, goes on from piece to piece, and ends.
 use Rattle.std.proofs.Common.{◌≡◌, ℕ, List, [], ◌∷◌, ◌++◌, refl, sym, ap, ◌∙◌, append_assoc, append-nil, arith, subst, suc}
-use Rattle.std.specs.Prelude.{All}
-use Rattle.mc_proto.specs.{Grammar.IsModerate, Reader.After}
+use Rattle.std.specs.Prelude.{All, None}
+use Rattle.mc_proto.specs.{Grammar.IsModerate, Grammar.Reads, Reader.After}
 use Rattle.mc_proto.specs.declared.{request.Limits.Limits, request.Request.Request, state.State.State}
 use Rattle.mc_proto.proofs.KeptRestLemmas.{after_reads}
-use Rattle.mc_script.specs.{Progress.AreModerate, Progress.AnswersWhole, Progress.HasAnswered, Progress.HasCome, Progress.IsOnWay, Run.first_moment, Run.HasRun}
-use Rattle.mc_script.specs.{Run.HasRunTo, Run.HasStarved, Run.IsOut, Exchanges.Exchange, Script.Answered, Script.texts_of}
+use Rattle.mc_script.specs.{Calls.Notes, Progress.AreModerate, Progress.AnswersWhole, Progress.HasAnswered, Progress.HasCome, Progress.IsOnWay, Script.Answered, Script.texts_of}
+use Rattle.mc_script.specs.Run.{HasEnded, HasRun, HasRunTo, HasStarved, IsOut, first_moment}
 use Rattle.mc_script.proofs.ScriptPieceLemmas.{own_requests-all, NoneEnds-append}
 
 -- before the first piece
-pub way_starts : (limits : Limits) (state : State) (unread bytes start text : List ℕ) (notes : List Exchange → Type 0) (caller turn moment : ℕ)
-    → After limits state unread [] [] → text ≡ [] → turn ≡ 0 → moment ≡ first_moment → notes []
+pub way_starts : (limits : Limits) (state : State) (unread bytes start text : List ℕ) (notes : Notes) (caller turn moment : ℕ)
+    → After limits state unread [] [] → text ≡ [] → turn ≡ 0 → moment ≡ first_moment → notes [] None
     → IsOnWay limits state unread bytes bytes start start text notes caller turn moment
 way_starts limits state unread bytes start text notes caller turn moment after none first early nothing = record {
   came = [];
@@ -24,13 +24,13 @@ way_starts limits state unread bytes start text notes caller turn moment after n
 }
 
 -- all that was gathered is printed
-all_printed : (limits : Limits) (done : List Answered) (start taken text : List ℕ) (notes : List Exchange → Type 0) (caller turn moment : ℕ)
+all_printed : (limits : Limits) (done : List Answered) (start taken text : List ℕ) (notes : Notes) (caller turn moment : ℕ)
     → HasAnswered limits done start taken text notes caller turn moment → text ≡ [] → taken ≡ start ++ texts_of done
 all_printed limits done start taken text notes caller turn moment has none =
     has.took ∙ ap (λ (t : List ℕ). start ++ t) (sym (append-nil has.printed) ∙ ap (λ (t : List ℕ). has.printed ++ t) (sym none) ∙ has.texts)
 
 -- the next piece may be asked for
-pub way_out : (limits : Limits) (state : State) (unread bytes left start taken text : List ℕ) (notes : List Exchange → Type 0) (caller turn moment : ℕ)
+pub way_out : (limits : Limits) (state : State) (unread bytes left start taken text : List ℕ) (notes : Notes) (caller turn moment : ℕ)
     → IsOnWay limits state unread bytes left start taken text notes caller turn moment → text ≡ []
     → IsOut limits bytes left start taken
 way_out limits state unread bytes left start taken text notes caller turn moment way none =
@@ -49,16 +49,16 @@ way_out limits state unread bytes left start taken text notes caller turn moment
     }
 
 -- all requests of the bytes that came were answered
-pub way_done : (limits : Limits) (state : State) (unread bytes left start taken text : List ℕ) (notes : List Exchange → Type 0) (caller turn moment : ℕ)
-    → (way : IsOnWay limits state unread bytes left start taken text notes caller turn moment) → text ≡ []
-    → HasRun limits way.came start taken notes caller
-way_done limits state unread bytes left start taken text notes caller turn moment way none =
+abbrev way_done : (limits : Limits) (state : State) (unread bytes left start taken text all : List ℕ) (notes : Notes) (caller turn moment : ℕ)
+    → (way : IsOnWay limits state unread bytes left start taken text notes caller turn moment) → text ≡ [] → way.came ≡ all
+    → HasRun limits all start taken notes caller
+way_done limits state unread bytes left start taken text all notes caller turn moment way none came =
     let read = after_reads limits state unread way.came way.requests way.after in
     record {
       requests = way.requests;
       rest = read.0;
       answered = way.done;
-      reads = read.1;
+      reads = subst (λ (t : List ℕ). Reads limits t way.requests read.0) came read.1;
       asked = way.asked ∙ sym (own_requests-all way.requests way.own);
       whole = way.state_of.whole;
       texts = all_printed limits way.done start taken text notes caller turn moment way.state_of none;
@@ -66,30 +66,45 @@ way_done limits state unread bytes left start taken text notes caller turn momen
     }
 
 -- the source has ended
-pub way_ends : (limits : Limits) (state : State) (unread bytes left start taken text : List ℕ) (notes : List Exchange → Type 0) (caller turn moment : ℕ)
-    → IsOnWay limits state unread bytes left start taken text notes caller turn moment → text ≡ [] → left ≡ []
-    → HasRun limits bytes start taken notes caller
-way_ends limits state unread bytes left start taken text notes caller turn moment way none over =
+pub way_ends : (limits : Limits) (state : State) (unread bytes left left' start taken text : List ℕ) (notes : Notes) (caller turn moment : ℕ)
+    → IsOnWay limits state unread bytes left start taken text notes caller turn moment → text ≡ [] → left ≡ [] → left' ≡ []
+    → HasEnded limits bytes left' start taken notes caller
+way_ends limits state unread bytes left left' start taken text notes caller turn moment way none over over' =
+    let read = after_reads limits state unread way.came way.requests way.after in
     let all : way.came ≡ bytes = sym (way.split ∙ ap (λ (t : List ℕ). way.came ++ t) over ∙ append-nil way.came) in
-    subst (λ (t : List ℕ). HasRun limits t start taken notes caller) all (way_done limits state unread bytes left start taken text notes caller turn moment way none)
+    record {
+      run = way_done limits state unread bytes left start taken text bytes notes caller turn moment way none all;
+      read = record {
+        came = way.came;
+        split = way.split ∙ ap (λ (t : List ℕ). way.came ++ t) (over ∙ sym over');
+        requests = way.requests;
+        rest = read.0;
+        reads = read.1;
+        own_are = own_requests-all way.requests way.own ∙ sym way.asked;
+      };
+    }
 
 -- the source has failed
-pub way_runs_out : (limits : Limits) (state : State) (unread bytes left left' start taken text : List ℕ) (notes : List Exchange
-    → Type 0) (caller turn moment : ℕ) → IsOnWay limits state unread bytes left start taken text notes caller turn moment → text ≡ []
-    → left' ≡ left → HasRunTo limits bytes left' start taken notes caller
-way_runs_out limits state unread bytes left left' start taken text notes caller turn moment way none same =
-    record { came = way.came; split = way.split ∙ ap (λ (t : List ℕ). way.came ++ t) (sym same); run = way_done limits state unread bytes left start taken text notes caller turn moment way none }
+pub way_runs_out : (limits : Limits) (state : State) (unread bytes left left' start taken text : List ℕ) (notes : Notes) (caller turn moment : ℕ)
+    → IsOnWay limits state unread bytes left start taken text notes caller turn moment → text ≡ [] → left' ≡ left
+    → HasRunTo limits bytes left' start taken notes caller
+way_runs_out limits state unread bytes left left' start taken text notes caller turn moment way none same = record {
+  came = way.came;
+  split = way.split ∙ ap (λ (t : List ℕ). way.came ++ t) (sym same);
+  run = way_done limits state unread bytes left start taken text way.came notes caller turn moment way none refl;
+  none = way.own;
+}
 
 -- there was no memory for a piece
-pub way_starves : (limits : Limits) (state : State) (unread bytes left piece later start taken text : List ℕ) (notes : List Exchange
-    → Type 0) (caller turn moment : ℕ) → IsOnWay limits state unread bytes left start taken text notes caller turn moment → text ≡ []
+pub way_starves : (limits : Limits) (state : State) (unread bytes left piece later start taken text : List ℕ)
+    (notes : Notes) (caller turn moment : ℕ) → IsOnWay limits state unread bytes left start taken text notes caller turn moment → text ≡ []
     → left ≡ piece ++ later → HasStarved limits bytes later start taken notes caller
 way_starves limits state unread bytes left piece later start taken text notes caller turn moment way none cut =
     record { piece = piece; run = way_runs_out limits state unread bytes left (piece ++ later) start taken text notes caller turn moment way none (sym cut) }
 
 -- a piece came
 unfoldable pub way_comes : (limits first second : Limits) (state next : State) (unread later bytes left behind start taken text piece : List ℕ)
-    (notes : List Exchange → Type 0) (caller turn moment : ℕ) (added : List Request)
+    (notes : Notes) (caller turn moment : ℕ) (added : List Request)
     → (way : IsOnWay limits state unread bytes left start taken text notes caller turn moment) → first ≡ limits → second ≡ first
     → ((stream : List ℕ) (requests : List Request) → After first state unread stream requests → After second next later (stream ++ piece) (requests ++ added))
     → left ≡ piece ++ behind → HasCome limits bytes behind way.done added
@@ -106,7 +121,7 @@ way_comes limits first second state next unread later bytes left behind start ta
 }
 
 -- and the script goes on
-pub way_goes_on : (limits : Limits) (bytes left start taken text : List ℕ) (notes : List Exchange → Type 0) (caller turn moment : ℕ) (done : List Answered) (added : List Request)
+pub way_goes_on : (limits : Limits) (bytes left start taken text : List ℕ) (notes : Notes) (caller turn moment : ℕ) (done : List Answered) (added : List Request)
     → (come : HasCome limits bytes left done added) → AnswersWhole limits start taken text notes caller turn moment done added
     → IsOnWay limits come.state come.unread bytes left start taken text notes caller turn moment
 way_goes_on limits bytes left start taken text notes caller turn moment done added come on = record {
@@ -126,7 +141,7 @@ moderate_are limits [] all = tt
 moderate_are limits (r ∷ rs) all = (all 0 r (omega arith), moderate_are limits rs (λ k d below. all (suc k) d (omega arith)))
 
 -- the same taken bytes and caller by other names
-pub answered_at : (limits : Limits) (done : List Answered) (start taken taken' text : List ℕ) (notes : List Exchange → Type 0) (caller caller' turn moment : ℕ)
+pub answered_at : (limits : Limits) (done : List Answered) (start taken taken' text : List ℕ) (notes : Notes) (caller caller' turn moment : ℕ)
     → HasAnswered limits done start taken text notes caller turn moment → taken' ≡ taken → caller' ≡ caller
     → HasAnswered limits done start taken' text notes caller' turn moment
 answered_at limits done start taken taken' text notes caller caller' turn moment has same is =

@@ -1,20 +1,20 @@
 -- Upkeep on its way, one moment further.
 use Rattle.std.proofs.Common.{◌≡◌, ◌+◌, ◌<◌, ℕ, suc, List, [], ◌∷◌, ◌++◌, refl, sym, ap, ◌∙◌, append_assoc, arith, subst, length, length-append, take, drop, false}
-use Rattle.std.specs.Prelude.{slice_index_or}
+use Rattle.std.specs.Prelude.{None, slice_index_or}
 use Rattle.std.specs.List.{flat_map}
 use Rattle.std.proofs.Math.Seq.{take-suc}
 use Rattle.std.proofs.lemmas.List.{take-append-drop}
 use Rattle.mc_item.specs.declared.fault.Fault.{Fault}
 use Rattle.mc_proto.specs.declared.{request.Limits.Limits, request.Request.Request}
 use Rattle.mc_proto.specs.declared.request.Request.TheVariants as requests
-use Rattle.mc_script.specs.{Calls.Answers, Calls.Fails, Exchanges.Exchange, Progress.HasAnswered, Run.first_moment}
+use Rattle.mc_script.specs.{Calls.Answers, Calls.Fails, Calls.Notes, Progress.HasAnswered, Run.first_moment}
 use Rattle.mc_script.specs.Script.{Answered, answered, calls_of, ends, moment_after, requests_of, turn_behind}
 use Rattle.mc_script.specs.Upkeep.{HasBrokenOff, HasKeptUp, WorksAll, directive_of, many_calls, work_of}
 use Rattle.mc_script.specs.declared.{upkeep.Keeper.Keeper, upkeep.Keeper.TheVariants.Maintainer, upkeep.Keeper.TheVariants.Crawler}
 use Rattle.mc_script.proofs.{MadeCallLemmas.makes_none, ProgressLemmas.answered_more, ProgressLemmas.failed, ProgressLemmas.requests_of-append}
 
 -- the work at these moments was done so far; the texts that a script would print are gathered nowhere
-pub record HasKept (limits : Limits) (keeper : Keeper) (moments : List ℕ) (notes : List Exchange → Type 0) (caller turn : ℕ) : Type 0 where
+pub record HasKept (limits : Limits) (keeper : Keeper) (moments : List ℕ) (notes : Notes) (caller turn : ℕ) : Type 0 where
   pub answered : List Answered
   pub asked : requests_of answered ≡ work_of keeper moments
   pub text : List ℕ
@@ -22,7 +22,7 @@ pub record HasKept (limits : Limits) (keeper : Keeper) (moments : List ℕ) (not
   pub state : HasAnswered limits answered [] [] text notes caller turn moment
 
 -- nothing yet
-pub kept_none : (limits : Limits) (keeper : Keeper) (notes : List Exchange → Type 0) (caller turn : ℕ) → turn ≡ 0 → notes [] → HasKept limits keeper [] notes caller turn
+pub kept_none : (limits : Limits) (keeper : Keeper) (notes : Notes) (caller turn : ℕ) → turn ≡ 0 → notes [] None → HasKept limits keeper [] notes caller turn
 kept_none limits keeper notes caller turn first none = record {
   answered = [];
   asked = refl;
@@ -32,7 +32,7 @@ kept_none limits keeper notes caller turn first none = record {
 }
 
 -- the moment is set
-abbrev set_moment : (limits : Limits) (notes : List Exchange → Type 0) (caller turn before at : ℕ) (text : List ℕ) → Answers limits (requests.At at) caller turn turn before notes notes text (text ++ [])
+abbrev set_moment : (limits : Limits) (notes : Notes) (caller turn before at : ℕ) (text : List ℕ) → Answers limits (requests.At at) caller turn turn before notes notes text (text ++ [])
 set_moment limits notes caller turn before at text = record { answers = []; texts = refl; makes = makes_none caller turn before notes }
 
 -- the work at two lists of moments is that of the one and then of the other
@@ -51,14 +51,14 @@ goes_on Maintainer = refl
 goes_on Crawler = refl
 
 -- the moment is set behind the work so far
-at_moment : (limits : Limits) (keeper : Keeper) (moments : List ℕ) (notes : List Exchange → Type 0) (caller turn moment : ℕ) → (kept : HasKept limits keeper moments notes caller turn)
+at_moment : (limits : Limits) (keeper : Keeper) (moments : List ℕ) (notes : Notes) (caller turn moment : ℕ) → (kept : HasKept limits keeper moments notes caller turn)
     → HasAnswered limits (kept.answered ++ answered (requests.At moment) [] ∷ []) [] [] (kept.text ++ []) notes caller turn moment
 at_moment limits keeper moments notes caller turn moment kept =
     answered_more limits kept.answered [] [] kept.text (kept.text ++ []) (requests.At moment) notes notes caller turn turn kept.moment moment kept.state
     (set_moment limits notes caller turn kept.moment moment kept.text) refl
 
 -- one moment more
-pub kept_more : (limits : Limits) (keeper : Keeper) (moments : List ℕ) (notes notes' : List Exchange → Type 0) (caller caller' turn turn' moment : ℕ)
+pub kept_more : (limits : Limits) (keeper : Keeper) (moments : List ℕ) (notes notes' : Notes) (caller caller' turn turn' moment : ℕ)
     → HasKept limits keeper moments notes caller turn → caller' ≡ caller → WorksAll limits keeper caller' turn turn' moment notes notes'
     → HasKept limits keeper (moments ++ moment ∷ []) notes' caller turn'
 kept_more limits keeper moments notes notes' caller caller' turn turn' moment kept same works =
@@ -79,7 +79,7 @@ kept_more limits keeper moments notes notes' caller caller' turn turn' moment ke
     }
 
 -- a call failed at the next moment
-pub kept_fails : (fault : Fault) (limits : Limits) (keeper : Keeper) (moments later all : List ℕ) (notes notes' : List Exchange → Type 0) (caller caller' turn moment : ℕ)
+pub kept_fails : (fault : Fault) (limits : Limits) (keeper : Keeper) (moments later all : List ℕ) (notes notes' : Notes) (caller caller' turn moment : ℕ)
     → HasKept limits keeper moments notes caller turn → caller' ≡ caller → Fails fault limits (directive_of keeper) caller' turn moment notes notes' → all ≡ moments ++ moment ∷ later
     → HasBrokenOff fault limits (work_of keeper all) notes' caller
 kept_fails fault limits keeper moments later all notes notes' caller caller' turn moment kept same fails split =
@@ -96,14 +96,11 @@ kept_fails fault limits keeper moments later all notes notes' caller caller' tur
           ∙ sym (append_assoc (requests_of kept.answered) (requests.At moment ∷ []) (directive_of keeper ∷ work_of keeper later))
           ∙ ap (λ (rs : List Request). rs ++ directive_of keeper ∷ work_of keeper later) (sym (requests_of-append kept.answered (answered (requests.At moment) [] ∷ [])));
       whole = f.whole;
-      answers = f.answers;
-      part = f.part;
-      kinds = f.kinds;
-      calls = f.notes_part;
+      cut = f.cut;
     }
 
 -- all of it was done
-pub kept_all : (limits : Limits) (keeper : Keeper) (moments : List ℕ) (notes : List Exchange → Type 0) (caller turn : ℕ)
+pub kept_all : (limits : Limits) (keeper : Keeper) (moments : List ℕ) (notes : Notes) (caller turn : ℕ)
     → HasKept limits keeper moments notes caller turn → HasKeptUp limits (work_of keeper moments) notes caller
 kept_all limits keeper moments notes caller turn kept = record { answered = kept.answered; asked = kept.asked; whole = kept.state.whole; calls = kept.state.notes_all }
 
@@ -115,7 +112,7 @@ turn_many limits turn (a ∷ more) =
     omega (arith, rest, length-append (calls_of limits a.request) (flat_map (calls_of limits) (requests_of more)))
 
 -- who did all of the work has had a turn for each of its calls
-pub kept_turns : (limits : Limits) (keeper : Keeper) (moments all : List ℕ) (notes : List Exchange → Type 0) (caller turn : ℕ)
+pub kept_turns : (limits : Limits) (keeper : Keeper) (moments all : List ℕ) (notes : Notes) (caller turn : ℕ)
     → HasKept limits keeper moments notes caller turn → moments ≡ all → turn ≡ many_calls limits keeper all
 kept_turns limits keeper moments all notes caller turn kept is =
     let turns = turn_many limits 0 kept.answered in

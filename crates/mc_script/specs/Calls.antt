@@ -1,15 +1,24 @@
 -- What is known of a caller's calls so far (`notes`), and what a request adds to it.
-use Rattle.std.specs.Prelude.{ℕ, ◌≡◌, ◌≤◌, ◌<◌, ◌+◌, Bool, List, [], ◌∷◌, ◌++◌, length, map, take}
+use Rattle.std.specs.Prelude.{ℕ, ◌≡◌, ◌≤◌, ◌<◌, ◌+◌, Bool, List, [], ◌∷◌, ◌++◌, Option, None, length, map, take, drop}
 use Rattle.std.specs.List.{sum}
 use Rattle.mc_item.specs.declared.{command.Command.TheVariants.Get, fault.Fault.Fault, item.ClassNo.ClassNo, counts.Histogram.Histogram, reply.Reply.Reply}
 use Rattle.mc_item.specs.declared.fault.Fault.TheVariants as faults
 use Rattle.mc_proto.specs.{Answers.Answer, Answers.Replied, Answers.text_of, Text.value_text}
 use Rattle.mc_proto.specs.declared.{request.Limits.Limits, request.Request.Request}
-use Rattle.mc_script.specs.{Exchanges.AreAnswers, Exchanges.Asks, Exchanges.ScriptCall, Exchanges.Exchange, Exchanges.exchanges, Script.calls_of}
+use Rattle.mc_script.specs.Exchanges.{AreAnswers, Asks, Begun, Exchange, MayBegin, ScriptCall, exchanges}
+use Rattle.mc_script.specs.Script.{calls_of}
 
--- whatever the old notes say of some calls, the new notes say of those calls followed by these
-pub record AddsCalls (old new : List Exchange → Type 0) (more : List Exchange) : Type 0 where
-  pub at : (calls : List Exchange) → old calls → new (calls ++ more)
+-- what is known of a caller's calls: a fact about the list of those with answers, and about the last call if it got none
+abbrev pub Notes : Type 1
+Notes = List Exchange → Option Begun → Type 0
+
+-- whatever the old notes say of some calls, the new notes say of those calls followed by these; each got its answer
+pub record AddsCalls (old new : Notes) (more : List Exchange) : Type 0 where
+  pub at : (calls : List Exchange) → old calls None → new (calls ++ more) None
+
+-- a call failed: no answer is added, and no other call was begun
+pub record BreaksOff (old new : Notes) (call : ScriptCall) (moment : ℕ) : Type 0 where
+  pub at : (calls : List Exchange) → old calls None → (begun : Option Begun) × MayBegin begun (call ∷ []) moment × new calls begun
 
 -- how many of all its calls a failed request made: any number if memory ran out, fewer than all if a history was full
 abbrev pub IsPart : Fault → ℕ → ℕ → Type 0
@@ -17,44 +26,48 @@ IsPart faults.NoMemory made all = made ≤ all
 IsPart faults.HistoryFull made all = made < all
 
 -- a caller made these calls in order, each in its own turn, and got these answers
-pub record MakesCalls (calls : List ScriptCall) (answers : List Answer) (caller turn turn' moment : ℕ) (notes notes' : List Exchange → Type 0) : Type 0 where
+pub record MakesCalls (calls : List ScriptCall) (answers : List Answer) (caller turn turn' moment : ℕ) (notes notes' : Notes) : Type 0 where
   pub long : length answers ≡ length calls
   pub kinds : AreAnswers calls answers
   pub noted : AddsCalls notes notes' (exchanges caller turn moment calls answers)
   pub turns : turn' ≡ turn + length calls
 
--- the first of these calls were made, and then a call failed or memory for a text ran out
-pub record Breaks (fault : Fault) (calls : List ScriptCall) (caller turn moment : ℕ) (notes notes' : List Exchange → Type 0) : Type 0 where
+-- after the calls before, the first of these were answered, and at most the next one was begun and got no answer
+pub record AreCutOff (fault : Fault) (calls : List ScriptCall) (caller turn moment : ℕ) (before : List Exchange) (notes : Notes) : Type 0 where
   pub answers : List Answer
   pub part : IsPart fault (length answers) (length calls)
   pub kinds : AreAnswers calls answers
-  pub noted : AddsCalls notes notes' (exchanges caller turn moment calls answers)
+  pub begun : Option Begun
+  pub next : MayBegin begun (drop (length answers) calls) moment
+  pub noted : notes (before ++ exchanges caller turn moment calls answers) begun
+
+-- the first of these calls were made, and then a call failed or memory for a text ran out
+pub record Breaks (fault : Fault) (calls : List ScriptCall) (caller turn moment : ℕ) (notes notes' : Notes) : Type 0 where
+  pub at : (before : List Exchange) → notes before None → AreCutOff fault calls caller turn moment before notes'
 
 -- a request was answered: all its calls were made, and its text was added
-pub record Answers (limits : Limits) (request : Request) (caller turn turn' moment : ℕ) (notes notes' : List Exchange
-    → Type 0) (text text' : List ℕ) : Type 0 where
+pub record Answers (limits : Limits) (request : Request) (caller turn turn' moment : ℕ) (notes notes' : Notes) (text text' : List ℕ) : Type 0 where
   pub answers : List Answer
   pub texts : text' ≡ text ++ text_of request answers
   pub makes : MakesCalls (calls_of limits request) answers caller turn turn' moment notes notes'
 
 -- a request failed after its first calls
-abbrev pub Fails : Fault → Limits → Request → ℕ → ℕ → ℕ → (List Exchange → Type 0) → (List Exchange → Type 0) → Type 0
+abbrev pub Fails : Fault → Limits → Request → ℕ → ℕ → ℕ → Notes → Notes → Type 0
 Fails fault limits request caller turn moment notes notes' = Breaks fault (calls_of limits request) caller turn moment notes notes'
 
 -- one key of a get was answered: its call was made, and on a hit the value's text was added
-pub record AnswersKey (key : List ℕ) (with_cas : Bool) (caller turn turn' moment : ℕ) (notes notes' : List Exchange
-    → Type 0) (text text' : List ℕ) : Type 0 where
+pub record AnswersKey (key : List ℕ) (with_cas : Bool) (caller turn turn' moment : ℕ) (notes notes' : Notes) (text text' : List ℕ) : Type 0 where
   pub reply : Reply
   pub texts : text' ≡ text ++ value_text key reply with_cas
   pub makes : MakesCalls (Asks (Get key) ∷ []) (Replied reply ∷ []) caller turn turn' moment notes notes'
 
 -- the call for one key of a get failed, or memory for its text ran out
-abbrev pub FailsKey : Fault → List ℕ → ℕ → ℕ → ℕ → (List Exchange → Type 0) → (List Exchange → Type 0) → Type 0
+abbrev pub FailsKey : Fault → List ℕ → ℕ → ℕ → ℕ → Notes → Notes → Type 0
 FailsKey fault key caller turn moment notes notes' = Breaks fault (Asks (Get key) ∷ []) caller turn moment notes notes'
 
 -- the maintainer or the crawler worked on these classes in order, and its moves or histograms have this sum
 pub record SumsUp {S : Type 0} (call : ClassNo → ScriptCall) (sum_of : List Answer
-    → S) (classes : List ClassNo) (sums : S) (caller turn turn' moment : ℕ) (notes notes' : List Exchange → Type 0) : Type 0 where
+    → S) (classes : List ClassNo) (sums : S) (caller turn turn' moment : ℕ) (notes notes' : Notes) : Type 0 where
   pub answers : List Answer
   pub added : sums ≡ sum_of answers
   pub makes : MakesCalls (map call classes) answers caller turn turn' moment notes notes'

@@ -1,5 +1,5 @@
 -- Calls, and exchanges: a call with its answer, in a turn of its caller (the call's number).
-use Rattle.std.specs.Prelude.{ℕ, ◌+◌, List, [], ◌∷◌}
+use Rattle.std.specs.Prelude.{ℕ, ◌≡◌, ◌+◌, List, [], ◌∷◌, Option, Some, None}
 use Rattle.mc_item.specs.declared.{command.Command.Command, item.ClassNo.ClassNo, item.Who.Who}
 use Rattle.mc_proto.specs.Answers.{Answer, Counted, Replied, Moved}
 
@@ -33,6 +33,17 @@ pub record Exchange : Type 0 where
   pub call : ScriptCall
   pub moment : ℕ
   pub answer : Answer
+
+-- a call that was begun at this moment and got no answer
+pub record Begun : Type 0 where
+  pub call : ScriptCall
+  pub moment : ℕ
+
+-- what may have begun at this moment, if these calls had no answer yet: none of them, or the first
+abbrev pub MayBegin : Option Begun → List ScriptCall → ℕ → Type 0
+MayBegin None calls moment = Unit {0}
+MayBegin (Some begun) [] moment = ⊥
+MayBegin (Some begun) (call ∷ calls) moment = (begun.call ≡ call) × (begun.moment ≡ moment)
 
 -- the exchange of this caller in this turn
 abbrev pub exchange : ℕ → ℕ → ScriptCall → ℕ → Answer → Exchange

@@ -1,44 +1,39 @@
 -- A script's run on its way: the requests answered so far, and their texts, which the sink took or which are still gathered.
-use Rattle.std.specs.Prelude.{ℕ, ◌≡◌, ◌<◌, List, [], ◌∷◌, ◌++◌, Option, Some, None, true, false, length}
+use Rattle.std.specs.Prelude.{ℕ, ◌≡◌, ◌<◌, List, [], ◌∷◌, ◌++◌, Option, Some, None, true, false}
 use Rattle.mc_item.specs.declared.fault.Fault.{Fault}
 use Rattle.mc_item.specs.declared.fault.Fault.TheVariants as faults
-use Rattle.mc_proto.specs.{Answers.Answer, Grammar.IsModerate, Reader.After, Text.IsBeginning}
+use Rattle.mc_proto.specs.{Grammar.IsModerate, Reader.After, Text.IsBeginning}
 use Rattle.mc_proto.specs.declared.{request.Limits.Limits, state.State.State, request.Request.Request}
-use Rattle.mc_script.specs.{Calls.IsPart, Exchanges.AreAnswers, Exchanges.Exchange, Exchanges.exchanges, Run.Leaves, Run.NoneEnds, Run.first_moment}
-use Rattle.mc_script.specs.Script.{Answered, AreWhole, all_exchanges, calls_of, ends, moment_behind, requests_of, texts_of, turn_behind}
+use Rattle.mc_script.specs.{Calls.Notes, Run.IsCutOff, Run.Leaves, Run.NoneEnds, Run.first_moment}
+use Rattle.mc_script.specs.Script.{Answered, AreWhole, all_exchanges, ends, moment_behind, requests_of, texts_of, turn_behind}
 use Rattle.mc_script.specs.declared.{outcome.Outcome.Outcome, scripting.Progress.Progress}
 use Rattle.mc_script.specs.declared.scripting.Progress.TheVariants.{More, Ended, Memory, Full, Output}
 
 -- these requests were answered, and their texts are what the sink took since the start, then what is still gathered
-pub record HasAnswered (limits : Limits) (answered : List Answered) (start taken text : List ℕ) (notes : List Exchange
-    → Type 0) (caller turn moment : ℕ) : Type 0 where
+pub record HasAnswered (limits : Limits) (answered : List Answered) (start taken text : List ℕ) (notes : Notes) (caller turn moment : ℕ) : Type 0 where
   pub whole : AreWhole limits answered
   pub printed : List ℕ
   pub took : taken ≡ start ++ printed
   pub texts : printed ++ text ≡ texts_of answered
-  pub notes_all : notes (all_exchanges limits caller 0 first_moment answered)
+  pub notes_all : notes (all_exchanges limits caller 0 first_moment answered) None
   pub turn_is : turn ≡ turn_behind limits 0 answered
   pub moment_is : moment ≡ moment_behind first_moment answered
 
 -- these requests were answered, and the next one failed after its first calls
-pub record HasFailed (fault : Fault) (limits : Limits) (request : Request) (answered : List Answered) (start taken text : List ℕ) (notes : List Exchange
-    → Type 0) (caller : ℕ) : Type 0 where
+pub record HasFailed (fault : Fault) (limits : Limits) (request : Request) (answered : List Answered) (start taken text : List ℕ)
+    (notes : Notes) (caller : ℕ) : Type 0 where
   pub whole : AreWhole limits answered
   pub printed : List ℕ
   pub took : taken ≡ start ++ printed
   pub texts : printed ++ text ≡ texts_of answered
   pub own : ends request ≡ false
-  pub answers : List Answer
-  pub part : IsPart fault (length answers) (length (calls_of limits request))
-  pub kinds : AreAnswers (calls_of limits request) answers
-  pub notes_part : notes (all_exchanges limits caller 0 first_moment answered
-      ++ exchanges caller (turn_behind limits 0 answered) (moment_behind first_moment answered) (calls_of limits request) answers)
+  pub cut : IsCutOff fault limits request answered notes caller
 
 -- these requests were answered, and the sink took a beginning of their texts
-pub record HasTorn (limits : Limits) (answered : List Answered) (start taken : List ℕ) (notes : List Exchange → Type 0) (caller : ℕ) : Type 0 where
+pub record HasTorn (limits : Limits) (answered : List Answered) (start taken : List ℕ) (notes : Notes) (caller : ℕ) : Type 0 where
   pub whole : AreWhole limits answered
   pub texts : IsBeginning start taken (texts_of answered)
-  pub notes_all : notes (all_exchanges limits caller 0 first_moment answered)
+  pub notes_all : notes (all_exchanges limits caller 0 first_moment answered) None
 
 -- the first of these requests ends the script
 abbrev pub EndsHere : List Request → Type 0
@@ -46,7 +41,7 @@ EndsHere [] = ⊥
 EndsHere (r ∷ rs) = ends r ≡ true
 
 -- the first of these requests failed, and those before it were answered
-abbrev pub FailsHere : Fault → Limits → List Request → List Answered → List ℕ → List ℕ → List ℕ → (List Exchange → Type 0) → ℕ → Type 0
+abbrev pub FailsHere : Fault → Limits → List Request → List Answered → List ℕ → List ℕ → List ℕ → Notes → ℕ → Type 0
 FailsHere fault limits [] answered start taken text notes caller = ⊥
 FailsHere fault limits (r ∷ rs) answered start taken text notes caller = HasFailed fault limits r answered start taken text notes caller
 
@@ -56,7 +51,7 @@ AreModerate limits [] = Unit {0}
 AreModerate limits (r ∷ rs) = IsModerate limits r × AreModerate limits rs
 
 -- how far requests were answered: all, up to one that ends the script, up to one that failed, or until the sink failed
-abbrev pub IsProgress : Progress → Limits → List Request → List Answered → List ℕ → List ℕ → List ℕ → (List Exchange → Type 0) → ℕ → ℕ → ℕ → Type 0
+abbrev pub IsProgress : Progress → Limits → List Request → List Answered → List ℕ → List ℕ → List ℕ → Notes → ℕ → ℕ → ℕ → Type 0
 IsProgress More limits back answered start taken text notes caller turn moment = (back ≡ [])
     × HasAnswered limits answered start taken text notes caller turn moment
 IsProgress Ended limits back answered start taken text notes caller turn moment = EndsHere back
@@ -66,8 +61,8 @@ IsProgress Full limits back answered start taken text notes caller turn moment =
 IsProgress Output limits back answered start taken text notes caller turn moment = HasTorn limits answered start taken notes caller
 
 -- after those answered before, the first of these requests were answered too, and the run came as far as its progress says
-pub record Goes (progress : Progress) (limits : Limits) (requests : List Request) (before : List Answered) (start taken text : List ℕ) (notes : List Exchange
-    → Type 0) (caller turn moment : ℕ) : Type 0 where
+pub record Goes (progress : Progress) (limits : Limits) (requests : List Request) (before : List Answered) (start taken text : List ℕ)
+    (notes : Notes) (caller turn moment : ℕ) : Type 0 where
   pub front : List Request
   pub back : List Request
   pub added : List Answered
@@ -77,15 +72,14 @@ pub record Goes (progress : Progress) (limits : Limits) (requests : List Request
   pub state : IsProgress progress limits back (before ++ added) start taken text notes caller turn moment
 
 -- so far these requests were answered, after those answered before
-pub record Went (limits : Limits) (yielded : List Request) (before : List Answered) (start taken text : List ℕ) (notes : List Exchange
-    → Type 0) (caller turn moment : ℕ) : Type 0 where
+pub record Went (limits : Limits) (yielded : List Request) (before : List Answered) (start taken text : List ℕ)
+    (notes : Notes) (caller turn moment : ℕ) : Type 0 where
   pub added : List Answered
   pub asked : requests_of added ≡ yielded
   pub state : HasAnswered limits (before ++ added) start taken text notes caller turn moment
 
 -- a run between two pieces of its input: all requests read so far were answered, and none of them ends the script
-pub record IsOnWay (limits : Limits) (state : State) (unread bytes left start taken text : List ℕ) (notes : List Exchange
-    → Type 0) (caller turn moment : ℕ) : Type 0 where
+pub record IsOnWay (limits : Limits) (state : State) (unread bytes left start taken text : List ℕ) (notes : Notes) (caller turn moment : ℕ) : Type 0 where
   pub came : List ℕ
   pub requests : List Request
   pub done : List Answered
@@ -107,8 +101,8 @@ pub record HasCome (limits : Limits) (bytes left : List ℕ) (done : List Answer
   pub asked : requests_of done ≡ requests
 
 -- all requests of a piece were answered, none of them ends the script, and no text is left to print
-pub record AnswersWhole (limits : Limits) (start taken text : List ℕ) (notes : List Exchange
-    → Type 0) (caller turn moment : ℕ) (done : List Answered) (added : List Request) : Type 0 where
+pub record AnswersWhole (limits : Limits) (start taken text : List ℕ)
+    (notes : Notes) (caller turn moment : ℕ) (done : List Answered) (added : List Request) : Type 0 where
   pub own : NoneEnds added
   pub out : text ≡ []
   pub now : List Answered
@@ -116,7 +110,7 @@ pub record AnswersWhole (limits : Limits) (start taken text : List ℕ) (notes :
   pub state_of : HasAnswered limits now start taken text notes caller turn moment
 
 -- what holds after a piece: it was answered whole and the script goes on, or the script ended with this outcome
-abbrev pub LeavesPiece : Option Outcome → Limits → List ℕ → List ℕ → List ℕ → List ℕ → List ℕ → (List Exchange → Type 0) → ℕ → ℕ → ℕ → List Answered
+abbrev pub LeavesPiece : Option Outcome → Limits → List ℕ → List ℕ → List ℕ → List ℕ → List ℕ → Notes → ℕ → ℕ → ℕ → List Answered
     → List Request → Type 0
 LeavesPiece None limits bytes left start taken text notes caller turn moment done added =
     AnswersWhole limits start taken text notes caller turn moment done added

@@ -1,13 +1,13 @@
 -- Upkeep, the work of the maintainer and of the crawler beside scripts, and what holds after it, by how it ended (own).
-use Rattle.std.specs.Prelude.{ℕ, ◌≡◌, List, [], ◌∷◌, ◌++◌, length}
+use Rattle.std.specs.Prelude.{ℕ, ◌≡◌, List, [], ◌∷◌, ◌++◌, None, length}
 use Rattle.std.specs.List.{flat_map}
 use Rattle.mc_item.specs.declared.fault.Fault.{Fault}
 use Rattle.mc_item.specs.declared.fault.Fault.TheVariants as faults
 use Rattle.mc_proto.specs.Answers.{Answer}
 use Rattle.mc_proto.specs.declared.{request.Limits.Limits, request.Request.Request, request.Target.TheVariants.All}
 use Rattle.mc_proto.specs.declared.request.Request.TheVariants as requests
-use Rattle.mc_script.specs.{Calls.IsPart, Calls.MakesCalls, Exchanges.AreAnswers, Exchanges.Exchange, Exchanges.exchanges, Run.first_moment}
-use Rattle.mc_script.specs.Script.{Answered, AreWhole, all_exchanges, calls_of, moment_behind, requests_of, turn_behind}
+use Rattle.mc_script.specs.{Calls.MakesCalls, Calls.Notes, Run.IsCutOff, Run.first_moment}
+use Rattle.mc_script.specs.Script.{Answered, AreWhole, all_exchanges, calls_of, requests_of}
 use Rattle.mc_script.specs.declared.{outcome.Outcome.Outcome, upkeep.Keeper.Keeper, upkeep.Keeper.TheVariants.Maintainer, upkeep.Keeper.TheVariants.Crawler}
 use Rattle.mc_script.specs.declared.outcome.Outcome.TheVariants.{Done, Memory, HistoryFull, Input, Output}
 
@@ -26,32 +26,28 @@ abbrev pub many_calls : Limits → Keeper → List ℕ → ℕ
 many_calls limits keeper moments = length (flat_map (calls_of limits) (work_of keeper moments))
 
 -- a keeper did its work at one moment: all its calls were made
-pub record WorksAll (limits : Limits) (keeper : Keeper) (caller turn turn' moment : ℕ) (notes notes' : List Exchange → Type 0) : Type 0 where
+pub record WorksAll (limits : Limits) (keeper : Keeper) (caller turn turn' moment : ℕ) (notes notes' : Notes) : Type 0 where
   pub answers : List Answer
   pub makes : MakesCalls (calls_of limits (directive_of keeper)) answers caller turn turn' moment notes notes'
 
 -- all of this work was done, and just its calls were made
-pub record HasKeptUp (limits : Limits) (work : List Request) (notes : List Exchange → Type 0) (caller : ℕ) : Type 0 where
+pub record HasKeptUp (limits : Limits) (work : List Request) (notes : Notes) (caller : ℕ) : Type 0 where
   pub answered : List Answered
   pub asked : requests_of answered ≡ work
   pub whole : AreWhole limits answered
-  pub calls : notes (all_exchanges limits caller 0 first_moment answered)
+  pub calls : notes (all_exchanges limits caller 0 first_moment answered) None
 
 -- the work broke off: one request failed after its first calls, and all requests before it were answered
-pub record HasBrokenOff (fault : Fault) (limits : Limits) (work : List Request) (notes : List Exchange → Type 0) (caller : ℕ) : Type 0 where
+pub record HasBrokenOff (fault : Fault) (limits : Limits) (work : List Request) (notes : Notes) (caller : ℕ) : Type 0 where
   pub answered : List Answered
   pub request : Request
   pub back : List Request
   pub asked : work ≡ requests_of answered ++ request ∷ back
   pub whole : AreWhole limits answered
-  pub answers : List Answer
-  pub part : IsPart fault (length answers) (length (calls_of limits request))
-  pub kinds : AreAnswers (calls_of limits request) answers
-  pub calls : notes (all_exchanges limits caller 0 first_moment answered
-      ++ exchanges caller (turn_behind limits 0 answered) (moment_behind first_moment answered) (calls_of limits request) answers)
+  pub cut : IsCutOff fault limits request answered notes caller
 
 -- what holds after upkeep with this outcome; `Input` and `Output` are impossible, as it reads and prints nothing
-abbrev pub KeepsUp : Outcome → Limits → List Request → (List Exchange → Type 0) → ℕ → Type 0
+abbrev pub KeepsUp : Outcome → Limits → List Request → Notes → ℕ → Type 0
 KeepsUp Done limits work notes caller = HasKeptUp limits work notes caller
 KeepsUp Memory limits work notes caller = HasBrokenOff faults.NoMemory limits work notes caller
 KeepsUp HistoryFull limits work notes caller = HasBrokenOff faults.HistoryFull limits work notes caller

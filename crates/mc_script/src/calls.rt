@@ -1,15 +1,17 @@
 //! The trait `Calls`: a caller, with whatever answers its calls.
-ghost use Rattle.std.specs.Prelude.{◌≡◌, ◌≤◌, ◌<◌, ◌+◌, ◌^◌, ◌∷◌, ℕ, List, [], IfOk, OnErr, OnOk, IsErrOf};
+ghost use Rattle.std.specs.Prelude.{◌≡◌, ◌≤◌, ◌<◌, ◌+◌, ◌^◌, ◌∷◌, ℕ, List, [], Option, IfOk, OnErr, OnOk, IsErrOf};
 ghost use Rattle.mc_item.specs.declared.fault.Fault.TheVariants as faults;
 ghost use Rattle.mc_item.specs.declared.item.ClassNo.{ClassNo};
 ghost use Rattle.mc_proto.specs.Answers.{Counted, Moved, Replied};
-ghost use Rattle.mc_script.specs.{Calls.AddsCalls, Calls.AddsUp, Exchanges.Asks, Exchanges.Crawls, Exchanges.Exchange, Exchanges.Juggles, Exchanges.exchange};
+ghost use Rattle.mc_script.specs.Calls.{AddsCalls, AddsUp, BreaksOff};
+ghost use Rattle.mc_script.specs.Exchanges.{Asks, Begun, Crawls, Exchange, Juggles, exchange};
 
 use mc_item::{ClassNo, Command, Fault, Histogram, Moves, Reply};
 use std::sync::Wait;
 
 /// A caller that makes calls, each in a turn of its own (`turn` is the next one's number).
-/// `notes` is what is known of its calls so far, a fact about the list of them with their answers. Each call adds itself to it.
+/// `notes` is what is known of its calls so far: a fact about the list of them with their answers, and about the last call if it
+/// broke off, which was begun and got no answer. Each call adds itself to it.
 /// `place` is where it makes its calls. It never changes, and `has_class` says which slab classes it has.
 /// `may_call` says when the next call may be made, which is always so after a call that succeeded.
 pub trait Calls: Drop {
@@ -23,14 +25,14 @@ pub trait Calls: Drop {
 
     ghost turn: { Self → ℕ };
 
-    ghost notes: { Self → List Exchange → Type 0 };
+    ghost notes: { Self → List Exchange → Option Begun → Type 0 };
 
     ghost is_full: { Self → Type 0 };
 
     ghost may_call: { Self → Type 0 };
 
     /// Makes a command's call at a moment (time in seconds, at most 2^62), and returns the reply.
-    /// After `NoMemory` or `HistoryFull` nothing is added to `notes`. After `HistoryFull` also `is_full` holds.
+    /// After `NoMemory` or `HistoryFull` it has no answer, and at most this call was begun. After `HistoryFull` also `is_full` holds.
     fn command(&mut self, rt: &impl Wait, command: Command, moment: u64) -> Result<Reply, Fault>
         requires may { may_call self.old }
         requires early { moment ≤ 2 ^ 62 }
@@ -40,7 +42,7 @@ pub trait Calls: Drop {
         ensures turn { OnOk result (turn self.new ≡ turn self.old + 1) }
         ensures ok { IfOk result (λ reply. AddsCalls (notes self.old) (notes self.new)
             (exchange (caller self.old) (turn self.old) (Asks command) moment (Replied reply) ∷ [])) }
-        ensures err { OnErr result (AddsCalls (notes self.old) (notes self.new) []) }
+        ensures err { OnErr result (BreaksOff (notes self.old) (notes self.new) (Asks command) moment) }
         ensures full { IsErrOf result faults.HistoryFull → is_full self.new };
 
     /// Makes a call of the maintainer's work on a slab class at a moment, and returns how many entries it reclaimed and moved.
@@ -56,7 +58,7 @@ pub trait Calls: Drop {
         ensures ok { IfOk result (λ moves. AddsCalls (notes self.old) (notes self.new)
             (exchange (caller self.old) (turn self.old) (Juggles class) moment (Moved moves) ∷ [])) }
         ensures small { IfOk result (λ moves. (moves.reclaimed < 2 ^ 32) × (moves.moved < 2 ^ 32)) }
-        ensures err { OnErr result (AddsCalls (notes self.old) (notes self.new) []) }
+        ensures err { OnErr result (BreaksOff (notes self.old) (notes self.new) (Juggles class) moment) }
         ensures full { IsErrOf result faults.HistoryFull → is_full self.new };
 
     /// Makes a call of the crawler's work on a slab class at a moment, and returns how many entries of each kind it saw.
@@ -73,6 +75,6 @@ pub trait Calls: Drop {
             (exchange (caller self.old) (turn self.old) (Crawls class) moment (Counted histogram) ∷ [])) }
         ensures small { IfOk result (λ histogram. histogram.seen ≤ 2 ^ 32) }
         ensures kinds { IfOk result AddsUp }
-        ensures err { OnErr result (AddsCalls (notes self.old) (notes self.new) []) }
+        ensures err { OnErr result (BreaksOff (notes self.old) (notes self.new) (Crawls class) moment) }
         ensures full { IsErrOf result faults.HistoryFull → is_full self.new };
 }

@@ -185,7 +185,7 @@ pub fn run_script<E: Ends, C: Calls>(
 ) -> Outcome
     requires may { C.may_call calls.old }
     requires first { C.turn calls.old ≡ 0 }
-    requires none { C.notes calls.old [] }
+    requires none { C.notes calls.old [] None }
     requires classes { AllThere (C.has_class (C.place calls.old)) limits }
     requires asks { (e : E) → IsOut limits (E.coming ends.old) (E.coming e) (E.taken ends.old) (E.taken e)
         → E.reads e ≡ E.reads ends.old → E.writes e ≡ E.writes ends.old → E.over e ≡ E.over ends.old → E.may_ask e }

@@ -1,5 +1,5 @@
 //! Upkeep: the maintainer and the crawler work on all slab classes, at given moments (times in seconds).
-ghost use Rattle.std.specs.Prelude.{◌≡◌, ◌≤◌, ◌<◌, ◌^◌, ℕ, [], IfErr, OnOk, IsErrOf};
+ghost use Rattle.std.specs.Prelude.{◌≡◌, ◌≤◌, ◌<◌, ◌^◌, ℕ, [], None, IfErr, OnOk, IsErrOf};
 ghost use Rattle.std.specs.List.{All};
 ghost use Rattle.mc_item.specs.declared.fault.Fault.TheVariants as faults;
 ghost use Rattle.mc_script.specs.{Calls.Fails, Script.AllThere, Upkeep.KeepsUp, Upkeep.WorksAll, Upkeep.directive_of, Upkeep.many_calls, Upkeep.work_of};
@@ -67,7 +67,7 @@ pub fn run_upkeep<C: Calls>(
 ) -> Outcome
     requires may { C.may_call calls.old }
     requires first { C.turn calls.old ≡ 0 }
-    requires none { C.notes calls.old [] }
+    requires none { C.notes calls.old [] None }
     requires early { All (λ moment. moment ≤ 2 ^ 62) moments.now }
     requires classes { AllThere (C.has_class (C.place calls.old)) limits }
     ensures leaves { KeepsUp result limits (work_of keeper moments.now) (C.notes calls.new) (C.caller calls.old) }

@@ -13,7 +13,7 @@ use Rattle.mc_stripe.specs.{Wanting.IsWanting, Wanting.classes_for}
 use Rattle.mc_stripe.specs.declared.{wanting.Want.Want, trying.Turn.Turn}
 use Rattle.mc_pull.specs.{Perform.answer_to, Perform.call, Question.IsStripeOf}
 use Rattle.mc_store.specs.{Callers.answered_at, Calls.IsRepliedAs, Commands.IsCut, Commands.IsSearch, Commands.burial, Earned.IsEarned, Earned.IsEarnedIn}
-use Rattle.mc_store.specs.{Held.Ends, Held.IsMadeIn, Held.IsWalked, Held.Suffice, Held.nothing, Passes.CallerView, Serving.IsShort, Sides.StripeSide}
+use Rattle.mc_store.specs.{Held.Ends, Held.IsMadeIn, Held.IsWalked, Held.Suffice, Held.nothing, Passes.CallerView, Serving.IsShort, Serving.IsShortFor, Sides.StripeSide}
 use Rattle.mc_store.proofs.{CommandLemmas.led_same, CommandLemmas.visible_alive, EarnedRefusalLemmas.earned_told}
 use Rattle.mc_store.specs.declared.replied.Replied.{Replied}
 use Rattle.mc_store.proofs.UnderLockLemmas.{IsSearched, active_moves, cut_behind, cut_from, replied_behind, replied_from, site_both}
@@ -50,7 +50,7 @@ module _ (config : Config) (command : Command) (turn : Turn) where
 
     -- it was broken off
     pub ends_cut : (end : StripeSide) (caller caller_new : CallerView) (fault : Fault) → KeepsSite mid end.stripe → end.stripe.history ≡ mid.history
-        → caller_new ≡ caller → (fault ≡ HistoryFull → IsShort config end) → EndsBy s end caller caller_new (Err fault)
+        → caller_new ≡ caller → (fault ≡ HistoryFull → IsShortFor config command end) → EndsBy s end caller caller_new (Err fault)
     ends_cut end caller caller_new fault more same unnoted full = record {
       replied = tt;
       cut = cut_behind config turn.who command turn.moment s mid alive searched end.stripe same;
@@ -65,7 +65,7 @@ module _ (config : Config) (command : Command) (turn : Turn) where
 
     -- with a fault that was handed on
     pub ends_err : (end : StripeSide) (caller caller_new : CallerView) (r : Result Replied Fault) (fault : Fault) → IsErrAnd r (λ x. x ≡ fault)
-        → KeepsSite mid end.stripe → end.stripe.history ≡ mid.history → caller_new ≡ caller → (fault ≡ HistoryFull → IsShort config end)
+        → KeepsSite mid end.stripe → end.stripe.history ≡ mid.history → caller_new ≡ caller → (fault ≡ HistoryFull → IsShortFor config command end)
         → EndsBy s end caller caller_new r
     ends_err end caller caller_new (Ok reply) fault is more same unnoted full = absurd is
     ends_err end caller caller_new (Err e) fault is more same unnoted full = ends_cut end caller caller_new e more same unnoted (λ at. full (sym is ∙ at))
@@ -81,7 +81,7 @@ module _ (config : Config) (command : Command) (turn : Turn) where
     unnoted = unnoted;
     number = ap (λ (x : CallerView). x.number) unnoted;
     site = site;
-    full = λ at. full (sym is ∙ err_same e at);
+    full = λ at. inl (full (sym is ∙ err_same e at));
   }
     where
       err_same : (e : Fault) → IsErrOf {T = Replied} (Err e) HistoryFull → e ≡ HistoryFull

@@ -15,7 +15,7 @@ use Rattle.mc_board.specs.declared.rule.Sight.{Sight}
 use Rattle.mc_board.proofs.PrefixLemmas.{prefix_length, prefix_more, prefix_self}
 use Rattle.mc_pull.specs.{Lone.AreMadeBy, Lone.StripeGrows, Question.IsClassOf, Settled.class_with, Walker.Walker}
 use Rattle.mc_store.specs.{Locked.setting_of, Serving.HasSeenShort, Serving.IsServed, Serving.MayFailSeen, Sides.class_told}
-use Rattle.mc_store.proofs.SyncedStepLemmas.{map_append, short_of}
+use Rattle.mc_store.proofs.SyncedStepLemmas.{any_short, map_append, short_of}
 
 -- ---- stripes that grow
 
@@ -100,5 +100,6 @@ room_full table config owner seen c served sight lock at list more r may is = by
   where
     by : MayFailSeen config seen.sight c HistoryFull → HasSeenShort config sight
     by (inl lack) =
-        short_of config sight lock c.number c.history (at ∙ served.kept.lock_is) served.kept.is list (subst (λ (n : ℕ). n < length c.history + 2) served.kept.made_with.max_events lack)
+        any_short config sight (short_of config sight lock c.number c.history (at ∙ served.kept.lock_is) served.kept.is list
+        (subst (λ (n : ℕ). n < length c.history + 2) served.kept.made_with.max_events lack))
     by (inr short) = short_seen config seen.sight sight more short

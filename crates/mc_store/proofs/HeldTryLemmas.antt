@@ -24,11 +24,11 @@ use Rattle.mc_stripe.specs.declared.wanting.Want.TheVariants as wants
 use Rattle.mc_pull.specs.Attempt.{GivesHome, IsNoted, IsReady, LeavesPlaces, OffersHome, OffersOther}
 use Rattle.mc_pull.specs.declared.{attempting.Tried.Tried, attempting.Tried.TheVariants.Made, attempting.Tried.TheVariants.Wants}
 use Rattle.mc_store.specs.{Callers.answered_at, Earned.HasGivenUp, Earned.IsEarnedAt, Earned.IsEarnedIn, Locked.IsLockedClass, Passes.CallerView}
-use Rattle.mc_store.specs.{Serving.HasSeenShort, Serving.IsShort, Sides.ClassSide, Sides.StripeSide, Sides.class_told, Trying.IsMadeBy, Trying.IsTriedUnder}
+use Rattle.mc_store.specs.{Serving.HasSeenShortClass, Serving.IsShort, Sides.ClassSide, Sides.StripeSide, Sides.class_told, Trying.IsMadeBy, Trying.IsTriedUnder}
 use Rattle.mc_store.specs.Trying.{Stay}
 use Rattle.mc_store.specs.declared.replied.Replied.{Replied}
 use Rattle.mc_store.specs.Held.{IsMadeIn, IsRefusedAt, IsStillFull, IsTriedOn, MayWant, Suffice, WantsAlone, WantsChunk, nothing}
-use Rattle.mc_store.proofs.{CommandLemmas.not_dead, EarnedRefusalLemmas.earned_sees, NeededClassLemmas.fresh_classes, ShortHistoryLemmas.short_class, ShortHistoryLemmas.short_grows}
+use Rattle.mc_store.proofs.{CommandLemmas.not_dead, EarnedRefusalLemmas.earned_sees, NeededClassLemmas.fresh_classes, ShortHistoryLemmas.short_class, ShortHistoryLemmas.short_class_grows}
 
 pub some_none : {A : Type 0} (a : A) (o : Option A) → o ≡ Some a → o ≡ None → ⊥
 some_none a o is none = absurd (cc (is, none))
@@ -134,7 +134,7 @@ not_less a b none = grind (arith, none)
 
 pub keeps_full : (config : Config) (sight : Sight) (was v v_new : ClassView) (refused : Option ℕ) (who : Who) (o : Option Home)
     → IfSome o (OffersHome v refused who) → v ≡ with_room was v.room → v_new ≡ with_room v v_new.room
-    → (HasFew v → HasSeenShort config sight) → IsSomeAnd o (λ h. h.room ≡ rooms.Keep) → IsStillFull config sight refused was v_new
+    → (HasFew v → HasSeenShortClass config sight) → IsSomeAnd o (λ h. h.room ≡ rooms.Keep) → IsStillFull config sight refused was v_new
 keeps_full config sight was v v_new refused who None offers readied stay short keeps = absurd keeps
 keeps_full config sight was v v_new refused who (Some h) offers readied stay short keeps =
     let gives = subst (GivesHome v refused who) keeps offers.room in
@@ -311,9 +311,9 @@ module _ (table : TableId) (config : Config) (was side : ClassSide) (sight : Sig
   same_number = ap (λ (x : ClassSide). x.class.number) is
 
   -- it was seen to be short
-  pub short_seen : (mid end : Sight) → IsLockedClass table config side → list_at mid.seen was.lock ≡ class_told was.class.history → Grows mid end → HasFew side.class → HasSeenShort config end
+  pub short_seen : (mid end : Sight) → IsLockedClass table config side → list_at mid.seen was.lock ≡ class_told was.class.history → Grows mid end → HasFew side.class → HasSeenShortClass config end
   short_seen mid end kept told more few =
-      short_grows config mid end more
+      short_class_grows config mid end more
       (short_class table config side mid side.class kept.held (subst (λ (x : ClassSide). list_at mid.seen x.lock ≡ class_told x.class.history) (sym is) told) refl refl few)
 
   -- and its history is what the stripe has seen of it
@@ -326,7 +326,7 @@ module _ (table : TableId) (config : Config) (was side : ClassSide) (sight : Sig
 -- ---- what is left to do
 
 -- a class that is full and has no place for its refusal is short, as the stripe has seen
-pub refuse_short : (config : Config) (own : StripeSide) (v v_new : ClassView) → (v.max_events < length v.history + 2 → HasSeenShort config own.sight)
+pub refuse_short : (config : Config) (own : StripeSide) (v v_new : ClassView) → (v.max_events < length v.history + 2 → HasSeenShortClass config own.sight)
     → v_new ≡ with_room v v_new.room → v_new.max_events ≤ length v_new.history → IsShort config own
 refuse_short config own v v_new short same full =
     let limit : v_new.max_events ≡ v.max_events = ap (λ (x : ClassView). x.max_events) same in

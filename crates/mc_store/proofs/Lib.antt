@@ -7,6 +7,7 @@ pub mod ClosedLemmas
 pub mod HeadlineLemmas
 pub mod ClosedCallLemmas
 pub mod AnsweredTurnLemmas
+mod LossCallLemmas
 mod PlacedLemmas
 pub mod LentClassLemmas
 pub mod LockKeepsLemmas

@@ -27,7 +27,8 @@ use Rattle.mc_pull.specs.{Lone.AreMadeBy, Question.IsStripeOf}
 use Rattle.mc_item.specs.declared.item.Who.{Who}
 use Rattle.mc_board.specs.declared.rule.Sight.{Sight}
 use Rattle.mc_store.specs.{Callers.asked_for, Commands.walker_in, Held.IsWalked, Held.Suffice, Locked.HasBegunAs, Locked.HasBegunSearch, Locked.IsLockedStripe}
-use Rattle.mc_store.specs.{Locked.setting_of, Made.MayNeedChunk, Sides.StripeSide}
+use Rattle.mc_pull.specs.Suited.{MayNeedChunk}
+use Rattle.mc_store.specs.{Locked.setting_of, Sides.StripeSide}
 use Rattle.mc_store.proofs.{CommandLemmas.search_no_commands, CommandLemmas.searched_alive, LockKeepsLemmas.site_of_number, SearchVersionLemmas.versions_behind}
 
 -- a class that a row needs is one of the store's
@@ -305,7 +306,7 @@ home_apart s command moment wanted class is home other =
     other_apart key class (link_of_item (item_of s command)) class beside refl
 
 -- only a command that may need a chunk has a row that does
-fresh_needs : (site : Site) (n : ℕ) (found : Option Item) (command : Command) (moment : ℕ) (class : ClassNo) → (row_of site n found command moment).need ≡ needs.Fresh class → MayNeedChunk command
+pub fresh_needs : (site : Site) (n : ℕ) (found : Option Item) (command : Command) (moment : ℕ) (class : ClassNo) → (row_of site n found command moment).need ≡ needs.Fresh class → MayNeedChunk command
 fresh_needs site n found (Store verb key flags exptime value) moment class is = tt
 fresh_needs site n found (Incr key delta) moment class is = tt
 fresh_needs site n found (Decr key delta) moment class is = tt

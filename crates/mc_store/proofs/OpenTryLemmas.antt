@@ -20,10 +20,10 @@ use Rattle.mc_pull.specs.Growth as classes
 use Rattle.mc_pull.specs.Question as made
 use Rattle.mc_store.specs.{Callers.AreCalled, Callers.answered_at, Callers.asked_for, Callers.calls_told, Passes.CallerView, Passes.HasAsked, Passes.HasCalled}
 use Rattle.mc_store.specs.Locked.{HasBegunAs, IsHeldClass, IsLockedClass, IsLockedStripe, caller_place, locks_for}
-use Rattle.mc_store.specs.{Made.MayNeedChunk, Performing.IsRefusedIn, Serving.IsShort, Serving.class_side, Sides.ClassSide, Sides.StripeSide, Sides.class_told}
+use Rattle.mc_store.specs.{Performing.IsRefusedIn, Serving.IsShort, Serving.class_side, Sides.ClassSide, Sides.StripeSide, Sides.class_told}
 use Rattle.mc_store.specs.{Sides.stripe_told, Trying.IsTriedUnder, Trying.Stay, Trying.is_made}
 use Rattle.mc_store.proofs.{SeenStripeLemmas.on_err_more, CallerLemmas.called_performed, LentClassLemmas.lent_grow, LentClassLemmas.own_behind}
-use Rattle.mc_store.proofs.OwnEventLemmas.{GainsFit, fits_any, gains_performed}
+use Rattle.mc_store.proofs.OwnEventLemmas.{GainsFit, gains_performed}
 use Rattle.mc_store.proofs.{OwnEventLemmas.locked_told, OwnEventLemmas.noted_called, LockKeepsLemmas.grows_trans, LockKeepsLemmas.seen_on, LockKeepsLemmas.stripe_sees}
 use Rattle.mc_store.proofs.SyncedLemmas.{lent_more, lent_said, own_more, own_said, stripe_side}
 use Rattle.mc_store.proofs.SyncedCommandLemmas.{alone_end, class_end, one_end, two_end}
@@ -91,10 +91,10 @@ module _ {table : TableId} {config : Config} {owner : OwnerView} {seen : SeenVie
         (λ is. tried config is open_of.kept.held.made_with open_b.kept.held.made_with) err
 
 -- a class that was lent, before the try and behind it
-pub record IsLent (table : TableId) (config : Config) (turn : Turn) (s s_new : Stripe) (owner : OwnerView) (seen : SeenView) (v w : ClassView) : Type 0 where
+pub record IsLent (table : TableId) (config : Config) (command : Command) (turn : Turn) (s s_new : Stripe) (owner : OwnerView) (seen : SeenView) (v w : ClassView) : Type 0 where
   pub kept : IsLockedClass table config (class_side owner seen v)
   pub grows : classes.GainsEvents v w
-  pub gains : GainsFit turn.who turn.moment ⊥ v.history w.history
+  pub gains : GainsFit turn.who turn.moment command v.history w.history
   pub agrees : AgreeNow w s_new
   pub backs : BacksStill s.site v w
   pub suits : SuitsStill s.site v w
@@ -127,7 +127,7 @@ module _ {table : TableId} {config : Config} {command : Command} {turn : Turn} {
   refused_in : IsRefusedIn call_in.room vs
   refused_in = refused_at config s s_new command turn given vs ws step.may.refused step.may.offered t step.tried
 
-  gain_in : EachPair (λ v w. GainsFit turn.who turn.moment ⊥ v.history w.history) vs ws
+  gain_in : EachPair (λ v w. GainsFit turn.who turn.moment command v.history w.history) vs ws
   gain_in = gains_performed s s_new call_in vs ws (result_of t) made_in none_in
 
   -- the classes have only grown
@@ -161,7 +161,7 @@ module _ {table : TableId} {config : Config} {command : Command} {turn : Turn} {
 module _ {table : TableId} {config : Config} {command : Command} {turn : Turn} {given : Given} {owner : OwnerView} {seen : SeenView} {s s_new : Stripe} {v w : ClassView} {vs ws : List ClassView} {t : Result Tried Fault}
     (step : IsStep table config command turn given owner seen s s_new (v ∷ vs) (w ∷ ws) t) {owner_of : OwnerView} {seen_of : SeenView} {class : ClassSide}
     (open_of : IsOpenClass table config owner_of seen_of v class) where
-  pub first_lent : IsLent table config turn s s_new owner_of seen_of v w
+  pub first_lent : IsLent table config command turn s s_new owner_of seen_of v w
   first_lent = record {
     kept = open_of.kept;
     grows = (grow_in step).0;
@@ -175,7 +175,7 @@ module _ {table : TableId} {config : Config} {command : Command} {turn : Turn} {
     {u x v w : ClassView} {vs ws : List ClassView} {t : Result Tried Fault}
     (step : IsStep table config command turn given owner seen s s_new (u ∷ v ∷ vs) (x ∷ w ∷ ws) t) {owner_of : OwnerView} {seen_of : SeenView}
     {class : ClassSide} (open_of : IsOpenClass table config owner_of seen_of v class) where
-  pub second_lent : IsLent table config turn s s_new owner_of seen_of v w
+  pub second_lent : IsLent table config command turn s s_new owner_of seen_of v w
   second_lent = record {
     kept = open_of.kept;
     grows = (grow_in step).1.0;
@@ -206,8 +206,9 @@ left_first {s_new = s_new} noting caught = record {
 }
 
 -- a class tells it its history
-pub left_told : {table : TableId} {config : Config} {turn : Turn} {owner owner_of owner_told : OwnerView} {seen_of : SeenView} {s s_new : Stripe} {v w : ClassView} {noting sight : Sight} {own own_new : StripeSide}
-    → IsLeft owner s_new noting own sight → IsLent table config turn s s_new owner_of seen_of v w → owner_told ≡ record owner_of { history = class_told w.history }
+pub left_told : {table : TableId} {config : Config} {command : Command} {turn : Turn} {owner owner_of owner_told : OwnerView} {seen_of : SeenView}
+    {s s_new : Stripe} {v w : ClassView} {noting sight : Sight} {own own_new : StripeSide}
+    → IsLeft owner s_new noting own sight → IsLent table config command turn s s_new owner_of seen_of v w → owner_told ≡ record owner_of { history = class_told w.history }
     → own_new ≡ record own { sight = with_seen own.sight owner_told.lock (class_told w.history) } → Grows own.sight own_new.sight
     → IsLeft owner s_new noting own_new (with_seen sight owner_of.lock (class_told w.history))
 left_told {owner = owner} {owner_of = owner_of} {owner_told = owner_told} {seen_of = seen_of} {s_new = s_new} {v = v} {w = w} {noting = noting} {sight = sight} {own = own} {own_new = own_new} left lent caught told more =
@@ -235,7 +236,8 @@ module _ {table : TableId} {config : Config} {command : Command} {turn : Turn} {
 
   -- a class, when the stripe has told it its history, and the caller its own
   pub class_left : {owner_of owner_told : OwnerView} {seen_of : SeenView} {v w : ClassView} {own_told : StripeSide} {sight : Sight} {first mid last : ClassSide} → IsLegal s_new.site s_new.history
-      → IsLent table config turn s s_new owner_of seen_of v w → owner_told ≡ record owner_of { history = class_told w.history } → first ≡ class_side owner_told seen_of w → IsLawfulHistoryByLists w.chunks w.rule w.history
+      → IsLent table config command turn s s_new owner_of seen_of v w → owner_told ≡ record owner_of { history = class_told w.history } → first ≡ class_side owner_told seen_of w
+      → IsLawfulHistoryByLists w.chunks w.rule w.history
       → IsLeft owner s_new noting own_told sight → mid ≡ record first { sight = with_seen first.sight own_told.lock (stripe_told own_told.stripe.history) } → Grows first.sight mid.sight
       → last ≡ record mid { sight = last.sight } → Grows mid.sight last.sight → HasBegunAs config last.sight turn.who turn.moment (asked_for command turn.moment) → IsLockedClass table config last
   class_left {owner_of = owner_of} {owner_told = owner_told} {seen_of = seen_of} {v = v} {w = w} {own_told = own_told} {sight = sight} {first = first} {mid =
@@ -247,8 +249,7 @@ module _ {table : TableId} {config : Config} {command : Command} {turn : Turn} {
       (class_end table config own_seen kept_seen s_new (call_in step) step.site legal known.called was w lent.kept.held lent.grows lawful lent.agrees lent.backs lent.suits
       (lent_more was first mid w own_told own_end first_is left.is told more)) in
       locked_told table config was first mid last turn.who turn.moment lent.kept (record { command = command; begun = begun })
-      (subst (λ (x : ClassSide). GainsFit turn.who turn.moment (MayNeedChunk command) v.history x.class.history) (sym first_is)
-      (fits_any turn.who turn.moment (MayNeedChunk command) v.history w.history lent.gains))
+      (subst (λ (x : ClassSide). GainsFit turn.who turn.moment command v.history x.class.history) (sym first_is) lent.gains)
       (ap (λ (x : ClassSide). x.class.number) first_is ∙ ap (λ (x : ClassView). x.number) lent.grows.same) (ap (λ (x : ClassSide). x.sight) first_is) (ap (λ (x : ClassSide). x.class) told) more held learnt grows
 
   -- the stripe has seen all that it had, and what a try came to
@@ -297,7 +298,7 @@ module _ {table : TableId} {config : Config} {command : Command} {turn : Turn} {
 module _ {table : TableId} {config : Config} {command : Command} {turn : Turn} {given : Given} {owner owner_of : OwnerView} {seen seen_of : SeenView} {s s_new : Stripe} {v w : ClassView} {t : Result Tried Fault}
     (step : IsStep table config command turn given owner seen s s_new (v ∷ []) (w ∷ []) t) {noting : Sight} {caller caller_new : CallerView}
     (known : IsKnown config command turn s s_new t seen.sight noting caller caller_new)
-    (lent : IsLent table config turn s s_new owner_of seen_of v w) {own_new : StripeSide}
+    (lent : IsLent table config command turn s s_new owner_of seen_of v w) {own_new : StripeSide}
     (left : IsLeft owner s_new noting own_new (with_seen noting owner_of.lock (class_told w.history))) (legal : IsLegal s_new.site s_new.history) where
   pub one_left : IsLockedStripe table config own_new
   one_left =
@@ -311,7 +312,7 @@ module _ {table : TableId} {config : Config} {command : Command} {turn : Turn} {
     {seen seen_of seen_b : SeenView} {s s_new : Stripe} {v w v_b w_b : ClassView} {t : Result Tried Fault}
     (step : IsStep table config command turn given owner seen s s_new (v ∷ v_b ∷ []) (w ∷ w_b ∷ []) t) {noting : Sight} {caller caller_new : CallerView}
     (known : IsKnown config command turn s s_new t seen.sight noting caller caller_new)
-    (lent : IsLent table config turn s s_new owner_of seen_of v w) (lent_b : IsLent table config turn s s_new owner_b seen_b v_b w_b) {own_new : StripeSide}
+    (lent : IsLent table config command turn s s_new owner_of seen_of v w) (lent_b : IsLent table config command turn s s_new owner_b seen_b v_b w_b) {own_new : StripeSide}
     (left : IsLeft owner s_new noting own_new (with_seen (with_seen noting owner_of.lock (class_told w.history)) owner_b.lock (class_told w_b.history))) (legal : IsLegal s_new.site s_new.history) where
   away : v.number.0 ≢ v_b.number.0
   away e = step.may.distinct.0.0 (ap (λ (n : ℕ). record v.number { 0 = n }) e)

@@ -1,5 +1,5 @@
 -- Events of slab classes: those that one call makes are its own, and a class that gained only such ones has each event called.
-use Rattle.std.proofs.Common.{◌≡◌, ◌<◌, ◌+◌, ℕ, zero, suc, List, [], ◌∷◌, ◌++◌, Some, Result, Ok, Err, slice_get, length, append_assoc, refl, sym, ap, ◌∙◌, subst, false, ◌⊎◌, inl, inr, ⊎_elim}
+use Rattle.std.proofs.Common.{◌≡◌, ◌<◌, ◌+◌, ℕ, zero, suc, List, [], ◌∷◌, ◌++◌, Some, Result, Ok, Err, slice_get, length, append_assoc, refl, sym, ap, ◌∙◌, subst, false, ◌⊎◌, ⊎_elim}
 use Rattle.std.specs.Prelude.{IfOk, OnOk, OnErr, Option, None}
 use Rattle.std.proofs.lemmas.List.{append-nil, append_cancel_left}
 use Rattle.atomic_table.specs.Seated.{TableId}
@@ -14,14 +14,17 @@ use Rattle.mc_stripe.specs.StripeState.{Stripe, cache_now}
 use Rattle.mc_pull.specs.declared.{judge.Done.Done, judge.Judge.Judge, judge.Judge.TheVariants.Walk, judge.Judge.TheVariants.Dead}
 use Rattle.mc_pull.specs.declared.{judge.Judge.TheVariants.Hit, looking.Judged.Judged}
 use Rattle.mc_pull.specs.declared.judge.Done.TheVariants as done
-use Rattle.mc_pull.specs.{Growth.GainsFor, Growth.NoneLooks, Judgement.done_of, Lent.EachPair, Looks.events_if, Perform.Call, Performed.GainsPart, Performed.IsPerformed, Performed.IsUntouched, Question.Question}
+use Rattle.mc_pull.specs.{Growth.GainsFor, Growth.NoneLooks, Judgement.done_of, Lent.EachPair, Looks.events_if, Perform.Call, Performed.GainsPart, Performed.IsPerformed, Performed.IsUntouched}
+use Rattle.mc_pull.specs.{Question.Question, Question.question}
+use Rattle.mc_pull.specs.Suited.{AreSuited, MayNeedChunk}
 use Rattle.mc_pull.specs.Performed as performed
 use Rattle.mc_pull.specs.Settled.{IsSettled, done_class_events, class_with, cold_events, warm_events}
-use Rattle.mc_pull.proofs.{ChunkEventLemmas.judge_looks, ChunkEventLemmas.none_done, EventsLemmas.events_so}
+use Rattle.mc_pull.proofs.{EventsLemmas.events_so, SuitedLemmas.needs_removes, SuitedLemmas.suited_dead, SuitedLemmas.suited_part}
 use Rattle.mc_crawl.specs.Crawl.{AreReclaims, Reclaims}
 use Rattle.mc_store.specs.Callers.{answered_at, asked_for, call_events, crawling_of, juggling_of}
 use Rattle.mc_store.specs.Locked.{HasBegunAs, HasBegunCommand, IsHeldClass, IsLockedClass, locks_for}
-use Rattle.mc_store.specs.Made.{AreCalledInClass, AreOwnEvents, GainsOwn, IsClassCalled, IsOwnEvent, MayNeedChunk, SuitsCall, WalksOwn, maker_of}
+use Rattle.mc_store.specs.Made.{AreCalledInClass, AreOwnEvents, GainsOwn, IsClassCalled, IsOwnEvent, NoneSurveys, SearchesOwn, SuitsCall, WalksOwn}
+use Rattle.mc_store.specs.Made.{maker_of}
 use Rattle.mc_store.specs.{Passes.CallerView, Passes.HasAsked, Passes.HasCalled, Sides.ClassSide}
 use Rattle.mc_store.proofs.CallerLemmas.{asked_called, begun_as_more, class_called_prefix, get_append}
 use Rattle.mc_store.proofs.LockKeepsLemmas.{class_sees, grows_trans}
@@ -44,12 +47,9 @@ gains_both who moment a b c first more = record {
   each = own_both who moment first.events more.events first.each more.each;
 }
 
--- a call's own events, of which none looks for a chunk unless the call may
-abbrev pub GainsFit : Who → ℕ → Type 0 → List ClassEvent → List ClassEvent → Type 0
-GainsFit who moment May history history_new = (gains : GainsOwn who moment history history_new) × (NoneLooks gains.events ⊎ May)
-
-pub fits_any : (who : Who) (moment : ℕ) (May : Type 0) (history history_new : List ClassEvent) → GainsFit who moment ⊥ history history_new → GainsFit who moment May history history_new
-fits_any who moment May history history_new fit = (fit.0, ⊎_elim (λ none. inl none) (λ never. absurd never) fit.1)
+-- a command's own events, each of which it may make
+abbrev pub GainsFit : Who → ℕ → Command → List ClassEvent → List ClassEvent → Type 0
+GainsFit who moment command history history_new = (gains : GainsOwn who moment history history_new) × AreSuited command gains.events
 
 -- a call's own events are those that its class gained
 pub none_own : (who : Who) (moment : ℕ) (c c_new : ClassView) (gains : GainsOwn who moment c.history c_new.history) → GainsFor false c c_new → NoneLooks gains.events
@@ -87,35 +87,32 @@ own_judged c q (Some j) = own_done c q j.at j.done
 pub gains_judged : (c c_new : ClassView) (q : Question) (j : Option Judged) → c_new ≡ class_with c (events_if c q j) c_new.room → GainsOwn q.who q.moment c.history c_new.history
 gains_judged c c_new q j is = record { events = events_if c q j; history_is = ap (λ (v : ClassView). v.history) is; each = own_judged c q j }
 
--- a class after a judgement, however that ended
-pub gains_settled : (May : Type 0) (c c_new : ClassView) (s s_new : Stripe) (q : Question) → judge_looks q.judge ≡ false → (r : Result Done Fault)
-    → IfOk r (λ made. made ≡ done_of c (cache_now s) q) → IfOk r (λ made. IsSettled c c_new s s_new q made)
-    → OnErr r ((c_new ≡ with_room c c_new.room) × (s_new.history ≡ s.history)) → GainsFit q.who q.moment May c.history c_new.history
-gains_settled May c c_new s s_new q off (Ok made) done settled err = (
-  record { events = done_class_events c q (length s.history) made; history_is = ap (λ (v : ClassView). v.history) settled.class; each = own_done c q (length s.history) made },
-  inl (none_done c q (cache_now s) (length s.history) made off done),
-)
-gains_settled May c c_new s s_new q off (Err fault) done settled err = (record { events = []; history_is = ap (λ (v : ClassView). v.history) err.0 ∙ sym (append-nil c.history); each = tt }, inl tt)
+-- a class after that judgement, however it ended
+pub gains_settled : (command : Command) (c c_new : ClassView) (s s_new : Stripe) (who : Who) (number moment : ℕ) → let q = question who number Dead moment in
+    (r : Result Done Fault) → IfOk r (λ made. made ≡ done_of c (cache_now s) q) → IfOk r (λ made. IsSettled c c_new s s_new q made)
+    → OnErr r ((c_new ≡ with_room c c_new.room) × (s_new.history ≡ s.history)) → GainsFit who moment command c.history c_new.history
+gains_settled command c c_new s s_new who number moment (Ok made) done settled err =
+    let q = question who number Dead moment in (
+      record { events = done_class_events c q (length s.history) made; history_is = ap (λ (v : ClassView). v.history) settled.class; each = own_done c q (length s.history) made },
+      suited_dead command c (cache_now s) who number moment (length s.history) made done,
+    )
+gains_settled command c c_new s s_new who number moment (Err fault) done settled err =
+    (record { events = []; history_is = ap (λ (v : ClassView). v.history) err.0 ∙ sym (append-nil c.history); each = tt }, tt)
 
 -- a command's events in a class are its own
 own_part : (s : Stripe) (c : Call) (v : ClassView) → AreOwnEvents c.who c.moment (performed.events_in s c v)
 own_part s c v = events_so (AreOwnEvents c.who c.moment) s c v tt (λ key cost expiry. ((refl, refl), tt))
     (λ key cost expiry number. ((refl, refl), ((refl, tt), tt))) (λ number. ((refl, tt), tt))
 
--- and none looks for a chunk
-none_part : (s : Stripe) (c : Call) (v : ClassView) → NoneLooks (performed.events_in s c v)
-none_part s c v = events_so NoneLooks s c v tt (λ key cost expiry. ((λ h. h), tt))
-    (λ key cost expiry number. ((λ h. h), ((λ h. h), tt))) (λ number. ((λ h. h), tt))
-
 module _ (s s_new : Stripe) (c : Call) where
-  part_gains : (v w : ClassView) → GainsPart s c v w → GainsFit c.who c.moment ⊥ v.history w.history
-  part_gains v w gains = (record { events = performed.events_in s c v; history_is = ap (λ (x : ClassView). x.history) gains; each = own_part s c v }, inl (none_part s c v))
+  part_gains : (v w : ClassView) → GainsPart s c v w → GainsFit c.who c.moment c.command v.history w.history
+  part_gains v w gains = (record { events = performed.events_in s c v; history_is = ap (λ (x : ClassView). x.history) gains; each = own_part s c v }, suited_part s c v)
 
-  stays_gains : (v w : ClassView) → performed.ClassStays v w → GainsFit c.who c.moment ⊥ v.history w.history
-  stays_gains v w stays = (record { events = []; history_is = ap (λ (x : ClassView). x.history) stays ∙ sym (append-nil v.history); each = tt }, inl tt)
+  stays_gains : (v w : ClassView) → performed.ClassStays v w → GainsFit c.who c.moment c.command v.history w.history
+  stays_gains v w stays = (record { events = []; history_is = ap (λ (x : ClassView). x.history) stays ∙ sym (append-nil v.history); each = tt }, tt)
 
-  each_gains : (R : ClassView → ClassView → Type 0) → ((v w : ClassView) → R v w → GainsFit c.who c.moment ⊥ v.history w.history) → (xs ys : List ClassView) → EachPair R xs ys
-      → EachPair (λ v w. GainsFit c.who c.moment ⊥ v.history w.history) xs ys
+  each_gains : (R : ClassView → ClassView → Type 0) → ((v w : ClassView) → R v w → GainsFit c.who c.moment c.command v.history w.history) → (xs ys : List ClassView) → EachPair R xs ys
+      → EachPair (λ v w. GainsFit c.who c.moment c.command v.history w.history) xs ys
   each_gains R more [] [] each = tt
   each_gains R more [] (y ∷ ys) each = absurd each
   each_gains R more (x ∷ xs) [] each = absurd each
@@ -123,14 +120,17 @@ module _ (s s_new : Stripe) (c : Call) where
 
   -- classes that were lent to a command, whether it was made or not
   pub gains_performed : {T : Type 0} (vs ws : List ClassView) (r : Result T Fault) → OnOk r (IsPerformed s s_new c vs ws) → OnErr r (IsUntouched s s_new vs ws)
-      → EachPair (λ v w. GainsFit c.who c.moment ⊥ v.history w.history) vs ws
+      → EachPair (λ v w. GainsFit c.who c.moment c.command v.history w.history) vs ws
   gains_performed vs ws (Ok x) made err = each_gains (λ v w. GainsPart s c v w) (λ v w g. part_gains v w g) vs ws made.classes
   gains_performed vs ws (Err f) made err = each_gains (λ v w. performed.ClassStays v w) (λ v w g. stays_gains v w g) vs ws err.classes
 
 -- a class that noted a refusal, or couldn't
-pub gains_refused : {T : Type 0} (v w : ClassView) (who : Who) (moment : ℕ) (r : Result T Fault) → OnOk r (Makes v w (refused_event who)) → OnErr r (Stays v w) → GainsOwn who moment v.history w.history
-gains_refused v w who moment (Ok x) makes stays = record { events = refused_event who ∷ []; history_is = ap (λ (c : ClassView). c.history) makes; each = ((refl, tt), tt) }
-gains_refused v w who moment (Err f) makes stays = gains_none who moment v.history w.history (ap (λ (c : ClassView). c.history) stays.0)
+pub gains_refused : {T : Type 0} (command : Command) → MayNeedChunk command → (v w : ClassView) (who : Who) (moment : ℕ) (r : Result T Fault) → OnOk r (Makes v w (refused_event who)) → OnErr r (Stays v w)
+    → GainsFit who moment command v.history w.history
+gains_refused command needs v w who moment (Ok x) makes stays =
+    (record { events = refused_event who ∷ []; history_is = ap (λ (c : ClassView). c.history) makes; each = ((refl, tt), tt) }, (needs, tt))
+gains_refused command needs v w who moment (Err f) makes stays =
+    (record { events = []; history_is = ap (λ (c : ClassView). c.history) stays.0 ∙ sym (append-nil v.history); each = tt }, tt)
 
 -- ---- walks
 
@@ -150,6 +150,82 @@ walks_survey who moment a b h k survey by at walked = record {
   gains = gains_both who moment h k (k ++ events.Surveyed survey ∷ []) walked.gains (record { events = events.Surveyed survey ∷ []; history_is = refl; each = ((by, at), tt) });
 }
 
+-- ---- searches
+
+none_surveys_both : (xs ys : List ClassEvent) → NoneSurveys xs → NoneSurveys ys → NoneSurveys (xs ++ ys)
+none_surveys_both [] ys first more = more
+none_surveys_both (events.Surveyed e ∷ xs) ys first more = absurd first
+none_surveys_both (events.Linked e ∷ xs) ys first more = none_surveys_both xs ys first more
+none_surveys_both (events.Unlinked e ∷ xs) ys first more = none_surveys_both xs ys first more
+none_surveys_both (events.Shifted e ∷ xs) ys first more = none_surveys_both xs ys first more
+none_surveys_both (events.Evicted e ∷ xs) ys first more = none_surveys_both xs ys first more
+none_surveys_both (events.Reclaimed e ∷ xs) ys first more = none_surveys_both xs ys first more
+none_surveys_both (events.Refused e ∷ xs) ys first more = none_surveys_both xs ys first more
+
+surveys_warm : (q : Question) (at : ℕ) (j : Judge) → NoneSurveys (warm_events q at j)
+surveys_warm q at (Walk s mode passed) = tt
+surveys_warm q at Dead = tt
+surveys_warm q at Hit = tt
+
+surveys_cold : (c : ClassView) (q : Question) (at : ℕ) (j : Judge) → NoneSurveys (cold_events c q at j)
+surveys_cold c q at (Walk s mode passed) = tt
+surveys_cold c q at Dead = tt
+surveys_cold c q at Hit = tt
+
+-- no judgement makes a survey
+surveys_done : (c : ClassView) (q : Question) (at : ℕ) (d : Done) → NoneSurveys (done_class_events c q at d)
+surveys_done c q at done.Reclaimed = tt
+surveys_done c q at done.ToWarm = surveys_warm q at q.judge
+surveys_done c q at done.WithinWarm = surveys_warm q at q.judge
+surveys_done c q at done.ToCold = surveys_cold c q at q.judge
+surveys_done c q at done.Evicted = tt
+surveys_done c q at done.Stayed = tt
+surveys_done c q at (done.Alive expiry) = tt
+surveys_done c q at done.Stranger = tt
+
+surveys_judged : (c : ClassView) (q : Question) (j : Option Judged) → NoneSurveys (events_if c q j)
+surveys_judged c q None = tt
+surveys_judged c q (Some j) = surveys_done c q j.at j.done
+
+-- a search that has just begun
+pub searches_none : (who : Who) (moment : ℕ) (sight : Sight) (history : List ClassEvent) → SearchesOwn who moment sight sight history history
+unfolding walks_none gains_none
+searches_none who moment sight history = record { walked = walks_none who moment sight history; none = tt }
+
+-- a search goes on with an answer
+pub searches_judged : (q : Question) (a b c : Sight) (h : List ClassEvent) (v w : ClassView) (j : Option Judged) → SearchesOwn q.who q.moment a b h v.history → Grows b c
+    → w ≡ class_with v (events_if v q j) w.room → SearchesOwn q.who q.moment a c h w.history
+unfolding walks_on gains_both gains_judged
+searches_judged q a b c h v w j so more is = record {
+  walked = walks_on q.who q.moment a b c h v.history w.history so.walked more (gains_judged v w q j is);
+  none = none_surveys_both so.walked.gains.events (events_if v q j) so.none (surveys_judged v q j);
+}
+
+-- or a fault
+pub searches_failed : (who : Who) (moment : ℕ) (a b c : Sight) (h k l : List ClassEvent) → SearchesOwn who moment a b h k → Grows b c → l ≡ k → SearchesOwn who moment a c h l
+unfolding walks_on gains_both gains_none
+searches_failed who moment a b c h k l so more same = record {
+  walked = walks_on who moment a b c h k l so.walked more (gains_none who moment k l same);
+  none = none_surveys_both so.walked.gains.events [] so.none tt;
+}
+
+-- or whatever a visit of another stripe came to
+pub searches_visited : {T : Type 0} (X : Type 0) (q : Question) (a b c : Sight) (h : List ClassEvent) (v w : ClassView) (j : Option Judged) (r : Result T Fault) → SearchesOwn q.who q.moment a b h v.history → Grows b c
+    → OnOk r (w ≡ class_with v (events_if v q j) w.room) → OnErr r ((w ≡ with_room v w.room) × X) → SearchesOwn q.who q.moment a c h w.history
+searches_visited X q a b c h v w j (Ok x) so more is err = searches_judged q a b c h v w j so more is
+searches_visited X q a b c h v w j (Err f) so more is err = searches_failed q.who q.moment a b c h v.history w.history so more (ap (λ (x : ClassView). x.history) err.0)
+
+-- a command that may need a chunk may make what a search makes
+pub suited_search : (command : Command) → MayNeedChunk command → (es : List ClassEvent) → NoneSurveys es → AreSuited command es
+suited_search command needs [] none = tt
+suited_search command needs (events.Surveyed e ∷ es) none = absurd none
+suited_search command needs (events.Unlinked e ∷ es) none = (needs_removes command needs, suited_search command needs es none)
+suited_search command needs (events.Linked e ∷ es) none = (needs, suited_search command needs es none)
+suited_search command needs (events.Shifted e ∷ es) none = (needs, suited_search command needs es none)
+suited_search command needs (events.Evicted e ∷ es) none = (needs, suited_search command needs es none)
+suited_search command needs (events.Reclaimed e ∷ es) none = (tt, suited_search command needs es none)
+suited_search command needs (events.Refused e ∷ es) none = (needs, suited_search command needs es none)
+
 -- ---- events that were called
 
 -- each of these events of a class may be of this call
@@ -157,11 +233,10 @@ abbrev pub AreOf : ClassNo → List ClassEvent → CallEvent → Type 0
 AreOf class [] call = Unit {0}
 AreOf class (e ∷ es) call = SuitsCall class e call × AreOf class es call
 
--- all may be of a command, if none looks for a chunk or the command may need one
-of_command : (class : ClassNo) (es : List ClassEvent) (command : Command) (moment : ℕ) → NoneLooks es ⊎ MayNeedChunk command → AreOf class es (asked_for command moment)
+-- all may be of a command that may make them
+of_command : (class : ClassNo) (es : List ClassEvent) (command : Command) (moment : ℕ) → AreSuited command es → AreOf class es (asked_for command moment)
 of_command class [] command moment fit = tt
-of_command class (e ∷ es) command moment (inl none) = ((λ looks. absurd (none.0 looks)), of_command class es command moment (inl none.1))
-of_command class (e ∷ es) command moment (inr may) = ((λ looks. may), of_command class es command moment (inr may))
+of_command class (e ∷ es) command moment fit = (fit.0, of_command class es command moment fit.1)
 
 -- and of juggling of their class, if none looks for a chunk
 pub of_juggling : (class : ClassNo) (es : List ClassEvent) (moment : ℕ) → NoneLooks es → AreOf class es (juggling_of class moment)
@@ -236,14 +311,14 @@ locked_gains table config old new who moment call kept held number begun more ga
 -- the same of a command
 pub locked_commanded : (table : TableId) (config : Config) (old new : ClassSide) (who : Who) (moment : ℕ) → IsLockedClass table config old → IsHeldClass table config new
     → new.class.number ≡ old.class.number → (begun : HasBegunCommand config new.sight who moment) → Grows old.sight new.sight
-    → GainsFit who moment (MayNeedChunk begun.command) old.class.history new.class.history → IsLockedClass table config new
+    → GainsFit who moment begun.command old.class.history new.class.history → IsLockedClass table config new
 locked_commanded table config old new who moment kept held number begun more gains =
     locked_gains table config old new who moment (asked_for begun.command moment) kept held number begun.begun more gains.0
     (of_command old.class.number gains.0.events begun.command moment gains.1)
 
 -- behind a step of which it told the stripe it was told of it, and of the command
 pub locked_told : (table : TableId) (config : Config) (old first mid new : ClassSide) (who : Who) (moment : ℕ) → IsLockedClass table config old
-    → (begun : HasBegunCommand config new.sight who moment) → GainsFit who moment (MayNeedChunk begun.command) old.class.history first.class.history
+    → (begun : HasBegunCommand config new.sight who moment) → GainsFit who moment begun.command old.class.history first.class.history
     → first.class.number ≡ old.class.number → first.sight ≡ old.sight
     → mid.class ≡ first.class → Grows first.sight mid.sight → IsHeldClass table config mid → new ≡ record mid { sight = new.sight } → Grows mid.sight new.sight
     → IsLockedClass table config new
@@ -251,7 +326,7 @@ locked_told table config old first mid new who moment kept begun gains number sa
     subst (IsLockedClass table config) (sym learnt)
     (locked_commanded table config old (record mid { sight = new.sight }) who moment kept (class_sees table config mid new.sight grows held) (ap (λ (v : ClassView). v.number) told ∙ number) begun
     (subst (λ (s : Sight). Grows s new.sight) same (grows_trans first.sight mid.sight new.sight more grows))
-    (subst (λ (v : ClassView). GainsFit who moment (MayNeedChunk begun.command) old.class.history v.history) (sym told) gains))
+    (subst (λ (v : ClassView). GainsFit who moment begun.command old.class.history v.history) (sym told) gains))
 
 -- ---- a crawl's events
 

@@ -1,5 +1,5 @@
 -- What a pass has seen of a stripe behind a call.
-use Rattle.std.proofs.Common.{◌≡◌, ◌<◌, ℕ, List, inl, inr, arith, Result, Ok, Err, refl, sym, ap, ◌∙◌, subst, ◌++◌, ◌∷◌, [], ◌+◌, length, Some}
+use Rattle.std.proofs.Common.{◌≡◌, ℕ, List, inl, inr, Result, Ok, Err, refl, sym, ap, ◌∙◌, subst, ◌++◌, ◌∷◌, [], ◌+◌, length, Some}
 use Rattle.std.specs.Prelude.{◌⊎◌, IfOk, IfSome, IsErrOf, IsSomeAnd, None, OnErr, Option}
 use mathlib.Core.List.{IsPrefix}
 use Rattle.atomic_table.specs.Seated.{TableId}
@@ -12,12 +12,12 @@ use Rattle.mc_hits.specs.Views.{HandsView, hit_of}
 use Rattle.mc_evidence.proofs.{LockLemmas.stripe_sees_more, SeenLemmas.classes_grow}
 use Rattle.mc_stripe.specs.{StripeCalls.KeepsSite, StripeState.Stripe}
 use Rattle.mc_stripe.specs.declared.trying.Turn.{Turn}
-use Rattle.mc_store.specs.{Held.Ends, Locked.IsLockedStripe, Locked.setting_of, Serving.HasSeenShort, Serving.IsShort, Sides.StripeSide, Sides.stripe_told}
+use Rattle.mc_store.specs.{Held.Ends, Locked.IsLockedStripe, Locked.setting_of, Serving.HasSeenShortFor, Serving.IsShortFor, Sides.StripeSide, Sides.stripe_told}
 use Rattle.mc_store.specs.{Calls.IsCutBy, Calls.IsReplied, Calls.IsRepliedBy, Calls.IsSeenGrow, Commands.IsAnswered, Headline.answered_did, Hits.IsOffered, Hits.OffersOne}
 use Rattle.mc_store.specs.{Hits.queue_of, Hits.with_offer, Waking.MakesActive, Waking.reply_in, Waking.woken_in}
 use Rattle.mc_store.proofs.LockKeepsLemmas.{site_of_number}
 use Rattle.mc_store.specs.declared.replied.Replied.{Replied}
-use Rattle.mc_store.proofs.{EarnedRefusalLemmas.told_sees, ShortHistoryLemmas.short_grows, ShortHistoryLemmas.short_stripe, SyncedStepLemmas.map_length}
+use Rattle.mc_store.proofs.{EarnedRefusalLemmas.told_sees, ShortHistoryLemmas.short_class_grows, ShortHistoryLemmas.short_grows, ShortHistoryLemmas.short_stripe, SyncedStepLemmas.map_length}
 use Rattle.mc_store.specs.Callers.{HasNoneOf, asked_for, answered_at, turns_of, calls_told, moment_of}
 use Rattle.mc_store.specs.Passes.{CallerView, PassView, HasAsked, HasCalled, caller_of, next_who}
 use Rattle.mc_item.specs.declared.call_event.CallEvent.TheVariants.{Answered, Asked, Crawled, Juggled}
@@ -27,7 +27,7 @@ use Rattle.mc_item.specs.declared.call_event.CallEvent.TheVariants.{Answered, As
 pub record IsShared (config : Config) (number : ℕ) (before after : Sight) (calls calls_new : List CallEvent) (who : Who) (command : Command) (moment : ℕ) (r : Result Reply Fault) : Type 0 where
   pub replied : IfOk r (IsRepliedBy config number before after calls calls_new who command moment)
   pub cut : OnErr r (IsCutBy config number before after calls calls_new who command moment)
-  pub full : IsErrOf r HistoryFull → HasSeenShort config after
+  pub full : IsErrOf r HistoryFull → HasSeenShortFor config number command after
 
 module _ {table : TableId} {config : Config} {number : ℕ} {old new : StripeSide} (before : Sight) {after : Sight} (old_kept : IsLockedStripe table config old) (new_kept : IsLockedStripe table config new)
     (number_is : old.stripe.site.stripe ≡ number) (seen : HasSeen (stripe_told old.stripe.history) before old.lock)
@@ -46,12 +46,12 @@ module _ {table : TableId} {config : Config} {number : ℕ} {old new : StripeSid
       }
 
   -- where a history was short, it was seen so
-  short_shared : IsShort config new → HasSeenShort config after
-  short_shared (inl short) =
-      let below : new.stripe.site.stripe < config.stripes = new_kept.of in
-      let lock : new.lock ≡ new.stripe.site.stripe = new_kept.lock_is in
-      short_stripe config new.lock after new.stripe.history new.stripe.limit (omega (arith, below, lock)) new_kept.made_with.limit told short
-  short_shared (inr was) = short_grows config new.sight after grows was
+  short_shared : (command : Command) → KeepsSite old.stripe new.stripe → IsShortFor config command new → HasSeenShortFor config number command after
+  short_shared command site (inl (inl short)) =
+      let lock : new.lock ≡ number = new_kept.lock_is ∙ (ap (λ (t : Site). t.stripe) site.site ∙ number_is) in
+      inl (short_stripe config number after new.stripe.history new.stripe.limit new_kept.made_with.limit (ap (λ (k : ℕ). list_at after.seen k) (sym lock) ∙ told) short)
+  short_shared command site (inl (inr was)) = inr (inl (short_class_grows config new.sight after grows was))
+  short_shared command site (inr (needs, was)) = inr (inr (needs, short_grows config new.sight after grows was))
 
   full_too : (fault : Fault) → IsErrOf {T = Reply} (Err fault) HistoryFull → IsErrOf {T = Replied} (Err fault) HistoryFull
   full_too fault is = let same : fault ≡ HistoryFull = cc is in ap Err same
@@ -79,10 +79,10 @@ module _ {table : TableId} {config : Config} {number : ℕ} {old new : StripeSid
         cut = tt;
         full = λ e. absurd (cc e);
       }
-  shared_by (Err fault) calls ends asked first = record {
+  shared_by {command = command} (Err fault) calls ends asked first = record {
     replied = tt;
     cut = record { old = old.stripe; new = new.stripe; grew = seen_grow ends.site; first = first; cut = ends.cut; noted = ap (λ (v : CallerView). v.calls) ends.unnoted ∙ asked };
-    full = λ e. short_shared (ends.full (full_too fault e));
+    full = λ e. short_shared command ends.site (ends.full (full_too fault e));
   }
 
   -- a hit that it offered is of the item that its event made ACTIVE

@@ -1,5 +1,5 @@
 -- Short histories; and small laws of a step: which fault was answered, what a stripe was made with, where a refusal stands.
-use Rattle.std.proofs.Common.{Result, Ok, Err, refl, sym, ap, ◌∙◌, subst, arith, suc}
+use Rattle.std.proofs.Common.{Result, Ok, Err, refl, sym, ap, ◌∙◌, arith, suc}
 use Rattle.std.specs.Prelude.{ℕ, ◌≡◌, ◌<◌, ◌+◌, ◌++◌, List, [], ◌∷◌, Some, length, IsErrAnd, slice_get}
 use Rattle.mc_item.specs.declared.{answer.Site.Site, config.Config.Config, fault.Fault.Fault, fault.Fault.TheVariants.HistoryFull, item.Who.Who}
 use Rattle.mc_item.specs.declared.{class_event.ClassEvent.ClassEvent, event.Event.Event, stripe_event.StripeEvent.StripeEvent}
@@ -11,7 +11,7 @@ use Rattle.atomic_table.specs.Seated.{TableId}
 use Rattle.mc_board.specs.Histories.{Grows, list_at}
 use Rattle.mc_board.specs.declared.rule.Sight.{Sight}
 use Rattle.mc_board.proofs.PrefixLemmas.{prefix_length}
-use Rattle.mc_store.specs.{Locked.IsHeldClass, Locked.locks_for, Serving.HasSeenShort, Sides.ClassSide, Sides.class_told, Sides.stripe_told}
+use Rattle.mc_store.specs.{Locked.IsHeldClass, Locked.class_lock, Serving.HasSeenShort, Serving.HasSeenShortClass, Sides.ClassSide, Sides.class_told, Sides.stripe_told}
 
 err_same : {T : Type 0} (x y : Fault) → ◌≡◌ {A = Result T Fault} (Err x) (Err y) → x ≡ y
 err_same x y h = cc
@@ -47,29 +47,35 @@ stripe_length (e ∷ es) = ap suc (stripe_length es)
 
 -- a class whose whole history was seen has less than two places left
 pub short_class : (table : TableId) (config : Config) (side : ClassSide) (sight : Sight) (v : ClassView) → IsHeldClass table config side → list_at sight.seen side.lock ≡ class_told side.class.history
-    → v.max_events ≡ side.class.max_events → v.history ≡ side.class.history → v.max_events < length v.history + 2 → HasSeenShort config sight
+    → v.max_events ≡ side.class.max_events → v.history ≡ side.class.history → v.max_events < length v.history + 2 → HasSeenShortClass config sight
 short_class table config side sight v kept told limit_is history_is short = record {
-  lock = side.lock;
-  of = subst (λ (n : ℕ). n < locks_for config) (sym kept.lock_is) (
-      let first = kept.is.0 in
-      let last = kept.is.1 in
-      omega (arith, first, last));
+  class = side.class.number;
+  is = kept.is;
   short =
       let limit : v.max_events ≡ config.max_events = limit_is ∙ kept.made_with.max_events in
-      let long : length (list_at sight.seen side.lock) ≡ length v.history = ap (λ (l : List Event). length l) told ∙ (class_length side.class.history ∙ sym (ap (λ (l : List ClassEvent). length l) history_is)) in
+      let at : list_at sight.seen (class_lock config side.class.number) ≡ class_told side.class.history = ap (λ (n : ℕ). list_at sight.seen n) (sym kept.lock_is) ∙ told in
+      let long : length (list_at sight.seen (class_lock config side.class.number)) ≡ length v.history =
+      ap (λ (l : List Event). length l) at ∙ (class_length side.class.history ∙ sym (ap (λ (l : List ClassEvent). length l) history_is)) in
       omega (arith, limit, long, short);
 }
 
 -- a stripe whose whole history was seen has less than two places left
-pub short_stripe : (config : Config) (lock : ℕ) (sight : Sight) (history : List StripeEvent) (limit : ℕ) → lock < locks_for config → limit ≡ config.max_events
-    → list_at sight.seen lock ≡ stripe_told history → limit < length history + 2
-    → HasSeenShort config sight
-short_stripe config lock sight history limit of limit_is told short = record {
-  lock = lock;
-  of = of;
+pub short_stripe : (config : Config) (lock : ℕ) (sight : Sight) (history : List StripeEvent) (limit : ℕ) → limit ≡ config.max_events
+    → list_at sight.seen lock ≡ stripe_told history → limit < length history + 2 → config.max_events < length (list_at sight.seen lock) + 2
+short_stripe config lock sight history limit limit_is told short =
+    let long : length (list_at sight.seen lock) ≡ length history = ap (λ (l : List Event). length l) told ∙ stripe_length history in
+    omega (arith, limit_is, long, short)
+
+-- a class that was seen short stays so as more is seen
+pub short_class_grows : (config : Config) (a b : Sight) → Grows a b → HasSeenShortClass config a → HasSeenShortClass config b
+short_class_grows config a b grows seen = record {
+  class = seen.class;
+  is = seen.is;
   short =
-      let long : length (list_at sight.seen lock) ≡ length history = ap (λ (l : List Event). length l) told ∙ stripe_length history in
-      omega (arith, limit_is, long, short);
+      let lock = class_lock config seen.class in
+      let longer = prefix_length (list_at a.seen lock) (list_at b.seen lock) (grows.at lock) in
+      let was = seen.short in
+      omega (arith, longer, was);
 }
 
 -- what was seen short stays so as more is seen

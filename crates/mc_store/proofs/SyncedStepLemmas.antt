@@ -20,7 +20,7 @@ use Rattle.mc_pull.specs.{Agreeing.AgreeNow, Agreeing.KeepsAgreement, Lone.Strip
 use Rattle.mc_pull.specs.{Settled.done_class_events, Settled.done_stripe_events, Sight.KeepsSight, Walker.Walker}
 use Rattle.mc_pull.specs.Growth as classes
 use Rattle.mc_pull.specs.declared.judge.Done.{Done}
-use Rattle.mc_store.specs.{Locked.IsHeldClass, Locked.IsLockedStripe, Locked.class_lock, Locked.setting_of, Locked.HasBegun, Serving.HasSeenShort}
+use Rattle.mc_store.specs.{Locked.IsHeldClass, Locked.IsLockedStripe, Locked.class_lock, Locked.setting_of, Locked.HasBegun, Serving.HasSeenShort, Serving.HasSeenShortClass}
 use Rattle.mc_store.specs.{Serving.IsShort, Serving.MayFailSeen, Serving.class_side, Sides.ClassSide, Sides.StripeSide, Sides.class_told, Sides.stripe_told}
 use Rattle.mc_store.proofs.CallerLemmas.{called_walked}
 use Rattle.mc_store.proofs.LockKeepsLemmas.{class_after, class_sees, heard_class, heard_stripe, met, stripe_after, stripe_sees}
@@ -86,12 +86,18 @@ class_at lent c sight = record { board = lent.board; lock = lent.lock; class = c
 
 -- a class's history that was told whole, and is short
 pub short_of : (config : Config) (sight : Sight) (lock : ℕ) (class : ClassNo) (history : List ClassEvent) → lock ≡ class_lock config class → IsClass (setting_of config) class
-    → list_at sight.seen lock ≡ class_told history → config.max_events < length history + 2 → HasSeenShort config sight
+    → list_at sight.seen lock ≡ class_told history → config.max_events < length history + 2 → HasSeenShortClass config sight
 short_of config sight lock class history at is list lack =
-    let long : length (list_at sight.seen lock) ≡ length history = ap (λ (t : List Event). length t) list ∙ map_length events.Class history in
-    let first = is.0 in
-    let last = is.1 in
-    record { lock = lock; of = omega (arith, at, first, last); short = omega (arith, long, lack) }
+    let long : length (list_at sight.seen (class_lock config class)) ≡ length history =
+    ap (λ (n : ℕ). length (list_at sight.seen n)) (sym at) ∙ (ap (λ (t : List Event). length t) list ∙ map_length events.Class history) in
+    record { class = class; is = is; short = omega (arith, long, lack) }
+
+-- a class's short history is one of the store's
+pub any_short : (config : Config) (sight : Sight) → HasSeenShortClass config sight → HasSeenShort config sight
+any_short config sight seen =
+    let first = seen.is.0 in
+    let last = seen.is.1 in
+    record { lock = class_lock config seen.class; of = omega (arith, first, last); short = seen.short }
 
 -- a stripe and a class that agreed stepped together, and were told of each other
 module _ (table : TableId) (config : Config) (own : StripeSide) (lent : ClassSide) (own_kept : IsLockedStripe table config own) (lent_kept : IsHeldClass table config lent) (agree : AgreeNow lent.class own.stripe)

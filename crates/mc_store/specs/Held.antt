@@ -16,7 +16,8 @@ use Rattle.mc_pull.specs.declared.attempting.Tried.{Tried}
 use Rattle.mc_pull.specs.declared.attempting.Tried.TheVariants as tried
 use Rattle.mc_pull.specs.{Lone.AreMadeBy, Perform.call}
 use Rattle.mc_store.specs.{Callers.answered_at, Calls.IsRepliedAs, Commands.IsCut, Commands.walker_in, Earned.HasGivenUp, Earned.IsEarnedAt, Earned.IsEarnedIn}
-use Rattle.mc_store.specs.{Passes.CallerView, Passes.HasAsked, Performing.IsMadeOnStripe, Serving.HasSeenShort, Serving.IsShort, Sides.ClassSide}
+use Rattle.mc_store.specs.{Passes.CallerView, Passes.HasAsked, Performing.IsMadeOnStripe, Serving.HasSeenShortClass, Serving.IsShort, Serving.IsShortFor}
+use Rattle.mc_store.specs.Sides.{ClassSide}
 use Rattle.mc_store.specs.Sides.{StripeSide}
 use Rattle.mc_store.specs.declared.replied.Replied.{Replied}
 
@@ -48,7 +49,7 @@ pub record IsStillFull (config : Config) (sight : Sight) (refused : Option ℕ) 
   pub full : IsFull v_new.chunks (lists_of v_new.history)
   pub history_is : v_new.history ≡ v.history
   pub number_is : v_new.number ≡ v.number
-  pub short : v_new.max_events < length v_new.history + 2 → HasSeenShort config sight
+  pub short : v_new.max_events < length v_new.history + 2 → HasSeenShortClass config sight
 
 -- a command needs a new chunk of this class, and needs no other class than this and the one for its key's item
 pub record WantsChunk (class : ClassNo) (other : Option ClassNo) (s : Stripe) (command : Command) (moment : ℕ) : Type 0 where
@@ -107,7 +108,7 @@ HasGivenUpAny config s turn v =
     → HasGivenUp config (record { 0 = s.site.stripe }) v.number turn.who turn.moment key v.history
 
 -- how a command ends under the lock of its stripe: it was answered, or it was broken off with at most what leads up to it;
--- `HistoryFull` means that a history has fewer than two places left
+-- `HistoryFull` means that a history that it may write has fewer than two places left
 pub record Ends (config : Config) (s : Stripe) (own_new : StripeSide) (caller caller_new : CallerView) (command : Command) (turn : Turn)
     (result : Result Replied Fault) : Type 0 where
   pub replied : IfOk result (IsRepliedAs config turn.who command turn.moment s own_new.stripe own_new.sight caller.calls caller_new.calls)
@@ -115,4 +116,4 @@ pub record Ends (config : Config) (s : Stripe) (own_new : StripeSide) (caller ca
   pub unnoted : OnErr result (caller_new ≡ caller)
   pub number : caller_new.number ≡ caller.number
   pub site : KeepsSite s own_new.stripe
-  pub full : IsErrOf result HistoryFull → IsShort config own_new
+  pub full : IsErrOf result HistoryFull → IsShortFor config command own_new

@@ -12,7 +12,8 @@ use Rattle.mc_evidence.specs.{Locks.ClassKeeps, Locks.StripeKeeps, Seen.classes_
 use Rattle.mc_store.specs.declared.lock_no.LockNo.{LockNo}
 use Rattle.mc_store.specs.declared.lock_no.LockNo.TheVariants as locks
 use Rattle.mc_store.specs.Callers.{AreCalled, IsBegun, IsBegunAs, asked_for, call_events}
-use Rattle.mc_store.specs.{Made.AreCalledInClass, Made.MayNeedChunk, Sides.ClassSide, Sides.StripeSide}
+use Rattle.mc_pull.specs.Suited.{MayNeedChunk}
+use Rattle.mc_store.specs.{Made.AreCalledInClass, Sides.ClassSide, Sides.StripeSide}
 
 -- what a configuration fixes for a store
 abbrev pub setting_of : Config → Setting

@@ -3,12 +3,11 @@ use Rattle.std.specs.Prelude.{◌≡◌, ◌≢◌, ◌<◌, ◌+◌, ◌++◌, 
 use Rattle.mc_item.specs.declared.{call_event.CallEvent.CallEvent, class_event.ClassEvent.ClassEvent, event.Event.Event, item.ClassNo.ClassNo, item.Who.Who}
 use Rattle.mc_item.specs.declared.call_event.CallEvent.TheVariants.{Answered, Asked, Crawled, Juggled}
 use Rattle.mc_item.specs.declared.class_event.ClassEvent.TheVariants as events
-use Rattle.mc_item.specs.declared.{command.Command.Command, command.Command.TheVariants.Get, command.Command.TheVariants.Store}
-use Rattle.mc_item.specs.declared.command.Command.TheVariants.{Huge, Incr, Decr, Touch, Delete}
 use Rattle.mc_board.specs.Histories.{Grows}
 use Rattle.mc_board.specs.declared.rule.Sight.{Sight}
-use Rattle.mc_pull.specs.Growth.{LooksForChunk}
-use Rattle.mc_store.specs.Callers.{IsBegun, call_events}
+use Rattle.mc_item.specs.declared.command.Command.{Command}
+use Rattle.mc_pull.specs.{Growth.LooksForChunk, Suited.MayNeedChunk, Suited.SuitsCommand}
+use Rattle.mc_store.specs.Callers.{IsBegun, IsBegunAs, asked_for, call_events}
 
 -- who made an event of a class
 abbrev pub maker_of : ClassEvent → Who
@@ -54,6 +53,22 @@ pub record WalksOwn (who : Who) (moment : ℕ) (before after : Sight) (history h
   pub sees : Grows before after
   pub gains : GainsOwn who moment history history_new
 
+-- none of these events is a survey
+abbrev pub NoneSurveys : List ClassEvent → Type 0
+NoneSurveys [] = Unit {0}
+NoneSurveys (events.Surveyed e ∷ es) = ⊥
+NoneSurveys (events.Linked e ∷ es) = NoneSurveys es
+NoneSurveys (events.Unlinked e ∷ es) = NoneSurveys es
+NoneSurveys (events.Shifted e ∷ es) = NoneSurveys es
+NoneSurveys (events.Evicted e ∷ es) = NoneSurveys es
+NoneSurveys (events.Reclaimed e ∷ es) = NoneSurveys es
+NoneSurveys (events.Refused e ∷ es) = NoneSurveys es
+
+-- a search of this call walked, as in `WalksOwn`, and made no survey
+pub record SearchesOwn (who : Who) (moment : ℕ) (before after : Sight) (history history_new : List ClassEvent) : Type 0 where
+  pub walked : WalksOwn who moment before after history history_new
+  pub none : NoneSurveys walked.gains.events
+
 -- the event reclaims an entry
 abbrev pub IsReclaimed : ClassEvent → Type 0
 IsReclaimed (events.Reclaimed e) = Unit {0}
@@ -64,20 +79,10 @@ IsReclaimed (events.Evicted e) = ⊥
 IsReclaimed (events.Surveyed e) = ⊥
 IsReclaimed (events.Refused e) = ⊥
 
--- a command may need a chunk: it stores a value or counts
-abbrev pub MayNeedChunk : Command → Type 0
-MayNeedChunk (Store verb key flags exptime value) = Unit {0}
-MayNeedChunk (Incr key delta) = Unit {0}
-MayNeedChunk (Decr key delta) = Unit {0}
-MayNeedChunk (Get key) = ⊥
-MayNeedChunk (Huge verb key) = ⊥
-MayNeedChunk (Touch key exptime) = ⊥
-MayNeedChunk (Delete key) = ⊥
-
--- a call may make this event of a class: a command in any class, but it looks for a chunk only if it may need one; juggling in its
--- own class, without looking for a chunk; a crawl in its own class, if the event reclaims an entry; an answer makes none
+-- a call may make this event of a class: a command in any class; juggling in its own class, without looking for a chunk; a crawl in
+-- its own class, if the event reclaims an entry; an answer makes none
 abbrev pub SuitsCall : ClassNo → ClassEvent → CallEvent → Type 0
-SuitsCall class event (Asked asked) = LooksForChunk event → MayNeedChunk asked.command
+SuitsCall class event (Asked asked) = SuitsCommand asked.command event
 SuitsCall class event (Juggled worked) = (worked.class ≡ class) × (LooksForChunk event → ⊥)
 SuitsCall class event (Crawled worked) = (worked.class ≡ class) × IsReclaimed event
 SuitsCall class event (Answered answered) = ⊥
@@ -88,6 +93,13 @@ pub record IsClassCalled (calls : List CallEvent) (class : ClassNo) (event : Cla
   pub begun : IsBegun calls (maker_of event).turn moment
   pub timed : IsTimed event moment
   pub own : SuitsCall class event begun.call
+
+-- a caller's history has, in this turn, the call for a command that may need a chunk
+pub record IsBegunForChunk (calls : List CallEvent) (turn : ℕ) : Type 0 where
+  pub command : Command
+  pub needs : MayNeedChunk command
+  pub moment : ℕ
+  pub begun : IsBegunAs calls turn moment (asked_for command moment)
 
 -- each event of a class's history was called by one of so many callers, in what was seen of that caller's history; on the board
 -- the callers' histories come after so many others

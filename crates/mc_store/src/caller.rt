@@ -77,9 +77,10 @@ impl<N: Named> Caller<N> {
         self.number
     }
 
-    // How many turns (calls) it has had.
+    // How many turns (calls) it has had, at most `max_events`.
     pub(crate) fn turn(&self) -> u64
-        ensures { result ≡ length (turns_of self.now.calls) }
+        ensures turns { result ≡ length (turns_of self.now.calls) }
+        ensures few { result ≤ N.config.max_events }
     {
         self.turn
     }

@@ -4,7 +4,8 @@ ghost use Rattle.mc_item.specs.{Command.key_of, Measure.stripe_of};
 ghost use Rattle.mc_item.specs.declared.fault.Fault.TheVariants.{HistoryFull};
 ghost use Rattle.mc_board.specs.Histories.{Grows};
 ghost use Rattle.mc_evidence.specs.Setting.{IsClass};
-ghost use Rattle.mc_store.specs.{Calls.IsCutBy, Calls.IsRepliedBy, Callers.turns_of, Hits.IsOffered, Locked.setting_of, Passes.next_who, Serving.HasSeenShort};
+ghost use Rattle.mc_store.specs.{Calls.IsCutBy, Calls.IsRepliedBy, Callers.turns_of, Hits.IsOffered, Locked.setting_of, Passes.next_who};
+ghost use Rattle.mc_store.specs.Serving.{HasSeenShortFor};
 ghost use Rattle.mc_store.specs.Waking.{reply_in, woken_in};
 
 use crate::answering::{answer, answer_for};
@@ -62,8 +63,9 @@ impl<N: Named> Store<N> {
     /// If the command's hit made its item ACTIVE, it offers the hit to the queue of the item's class, without any lock. If the queue
     /// is full, the hit is dropped.
     /// After a fault the stripe's history has gained at most what leads up to the command: the dead item's removal, and a search
-    /// for a chunk. The caller's history has gained at most the call. `HistoryFull` comes only if a stripe's or class's history
-    /// has fewer than two places left, or the pass has had `max_events` turns. `NoMemory` comes if an allocation fails.
+    /// for a chunk. The caller's history has gained at most the call. `HistoryFull` comes only if the history of the key's stripe
+    /// or of a class has fewer than two places left, or the pass has had `max_events` turns. For a command that may need a chunk it
+    /// may also be another stripe's history. `NoMemory` comes if an allocation fails.
     pub fn command(
         &self,
         alloc: Global,
@@ -83,7 +85,8 @@ impl<N: Named> Store<N> {
         ensures grows { Grows pass.old.sight pass.new.sight }
         ensures caller { pass.new.caller ≡ pass.old.caller }
         ensures turn { (pass.new.turn ≡ length (turns_of pass.new.calls)) × OnOk result (pass.new.turn ≡ pass.old.turn + 1) }
-        ensures full { IsErrOf result HistoryFull → HasSeenShort N.config pass.new.sight ⊎ (N.config.max_events ≤ pass.old.turn) }
+        ensures full { IsErrOf result HistoryFull → HasSeenShortFor N.config (stripe_of (key_of command) N.config.stripes).0 command pass.new.sight
+            ⊎ (N.config.max_events ≤ pass.old.turn) }
     {
         let asking = Asking {
             command: &command,

@@ -3,7 +3,8 @@ ghost use Rattle.std.specs.Prelude.{◌≡◌, ◌≢◌, ◌≤◌, ◌+◌, Li
 ghost use Rattle.mc_pull.specs.{Growth.GainsEvents, Growth.GainsFor, Juggle.IsJuggle, Lone.StripeGrows, Question.IsClassOf, Rounds.IsRoom, Rounds.rounds};
 ghost use Rattle.mc_pull.specs.Walker.{walker_of};
 ghost use Rattle.mc_pull.specs.declared.looking.Answer.{Answer};
-ghost use Rattle.mc_store.specs.{Earned.IsSearchInVain, Looked.IsOfCall, Serving.IsServed, Serving.MayFailSeen, Locked.HasBegun, Made.WalksOwn};
+ghost use Rattle.mc_store.specs.{Earned.IsSearchInVain, Looked.IsOfCall, Serving.IsServed, Serving.MayFailSeen, Locked.HasBegun};
+ghost use Rattle.mc_store.specs.Made.{SearchesOwn, WalksOwn};
 
 use crate::judging::judge;
 use crate::locked::LockedStripe;
@@ -132,7 +133,7 @@ pub(crate) struct Holding<'a, 'b, N: Named> {
 impl<'a, 'b, N: Named> Gate for Holding<'a, 'b, N> {
     ghost use Rattle.std.specs.Prelude.{◌≡◌, ◌∷◌, []};
     ghost use Rattle.mc_pull.specs.Lone.{StripeGrows};
-    ghost use Rattle.mc_store.specs.{Looked.HasLooked, Looked.IsOfCall, Locked.HasBegun, Made.WalksOwn, Serving.IsServed, Serving.MayFailSeen};
+    ghost use Rattle.mc_store.specs.{Looked.HasLooked, Looked.IsOfCall, Locked.HasBegun, Made.SearchesOwn, Serving.IsServed, Serving.MayFailSeen};
 
     ghost answers = { λ g. g.others.answers.now.items };
 
@@ -146,7 +147,7 @@ impl<'a, 'b, N: Named> Gate for Holding<'a, 'b, N> {
     ghost keeps = { λ w g begun h history. StripeGrows w g.own.now.stripe h.own.now.stripe
         × (IsOfCall w g.others.who g.others.moment → IsOfCall w h.others.who h.others.moment
         × HasLooked N.config.stripes w g.own.now.stripe g.others.answers.now.items h.others.answers.now.items begun history)
-        × WalksOwn w.who w.moment g.others.seen.now.sight h.others.seen.now.sight begun history };
+        × SearchesOwn w.who w.moment g.others.seen.now.sight h.others.seen.now.sight begun history };
 
     fn visit(&mut self, stripe: StripeNo, look: &mut Look<'_>) -> Result<bool, Fault> {
         if !self.lends(stripe, look) {
@@ -184,7 +185,7 @@ impl<'a, 'b, N: Named> Holding<'a, 'b, N> {
     }
 
     // Makes room in a class by `make_room`, whose contract is for any gate. This one adds what is true of this gate: it holds the
-    // same references, its stripe and the class gain only events of this call, and a search that finds no chunk has tried.
+    // same references, its stripe and the class gain only events of this call and no survey, and a search that finds no chunk has tried.
     pub(crate) fn make_room(
         &mut self,
         alloc: Global,
@@ -206,7 +207,7 @@ impl<'a, 'b, N: Named> Holding<'a, 'b, N> {
         ensures seen_reference { self.new.others.seen.ghost_name ≡ self.old.others.seen.ghost_name }
         ensures served { IsServed N.board.table N.config self.new.others.owner.now self.new.others.seen.now class.new }
         ensures stripe { StripeGrows (walker_of class.old who moment) self.old.own.now.stripe self.new.own.now.stripe }
-        ensures walked { WalksOwn who moment self.old.others.seen.now.sight self.new.others.seen.now.sight class.old.history class.new.history }
+        ensures searched { SearchesOwn who moment self.old.others.seen.now.sight self.new.others.seen.now.sight class.old.history class.new.history }
         ensures tried { IfOk result (λ found. found ≡ false → IsOfCall (walker_of class.old who moment) self.old.others.who self.old.others.moment
             → IsSearchInVain N.config class.old self.old.own.now.stripe who moment class.new.history) }
     {

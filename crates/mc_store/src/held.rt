@@ -9,7 +9,7 @@ ghost use Rattle.mc_rule.specs.Lists.{IsFull, lists_of};
 ghost use Rattle.mc_segment.specs.ClassState.{with_room};
 ghost use Rattle.mc_stripe.specs.StripeCalls.{KeepsSite};
 ghost use Rattle.mc_store.specs.Held.{Ends, HasGivenUpAny, IsCallOn, IsRefusedAt, IsStillFull, IsTriedOn, IsWalked, Suffice, WantsChunk, class_held};
-ghost use Rattle.mc_store.specs.{Callers.asked_for, Locked.HasBegunAs, Locked.HasBegunSearch, Serving.IsShort};
+ghost use Rattle.mc_store.specs.{Callers.asked_for, Locked.HasBegunAs, Locked.HasBegunSearch, Serving.HasSeenShort, Serving.IsShort};
 
 use crate::caller::Caller;
 use crate::locked::{LockedClass, LockedStripe};
@@ -134,7 +134,7 @@ fn search<N: Named>(
     ensures number { home.new.class.number ≡ home.old.class.number }
     ensures begun { HasBegunSearch N.config own.new.sight turn.who turn.moment }
     ensures site { KeepsSite own.old.stripe own.new.stripe }
-    ensures full { IsErrOf result HistoryFull → IsShort N.config own.new }
+    ensures full { IsErrOf result HistoryFull → HasSeenShort N.config own.new.sight }
 {
     if !home.side().state().is_full() {
         return Ok(());

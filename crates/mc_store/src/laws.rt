@@ -1,16 +1,18 @@
 //! The README's headline, said of a closed store: laws, which are contracts without code.
 ghost use Rattle.std.specs.Prelude.{◌≡◌, ◌<◌, ◌+◌, ◌++◌, ℕ, List, IsSomeAnd, None, Some, ◌∷◌, length, slice_get};
-ghost use Rattle.mc_item.specs.{Cache.visible_items, Stripe.cache_of};
+ghost use Rattle.mc_item.specs.{Cache.visible_items, Stripe.IsDead, Stripe.cache_of};
 ghost use Rattle.mc_item.specs.declared.{call_event.CallEvent.CallEvent, class_event.ClassEvent.ClassEvent, command.Command.Command, config.Config.Config};
-ghost use Rattle.mc_item.specs.declared.{item.Item.Item, item.Who.Who, reply.Reply.Reply, stripe_event.StripeEvent.StripeEvent, stripe_event.Did.Did};
+ghost use Rattle.mc_item.specs.declared.{item.ClassNo.ClassNo, item.Item.Item, item.Who.Who, reply.Reply.Reply, stripe_event.StripeEvent.StripeEvent};
+ghost use Rattle.mc_item.specs.declared.{stripe_event.Cause.TheVariants.Expired, stripe_event.Cause.TheVariants.Taken, stripe_event.Did.Did};
+ghost use Rattle.mc_item.specs.declared.{stripe_event.Lost.Lost};
 ghost use Rattle.mc_item.specs.declared.stripe_event.StripeEvent.TheVariants as events;
-ghost use Rattle.mc_rule.specs.Pairs.{item_after};
+ghost use Rattle.mc_rule.specs.{Pairs.item_after, Places.Stands};
 ghost use Rattle.mc_evidence.specs.{Losses.AreNoCommands, Losses.IsSameItem, Losses.WasLost, Setting.site_in, Sound.IsSoundStore};
 ghost use Rattle.mc_board.specs.Histories.{Grows};
 ghost use Rattle.mc_board.specs.declared.rule.Sight.{Sight};
 ghost use Rattle.mc_store.specs.{Calls.IsRepliedBy, Headline.IsBorneOut, Locked.setting_of, Passes.PassView};
-ghost use Rattle.mc_store.specs.Callers.{HasNoAnswer, IsCalled, moment_of, turns_of, who_of};
-ghost use Rattle.mc_store.specs.{Made.IsClassCalled, Made.maker_of, Sides.ClassSide, Sides.StripeSide};
+ghost use Rattle.mc_store.specs.Callers.{HasNoAnswer, IsBegun, IsCalled, moment_of, turns_of, who_of};
+ghost use Rattle.mc_store.specs.{Made.IsBegunForChunk, Made.IsClassCalled, Made.maker_of, Sides.ClassSide, Sides.StripeSide};
 ghost use Rattle.mc_store.specs.Finals.{AreClasses, AreItsOwn, AreItsOwnInClasses, AreStripes, FinalView, HasNoDid, IsBehindStripes, class_histories};
 ghost use Rattle.mc_store.specs.Finals.{stripe_histories};
 
@@ -61,6 +63,24 @@ pub fn each_class_event_of_a_closed_store_was_called()
         → ((caller : ℕ) → caller < config.callers → ((passes caller).caller ≡ caller) × AreItsOwnInClasses (passes caller) final.classes)
         → slice_get final.classes number ≡ Some s → slice_get s.class.history place ≡ Some event
         → ((maker_of event).caller < config.callers) × IsClassCalled (passes (maker_of event).caller).calls (record { 0 = number + 1 }) event }
+{}
+
+/// Each loss of a closed store has the call that it was made for. An item that was lost as dead was dead at the moment of a call of
+/// the loss's caller, in the loss's turn. An item that was taken while it might live was taken in a call for a storage command,
+/// `incr` or `decr`: no `get`, `touch` or `delete`, no juggling and no crawl takes an item.
+/// It holds if each caller's pass was compared with the closed store, which is sound.
+pub fn each_loss_of_a_closed_store_was_called_for()
+    ensures expired { (config : Config) (final : FinalView) (passes : ℕ → PassView) (number : ℕ) (before : List StripeEvent) (lost : Lost) (moment : ℕ)
+        → IsSoundStore (setting_of config) (stripe_histories final.stripes) (class_histories final.classes) → AreStripes final.board config final.stripes
+        → ((caller : ℕ) → caller < config.callers → ((passes caller).caller ≡ caller) × AreItsOwn (passes caller) final.stripes)
+        → number < config.stripes → Stands (stripe_histories final.stripes number) before (events.Lost lost) → lost.cause ≡ Expired moment
+        → IsDead (item_after (site_in (setting_of config) number) before lost.key) moment
+        × (lost.who.caller < config.callers) × IsBegun (passes lost.who.caller).calls lost.who.turn moment }
+    ensures taken { (config : Config) (final : FinalView) (passes : ℕ → PassView) (number place : ℕ) (before : List StripeEvent) (lost : Lost) (class : ClassNo)
+        → IsSoundStore (setting_of config) (stripe_histories final.stripes) (class_histories final.classes) → AreClasses final.board config final.classes
+        → ((caller : ℕ) → caller < config.callers → ((passes caller).caller ≡ caller) × AreItsOwnInClasses (passes caller) final.classes)
+        → number < config.stripes → Stands (stripe_histories final.stripes number) before (events.Lost lost) → lost.cause ≡ Taken class place
+        → (lost.who.caller < config.callers) × IsBegunForChunk (passes lost.who.caller).calls lost.who.turn }
 {}
 
 /// A turn that ended in a fault isn't answered: if no answer comes right after a call in its caller's history, a closed store has no

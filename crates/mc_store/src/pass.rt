@@ -58,9 +58,10 @@ impl<N: Named> Pass<N> {
         }
     }
 
-    /// Returns who makes the next call by this pass: the caller, in its next turn.
+    /// Returns who makes the next call by this pass: the caller, in its next turn. A pass has had at most `max_events` turns.
     pub fn next_who(&self) -> Who
-        ensures { result ≡ next_who self.now }
+        ensures who { result ≡ next_who self.now }
+        ensures few { self.now.turn ≤ N.config.max_events }
     {
         Who {
             caller: self.caller.number(),

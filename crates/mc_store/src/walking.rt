@@ -5,8 +5,8 @@ ghost use Rattle.mc_stripe.specs.{Plan.dead_link, StripeCalls.KeepsSite, StripeS
 ghost use Rattle.mc_pull.specs.Growth as classes;
 ghost use Rattle.mc_pull.specs.{Juggle.IsJuggle, Lone.StripeGrows, Rounds.IsRoom, Rounds.rounds, Settled.lost_event, Walker.walker_of};
 ghost use Rattle.mc_pull.specs.declared.looking.Answer.{Answer};
-ghost use Rattle.mc_store.specs.{Callers.juggling_of, Earned.IsSearchInVain, Serving.IsServed, Serving.IsShort, Serving.MayFailSeen, Locked.HasBegun};
-ghost use Rattle.mc_store.specs.{Locked.HasBegunAs, Locked.HasBegunCommand, Locked.HasBegunSearch, Made.WalksOwn};
+ghost use Rattle.mc_store.specs.{Callers.juggling_of, Earned.IsSearchInVain, Serving.HasSeenShort, Serving.IsServed, Serving.IsShort, Serving.MayFailSeen};
+ghost use Rattle.mc_store.specs.{Locked.HasBegun, Locked.HasBegunAs, Locked.HasBegunCommand, Locked.HasBegunSearch, Made.SearchesOwn};
 ghost use Rattle.mc_board.specs.Histories.{Grows};
 
 use crate::gates::{Holding, Trying};
@@ -40,7 +40,7 @@ fn make_room_with<N: Named>(
     ensures served { IsServed N.board.table N.config owner.new seen.new class.new }
     ensures stripe { StripeGrows (walker_of class.old who moment) own.old.stripe own.new.stripe }
     ensures tried { IfOk result (λ found. found ≡ false → IsSearchInVain N.config class.old own.old.stripe who moment class.new.history) }
-    ensures walked { WalksOwn who moment seen.old.sight seen.new.sight class.old.history class.new.history }
+    ensures searched { SearchesOwn who moment seen.old.sight seen.new.sight class.old.history class.new.history }
     ensures fault { IfErr result (MayFailSeen N.config seen.new.sight class.new) }
 {
     let mut answers = Vec::new(alloc);
@@ -76,7 +76,7 @@ pub(crate) fn make_room_under<N: Named>(
     ensures stripe { StripeGrows (walker_of class.old.class who moment) own.old.stripe own.new.stripe }
     ensures tried { IfOk result (λ found. found ≡ false → IsSearchInVain N.config class.old.class own.old.stripe who moment class.new.class.history) }
     ensures begun { HasBegunSearch N.config own.new.sight who moment }
-    ensures full { IsErrOf result HistoryFull → IsShort N.config own.new }
+    ensures full { IsErrOf result HistoryFull → HasSeenShort N.config own.new.sight }
 {
     let board = &store.board;
     class.learn_from(board, own);

@@ -54,7 +54,7 @@ impl Calls for Noted {
 
     ghost turn = { λ m. m.made };
 
-    ghost notes = { λ m calls. length calls ≡ m.made };
+    ghost notes = { λ m calls begun. length calls ≡ m.made };
 
     ghost is_full = { λ m. Unit {0} };
 

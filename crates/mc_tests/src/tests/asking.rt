@@ -83,7 +83,7 @@ impl Calls for Misses {
 
     ghost turn = { λ m. m.made };
 
-    ghost notes = { λ m calls. length calls ≡ m.made };
+    ghost notes = { λ m calls begun. length calls ≡ m.made };
 
     ghost is_full = { λ m. MOST ≤ m.made };
 

@@ -20,7 +20,6 @@ returns-clause-ok g c =
       idle = run.idle;
       full = run.full;
       whole = run.whole;
-      called = run.called;
       by = run.by;
       many = run.outcomes;
       pairs = run.ends;

@@ -1,10 +1,9 @@
-use Rattle.std.proofs.Common.{◌≡◌, inr, subst, arith}
-use Rattle.std.specs.{List.All, List.flat_map, Io.KnownBytes.Appends}
-use Rattle.mc_script.specs.declared.outcome.Outcome.TheVariants.{Done}
+use Rattle.std.proofs.Common.{inr, subst, arith}
+use Rattle.std.specs.List.{flat_map}
 use Rattle.mc_proto.specs.Gathered.{bytes_of_parts}
 use Rattle.mc_item.proofs.ConfigLemmas.{bounded}
-use Rattle.mc_driver.specs.{Input.IsRunOf, Status.IsFirstFault}
-use Rattle.mc_driver.proofs.StatusLemmas.{told_not_two, told_small, unrun_for_number}
+use Rattle.mc_driver.specs.Input.{IsRunOf}
+use Rattle.mc_driver.proofs.StatusLemmas.{unrun_for_number}
 use Rattle.mc_driver.proofs.program.run_input.Goals as goal
 
 pub returns-clause-done : goal.returns-clause-done
@@ -17,9 +16,8 @@ returns-clause-done g c = λ zero.
       ended = run.outcomes.items;
       final = run.ledger;
       run = subst (λ moments. IsRunOf c.args.plan.config moments input printed run.outcomes.items run.ledger) c.as_slice-upkeep.ensures c.in-Ok.ensures.ok;
-      done = subst (All (λ outcome. outcome ≡ Done)) c.as_slice-2.ensures.value (c.say_outcomes-status.ensures.done zero);
-      written = subst (λ ends. Appends (g.W.Write.contents c.args.writer.now) (g.W.Write.contents c.print_scripts.new.writer)
-          (flat_map (λ end. bytes_of_parts end.1.pieces.items) ends)) c.as_slice.ensures.value c.in-Ok-print_scripts.ensures;
+      done = c.print_answered-status.ensures.done zero;
+      written = c.print_answered-status.ensures.printed (λ three. omega (arith, zero, three));
     }
 
 pub run_cut-requires-clause-bounded : goal.run_cut-requires-clause-bounded
@@ -40,17 +38,12 @@ returns-clause-broken g c = λ one.
       ended = run.outcomes.items;
       final = run.ledger;
       run = subst (λ moments. IsRunOf c.args.plan.config moments input printed run.outcomes.items run.ledger) c.as_slice-upkeep.ensures c.in-Ok.ensures.ok;
-      fault = subst (λ status. IsFirstFault status run.outcomes.items) one
-          (subst (IsFirstFault c.say_outcomes-status.result) c.as_slice-2.ensures.value (c.say_outcomes-status.ensures.first (omega (arith, one))));
-      written = subst (λ ends. Appends (g.W.Write.contents c.args.writer.now) (g.W.Write.contents c.print_scripts.new.writer)
-          (flat_map (λ end. bytes_of_parts end.1.pieces.items) ends)) c.as_slice.ensures.value c.in-Ok-print_scripts.ensures;
+      fault = c.print_answered-status.ensures.first one;
+      written = c.print_answered-status.ensures.printed (λ three. omega (arith, one, three));
     })
 
 pub returns-clause-refused : goal.returns-clause-refused
-returns-clause-refused g c = λ two. absurd (told_not_two _ _ c.say_outcomes-status.ensures.first two)
+returns-clause-refused g c = λ two. absurd (c.print_answered-status.ensures.never two)
 
 pub returns-clause-kept : goal.returns-clause-kept
-returns-clause-kept g c = λ two. absurd (told_not_two _ _ c.say_outcomes-status.ensures.first two)
-
-pub returns-clause-few : goal.returns-clause-few
-returns-clause-few g c = told_small _ _ c.say_outcomes-status.ensures.first
+returns-clause-kept g c = λ two. absurd (c.print_answered-status.ensures.never two)

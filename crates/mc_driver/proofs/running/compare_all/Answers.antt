@@ -1,6 +1,6 @@
 use Rattle.std.proofs.Common.{◌≡◌, length, slice_get, set, ap, ◌∙◌, subst, sym, below_more, arith}
 use Rattle.std.proofs.lemmas.{List.set-get_or, Option.get_or_from_slice_get, Option.slice_get_within}
-use Rattle.mc_store.specs.{Finals.AreStripes, Finals.FinalView, Passes.PassView}
+use Rattle.mc_store.specs.{Finals.AreClasses, Finals.AreStripes, Finals.FinalView, Passes.PassView}
 use Rattle.mc_driver.specs.Called.{IsCompared}
 use Rattle.mc_driver.proofs.running.compare_all.Goals as goal
 
@@ -17,7 +17,9 @@ loop-i-preserved g c =
           (λ p e.
           let is : x ≡ p = c.index_mut.ensures.value ∙ get_or_from_slice_get items c.loop-i.i p x (ap (λ ys. slice_get ys c.loop-i.i) i.1 ∙ e) in
           let stripes = subst (λ (f : FinalView). AreStripes table config f.stripes) (sym i.0) c.requires.stripes in
-          let compared : IsCompared x c.loop-i.ledger = record { stripes = c.compare.ensures.stripes; classes = c.compare.ensures.classes; own = c.compare.ensures.own stripes } in
+          let classes = subst (λ (f : FinalView). AreClasses table config f.classes) (sym i.0) c.requires.classes in
+          let compared : IsCompared x c.loop-i.ledger =
+          record { stripes = c.compare.ensures.stripes; classes = c.compare.ensures.classes; own = c.compare.ensures.own stripes; own_in_classes = c.compare.ensures.own_in_classes classes } in
           subst (λ (f : FinalView). IsCompared p f) i.0 (subst (λ (v : PassView). IsCompared v c.loop-i.ledger) is compared)),
     )
 

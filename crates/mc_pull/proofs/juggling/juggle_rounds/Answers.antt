@@ -1,6 +1,7 @@
 use Rattle.std.proofs.Common.{rules, refl, ◌≡◌, ◌-◌, suc, false, ◌∙◌, sym, ap, subst, arith}
 use Rattle.mc_segment.specs.ClassState.{ClassView}
-use Rattle.mc_pull.specs.{Juggle.IsJuggleRound, Pulled.sum_of, Pulled.plus, Rounds.rounds}
+use Rattle.mc_pull.specs.{Broken.BreaksJuggled, Broken.BreaksRound, Juggle.IsJuggleRound, Juggle.Juggling, Juggle.juggling, Pulled.sum_of, Pulled.plus, Rounds.rounds}
+use Rattle.mc_pull.proofs.BrokenLemmas.{err_since, steps_broken}
 use Rattle.mc_pull.proofs.RoundLemmas.{rounds_more, plus_sum, juggled_all}
 use Rattle.mc_pull.proofs.{ChunkEventLemmas.gains_both, ChunkEventLemmas.gains_itself, GrowthLemmas.class_later, GrowthLemmas.survey_later, GrowthLemmas.kept_later}
 use Rattle.mc_pull.proofs.juggling.juggle_rounds.Goals as goal
@@ -51,3 +52,18 @@ returns-in_err-made-clause-gains g c = gains_both false c.args.class.now c.round
 
 pub returns-then-not-did_something-clause-gains : goal.returns-then-not-did_something-clause-gains
 returns-then-not-did_something-clause-gains g c = gains_both false c.args.class.now c.rounds.class c.juggle_round.new.class c.rounds.invariant.3 c.in_ok-made.ensures.gains
+
+pub returns-in_err-made-clause-err : goal.returns-in_err-made-clause-err
+returns-in_err-made-clause-err g c =
+    let inv = c.rounds.invariant in
+    let made = c.in_err-made.ensures.err in
+    let r = rounds c.args.class.now c.args.who c.args.moment c.args.config.now in
+    let survey = c.args.survey in
+    let before = c.rounds.class in
+    let after = c.juggle_round.new.class in
+    let few = inv.1 in
+    let some = c.rounds-test.true in
+    let broken = subst (λ (x : ClassView). BreaksRound (rounds x c.args.who c.args.moment c.args.config.now) survey before.history made.0 after.history) inv.3.grows.same made.2 in
+    err_since _ (g.G.Gate.answers c.args.gate.now) (g.G.Gate.answers c.juggle_round.new.gate)
+    (λ xs. BreaksJuggled (IsJuggleRound r survey) (BreaksRound r survey) (juggling c.args.class.now.history c.args.total) xs after.history)
+    (steps_broken (λ (a : Juggling). BreaksRound r survey a.history) 500 _ after.history inv.0 (omega (arith, few, some)) (made.0, made.1, broken))

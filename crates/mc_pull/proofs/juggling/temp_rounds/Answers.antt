@@ -2,7 +2,8 @@ use Rattle.std.proofs.Common.{rules, refl, ◌≡◌, ◌-◌, suc, false, ◌�
 use Rattle.mc_segment.specs.ClassState.{ClassView}
 use Rattle.mc_pull.specs.declared.judge.Mode.TheVariants.{Plain}
 use Rattle.mc_item.specs.declared.lists.Seg.TheVariants.{Temp}
-use Rattle.mc_pull.specs.{Pulled.sum_of, Pulled.plus, Rounds.rounds, Rounds.Walks}
+use Rattle.mc_pull.specs.{Broken.BreaksJuggled, Broken.BreaksWalk, Juggle.Juggling, Juggle.juggling, Pulled.none_pulled, Pulled.sum_of, Pulled.plus, Rounds.rounds, Rounds.Walks}
+use Rattle.mc_pull.proofs.BrokenLemmas.{err_since, steps_broken}
 use Rattle.mc_pull.proofs.RoundLemmas.{rounds_more, plus_sum, juggled_all}
 use Rattle.mc_pull.proofs.{ChunkEventLemmas.gains_both, ChunkEventLemmas.gains_itself, GrowthLemmas.class_later, GrowthLemmas.survey_later, GrowthLemmas.kept_later}
 use Rattle.mc_pull.proofs.juggling.temp_rounds.Goals as goal
@@ -54,3 +55,19 @@ returns-in_err-made-clause-gains g c = gains_both false c.args.class.now c.round
 
 pub returns-then-not-did_something-clause-gains : goal.returns-then-not-did_something-clause-gains
 returns-then-not-did_something-clause-gains g c = gains_both false c.args.class.now c.rounds.class c.pull_tail.new.class c.rounds.invariant.3 c.in_ok-made.ensures.gains
+
+pub returns-in_err-made-clause-err : goal.returns-in_err-made-clause-err
+returns-in_err-made-clause-err g c =
+    let inv = c.rounds.invariant in
+    let made = c.in_err-made.ensures.err in
+    let r = rounds c.args.class.now c.args.who c.args.moment c.args.config.now in
+    let mode = Plain c.args.survey in
+    let before = c.rounds.class in
+    let after = c.pull_tail.new.class in
+    let few = inv.1 in
+    let some = c.rounds-test.true in
+    let here : BreaksWalk (rounds before c.args.who c.args.moment c.args.config.now) Temp mode before.history made.0 after.history = made.2 in
+    let broken = subst (λ (x : ClassView). BreaksWalk (rounds x c.args.who c.args.moment c.args.config.now) Temp mode before.history made.0 after.history) inv.3.grows.same here in
+    err_since _ (g.G.Gate.answers c.args.gate.now) (g.G.Gate.answers c.pull_tail.new.gate)
+    (λ xs. BreaksJuggled (Walks r Temp mode) (BreaksWalk r Temp mode) (juggling c.args.class.now.history none_pulled) xs after.history)
+    (steps_broken (λ (a : Juggling). BreaksWalk r Temp mode a.history) 500 _ after.history inv.0 (omega (arith, few, some)) (made.0, made.1, broken))

@@ -1,7 +1,7 @@
 use Rattle.std.proofs.Common.{◌≡◌, ◌-◌, suc, ◌∙◌, subst, arith}
 use Rattle.mc_segment.specs.ClassState.{ClassView}
-use Rattle.mc_pull.specs.Rounds.{rounds, IsRoomRound}
-use Rattle.mc_pull.proofs.{RoundLemmas.rounds_more, GrowthLemmas.grows_both, GrowthLemmas.class_later, GrowthLemmas.kept_later}
+use Rattle.mc_pull.specs.{Broken.BreaksRoom, Broken.BreaksRoomRound, Rounds.rounds, Rounds.IsRoomRound}
+use Rattle.mc_pull.proofs.{RoundLemmas.rounds_more, GrowthLemmas.grows_both, GrowthLemmas.class_later, GrowthLemmas.kept_later, BrokenLemmas.steps_broken, BrokenLemmas.err_since}
 use Rattle.mc_pull.proofs.rounds.make_room.Goals as goal
 
 pub rounds-preserved : goal.rounds-preserved
@@ -22,3 +22,16 @@ rounds-preserved g c =
       made.holds ∙ inv.5,
       λ h v k. kept_later g.G.Gate.keeps c.args.who c.args.moment c.args.class.now before inv.2 _ _ _ _ made.kept h v (inv.6 h v k),
     )
+
+pub returns-in_err-room_round-clause-err : goal.returns-in_err-room_round-clause-err
+returns-in_err-room_round-clause-err g c =
+    let inv = c.rounds.invariant in
+    let made = c.in_err-room_round.ensures.err in
+    let before = c.rounds.class in
+    let after = c.room_round.new.class in
+    let few = inv.1 in
+    let some = c.rounds-test.true in
+    let broken = subst (λ (x : ClassView). BreaksRoomRound (rounds x c.args.who c.args.moment c.args.config.now) before.history made.0 after.history) inv.2.same made.2 in
+    let r = rounds c.args.class.now c.args.who c.args.moment c.args.config.now in
+    err_since _ (g.G.Gate.answers c.args.gate.now) (g.G.Gate.answers c.room_round.new.gate) (λ xs. BreaksRoom r c.args.class.now.history xs after.history)
+    (steps_broken (BreaksRoomRound r) 10 _ after.history inv.0 (omega (arith, few, some)) (made.0, made.1, broken))

@@ -1,16 +1,22 @@
-use Rattle.std.proofs.Common.{rules}
+use Rattle.std.proofs.Common.{rules, []}
 use Rattle.mc_item.specs.declared.command.Command.TheVariants as commands
 use Rattle.mc_item.specs.declared.fault.Fault.TheVariants as faults
 use Rattle.mc_proto.specs.Answers.{Replied}
 use Rattle.mc_script.specs.{Calls.FailsKey, Exchanges.Asks}
-use Rattle.mc_script.proofs.MadeCallLemmas.{adds_none, breaks_end, breaks_none, makes_one}
+use Rattle.mc_script.proofs.MadeCallLemmas.{breaks_end, breaks_first, breaks_none, makes_one}
 use Rattle.mc_script.proofs.answering.answer_key.Goals as goal
 
 pub returns-in_err-push_value_head-clause-err : goal.returns-in_err-push_value_head-clause-err
 returns-in_err-push_value_head-clause-err g c =
     let notes = g.C.Calls.notes c.args.calls.now in
     let failed : FailsKey faults.NoMemory c.args.key (g.C.Calls.caller c.args.calls.now) (g.C.Calls.turn c.args.calls.now) c.args.moment notes notes =
-    breaks_none _ _ _ _ _ _ (adds_none notes) in
+    breaks_none _ _ _ _ notes in
+    search rules
+
+pub returns-in_err-reply-clause-err : goal.returns-in_err-reply-clause-err
+returns-in_err-reply-clause-err g c =
+    let failed : FailsKey c.in_err-reply.field-0.0 c.args.key (g.C.Calls.caller c.args.calls.now) (g.C.Calls.turn c.args.calls.now) c.args.moment (g.C.Calls.notes c.args.calls.now) (g.C.Calls.notes c.command.new.self) =
+    breaks_first _ _ [] _ _ _ _ _ c.in_err-reply.ensures.err in
     search rules
 
 pub returns-in_err-push_value_tail-in-Value-clause-err : goal.returns-in_err-push_value_tail-in-Value-clause-err

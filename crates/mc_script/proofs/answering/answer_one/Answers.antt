@@ -3,8 +3,15 @@ use Rattle.mc_item.specs.declared.fault.Fault.TheVariants as faults
 use Rattle.mc_proto.specs.Answers.{Replied}
 use Rattle.mc_proto.specs.declared.request.Request.TheVariants as requests
 use Rattle.mc_script.specs.{Calls.Fails, Exchanges.Asks}
-use Rattle.mc_script.proofs.MadeCallLemmas.{breaks_end, makes_one}
+use Rattle.mc_script.proofs.MadeCallLemmas.{breaks_end, breaks_first, makes_one}
 use Rattle.mc_script.proofs.answering.answer_one.Goals as goal
+
+pub returns-in_err-reply-clause-err : goal.returns-in_err-reply-clause-err
+returns-in_err-reply-clause-err g c = λ limits.
+    let failed : Fails c.in_err-reply.field-0.0 limits (requests.One c.args.command c.args.quiet) (g.C.Calls.caller c.args.calls.now) (g.C.Calls.turn c.args.calls.now)
+    c.args.moment (g.C.Calls.notes c.args.calls.now) (g.C.Calls.notes c.command.new.self) =
+    breaks_first _ _ [] _ _ _ _ _ c.in_err-reply.ensures.err in
+    search rules
 
 pub returns-in_err-push_unless-clause-err : goal.returns-in_err-push_unless-clause-err
 returns-in_err-push_unless-clause-err g c = λ limits.

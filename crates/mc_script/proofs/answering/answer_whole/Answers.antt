@@ -1,3 +1,8 @@
+use Rattle.std.proofs.Common.{subst, sym}
+use Rattle.std.proofs.lemmas.Result.{IfErr-weaker}
+use Rattle.mc_item.specs.declared.fault.Fault.{Fault}
+use Rattle.mc_script.specs.{Calls.Fails, Script.calls_of}
+use Rattle.mc_script.proofs.MadeCallLemmas.{breaks_none}
 use Rattle.mc_script.proofs.answering.answer_whole.Goals as goal
 
 pub returns-in-Get-clause-err : goal.returns-in-Get-clause-err
@@ -5,3 +10,11 @@ returns-in-Get-clause-err g c = rw c.in-Get.is (c.answer_get.ensures.err c.args.
 
 pub returns-in-One-clause-err : goal.returns-in-One-clause-err
 returns-in-One-clause-err g c = rw c.in-One.is (c.answer_one.ensures.err c.args.limits)
+
+pub returns-in-Bad-clause-err : goal.returns-in-Bad-clause-err
+returns-in-Bad-clause-err g c =
+    let notes = g.C.Calls.notes c.args.calls.now in
+    let caller = g.C.Calls.caller c.args.calls.now in
+    let turn = g.C.Calls.turn c.args.calls.now in
+    IfErr-weaker c.refuse.result _ _ (λ e is. subst (λ (f : Fault). Fails f c.args.limits c.args.request caller turn c.args.moment.now notes notes) (sym is.0)
+    (breaks_none (calls_of c.args.limits c.args.request) caller turn c.args.moment.now notes)) c.refuse.ensures.err

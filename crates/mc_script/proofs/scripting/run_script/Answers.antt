@@ -36,7 +36,8 @@ returns-in-Ok-None-clause-leaves g c =
     subst (λ (t : List ℕ). Leaves outcomes.Done c.args.limits (g.E.Ends.coming c.args.ends.now) (g.E.Ends.coming c.piece.new.self)
     (g.E.Ends.taken c.args.ends.now) t (g.C.Calls.notes c.loop.calls) (g.C.Calls.caller c.args.calls.now)) (sym c.in-Ok-None.ensures.taken)
     (way_ends c.args.limits c.loop.reader.state c.loop.reader.unread (g.E.Ends.coming c.args.ends.now) (g.E.Ends.coming c.loop.ends)
-    (g.E.Ends.taken c.args.ends.now) (g.E.Ends.taken c.loop.ends) c.loop.text.items _ _ _ _ c.loop.invariant.way c.loop.invariant.none over.0)
+    (g.E.Ends.coming c.piece.new.self) (g.E.Ends.taken c.args.ends.now) (g.E.Ends.taken c.loop.ends) c.loop.text.items _ _ _ _ c.loop.invariant.way
+    c.loop.invariant.none over.0 over.1)
 
 pub returns-in-Err-clause-leaves : goal.returns-in-Err-clause-leaves
 returns-in-Err-clause-leaves g c =

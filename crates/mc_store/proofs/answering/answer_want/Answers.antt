@@ -1,4 +1,4 @@
-use Rattle.std.proofs.Common.{◌≡◌, ◌∙◌, ℕ, Err, Ok, ap, refl, sym, subst}
+use Rattle.std.proofs.Common.{◌≡◌, ◌∙◌, ℕ, Err, Ok, ap, inl, refl, sym, subst}
 use Rattle.std.specs.Prelude.{None}
 use Rattle.mc_item.specs.{Command.key_of, Measure.stripe_of}
 use Rattle.mc_item.specs.declared.answer.Site.{Site}
@@ -60,7 +60,7 @@ returns-in_err-reply-in-Burial g c =
     (ends_err config command turn mid mid (buried_alive s mid turn.who command turn.moment site buried) (searched_itself config turn.who command turn.moment mid mid refl) (site_itself mid) end c.args.caller.now caller r
     c.in_err-reply-in-Burial.field-0.0 c.from_residual-in_err-reply-in-Burial.ensures.1 c.try_alone.ensures.site c.in_err-reply-in-Burial.ensures.err
     (c.in_err-reply-in-Burial.ensures.unnoted ∙ c.tell_stripe.ensures.same)
-    (λ is. c.try_alone.ensures.full (c.in_err-reply-in-Burial.was ∙ ap Err is)))
+    (λ is. inl (c.try_alone.ensures.full (c.in_err-reply-in-Burial.was ∙ ap Err is))))
 
 pub answer_with-requires-in-Classes-left-clause-begun : goal.answer_with-requires-in-Classes-left-clause-begun
 answer_with-requires-in-Classes-left-clause-begun g c =

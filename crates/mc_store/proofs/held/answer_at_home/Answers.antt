@@ -1,12 +1,13 @@
-use Rattle.std.proofs.Common.{◌≡◌, ◌∙◌, ℕ, List, Err, ap, refl, sym, subst}
+use Rattle.std.proofs.Common.{◌≡◌, ◌∙◌, ℕ, List, Err, ap, inl, inr, refl, sym, subst}
 use Rattle.std.specs.Prelude.{Option, Some}
 use Rattle.mc_item.specs.Command.{key_of}
 use Rattle.mc_item.specs.declared.{answer.Site.Site, class_event.ClassEvent.ClassEvent, fault.Fault.TheVariants.HistoryFull, item.ClassNo.ClassNo}
 use Rattle.mc_item.specs.declared.{item.StripeNo.StripeNo}
 use Rattle.mc_segment.specs.ClassState.{ClassView}
-use Rattle.mc_stripe.specs.{StripeCalls.KeepsSite, StripeState.Stripe}
+use Rattle.mc_stripe.specs.{StripeCalls.KeepsSite, StripeState.Stripe, StripeState.cache_now, Trying.item_of}
 use Rattle.mc_store.specs.{Earned.HasGivenUp, Earned.IsEarnedAt, Held.Ends, Held.Suffice, Held.class_held, Sides.StripeSide}
-use Rattle.mc_store.proofs.{CallerLemmas.search_sees, NeededClassLemmas.begun_search, NeededClassLemmas.suffice_behind, UnderLockLemmas.site_both}
+use Rattle.mc_store.proofs.{CallerLemmas.search_sees, NeededClassLemmas.begun_search, NeededClassLemmas.fresh_needs, NeededClassLemmas.suffice_behind}
+use Rattle.mc_store.proofs.UnderLockLemmas.{site_both, site_itself}
 use Rattle.mc_store.proofs.CommandEndLemmas.{ends_cut, ends_err, ends_made, searched_same, searched_walk, suffice_same}
 use Rattle.mc_store.proofs.HeldTryLemmas.{earned_now, made_caller, no_burial, refuse_short, some_none, wants_place}
 use Rattle.mc_store.proofs.held.answer_at_home.Goals as goal
@@ -49,7 +50,19 @@ returns-in_err-reply g c =
     let searched = searched_walk config command c.args.turn s mid c.args.home.now.class.number alive c.requires.wants.fresh c.search.ensures.walked in
     ends_err config command c.args.turn s mid alive searched c.search.ensures.site c.try_home.new.own c.args.caller.now c.try_home.new.caller
     c.from_residual-in_err-reply.result c.in_err-reply.field-0.0 c.from_residual-in_err-reply.ensures.1
-    c.try_home.ensures.site c.in_err-reply.ensures.err.0 c.in_err-reply.ensures.err.1 (λ is. c.try_home.ensures.full (c.in_err-reply.was ∙ ap Err is))
+    c.try_home.ensures.site c.in_err-reply.ensures.err.0 c.in_err-reply.ensures.err.1 (λ is. inl (c.try_home.ensures.full (c.in_err-reply.was ∙ ap Err is)))
+
+pub returns-in_err-search : goal.returns-in_err-search
+returns-in_err-search g c =
+    let config = g.N.Named.config in
+    let command = c.args.command.now in
+    let s = c.args.own.now.stripe in
+    let mid = c.search.new.own.stripe in
+    let alive = c.requires.wants.suffice.alive in
+    let searched = searched_walk config command c.args.turn s mid c.args.home.now.class.number alive c.requires.wants.fresh c.search.ensures.walked in
+    let needs = fresh_needs s.site (cache_now s).versions (item_of s command) command c.args.turn.moment c.args.home.now.class.number c.requires.wants.fresh in
+    ends_err config command c.args.turn s mid alive searched c.search.ensures.site c.search.new.own c.args.caller.now c.args.caller.now
+    c.from_residual.result c.in_err-search.field-0.0 c.from_residual.ensures.1 (site_itself mid) refl refl (λ is. inr (needs, c.search.ensures.full (c.in_err-search.was ∙ ap Err is)))
 
 pub returns-in-Made : goal.returns-in-Made
 returns-in-Made g c =
@@ -84,7 +97,8 @@ returns-in_err-place-in-Room g c =
     subst (λ (x : StripeSide). Ends config s x c.args.caller.now c.try_home.new.caller command c.args.turn c.from_residual-in_err-place-in-Room.result) (sym c.refuse.ensures.own)
     (ends_err config command c.args.turn s mid alive searched c.search.ensures.site c.try_home.new.own c.args.caller.now c.try_home.new.caller c.from_residual-in_err-place-in-Room.result c.in_err-place-in-Room.field-0.0
     c.from_residual-in_err-place-in-Room.ensures.1 c.try_home.ensures.site tried.0 tried.1
-    (λ is. refuse_short config c.try_home.new.own c.try_home.new.home.class c.refuse.new.lent.class full.0.short c.in_err-place-in-Room.ensures.err.0 (c.refuse.ensures.full (c.in_err-place-in-Room.was ∙ ap Err is))))
+    (λ is. inl (refuse_short config c.try_home.new.own c.try_home.new.home.class c.refuse.new.lent.class full.0.short c.in_err-place-in-Room.ensures.err.0
+    (c.refuse.ensures.full (c.in_err-place-in-Room.was ∙ ap Err is)))))
 
 pub try_home-requires-in-Room-clause-refused : goal.try_home-requires-in-Room-clause-refused
 try_home-requires-in-Room-clause-refused g c =
@@ -140,7 +154,7 @@ returns-in_err-reply-in-Room g c =
     let searched = searched_walk config command turn s mid c.args.home.now.class.number alive c.requires.wants.fresh c.search.ensures.walked in
     ends_err config command turn s last alive (searched_same mid last site same command turn.moment config turn.who s searched) (site_both s mid last c.search.ensures.site site)
     c.try_home-in-Room.new.own c.args.caller.now c.try_home-in-Room.new.caller c.from_residual-in_err-reply-in-Room.result c.in_err-reply-in-Room.field-0.0 c.from_residual-in_err-reply-in-Room.ensures.1
-    c.try_home-in-Room.ensures.site c.in_err-reply-in-Room.ensures.err.0 (c.in_err-reply-in-Room.ensures.err.1 ∙ tried.1) (λ is. c.try_home-in-Room.ensures.full (c.in_err-reply-in-Room.was ∙ ap Err is))
+    c.try_home-in-Room.ensures.site c.in_err-reply-in-Room.ensures.err.0 (c.in_err-reply-in-Room.ensures.err.1 ∙ tried.1) (λ is. inl (c.try_home-in-Room.ensures.full (c.in_err-reply-in-Room.was ∙ ap Err is)))
 
 pub returns-in-Place : goal.returns-in-Place
 returns-in-Place g c =
@@ -153,7 +167,7 @@ returns-in-Place g c =
     let tried = rw c.in-Wants.is at c.in_ok-reply.ensures.tried in
     let searched = searched_walk config command turn s mid c.args.home.now.class.number alive c.requires.wants.fresh c.search.ensures.walked in
     ends_cut config command turn s mid alive searched c.search.ensures.site c.try_home.new.own c.args.caller.now c.try_home.new.caller HistoryFull c.try_home.ensures.site tried.0 tried.1
-    (λ is. rw c.in-Place.is at tried.2)
+    (λ is. inl (rw c.in-Place.is at tried.2))
 
 pub returns-in-Wants-2 : goal.returns-in-Wants-2
 returns-in-Wants-2 g c =
@@ -180,6 +194,6 @@ returns-in-Wants-2 g c =
     let searched = searched_walk config command turn s mid class alive c.requires.wants.fresh c.search.ensures.walked in
     ends_cut config command turn s last alive (searched_same mid last site same command turn.moment config turn.who s searched) (site_both s mid last c.search.ensures.site site)
     c.try_home-in-Room.new.own c.args.caller.now c.try_home-in-Room.new.caller HistoryFull c.try_home-in-Room.ensures.site again.0 (again.1 ∙ tried.1)
-    (λ is. wants_place config last c.try_home-in-Room.new.own c.args.command.now turn.moment (Some c.refuse.new.lent.class.number)
+    (λ is. inl (wants_place config last c.try_home-in-Room.new.own c.args.command.now turn.moment (Some c.refuse.new.lent.class.number)
     (class_held c.try_home.new.other) _ again_suffice c.in-Wants-2.field-0 again.2
-    (λ room. some_none c.in_ok-place-in-Room.place _ refl (rw room at again.2).0.none))
+    (λ room. some_none c.in_ok-place-in-Room.place _ refl (rw room at again.2).0.none)))

@@ -1,4 +1,4 @@
-use Rattle.std.proofs.Common.{inr, ap, refl, sym, subst}
+use Rattle.std.proofs.Common.{ap, refl, sym, subst}
 use Rattle.mc_board.specs.{Histories.Grows, Histories.list_at, Views.OwnerView}
 use Rattle.mc_board.proofs.PrefixLemmas.{prefix_self}
 use Rattle.mc_segment.specs.ClassState.{ClassView}
@@ -30,6 +30,6 @@ invariant_of-lent g c =
     let begun = search_sees config c.own.inside.side.sight c.learn.new.self.sight c.args.who moment c.learn.ensures.learnt
     (subst (λ (x : StripeSide). HasBegunSearch config x.sight c.args.who moment) (sym c.own.view_is) c.requires.begun.1) in
     locked_told table config old mid mid c.learn.new.self c.args.who moment kept (record { command = begun.command; begun = begun.begun })
-    (gains_refused raw.state c.refuse-place.new.self c.args.who moment c.refuse-place.result c.refuse-place.ensures.ok c.refuse-place.ensures.err, inr begun.needs)
+    (gains_refused begun.command begun.needs raw.state c.refuse-place.new.self c.args.who moment c.refuse-place.result c.refuse-place.ensures.ok c.refuse-place.ensures.err)
     (ap (λ (v : ClassView). v.number) (refusal_grows raw.state c.refuse-place.new.self c.args.who c.refuse-place.result c.refuse-place.ensures.ok
     c.refuse-place.ensures.err).same) refl refl none held c.learn.ensures.class c.learn.ensures.grows

@@ -1,4 +1,4 @@
-use Rattle.std.proofs.Common.{◌≡◌, ◌++◌, ◌∷◌, [], List, Some, refl, ap, sym, subst, ◌∙◌}
+use Rattle.std.proofs.Common.{◌≡◌, ◌++◌, ◌∷◌, [], List, Some, ap, sym, subst, ◌∙◌}
 use Rattle.mc_item.specs.declared.{fault.Fault.TheVariants.HistoryFull, stripe_event.Cause.TheVariants.Expired, stripe_event.StripeEvent.StripeEvent}
 use Rattle.mc_segment.specs.ClassState.{ClassView}
 use Rattle.mc_stripe.specs.{Plan.dead_link, StripeState.Stripe, StripeState.cache_now}
@@ -7,7 +7,7 @@ use Rattle.mc_pull.specs.declared.{judge.Done.Done, judge.Judge.TheVariants.Dead
 use Rattle.mc_pull.proofs.OneStripeGateLemmas.{settle_walked}
 use Rattle.mc_store.proofs.{DeadEntryLemmas.dead_listed, DeadEntryLemmas.dead_reclaimed, DeadEntryLemmas.told_dead, ShortHistoryLemmas.err_is, OwnEventLemmas.GainsFit, OwnEventLemmas.gains_settled}
 use Rattle.mc_store.proofs.{OwnEventLemmas.locked_told, CallerLemmas.begun_sees, CallerLemmas.command_any, CallerLemmas.command_sees, LockKeepsLemmas.grows_trans}
-use Rattle.mc_store.specs.{Sides.ClassSide, Sides.StripeSide, Locked.HasBegun, Locked.HasBegunCommand, Locked.IsLockedClass, Made.MayNeedChunk, Serving.class_side}
+use Rattle.mc_store.specs.{Sides.ClassSide, Sides.StripeSide, Locked.HasBegun, Locked.HasBegunCommand, Locked.IsLockedClass, Serving.class_side}
 use Rattle.mc_store.specs.declared.locked.LockedStripe.TheInside as stripes
 use Rattle.mc_store.specs.declared.locked.LockedClass.TheInside as classes
 use Rattle.mc_store.proofs.SyncedStepLemmas.{class_paired, class_told_more, settled_grows, settled_told, short_paired, stripe_paired}
@@ -81,11 +81,11 @@ invariant_of-class g c =
     let told = grows_trans own.seen.sight c.hear.new.self.sight c.learn.new.self.sight c.hear.ensures.grows
     (subst (λ (x : StripeSide). Grows x.sight c.learn.new.self.sight) c.hear-2.ensures.stripe c.learn.ensures.learnt) in
     let asked = command_sees g.N.Named.config own.seen.sight c.learn.new.self.sight who moment told begun in
-    let gains = gains_settled (MayNeedChunk asked.command) lent.state c.settle-done.new.class own.state c.settle-done.new.stripe q refl c.settle-done.result c.settle-done.ensures.done c.settle-done.ensures.settled
-    c.settle-done.ensures.err in
+    let gains = gains_settled asked.command lent.state c.settle-done.new.class own.state c.settle-done.new.stripe who c.args.link.number moment c.settle-done.result c.settle-done.ensures.done
+    c.settle-done.ensures.settled c.settle-done.ensures.err in
     locked_told g.N.Named.board.table g.N.Named.config (class_side lent.owner lent.seen lent.state) c.hear.new.class c.hear-2.new.self c.learn.new.self who moment
     (subst (IsLockedClass g.N.Named.board.table g.N.Named.config) (sym lent_is) c.class.invariant) asked
-    (subst (λ (v : ClassView). GainsFit who moment (MayNeedChunk asked.command) lent.state.history v.history) (sym (ap (λ (x : ClassSide). x.class) c.hear.ensures.class)) gains)
+    (subst (λ (v : ClassView). GainsFit who moment asked.command lent.state.history v.history) (sym (ap (λ (x : ClassSide). x.class) c.hear.ensures.class)) gains)
     (ap (λ (x : ClassSide). x.class.number) c.hear.ensures.class ∙ ap (λ (v : ClassView). v.number) grows.same)
     (ap (λ (x : ClassSide). x.sight) c.hear.ensures.class) (ap (λ (x : ClassSide). x.class) c.hear-2.ensures.told) c.hear-2.ensures.grows held
     c.learn.ensures.class c.learn.ensures.grows
@@ -131,11 +131,11 @@ invariant_of-class-2 g c =
     let told = grows_trans own.seen.sight c.hear.new.self.sight c.learn.new.self.sight c.hear.ensures.grows
     (subst (λ (x : StripeSide). Grows x.sight c.learn.new.self.sight) c.hear-2.ensures.stripe c.learn.ensures.learnt) in
     let asked = command_sees g.N.Named.config own.seen.sight c.learn.new.self.sight who moment told begun in
-    let gains = gains_settled (MayNeedChunk asked.command) lent.state c.settle-done.new.class own.state c.settle-done.new.stripe q refl c.settle-done.result c.settle-done.ensures.done c.settle-done.ensures.settled
-    c.settle-done.ensures.err in
+    let gains = gains_settled asked.command lent.state c.settle-done.new.class own.state c.settle-done.new.stripe who c.args.link.number moment c.settle-done.result c.settle-done.ensures.done
+    c.settle-done.ensures.settled c.settle-done.ensures.err in
     locked_told g.N.Named.board.table g.N.Named.config (class_side lent.owner lent.seen lent.state) c.hear.new.class c.hear-2.new.self c.learn.new.self who moment
     (subst (IsLockedClass g.N.Named.board.table g.N.Named.config) (sym lent_is) c.class.invariant) asked
-    (subst (λ (v : ClassView). GainsFit who moment (MayNeedChunk asked.command) lent.state.history v.history) (sym (ap (λ (x : ClassSide). x.class) c.hear.ensures.class)) gains)
+    (subst (λ (v : ClassView). GainsFit who moment asked.command lent.state.history v.history) (sym (ap (λ (x : ClassSide). x.class) c.hear.ensures.class)) gains)
     (ap (λ (x : ClassSide). x.class.number) c.hear.ensures.class ∙ ap (λ (v : ClassView). v.number) grows.same)
     (ap (λ (x : ClassSide). x.sight) c.hear.ensures.class) (ap (λ (x : ClassSide). x.class) c.hear-2.ensures.told) c.hear-2.ensures.grows held
     c.learn.ensures.class c.learn.ensures.grows

@@ -1,4 +1,4 @@
-use Rattle.std.proofs.Common.{Bool, false, ◌≡◌, List, ap, ◌∙◌, inr, subst, sym}
+use Rattle.std.proofs.Common.{Bool, false, ◌≡◌, List, ap, ◌∙◌, subst, sym}
 use Rattle.mc_segment.specs.ClassState.{ClassView}
 use Rattle.mc_stripe.specs.StripeState.{Stripe}
 use Rattle.mc_board.proofs.SeenLemmas.{list_at_same}
@@ -9,7 +9,7 @@ use Rattle.mc_pull.specs.declared.looking.Answer.{Answer}
 use Rattle.mc_store.specs.{Earned.IsSearchInVain, Locked.HasBegunSearch, Locked.IsLockedClass, Serving.class_side}
 use Rattle.mc_store.specs.Sides.{ClassSide, StripeSide, class_told}
 use Rattle.mc_store.specs.declared.locked.LockedStripe.TheInside.{Inside}
-use Rattle.mc_store.proofs.{GateLemmas.ok_more, GateLemmas.room_full, LockKeepsLemmas.grows_trans, SyncedStepLemmas.stripe_heard, OwnEventLemmas.locked_commanded}
+use Rattle.mc_store.proofs.{GateLemmas.ok_more, GateLemmas.room_full, LockKeepsLemmas.grows_trans, SyncedStepLemmas.stripe_heard, OwnEventLemmas.locked_commanded, OwnEventLemmas.suited_search}
 use Rattle.mc_store.proofs.{CallerLemmas.search_any, CallerLemmas.search_sees}
 use Rattle.mc_store.proofs.walking.make_room_under.Goals as goal
 
@@ -55,7 +55,7 @@ returns-clause-full g c = λ is.
     let told : list_at c.hear.new.self.sight.seen c.catch_up_class.new.owner.lock ≡ class_told new.class.history =
     ap (λ (t : Sight). list_at t.seen c.catch_up_class.new.owner.lock) (ap (λ (x : StripeSide). x.sight) c.hear.ensures.told)
     ∙ list_at_same c.learn.new.self.sight.seen c.catch_up_class.new.owner.lock (class_told new.class.history) in
-    inr (room_full g.N.Named.board.table g.N.Named.config new.owner new.seen new.class c.make_room_with-found.ensures.served c.hear.new.self.sight c.catch_up_class.new.owner.lock
+    (room_full g.N.Named.board.table g.N.Named.config new.owner new.seen new.class c.make_room_with-found.ensures.served c.hear.new.self.sight c.catch_up_class.new.owner.lock
     (ap (λ (o : OwnerView). o.lock) c.catch_up_class.ensures) told (grows_trans new.seen.sight c.learn.new.self.sight c.hear.new.self.sight c.learn.ensures.theirs c.hear.ensures.grows)
     c.make_room_with-found.result c.make_room_with-found.ensures.fault is)
 
@@ -78,11 +78,12 @@ invariant_of-class g c =
     let last : c.hear.new.class ≡ mid =
     c.hear.ensures.class
     ∙ (ap (λ (x : SeenView). class_side c.catch_up_class.new.owner x new.class) c.learn.ensures.other ∙ ap (λ (o : OwnerView). class_side o new.seen new.class) c.catch_up_class.ensures) in
-    let searched = search_sees config old.sight mid.sight c.args.who c.args.moment made.ensures.walked.sees begun in
+    let searched = search_sees config old.sight mid.sight c.args.who c.args.moment made.ensures.searched.walked.sees begun in
     subst (IsLockedClass table config) (sym last)
     (locked_commanded table config old mid c.args.who c.args.moment (subst (IsLockedClass table config) (sym c.side.view_is) c.class.invariant)
     made.ensures.served.kept (ap (λ (v : ClassView). v.number) made.ensures.class.same)
-    (record { command = searched.command; begun = searched.begun }) made.ensures.walked.sees (made.ensures.walked.gains, inr searched.needs))
+    (record { command = searched.command; begun = searched.begun }) made.ensures.searched.walked.sees
+    (made.ensures.searched.walked.gains, suited_search searched.command searched.needs made.ensures.searched.walked.gains.events made.ensures.searched.none))
 
 pub returns-clause-begun : goal.returns-clause-begun
 returns-clause-begun g c =
@@ -92,5 +93,5 @@ returns-clause-begun g c =
     let seen = c.make_room_with-found.new.seen.sight in
     let told = c.learn.new.self.sight in
     search_sees g.N.Named.config c.side.inside.seen.sight c.hear.new.self.sight c.args.who c.args.moment
-    (grows_trans c.side.inside.seen.sight seen c.hear.new.self.sight c.make_room_with-found.ensures.walked.sees (grows_trans seen told c.hear.new.self.sight c.learn.ensures.theirs c.hear.ensures.grows))
+    (grows_trans c.side.inside.seen.sight seen c.hear.new.self.sight c.make_room_with-found.ensures.searched.walked.sees (grows_trans seen told c.hear.new.self.sight c.learn.ensures.theirs c.hear.ensures.grows))
     begun

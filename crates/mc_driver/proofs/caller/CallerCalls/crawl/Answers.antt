@@ -1,26 +1,24 @@
-use Rattle.mc_store.specs.Passes.{next_who}
-use Rattle.mc_driver.proofs.{SharedCallLemmas.crawled_kinds, SharedCallLemmas.crawled_ok, SharedCallLemmas.crawling_failed, CalledEventLemmas.crawled_may}
 use Rattle.std.proofs.Common.{refl}
-use Rattle.mc_store.specs.Callers.{crawling_of}
-use Rattle.mc_driver.proofs.CalledEventLemmas.{full_calls}
+use Rattle.mc_script.specs.Exchanges.{Crawls}
+use Rattle.mc_store.specs.{Callers.crawling_of, Passes.next_who}
+use Rattle.mc_driver.proofs.{CalledEventLemmas.full_calls, CalledEventLemmas.may_again, SharedCallLemmas.call_failed, SharedCallLemmas.crawled_kinds, SharedCallLemmas.crawled_ok}
 use Rattle.mc_driver.proofs.caller.CallerCalls.crawl.Goals as goal
 
 pub returns-clause-ok : goal.returns-clause-ok
 returns-clause-ok g c =
-    crawled_ok g.N.Named.config c.args.self.now.pass c.crawl.new.pass c.args.class c.args.moment c.crawl.result c.requires.may c.requires.there
-    c.crawl.ensures.caller c.crawl.ensures.calls c.crawl.ensures.grows c.crawl.ensures.crawled
+    crawled_ok g.N.Named.config c.args.self.now.pass c.crawl.new.pass c.crawl.ensures.caller c.crawl.ensures.grows c.args.class c.args.moment c.crawl.result
+    c.requires.may c.requires.there c.crawl.ensures.calls c.crawl.ensures.crawled
 
 pub returns-clause-kinds : goal.returns-clause-kinds
 returns-clause-kinds g c =
     crawled_kinds g.N.Named.config c.args.class c.args.self.now.pass.sight c.crawl.new.pass.sight (next_who c.args.self.now.pass) c.args.moment c.crawl.result c.crawl.ensures.crawled
 
 pub returns-clause-err : goal.returns-clause-err
-returns-clause-err g c = crawling_failed g.N.Named.config c.args.self.now.pass c.crawl.new.pass c.args.class c.args.moment c.crawl.result c.requires.may c.crawl.ensures.caller c.crawl.ensures.cut c.crawl.ensures.grows
+returns-clause-err g c =
+    call_failed g.N.Named.config c.args.self.now.pass c.crawl.new.pass c.crawl.ensures.caller c.crawl.ensures.grows (Crawls c.args.class) c.args.moment c.crawl.result c.crawl.ensures.cut
 
 pub returns-clause-may : goal.returns-clause-may
-returns-clause-may g c =
-    crawled_may g.N.Named.config c.args.self.now.pass c.crawl.new.pass c.args.class c.args.moment c.crawl.result c.requires.may c.requires.there
-    c.crawl.ensures.caller c.crawl.ensures.turn.1 c.crawl.ensures.calls c.crawl.ensures.grows c.crawl.ensures.crawled
+returns-clause-may g c = may_again g.N.Named.config c.args.self.now.pass c.crawl.new.pass c.crawl.result c.requires.may c.crawl.ensures.turn.0
 
 pub returns-clause-full : goal.returns-clause-full
 returns-clause-full g c =

@@ -2,7 +2,7 @@ use Rattle.std.proofs.Common.{◌≡◌, Bool, List, false}
 use Rattle.mc_pull.specs.{Rounds.IsRoom, Rounds.rounds, Walker.walker_of}
 use Rattle.mc_pull.specs.declared.looking.Answer.{Answer}
 use Rattle.mc_store.specs.{Earned.IsSearchInVain, Looked.IsOfCall}
-use Rattle.mc_store.proofs.{GateLemmas.grew_itself, GateLemmas.ok_more, VisitedStripeLemmas.looked_itself, VisitedStripeLemmas.tried_any, OwnEventLemmas.walks_none}
+use Rattle.mc_store.proofs.{GateLemmas.grew_itself, GateLemmas.ok_more, VisitedStripeLemmas.looked_itself, VisitedStripeLemmas.tried_any, OwnEventLemmas.searches_none}
 use Rattle.mc_store.proofs.gates.Holding.make_room.Goals as goal
 
 pub returns-clause-stripe : goal.returns-clause-stripe
@@ -10,8 +10,8 @@ returns-clause-stripe g c =
     let w = walker_of c.args.class.now c.args.who c.args.moment in
     let own = c.args.self.now.own.now.stripe in
     let first = looked_itself g.N.Named.config.stripes w own c.args.self.now.others.answers.now.items c.args.class.now.history in
-    let walked = walks_none c.args.who c.args.moment c.args.self.now.others.seen.now.sight c.args.class.now.history in
-    (c.make_room.ensures.kept c.args.self.now c.args.class.now.history (grew_itself w own, λ of. (of, first), walked)).0
+    let searched = searches_none c.args.who c.args.moment c.args.self.now.others.seen.now.sight c.args.class.now.history in
+    (c.make_room.ensures.kept c.args.self.now c.args.class.now.history (grew_itself w own, λ of. (of, first), searched)).0
 
 pub returns-clause-room : goal.returns-clause-room
 returns-clause-room g c =
@@ -26,18 +26,18 @@ returns-clause-tried g c =
     let xs = c.args.self.now.others.answers.now.items in
     let after = c.make_room.new.class.history in
     let first = looked_itself config.stripes w own xs c.args.class.now.history in
-    let walked = walks_none c.args.who c.args.moment c.args.self.now.others.seen.now.sight c.args.class.now.history in
-    let kept = c.make_room.ensures.kept c.args.self.now c.args.class.now.history (grew_itself w own, λ of. (of, first), walked) in
+    let searched = searches_none c.args.who c.args.moment c.args.self.now.others.seen.now.sight c.args.class.now.history in
+    let kept = c.make_room.ensures.kept c.args.self.now c.args.class.now.history (grew_itself w own, λ of. (of, first), searched) in
     ok_more c.make_room.result _ (λ (found : Bool). found ≡ false → IsOfCall w c.args.self.now.others.who c.args.self.now.others.moment → IsSearchInVain config c.args.class.now own c.args.who c.args.moment after)
     (λ found made vain of.
     tried_any config c.args.config.now c.args.class.now c.args.who c.args.moment own xs c.make_room.new.gate.others.answers.now.items made.0 after found
     c.requires.names c.a_search_in_vain_has_tried.ensures (kept.1 of).1 made.1 made.2 vain)
     c.make_room.ensures.room
 
-pub returns-clause-walked : goal.returns-clause-walked
-returns-clause-walked g c =
+pub returns-clause-searched : goal.returns-clause-searched
+returns-clause-searched g c =
     let w = walker_of c.args.class.now c.args.who c.args.moment in
     let own = c.args.self.now.own.now.stripe in
     let first = looked_itself g.N.Named.config.stripes w own c.args.self.now.others.answers.now.items c.args.class.now.history in
-    let walked = walks_none c.args.who c.args.moment c.args.self.now.others.seen.now.sight c.args.class.now.history in
-    (c.make_room.ensures.kept c.args.self.now c.args.class.now.history (grew_itself w own, λ of. (of, first), walked)).2
+    let searched = searches_none c.args.who c.args.moment c.args.self.now.others.seen.now.sight c.args.class.now.history in
+    (c.make_room.ensures.kept c.args.self.now c.args.class.now.history (grew_itself w own, λ of. (of, first), searched)).2

@@ -8,7 +8,7 @@ use Rattle.mc_pull.specs.{Lone.StripeGrows, Looks.answer_by, Question.HasKeyOf, 
 use Rattle.mc_pull.specs.declared.looking.Answer.{Answer}
 use Rattle.mc_segment.specs.ClassState.{ClassView}
 use Rattle.mc_store.proofs.VisitedStripeLemmas.{known_at, looked_away, looked_both, looked_here, same_after}
-use Rattle.mc_store.proofs.OwnEventLemmas.{gains_judged, gains_none, walks_none, walks_on}
+use Rattle.mc_store.proofs.OwnEventLemmas.{searches_failed, searches_judged, searches_visited, walks_none}
 use Rattle.mc_store.proofs.gates.HoldingGate.visit.Goals as goal
 
 pub returns-then-not-lends-clause-kept : goal.returns-then-not-lends-clause-kept
@@ -28,7 +28,7 @@ returns-then-not-lends-clause-kept g c = λ first begun kept.
                 c.visit.new.look.class.now c.visit.new.look.judged c.visit.result
                 c.requires.judge keyed (c.lends.ensures.other c.if-not-lends.true was.0.0 was.0.1) c.visit.ensures.answer c.visit.ensures.class c.visit.ensures.err),
           ),
-      walks_on look.ask.who look.ask.moment _ _ _ _ _ _ kept.2 same.2.sees same.2.gains,
+      searches_visited _ q _ _ _ _ look.class.now c.visit.new.look.class.now c.visit.new.look.judged c.visit.result kept.2 same.2.sees c.visit.ensures.class c.visit.ensures.err,
     )
 
 pub returns-in_err-judge-clause-kept : goal.returns-in_err-judge-clause-kept
@@ -45,8 +45,8 @@ returns-in_err-judge-clause-kept g c = λ first begun kept.
             looked_both g.N.Named.config.stripes w _ _ _ _ _ _ _ _ was.1 kept.0
                 (same_after look.class.now q g.N.Named.config.stripes w s c.args.self.now.others.answers.now.items c.reserve.new.self.items c.judge.new.look.class.now c.in_err-judge.ensures.err c.reserve.ensures.items),
           ),
-      walks_on look.ask.who look.ask.moment _ _ _ _ _ _ kept.2 (subst (λ (v : SeenView). Grows v.sight c.judge.new.seen.sight) c.learn.ensures.same c.judge.ensures.sees)
-          (gains_none look.ask.who look.ask.moment look.class.now.history c.judge.new.look.class.now.history (ap (λ (v : ClassView). v.history) c.in_err-judge.ensures.err)),
+      searches_failed look.ask.who look.ask.moment _ _ _ _ _ _ kept.2 (subst (λ (v : SeenView). Grows v.sight c.judge.new.seen.sight) c.learn.ensures.same c.judge.ensures.sees)
+          (ap (λ (v : ClassView). v.history) c.in_err-judge.ensures.err),
     )
 
 pub returns-clause-kept : goal.returns-clause-kept
@@ -69,8 +69,8 @@ returns-clause-kept g c = λ first begun kept.
                 c.judge.new.look.class.now.history c.judge.new.look.judged known answered
                 (ap (λ (v : ClassView). v.history) c.in_ok-judge.ensures.class)),
           ),
-      walks_on look.ask.who look.ask.moment _ _ _ _ _ _ kept.2 (subst (λ (v : SeenView). Grows v.sight c.judge.new.seen.sight) c.learn.ensures.same c.judge.ensures.sees)
-          (gains_judged look.class.now c.judge.new.look.class.now q c.judge.new.look.judged c.in_ok-judge.ensures.class),
+      searches_judged q _ _ _ _ look.class.now c.judge.new.look.class.now c.judge.new.look.judged kept.2
+          (subst (λ (v : SeenView). Grows v.sight c.judge.new.seen.sight) c.learn.ensures.same c.judge.ensures.sees) c.in_ok-judge.ensures.class,
     )
 
 pub judge-requires-clause-begun : goal.judge-requires-clause-begun

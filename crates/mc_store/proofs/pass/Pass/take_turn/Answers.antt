@@ -33,7 +33,7 @@ returns-clause-took g c =
     let turn : length (turns_of c.begin.new.self.calls) ≡ length (turns_of was.calls) + 1 =
     omega (arith, ap (λ (v : CallerView). length (turns_of v.calls)) c.in_ok-begin.ensures.begun, turns_both was.calls es, c.requires.one) in
     record {
-      who = c.next_who-who.ensures;
+      who = c.next_who-who.ensures.who;
       turn =
           ap (λ (v : CallerView). pass_of v c.self.inside.seen.sight c.self.inside.hands) c.in_ok-begin.ensures.begun
           ∙ (ap (λ n. record old { turn = n; calls = was.calls ++ es }) (sym (ap (λ (v : CallerView). length (turns_of v.calls)) c.in_ok-begin.ensures.begun) ∙ turn)
