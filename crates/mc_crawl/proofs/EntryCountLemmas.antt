@@ -53,6 +53,7 @@ after_few l (events.Evicted e) = omega (arith, unlinked_few e.number l)
 after_few l (events.Reclaimed e) = omega (arith, unlinked_few e.number l)
 after_few l (events.Surveyed e) = omega arith
 after_few l (events.Refused e) = omega arith
+after_few l (events.Limited e) = omega arith
 
 -- events make at most as many more
 from_few : (l : Lists) (es : List ClassEvent) → count_of (lists_from l es) ≤ count_of l + length es

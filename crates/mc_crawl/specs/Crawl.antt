@@ -68,6 +68,7 @@ IsReclaim who moment (events.Shifted e) = ⊥
 IsReclaim who moment (events.Evicted e) = ⊥
 IsReclaim who moment (events.Surveyed e) = ⊥
 IsReclaim who moment (events.Refused e) = ⊥
+IsReclaim who moment (events.Limited e) = ⊥
 
 -- each of these events is a `Reclaimed` by this call, at this time
 abbrev pub AreReclaims : Who → ℕ → List ClassEvent → Type 0

@@ -1,11 +1,11 @@
 -- The turns of a caller's history, and the calls that they are for.
-use Rattle.std.proofs.Common.{◌≡◌, ◌⊎◌, ◌<◌, ◌≤◌, ◌+◌, ℕ, zero, suc, List, [], ◌∷◌, ◌++◌, Some, Result, Ok, Err, refl, sym, ap, ◌∙◌, subst, inl, inr, ⊎_elim, arith, length, length-append, append-nil, None, map}
+use Rattle.std.proofs.Common.{◌≡◌, ◌⊎◌, ◌<◌, ◌≤◌, ℕ, zero, suc, List, [], ◌∷◌, ◌++◌, Some, Result, Ok, Err, refl, sym, ap, ◌∙◌, subst, inl, inr, ⊎_elim, arith, length, length-append, append-nil, None, map}
 use Rattle.std.specs.Prelude.{IsErrOf, OnErr, OnOk, slice_get}
 use Rattle.std.proofs.lemmas.List.{length-map}
 use Rattle.mc_item.specs.declared.{call_event.CallEvent.CallEvent, command.Command.Command, config.Config.Config, fault.Fault.Fault, fault.Fault.TheVariants.HistoryFull}
 use Rattle.mc_item.specs.declared.{item.Who.Who}
 use Rattle.mc_item.specs.declared.call_event.CallEvent.TheVariants as calls
-use Rattle.mc_script.specs.Exchanges.{Asks, Begun, ScriptCall, Crawls, Exchange, Juggles}
+use Rattle.mc_script.specs.Exchanges.{Asks, Begun, Crawls, Exchange, Juggles, Limits, ScriptCall}
 use Rattle.mc_board.specs.declared.rule.Sight.{Sight}
 use Rattle.mc_store.specs.Callers.{answered_at, asked_for, moment_of, turns_of}
 use Rattle.mc_store.specs.{Calls.IsCutBy}
@@ -22,6 +22,7 @@ turns_of-append [] ys = refl
 turns_of-append (calls.Asked a ∷ xs) ys = ap (λ (l : List CallEvent). calls.Asked a ∷ l) (turns_of-append xs ys)
 turns_of-append (calls.Juggled w ∷ xs) ys = ap (λ (l : List CallEvent). calls.Juggled w ∷ l) (turns_of-append xs ys)
 turns_of-append (calls.Crawled w ∷ xs) ys = ap (λ (l : List CallEvent). calls.Crawled w ∷ l) (turns_of-append xs ys)
+turns_of-append (calls.Limits l ∷ xs) ys = ap (λ (more : List CallEvent). calls.Limits l ∷ more) (turns_of-append xs ys)
 turns_of-append (calls.Answered a ∷ xs) ys = turns_of-append xs ys
 
 -- what was handed a moment is a turn
@@ -29,6 +30,7 @@ turn_first : (call : CallEvent) (behind : List CallEvent) (moment : ℕ) → mom
 turn_first (calls.Asked a) behind moment handed = refl
 turn_first (calls.Juggled w) behind moment handed = refl
 turn_first (calls.Crawled w) behind moment handed = refl
+turn_first (calls.Limits l) behind moment handed = absurd (cc handed)
 turn_first (calls.Answered a) behind moment handed = absurd (cc handed)
 
 -- the call of a turn stands at its place among the turns
@@ -51,14 +53,22 @@ get_last (z ∷ zs) x y (suc k) e = ⊎_elim
     (get_last zs x y k e)
 
 -- a list with one more event has its call's turn more, if it is one
-pub turns_of-call : (calls : List CallEvent) (call : CallEvent) (moment : ℕ) → moment_of call ≡ Some moment → turns_of (calls ++ call ∷ []) ≡ turns_of calls ++ call ∷ []
-turns_of-call calls call moment handed = turns_of-append calls (call ∷ []) ∙ ap (λ (l : List CallEvent). turns_of calls ++ l) (turn_first call [] moment handed)
+pub turns_of-call : (calls : List CallEvent) (call : CallEvent) → turns_of (call ∷ []) ≡ call ∷ [] → turns_of (calls ++ call ∷ []) ≡ turns_of calls ++ call ∷ []
+turns_of-call calls call turn = turns_of-append calls (call ∷ []) ∙ ap (λ (l : List CallEvent). turns_of calls ++ l) turn
 
--- a call has the moment that its event has
-pub moment_of_call_event : (call : ScriptCall) (moment : ℕ) → moment_of (call_event_of call moment) ≡ Some moment
-moment_of_call_event (Asks command) moment = refl
-moment_of_call_event (Juggles class) moment = refl
-moment_of_call_event (Crawls class) moment = refl
+-- the event of a call is a turn
+pub call_event_of-turn : (call : ScriptCall) (moment : ℕ) → turns_of (call_event_of call moment ∷ []) ≡ call_event_of call moment ∷ []
+call_event_of-turn (Asks command) moment = refl
+call_event_of-turn (Juggles class) moment = refl
+call_event_of-turn (Crawls class) moment = refl
+call_event_of-turn (Limits class n) moment = refl
+
+-- a call has the moment that its event has, if that has one
+pub moment_of_call_event : (call : ScriptCall) (moment handed : ℕ) → moment_of (call_event_of call moment) ≡ Some handed → moment_of (call_event_of call moment) ≡ Some moment
+moment_of_call_event (Asks command) moment handed is = refl
+moment_of_call_event (Juggles class) moment handed is = refl
+moment_of_call_event (Crawls class) moment handed is = refl
+moment_of_call_event (Limits class n) moment handed is = absurd (cc is)
 
 -- a command that was answered is one turn more
 pub replied_turns : (old new : List CallEvent) (asked : CallEvent) (stripe place : ℕ) → new ≡ (old ++ asked ∷ []) ++ answered_at stripe place ∷ [] → turns_of new ≡ turns_of old ++ turns_of (asked ∷ [])
@@ -101,7 +111,7 @@ pub turns_begun : (old new : List CallEvent) (calls : List Exchange) (begun : Be
     → turns_of new ≡ turns_for calls (Some begun)
 turns_begun old new calls begun more turns =
     let event = call_event_of begun.call begun.moment in
-    ap turns_of more ∙ (turns_of-call old event begun.moment (moment_of_call_event begun.call begun.moment)
+    ap turns_of more ∙ (turns_of-call old event (call_event_of-turn begun.call begun.moment)
     ∙ (ap (λ (l : List CallEvent). l ++ event ∷ []) turns ∙ sym (turns_for-begun calls begun)))
 
 -- its next call is in the turn of its place
@@ -130,10 +140,10 @@ short_any config number command sight of (inr (inl class)) = any_short config si
 short_any config number command sight of (inr (inr searched)) = searched.1
 
 -- a call that was refused for the number of turns finds as many calls in its caller's history
-pub full_calls : {T : Type 0} (config : Config) (old new : PassView) (call : CallEvent) (moment : ℕ) (r : Result T Fault) → MayCall config old → moment_of call ≡ Some moment
+pub full_calls : {T : Type 0} (config : Config) (old new : PassView) (call : CallEvent) (r : Result T Fault) → MayCall config old → turns_of (call ∷ []) ≡ call ∷ []
     → OnErr r ((new ≡ old) ⊎ (new.calls ≡ old.calls ++ call ∷ [])) → (IsErrOf r HistoryFull → HasSeenShort config new.sight ⊎ (config.max_events ≤ old.turn))
     → IsErrOf r HistoryFull → HasSeenShort config new.sight ⊎ (config.max_events ≤ length (turns_of new.calls))
-full_calls config old new call moment r may handed cut full is = ⊎_elim
+full_calls config old new call r may turn cut full is = ⊎_elim
     (λ short. inl short)
     (λ most. inr (many (subst (λ x. OnErr x ((new ≡ old) ⊎ (new.calls ≡ old.calls ++ call ∷ []))) is cut) most))
     (full is)
@@ -141,7 +151,7 @@ full_calls config old new call moment r may handed cut full is = ⊎_elim
     many : (new ≡ old) ⊎ (new.calls ≡ old.calls ++ call ∷ []) → config.max_events ≤ old.turn → config.max_events ≤ length (turns_of new.calls)
     many (inl same) most = omega (arith, may.turns, ap (λ (p : PassView). length (turns_of p.calls)) same, most)
     many (inr more) most =
-        let all : length (turns_of new.calls) ≡ length (turns_of old.calls ++ call ∷ []) = ap (λ (l : List CallEvent). length l) (ap turns_of more ∙ turns_of-call old.calls call moment handed) in
+        let all : length (turns_of new.calls) ≡ length (turns_of old.calls ++ call ∷ []) = ap (λ (l : List CallEvent). length l) (ap turns_of more ∙ turns_of-call old.calls call turn) in
         omega (arith, may.turns, all, length-append (turns_of old.calls) (call ∷ []), most)
 
 -- a command that was broken off adds at most its call

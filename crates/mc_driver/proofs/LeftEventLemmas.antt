@@ -1,19 +1,21 @@
 -- Whose the events of a closed store are.
-use Rattle.std.proofs.Common.{◌≡◌, ◌<◌, ◌+◌, ◌-◌, ℕ, suc, List, [], ◌∷◌, Some, None, refl, sym, ap, ◌∙◌, subst, arith, inl, inr}
+use Rattle.std.proofs.Common.{◌≡◌, ◌<◌, ◌+◌, ◌-◌, ℕ, suc, List, [], ◌∷◌, Some, None, refl, sym, ap, ◌∙◌, subst, arith, inl, inr, length, length-append}
 use Rattle.std.specs.Prelude.{slice_get}
 use Rattle.std.proofs.lemmas.Bool.{cases_lt}
 use Rattle.mc_item.specs.declared.{call_event.CallEvent.CallEvent, class_event.ClassEvent.ClassEvent, config.Config.Config, item.ClassNo.ClassNo, item.Who.Who}
-use Rattle.mc_item.specs.declared.{stripe_event.StripeEvent.StripeEvent}
+use Rattle.mc_item.specs.declared.{class_event.Limited.Limited, stripe_event.StripeEvent.StripeEvent}
+use Rattle.mc_item.specs.declared.class_event.ClassEvent.TheVariants as entries
 use Rattle.mc_item.specs.declared.stripe_event.StripeEvent.TheVariants as events
 use Rattle.mc_evidence.specs.Setting.{IsClass}
 use Rattle.mc_script.specs.Exchanges.{Exchange}
-use Rattle.mc_store.specs.{Callers.IsBegun, Callers.IsOf, Callers.moment_of, Callers.who_of, Locked.setting_of, Made.IsClassCalled, Made.maker_of}
+use Rattle.mc_store.specs.Callers.{IsBegun, IsOf, limits_of, moment_of, turns_of, who_of}
+use Rattle.mc_store.specs.{Locked.setting_of, Made.IsLimitCalled, Made.WasCalled, Made.maker_of}
 use Rattle.mc_store.specs.Finals.{AreClasses, AreStripes, FinalView, class_histories, class_history, stripe_histories, stripe_history}
 use Rattle.mc_store.specs.{Passes.PassView, Sides.ClassSide, Sides.StripeSide}
 use Rattle.mc_store.proofs.NumberOrderLemmas.{get_some}
 use Rattle.mc_driver.specs.Called.{AreByCallers, AreCalledBy, AreInTurn, AreItsCalls, AreWholeTurns, IsAtMoment, IsCompared}
 use Rattle.mc_driver.specs.{Run.callers_at_work, Run.histories_left, Stand.Histories, Stand.nothing_seen}
-use Rattle.mc_driver.proofs.{CalledEventLemmas.event_for, CalledEventLemmas.moment_of_call_event, CalledEventLemmas.turn_at, CalledEventLemmas.turns_for-at, StandingCallLemmas.stand_at}
+use Rattle.mc_driver.proofs.{CalledEventLemmas.event_for, CalledEventLemmas.moment_of_call_event, CalledEventLemmas.turn_at, CalledEventLemmas.turns_for-at, CalledEventLemmas.turns_of-append, StandingCallLemmas.stand_at}
 
 -- an event's moment is that of its call
 moment_of_call : (stripe place : ℕ) (event : StripeEvent) (call : CallEvent) (behind : List CallEvent) (moment handed : ℕ) → moment_of call ≡ Some moment
@@ -48,7 +50,7 @@ whole_turns config caller histories calls are own = record {
         stands = stand_at config nothing_seen histories calls turn made.0 are.stand made.1;
         who_is = who_by (who_of event) caller by ∙ sym (own.each turn made.0 made.1);
         moment_is = moment_of_call number place event begun.call begun.behind called.moment made.0.moment begun.handed
-            (ap moment_of made.2 ∙ moment_of_call_event made.0.call made.0.moment) called.own;
+            (ap moment_of made.2 ∙ moment_of_call_event made.0.call made.0.moment called.moment (sym (ap moment_of made.2) ∙ begun.handed)) called.own;
       };
 }
 
@@ -78,7 +80,7 @@ module _ (config : Config) (final : FinalView) (all : AreStripes final.board con
     called_in_classes = λ class place event is found by.
         let c = in_class class place event is found in
         let number : (class.0 - 1) + 1 ≡ class.0 = omega (arith, is.0) in
-        subst (λ (n : ℕ). IsClassCalled pass.calls (record { 0 = n }) event) number (compared.own_in_classes.each (class.0 - 1) c.0 place event c.1 c.2 by);
+        subst (λ (n : ℕ). WasCalled pass.calls (record { 0 = n }) event) number (compared.own_in_classes.each (class.0 - 1) c.0 place event c.1 c.2 by);
   }
 
   -- where the maintainer and the crawler have no moments to work at, the events are those of the scripts' callers
@@ -97,13 +99,30 @@ module _ (config : Config) (final : FinalView) (all : AreStripes final.board con
         let c = in_class class place event is found in
         let few = ((all_classes.each (class.0 - 1) c.0 c.1).kept.called.each place event c.2).0 in
         working moments (maker_of event).caller (omega (arith, few, many)) (λ idle. (
-          λ by. no_event scripts (none idle).0 _ _ ((none idle).0.events.called_in_classes class place event is found by).begun,
-          λ by. no_event (suc scripts) (none idle).1 _ _ ((none idle).1.events.called_in_classes class place event is found by).begun,
+          λ by. no_class_event scripts (none idle).0 class event ((none idle).0.events.called_in_classes class place event is found by),
+          λ by. no_class_event (suc scripts) (none idle).1 class event ((none idle).1.events.called_in_classes class place event is found by),
         ));
   }
     where
       no_event : (caller : ℕ) → (are : AreItsCalls config caller (histories_left final) [] None) → (turn moment : ℕ) → IsBegun are.history turn moment → ⊥
       no_event caller are turn moment begun = let made = call_at config caller (histories_left final) [] turn moment are begun in absurd (cc made.1)
+
+      no_limit : (caller : ℕ) → (are : AreItsCalls config caller (histories_left final) [] None) → (class : ClassNo) (e : Limited) → IsLimitCalled are.history class e → ⊥
+      no_limit caller are class e called =
+          let limits = limits_of class e.chunks in
+          let there = ap turns_of called.split ∙ turns_of-append called.before (limits ∷ called.behind) in
+          let many = ap (λ (l : List CallEvent). length l) (sym are.just ∙ there) in
+          absurd (omega (arith, many, length-append (turns_of called.before) (limits ∷ turns_of called.behind)))
+
+      no_class_event : (caller : ℕ) → (are : AreItsCalls config caller (histories_left final) [] None) → (class : ClassNo) (event : ClassEvent) → WasCalled are.history class event → ⊥
+      no_class_event caller are class (entries.Linked e) was = no_event caller are _ _ was.begun
+      no_class_event caller are class (entries.Unlinked e) was = no_event caller are _ _ was.begun
+      no_class_event caller are class (entries.Shifted e) was = no_event caller are _ _ was.begun
+      no_class_event caller are class (entries.Evicted e) was = no_event caller are _ _ was.begun
+      no_class_event caller are class (entries.Reclaimed e) was = no_event caller are _ _ was.begun
+      no_class_event caller are class (entries.Surveyed e) was = no_event caller are _ _ was.begun
+      no_class_event caller are class (entries.Refused e) was = no_event caller are _ _ was.begun
+      no_class_event caller are class (entries.Limited e) was = no_limit caller are class e was
 
       below_both : (n : ℕ) → n < scripts + 2 → (n ≡ scripts → ⊥) → (n ≡ suc scripts → ⊥) → n < scripts
       below_both n few one two = elim (cases_lt n scripts) [

@@ -10,7 +10,7 @@ use Rattle.mc_item.specs.declared.call_event.CallEvent.TheVariants as calls
 use Rattle.mc_evidence.specs.Seen.{class_events, stripe_events}
 use Rattle.mc_evidence.proofs.SeenLemmas.{class_events-map, classes_grow, stripe_events-map, stripes_grow}
 use Rattle.mc_script.specs.Exchanges.{Exchange}
-use Rattle.mc_store.specs.{Callers.IsCall, Callers.answered_at, Callers.IsCalled, Callers.IsNext, Callers.moment_of, Sides.class_told, Sides.stripe_told}
+use Rattle.mc_store.specs.{Callers.IsCall, Callers.answered_at, Callers.IsCalled, Callers.IsNext, Callers.turns_of, Sides.class_told, Sides.stripe_told}
 use Rattle.mc_driver.specs.Caller.{AreAt, AreRising, IsAt, places_in}
 use Rattle.mc_driver.proofs.OnlyCallsLemmas.{IsOneOf, is_yes}
 use Rattle.mc_item.specs.declared.stripe_event.StripeEvent.TheVariants as events
@@ -87,21 +87,24 @@ places_in-push number [] stripe place = refl
 places_in-push number (calls.Asked asked ∷ events) stripe place = places_in-push number events stripe place
 places_in-push number (calls.Juggled worked ∷ events) stripe place = places_in-push number events stripe place
 places_in-push number (calls.Crawled worked ∷ events) stripe place = places_in-push number events stripe place
+places_in-push number (calls.Limits limits ∷ events) stripe place = places_in-push number events stripe place
 places_in-push number (calls.Answered answered ∷ events) stripe place =
     ap (λ (l : List ℕ). cond (nat_eq answered.stripe.0 number) (answered.place ∷ l) l) (places_in-push number events stripe place)
     ∙ sym (cond_first (nat_eq answered.stripe.0 number) answered.place (places_in number events) (cond (nat_eq stripe number) (place ∷ []) []))
 
 -- a call that is no answer adds none
-pub places_in-call : (number moment : ℕ) (events : List CallEvent) (call : CallEvent) → moment_of call ≡ Some moment → places_in number (events ++ call ∷ []) ≡ places_in number events
-places_in-call number moment [] (calls.Asked asked) handed = refl
-places_in-call number moment [] (calls.Juggled worked) handed = refl
-places_in-call number moment [] (calls.Crawled worked) handed = refl
-places_in-call number moment [] (calls.Answered answered) handed = absurd (cc handed)
-places_in-call number moment (calls.Asked asked ∷ events) call handed = places_in-call number moment events call handed
-places_in-call number moment (calls.Juggled worked ∷ events) call handed = places_in-call number moment events call handed
-places_in-call number moment (calls.Crawled worked ∷ events) call handed = places_in-call number moment events call handed
-places_in-call number moment (calls.Answered answered ∷ events) call handed =
-    ap (λ (l : List ℕ). cond (nat_eq answered.stripe.0 number) (answered.place ∷ l) l) (places_in-call number moment events call handed)
+pub places_in-call : (number : ℕ) (events : List CallEvent) (call : CallEvent) → turns_of (call ∷ []) ≡ call ∷ [] → places_in number (events ++ call ∷ []) ≡ places_in number events
+places_in-call number [] (calls.Asked asked) turn = refl
+places_in-call number [] (calls.Juggled worked) turn = refl
+places_in-call number [] (calls.Crawled worked) turn = refl
+places_in-call number [] (calls.Limits limits) turn = refl
+places_in-call number [] (calls.Answered answered) turn = absurd (cc turn)
+places_in-call number (calls.Asked asked ∷ events) call turn = places_in-call number events call turn
+places_in-call number (calls.Juggled worked ∷ events) call turn = places_in-call number events call turn
+places_in-call number (calls.Crawled worked ∷ events) call turn = places_in-call number events call turn
+places_in-call number (calls.Limits limits ∷ events) call turn = places_in-call number events call turn
+places_in-call number (calls.Answered answered ∷ events) call turn =
+    ap (λ (l : List ℕ). cond (nat_eq answered.stripe.0 number) (answered.place ∷ l) l) (places_in-call number events call turn)
 
 -- a place that a test lets through
 first_if : (b : Bool) (place : ℕ) (ps : List ℕ) → b ≡ true → IsOneOf place (cond b (place ∷ ps) ps)
@@ -119,9 +122,11 @@ call_place number place [] none = elim none [ ]
 call_place number place (calls.Asked asked ∷ events) (inl same) = absurd (cc same)
 call_place number place (calls.Juggled worked ∷ events) (inl same) = absurd (cc same)
 call_place number place (calls.Crawled worked ∷ events) (inl same) = absurd (cc same)
+call_place number place (calls.Limits limits ∷ events) (inl same) = absurd (cc same)
 call_place number place (calls.Asked asked ∷ events) (inr more) = call_place number place events more
 call_place number place (calls.Juggled worked ∷ events) (inr more) = call_place number place events more
 call_place number place (calls.Crawled worked ∷ events) (inr more) = call_place number place events more
+call_place number place (calls.Limits limits ∷ events) (inr more) = call_place number place events more
 call_place number place (calls.Answered answered ∷ events) (inl same) =
     subst (λ (e : CallEvent). IsOneOf place (places_in number (e ∷ events))) (sym same) (first_if (nat_eq number number) place (places_in number events) (is_yes number number refl))
 call_place number place (calls.Answered answered ∷ events) (inr more) = more_if (nat_eq answered.stripe.0 number) answered.place place (places_in number events) (call_place number place events more)

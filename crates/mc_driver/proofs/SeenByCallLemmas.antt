@@ -11,13 +11,13 @@ use Rattle.mc_board.specs.Histories.{Grows, list_at}
 use Rattle.mc_board.specs.declared.rule.Sight.{Sight}
 use Rattle.mc_evidence.specs.{Seen.class_events, Seen.stripe_events, Refusals.WasTried, Setting.IsClass, Setting.site_in, Locks.ClassKeeps, Locks.StripeKeeps}
 use Rattle.mc_evidence.proofs.SeenLemmas.{class_events-append, class_events-map, classes_grow, stripe_events-map, stripes_grow}
-use Rattle.mc_proto.specs.Answers.{Moved, Replied, Counted}
+use Rattle.mc_proto.specs.Answers.{Counted, Limited, Moved, Replied}
 use Rattle.mc_pull.specs.{Juggle.IsJuggle, Rounds.Rounds, Rounds.rounds}
-use Rattle.mc_script.specs.Exchanges.{Asks, Juggles, exchange, Crawls}
-use Rattle.mc_segment.specs.ClassState.{ClassView}
+use Rattle.mc_script.specs.Exchanges.{Asks, Crawls, Juggles, Limits, exchange}
+use Rattle.mc_segment.specs.{ClassCalls.limited_event, ClassState.ClassView}
 use Rattle.mc_stripe.specs.{Plan.dead_link, Plan.visible_row, StripeState.Stripe, StripeState.stripe}
 use Rattle.mc_store.specs.{Commands.IsSearch, Commands.LeadsUp, Commands.burial}
-use Rattle.mc_store.specs.{Calls.IsJuggledBy, Calls.IsRepliedBy, Locked.setting_of, Locked.class_lock, Sides.class_told, Crawls.AreLinksCounted}
+use Rattle.mc_store.specs.{Calls.IsJuggledBy, Calls.IsLimitedBy, Calls.IsRepliedBy, Locked.setting_of, Locked.class_lock, Sides.class_told, Crawls.AreLinksCounted}
 use Rattle.mc_store.specs.{Crawls.HasReclaims, Crawls.IsCrawledBy, Earned.IsLastResort, Passes.PassView, Passes.next_who}
 use Rattle.mc_store.proofs.{EarnedRefusalLemmas.opened_again, LockKeepsLemmas.site_of_number}
 use Rattle.mc_driver.specs.{Caller.histories_seen, Noted.answered_command, Noted.answered_event, Noted.stripe_with, Stand.Grow, Stand.StandsBetween, Stand.stripe_number}
@@ -144,4 +144,24 @@ crawled_between config class before after who moment histogram is grows by =
         reclaims = reclaims_told who moment histogram.reclaimed shown.events (subst (λ (k : ℕ). HasReclaims who moment k shown.events) (sym many) shown.reclaims);
       };
       evidence = subst (λ (h : List ClassEvent). ClassKeeps (setting_of config) class h (histories_seen config after).stripes) (sym now) whole.sound;
+    }
+
+-- and by a new limit
+pub limited_between : (config : Config) (class : ClassNo) (before after : Sight) (who : Who) (chunks moment : ℕ) → IsClass (setting_of config) class → Grows before after
+    → IsLimitedBy config class before after who chunks
+    → StandsBetween config (histories_seen config before) (histories_seen config after) (exchange who.caller who.turn (Limits class chunks) moment Limited)
+limited_between config class before after who chunks moment is grows by =
+    let longer : List ClassEvent = by.old.history ++ limited_event who chunks ∷ [] in
+    let now : (histories_seen config after).classes class ≡ longer = ap class_events by.grew.now ∙ class_events-map longer in
+    record {
+      grew = seen_grow config before after grows;
+      placed = is;
+      stands = record {
+        before = by.old.history;
+        behind = [];
+        past = class_begins (list_at before.seen (class_lock config class)) by.old.history by.grew.seen;
+        first = by.first;
+        split = now;
+      };
+      evidence = subst (λ (h : List ClassEvent). ClassKeeps (setting_of config) class h (histories_seen config after).stripes) (sym now) by.grew.sound;
     }

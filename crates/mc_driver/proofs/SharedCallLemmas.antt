@@ -12,17 +12,17 @@ use Rattle.mc_board.specs.declared.rule.Sight.{Sight}
 use Rattle.mc_board.proofs.PrefixLemmas.{prefix_length}
 use Rattle.mc_evidence.specs.{Seen.stripe_events, Setting.IsClass}
 use Rattle.mc_evidence.proofs.SeenLemmas.{stripe_events-map}
-use Rattle.mc_proto.specs.Answers.{Moved, Replied, Counted}
+use Rattle.mc_proto.specs.Answers.{Counted, Limited, Moved, Replied}
 use Rattle.mc_script.specs.{Calls.AddsCalls, Calls.AddsUp, Calls.BreaksOff, Exchanges.Asks, Exchanges.Begun, Exchanges.Crawls, Exchanges.Exchange}
-use Rattle.mc_script.specs.Exchanges.{Juggles, ScriptCall, exchange}
-use Rattle.mc_store.specs.Callers.{answered_at, asked_for, juggling_of, moment_of, crawling_of, turns_of}
-use Rattle.mc_store.specs.{Calls.IsJuggledBy, Calls.IsRepliedBy, Locked.setting_of, Passes.PassView, Passes.next_who, Crawls.IsCrawledBy}
+use Rattle.mc_script.specs.Exchanges.{Juggles, Limits, ScriptCall, exchange}
+use Rattle.mc_store.specs.Callers.{answered_at, asked_for, crawling_of, juggling_of, limits_of, turns_of}
+use Rattle.mc_store.specs.{Calls.IsJuggledBy, Calls.IsLimitedBy, Calls.IsRepliedBy, Locked.setting_of, Passes.PassView, Passes.next_who, Crawls.IsCrawledBy}
 use Rattle.mc_driver.specs.{Called.AreInTurn, Called.call_event_of}
 use Rattle.mc_driver.specs.Caller.{AreAt, AreNoted, AreRising, IsAt, MayCall, histories_seen, places_in}
 use Rattle.mc_driver.specs.Stand.{StandsBetween, calls_at, is_command_at, nothing_seen, stripe_number}
 use Rattle.mc_driver.proofs.NotedPlaceLemmas.{at_later, at_push_if, get_next, places_in-push, rising_push_if, stripe_begins, places_in-call}
-use Rattle.mc_driver.proofs.{SeenByCallLemmas.crawled_between, SeenByCallLemmas.juggled_between, SeenByCallLemmas.replied_between, SeenByCallLemmas.seen_grow}
-use Rattle.mc_driver.proofs.CalledEventLemmas.{event_for, in_turn_more, moment_of_call_event, replied_turns, turns_begun, turns_more, turns_of-call}
+use Rattle.mc_driver.proofs.SeenByCallLemmas.{crawled_between, juggled_between, limited_between, replied_between, seen_grow}
+use Rattle.mc_driver.proofs.CalledEventLemmas.{call_event_of-turn, event_for, in_turn_more, replied_turns, turns_begun, turns_more, turns_of-call}
 use Rattle.mc_driver.proofs.{OnlyCallsLemmas.is_same, StandingCallLemmas.stand_later, StandingCallLemmas.stand_more}
 
 -- where a reply was noted, and what stands there
@@ -71,7 +71,7 @@ module _ (config : Config) (old new : PassView) (command : Command) (moment : �
     places =
         ap (places_in n) noted_as
         ∙ (places_in-push n asked number place
-        ∙ ap (λ (l : List ℕ). l ++ cond (nat_eq number n) (place ∷ []) []) (places_in-call n moment old.calls (asked_for command moment) refl))
+        ∙ ap (λ (l : List ℕ). l ++ cond (nat_eq number n) (place ∷ []) []) (places_in-call n old.calls (asked_for command moment) refl))
 
     all : calls_at config.stripes n (calls ++ call ∷ []) ≡ calls_at config.stripes n calls ++ cond (nat_eq number n) (call ∷ []) []
     all = filter-append (λ (c : Exchange). is_command_at config.stripes n c.call) calls (call ∷ [])
@@ -119,10 +119,10 @@ module _ (config : Config) (old new : PassView) (same : new.caller ≡ old.calle
   }
 
   -- a call that is no answer leaves the places as they are, and what is there
-  module _ (call : CallEvent) (moment : ℕ) (handed : moment_of call ≡ Some moment) (noted_as : new.calls ≡ old.calls ++ call ∷ []) (calls : List Exchange) (noted : AreNoted config old calls None)
+  module _ (call : CallEvent) (turn : turns_of (call ∷ []) ≡ call ∷ []) (noted_as : new.calls ≡ old.calls ++ call ∷ []) (calls : List Exchange) (noted : AreNoted config old calls None)
       (n : ℕ) (below : n < config.stripes) where
     kept_places : places_in n new.calls ≡ places_in n old.calls
-    kept_places = ap (places_in n) noted_as ∙ places_in-call n moment old.calls call handed
+    kept_places = ap (places_in n) noted_as ∙ places_in-call n old.calls call turn
 
     kept_at : AreAt (stripe_events (list_at new.sight.seen n)) new.caller (places_in n new.calls) (calls_at config.stripes n calls)
     kept_at =
@@ -137,17 +137,17 @@ module _ (config : Config) (old new : PassView) (same : new.caller ≡ old.calle
   class_adds : (call : Exchange) → MayCall config old → call.who ≡ next_who old → new.calls ≡ old.calls ++ event_for call ∷ [] → ((n : ℕ) → calls_at config.stripes n (call ∷ []) ≡ [])
       → StandsBetween config (histories_seen config old.sight) (histories_seen config new.sight) call → AddsCalls (AreNoted config old) (AreNoted config new) (call ∷ [])
   class_adds call may who noted_as none between =
-      let handed = moment_of_call_event call.call call.moment in record {
+      let turn = call_event_of-turn call.call call.moment in record {
         at = λ calls noted. record {
           stand = stand_more config nothing_seen (histories_seen config old.sight) (histories_seen config new.sight) calls call noted.stand between;
           at = λ n below.
               let all = filter-append (λ (c : Exchange). is_command_at config.stripes n c.call) calls (call ∷ [])
               ∙ (ap (λ (l : List Exchange). calls_at config.stripes n calls ++ l) (none n) ∙ append-nil (calls_at config.stripes n calls)) in
               subst (λ (l : List Exchange). AreAt (stripe_events (list_at new.sight.seen n)) new.caller (places_in n new.calls) l) (sym all)
-              (kept_at (event_for call) call.moment handed noted_as calls noted n below);
-          rising = λ n below. kept_rising (event_for call) call.moment handed noted_as calls noted n below;
+              (kept_at (event_for call) turn noted_as calls noted n below);
+          rising = λ n below. kept_rising (event_for call) turn noted_as calls noted n below;
           own = subst (λ (k : ℕ). AreInTurn k (calls ++ call ∷ [])) (sym same) (in_turn_more old calls call noted.own who may.turns noted.turns);
-          turns = turns_more old.calls new.calls calls call (ap turns_of noted_as ∙ turns_of-call old.calls (event_for call) call.moment handed) noted.turns;
+          turns = turns_more old.calls new.calls calls call (ap turns_of noted_as ∙ turns_of-call old.calls (event_for call) turn) noted.turns;
         };
       }
 
@@ -157,15 +157,15 @@ module _ (config : Config) (old new : PassView) (same : new.caller ≡ old.calle
   breaks_off made moment (inr gained) =
       let begun : Begun = record { call = made; moment = moment } in
       let event = call_event_of made moment in
-      let handed = moment_of_call_event made moment in
+      let turn = call_event_of-turn made moment in
       record {
         at = λ calls noted. (
           Some begun,
           (refl, refl),
           record {
             stand = stand_later config nothing_seen (histories_seen config old.sight) (histories_seen config new.sight) calls (seen_grow config old.sight new.sight grows) noted.stand;
-            at = λ n below. kept_at event moment handed gained calls noted n below;
-            rising = λ n below. kept_rising event moment handed gained calls noted n below;
+            at = λ n below. kept_at event turn gained calls noted n below;
+            rising = λ n below. kept_rising event turn gained calls noted n below;
             own = subst (λ (k : ℕ). AreInTurn k calls) (sym same) noted.own;
             turns = turns_begun old.calls new.calls calls begun gained noted.turns;
           },
@@ -194,6 +194,14 @@ module _ (config : Config) (old new : PassView) (same : new.caller ≡ old.calle
   crawled_ok class moment (Ok histogram) may is gained by =
       class_adds _ may refl gained (λ n. refl) (crawled_between config class old.sight new.sight (next_who old) moment histogram is grows by)
   crawled_ok class moment (Err fault) may is gained by = tt
+
+  -- and a new limit where it was set
+  pub limited_ok : {T : Type 0} (class : ClassNo) (chunks moment : ℕ) (r : Result T Fault) → MayCall config old → IsClass (setting_of config) class
+      → OnOk r (new.calls ≡ old.calls ++ limits_of class chunks ∷ []) → OnOk r (IsLimitedBy config class old.sight new.sight (next_who old) chunks)
+      → OnOk r (AddsCalls (AreNoted config old) (AreNoted config new) (exchange old.caller old.turn (Limits class chunks) moment Limited ∷ []))
+  limited_ok class chunks moment (Ok x) may is gained by =
+      class_adds _ may refl gained (λ n. refl) (limited_between config class old.sight new.sight (next_who old) chunks moment is grows by)
+  limited_ok class chunks moment (Err fault) may is gained by = tt
 
   -- and what went wrong breaks off
   pub call_failed : {T : Type 0} (made : ScriptCall) (moment : ℕ) (r : Result T Fault) → OnErr r (IsCut old new (call_event_of made moment))

@@ -8,11 +8,11 @@ use Rattle.mc_item.specs.declared.{item.StripeNo.StripeNo, stripe_event.Did.Did}
 use Rattle.mc_board.proofs.PrefixLemmas.{prefix_nil, prefix_self, prefix_trans}
 use Rattle.mc_evidence.specs.{Refusals.WasTried, Setting.IsClass, Setting.site_in}
 use Rattle.mc_evidence.proofs.EvidenceGrowthLemmas.{tried_later}
-use Rattle.mc_proto.specs.Answers.{Answer, Moved, Replied, Counted}
-use Rattle.mc_script.specs.Exchanges.{Asks, ScriptCall, Exchange, Juggles, Crawls}
-use Rattle.mc_segment.specs.ClassCalls.{refused_event}
+use Rattle.mc_proto.specs.Answers.{Answer, Counted, Limited, Moved, Replied}
+use Rattle.mc_script.specs.Exchanges.{Asks, Crawls, Exchange, Juggles, Limits, ScriptCall}
+use Rattle.mc_segment.specs.ClassCalls.{limited_event, refused_event}
 use Rattle.mc_store.specs.{Crawls.HasReclaims, Earned.IsLastResort, Locked.setting_of, Sides.class_told}
-use Rattle.mc_driver.specs.Noted.{NotesCommand, NotesCrawling, NotesJuggling, answered_command, answered_event}
+use Rattle.mc_driver.specs.Noted.{NotesCommand, NotesCrawling, NotesJuggling, NotesLimit, answered_command, answered_event}
 use Rattle.mc_driver.specs.Stand.{Grow, Histories, IsPlaced, Stand, StandsAnywhere, StandsAs, StandsBetween, nothing_seen, stripe_number}
 
 -- ---- histories that grow
@@ -120,6 +120,16 @@ NotesCrawling-append config seen history more who class moment histogram noted =
   reclaims = reclaims_more who moment histogram.reclaimed noted.since more noted.reclaims;
 }
 
+-- and the new limit
+NotesLimit-append : (seen history more : List ClassEvent) (who : Who) (chunks : ℕ) → NotesLimit seen history who chunks → NotesLimit seen (history ++ more) who chunks
+NotesLimit-append seen history more who chunks noted = record {
+  before = noted.before;
+  behind = noted.behind ++ more;
+  past = noted.past;
+  first = noted.first;
+  split = ap (λ (h : List ClassEvent). h ++ more) noted.split ∙ append_assoc noted.before (limited_event who chunks ∷ noted.behind) more;
+}
+
 -- a call that stands goes on standing where histories grow
 pub stands_as_later : (config : Config) (seen old new : Histories) (who : Who) (moment : ℕ) (call : ScriptCall) (answer : Answer) → Grow config old new → IsPlaced config call
     → StandsAs config seen old who moment call answer → StandsAs config seen new who moment call answer
@@ -136,12 +146,21 @@ stands_as_later config seen old new who moment (Crawls class) (Counted histogram
     let longer = grow.classes class placed in
     subst (λ (h : List ClassEvent). NotesCrawling config (seen.classes class) h who class moment histogram) longer.1
     (NotesCrawling-append config (seen.classes class) (old.classes class) longer.0 who class moment histogram stands)
+stands_as_later config seen old new who moment (Limits class n) Limited grow placed stands =
+    let longer = grow.classes class placed in
+    subst (λ (h : List ClassEvent). NotesLimit (seen.classes class) h who n) longer.1 (NotesLimit-append (seen.classes class) (old.classes class) longer.0 who n stands)
 stands_as_later config seen old new who moment (Asks command) (Moved moves) grow placed stands = absurd stands
 stands_as_later config seen old new who moment (Asks command) (Counted histogram) grow placed stands = absurd stands
 stands_as_later config seen old new who moment (Juggles class) (Counted histogram) grow placed stands = absurd stands
 stands_as_later config seen old new who moment (Crawls class) (Replied reply) grow placed stands = absurd stands
 stands_as_later config seen old new who moment (Crawls class) (Moved moves) grow placed stands = absurd stands
 stands_as_later config seen old new who moment (Juggles class) (Replied reply) grow placed stands = absurd stands
+stands_as_later config seen old new who moment (Asks command) Limited grow placed stands = absurd stands
+stands_as_later config seen old new who moment (Juggles class) Limited grow placed stands = absurd stands
+stands_as_later config seen old new who moment (Crawls class) Limited grow placed stands = absurd stands
+stands_as_later config seen old new who moment (Limits class n) (Replied reply) grow placed stands = absurd stands
+stands_as_later config seen old new who moment (Limits class n) (Moved moves) grow placed stands = absurd stands
+stands_as_later config seen old new who moment (Limits class n) (Counted histogram) grow placed stands = absurd stands
 
 -- ---- less that was seen
 
@@ -196,6 +215,15 @@ NotesCrawling-less config less seen history who class moment histogram begins no
   reclaims = reclaims_behind who moment histogram.reclaimed begins.0 noted.since noted.reclaims;
 }
 
+NotesLimit-less : (less seen history : List ClassEvent) (who : Who) (chunks : ℕ) → IsPrefix less seen → NotesLimit seen history who chunks → NotesLimit less history who chunks
+NotesLimit-less less seen history who chunks begins noted = record {
+  before = noted.before;
+  behind = noted.behind;
+  past = prefix_trans less seen noted.before begins noted.past;
+  first = noted.first;
+  split = noted.split;
+}
+
 pub stands_as_less : (config : Config) (less seen histories : Histories) (who : Who) (moment : ℕ) (call : ScriptCall) (answer : Answer) → Grow config less seen → IsPlaced config call
     → StandsAs config seen histories who moment call answer → StandsAs config less histories who moment call answer
 stands_as_less config less seen histories who moment (Asks command) (Replied reply) grow placed stands =
@@ -205,12 +233,20 @@ stands_as_less config less seen histories who moment (Juggles class) (Moved move
     NotesJuggling-less config (less.classes class) (seen.classes class) (histories.classes class) who class moment moves (grow.classes class placed) stands
 stands_as_less config less seen histories who moment (Crawls class) (Counted histogram) grow placed stands =
     NotesCrawling-less config (less.classes class) (seen.classes class) (histories.classes class) who class moment histogram (grow.classes class placed) stands
+stands_as_less config less seen histories who moment (Limits class n) Limited grow placed stands =
+    NotesLimit-less (less.classes class) (seen.classes class) (histories.classes class) who n (grow.classes class placed) stands
 stands_as_less config less seen histories who moment (Asks command) (Moved moves) grow placed stands = absurd stands
 stands_as_less config less seen histories who moment (Asks command) (Counted histogram) grow placed stands = absurd stands
 stands_as_less config less seen histories who moment (Juggles class) (Counted histogram) grow placed stands = absurd stands
 stands_as_less config less seen histories who moment (Crawls class) (Replied reply) grow placed stands = absurd stands
 stands_as_less config less seen histories who moment (Crawls class) (Moved moves) grow placed stands = absurd stands
 stands_as_less config less seen histories who moment (Juggles class) (Replied reply) grow placed stands = absurd stands
+stands_as_less config less seen histories who moment (Asks command) Limited grow placed stands = absurd stands
+stands_as_less config less seen histories who moment (Juggles class) Limited grow placed stands = absurd stands
+stands_as_less config less seen histories who moment (Crawls class) Limited grow placed stands = absurd stands
+stands_as_less config less seen histories who moment (Limits class n) (Replied reply) grow placed stands = absurd stands
+stands_as_less config less seen histories who moment (Limits class n) (Moved moves) grow placed stands = absurd stands
+stands_as_less config less seen histories who moment (Limits class n) (Counted histogram) grow placed stands = absurd stands
 
 -- ---- calls in turn
 

@@ -1,20 +1,22 @@
--- Which calls a caller made, and which of them each of its events belongs to: one in the same turn (its number), at the same moment (own).
+-- Which calls a caller made, and which of them each of its events belongs to: one in the same turn (its number), at the same moment if
+-- the event has one (own).
 use Rattle.std.specs.Prelude.{ℕ, ◌≡◌, ◌<◌, ◌≤◌, ◌⊎◌, List, [], ◌∷◌, ◌++◌, Option, Some, None, length, map, slice_get}
 use Rattle.mc_item.specs.declared.{call_event.CallEvent.CallEvent, class_event.ClassEvent.ClassEvent, config.Config.Config, item.ClassNo.ClassNo}
 use Rattle.mc_item.specs.declared.{stripe_event.StripeEvent.StripeEvent}
 use Rattle.mc_item.specs.declared.stripe_event.StripeEvent.TheVariants as events
-use Rattle.mc_script.specs.Exchanges.{Asks, Begun, Crawls, Exchange, Juggles, ScriptCall}
+use Rattle.mc_script.specs.Exchanges.{Asks, Begun, Crawls, Exchange, Juggles, Limits, ScriptCall}
 use Rattle.mc_evidence.specs.Setting.{IsClass}
-use Rattle.mc_store.specs.Callers.{IsCalled, IsMomentOf, asked_for, crawling_of, juggling_of, turns_of, who_of}
-use Rattle.mc_store.specs.{Locked.setting_of, Made.IsClassCalled, Made.maker_of, Passes.PassView}
+use Rattle.mc_store.specs.Callers.{IsCalled, IsMomentOf, asked_for, crawling_of, juggling_of, limits_of, turns_of, who_of}
+use Rattle.mc_store.specs.{Locked.setting_of, Made.WasCalled, Made.maker_of, Passes.PassView}
 use Rattle.mc_store.specs.Finals.{AreItsOwn, AreItsOwnInClasses, FinalView, IsBehindClasses, IsBehindStripes}
 use Rattle.mc_driver.specs.{Run.HasFull, Stand.AreOnly, Stand.Histories, Stand.Stand, Stand.StandsAnywhere, Stand.nothing_seen}
 
--- the event of a caller's history for this call at this moment
+-- the event of a caller's history for this call at this moment; one that sets a limit has no moment
 abbrev pub call_event_of : ScriptCall → ℕ → CallEvent
 call_event_of (Asks command) moment = asked_for command moment
 call_event_of (Juggles class) moment = juggling_of class moment
 call_event_of (Crawls class) moment = crawling_of class moment
+call_event_of (Limits class n) moment = limits_of class n
 
 -- the event of a caller's history for a call that was begun and broke off, if there is one
 abbrev pub begun_event : Option Begun → List CallEvent
@@ -48,7 +50,7 @@ pub record AreCalledBy (config : Config) (caller : ℕ) (histories : Histories) 
   pub called : (number place : ℕ) (event : StripeEvent) → number < config.stripes → slice_get (histories.stripes number) place ≡ Some event
       → (who_of event).caller ≡ caller → IsCalled calls number place event
   pub called_in_classes : (class : ClassNo) (place : ℕ) (event : ClassEvent) → IsClass (setting_of config) class
-      → slice_get (histories.classes class) place ≡ Some event → (maker_of event).caller ≡ caller → IsClassCalled calls class event
+      → slice_get (histories.classes class) place ≡ Some event → (maker_of event).caller ≡ caller → WasCalled calls class event
 
 -- what is known of a caller's calls: the histories have them in turn, and the stripes have no other commands of that caller. The
 -- caller's own history has just these calls, then the one that broke off if one did, and each of its events belongs to one of these

@@ -40,6 +40,7 @@ places_in number [] = []
 places_in number (calls.Asked asked ∷ more) = places_in number more
 places_in number (calls.Juggled worked ∷ more) = places_in number more
 places_in number (calls.Crawled worked ∷ more) = places_in number more
+places_in number (calls.Limits limits ∷ more) = places_in number more
 places_in number (calls.Answered answered ∷ more) = if nat_eq answered.stripe.0 number then answered.place ∷ places_in number more else places_in number more
 
 -- what a pass knows of its caller's calls: it has seen these in turn, each of this caller, with commands at just the places that the

@@ -11,14 +11,14 @@ use Rattle.mc_proto.specs.Answers.{Replied}
 use Rattle.mc_pull.specs.{Juggle.IsJuggle, Rounds.rounds}
 use Rattle.mc_pull.specs.declared.looking.Answer.{Answer as GateAnswer}
 use Rattle.mc_script.specs.Exchanges.{Asks, Exchange}
-use Rattle.mc_segment.specs.ClassState.{opened}
+use Rattle.mc_segment.specs.{ClassCalls.limited_event, ClassState.opened}
 use Rattle.mc_rule.specs.Lists.{count_of, lists_of}
 use Rattle.mc_evidence.specs.{Refusals.WasTried, Setting.IsClass, Setting.site_in}
 use Rattle.mc_crawl.specs.{CrawlCount.IsBalanced, Snapshot.links_of}
 use Rattle.mc_item.specs.Counts.{no_counts}
 use Rattle.mc_item.specs.declared.reply.Room.TheVariants as rooms
 use Rattle.mc_store.specs.{Callers.HasNoneOf, Commands.LeadsUp, Crawls.AreLinksCounted, Crawls.HasReclaims, Earned.IsLastResort, Hits.AreAdvanced}
-use Rattle.mc_store.specs.{Locked.setting_of, Sides.class_told}
+use Rattle.mc_store.specs.{Locked.setting_of, Made.HasNoneMadeBy, Sides.class_told}
 use Rattle.mc_stripe.specs.StripeState.{Stripe, stripe}
 
 -- an answered command as an exchange, without its room (the link or the refusal that it was given)
@@ -97,3 +97,12 @@ pub record NotesCrawling (config : Config) (seen history : List ClassEvent) (who
   pub since : List ClassEvent
   pub since_is : history ≡ seen ++ since
   pub reclaims : HasReclaims who moment histogram.reclaimed (class_told since)
+
+-- a class's history has a call's new limit of chunks after what was seen of it: older events, none of them of this call, then the
+-- limit, then any others
+pub record NotesLimit (seen history : List ClassEvent) (who : Who) (chunks : ℕ) : Type 0 where
+  pub before : List ClassEvent
+  pub behind : List ClassEvent
+  pub past : IsPrefix seen before
+  pub first : HasNoneMadeBy who before
+  pub split : history ≡ before ++ limited_event who chunks ∷ behind

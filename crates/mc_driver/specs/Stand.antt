@@ -7,10 +7,10 @@ use Rattle.mc_item.specs.{Command.key_of, Measure.stripe_of}
 use Rattle.mc_item.specs.declared.{class_event.ClassEvent.ClassEvent, command.Command.Command, config.Config.Config, item.ClassNo.ClassNo, item.Who.Who}
 use Rattle.mc_item.specs.declared.{stripe_event.StripeEvent.StripeEvent}
 use Rattle.mc_evidence.specs.{Locks.ClassKeeps, Locks.StripeKeeps, Setting.IsClass}
-use Rattle.mc_proto.specs.Answers.{Answer, Moved, Replied, Counted}
-use Rattle.mc_script.specs.Exchanges.{Asks, ScriptCall, Exchange, Juggles, Crawls}
+use Rattle.mc_proto.specs.Answers.{Answer, Counted, Limited, Moved, Replied}
+use Rattle.mc_script.specs.Exchanges.{Asks, Crawls, Exchange, Juggles, Limits, ScriptCall}
 use Rattle.mc_store.specs.Locked.{setting_of}
-use Rattle.mc_driver.specs.Noted.{NotesCommand, NotesJuggling, exchanges_in, NotesCrawling}
+use Rattle.mc_driver.specs.Noted.{NotesCommand, NotesCrawling, NotesJuggling, NotesLimit, exchanges_in}
 
 -- the histories of a store: of its stripes, numbered from 0, and of its slab classes, numbered from 1
 pub record Histories : Type 0 where
@@ -35,6 +35,7 @@ abbrev pub IsPlaced : Config → ScriptCall → Type 0
 IsPlaced config (Asks command) = stripe_number config.stripes command < config.stripes
 IsPlaced config (Juggles class) = IsClass (setting_of config) class
 IsPlaced config (Crawls class) = IsClass (setting_of config) class
+IsPlaced config (Limits class n) = IsClass (setting_of config) class
 
 -- the histories have this call with its answer after what was seen: a command in its stripe's, other calls in their class's
 abbrev pub StandsAs : Config → Histories → Histories → Who → ℕ → ScriptCall → Answer → Type 0
@@ -45,14 +46,22 @@ StandsAs config seen histories who moment (Juggles class) (Moved moves) =
     NotesJuggling config (seen.classes class) (histories.classes class) who class moment moves
 StandsAs config seen histories who moment (Crawls class) (Counted histogram) =
     NotesCrawling config (seen.classes class) (histories.classes class) who class moment histogram
+StandsAs config seen histories who moment (Limits class n) Limited = NotesLimit (seen.classes class) (histories.classes class) who n
 StandsAs config seen histories who moment (Asks command) (Moved moves) = ⊥
 StandsAs config seen histories who moment (Asks command) (Counted histogram) = ⊥
+StandsAs config seen histories who moment (Asks command) Limited = ⊥
 StandsAs config seen histories who moment (Juggles class) (Replied reply) = ⊥
 StandsAs config seen histories who moment (Juggles class) (Counted histogram) = ⊥
+StandsAs config seen histories who moment (Juggles class) Limited = ⊥
 StandsAs config seen histories who moment (Crawls class) (Replied reply) = ⊥
 StandsAs config seen histories who moment (Crawls class) (Moved moves) = ⊥
+StandsAs config seen histories who moment (Crawls class) Limited = ⊥
+StandsAs config seen histories who moment (Limits class n) (Replied reply) = ⊥
+StandsAs config seen histories who moment (Limits class n) (Moved moves) = ⊥
+StandsAs config seen histories who moment (Limits class n) (Counted histogram) = ⊥
 
--- the histories have this exchange after what was seen: with its caller and turn, its call, its moment and its answer
+-- the histories have this exchange after what was seen: with its caller and turn, its call, its moment and its answer (for a new
+-- limit no moment is noted)
 abbrev pub StandsBehind : Config → Histories → Histories → Exchange → Type 0
 StandsBehind config seen histories call = StandsAs config seen histories call.who call.moment call.call call.answer
 
@@ -67,6 +76,7 @@ HasEvidence config reached (Asks command) =
     StripeKeeps (setting_of config) number (reached.stripes number) reached.classes
 HasEvidence config reached (Juggles class) = ClassKeeps (setting_of config) class (reached.classes class) reached.stripes
 HasEvidence config reached (Crawls class) = ClassKeeps (setting_of config) class (reached.classes class) reached.stripes
+HasEvidence config reached (Limits class n) = ClassKeeps (setting_of config) class (reached.classes class) reached.stripes
 
 -- this call took its caller from the histories seen to those reached, which have it after what was seen, and the evidence for it
 pub record StandsBetween (config : Config) (seen reached : Histories) (call : Exchange) : Type 0 where
@@ -91,6 +101,7 @@ abbrev pub is_command_at : ℕ → ℕ → ScriptCall → Bool
 is_command_at stripes number (Asks command) = nat_eq (stripe_number stripes command) number
 is_command_at stripes number (Juggles class) = false
 is_command_at stripes number (Crawls class) = false
+is_command_at stripes number (Limits class n) = false
 
 -- the calls among these that are commands on one stripe, among so many stripes, in order
 abbrev pub calls_at : ℕ → ℕ → List Exchange → List Exchange

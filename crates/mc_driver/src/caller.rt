@@ -68,4 +68,8 @@ impl<'a, N: Named> Calls for Caller<'a, N> {
         self.store
             .crawl(self.alloc, rt, &mut self.pass, class, moment)
     }
+
+    fn limit(&mut self, rt: &impl Wait, class: ClassNo, chunks: u64) -> Result<(), Fault> {
+        self.store.chunks(rt, &mut self.pass, class, chunks)
+    }
 }

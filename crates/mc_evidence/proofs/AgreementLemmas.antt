@@ -2,8 +2,8 @@
 use Rattle.std.proofs.Common.{◌≡◌, ℕ, List, [], ◌∷◌, ◌++◌, true, refl, sym, subst, length}
 use Rattle.std.specs.Prelude.{IsSomeAnd}
 use Rattle.mc_item.specs.{Command.key_of, Item.is_dead, Stripe.IsDead}
-use Rattle.mc_item.specs.declared.{answer.Site.Site, class_event.ClassEvent.ClassEvent, class_event.Linked.Linked, class_event.Refused.Refused}
-use Rattle.mc_item.specs.declared.{class_event.Shifted.Shifted, class_event.Surveyed.Surveyed, class_event.Unlinked.Unlinked, item.ClassNo.ClassNo}
+use Rattle.mc_item.specs.declared.{answer.Site.Site, class_event.ClassEvent.ClassEvent, class_event.Limited.Limited, class_event.Linked.Linked}
+use Rattle.mc_item.specs.declared.{class_event.Refused.Refused, class_event.Shifted.Shifted, class_event.Surveyed.Surveyed, class_event.Unlinked.Unlinked, item.ClassNo.ClassNo}
 use Rattle.mc_item.specs.declared.{item.Who.Who, stripe_event.Did.Did, stripe_event.StripeEvent.StripeEvent}
 use Rattle.mc_item.specs.declared.class_event.ClassEvent.TheVariants as entries
 use Rattle.mc_item.specs.declared.stripe_event.StripeEvent.TheVariants as items
@@ -94,7 +94,7 @@ module _ (site : Site) (rule : Rule) (class : ClassNo) (stripe : List StripeEven
     once = agree.once;
   }
 
-  -- a survey or a refusal
+  -- a survey, a refusal or a new limit
   pub agree_surveyed : (e : Surveyed) → Agree site rule class stripe (history ++ entries.Surveyed e ∷ [])
   agree_surveyed e = record {
     evidence = class_push site rule class stripe history agree.evidence (entries.Surveyed e) tt;
@@ -107,4 +107,11 @@ module _ (site : Site) (rule : Rule) (class : ClassNo) (stripe : List StripeEven
     evidence = class_push site rule class stripe history agree.evidence (entries.Refused e) tt;
     suited = each_push (IsSuited site class stripe) history (entries.Refused e) agree.suited tt;
     once = each_push ClearsOnce history (entries.Refused e) agree.once tt;
+  }
+
+  pub agree_limited : (e : Limited) → Agree site rule class stripe (history ++ entries.Limited e ∷ [])
+  agree_limited e = record {
+    evidence = class_push site rule class stripe history agree.evidence (entries.Limited e) tt;
+    suited = each_push (IsSuited site class stripe) history (entries.Limited e) agree.suited tt;
+    once = each_push ClearsOnce history (entries.Limited e) agree.once tt;
   }

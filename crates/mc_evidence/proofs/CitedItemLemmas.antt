@@ -43,6 +43,7 @@ module _ (site : Site) where
   suited_later class seen xs behind (entries.Reclaimed e) h = λ s x at of. cited_later seen xs x.key e.at _ (h s x at of)
   suited_later class seen xs behind (entries.Surveyed e) h = tt
   suited_later class seen xs behind (entries.Refused e) h = tt
+  suited_later class seen xs behind (entries.Limited e) h = tt
 
   pub all_suited_later : (class : ClassNo) (seen xs : List StripeEvent) (own : List ClassEvent) → Each (IsSuited site class seen) own → Each (IsSuited site class (seen ++ xs)) own
   all_suited_later class seen xs own each = each_weaker (IsSuited site class seen) (IsSuited site class (seen ++ xs)) own (suited_later class seen xs) each

@@ -27,6 +27,7 @@ IsLinkOf n key cost (events.Evicted e) = ⊥
 IsLinkOf n key cost (events.Reclaimed e) = ⊥
 IsLinkOf n key cost (events.Surveyed e) = ⊥
 IsLinkOf n key cost (events.Refused e) = ⊥
+IsLinkOf n key cost (events.Limited e) = ⊥
 
 module _ (chunks : ℕ) (rule : Rule) where
   -- ---- what an event makes of a number's entry
@@ -57,6 +58,7 @@ module _ (chunks : ℕ) (rule : Rule) where
   kept_left n h (events.Reclaimed e) inv leaves = kept_after n h (events.Reclaimed e) None (kept_gone n e.number h inv leaves)
   kept_left n h (events.Surveyed e) inv leaves = absurd leaves
   kept_left n h (events.Refused e) inv leaves = absurd leaves
+  kept_left n h (events.Limited e) inv leaves = absurd leaves
 
   kept_shifted : (n : ℕ) (h : List ClassEvent) (e : Shifted) → IsNumbered h → IsLawfulByLists chunks rule h (events.Shifted e) → e.number ≡ n → kept n (h ++ events.Shifted e ∷ []) ≡ kept n h
   kept_shifted n h e inv may same =
@@ -83,6 +85,7 @@ module _ (chunks : ℕ) (rule : Rule) where
       named (events.Reclaimed x) may is now = absurd (none_some (sym (kept_left n h (events.Reclaimed x) inv (eqb-true x.number n is)) ∙ now))
       named (events.Surveyed x) may is now = absurd (false≢true is)
       named (events.Refused x) may is now = absurd (false≢true is)
+      named (events.Limited x) may is now = absurd (false≢true is)
 
       by : (b : Bool) → names n e ≡ b → IsLinkOf n key cost e
       by true is = named e may is now
@@ -101,6 +104,7 @@ module _ (chunks : ℕ) (rule : Rule) where
       named (events.Reclaimed x) may is now = eqb-true x.number n is
       named (events.Surveyed x) may is now = absurd (false≢true is)
       named (events.Refused x) may is now = absurd (false≢true is)
+      named (events.Limited x) may is now = absurd (false≢true is)
 
       by : (b : Bool) → names n e ≡ b → TakesOut n e
       by true is = named e may is now
@@ -116,6 +120,7 @@ module _ (chunks : ℕ) (rule : Rule) where
   link_named n key cost (events.Reclaimed e) is = absurd is
   link_named n key cost (events.Surveyed e) is = absurd is
   link_named n key cost (events.Refused e) is = absurd is
+  link_named n key cost (events.Limited e) is = absurd is
 
   -- a link's number wasn't named before
   link_new : (n : ℕ) (key : List ℕ) (cost : ℕ) (h : List ClassEvent) (e : ClassEvent) → IsLawfulByLists chunks rule h e → IsLinkOf n key cost e → is_named n h ≡ false
@@ -126,6 +131,7 @@ module _ (chunks : ℕ) (rule : Rule) where
   link_new n key cost h (events.Reclaimed e) may is = absurd is
   link_new n key cost h (events.Surveyed e) may is = absurd is
   link_new n key cost h (events.Refused e) may is = absurd is
+  link_new n key cost h (events.Limited e) may is = absurd is
 
   module _ (n : ℕ) (key : List ℕ) (cost : ℕ) where
     -- the number isn't listed with this key and cost; it is
@@ -180,6 +186,7 @@ module _ (chunks : ℕ) (rule : Rule) where
       same (events.Reclaimed e) p q = absurd p
       same (events.Surveyed e) p q = absurd p
       same (events.Refused e) p q = absurd p
+      same (events.Limited e) p q = absurd p
 
 -- an entry that is found is kept with its key and cost
 pub kept_by : (n : ℕ) (h : List ClassEvent) (s : Seg) (x : Entry) → found n (lists_of h) ≡ Some (s, x) → kept n h ≡ Some (x.key, x.cost)

@@ -41,6 +41,7 @@ module _ (site : Site) (rule : Rule) (class : ClassNo) where
   backed_later seen xs behind (entries.Reclaimed e) h = λ s x at of. still_has items.Lost seen xs _ (h s x at of)
   backed_later seen xs behind (entries.Surveyed e) h = tt
   backed_later seen xs behind (entries.Refused e) h = tt
+  backed_later seen xs behind (entries.Limited e) h = tt
 
   -- a stripe's events keep what they were told while the class's history grows
   pub all_told_later : (seen xs : List ClassEvent) (own : List StripeEvent) → Each (HasTrace site rule class seen) own → Each (HasTrace site rule class (seen ++ xs)) own

@@ -5,8 +5,8 @@ use Rattle.std.specs.Prelude.{Option, Some, None, IsSomeAnd}
 use mathlib.Core.List.{IsPrefix}
 use Rattle.mc_item.proofs.StripeLemmas.{IsLegal-push}
 use Rattle.mc_item.specs.{Command.key_of, Item.is_dead, Item.link_of_item, Stripe.MayDo, Stripe.MayHappen, Stripe.IsDead, Stripe.cache_of}
-use Rattle.mc_item.specs.declared.{answer.Site.Site, class_event.ClassEvent.ClassEvent, class_event.Evicted.Evicted, class_event.Linked.Linked}
-use Rattle.mc_item.specs.declared.{class_event.Reclaimed.Reclaimed, class_event.Refused.Refused, class_event.Shifted.Shifted, class_event.Surveyed.Surveyed}
+use Rattle.mc_item.specs.declared.{answer.Site.Site, class_event.ClassEvent.ClassEvent, class_event.Evicted.Evicted, class_event.Limited.Limited}
+use Rattle.mc_item.specs.declared.{class_event.Linked.Linked, class_event.Reclaimed.Reclaimed, class_event.Refused.Refused, class_event.Shifted.Shifted, class_event.Surveyed.Surveyed}
 use Rattle.mc_item.specs.declared.{class_event.Unlinked.Unlinked, item.ClassNo.ClassNo, item.Item.Item, item.Link.Link, item.StripeNo.StripeNo, item.Who.Who}
 use Rattle.mc_item.specs.declared.{stripe_event.Cause.TheVariants.Expired, stripe_event.Cause.TheVariants.Taken, stripe_event.Cooled.Cooled}
 use Rattle.mc_item.specs.declared.{stripe_event.Did.Did, stripe_event.Lost.Lost, stripe_event.StripeEvent.StripeEvent}
@@ -205,12 +205,15 @@ module _ (setting : Setting) (s : ℕ) (class : ClassNo) (stripe : List StripeEv
       (λ t t_of. tt)
 
 module _ (setting : Setting) (class : ClassNo) (history : List ClassEvent) (seen_of more_of : ℕ → List StripeEvent) (class_keeps : ClassKeeps setting class history seen_of) (grows_of : SeesMore seen_of more_of) where
-  -- a survey or a refusal
+  -- a survey, a refusal or a new limit
   pub survey_step : (e : Surveyed) → IsLawfulByLists (setting.chunks class) setting.rule history (entries.Surveyed e) → ClassKeeps setting class (history ++ entries.Surveyed e ∷ []) more_of
   survey_step e may = class_step setting class history seen_of more_of (entries.Surveyed e) grows_of class_keeps may tt (λ t t_of. tt) (λ t t_of. tt)
 
   pub refusal_step : (e : Refused) → IsLawfulByLists (setting.chunks class) setting.rule history (entries.Refused e) → ClassKeeps setting class (history ++ entries.Refused e ∷ []) more_of
   refusal_step e may = class_step setting class history seen_of more_of (entries.Refused e) grows_of class_keeps may tt (λ t t_of. tt) (λ t t_of. tt)
+
+  pub limit_step : (e : Limited) → IsLawfulByLists (setting.chunks class) setting.rule history (entries.Limited e) → ClassKeeps setting class (history ++ entries.Limited e ∷ []) more_of
+  limit_step e may = class_step setting class history seen_of more_of (entries.Limited e) grows_of class_keeps may tt (λ t t_of. tt) (λ t t_of. tt)
 
 module _ (setting : Setting) (s : ℕ) (stripe : List StripeEvent) (seen more : ClassNo → List ClassEvent) (stripe_keeps : StripeKeeps setting s stripe seen) (grows : SeesMore seen more) where
   -- a command, told by the classes of its links and of its refusal

@@ -10,7 +10,7 @@ use Rattle.mc_item.specs.declared.{stripe_event.Cooled.Cooled, stripe_event.Lost
 use Rattle.mc_item.specs.declared.class_event.ClassEvent.TheVariants as entries
 use Rattle.mc_item.specs.declared.stripe_event.StripeEvent.TheVariants as events
 use Rattle.mc_rule.proofs.{HistoryLemmas.lawful_at, HistoryLemmas.legal_at, TestLemmas.none_some, TestLemmas.some_same}
-use Rattle.mc_rule.specs.{Evidence.AreEvidence, Evidence.HasLossTrace, Lawful.IsLawfulHistoryByLists, Lists.IsFull, Lists.lists_of, Pairs.item_after}
+use Rattle.mc_rule.specs.{Evidence.AreEvidence, Evidence.HasLossTrace, Lawful.IsLawfulHistoryByLists, Lists.IsFull, Pairs.item_after}
 use Rattle.mc_rule.specs.{Pairs.link_to, Places.Has, Places.Stands, Segment.Rule}
 use Rattle.mc_evidence.proofs.{LinkLifeLemmas.after_loss, LinkLifeLemmas.by_key, LinkLifeLemmas.holds_push, LockLemmas.between}
 use Rattle.mc_evidence.specs.Losses.{AreNoCommands, HadCause, IsSameItem, IsTaking, WasLost}
@@ -187,11 +187,11 @@ lost_between site rule chunks classes before between later key item legal none b
 
 -- an item that never dies has no cause to go while its class isn't full
 no_cause : (chunks : ClassNo → ℕ) (classes : ClassNo → List ClassEvent) (item : Item) (lost : Lost) (cause : Cause) → ((moment : ℕ) → is_dead item moment ≡ false)
-    → ((behind more : List ClassEvent) → classes item.link.class ≡ behind ++ more → IsFull (chunks item.link.class) (lists_of behind) → ⊥) → HadCause chunks classes item lost cause → ⊥
+    → ((behind more : List ClassEvent) → classes item.link.class ≡ behind ++ more → IsFull (chunks item.link.class) behind → ⊥) → HadCause chunks classes item lost cause → ⊥
 no_cause chunks classes item lost (Expired moment) lives free dead = false≢true (sym (lives moment) ∙ dead)
 no_cause chunks classes item lost (Taken class place) lives free taken =
     let there = taken.1 in
-    free there.0 (entries.Evicted there.1 ∷ there.2.later) (ap classes taken.0 ∙ there.2.is) (subst (λ (c : ClassNo). IsFull (chunks c) (lists_of there.0)) (sym taken.0) there.3.full)
+    free there.0 (entries.Evicted there.1 ∷ there.2.later) (ap classes taken.0 ∙ there.2.is) (subst (λ (c : ClassNo). IsFull (chunks c) there.0) (sym taken.0) there.3.full)
 
 -- so it stays, but for its marks
 pub stays_while_free : (site : Site) (rule : Rule) (chunks : ClassNo → ℕ) (classes : ClassNo → List ClassEvent) (before between later : List StripeEvent) (key : List ℕ) (item : Item)
@@ -199,7 +199,7 @@ pub stays_while_free : (site : Site) (rule : Rule) (chunks : ClassNo → ℕ) (c
     → AreEvidence site rule item.link.class (before ++ (between ++ later)) (classes item.link.class)
     → IsLawfulHistoryByLists (chunks item.link.class) rule (classes item.link.class)
     → item_after site before key ≡ Some item → ((moment : ℕ) → is_dead item moment ≡ false)
-    → ((behind more : List ClassEvent) → classes item.link.class ≡ behind ++ more → IsFull (chunks item.link.class) (lists_of behind) → ⊥)
+    → ((behind more : List ClassEvent) → classes item.link.class ≡ behind ++ more → IsFull (chunks item.link.class) behind → ⊥)
     → IsThere item (item_after site (before ++ between) key)
 stays_while_free site rule chunks classes before between later key item legal none both lawful was lives free =
     elim (stays_or_was_lost site rule chunks classes before between later key item legal none both lawful was) [

@@ -107,6 +107,7 @@ module _ (site : Site) (rule : Rule) (class : ClassNo) (chunks : ℕ) (stripe : 
         by behind (entries.Reclaimed e) s is = absurd is
         by behind (entries.Surveyed e) s is = absurd is
         by behind (entries.Refused e) s is = absurd is
+        by behind (entries.Limited e) s is = absurd is
 
     -- an event of the class that takes the number out ends the entry, where the stripe held the link then
     class_ends : (sb : List StripeEvent) (se : StripeEvent) (behind : List ClassEvent) (e : ClassEvent) → Stands stripe sb se → Stands history behind e → Held sb → TakesOut n e
@@ -206,6 +207,7 @@ module _ (site : Site) (rule : Rule) (class : ClassNo) (chunks : ℕ) (stripe : 
             lost_so partner.0 partner.1 behind (entries.Reclaimed e) e.number partner.2 s k (partner.3.0 ∙ of_key) is partner.3.1.item
         by behind (entries.Surveyed e) s k is g x at of_key = absurd is
         by behind (entries.Refused e) s k is g x at of_key = absurd is
+        by behind (entries.Limited e) s k is g x at of_key = absurd is
 
     -- what the stripe holds the class keeps
     pub held_is_kept : IsKeyOf site key → Held stripe → Kept history

@@ -22,6 +22,7 @@ links_names n (entries.Evicted e) is = absurd is
 links_names n (entries.Reclaimed e) is = absurd is
 links_names n (entries.Surveyed e) is = absurd is
 links_names n (entries.Refused e) is = absurd is
+links_names n (entries.Limited e) is = absurd is
 
 module _ (chunks : ℕ) (rule : Rule) where
   link_is_new : (n : ℕ) (h : List ClassEvent) (e : ClassEvent) → IsLawfulByLists chunks rule h e → Links n e → is_named n h ≡ false
@@ -32,6 +33,7 @@ module _ (chunks : ℕ) (rule : Rule) where
   link_is_new n h (entries.Reclaimed e) may is = absurd is
   link_is_new n h (entries.Surveyed e) may is = absurd is
   link_is_new n h (entries.Refused e) may is = absurd is
+  link_is_new n h (entries.Limited e) may is = absurd is
 
   -- a number is linked at one place
   pub links_once : (n : ℕ) (h b1 b2 : List ClassEvent) (e1 e2 : ClassEvent) → IsLawfulHistoryByLists chunks rule h → Stands h b1 e1 → Stands h b2 e2 → Links n e1 → Links n e2 → (b1 ≡ b2) × (e1 ≡ e2)
@@ -53,6 +55,7 @@ module _ (chunks : ℕ) (rule : Rule) where
   out_listed n h (entries.Reclaimed e) lawful may is = listed_by n (lists_of h) (found n (lists_of h)) refl (subst (λ m. IsSome (found m (lists_of h))) is may)
   out_listed n h (entries.Surveyed e) lawful may is = absurd is
   out_listed n h (entries.Refused e) lawful may is = absurd is
+  out_listed n h (entries.Limited e) lawful may is = absurd is
 
   link_of_names : (n : ℕ) (key : List ℕ) (cost : ℕ) (e : ClassEvent) → IsLinkOf n key cost e → Links n e
   link_of_names n key cost (entries.Linked e) is = is.0
@@ -62,6 +65,7 @@ module _ (chunks : ℕ) (rule : Rule) where
   link_of_names n key cost (entries.Reclaimed e) is = is
   link_of_names n key cost (entries.Surveyed e) is = is
   link_of_names n key cost (entries.Refused e) is = is
+  link_of_names n key cost (entries.Limited e) is = is
 
   not_out_twice : (n : ℕ) (h b1 b2 : List ClassEvent) (e1 e2 : ClassEvent) → IsLawfulHistoryByLists chunks rule h → Stands h b2 e2 → Stands b2 b1 e1 → TakesOut n e1 → TakesOut n e2 → ⊥
   not_out_twice n h b1 b2 e1 e2 lawful s2 s1 is1 is2 =

@@ -2,13 +2,14 @@
 use Rattle.std.proofs.Common.{◌≡◌, ◌==◌, ℕ, List, [], ◌∷◌, ◌++◌, refl, sym, ◌∙◌, subst, length}
 use Rattle.std.specs.Prelude.{Option, Some, None, IsSomeAnd, nat_le, decimal}
 use Rattle.std.specs.Option.{option_map}
-use Rattle.mc_item.specs.Answer.{Row, fresh, row_of, get_row, store_row, grown_row, number_row, count_row, stepped, touch_row, delete_row, version_of}
+use Rattle.mc_item.specs.Answer.{Row, Written, fresh, row_of, get_row, gat_row, join_row, store_row, write_row, written_over, grown_row, number_row, count_row, stepped}
+use Rattle.mc_item.specs.Answer.{touch_row, delete_row, version_of}
 use Rattle.mc_item.specs.{Command.key_of, Item.expiry_of, Measure.class_of, Measure.cost_of, Measure.numeral_of, Stripe.Fits, Stripe.MayDo, Stripe.cache_of}
 use Rattle.mc_item.specs.declared.{answer.Answer.Answer, answer.Site.Site, command.Command.Command, command.Verb.Verb, counting.Step.TheVariants.Up}
 use Rattle.mc_item.specs.declared.{counting.Step.TheVariants.Down, item.ClassNo.ClassNo, item.Expiry.Expiry, item.Item.Item, item.Link.Link, reply.Reply.Reply}
 use Rattle.mc_item.specs.declared.{reply.Room.Room, stripe_event.Did.Did, stripe_event.StripeEvent.StripeEvent}
-use Rattle.mc_item.specs.declared.command.Command.TheVariants.{Get, Store, Huge, Incr, Decr, Touch, Delete}
-use Rattle.mc_item.specs.declared.command.Verb.TheVariants.{Set, Add, Replace, Cas}
+use Rattle.mc_item.specs.declared.command.Command.TheVariants.{Get, Gat, Store, Huge, Incr, Decr, Touch, Delete}
+use Rattle.mc_item.specs.declared.command.Verb.TheVariants.{Set, Add, Replace, Cas, Append, Prepend}
 use Rattle.mc_item.specs.declared.reply.Reply.TheVariants as replies
 use Rattle.mc_item.specs.declared.reply.Room.TheVariants as rooms
 use Rattle.mc_item.specs.declared.stripe_event.StripeEvent.TheVariants as items
@@ -51,8 +52,18 @@ fresh_refuses before rooms.Keep class reply version refused other fits is = absu
 fresh_refuses before (rooms.Refused c place) class reply version refused other fits is = (c, place, refl)
 
 module _ (before : List StripeEvent) (room : Room) where
+  join_refuses : (class : Option ClassNo) (found : Option Item) (version : Link → Item) → Refuses before room (join_row class found version)
+  join_refuses class None version = λ fits is. absurd cc
+  join_refuses None (Some item) version = λ fits is. absurd cc
+  join_refuses (Some class) (Some item) version = fresh_refuses before room class replies.Stored version _ (λ h. cc)
+
   store_refuses : (class : Option ClassNo) (verb : Verb) (found : Option Item) (version : Link → Item) → Refuses before room (store_row class verb found version)
-  store_refuses None verb found version = λ fits is. absurd cc
+  store_refuses class Append found version = join_refuses class found version
+  store_refuses class Prepend found version = join_refuses class found version
+  store_refuses None Set found version = λ fits is. absurd cc
+  store_refuses None Add found version = λ fits is. absurd cc
+  store_refuses None Replace found version = λ fits is. absurd cc
+  store_refuses None (Cas unique) found version = λ fits is. absurd cc
   store_refuses (Some class) Set found version = fresh_refuses before room class replies.Stored version _ (λ h. cc)
   store_refuses (Some class) Add None version = fresh_refuses before room class replies.Stored version _ (λ h. cc)
   store_refuses (Some class) Add (Some item) version = λ fits is. absurd cc
@@ -61,6 +72,10 @@ module _ (before : List StripeEvent) (room : Room) where
   store_refuses (Some class) (Cas unique) None version = λ fits is. absurd cc
   store_refuses (Some class) (Cas unique) (Some item) version =
       by_test (Refuses before room) (item.cas == unique) _ _ (λ same. fresh_refuses before room class replies.Stored version _ (λ h. cc)) (λ fits is. absurd cc)
+
+  write_refuses : (site : Site) (n : ℕ) (key : List ℕ) (verb : Verb) (found : Option Item) (written : Written) → Refuses before room (write_row site n key verb found written)
+  write_refuses site n key verb found written =
+      store_refuses (class_of site.sizes (cost_of key written.value)) verb found (version_of site n written.flags written.value written.expiry)
 
   grown_refuses : (site : Site) (n : ℕ) (item : Item) (number : ℕ) (class : Option ClassNo) → Refuses before room (grown_row site n item number class)
   grown_refuses site n item number None = λ fits is. absurd cc
@@ -79,6 +94,10 @@ module _ (before : List StripeEvent) (room : Room) where
   get_refuses None = λ fits is. absurd cc
   get_refuses (Some item) = λ fits is. absurd cc
 
+  gat_refuses : (expiry : Expiry) (found : Option Item) → Refuses before room (gat_row expiry found)
+  gat_refuses expiry None = λ fits is. absurd cc
+  gat_refuses expiry (Some item) = λ fits is. absurd cc
+
   touch_refuses : (expiry : Expiry) (found : Option Item) → Refuses before room (touch_row expiry found)
   touch_refuses expiry None = λ fits is. absurd cc
   touch_refuses expiry (Some item) = λ fits is. absurd cc
@@ -89,8 +108,9 @@ module _ (before : List StripeEvent) (room : Room) where
 
   row_refuses : (site : Site) (n : ℕ) (found : Option Item) (command : Command) (moment : ℕ) → Refuses before room (row_of site n found command moment)
   row_refuses site n found (Get key) moment = get_refuses found
+  row_refuses site n found (Gat key exptime) moment = gat_refuses (expiry_of exptime moment) found
   row_refuses site n found (Store verb key flags exptime value) moment =
-      store_refuses (class_of site.sizes (cost_of key value)) verb found (version_of site n flags value (expiry_of exptime moment))
+      write_refuses site n key verb found (written_over verb (record { flags = flags; value = value; expiry = expiry_of exptime moment }) found)
   row_refuses site n found (Huge verb key) moment = λ fits is. absurd cc
   row_refuses site n found (Incr key delta) moment = count_refuses site n key (stepped (Up delta)) found
   row_refuses site n found (Decr key delta) moment = count_refuses site n key (stepped (Down delta)) found

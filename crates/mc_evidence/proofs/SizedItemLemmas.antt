@@ -3,15 +3,16 @@ use Rattle.std.proofs.Common.{◌≡◌, ◌<◌, ◌≤◌, ◌+◌, ◌==◌, 
 use Rattle.std.specs.Prelude.{Option, Some, None, nat_le, position, decimal}
 use Rattle.std.specs.Option.{option_map}
 use Rattle.std.proofs.lemmas.List.Quantifiers.{position-Some}
-use Rattle.mc_item.specs.Answer.{Row, row_of, store_row, grown_row, number_row, count_row, stepped, version_of, get_row, touch_row, delete_row}
+use Rattle.mc_item.specs.Answer.{Row, Written, row_of, join_row, store_row, write_row, written_over, grown_row, number_row, count_row, stepped, version_of, get_row, gat_row}
+use Rattle.mc_item.specs.Answer.{touch_row, delete_row}
 use Rattle.mc_item.specs.{Command.key_of, Item.expiry_of, Measure.class_of, Measure.class_of_place, Measure.cost_of, Measure.numeral_of, Stripe.cache_of, Stripe.Fits}
 use Rattle.mc_item.specs.{Stripe.IsLegal, Stripe.MayHappen}
-use Rattle.mc_item.specs.declared.{answer.Need.Need, answer.Site.Site, command.Command.Command, command.Verb.Verb, command.Verb.TheVariants.Set}
-use Rattle.mc_item.specs.declared.{command.Verb.TheVariants.Add, command.Verb.TheVariants.Replace, command.Verb.TheVariants.Cas, counting.Step.TheVariants.Up}
+use Rattle.mc_item.specs.declared.{answer.Need.Need, answer.Site.Site, command.Command.Command, command.Verb.Verb, counting.Step.TheVariants.Up}
 use Rattle.mc_item.specs.declared.{counting.Step.TheVariants.Down, item.ClassNo.ClassNo, item.Expiry.Expiry, item.Item.Item, item.Link.Link}
 use Rattle.mc_item.specs.declared.{stripe_event.StripeEvent.StripeEvent}
 use Rattle.mc_item.specs.declared.answer.Need.TheVariants as needs
-use Rattle.mc_item.specs.declared.command.Command.TheVariants.{Get, Store, Huge, Incr, Decr, Touch, Delete}
+use Rattle.mc_item.specs.declared.command.Command.TheVariants.{Get, Gat, Store, Huge, Incr, Decr, Touch, Delete}
+use Rattle.mc_item.specs.declared.command.Verb.TheVariants.{Set, Add, Replace, Cas, Append, Prepend}
 use Rattle.mc_item.specs.declared.reply.Room.TheVariants as rooms
 use Rattle.mc_item.specs.declared.stripe_event.StripeEvent.TheVariants as events
 use Rattle.mc_rule.proofs.{HistoryLemmas.legal_at, TestLemmas.none_some, TestLemmas.some_same}
@@ -48,8 +49,18 @@ class_sized sizes cost (Some place) is class h =
     (omega arith, omega arith)
 
 module _ (sizes : List ℕ) where
+  join_names : (class : Option ClassNo) (found : Option Item) (version : Link → Item) → ((c : ClassNo) → class ≡ Some c → IsSized sizes c) → NamesSized sizes (join_row class found version).need
+  join_names class None version sized = tt
+  join_names None (Some item) version sized = tt
+  join_names (Some class) (Some item) version sized = sized class refl
+
   store_names : (class : Option ClassNo) (verb : Verb) (found : Option Item) (version : Link → Item) → ((c : ClassNo) → class ≡ Some c → IsSized sizes c) → NamesSized sizes (store_row class verb found version).need
-  store_names None verb found version sized = tt
+  store_names class Append found version sized = join_names class found version sized
+  store_names class Prepend found version sized = join_names class found version sized
+  store_names None Set found version sized = tt
+  store_names None Add found version sized = tt
+  store_names None Replace found version sized = tt
+  store_names None (Cas unique) found version sized = tt
   store_names (Some class) Set found version sized = sized class refl
   store_names (Some class) Add None version sized = sized class refl
   store_names (Some class) Add (Some item) version sized = tt
@@ -62,6 +73,10 @@ module _ (sizes : List ℕ) where
   get_names : (found : Option Item) → NamesSized sizes (get_row found).need
   get_names None = tt
   get_names (Some item) = tt
+
+  gat_names : (expiry : Expiry) (found : Option Item) → NamesSized sizes (gat_row expiry found).need
+  gat_names expiry None = tt
+  gat_names expiry (Some item) = tt
 
   touch_names : (expiry : Expiry) (found : Option Item) → NamesSized sizes (touch_row expiry found).need
   touch_names expiry None = tt
@@ -89,10 +104,16 @@ module _ (site : Site) where
   count_names n key step None = tt
   count_names n key step (Some item) = number_names n key item (option_map step (numeral_of item.value))
 
+  write_names : (n : ℕ) (key : List ℕ) (verb : Verb) (found : Option Item) (written : Written) → NamesSized site.sizes (write_row site n key verb found written).need
+  write_names n key verb found written =
+      store_names site.sizes (class_of site.sizes (cost_of key written.value)) verb found (version_of site n written.flags written.value written.expiry)
+      (class_of_sized (cost_of key written.value))
+
   pub row_names : (n : ℕ) (found : Option Item) (command : Command) (moment : ℕ) → NamesSized site.sizes (row_of site n found command moment).need
   row_names n found (Get key) moment = get_names site.sizes found
+  row_names n found (Gat key exptime) moment = gat_names site.sizes (expiry_of exptime moment) found
   row_names n found (Store verb key flags exptime value) moment =
-      store_names site.sizes (class_of site.sizes (cost_of key value)) verb found (version_of site n flags value (expiry_of exptime moment)) (class_of_sized (cost_of key value))
+      write_names n key verb found (written_over verb (record { flags = flags; value = value; expiry = expiry_of exptime moment }) found)
   row_names n found (Huge verb key) moment = tt
   row_names n found (Incr key delta) moment = count_names n key (stepped (Up delta)) found
   row_names n found (Decr key delta) moment = count_names n key (stepped (Down delta)) found

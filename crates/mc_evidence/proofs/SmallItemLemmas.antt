@@ -2,14 +2,14 @@
 use Rattle.std.proofs.Common.{◌≡◌, ◌≤◌, ◌^◌, ◌==◌, ℕ, List, [], ◌∷◌, ◌++◌, refl, sym, ap, ◌∙◌, subst, length}
 use Rattle.std.specs.Prelude.{Option, Some, None, IsSomeAnd, nat_le, decimal}
 use Rattle.std.specs.Option.{option_map}
-use Rattle.mc_item.specs.Answer.{Row, row_of, get_row, store_row, grown_row, number_row, count_row, stepped, version_of}
+use Rattle.mc_item.specs.Answer.{Row, Written, row_of, get_row, join_row, store_row, write_row, written_over, grown_row, number_row, count_row, stepped, version_of}
 use Rattle.mc_item.specs.{Cache.changed, Cache.answer_of, Command.key_of, Item.expiry_of, Item.link_of_item, Measure.class_of, Measure.cost_of}
 use Rattle.mc_item.specs.{Measure.numeral_of, Stripe.Fits, Stripe.MayDo, Stripe.cache_of}
 use Rattle.mc_item.specs.declared.{answer.Site.Site, command.Command.Command, command.Verb.Verb, counting.Step.TheVariants.Up, counting.Step.TheVariants.Down}
 use Rattle.mc_item.specs.declared.{item.ClassNo.ClassNo, item.Item.Item, item.Link.Link, reply.Room.Room, stripe_event.Did.Did}
 use Rattle.mc_item.specs.declared.{stripe_event.StripeEvent.StripeEvent}
-use Rattle.mc_item.specs.declared.command.Command.TheVariants.{Get, Store, Huge, Incr, Decr, Touch, Delete}
-use Rattle.mc_item.specs.declared.command.Verb.TheVariants.{Set, Add, Replace, Cas}
+use Rattle.mc_item.specs.declared.command.Command.TheVariants.{Get, Gat, Store, Huge, Incr, Decr, Touch, Delete}
+use Rattle.mc_item.specs.declared.command.Verb.TheVariants.{Set, Add, Replace, Cas, Append, Prepend}
 use Rattle.mc_item.specs.declared.reply.Room.TheVariants as rooms
 use Rattle.mc_item.specs.declared.stripe_event.StripeEvent.TheVariants as items
 use Rattle.mc_rule.specs.Pairs.{LetsGo, item_after}
@@ -21,9 +21,20 @@ abbrev LeavesSmall : List ℕ → Option Item → Row → Type 0
 LeavesSmall key found row = (link : Link) → IsFresh row.need → IsSomeAnd (changed found (row.answer (rooms.At link)).change) (λ item. cost_of key item.value ≤ 2 ^ 20)
 
 module _ (sizes : List ℕ) (small : AreSmall sizes) where
+  join_small : (key : List ℕ) (class : Option ClassNo) (found : Option Item) (version : Link → Item) → ((c : ClassNo) → class ≡ Some c → (link : Link) → cost_of key (version link).value ≤ 2 ^ 20)
+      → LeavesSmall key found (join_row class found version)
+  join_small key class None version most = λ link is. absurd is
+  join_small key None (Some item) version most = λ link is. absurd is
+  join_small key (Some class) (Some item) version most = λ link is. most class refl link
+
   store_small : (key : List ℕ) (class : Option ClassNo) (verb : Verb) (found : Option Item) (version : Link → Item) → ((c : ClassNo) → class ≡ Some c → (link : Link) → cost_of key (version link).value ≤ 2 ^ 20)
       → LeavesSmall key found (store_row class verb found version)
-  store_small key None verb found version most = λ link is. absurd is
+  store_small key class Append found version most = join_small key class found version most
+  store_small key class Prepend found version most = join_small key class found version most
+  store_small key None Set found version most = λ link is. absurd is
+  store_small key None Add found version most = λ link is. absurd is
+  store_small key None Replace found version most = λ link is. absurd is
+  store_small key None (Cas unique) found version most = λ link is. absurd is
   store_small key (Some class) Set found version most = λ link is. most class refl link
   store_small key (Some class) Add None version most = λ link is. most class refl link
   store_small key (Some class) Add (Some item) version most = λ link is. absurd is
@@ -53,10 +64,17 @@ module _ (site : Site) (small : AreSmall site.sizes) where
   get_small key None = λ link is. absurd is
   get_small key (Some item) = λ link is. absurd is
 
+  write_small : (n : ℕ) (key : List ℕ) (verb : Verb) (found : Option Item) (written : Written) → LeavesSmall key found (write_row site n key verb found written)
+  write_small n key verb found written =
+      store_small site.sizes small key (class_of site.sizes (cost_of key written.value)) verb found (version_of site n written.flags written.value written.expiry)
+      (λ c is link. small.most (cost_of key written.value) c is)
+
   row_small : (n : ℕ) (found : Option Item) (command : Command) (moment : ℕ) → LeavesSmall (key_of command) found (row_of site n found command moment)
   row_small n found (Get key) moment = get_small key found
+  row_small n None (Gat key exptime) moment = λ link is. absurd is
+  row_small n (Some item) (Gat key exptime) moment = λ link is. absurd is
   row_small n found (Store verb key flags exptime value) moment =
-      store_small site.sizes small key (class_of site.sizes (cost_of key value)) verb found (version_of site n flags value (expiry_of exptime moment)) (λ c is link. small.most (cost_of key value) c is)
+      write_small n key verb found (written_over verb (record { flags = flags; value = value; expiry = expiry_of exptime moment }) found)
   row_small n found (Huge verb key) moment = λ link is. absurd is
   row_small n found (Incr key delta) moment = count_small n key (stepped (Up delta)) found
   row_small n found (Decr key delta) moment = count_small n key (stepped (Down delta)) found
@@ -84,6 +102,8 @@ reader_link : (site : Site) (n : ℕ) (found : Option Item) (command : Command) 
     → link_of_item (changed found ((row_of site n found command moment).answer room).change) ≡ link_of_item found
 reader_link site n None (Get key) moment room is = refl
 reader_link site n (Some item) (Get key) moment room is = refl
+reader_link site n None (Gat key exptime) moment room is = refl
+reader_link site n (Some item) (Gat key exptime) moment room is = refl
 reader_link site n found (Store verb key flags exptime value) moment room is = absurd is
 reader_link site n found (Huge verb key) moment room is = absurd is
 reader_link site n found (Incr key delta) moment room is = absurd is

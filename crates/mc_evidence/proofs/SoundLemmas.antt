@@ -47,6 +47,7 @@ module _ (setting : Setting) (stripes : ℕ → List StripeEvent) (some : 0 < se
       (λ s x is. each (stripe_of x.key setting.stripes).0 (below_stripes x.key setting.stripes some) s x is refl)
   suits behind (entries.Surveyed e) each inv may = tt
   suits behind (entries.Refused e) each inv may = tt
+  suits behind (entries.Limited e) each inv may = tt
 
   lawful_whole : (pre es : List ClassEvent) → ((before : List ClassEvent) (e : ClassEvent) → Stands (pre ++ es) before e → SuitsItem class (cited_of setting stripes) before e)
       → IsLawfulByListsFrom (setting.chunks class) setting.rule pre es → IsLawfulFrom class (setting.chunks class) setting.rule (cited_of setting stripes) pre es

@@ -2,7 +2,7 @@
 use Rattle.std.proofs.Common.{◌≡◌, ℕ, List, [], ◌∷◌, ◌++◌, refl, sym, ap, ◌∙◌, inl, inr, length}
 use Rattle.std.specs.Prelude.{Some}
 use Rattle.mc_item.specs.Command.{key_of}
-use Rattle.mc_item.specs.declared.{answer.Site.Site, class_event.ClassEvent.ClassEvent, class_event.Linked.Linked, class_event.Refused.Refused}
+use Rattle.mc_item.specs.declared.{answer.Site.Site, class_event.ClassEvent.ClassEvent, class_event.Linked.Linked}
 use Rattle.mc_item.specs.declared.{class_event.Shifted.Shifted, class_event.Unlinked.Unlinked, item.ClassNo.ClassNo, item.Link.Link, item.Who.Who}
 use Rattle.mc_item.specs.declared.{lists.Entry.Entry, lists.Seg.Seg, stripe_event.Did.Did, stripe_event.StripeEvent.StripeEvent}
 use Rattle.mc_item.specs.declared.class_event.ClassEvent.TheVariants as entries
@@ -54,6 +54,7 @@ module _ (site : Site) (rule : Rule) (class : ClassNo) (stripe : List StripeEven
   alone_backed (entries.Reclaimed e) away = λ s x at of. absurd (away s x at of)
   alone_backed (entries.Surveyed e) away = tt
   alone_backed (entries.Refused e) away = tt
+  alone_backed (entries.Limited e) away = tt
 
   -- an event of the class that needs nothing of the stripe
   pub alone_keeps : (x : ClassEvent) → IsAlone site history x → AreEvidence site rule class stripe (history ++ x ∷ [])

@@ -23,6 +23,7 @@ same_evicted e x h = ap at_of h
     at_of (entries.Reclaimed y) = 0
     at_of (entries.Surveyed y) = 0
     at_of (entries.Refused y) = 0
+    at_of (entries.Limited y) = 0
 
 module _ (site : Site) (rule : Rule) (class : ClassNo) (stripe : List StripeEvent) (history : List ClassEvent) (both : AreEvidence site rule class stripe history) where
   eviction_of : (before : List StripeEvent) (lost : Lost) (n place : ℕ) → Stands stripe before (items.Lost lost) → lost.cause ≡ Taken class place → link_of_item (item_after site before lost.key) ≡ Some (link_to class n)

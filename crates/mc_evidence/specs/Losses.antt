@@ -19,12 +19,13 @@ AreNoCommands (items.Cooled cooled ∷ es) = AreNoCommands es
 abbrev pub IsSameItem : Item → Item → Type 0
 IsSameItem item other = (marks : Marks) × (other ≡ marked marks item)
 
--- an eviction took the lost item's chunk: at the cited place, by the same call, of its entry, near COLD's tail, in a full class
+-- an eviction took the lost item's chunk: at the cited place, by the same call, of its entry, near COLD's tail, in a full class.
+-- `chunks` is the limit with which the class opened
 pub record IsTaking (chunks cited : ℕ) (item : Item) (lost : Lost) (behind : List ClassEvent) (e : Evicted) : Type 0 where
   pub place : length behind ≡ cited
   pub who : e.who ≡ lost.who
   pub number : e.number ≡ item.link.number
-  pub full : IsFull chunks (lists_of behind)
+  pub full : IsFull chunks behind
   pub cold : IsIn Cold e.number (lists_of behind)
   pub near : IsNearTail e.number (lists_of behind).cold e.passed
 

@@ -43,6 +43,7 @@ IsAlone site history (entries.Evicted e) = IsOfOthers site history e.number
 IsAlone site history (entries.Reclaimed e) = IsOfOthers site history e.number
 IsAlone site history (entries.Surveyed e) = Unit {0}
 IsAlone site history (entries.Refused e) = Unit {0}
+IsAlone site history (entries.Limited e) = Unit {0}
 
 -- a command was given no chunk of a class
 abbrev pub IsGivenNone : ClassNo → Did → Type 0

@@ -3,7 +3,8 @@ use Rattle.std.specs.Prelude.{ℕ, ◌<◌, ◌≤◌, List, length}
 use Rattle.mc_item.specs.declared.{answer.Site.Site, item.ClassNo.ClassNo}
 use Rattle.mc_rule.specs.Segment.{Rule}
 
--- a store's number of stripes, the sizes of its classes, the rule of its segments, and the number of chunks of each class
+-- a store's number of stripes, the sizes of its classes, the rule of its segments, and the limit of chunks with which each class
+-- opens
 pub record Setting : Type 0 where
   pub stripes : ℕ
   pub sizes : List ℕ

@@ -2,9 +2,10 @@
 //! evidence of each other, have the items that the class's events cite, and clear no mark twice.
 ghost use Rattle.std.specs.Prelude.{IsSomeAnd, List, [], length, ℕ, ◌++◌, ◌∷◌, ◌≡◌};
 ghost use Rattle.mc_item.specs.{Command.key_of, Stripe.IsDead};
-ghost use Rattle.mc_item.specs.declared.{answer.Site.Site, class_event.ClassEvent.ClassEvent, class_event.Linked.Linked, class_event.Refused.Refused};
-ghost use Rattle.mc_item.specs.declared.{class_event.Shifted.Shifted, class_event.Surveyed.Surveyed, class_event.Unlinked.Unlinked, item.ClassNo.ClassNo};
-ghost use Rattle.mc_item.specs.declared.{item.Who.Who, stripe_event.Did.Did, stripe_event.StripeEvent.StripeEvent};
+ghost use Rattle.mc_item.specs.declared.{answer.Site.Site, class_event.ClassEvent.ClassEvent, class_event.Limited.Limited, class_event.Linked.Linked};
+ghost use Rattle.mc_item.specs.declared.{class_event.Refused.Refused, class_event.Shifted.Shifted, class_event.Surveyed.Surveyed};
+ghost use Rattle.mc_item.specs.declared.{class_event.Unlinked.Unlinked, item.ClassNo.ClassNo, item.Who.Who, stripe_event.Did.Did};
+ghost use Rattle.mc_item.specs.declared.{stripe_event.StripeEvent.StripeEvent};
 ghost use Rattle.mc_item.specs.declared.class_event.ClassEvent.TheVariants as entries;
 ghost use Rattle.mc_item.specs.declared.stripe_event.StripeEvent.TheVariants as items;
 ghost use Rattle.mc_rule.specs.{Agreement.Agree, Belonging.Belong, Belonging.IsEntryOf, Lawful.IsLawfulHistoryByLists, Lawful.SuitsMove, Lists.moved};
@@ -55,7 +56,7 @@ pub fn a_command_keeps_agreement()
         → Agree site rule class (stripe ++ items.Did did ∷ []) history }
 {}
 
-/// Empty histories agree, and each survey and each refusal of the class keeps agreement.
+/// Empty histories agree, and each survey, each refusal and each new limit of the class keeps agreement.
 pub fn agreement_begins_and_outlasts_surveys()
     ensures begins { (site : Site) (rule : Rule) (class : ClassNo) → Agree site rule class [] [] }
     ensures surveyed { (site : Site) (rule : Rule) (class : ClassNo) (stripe : List StripeEvent) (history : List ClassEvent)
@@ -64,4 +65,7 @@ pub fn agreement_begins_and_outlasts_surveys()
     ensures refused { (site : Site) (rule : Rule) (class : ClassNo) (stripe : List StripeEvent) (history : List ClassEvent)
         → Agree site rule class stripe history
         → (e : Refused) → Agree site rule class stripe (history ++ entries.Refused e ∷ []) }
+    ensures limit { (site : Site) (rule : Rule) (class : ClassNo) (stripe : List StripeEvent) (history : List ClassEvent)
+        → Agree site rule class stripe history
+        → (e : Limited) → Agree site rule class stripe (history ++ entries.Limited e ∷ []) }
 {}

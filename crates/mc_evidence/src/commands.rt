@@ -36,7 +36,7 @@ pub fn new_numbers_are_unnamed()
         → Each (HasTrace site rule class history) stripe → is_named n history ≡ false → IsUnnamed (link_to class n) stripe }
 {}
 
-/// A get or a touch takes no link away, nor does a command that finds no item.
+/// A get, a gat or a touch takes no link away, nor does a command that finds no item.
 pub fn readers_spare_links()
     ensures reads { (site : Site) (stripe : List StripeEvent) (did : Did) (link : Link) → IsReader did.command → LetsGo site stripe did link → ⊥ }
     ensures absent { (site : Site) (stripe : List StripeEvent) (did : Did) (link : Link) → item_after site stripe (key_of did.command) ≡ None

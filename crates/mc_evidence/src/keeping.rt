@@ -51,8 +51,8 @@ pub fn a_command_keeps_evidence()
         → AreEvidence site rule class (stripe ++ items.Did did ∷ []) history }
 {}
 
-/// A class's event that needs no partner in the stripe keeps evidence. Such are a survey, a refusal, a move that clears no mark,
-/// and any event for an entry with a key of another stripe.
+/// A class's event that needs no partner in the stripe keeps evidence. Such are a survey, a refusal, a new limit of chunks, a move
+/// that clears no mark, and any event for an entry with a key of another stripe.
 pub fn events_of_the_class_alone_keep_evidence()
     ensures { (site : Site) (rule : Rule) (class : ClassNo) (stripe : List StripeEvent) (history : List ClassEvent) → AreEvidence site rule class stripe history
         → (e : ClassEvent) → IsAlone site history e → AreEvidence site rule class stripe (history ++ e ∷ []) }

@@ -3,10 +3,10 @@
 ghost use Rattle.std.specs.Prelude.{IsSomeAnd, List, Some, [], length, true, ℕ, ◌++◌, ◌<◌, ◌∷◌, ◌≡◌};
 ghost use mathlib.Core.List.{IsPrefix};
 ghost use Rattle.mc_item.specs.{Command.key_of, Stripe.IsDead, Stripe.MayDo, Stripe.cache_of};
-ghost use Rattle.mc_item.specs.declared.{class_event.ClassEvent.ClassEvent, class_event.Linked.Linked, class_event.Refused.Refused};
-ghost use Rattle.mc_item.specs.declared.{class_event.Shifted.Shifted, class_event.Surveyed.Surveyed, class_event.Unlinked.Unlinked, item.ClassNo.ClassNo};
-ghost use Rattle.mc_item.specs.declared.{item.Link.Link, item.Who.Who, lists.Entry.Entry, lists.Seg.Seg, stripe_event.Did.Did};
-ghost use Rattle.mc_item.specs.declared.{stripe_event.StripeEvent.StripeEvent};
+ghost use Rattle.mc_item.specs.declared.{class_event.ClassEvent.ClassEvent, class_event.Limited.Limited, class_event.Linked.Linked};
+ghost use Rattle.mc_item.specs.declared.{class_event.Refused.Refused, class_event.Shifted.Shifted, class_event.Surveyed.Surveyed};
+ghost use Rattle.mc_item.specs.declared.{class_event.Unlinked.Unlinked, item.ClassNo.ClassNo, item.Link.Link, item.Who.Who, lists.Entry.Entry};
+ghost use Rattle.mc_item.specs.declared.{lists.Seg.Seg, stripe_event.Did.Did, stripe_event.StripeEvent.StripeEvent};
 ghost use Rattle.mc_item.specs.declared.class_event.ClassEvent.TheVariants as entries;
 ghost use Rattle.mc_item.specs.declared.reply.Room.TheVariants as rooms;
 ghost use Rattle.mc_item.specs.declared.stripe_event.StripeEvent.TheVariants as items;
@@ -86,8 +86,8 @@ pub fn a_command_keeps_its_stripe()
         → StripeKeeps setting s (stripe ++ items.Did did ∷ []) more }
 {}
 
-/// A command's events in a class keep the invariant of the class's lock, if the lock has seen the command in its stripe. Surveys
-/// and refusals keep it too.
+/// A command's events in a class keep the invariant of the class's lock, if the lock has seen the command in its stripe. Surveys,
+/// refusals and new limits keep it too.
 pub fn a_command_keeps_its_classes()
     ensures linked { (setting : Setting) (s : ℕ) (class : ClassNo) (stripe : List StripeEvent) (history : List ClassEvent) (seen_of more_of : ℕ
         → List StripeEvent)
@@ -109,6 +109,10 @@ pub fn a_command_keeps_its_classes()
         → ClassKeeps setting class history seen_of → SeesMore seen_of more_of
         → (e : Refused) → IsLawfulByLists (setting.chunks class) setting.rule history (entries.Refused e)
         → ClassKeeps setting class (history ++ entries.Refused e ∷ []) more_of }
+    ensures limit { (setting : Setting) (class : ClassNo) (history : List ClassEvent) (seen_of more_of : ℕ → List StripeEvent)
+        → ClassKeeps setting class history seen_of → SeesMore seen_of more_of
+        → (e : Limited) → IsLawfulByLists (setting.chunks class) setting.rule history (entries.Limited e)
+        → ClassKeeps setting class (history ++ entries.Limited e ∷ []) more_of }
 {}
 
 /// A command that replaces an item by one of the same class keeps the invariants of both locks. It links the new entry first,

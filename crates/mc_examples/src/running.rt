@@ -58,6 +58,7 @@ fn show_command(rt: &HostRuntime, key: &Key, quiet: bool) -> io::Result<()> {
 fn show_request(rt: &HostRuntime, request: Request) -> io::Result<()> {
     match request {
         Request::Get { keys, with_cas } => show_get(rt, keys, with_cas),
+        Request::Gat { keys, with_cas, .. } => show_get(rt, keys, with_cas),
         Request::One { command, quiet } => show_command(rt, command.key(), quiet),
         Request::Bad { why, quiet } => println!(rt; "  refused: {why:?}, quiet {quiet}"),
         _ => println!(rt; "  of the script itself"),

@@ -8,8 +8,8 @@ use Rattle.mc_item.specs.declared.{counting.Step.Step, counting.Step.TheVariants
 use Rattle.mc_item.specs.declared.{item.Item.Item, item.Link.Link, reply.Reply.Reply, reply.Room.Room}
 use Rattle.mc_item.specs.declared.answer.Change.TheVariants as changes
 use Rattle.mc_item.specs.declared.answer.Need.TheVariants as needs
-use Rattle.mc_item.specs.declared.command.Command.TheVariants.{Get, Store, Huge, Incr, Decr, Touch, Delete}
-use Rattle.mc_item.specs.declared.command.Verb.TheVariants.{Set, Add, Replace, Cas}
+use Rattle.mc_item.specs.declared.command.Command.TheVariants.{Get, Gat, Store, Huge, Incr, Decr, Touch, Delete}
+use Rattle.mc_item.specs.declared.command.Verb.TheVariants.{Set, Add, Replace, Cas, Append, Prepend}
 use Rattle.mc_item.specs.declared.reply.Reply.TheVariants as replies
 use Rattle.mc_item.specs.declared.reply.Room.TheVariants as rooms
 
@@ -54,16 +54,39 @@ abbrev pub get_row : Option Item → Row
 get_row None = plain needs.Nothing replies.Miss changes.Stays
 get_row (Some item) = plain needs.Nothing (replies.Value item.flags item.value item.cas) (changes.Hit (hit_marks item.marks))
 
+-- gat: the reply of a get, a new expiry, and a hit
+abbrev pub gat_row : Expiry → Option Item → Row
+gat_row expiry None = plain needs.Nothing replies.Miss changes.Stays
+gat_row expiry (Some item) = plain needs.Nothing (replies.Value item.flags item.value item.cas) (changes.Touched expiry (hit_marks item.marks))
+
 -- what a storage command without a chunk does to the old item: set removes it, the others leave it (own)
 abbrev pub let_go : Verb → Change
 let_go Set = changes.Goes
 let_go Add = changes.Stays
 let_go Replace = changes.Stays
 let_go (Cas unique) = changes.Stays
+let_go Append = changes.Stays
+let_go Prepend = changes.Stays
+
+-- a storage command whose item no class can hold: too large
+abbrev pub huge_row : Verb → Row
+huge_row verb = plain needs.TooLarge replies.TooLarge (let_go verb)
+
+-- append and prepend, by the class for the joined item's cost (none if it is too large) and the old item. Without a chunk for it the
+-- reply is that of any storage command (own)
+abbrev pub join_row : Option ClassNo → Option Item → (Link → Item) → Row
+join_row class None version = plain needs.Nothing replies.NotStored changes.Stays
+join_row None (Some item) version = plain needs.TooLarge replies.TooLarge changes.Stays
+join_row (Some class) (Some item) version = fresh class replies.Stored version (answer replies.NoRoom changes.Stays)
 
 -- the storage commands, by the class for the new item's cost (none if it is too large), the verb, and the old item
 abbrev pub store_row : Option ClassNo → Verb → Option Item → (Link → Item) → Row
-store_row None verb found version = plain needs.TooLarge replies.TooLarge (let_go verb)
+store_row class Append found version = join_row class found version
+store_row class Prepend found version = join_row class found version
+store_row None Set found version = huge_row Set
+store_row None Add found version = huge_row Add
+store_row None Replace found version = huge_row Replace
+store_row None (Cas unique) found version = huge_row (Cas unique)
 store_row (Some class) Set found version = fresh class replies.Stored version (answer replies.NoRoom (let_go Set))
 store_row (Some class) Add (Some item) version = plain needs.Nothing replies.NotStored changes.Stays
 store_row (Some class) Add None version = fresh class replies.Stored version (answer replies.NoRoom (let_go Add))
@@ -75,9 +98,28 @@ store_row (Some class) (Cas unique) (Some item) version =
     then fresh class replies.Stored version (answer replies.NoRoom (let_go (Cas unique)))
     else plain needs.Nothing replies.Exists changes.Stays
 
--- a storage command whose item no class can hold: too large
-abbrev pub huge_row : Verb → Row
-huge_row verb = plain needs.TooLarge replies.TooLarge (let_go verb)
+-- what a storage command writes: the flags, the value and the expiry of its new version
+pub record Written : Type 0 where
+  pub flags : ℕ
+  pub value : List ℕ
+  pub expiry : Expiry
+
+-- what a storage command with this content writes over the item found: append joins its data behind the old value, prepend before
+-- it, and both keep the old flags and expiry
+abbrev pub written_over : Verb → Written → Option Item → Written
+written_over Set own found = own
+written_over Add own found = own
+written_over Replace own found = own
+written_over (Cas unique) own found = own
+written_over Append own None = own
+written_over Append own (Some item) = record { flags = item.flags; value = item.value ++ own.value; expiry = item.expiry }
+written_over Prepend own None = own
+written_over Prepend own (Some item) = record { flags = item.flags; value = own.value ++ item.value; expiry = item.expiry }
+
+-- the row of a storage command that writes this
+abbrev pub write_row : Site → ℕ → List ℕ → Verb → Option Item → Written → Row
+write_row site n key verb found written =
+    store_row (class_of site.sizes (cost_of key written.value)) verb found (version_of site n written.flags written.value written.expiry)
 
 -- a text, padded with spaces to a length
 abbrev pub padded : List ℕ → ℕ → List ℕ
@@ -120,8 +162,9 @@ stepped (Down delta) number = number - delta
 -- the row of a command at a moment (a time in seconds), by the number of earlier versions and the item found
 abbrev pub row_of : Site → ℕ → Option Item → Command → ℕ → Row
 row_of site n found (Get key) moment = get_row found
+row_of site n found (Gat key exptime) moment = gat_row (expiry_of exptime moment) found
 row_of site n found (Store verb key flags exptime value) moment =
-    store_row (class_of site.sizes (cost_of key value)) verb found (version_of site n flags value (expiry_of exptime moment))
+    write_row site n key verb found (written_over verb (record { flags = flags; value = value; expiry = expiry_of exptime moment }) found)
 row_of site n found (Huge verb key) moment = huge_row verb
 row_of site n found (Incr key delta) moment = count_row site n key (stepped (Up delta)) found
 row_of site n found (Decr key delta) moment = count_row site n key (stepped (Down delta)) found

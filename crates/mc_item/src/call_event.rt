@@ -23,13 +23,21 @@ pub struct Answered {
     pub place: u64,
 }
 
-/// An event of a caller's history: a call, which has a turn and a moment, or the answer to a command.
+/// The caller asked for a class to have this limit of chunks. The call has no moment.
+#[derive(Drop)]
+pub struct Limits {
+    pub class: ClassNo,
+    pub chunks: u64,
+}
+
+/// An event of a caller's history: a call, which has a turn, or the answer to a command. All calls but `Limits` have a moment.
 #[derive(Drop)]
 pub enum CallEvent {
     Asked(Asked),
     Juggled(Worked),
     Crawled(Worked),
     Answered(Answered),
+    Limits(Limits),
 }
 
 /// An `Asked` event that borrows its command, which is still to be made.

@@ -83,6 +83,13 @@ pub struct Refused {
     pub who: Who,
 }
 
+/// The class has a new limit of chunks from here on. A lower limit evicts nothing by itself.
+#[derive(Drop)]
+pub struct Limited {
+    pub who: Who,
+    pub chunks: u64,
+}
+
 /// An event of a slab class's history.
 #[derive(Drop)]
 pub enum ClassEvent {
@@ -93,4 +100,5 @@ pub enum ClassEvent {
     Reclaimed(Reclaimed),
     Surveyed(Surveyed),
     Refused(Refused),
+    Limited(Limited),
 }

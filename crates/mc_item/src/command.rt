@@ -18,14 +18,21 @@ pub enum Verb {
     Replace,
     /// Stores only if there is an item with this cas number.
     Cas(u64),
+    /// Puts its data behind an item's value.
+    Append,
+    /// Puts its data before an item's value.
+    Prepend,
 }
 
-/// A command on one key. `gets` is also `Get`: only its printed reply differs, by the cas number.
+/// A command on one key. `gets` is also `Get`, and `gats` also `Gat`: only the printed reply differs, by the cas number.
 #[derive(Debug, Drop)]
 pub enum Command {
     /// Reads an item.
     Get(Key),
-    /// Stores an item with these flags, exptime and value.
+    /// Reads an item and sets its exptime.
+    Gat(Key, i64),
+    /// Stores an item with these flags, exptime and value. `Append` and `Prepend` join the value to the old one, and keep the old
+    /// flags and exptime.
     Store {
         verb: Verb,
         key: Key,
@@ -55,6 +62,7 @@ impl Command {
     {
         match self {
             Command::Get(key) => key,
+            Command::Gat(key, _) => key,
             Command::Store { key, .. } => key,
             Command::Huge { key, .. } => key,
             Command::Incr(key, _) => key,
@@ -70,6 +78,7 @@ impl Command {
     {
         match self {
             Command::Get(key) => Ok(Command::Get(key.copy(alloc)?)),
+            Command::Gat(key, exptime) => Ok(Command::Gat(key.copy(alloc)?, *exptime)),
             Command::Store {
                 verb,
                 key,

@@ -8,8 +8,8 @@ use crate::numbers::Numbers;
 use std::alloc::Global;
 
 /// What a store is made with. `sizes` and `chunks` have one number for each slab class. Percents are of the bytes of HOT, WARM
-/// and COLD. Factors are hundredths of the age of COLD's tail. `temp_ttl` is in seconds. `max_events` limits each history, and
-/// `keeps_events` says whether events are kept in memory.
+/// and COLD. Factors are hundredths of the age of COLD's tail. `temp_ttl` is in seconds. `max_events` limits the events of each
+/// history and the calls of each caller, and `keeps_events` says whether events are kept in memory.
 #[derive(Drop)]
 pub struct Config {
     pub stripes: u32,

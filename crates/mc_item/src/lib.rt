@@ -23,9 +23,9 @@ mod stripe_event;
 mod value;
 
 pub use answer::{Answer, Change, Need, Site};
-pub use call_event::{Answered, Asked, Asking, CallEvent, Worked};
+pub use call_event::{Answered, Asked, Asking, CallEvent, Limits, Worked};
 pub use class_event::{
-    ClassEvent, Evicted, Linked, Reclaimed, Refused, Shifted, Surveyed, Unlinked, Why,
+    ClassEvent, Evicted, Limited, Linked, Reclaimed, Refused, Shifted, Surveyed, Unlinked, Why,
 };
 pub use command::{Command, Verb};
 pub use config::{Config, ConfigFault};

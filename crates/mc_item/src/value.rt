@@ -108,6 +108,17 @@ impl Value {
         })
     }
 
+    /// Makes the value of the bytes of one value and behind them those of another, in memory of its own. Fails with `NoMemory` if
+    /// the allocator refuses.
+    pub fn joined(alloc: Global, front: &Value, back: &Value) -> Result<Value, NoMemory>
+        ensures { IfOk result (λ value. value ≡ front.now ++ back.now) }
+    {
+        let mut bytes = Vec::with_capacity(alloc, front.bytes().len() + back.bytes().len())?;
+        bytes.extend_from_slice(front.bytes())?;
+        bytes.extend_from_slice(back.bytes())?;
+        Value::of(alloc, bytes)
+    }
+
     /// Returns the bytes.
     pub fn bytes(&self) -> &[u8]
         ensures { result.now ≡ self.now }

@@ -1,6 +1,7 @@
 //! Tests against values from outside: the parts of the table of commands, worked examples, and the limits of each rule.
 mod config;
 mod copies;
+mod joined_values;
 mod keys;
 mod numbers;
 mod rows;
@@ -39,6 +40,7 @@ pub const GROWN: &str =
 #[derive(Clone, Copy)]
 pub(super) enum Asked {
     Get,
+    Gat(i64),
     // A storage command of this value, of flags 7 and ten seconds.
     Store(Verb, &'static [u8]),
     Huge(Verb),
@@ -110,6 +112,7 @@ fn huge(rt: &impl Abort, alloc: Global, verb: Verb) -> Command {
 pub(super) fn command_of(rt: &impl Abort, alloc: Global, asked: Asked) -> Command {
     match asked {
         Asked::Get => Command::Get(key(rt, alloc, b"k")),
+        Asked::Gat(exptime) => Command::Gat(key(rt, alloc, b"k"), exptime),
         Asked::Store(verb, bytes) => store(rt, alloc, verb, bytes),
         Asked::Huge(verb) => huge(rt, alloc, verb),
         Asked::Incr(delta) => Command::Incr(key(rt, alloc, b"k"), delta),

@@ -5,7 +5,7 @@ use Rattle.std.specs.{Option.option_map, Cmp.Lexicographic.pointwise, Cmp.Lexico
 use Rattle.std.proofs.lemmas.Bool.{false≢true}
 use Rattle.mc_laws.proofs.EventLemmas.{after_elsewhere, come_stays, legal_on}
 use Rattle.mc_laws.specs.Events.{NoneAsks}
-use Rattle.mc_item.specs.Answer.{Row, row_of, store_row, huge_row, grown_row, number_row, count_row, stepped, version_of, plain, padded, cas_of}
+use Rattle.mc_item.specs.Answer.{Row, Written, row_of, join_row, store_row, write_row, written_over, huge_row, grown_row, number_row, count_row, stepped, version_of, plain, padded, cas_of}
 use Rattle.mc_item.specs.Cache.{Cache, empty_cache, changed, after_change, answer_of, versions_of, marked}
 use Rattle.mc_item.specs.{Command.key_of, Item.is_dead, Item.no_marks, Item.expiry_of, Measure.class_of, Measure.cost_of, Measure.numeral_of}
 use Rattle.mc_item.specs.Stripe.{cache_after, cache_from, cache_of, IsLegal, IsAlive, IsDead, cooled_change}
@@ -14,8 +14,8 @@ use Rattle.mc_item.specs.declared.{counting.Step.TheVariants.Up, counting.Step.T
 use Rattle.mc_item.specs.declared.{reply.Reply.Reply, reply.Room.Room, stripe_event.Cooled.Cooled, stripe_event.Did.Did, stripe_event.StripeEvent.StripeEvent}
 use Rattle.mc_item.specs.declared.answer.Change.TheVariants.{Stays, Goes, Hit, Touched, Counted, Renewed}
 use Rattle.mc_item.specs.declared.answer.Need.TheVariants as needs
-use Rattle.mc_item.specs.declared.command.Command.TheVariants.{Get, Store, Huge, Incr, Decr, Touch, Delete}
-use Rattle.mc_item.specs.declared.command.Verb.TheVariants.{Set, Add, Replace, Cas}
+use Rattle.mc_item.specs.declared.command.Command.TheVariants.{Get, Gat, Store, Huge, Incr, Decr, Touch, Delete}
+use Rattle.mc_item.specs.declared.command.Verb.TheVariants.{Set, Add, Replace, Cas, Append, Prepend}
 use Rattle.mc_item.specs.declared.reply.Reply.TheVariants as replies
 use Rattle.mc_item.specs.declared.stripe_event.StripeEvent.TheVariants as events
 
@@ -127,10 +127,21 @@ same_row row bare_row found room same =
     ap (showing row room) (bare-changed found (row.answer room).change)
     ∙ ap (λ (r : Row). shown r (bare found) room) same
 
--- the rows of the storage commands don't read marks
+-- the rows of append and prepend don't read marks
+join_row-bare : (class : Option ClassNo) (found : Option Item) (version : Link → Item) → join_row class found version ≡ join_row class (bare found) version
+join_row-bare class None version = refl
+join_row-bare None (Some item) version = refl
+join_row-bare (Some class) (Some item) version = refl
+
+-- so the rows of the storage commands don't
 store_row-bare : (class : Option ClassNo) (verb : Verb) (found : Option Item) (version : Link → Item)
     → store_row class verb found version ≡ store_row class verb (bare found) version
-store_row-bare None verb found version = refl
+store_row-bare class Append found version = join_row-bare class found version
+store_row-bare class Prepend found version = join_row-bare class found version
+store_row-bare None Set found version = refl
+store_row-bare None Add found version = refl
+store_row-bare None Replace found version = refl
+store_row-bare None (Cas unique) found version = refl
 store_row-bare (Some class) Set found version = refl
 store_row-bare (Some class) Add None version = refl
 store_row-bare (Some class) Add (Some item) version = refl
@@ -138,6 +149,25 @@ store_row-bare (Some class) Replace None version = refl
 store_row-bare (Some class) Replace (Some item) version = refl
 store_row-bare (Some class) (Cas unique) None version = refl
 store_row-bare (Some class) (Cas unique) (Some item) version = refl
+
+-- what they write doesn't either
+written_over-bare : (verb : Verb) (own : Written) (found : Option Item) → written_over verb own found ≡ written_over verb own (bare found)
+written_over-bare Set own found = refl
+written_over-bare Add own found = refl
+written_over-bare Replace own found = refl
+written_over-bare (Cas unique) own found = refl
+written_over-bare Append own None = refl
+written_over-bare Append own (Some item) = refl
+written_over-bare Prepend own None = refl
+written_over-bare Prepend own (Some item) = refl
+
+-- so a storage command's row of what it writes doesn't
+write_row-bare : (site : Site) (n : ℕ) (key : List ℕ) (verb : Verb) (own : Written) (found : Option Item)
+    → write_row site n key verb found (written_over verb own found) ≡ write_row site n key verb (bare found) (written_over verb own (bare found))
+write_row-bare site n key verb own found =
+    let written = written_over verb own found in
+    store_row-bare (class_of site.sizes (cost_of key written.value)) verb found (version_of site n written.flags written.value written.expiry)
+    ∙ ap (λ (w : Written). write_row site n key verb (bare found) w) (written_over-bare verb own found)
 
 -- nor does the row of a longer number
 grown_row-bare : (site : Site) (n : ℕ) (item : Item) (number : ℕ) (class : Option ClassNo)
@@ -167,10 +197,12 @@ bare_shows : (site : Site) (n : ℕ) (found : Option Item) (command : Command) (
     → shown (row_of site n found command moment) found room ≡ shown (row_of site n (bare found) command moment) (bare found) room
 bare_shows site n None (Get key) moment room = refl
 bare_shows site n (Some item) (Get key) moment room = refl
+bare_shows site n None (Gat key exptime) moment room = refl
+bare_shows site n (Some item) (Gat key exptime) moment room = refl
 bare_shows site n found (Store verb key flags exptime value) moment room =
-    let version = version_of site n flags value (expiry_of exptime moment) in
-    let class = class_of site.sizes (cost_of key value) in
-    same_row (store_row class verb found version) (store_row class verb (bare found) version) found room (store_row-bare class verb found version)
+    let own : Written = record { flags = flags; value = value; expiry = expiry_of exptime moment } in
+    same_row (write_row site n key verb found (written_over verb own found))
+    (write_row site n key verb (bare found) (written_over verb own (bare found))) found room (write_row-bare site n key verb own found)
 bare_shows site n found (Huge verb key) moment room = same_row (huge_row verb) (huge_row verb) found room refl
 bare_shows site n found (Incr key delta) moment room =
     let step = stepped (Up delta) in

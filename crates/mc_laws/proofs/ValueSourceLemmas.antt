@@ -3,18 +3,18 @@ use Rattle.std.proofs.Common.{◌≡◌, ℕ, List, [], ◌∷◌, ◌++◌, ref
 use Rattle.std.specs.Prelude.{Option, Some, None, nat_le, if◌then◌else◌, decimal}
 use Rattle.std.specs.Option.{option_map}
 use Rattle.mc_laws.proofs.{EventLemmas.legal_before, EventLemmas.legal_on, MarkLemmas.by_key}
-use Rattle.mc_laws.specs.Versions.{HoldsItem, HoldsThroughout, Wrote, WroteNumber}
-use Rattle.mc_item.specs.Answer.{Row, answer, plain, fresh, row_of, get_row, store_row, let_go, padded}
+use Rattle.mc_laws.specs.Versions.{HoldsItem, HoldsThroughout, Wrote, WroteNumber, WroteOver}
+use Rattle.mc_item.specs.Answer.{Row, Written, answer, plain, fresh, row_of, get_row, join_row, store_row, write_row, written_over, let_go, padded}
 use Rattle.mc_item.specs.Answer.{grown_row, number_row, count_row, stepped, version_of, cas_of}
 use Rattle.mc_item.specs.{Cache.Cache, Cache.empty_cache, Cache.changed, Cache.answer_of, Command.key_of, Item.expiry_of, Measure.class_of, Measure.cost_of}
 use Rattle.mc_item.specs.{Measure.numeral_of, Stripe.cache_after, Stripe.cache_from, Stripe.cache_of, Stripe.IsLegalFrom, Stripe.IsLegal, Stripe.cooled_change}
 use Rattle.mc_item.specs.declared.{answer.Answer.Answer, answer.Change.TheVariants.Stays, answer.Change.TheVariants.Goes, answer.Change.TheVariants.Counted}
-use Rattle.mc_item.specs.declared.{answer.Site.Site, command.Command.Command, command.Verb.Verb, command.Verb.TheVariants.Set, command.Verb.TheVariants.Add}
-use Rattle.mc_item.specs.declared.{command.Verb.TheVariants.Replace, command.Verb.TheVariants.Cas, counting.Step.TheVariants.Up, counting.Step.TheVariants.Down}
+use Rattle.mc_item.specs.declared.{answer.Site.Site, command.Command.Command, command.Verb.Verb, counting.Step.TheVariants.Up, counting.Step.TheVariants.Down}
 use Rattle.mc_item.specs.declared.{item.ClassNo.ClassNo, item.Item.Item, item.Link.Link, reply.Reply.Reply, reply.Room.Room, stripe_event.Cooled.Cooled}
 use Rattle.mc_item.specs.declared.{stripe_event.Did.Did, stripe_event.Lost.Lost, stripe_event.StripeEvent.StripeEvent}
 use Rattle.mc_item.specs.declared.answer.Need.TheVariants as needs
-use Rattle.mc_item.specs.declared.command.Command.TheVariants.{Get, Store, Huge, Incr, Decr, Touch, Delete}
+use Rattle.mc_item.specs.declared.command.Command.TheVariants.{Get, Gat, Store, Huge, Incr, Decr, Touch, Delete}
+use Rattle.mc_item.specs.declared.command.Verb.TheVariants.{Set, Add, Replace, Cas, Append, Prepend}
 use Rattle.mc_item.specs.declared.reply.Reply.TheVariants as replies
 use Rattle.mc_item.specs.declared.reply.Room.TheVariants as rooms
 use Rattle.mc_item.specs.declared.stripe_event.StripeEvent.TheVariants as events
@@ -38,6 +38,8 @@ module _ (site : Site) (flags : ℕ) (value : List ℕ) (cas : ℕ) where
   let_go_was Add found there = there
   let_go_was Replace found there = there
   let_go_was (Cas unique) found there = there
+  let_go_was Append found there = there
+  let_go_was Prepend found there = there
 
   -- one that a get answers is there
   answered_is_there : (found : Option Item) (room : Room) → replies.Value flags value cas ≡ ((get_row found).answer room).reply → IsThere found
@@ -82,9 +84,20 @@ module _ (site : Site) (flags : ℕ) (value : List ℕ) (cas : ℕ) where
           → WasOr W found (fresh class replies.Stored version (answer replies.NoRoom (let_go verb)))
       stored_was class verb found = fresh_was W class replies.Stored version (answer replies.NoRoom (let_go verb)) found (let_go_was verb found) new
 
+      -- joined to an item, if the verb is append or prepend
+      join_was : (class : Option ClassNo) (found : Option Item) → WasOr W found (join_row class found version)
+      join_was class None is there = inl there
+      join_was None (Some item) is there = inl there
+      join_was (Some class) (Some item) is there = stored_was class Append (Some item) is there
+
       -- where its verb says so
       store_was : (class : Option ClassNo) (verb : Verb) (found : Option Item) → WasOr W found (store_row class verb found version)
-      store_was None verb found is there = inl (let_go_was verb found there)
+      store_was class Append found is there = join_was class found is there
+      store_was class Prepend found is there = join_was class found is there
+      store_was None Set found is there = inl (let_go_was Set found there)
+      store_was None Add found is there = inl there
+      store_was None Replace found is there = inl there
+      store_was None (Cas unique) found is there = inl there
       store_was (Some class) Set found is there = stored_was class Set found is there
       store_was (Some class) Add None is there = stored_was class Add None is there
       store_was (Some class) Add (Some item) is there = inl there
@@ -94,6 +107,26 @@ module _ (site : Site) (flags : ℕ) (value : List ℕ) (cas : ℕ) where
       store_was (Some class) (Cas unique) (Some item) is there =
           by_test W (Some item) (item.cas == unique) (fresh class replies.Stored version (answer replies.NoRoom (let_go (Cas unique))))
           (plain needs.Nothing replies.Exists Stays) (stored_was class (Cas unique) (Some item)) (λ other same. inl same) is there
+
+    -- a version of what is written was written, or what is left was there
+    written_was : (W : Type 0) (n : ℕ) (key : List ℕ) (verb : Verb) (found : Option Item) (written : Written)
+        → (reply ≡ replies.Stored → (flags ≡ written.flags) × (value ≡ written.value) → W) → WasOr W found (write_row site n key verb found written)
+    written_was W n key verb found written new =
+        store_was W (version_of site n written.flags written.value written.expiry) (λ link stored there. new stored (sym there.0, sym there.1))
+        (class_of site.sizes (cost_of key written.value)) verb found
+
+    -- a storage command wrote what its verb says, or what is left was there
+    write_was : (n : ℕ) (key : List ℕ) (verb : Verb) (own : Written) (found : Option Item)
+        → WasOr ((reply ≡ replies.Stored) × WroteOver found verb own.flags own.value flags value) found
+        (write_row site n key verb found (written_over verb own found))
+    write_was n key Set own found = written_was _ n key Set found own (λ stored same. (stored, same))
+    write_was n key Add own found = written_was _ n key Add found own (λ stored same. (stored, same))
+    write_was n key Replace own found = written_was _ n key Replace found own (λ stored same. (stored, same))
+    write_was n key (Cas unique) own found = written_was _ n key (Cas unique) found own (λ stored same. (stored, same))
+    write_was n key Append own None = λ is there. inl there
+    write_was n key Append own (Some item) = written_was _ n key Append (Some item) (written_over Append own (Some item)) (λ stored same. (stored, same))
+    write_was n key Prepend own None = λ is there. inl there
+    write_was n key Prepend own (Some item) = written_was _ n key Prepend (Some item) (written_over Prepend own (Some item)) (λ stored same. (stored, same))
 
     -- a longer number was written, or what is left was there
     grown_was : (n : ℕ) (item : Item) (number : ℕ) (class : Option ClassNo)
@@ -126,10 +159,10 @@ module _ (site : Site) (flags : ℕ) (value : List ℕ) (cas : ℕ) where
         → WasOr (Wrote found command reply flags value) found (row_of site n found command moment)
     command_was n None (Get key) moment is there = inl there
     command_was n (Some item) (Get key) moment is there = inl there
-    command_was n found (Store verb key new_flags exptime new_value) moment is there =
-        store_was (Wrote found (Store verb key new_flags exptime new_value) reply flags value)
-        (version_of site n new_flags new_value (expiry_of exptime moment))
-        (λ link stored new. (stored, sym new.0, sym new.1)) (class_of site.sizes (cost_of key new_value)) verb found is there
+    command_was n None (Gat key exptime) moment is there = inl there
+    command_was n (Some item) (Gat key exptime) moment is there = inl there
+    command_was n found (Store verb key own_flags exptime own_value) moment is there =
+        write_was n key verb (record { flags = own_flags; value = own_value; expiry = expiry_of exptime moment }) found is there
     command_was n found (Huge verb key) moment is there = inl (let_go_was verb found there)
     command_was n found (Incr key delta) moment is there = count_was n key (stepped (Up delta)) found is there
     command_was n found (Decr key delta) moment is there = count_was n key (stepped (Down delta)) found is there

@@ -2,17 +2,18 @@
 use Rattle.std.proofs.Common.{◌≡◌, ◌<◌, ◌≤◌, ◌+◌, ◌⊎◌, inl, inr, ℕ, ℤ, List, [], ◌∷◌, ◌++◌, refl, sym, ap, ◌∙◌, subst, arith, Bool, true, false, eqb-true, mul-le-mul_right}
 use Rattle.std.specs.Prelude.{Option, Some, None, IsSomeAnd, IfSome, length, decimal, nat_eq, nat_le, ◌==◌, if◌then◌else◌}
 use Rattle.std.specs.{Cmp.Lexicographic.pointwise, Cmp.Lexicographic.bytes_decides, Option.option_map}
-use Rattle.mc_item.specs.Answer.{Row, answer, plain, fresh, cas_of, version_of, get_row, let_go, store_row, padded, grown_row, number_row, count_row, stepped, touch_row, delete_row, row_of}
+use Rattle.mc_item.specs.Answer.{Row, Written, answer, plain, fresh, cas_of, version_of, get_row, gat_row, let_go, join_row, store_row, write_row, written_over, padded}
+use Rattle.mc_item.specs.Answer.{grown_row, number_row, count_row, stepped, touch_row, delete_row, row_of}
 use Rattle.mc_item.specs.Cache.{Cache, empty_cache, changed, versions_of, after_change, answer_of}
 use Rattle.mc_item.specs.{Command.key_of, Item.expiry_of, Measure.class_of, Measure.cost_of, Measure.numeral_of}
 use Rattle.mc_item.specs.Stripe.{cache_after, cache_from, cache_of, cooled_change, IsLegal, MayDo}
 use Rattle.mc_item.specs.declared.{answer.Answer.Answer, answer.Change.Change, answer.Site.Site, command.Command.Command, command.Verb.Verb}
-use Rattle.mc_item.specs.declared.{command.Verb.TheVariants.Set, command.Verb.TheVariants.Add, command.Verb.TheVariants.Replace, command.Verb.TheVariants.Cas}
 use Rattle.mc_item.specs.declared.{counting.Step.TheVariants.Up, counting.Step.TheVariants.Down, item.ClassNo.ClassNo, item.Expiry.Expiry, item.Item.Item}
 use Rattle.mc_item.specs.declared.{item.Link.Link, reply.Reply.Reply, reply.Room.Room, stripe_event.Did.Did, stripe_event.StripeEvent.StripeEvent}
 use Rattle.mc_item.specs.declared.answer.Change.TheVariants.{Stays, Goes, Hit, Touched, Counted, Renewed}
 use Rattle.mc_item.specs.declared.answer.Need.TheVariants as needs
-use Rattle.mc_item.specs.declared.command.Command.TheVariants.{Get, Store, Huge, Incr, Decr, Touch, Delete}
+use Rattle.mc_item.specs.declared.command.Command.TheVariants.{Get, Gat, Store, Huge, Incr, Decr, Touch, Delete}
+use Rattle.mc_item.specs.declared.command.Verb.TheVariants.{Set, Add, Replace, Cas, Append, Prepend}
 use Rattle.mc_item.specs.declared.reply.Reply.TheVariants as replies
 use Rattle.mc_item.specs.declared.reply.Room.TheVariants as rooms
 use Rattle.mc_item.specs.declared.stripe_event.StripeEvent.TheVariants as events
@@ -61,11 +62,26 @@ let_go_gives site n Set = tt
 let_go_gives site n Add = tt
 let_go_gives site n Replace = tt
 let_go_gives site n (Cas unique) = tt
+let_go_gives site n Append = tt
+let_go_gives site n Prepend = tt
+
+-- the rows of append and prepend
+join_gives : (site : Site) (n : ℕ) (class : Option ClassNo) (found : Option Item) (version : Link → Item)
+    → ((link : Link) → (version link).cas ≡ cas_of site n) → RowGivesNext site n (join_row class found version)
+join_gives site n class None version numbered = λ room. tt
+join_gives site n None (Some item) version numbered = λ room. tt
+join_gives site n (Some class) (Some item) version numbered =
+    fresh_gives site n class replies.Stored version (answer replies.NoRoom Stays) numbered tt
 
 -- the rows of the storage commands
 store_gives : (site : Site) (n : ℕ) (class : Option ClassNo) (verb : Verb) (found : Option Item) (version : Link → Item)
     → ((link : Link) → (version link).cas ≡ cas_of site n) → RowGivesNext site n (store_row class verb found version)
-store_gives site n None verb found version numbered = λ room. let_go_gives site n verb
+store_gives site n class Append found version numbered = join_gives site n class found version numbered
+store_gives site n class Prepend found version numbered = join_gives site n class found version numbered
+store_gives site n None Set found version numbered = λ room. tt
+store_gives site n None Add found version numbered = λ room. tt
+store_gives site n None Replace found version numbered = λ room. tt
+store_gives site n None (Cas unique) found version numbered = λ room. tt
 store_gives site n (Some class) Set found version numbered =
     fresh_gives site n class replies.Stored version (answer replies.NoRoom (let_go Set)) numbered tt
 store_gives site n (Some class) Add (Some item) version numbered = λ room. tt
@@ -79,6 +95,13 @@ store_gives site n (Some class) (Cas unique) (Some item) version numbered =
     chosen_gives site n (item.cas == unique) (fresh class replies.Stored version (answer replies.NoRoom (let_go (Cas unique))))
     (plain needs.Nothing replies.Exists Stays)
     (fresh_gives site n class replies.Stored version (answer replies.NoRoom (let_go (Cas unique))) numbered tt) (λ room. tt)
+
+-- the row of a storage command that writes this
+write_gives : (site : Site) (n : ℕ) (key : List ℕ) (verb : Verb) (found : Option Item) (written : Written)
+    → RowGivesNext site n (write_row site n key verb found written)
+write_gives site n key verb found written =
+    store_gives site n (class_of site.sizes (cost_of key written.value)) verb found
+    (version_of site n written.flags written.value written.expiry) (λ link. refl)
 
 -- the row of a number that is longer than the old value
 grown_gives : (site : Site) (n : ℕ) (item : Item) (number : ℕ) (class : Option ClassNo) → RowGivesNext site n (grown_row site n item number class)
@@ -105,6 +128,11 @@ get_gives : (site : Site) (n : ℕ) (found : Option Item) → RowGivesNext site 
 get_gives site n None = λ room. tt
 get_gives site n (Some item) = λ room. tt
 
+-- the row of gat
+gat_gives : (site : Site) (n : ℕ) (expiry : Expiry) (found : Option Item) → RowGivesNext site n (gat_row expiry found)
+gat_gives site n expiry None = λ room. tt
+gat_gives site n expiry (Some item) = λ room. tt
+
 -- the row of touch
 touch_gives : (site : Site) (n : ℕ) (expiry : Expiry) (found : Option Item) → RowGivesNext site n (touch_row expiry found)
 touch_gives site n expiry None = λ room. tt
@@ -118,8 +146,9 @@ delete_gives site n (Some item) = λ room. tt
 -- each row of the table
 row_gives : (site : Site) (n : ℕ) (found : Option Item) (command : Command) (moment : ℕ) → RowGivesNext site n (row_of site n found command moment)
 row_gives site n found (Get key) moment = get_gives site n found
+row_gives site n found (Gat key exptime) moment = gat_gives site n (expiry_of exptime moment) found
 row_gives site n found (Store verb key flags exptime value) moment =
-    store_gives site n (class_of site.sizes (cost_of key value)) verb found (version_of site n flags value (expiry_of exptime moment)) (λ link. refl)
+    write_gives site n key verb found (written_over verb (record { flags = flags; value = value; expiry = expiry_of exptime moment }) found)
 row_gives site n found (Huge verb key) moment = λ room. let_go_gives site n verb
 row_gives site n found (Incr key delta) moment = count_gives site n key (stepped (Up delta)) found
 row_gives site n found (Decr key delta) moment = count_gives site n key (stepped (Down delta)) found

@@ -1,5 +1,5 @@
 //! Laws of what is read: what changes an item, and where a value comes from.
-ghost use Rattle.std.specs.Prelude.{◌≡◌, ◌≢◌, ◌++◌, ◌∷◌, [], List, ℕ, ℤ};
+ghost use Rattle.std.specs.Prelude.{◌≡◌, ◌≢◌, ◌++◌, ◌∷◌, [], List, ℕ, ℤ, IsSomeAnd};
 ghost use Rattle.mc_item.specs.{Answer.cas_of, Cache.Cache, Cache.after_command, Command.key_of, Stripe.IsLegal, Stripe.cache_of};
 ghost use Rattle.mc_item.specs.declared.{answer.Site.Site, command.Command.Command, reply.Room.Room, stripe_event.Did.Did};
 ghost use Rattle.mc_item.specs.declared.{stripe_event.StripeEvent.StripeEvent};
@@ -23,6 +23,17 @@ pub fn set_is_read_back()
         → AreOfOtherKeys key between → got.command ≡ commands.Get key
         → IsLegal site (before ++ events.Did set ∷ (between ++ events.Did got ∷ []))
         → got.reply ≡ replies.Value flags value (cas_of site (cache_of site before).versions) }
+{}
+
+/// An append that replied `Stored` found an item. If only events of other keys follow it, a get of the key returns that item's
+/// flags, and its value with the append's data behind it. The cas number is that of the append's version.
+pub fn append_is_read_back()
+    ensures { (site : Site) (before between : List StripeEvent) (joined got : Did) (key added : List ℕ) (flags : ℕ) (exptime : ℤ)
+        → joined.command ≡ commands.Store verbs.Append key flags exptime added → joined.reply ≡ replies.Stored
+        → AreOfOtherKeys key between → got.command ≡ commands.Get key
+        → IsLegal site (before ++ events.Did joined ∷ (between ++ events.Did got ∷ []))
+        → IsSomeAnd ((cache_of site before).items key)
+        (λ item. got.reply ≡ replies.Value item.flags (item.value ++ added) (cas_of site (cache_of site before).versions)) }
 {}
 
 /// A value that a get returns was written by an earlier command on its key. From then until the get, the key held just these

@@ -11,13 +11,13 @@ pub const ABOUT: &str =
 pub const AFTER: &str = "\
 Requests are those of memcached's classic text protocol. Their replies are printed when the input
 has ended and its scripts have run.
-  get <key>..    gets <key>..    touch <key> <exptime>    delete <key>    quit
-  set, add, replace <key> <flags> <exptime> <bytes>       incr, decr <key> <delta>
+  get, gets <key>..    gat, gats <exptime> <key>..    touch <key> <exptime>    delete <key>    quit
+  set, add, replace, append, prepend <key> <flags> <exptime> <bytes>    incr, decr <key> <delta>
   cas <key> <flags> <exptime> <bytes> <cas number>
-A line ends in CR LF or in LF. Behind a line of set, add, replace or cas comes its block: as many
-bytes as the line says, and then always CR LF. Behind a line that is refused no block is skipped.
-Each line but those of get, gets, quit and directives may have the word noreply behind its last:
-then nothing is printed for it, not even what is wrong with it.
+A line ends in CR LF or in LF. Behind a storage line (set to prepend, and cas) comes its block: as
+many bytes as the line says, and then always CR LF. Behind a line that is refused no block is
+skipped. Each line but those of get, gets, gat, gats, quit and directives may have the word noreply
+behind its last: then nothing is printed for it, not even what is wrong with it.
 
 Directives stand in the place of a command:
   %at <second>      sets the moment, at first 1000, for what follows; it has no reply
@@ -26,6 +26,9 @@ Directives stand in the place of a command:
   %crawl <class>    looks at each entry of a slab class, reclaims the dead, and prints CRAWL and how
   %crawl all        many it saw, reclaimed, passed, found gone, saw without exptime and saw with an
                     hour or more to live; then MINUTE, i and how many have i minutes left; then END
+  %chunks <class> <n>
+                    sets the limit of chunks of a slab class, from 1 to 1,048,576, and prints
+                    CHUNKS, the class and the limit; a lower limit evicts nothing by itself
   %next             begins the next script
 Slab classes are numbered from 1, in the order of their sizes.
 
@@ -53,10 +56,12 @@ none can be taken, the reply is SERVER_ERROR out of memory storing object.
 
 Each key belongs to one stripe. Each stripe and each slab class counts its events, as many as
 --events allows, and keeps none: a stripe one for each command that is answered, one for each key of
-a get, for each item that goes since it is dead or its chunk is taken, and for each mark that is
-cleared; a class one for each entry that comes, moves or goes, and one or two for each %juggle or
-moment of upkeep. So memory holds the items, the input and the replies. With n stripes the new
-versions of a stripe's items have cas numbers n apart.
+a get or gat, for each item that goes since it is dead or its chunk is taken, and for each mark that
+is cleared; a class one for each entry that comes, moves or goes, one for each %chunks, and one or
+two for each %juggle or moment of upkeep. A script's calls count against --events too, as do those
+of upkeep: one for each command, for each class that is juggled or crawled, and for each %chunks. So
+memory holds the items, the input and the replies. With n stripes the new versions of a stripe's
+items have cas numbers n apart.
 
 Exit statuses, and the lines on standard error:
   0  all went well, or help or the version was printed

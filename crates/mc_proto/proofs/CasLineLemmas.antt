@@ -66,7 +66,7 @@ four_and_rest (a ∷ b ∷ c ∷ []) d some = absurd (omega arith)
 four_and_rest (a ∷ b ∷ c ∷ e ∷ ts) d some =
     ap (λ (rest : List (Bor (List ℕ))). a.now ∷ b.now ∷ c.now ∷ e.now ∷ map (λ t. t.now) rest) (take_all (length (a ∷ b ∷ c ∷ e ∷ ts) - 4) ts (omega arith))
 
--- a line set, add or replace with a good key, by its tokens
+-- a line set, add, replace, append or prepend with a good key, by its tokens
 pub store_row : (limits : Limits) (verb : Verb) (ts : List (Bor (List ℕ))) (d : Bor (List ℕ)) (key : List ℕ) (quiet : Bool) → 4 ≤ length ts
     → Some quiet ≡ quiet_of [] Noreply (map (λ t. t.now) (take (length ts - 4) (drop 4 ts))) → Some key ≡ key_of_token (get_or ts 0 d).now
     → kinds_say limits quiet (Flags ∷ Exptime ∷ Bytes ∷ []) Noreply (store limits verb key) ((get_or ts 1 d).now ∷ (get_or ts 2 d).now ∷ (get_or ts 3 d).now ∷ [])

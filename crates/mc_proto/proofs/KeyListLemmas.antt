@@ -1,11 +1,9 @@
--- The tokens of a line, seen through references: the keys of a get, and noreply.
+-- The tokens of a line, seen through references: the keys of a get or gat, and noreply.
 use Rattle.std.proofs.Common.{◌≡◌, ◌++◌, ◌∷◌, [], ◌+◌, ◌<◌, ℕ, List, length, refl, ap, sym, ◌∙◌, arith, suc, zero, take, drop, get_or, map, Bool, true, false}
 use Rattle.std.specs.Prelude.{Option, Some, None, if◌then◌else◌}
 use Rattle.std.specs.List.{list_all}
 use Rattle.std.proofs.lemmas.List.{take_more, at_drop_more, length-map}
-use Rattle.mc_proto.specs.{Lines.is_key, Lines.key_of_token, Table.bad, Table.row_says, Table.Keys}
-use Rattle.mc_proto.specs.declared.{request.Limits.Limits, request.Request.TheVariants.Get, state.Said.Said, state.Said.TheVariants.Whole}
-use Rattle.mc_proto.specs.declared.request.LineFault.TheVariants as faults
+use Rattle.mc_proto.specs.{Lines.is_key, Lines.key_of_token}
 
 pub get_or_map : {A B : Type 0} (f : A → B) (xs : List A) (i : ℕ) (d : A) → get_or (map f xs) i (f d) ≡ f (get_or xs i d)
 get_or_map f [] i d = refl
@@ -46,19 +44,17 @@ keys_end f xs i d l is at =
     let t = tested f xs i d l at in
     sym (rw off at t)
 
-pub taken_more : {A : Type 0} (f : A → List ℕ) (xs : List A) (i : ℕ) (d : A) → i < length xs → take (i + 1) (map f xs) ≡ take i (map f xs) ++ f (get_or xs i d) ∷ []
-taken_more f xs i d l = take_more (map f xs) i (f d) (omega (arith, length-map xs f)) ∙ ap (λ (k : List ℕ). take i (map f xs) ++ k ∷ []) (get_or_map f xs i d)
-
--- what a line of get, or of gets, says by the tokens behind its verb
-abbrev pub get_says : Limits → Bool → List (List ℕ) → Said
-get_says limits with_cas args = row_says limits [] Keys (λ keys. Whole (Get keys with_cas)) args
-
--- tokens of which one can't be a key are refused
-pub refused_keys : (limits : Limits) (with_cas : Bool) (ks : List (List ℕ)) → 0 < length ks → list_all is_key ks ≡ false → bad faults.Format false ≡ get_says limits with_cas ks
-refused_keys limits with_cas [] l h = absurd (omega arith)
-refused_keys limits with_cas (k ∷ ks) l h = rw h refl
-
 -- the same where the key of a token was asked for and is none
 pub keys_stop : {A : Type 0} (f : A → List ℕ) (xs : List A) (i : ℕ) (d : A) (key : Option (List ℕ)) → key ≡ key_of_token (f (get_or xs i d)) → key ≡ None
     → i < length xs → list_all is_key (drop i (map f xs)) ≡ list_all is_key (map f xs) → list_all is_key (map f xs) ≡ false
 keys_stop f xs i d key is none l at = keys_end f xs i d l (key_none (f (get_or xs i d)) (sym none ∙ is)) at
+
+pub taken_more : {A : Type 0} (f : A → List ℕ) (xs : List A) (i : ℕ) (d : A) → i < length xs → take (i + 1) (map f xs) ≡ take i (map f xs) ++ f (get_or xs i d) ∷ []
+taken_more f xs i d l = take_more (map f xs) i (f d) (omega (arith, length-map xs f)) ∙ ap (λ (k : List ℕ). take i (map f xs) ++ k ∷ []) (get_or_map f xs i d)
+
+-- the keys that tokens are, or none if one of them can't be a key
+abbrev pub keys_of : List (List ℕ) → Option (List (List ℕ))
+keys_of ks = if list_all is_key ks then Some ks else None
+
+pub no_keys : (ks : List (List ℕ)) → list_all is_key ks ≡ false → None ≡ keys_of ks
+no_keys ks off = rw off refl

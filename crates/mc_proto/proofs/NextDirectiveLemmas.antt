@@ -95,10 +95,14 @@ table_other : (limits : Limits) → HoldsOfRows (λ s. says_next s ≡ false) La
 table_other limits =
     and (inl (λ keys. refl))
     (and (inl (λ keys. refl))
+    (and (inl (λ e keys. refl))
+    (and (inl (λ e keys. refl))
     (and (inl (λ key flags e n quiet. begun_other _ (nat_lt limits.largest (64 + length key + n))))
     (and (inl (λ key flags e n quiet. begun_other _ (nat_lt limits.largest (64 + length key + n))))
     (and (inl (λ key flags e n quiet. begun_other _ (nat_lt limits.largest (64 + length key + n))))
     (and (inl (λ key flags e n unique quiet. begun_other _ (nat_lt limits.largest (64 + length key + n))))
+    (and (inl (λ key flags e n quiet. begun_other _ (nat_lt limits.largest (64 + length key + n))))
+    (and (inl (λ key flags e n quiet. begun_other _ (nat_lt limits.largest (64 + length key + n))))
     (and (inl (λ key delta quiet. refl))
     (and (inl (λ key delta quiet. refl))
     (and (inl (λ key e quiet. refl))
@@ -106,9 +110,10 @@ table_other limits =
     (and (inl (λ moment. refl))
     (and (inl (λ target. refl))
     (and (inl (λ target. refl))
+    (and (inl (λ class n. refl))
     (and (inr no_next)
     (and (inl refl)
-    tt))))))))))))))
+    tt)))))))))))))))))))
 
 line_other : (limits : Limits) (line : List ℕ) → LacksNext line → says_next (says limits line) ≡ false
 line_other limits =

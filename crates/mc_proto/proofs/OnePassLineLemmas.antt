@@ -1,14 +1,14 @@
 -- Lines of a verb, one space, and tokens.
-use Rattle.std.proofs.Common.{◌≡◌, ◌∷◌, [], ◌≤◌, ◌∙◌, ℕ, ℤ, List, true, false, ap, refl, codes}
+use Rattle.std.proofs.Common.{◌≡◌, ◌==◌, ◌∷◌, [], ◌≤◌, ◌∙◌, ℕ, ℤ, List, true, false, ap, refl, sym, codes, length, eqb-true}
 use Rattle.std.specs.Prelude.{Bool, Some, MatchOption, nat_le, if◌then◌else◌}
 use Rattle.std.proofs.lemmas.Bool.{le-leb}
 use Rattle.mc_item.specs.declared.command.Command.TheVariants as commands
-use Rattle.mc_item.specs.declared.{command.Verb.Verb, command.Verb.TheVariants.Set, command.Verb.TheVariants.Add, command.Verb.TheVariants.Replace}
-use Rattle.mc_item.specs.declared.{command.Verb.TheVariants.Cas}
+use Rattle.mc_item.specs.declared.{command.Verb.Verb}
+use Rattle.mc_item.specs.declared.command.Verb.TheVariants.{Set, Add, Replace, Cas, Append, Prepend}
 use Rattle.mc_proto.specs.Kinds as kinds
-use Rattle.mc_proto.specs.{Lines.tokens, Lines.number, Lines.number_up_to, Lines.up_to, Lines.exptime, Lines.key_of_token, Words.store_word}
+use Rattle.mc_proto.specs.{Lines.tokens, Lines.number, Lines.number_up_to, Lines.up_to, Lines.exptime, Lines.is_key, Lines.key_of_token, Words.store_word}
 use Rattle.mc_proto.specs.Table.{tokens_say, row_says, Noreply, store, begun, count, one}
-use Rattle.mc_proto.specs.declared.request.Limits.{Limits}
+use Rattle.mc_proto.specs.declared.{request.Limits.Limits, request.Request.TheVariants.Gat, state.Said.TheVariants.Whole}
 
 within : (limit n : ℕ) → n ≤ limit → up_to limit (Some n) ≡ Some n
 within limit n le = let least : nat_le n limit ≡ true = le-leb n limit le in rw least refl
@@ -41,6 +41,10 @@ store_line_says limits Add line rest key k f e n flags count x quiet is behind a
     behind_verb limits (codes "add") line rest (k ∷ f ∷ e ∷ n ∷ quiet_tokens quiet) is behind ∙ stored_row limits Add key k f e n flags count x quiet a b c d
 store_line_says limits Replace line rest key k f e n flags count x quiet is behind a b c d =
     behind_verb limits (codes "replace") line rest (k ∷ f ∷ e ∷ n ∷ quiet_tokens quiet) is behind ∙ stored_row limits Replace key k f e n flags count x quiet a b c d
+store_line_says limits Append line rest key k f e n flags count x quiet is behind a b c d =
+    behind_verb limits (codes "append") line rest (k ∷ f ∷ e ∷ n ∷ quiet_tokens quiet) is behind ∙ stored_row limits Append key k f e n flags count x quiet a b c d
+store_line_says limits Prepend line rest key k f e n flags count x quiet is behind a b c d =
+    behind_verb limits (codes "prepend") line rest (k ∷ f ∷ e ∷ n ∷ quiet_tokens quiet) is behind ∙ stored_row limits Prepend key k f e n flags count x quiet a b c d
 store_line_says limits (Cas unique) line rest key k f e n flags count x quiet is behind a b c d = absurd is
 
 -- the verb of a line that counts
@@ -53,6 +57,20 @@ counted_row true limits key k d delta false a b = rw (a, b) refl
 counted_row true limits key k d delta true a b = rw (a, b) refl
 counted_row false limits key k d delta false a b = rw (a, b) refl
 counted_row false limits key k d delta true a b = rw (a, b) refl
+
+-- a line of no bytes is empty
+pub none_left : (line : List ℕ) → true ≡ (length line == 0) → line ≡ []
+none_left [] is = refl
+none_left (x ∷ line) is = let none = eqb-true (length (x ∷ line)) 0 (sym is) in absurd (cc none)
+
+-- the verb of a gat, with or without cas numbers
+abbrev pub gat_verb : Bool → List ℕ
+gat_verb with_cas = if with_cas then codes "gats" else codes "gat"
+
+pub gat_row : (with_cas : Bool) (limits : Limits) (key k e : List ℕ) (x : ℤ) → is_key k ≡ true → key ≡ k → exptime e ≡ Some x
+    → tokens_say limits (gat_verb with_cas ∷ e ∷ k ∷ []) ≡ Whole (Gat x (key ∷ []) with_cas)
+gat_row true limits key k e x a is b = rw (b, a, is) refl
+gat_row false limits key k e x a is b = rw (b, a, is) refl
 
 pub touched_row : (limits : Limits) (key k e : List ℕ) (x : ℤ) (quiet : Bool) → key_of_token k ≡ Some key → exptime e ≡ Some x
     → tokens_say limits (codes "touch" ∷ k ∷ e ∷ quiet_tokens quiet) ≡ one quiet (commands.Touch key x)

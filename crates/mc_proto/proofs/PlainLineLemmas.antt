@@ -1,8 +1,8 @@
--- Behind a line that begins as delete, get, incr or touch do, a script goes on at once.
+-- Behind a line that begins as delete, get, gat, incr or touch do, a script goes on at once.
 use Rattle.std.proofs.Common.{◌≡◌, ◌++◌, ◌∷◌, [], ◌+◌, ◌<◌, ◌≤◌, ℕ, List, length, refl, take, get_or, Bool, false, subst, inl, inr, zero, suc, arith}
 use Rattle.std.specs.Prelude.{nat_eq}
 use Rattle.mc_proto.specs.{Kinds.Kind, Kinds.fault_of_kind, Kinds.Delta, Kinds.NewExptime, Kinds.Key, Kinds.Flags, Kinds.Exptime, Kinds.Bytes, Kinds.CasNumber}
-use Rattle.mc_proto.specs.{Kinds.Moment, Kinds.Classes, Lines.AreSpaces, Lines.Lacks, Lines.is_word, Table.bad, Table.table, Table.says, Grammar.Spells}
+use Rattle.mc_proto.specs.{Kinds.Moment, Kinds.Classes, Kinds.OneClass, Kinds.ChunkLimit, Lines.AreSpaces, Lines.Lacks, Lines.is_word, Table.bad, Table.table, Table.says, Grammar.Spells}
 use Rattle.mc_proto.specs.{Grammar.closes, Grammar.wanted, Grammar.request_asked, Scripts.GoesOn, Scripts.IsOther, Scripts.IsPlain}
 use Rattle.mc_proto.specs.declared.{request.Limits.Limits, request.Request.Request, state.Said.Said}
 use Rattle.mc_proto.specs.declared.state.Said.TheVariants as said
@@ -23,6 +23,8 @@ bad_on Bytes quiet = (refl, refl)
 bad_on CasNumber quiet = (refl, refl)
 bad_on Moment quiet = (refl, refl)
 bad_on Classes quiet = (refl, refl)
+bad_on OneClass quiet = (refl, refl)
+bad_on ChunkLimit quiet = (refl, refl)
 
 -- a plain byte is another than the first one of a word
 other_byte : (b c : ℕ) → IsPlain b → nat_eq 100 c ≡ false → nat_eq 103 c ≡ false → nat_eq 105 c ≡ false → nat_eq 116 c ≡ false → nat_eq b c ≡ false
@@ -42,6 +44,10 @@ table_on : (limits : Limits) → HoldsOfRows GoesOn Begins (table limits)
 table_on limits =
     and (inl (λ keys. (refl, refl)))
     (and (inl (λ keys. (refl, refl)))
+    (and (inl (λ e keys. (refl, refl)))
+    (and (inl (λ e keys. (refl, refl)))
+    (and (inr (λ verb. other_word _ _ verb refl refl refl refl))
+    (and (inr (λ verb. other_word _ _ verb refl refl refl refl))
     (and (inr (λ verb. other_word _ _ verb refl refl refl refl))
     (and (inr (λ verb. other_word _ _ verb refl refl refl refl))
     (and (inr (λ verb. other_word _ _ verb refl refl refl refl))
@@ -53,9 +59,10 @@ table_on limits =
     (and (inl (λ moment. (refl, refl)))
     (and (inl (λ target. (refl, refl)))
     (and (inl (λ target. (refl, refl)))
+    (and (inl (λ class n. (refl, refl)))
     (and (inr (λ verb. other_word _ _ verb refl refl refl refl))
     (and (inl (refl, refl))
-    tt))))))))))))))
+    tt)))))))))))))))))))
 
 no_space : (b : ℕ) → IsPlain b → b ≡ 32 → ⊥
 no_space b (inl is) e = absurd (omega (arith, is, e))

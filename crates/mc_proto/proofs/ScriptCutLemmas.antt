@@ -13,7 +13,7 @@ use Rattle.mc_proto.specs.Scripts.{IsOther, IsWhole, IsLast, IsCutAtNext, AreScr
 use Rattle.mc_proto.specs.declared.{request.Limits.Limits, request.LineFault.TheVariants.LineTooLong, request.LineFault.TheVariants.Chunk}
 use Rattle.mc_proto.specs.declared.{request.Request.Request, state.Said.Said, state.Start.Start, state.State.TheVariants.Line}
 use Rattle.mc_proto.specs.declared.{state.State.TheVariants.Closed}
-use Rattle.mc_proto.specs.declared.request.Request.TheVariants.{Get, One, Bad, At, Next, Juggle, Crawl, Quit}
+use Rattle.mc_proto.specs.declared.request.Request.TheVariants.{Get, Gat, One, Bad, At, Next, Juggle, Crawl, Chunks, Quit}
 use Rattle.mc_proto.specs.declared.state.Said.TheVariants as said
 use Rattle.mc_proto.proofs.{KeptRestLemmas.after_reads, KeptRestLemmas.in_line, KeptRestLemmas.in_block, SpellingLemmas.begins_no_other, StreamLemmas.reading_on}
 use Rattle.mc_proto.proofs.TakingLemmas.{parts, spelt_on, spelt_push, closed_push, stored_open, too_long}
@@ -74,11 +74,13 @@ spelt_first limits bytes end n l lf lack short is whole =
 next_is : (r : Request) → is_next r ≡ true → r ≡ Next
 next_is Next is = refl
 next_is (Get keys with_cas) is = cc
+next_is (Gat exptime keys with_cas) is = cc
 next_is (One command quiet) is = cc
 next_is (Bad why quiet) is = cc
 next_is (At moment) is = cc
 next_is (Juggle target) is = cc
 next_is (Crawl target) is = cc
+next_is (Chunks class n) is = cc
 next_is Quit is = cc
 
 pub other_is : (r : Request) → is_next r ≡ false → IsOther r

@@ -3,11 +3,12 @@
 use Rattle.std.specs.Prelude.{ℕ, ◌+◌, ◌^◌, ◌<◌, ◌≤◌, ◌≡◌, ◌⊎◌, List, [], ◌∷◌, ◌++◌, Bool, true, false, if◌then◌else◌, length, take, drop, nat_eq}
 use Rattle.std.specs.Cmp.Lexicographic.{pointwise}
 use Rattle.mc_item.specs.declared.command.Command.TheVariants as commands
+use Rattle.mc_item.specs.declared.item.ClassNo.{ClassNo}
 use Rattle.mc_proto.specs.{Lines.Lacks, Table.says}
 use Rattle.mc_proto.specs.declared.{request.Limits.Limits, request.LineFault.LineFault, request.Request.Request, request.Target.Target}
 use Rattle.mc_proto.specs.declared.{request.Target.TheVariants.All, request.Target.TheVariants.Class, state.Said.Said, state.Start.Start}
 use Rattle.mc_proto.specs.declared.request.LineFault.TheVariants.{Error, Format, Chunk, Delta, LineTooLong, Exptime}
-use Rattle.mc_proto.specs.declared.request.Request.TheVariants.{Get, One, Bad, At, Next, Juggle, Crawl, Quit}
+use Rattle.mc_proto.specs.declared.request.Request.TheVariants.{Get, Gat, One, Bad, At, Next, Juggle, Crawl, Chunks, Quit}
 use Rattle.mc_proto.specs.declared.state.Said.TheVariants.{Whole, Block, Skip}
 
 -- how many bytes follow a line that says this: none, or its block and CR LF
@@ -70,11 +71,13 @@ closing Exptime = false
 abbrev pub closes : Request → Bool
 closes (Bad why quiet) = closing why
 closes (Get keys with_cas) = false
+closes (Gat exptime keys with_cas) = false
 closes (One command quiet) = false
 closes (At moment) = false
 closes Next = false
 closes (Juggle target) = false
 closes (Crawl target) = false
+closes (Chunks class n) = false
 closes Quit = false
 
 -- whether one of these requests closes the reader
@@ -98,17 +101,23 @@ pub record Reads (limits : Limits) (stream : List ℕ) (requests : List Request)
   pub spelt : Spelt limits stream requests rest
   pub all : closed requests ≡ false → BeginsNone limits rest
 
+-- a slab class exists: its number is from 1 to the number of classes
+abbrev pub IsAmong : Limits → ClassNo → Type 0
+IsAmong limits class = (1 ≤ class.0) × (class.0 ≤ limits.classes)
+
 -- the slab classes that a directive names exist: all, or one from 1 to the number of classes
 abbrev pub AreAmong : Limits → Target → Type 0
 AreAmong limits All = Unit {0}
-AreAmong limits (Class class) = (1 ≤ class.0) × (class.0 ≤ limits.classes)
+AreAmong limits (Class class) = IsAmong limits class
 
--- a request sets no time above 2^62, and names only slab classes that exist
+-- a request sets no time above 2^62 and no limit of chunks but 1 to 2^20, and names only slab classes that exist
 abbrev pub IsModerate : Limits → Request → Type 0
 IsModerate limits (At moment) = moment ≤ 2 ^ 62
 IsModerate limits (Juggle target) = AreAmong limits target
 IsModerate limits (Crawl target) = AreAmong limits target
+IsModerate limits (Chunks class n) = IsAmong limits class × (1 ≤ n) × (n ≤ 2 ^ 20)
 IsModerate limits (Get keys with_cas) = Unit {0}
+IsModerate limits (Gat exptime keys with_cas) = Unit {0}
 IsModerate limits (One command quiet) = Unit {0}
 IsModerate limits (Bad why quiet) = Unit {0}
 IsModerate limits Next = Unit {0}

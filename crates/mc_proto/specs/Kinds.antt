@@ -1,7 +1,8 @@
 -- The kinds of tokens: what a token of each kind stands for, and which fault a malformed one makes (protocol.txt, "Commands"; the
 -- limits are this project's own).
 use Rattle.std.specs.Prelude.{ℕ, ◌-◌, ◌^◌, List, Option, ℤ}
-use Rattle.mc_proto.specs.Lines.{key_of_token, number_up_to, exptime, target_of}
+use Rattle.mc_item.specs.declared.item.ClassNo.{ClassNo}
+use Rattle.mc_proto.specs.Lines.{class_of_token, key_of_token, number_from_one, number_up_to, exptime, target_of}
 use Rattle.mc_proto.specs.declared.{request.Limits.Limits, request.LineFault.LineFault, request.Target.Target}
 use Rattle.mc_proto.specs.declared.request.LineFault.TheVariants as faults
 
@@ -16,13 +17,16 @@ pub data Kind : Type 0 where
   NewExptime : Kind
   Moment : Kind
   Classes : Kind
+  OneClass : Kind
+  ChunkLimit : Kind
 
--- the type of what a token of this kind stands for: a key, a signed number, slab classes, or else a number
+-- the type of what a token of this kind stands for: a key, a signed number, slab classes, one slab class, or else a number
 abbrev pub Value : Kind → Type 0
 Value Key = List ℕ
 Value Exptime = ℤ
 Value NewExptime = ℤ
 Value Classes = Target
+Value OneClass = ClassNo
 Value _ = ℕ
 
 -- the value of a token, if it is of this kind (the limits are own)
@@ -36,6 +40,8 @@ value limits Delta token = number_up_to (2 ^ 64 - 1) token
 value limits NewExptime token = exptime token
 value limits Moment token = number_up_to (2 ^ 62) token
 value limits Classes token = target_of limits token
+value limits OneClass token = class_of_token limits token
+value limits ChunkLimit token = number_from_one (2 ^ 20) token
 
 -- the fault of a line in which a token of this kind is malformed
 abbrev pub fault_of_kind : Kind → LineFault

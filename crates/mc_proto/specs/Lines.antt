@@ -4,6 +4,7 @@ use Rattle.std.specs.Prelude.{ℕ, ◌-◌, ◌<◌, ◌≡◌, ◌==◌, ◌&&�
 use Rattle.std.specs.Prelude.{nat_lt, nat_le, nat_eq, is_none, codes, ℤ, pos, neg_ℤ}
 use Rattle.std.specs.{Cmp.Lexicographic.pointwise, List.list_all, Option.option_map}
 use Rattle.mc_item.specs.{Key.key_fault_of, Measure.is_digit, Measure.number_of}
+use Rattle.mc_item.specs.declared.item.ClassNo.{ClassNo}
 use Rattle.mc_proto.specs.declared.{request.Limits.Limits, request.Target.Target, request.Target.TheVariants.All, request.Target.TheVariants.Class}
 
 -- none of the bytes is b
@@ -92,6 +93,19 @@ number_up_to limit token = up_to limit (number 20 token)
 abbrev pub exptime : List ℕ → Option ℤ
 exptime [] = None
 exptime (b ∷ bs) = if b == 45 then option_map (λ n. neg_ℤ (pos n)) (number 18 bs) else option_map pos (number 18 (b ∷ bs))
+
+-- a number, if it isn't 0
+abbrev pub from_one : Option ℕ → Option ℕ
+from_one None = None
+from_one (Some n) = if n == 0 then None else Some n
+
+-- the number of a token of 1 to 20 digits, if it is from 1 to the limit (own)
+abbrev pub number_from_one : ℕ → List ℕ → Option ℕ
+number_from_one limit token = from_one (number_up_to limit token)
+
+-- the slab class that a token names by its number (own)
+abbrev pub class_of_token : Limits → List ℕ → Option ClassNo
+class_of_token limits token = option_map (λ n. record { 0 = n }) (number_from_one limits.classes token)
 
 -- the slab class of this number, none for 0 or without a number
 abbrev pub class_target : Option ℕ → Option Target

@@ -3,7 +3,7 @@ use Rattle.std.specs.Prelude.{◌≡◌, ◌<◌, ◌≤◌, ◌⊎◌, List, []
 use Rattle.mc_proto.specs.{Lines.Lacks, Grammar.Spells, Grammar.Spelt, Grammar.Reads, Grammar.closes, Grammar.closed}
 use Rattle.mc_proto.specs.declared.{request.Limits.Limits, request.Request.Request, splitting.First.First, splitting.First.TheVariants.More}
 use Rattle.mc_proto.specs.declared.{splitting.First.TheVariants.Begins, splitting.First.TheVariants.Last, state.Said.Said}
-use Rattle.mc_proto.specs.declared.request.Request.TheVariants.{Get, One, Bad, At, Next, Juggle, Crawl, Quit}
+use Rattle.mc_proto.specs.declared.request.Request.TheVariants.{Get, Gat, One, Bad, At, Next, Juggle, Crawl, Chunks, Quit}
 use Rattle.mc_proto.specs.declared.state.Said.TheVariants as said
 
 -- a request other than `%next`
@@ -79,11 +79,13 @@ LineAsks limits bytes (Some f) = (more : List ℕ) → AsksFirst limits (bytes +
 abbrev pub is_next : Request → Bool
 is_next Next = true
 is_next (Get keys with_cas) = false
+is_next (Gat exptime keys with_cas) = false
 is_next (One command quiet) = false
 is_next (Bad why quiet) = false
 is_next (At moment) = false
 is_next (Juggle target) = false
 is_next (Crawl target) = false
+is_next (Chunks class n) = false
 is_next Quit = false
 
 -- a script goes on right after a line that says this: a whole request that neither begins the next script nor closes the reader

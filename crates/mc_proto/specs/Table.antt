@@ -4,13 +4,13 @@ use Rattle.std.specs.Prelude.{ℕ, ◌+◌, List, [], ◌∷◌, Bool, true, fal
 use Rattle.std.specs.{List.list_all, Option.option_map, Option.unwrap_or}
 use Rattle.mc_item.specs.declared.{command.Command.Command, command.Verb.Verb}
 use Rattle.mc_item.specs.declared.command.Command.TheVariants.{Incr, Decr, Touch, Delete}
-use Rattle.mc_item.specs.declared.command.Verb.TheVariants.{Set, Add, Replace, Cas}
+use Rattle.mc_item.specs.declared.command.Verb.TheVariants.{Set, Add, Replace, Cas, Append, Prepend}
 use Rattle.mc_proto.specs.Kinds.{Kind, Value, value, fault_of_kind}
-use Rattle.mc_proto.specs.Kinds.{Key, Flags, Exptime, Bytes, CasNumber, Delta, NewExptime, Moment, Classes}
+use Rattle.mc_proto.specs.Kinds.{Key, Flags, Exptime, Bytes, CasNumber, Delta, NewExptime, Moment, Classes, OneClass, ChunkLimit}
 use Rattle.mc_proto.specs.Lines.{is_key, is_word, tokens, no_cr}
 use Rattle.mc_proto.specs.declared.{request.Limits.Limits, request.LineFault.LineFault, request.LineFault.TheVariants.Error}
 use Rattle.mc_proto.specs.declared.{request.LineFault.TheVariants.Format, state.Said.Said, state.Start.Start}
-use Rattle.mc_proto.specs.declared.request.Request.TheVariants.{Get, One, Bad, At, Next, Juggle, Crawl, Quit}
+use Rattle.mc_proto.specs.declared.request.Request.TheVariants.{Get, Gat, One, Bad, At, Next, Juggle, Crawl, Chunks, Quit}
 use Rattle.mc_proto.specs.declared.state.Said.TheVariants.{Whole, Block, Skip}
 
 -- what may follow the tokens that are due: nothing, perhaps the word noreply, or one or more keys
@@ -60,10 +60,14 @@ abbrev pub table : Limits → List LineRow
 table limits =
     Line (codes "get") [] Keys (λ keys. Whole (Get keys false))
     ∷ Line (codes "gets") [] Keys (λ keys. Whole (Get keys true))
+    ∷ Line (codes "gat") (NewExptime ∷ []) Keys (λ e keys. Whole (Gat e keys false))
+    ∷ Line (codes "gats") (NewExptime ∷ []) Keys (λ e keys. Whole (Gat e keys true))
     ∷ Line (codes "set") (Key ∷ Flags ∷ Exptime ∷ Bytes ∷ []) Noreply (store limits Set)
     ∷ Line (codes "add") (Key ∷ Flags ∷ Exptime ∷ Bytes ∷ []) Noreply (store limits Add)
     ∷ Line (codes "replace") (Key ∷ Flags ∷ Exptime ∷ Bytes ∷ []) Noreply (store limits Replace)
     ∷ Line (codes "cas") (Key ∷ Flags ∷ Exptime ∷ Bytes ∷ CasNumber ∷ []) Noreply (λ key flags e n unique. store limits (Cas unique) key flags e n)
+    ∷ Line (codes "append") (Key ∷ Flags ∷ Exptime ∷ Bytes ∷ []) Noreply (store limits Append)
+    ∷ Line (codes "prepend") (Key ∷ Flags ∷ Exptime ∷ Bytes ∷ []) Noreply (store limits Prepend)
     ∷ Line (codes "incr") (Key ∷ Delta ∷ []) Noreply (count true)
     ∷ Line (codes "decr") (Key ∷ Delta ∷ []) Noreply (count false)
     ∷ Line (codes "touch") (Key ∷ NewExptime ∷ []) Noreply (λ key e quiet. one quiet (Touch key e))
@@ -71,6 +75,7 @@ table limits =
     ∷ Line (codes "%at") (Moment ∷ []) Nothing (λ moment. Whole (At moment))
     ∷ Line (codes "%juggle") (Classes ∷ []) Nothing (λ target. Whole (Juggle target))
     ∷ Line (codes "%crawl") (Classes ∷ []) Nothing (λ target. Whole (Crawl target))
+    ∷ Line (codes "%chunks") (OneClass ∷ ChunkLimit ∷ []) Nothing (λ class n. Whole (Chunks class n))
     ∷ Line (codes "%next") [] Nothing (Whole Next)
     ∷ Line (codes "quit") [] Nothing (Whole Quit)
     ∷ []

@@ -1,6 +1,6 @@
 -- The texts of replies (protocol.txt; the texts of directives and of two faults are this project's own). Each line ends in CR LF.
 use Rattle.std.specs.Prelude.{ℕ, ◌+◌, ◌==◌, ◌≡◌, List, [], ◌∷◌, ◌++◌, Bool, if◌then◌else◌, length, codes, decimal}
-use Rattle.mc_item.specs.declared.{counts.Histogram.Histogram, counts.Moves.Moves, reply.Reply.Reply}
+use Rattle.mc_item.specs.declared.{counts.Histogram.Histogram, counts.Moves.Moves, item.ClassNo.ClassNo, reply.Reply.Reply}
 use Rattle.mc_item.specs.declared.reply.Reply.TheVariants as replies
 use Rattle.mc_proto.specs.declared.request.LineFault.{LineFault}
 use Rattle.mc_proto.specs.declared.request.LineFault.TheVariants as faults
@@ -71,6 +71,10 @@ one_text (reply ∷ rs) = reply_text reply
 -- the text of `%juggle`: how many entries were reclaimed, and how many moved (own)
 abbrev pub moves_text : Moves → List ℕ
 moves_text moves = codes "JUGGLED " ++ decimal moves.reclaimed ++ codes " " ++ decimal moves.moved ++ crlf
+
+-- the text of `%chunks`: the slab class, and its new limit of chunks (own)
+abbrev pub chunks_text : ClassNo → ℕ → List ℕ
+chunks_text class n = codes "CHUNKS " ++ decimal class.0 ++ codes " " ++ decimal n ++ crlf
 
 -- the line of a minute: how many entries have that many minutes left to live; nothing if that is 0
 abbrev pub minute_text : ℕ → ℕ → List ℕ

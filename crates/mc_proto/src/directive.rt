@@ -1,4 +1,4 @@
-//! Reads the lines of the directives and of quit. Their verbs take one token or none, and never noreply.
+//! Reads the lines of the directives and of quit. Their verbs take two tokens at most, and never noreply.
 ghost use Rattle.std.specs.Prelude.{◌≡◌, ◌∷◌, [], ◌<◌, ◌≤◌, ◌^◌, IfSome, map, false};
 ghost use Rattle.mc_proto.specs.{Grammar.IsFine, Grammar.IsModerate, Grammar.closes, Table.row_says, Table.Nothing};
 ghost use Rattle.mc_proto.specs.Kinds as kinds;
@@ -30,6 +30,9 @@ pub fn at_line(args: &[&[u8]]) -> Said
         None => no_format(false),
     }
 }
+
+/// The highest limit of chunks that `%chunks` can set: 2^20.
+const MAX_CHUNKS: u64 = 1_048_576;
 
 // The slab class of this number; `None` for 0 or without a number.
 fn class_target(number: Option<u64>) -> Option<Target>
@@ -85,6 +88,33 @@ pub fn crawl_line(limits: Limits, args: &[&[u8]]) -> Said
         Some(target) => Said::Whole(Request::Crawl(target)),
         None => no_format(false),
     }
+}
+
+// The number of a token, if it is from 1 to `limit`.
+fn number_from_one(limit: u64, token: &[u8]) -> Option<u64>
+    ensures value { result ≡ lines.number_from_one limit token.now }
+    ensures bound { IfSome result (λ n. (1 ≤ n) × (n ≤ limit)) }
+{
+    let number = number_up_to(limit, token)?;
+    if number == 0 { None } else { Some(number) }
+}
+
+/// Reads the tokens after `%chunks`: the number of a slab class, and its new limit of chunks, from 1 to 2^20.
+pub fn chunks_line(limits: Limits, args: &[&[u8]]) -> Said
+    ensures value { result ≡ row_says limits (kinds.OneClass ∷ kinds.ChunkLimit ∷ []) Nothing (λ class n. said.Whole (requests.Chunks class n))
+        (map (λ t. t.now) args.now) }
+    ensures fine { IsFine limits result }
+{
+    let [class, chunks] = args else {
+        return no_line();
+    };
+    let Some(class) = number_from_one(u64::from(limits.classes), *class) else {
+        return no_format(false);
+    };
+    let Some(chunks) = number_from_one(MAX_CHUNKS, *chunks) else {
+        return no_format(false);
+    };
+    Said::Whole(Request::Chunks(ClassNo(class as u32), chunks))
 }
 
 /// Reads a line `%next` or `quit`, which takes no tokens: returns `request`, or the fault `Error` if tokens follow the verb.

@@ -7,7 +7,7 @@ ghost use Rattle.mc_proto.specs.Text as texts;
 
 use crate::request::LineFault;
 use crate::text;
-use mc_item::{Histogram, Moves, NoMemory, Reply, Value};
+use mc_item::{ClassNo, Histogram, Moves, NoMemory, Reply, Value};
 use std::alloc::Global;
 use std::marker::Model;
 use std::mem;
@@ -217,6 +217,14 @@ impl ReplyText {
         ensures err { OnErr result (self.new.items ≡ self.old.items) }
     {
         text::push_histogram(&mut self.last, h)
+    }
+
+    /// Appends the text of `%chunks`. After `NoMemory` nothing is added.
+    pub fn push_chunks(&mut self, class: ClassNo, chunks: u64) -> Result<(), NoMemory>
+        ensures ok { OnOk result (self.new.items ≡ self.old.items ++ texts.chunks_text class chunks) }
+        ensures err { OnErr result (self.new.items ≡ self.old.items) }
+    {
+        text::push_chunks(&mut self.last, class, chunks)
     }
 
     /// Appends the beginning of a value's text: `VALUE` and the key. After `NoMemory` nothing is added.

@@ -2,6 +2,7 @@
 //! of replies. Nothing here runs a command.
 #![tactic(auto)]
 
+mod appending;
 mod brief;
 mod command;
 mod directive;
@@ -36,6 +37,7 @@ pub use reader::Reader;
 pub use request::{Keys, Limits, LineFault, Request, Rest, Target};
 pub use sink::{Sink, SinkFault, write_reply, write_whole};
 pub use text::{
-    fault_text, histogram_text, moves_text, push_end, push_fault, push_histogram, push_moves,
-    push_reply, push_value_head, push_value_tail, reply_text, value_text,
+    chunks_text, fault_text, histogram_text, moves_text, push_chunks, push_end, push_fault,
+    push_histogram, push_moves, push_reply, push_value_head, push_value_tail, reply_text,
+    value_text,
 };

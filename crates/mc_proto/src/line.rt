@@ -3,7 +3,7 @@ ghost use Rattle.std.specs.Prelude.{◌≡◌, IfOk};
 ghost use Rattle.mc_proto.specs.{Grammar.IsFine, Lines.tokens, Table.tokens_say};
 ghost use Rattle.mc_proto.specs.Table as table;
 
-use crate::brief::{quick_count, quick_delete, quick_touch};
+use crate::brief::{quick_count, quick_delete, quick_gat, quick_touch};
 use crate::quick::quick_store;
 use crate::request::Limits;
 use crate::state::Said;
@@ -19,6 +19,9 @@ fn other_said(alloc: Global, limits: Limits, line: &[u8]) -> Result<Said, NoMemo
     ensures value { IfOk result (λ s. s ≡ tokens_say limits (tokens line.now)) }
     ensures fine { IfOk result (λ s. IsFine limits s) }
 {
+    if let Some(said) = quick_gat(alloc, limits, line)? {
+        return Ok(said);
+    }
     if let Some(said) = quick_touch(alloc, limits, line)? {
         return Ok(said);
     }

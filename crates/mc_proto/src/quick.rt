@@ -1,5 +1,5 @@
-//! Reads the most frequent lines in one pass: get of one key, set, add and replace, if they begin with the verb and a space. For
-//! other lines the answer may be `None`; then other functions read them.
+//! Reads the most frequent lines in one pass: get of one key, set, add, replace, append and prepend, if they begin with the verb
+//! and a space. For other lines the answer may be `None`; then other functions read them.
 ghost use Rattle.std.specs.Prelude.{◌≡◌, ◌∷◌, ◌++◌, [], ◌<◌, ◌≤◌, ◌^◌, ◌↔◌, IfOk, IsTrue, IfSome, MatchOption, codes, if◌then◌else◌, pos, false};
 ghost use Rattle.mc_proto.specs.{Grammar.IsFine, Lines.tokens, Table.tokens_say, Words.store_word};
 ghost use Rattle.mc_proto.specs.Table as table;
@@ -40,7 +40,7 @@ pub fn lone_get(alloc: Global, line: &[u8]) -> Result<Option<Key>, NoMemory>
     }
 }
 
-// The verb and what follows it, if the line begins with `set`, `add` or `replace` and a space.
+// The verb and what follows it, if the line begins with `set`, `add`, `replace`, `append` or `prepend` and a space.
 #[inline(always)]
 fn after_store(line: &[u8]) -> Option<(Verb, &[u8])>
     ensures { IfSome result (λ x. MatchOption (store_word x.0) ⊥ (λ word. tokens line.now ≡ word ∷ tokens x.1.now)) }
@@ -49,6 +49,8 @@ fn after_store(line: &[u8]) -> Option<(Verb, &[u8])>
         [b's', b'e', b't', b' ', rest @ ..] => Some((Verb::Set, rest)),
         [b'a', b'd', b'd', b' ', rest @ ..] => Some((Verb::Add, rest)),
         [b'r', b'e', b'p', b'l', b'a', b'c', b'e', b' ', rest @ ..] => Some((Verb::Replace, rest)),
+        [b'a', b'p', b'p', b'e', b'n', b'd', b' ', rest @ ..] => Some((Verb::Append, rest)),
+        [b'p', b'r', b'e', b'p', b'e', b'n', b'd', b' ', rest @ ..] => Some((Verb::Prepend, rest)),
         _ => None,
     }
 }
@@ -109,7 +111,8 @@ fn begun_store(
     )
 }
 
-/// Reads a line `set`, `add` or `replace` of key, three numbers without sign and perhaps noreply. `None` says nothing about it.
+/// Reads a line `set`, `add`, `replace`, `append` or `prepend` of key, three numbers without sign and perhaps noreply. `None`
+/// says nothing about it.
 #[inline(always)]
 pub fn quick_store(alloc: Global, limits: Limits, line: &[u8]) -> Result<Option<Said>, NoMemory>
     ensures value { IfOk result (λ found. IfSome found (λ s. s ≡ tokens_say limits (tokens line.now))) }

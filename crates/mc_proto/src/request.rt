@@ -89,7 +89,7 @@ pub enum LineFault {
     Delta,
     /// 65,537 bytes of a line came without an LF. Nothing is read after them.
     LineTooLong,
-    /// The exptime of `touch` is malformed.
+    /// The exptime of `touch`, `gat` or `gats` is malformed.
     Exptime,
 }
 
@@ -97,11 +97,26 @@ pub enum LineFault {
 #[derive(Drop)]
 pub enum Request {
     /// `get`, or `gets` if `with_cas`: then the reply has cas numbers.
-    Get { keys: Keys, with_cas: bool },
+    Get {
+        keys: Keys,
+        with_cas: bool,
+    },
+    /// `gat`, or `gats` if `with_cas`: a get that also sets the exptime.
+    Gat {
+        exptime: i64,
+        keys: Keys,
+        with_cas: bool,
+    },
     /// Any other command.
-    One { command: Command, quiet: bool },
+    One {
+        command: Command,
+        quiet: bool,
+    },
     /// A refused line or block.
-    Bad { why: LineFault, quiet: bool },
+    Bad {
+        why: LineFault,
+        quiet: bool,
+    },
     /// `%at`: the time of all that follows, in seconds.
     At(u64),
     /// `%next`: the next script begins.
@@ -110,6 +125,8 @@ pub enum Request {
     Juggle(Target),
     /// `%crawl`: the crawler works on these classes.
     Crawl(Target),
+    /// `%chunks`: this class's limit becomes so many chunks.
+    Chunks(ClassNo, u64),
     /// `quit`: the script ends.
     Quit,
 }

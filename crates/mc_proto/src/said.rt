@@ -26,7 +26,7 @@ pub fn no_line() -> Said
     bad(LineFault::Error, false)
 }
 
-/// Returns what a line with a malformed token says, except for a delta and the exptime of `touch`.
+/// Returns what a line with a malformed token says, except for a delta and the exptime of `touch`, `gat` or `gats`.
 pub fn no_format(quiet: bool) -> Said
     ensures value { result ≡ table.bad faults.Format quiet }
     ensures fine { (limits : Limits) → IsFine limits result }

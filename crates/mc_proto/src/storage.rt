@@ -1,4 +1,4 @@
-//! Reads the storage lines: set, add, replace and cas.
+//! Reads the storage lines: set, add, replace, cas, append and prepend.
 ghost use Rattle.std.specs.Prelude.{◌≡◌, ◌∷◌, [], ◌+◌, ◌<◌, ◌≤◌, IfOk, IfSome, length, map};
 ghost use Rattle.mc_item.specs.declared.command.Verb.TheVariants as verbs;
 ghost use Rattle.mc_proto.specs.{Grammar.IsFine, Table.row_says, Table.kinds_say, Table.Noreply};
@@ -69,7 +69,7 @@ fn stored_said(
     )
 }
 
-/// Reads the tokens after `set`, `add` or `replace`: key, flags, exptime and bytes, and perhaps noreply.
+/// Reads the tokens after `set`, `add`, `replace`, `append` or `prepend`: key, flags, exptime and bytes, and perhaps noreply.
 pub fn store_line(
     alloc: Global,
     limits: Limits,
@@ -93,7 +93,7 @@ pub fn store_line(
 }
 
 // What a line `cas` with a good key says, by the tokens of its four numbers.
-#[tactic(auto, using(crate::proofs::CasLineLemmas::cas_without, crate::proofs::CasLineLemmas::cas_with))]
+#[tactic(auto, using(crate::proofs::CasLineLemmas::cas_without))]
 fn cas_said(
     limits: Limits,
     key: Key,

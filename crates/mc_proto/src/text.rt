@@ -1,40 +1,12 @@
 //! Writes the texts of replies, as `specs/Text.antt` defines them.
 ghost use Rattle.std.specs.Prelude.{◌≡◌, ◌++◌, ◌∷◌, [], ℕ, List, IfOk, OnOk, OnErr, length, take, codes, decimal, ◌<◌};
-ghost use Rattle.std.specs.List.{flat_map};
 ghost use Rattle.mc_proto.specs.Text as texts;
 
+use crate::appending::{make_room, push_parts, push_text};
 use crate::request::LineFault;
 use itoa::Buffer;
-use mc_item::{Histogram, Key, Moves, NoMemory, Reply};
+use mc_item::{ClassNo, Histogram, Key, Moves, NoMemory, Reply};
 use std::alloc::Global;
-
-// Appends all parts of a text, or nothing if memory is refused.
-fn push_parts(out: &mut Vec<u8>, parts: &[&[u8]]) -> Result<(), NoMemory>
-    ensures ok { OnOk result (out.new.items ≡ out.old.items ++ flat_map (λ part. part.now) parts.now) }
-    ensures err { OnErr result (out.new.items ≡ out.old.items) }
-{
-    let before = out.len();
-    for part in parts {
-        match out.extend_from_slice(*part) {
-            Ok(()) => {}
-            Err(_) => {
-                out.truncate(before);
-                return Err(NoMemory);
-            }
-        }
-    }
-    Ok(())
-}
-
-// Appends a text whole or not at all. Inlined, since a text of a known length is then a few stores.
-#[inline(always)]
-fn push_text(out: &mut Vec<u8>, text: &[u8]) -> Result<(), NoMemory>
-    ensures ok { OnOk result (out.new.items ≡ out.old.items ++ text.now) }
-    ensures err { OnErr result (out.new.items ≡ out.old.items) }
-{
-    out.extend_from_slice(text)?;
-    Ok(())
-}
 
 // Appends a number and CR LF.
 fn push_number(out: &mut Vec<u8>, number: u64) -> Result<(), NoMemory>
@@ -234,21 +206,6 @@ pub(crate) fn push_value_line(
 // text grows at most once, and isn't copied with the value in it.
 const AROUND: usize = 64;
 
-// Makes room for `n` more bytes. If the text has to move, only its bytes are copied, and not its unused room.
-#[inline(always)]
-fn make_room(out: &mut Vec<u8>, n: usize) -> Result<(), NoMemory>
-    ensures { out.new.items ≡ out.old.items }
-{
-    let len = out.len();
-    if out.capacity() - len >= n {
-        return Ok(());
-    }
-    let mut larger = Vec::with_capacity(*out.allocator(), len.saturating_add(n.max(len)))?;
-    larger.extend_from_slice(out.as_slice())?;
-    *out = larger;
-    Ok(())
-}
-
 /// Appends what follows the key in a value's text: flags, number of bytes, for `gets` the cas number, then the value in a line of
 /// its own. Other replies add nothing. After `NoMemory` nothing is added.
 #[inline(always)]
@@ -330,6 +287,36 @@ pub fn moves_text(alloc: Global, moves: &Moves) -> Result<Vec<u8>, NoMemory>
 {
     let mut out = Vec::new(alloc);
     push_moves(&mut out, moves)?;
+    Ok(out)
+}
+
+/// Appends the text of `%chunks`: the slab class, and its new limit of chunks. After `NoMemory` nothing is added.
+pub fn push_chunks(out: &mut Vec<u8>, class: ClassNo, chunks: u64) -> Result<(), NoMemory>
+    ensures ok { OnOk result (out.new.items ≡ out.old.items ++ texts.chunks_text class chunks) }
+    ensures err { OnErr result (out.new.items ≡ out.old.items) }
+{
+    let mut for_class = Buffer::new();
+    let mut for_chunks = Buffer::new();
+    let class = for_class.format(class.0).as_bytes();
+    let chunks = for_chunks.format(chunks).as_bytes();
+    push_parts(
+        out,
+        &[
+            b"CHUNKS ".as_slice(),
+            class,
+            b" ".as_slice(),
+            chunks,
+            b"\r\n".as_slice(),
+        ],
+    )
+}
+
+/// Returns the text of `%chunks`: the slab class, and its new limit of chunks. *Errors*: `NoMemory` if memory is refused.
+pub fn chunks_text(alloc: Global, class: ClassNo, chunks: u64) -> Result<Vec<u8>, NoMemory>
+    ensures { IfOk result (λ text. text.items ≡ texts.chunks_text class chunks) }
+{
+    let mut out = Vec::new(alloc);
+    push_chunks(&mut out, class, chunks)?;
     Ok(out)
 }
 

@@ -4,8 +4,8 @@ ghost use Rattle.mc_proto.specs.{Grammar.IsFine, Table.rows_say, Table.tokens_sa
 ghost use Rattle.mc_proto.specs.Table as table;
 
 use crate::command::{count_line, delete_line, touch_line};
-use crate::directive::{at_line, crawl_line, juggle_line, lone_line};
-use crate::get::get_line;
+use crate::directive::{at_line, chunks_line, crawl_line, juggle_line, lone_line};
+use crate::get::{gat_line, get_line};
 use crate::request::{Limits, Request};
 use crate::said::no_line;
 use crate::state::Said;
@@ -13,20 +13,12 @@ use crate::storage::{cas_line, store_line};
 use mc_item::{NoMemory, Verb};
 use std::alloc::Global;
 
-// What a line says by the table's rows from `%at` on: the directives and quit.
-#[cold]
-#[inline(never)]
-fn line_from_at(limits: Limits, verb: &[u8], args: &[&[u8]]) -> Said
-    ensures value { result ≡ rows_say limits (drop 10 (table.table limits)) verb.now (map (λ t. t.now) args.now) }
+// What a line says by the table's rows from `%next` on.
+fn line_from_next(limits: Limits, verb: &[u8], args: &[&[u8]]) -> Said
+    ensures value { result ≡ rows_say limits (drop 18 (table.table limits)) verb.now (map (λ t. t.now) args.now) }
     ensures fine { IsFine limits result }
 {
-    if verb == b"%at".as_slice() {
-        at_line(args)
-    } else if verb == b"%juggle".as_slice() {
-        juggle_line(limits, args)
-    } else if verb == b"%crawl".as_slice() {
-        crawl_line(limits, args)
-    } else if verb == b"%next".as_slice() {
+    if verb == b"%next".as_slice() {
         lone_line(Request::Next, args)
     } else if verb == b"quit".as_slice() {
         lone_line(Request::Quit, args)
@@ -35,17 +27,39 @@ fn line_from_at(limits: Limits, verb: &[u8], args: &[&[u8]]) -> Said
     }
 }
 
-// What a line says by the table's rows from `incr` on.
-fn line_from_incr(
+// What a line says by the table's rows from `%at` on: the directives and quit.
+#[cold]
+#[inline(never)]
+fn line_from_at(limits: Limits, verb: &[u8], args: &[&[u8]]) -> Said
+    ensures value { result ≡ rows_say limits (drop 14 (table.table limits)) verb.now (map (λ t. t.now) args.now) }
+    ensures fine { IsFine limits result }
+{
+    if verb == b"%at".as_slice() {
+        at_line(args)
+    } else if verb == b"%juggle".as_slice() {
+        juggle_line(limits, args)
+    } else if verb == b"%crawl".as_slice() {
+        crawl_line(limits, args)
+    } else if verb == b"%chunks".as_slice() {
+        chunks_line(limits, args)
+    } else {
+        line_from_next(limits, verb, args)
+    }
+}
+
+// What a line says by the table's rows from `prepend` on.
+fn line_from_prepend(
     alloc: Global,
     limits: Limits,
     verb: &[u8],
     args: &[&[u8]],
 ) -> Result<Said, NoMemory>
-    ensures value { IfOk result (λ s. s ≡ rows_say limits (drop 6 (table.table limits)) verb.now (map (λ t. t.now) args.now)) }
+    ensures value { IfOk result (λ s. s ≡ rows_say limits (drop 9 (table.table limits)) verb.now (map (λ t. t.now) args.now)) }
     ensures fine { IfOk result (λ s. IsFine limits s) }
 {
-    if verb == b"incr".as_slice() {
+    if verb == b"prepend".as_slice() {
+        store_line(alloc, limits, Verb::Prepend, args)
+    } else if verb == b"incr".as_slice() {
         count_line(alloc, true, args)
     } else if verb == b"decr".as_slice() {
         count_line(alloc, false, args)
@@ -66,7 +80,7 @@ fn line_from_set(
     verb: &[u8],
     args: &[&[u8]],
 ) -> Result<Said, NoMemory>
-    ensures value { IfOk result (λ s. s ≡ rows_say limits (drop 2 (table.table limits)) verb.now (map (λ t. t.now) args.now)) }
+    ensures value { IfOk result (λ s. s ≡ rows_say limits (drop 4 (table.table limits)) verb.now (map (λ t. t.now) args.now)) }
     ensures fine { IfOk result (λ s. IsFine limits s) }
 {
     if verb == b"set".as_slice() {
@@ -77,8 +91,10 @@ fn line_from_set(
         store_line(alloc, limits, Verb::Replace, args)
     } else if verb == b"cas".as_slice() {
         cas_line(alloc, limits, args)
+    } else if verb == b"append".as_slice() {
+        store_line(alloc, limits, Verb::Append, args)
     } else {
-        line_from_incr(alloc, limits, verb, args)
+        line_from_prepend(alloc, limits, verb, args)
     }
 }
 
@@ -97,6 +113,10 @@ fn line_from_get(
         get_line(alloc, false, args)
     } else if verb == b"gets".as_slice() {
         get_line(alloc, true, args)
+    } else if verb == b"gat".as_slice() {
+        gat_line(alloc, false, args)
+    } else if verb == b"gats".as_slice() {
+        gat_line(alloc, true, args)
     } else {
         line_from_set(alloc, limits, verb, args)
     }

@@ -82,6 +82,7 @@ after_length l s (events.Evicted e) = unlinked_length l e.number s
 after_length l s (events.Reclaimed e) = unlinked_length l e.number s
 after_length l s (events.Surveyed e) = one_more _
 after_length l s (events.Refused e) = one_more _
+after_length l s (events.Limited e) = one_more _
 
 from_length : (l : Lists) (s : Seg) (es : List ClassEvent) → length (list_of l s) ≤ length (list_of (lists_from l es) s) + length es
 from_length l s [] = omega arith

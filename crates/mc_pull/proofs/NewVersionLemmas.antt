@@ -2,15 +2,15 @@
 use Rattle.std.proofs.Common.{◌≡◌, ◌==◌, ℕ, List, refl, sym, ap, length}
 use Rattle.std.specs.Prelude.{Option, Some, None, nat_le, decimal}
 use Rattle.std.specs.Option.{option_map}
-use Rattle.mc_item.specs.Answer.{Row, fresh, row_of, get_row, store_row, let_go, grown_row, number_row, count_row, stepped, touch_row, delete_row, version_of}
+use Rattle.mc_item.specs.Answer.{Row, Written, fresh, row_of, get_row, gat_row, join_row, store_row, write_row, written_over, let_go, grown_row, number_row, count_row, stepped, touch_row, delete_row, version_of}
 use Rattle.mc_item.specs.{Item.expiry_of, Measure.class_of, Measure.cost_of, Measure.numeral_of, Stripe.Fits}
 use Rattle.mc_item.specs.declared.{answer.Answer.Answer, answer.Change.Change, answer.Need.Need, answer.Site.Site, command.Command.Command, command.Verb.Verb}
 use Rattle.mc_item.specs.declared.{counting.Step.TheVariants.Up, counting.Step.TheVariants.Down, item.ClassNo.ClassNo, item.Expiry.Expiry, item.Item.Item}
 use Rattle.mc_item.specs.declared.{item.Link.Link, reply.Reply.Reply, reply.Room.Room, stripe_event.StripeEvent.StripeEvent}
 use Rattle.mc_item.specs.declared.answer.Change.TheVariants as changes
 use Rattle.mc_item.specs.declared.answer.Need.TheVariants as needs
-use Rattle.mc_item.specs.declared.command.Command.TheVariants.{Get, Store, Huge, Incr, Decr, Touch, Delete}
-use Rattle.mc_item.specs.declared.command.Verb.TheVariants.{Set, Add, Replace, Cas}
+use Rattle.mc_item.specs.declared.command.Command.TheVariants.{Get, Gat, Store, Huge, Incr, Decr, Touch, Delete}
+use Rattle.mc_item.specs.declared.command.Verb.TheVariants.{Set, Add, Replace, Cas, Append, Prepend}
 use Rattle.mc_item.specs.declared.reply.Room.TheVariants as rooms
 use Rattle.mc_evidence.proofs.RowLemmas.{IsFresh, IsNoChunk, by_test, fits_fresh}
 
@@ -38,10 +38,16 @@ module _ (before : List StripeEvent) (room : Room) where
   let_go_places need Add other fits = no_chunk need room other fits
   let_go_places need Replace other fits = no_chunk need room other fits
   let_go_places need (Cas unique) other fits = no_chunk need room other fits
+  let_go_places need Append other fits = no_chunk need room other fits
+  let_go_places need Prepend other fits = no_chunk need room other fits
 
   get_places : (found : Option Item) → Places (get_row found)
   get_places None = λ fits. no_chunk needs.Nothing room (λ h. h) fits
   get_places (Some item) = λ fits. no_chunk needs.Nothing room (λ h. h) fits
+
+  gat_places : (expiry : Expiry) (found : Option Item) → Places (gat_row expiry found)
+  gat_places expiry None = λ fits. no_chunk needs.Nothing room (λ h. h) fits
+  gat_places expiry (Some item) = λ fits. no_chunk needs.Nothing room (λ h. h) fits
 
   touch_places : (expiry : Expiry) (found : Option Item) → Places (touch_row expiry found)
   touch_places expiry None = λ fits. no_chunk needs.Nothing room (λ h. h) fits
@@ -56,6 +62,8 @@ refused_places Set class place = tt
 refused_places Add class place = tt
 refused_places Replace class place = tt
 refused_places (Cas unique) class place = tt
+refused_places Append class place = tt
+refused_places Prepend class place = tt
 
 fresh_places : (before : List StripeEvent) (room : Room) (class : ClassNo) (reply : Reply) (version : Link → Item) (refused : Answer) → ((link : Link) → (version link).link ≡ link)
     → ((other : ClassNo) (place : ℕ) → IsPlaced (rooms.Refused other place) refused.change) → Places before room (fresh class reply version refused)
@@ -64,8 +72,18 @@ fresh_places before rooms.Keep class reply version refused linked none = λ fits
 fresh_places before (rooms.Refused other place) class reply version refused linked none = λ fits. none other place
 
 module _ (before : List StripeEvent) (room : Room) where
+  join_places : (class : Option ClassNo) (found : Option Item) (version : Link → Item) → ((link : Link) → (version link).link ≡ link) → Places before room (join_row class found version)
+  join_places class None version linked = λ fits. no_chunk before room needs.Nothing room (λ h. h) fits
+  join_places None (Some item) version linked = λ fits. no_chunk before room needs.TooLarge room (λ h. h) fits
+  join_places (Some class) (Some item) version linked = fresh_places before room class _ version _ linked (λ other place. tt)
+
   store_places : (class : Option ClassNo) (verb : Verb) (found : Option Item) (version : Link → Item) → ((link : Link) → (version link).link ≡ link) → Places before room (store_row class verb found version)
-  store_places None verb found version linked = λ fits. let_go_places before room needs.TooLarge verb (λ h. h) fits
+  store_places class Append found version linked = join_places class found version linked
+  store_places class Prepend found version linked = join_places class found version linked
+  store_places None Set found version linked = λ fits. let_go_places before room needs.TooLarge Set (λ h. h) fits
+  store_places None Add found version linked = λ fits. let_go_places before room needs.TooLarge Add (λ h. h) fits
+  store_places None Replace found version linked = λ fits. let_go_places before room needs.TooLarge Replace (λ h. h) fits
+  store_places None (Cas unique) found version linked = λ fits. let_go_places before room needs.TooLarge (Cas unique) (λ h. h) fits
   store_places (Some class) Set found version linked = fresh_places before room class _ version _ linked (refused_places Set)
   store_places (Some class) Add None version linked = fresh_places before room class _ version _ linked (refused_places Add)
   store_places (Some class) Add (Some item) version linked = λ fits. no_chunk before room needs.Nothing room (λ h. h) fits
@@ -74,6 +92,9 @@ module _ (before : List StripeEvent) (room : Room) where
   store_places (Some class) (Cas unique) None version linked = λ fits. no_chunk before room needs.Nothing room (λ h. h) fits
   store_places (Some class) (Cas unique) (Some item) version linked =
       by_test (Places before room) (item.cas == unique) _ _ (λ same. fresh_places before room class _ version _ linked (refused_places (Cas unique))) (λ fits. no_chunk before room needs.Nothing room (λ h. h) fits)
+
+  write_places : (site : Site) (n : ℕ) (key : List ℕ) (verb : Verb) (found : Option Item) (w : Written) → Places before room (write_row site n key verb found w)
+  write_places site n key verb found w = store_places (class_of site.sizes (cost_of key w.value)) verb found (version_of site n w.flags w.value w.expiry) (λ link. refl)
 
   grown_places : (site : Site) (n : ℕ) (item : Item) (number : ℕ) (class : Option ClassNo) → Places before room (grown_row site n item number class)
   grown_places site n item number None = λ fits. no_chunk before room needs.TooLarge room (λ h. h) fits
@@ -92,8 +113,9 @@ module _ (before : List StripeEvent) (room : Room) where
   pub row_places : (site : Site) (n : ℕ) (found : Option Item) (command : Command) (moment : ℕ) → Fits (row_of site n found command moment).need room before
       → IsPlaced room ((row_of site n found command moment).answer room).change
   row_places site n found (Get key) moment = get_places before room found
+  row_places site n found (Gat key exptime) moment = gat_places before room (expiry_of exptime moment) found
   row_places site n found (Store verb key flags exptime value) moment =
-      store_places (class_of site.sizes (cost_of key value)) verb found (version_of site n flags value (expiry_of exptime moment)) (λ link. refl)
+      write_places site n key verb found (written_over verb (record { flags = flags; value = value; expiry = expiry_of exptime moment }) found)
   row_places site n found (Huge verb key) moment = λ fits. let_go_places before room needs.TooLarge verb (λ h. h) fits
   row_places site n found (Incr key delta) moment = count_places site n key (stepped (Up delta)) found
   row_places site n found (Decr key delta) moment = count_places site n key (stepped (Down delta)) found

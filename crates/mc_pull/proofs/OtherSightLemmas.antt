@@ -2,7 +2,7 @@
 use Rattle.std.proofs.Common.{◌≡◌, ◌≢◌, ℕ, List, [], ◌∷◌, ◌++◌, sym, ap, ◌∙◌, subst}
 use Rattle.std.specs.Prelude.{Some}
 use Rattle.mc_item.specs.Measure.{stripe_of}
-use Rattle.mc_item.specs.declared.{answer.Site.Site, class_event.ClassEvent.ClassEvent, class_event.Refused.Refused}
+use Rattle.mc_item.specs.declared.{answer.Site.Site, class_event.ClassEvent.ClassEvent, class_event.Limited.Limited, class_event.Refused.Refused}
 use Rattle.mc_item.specs.declared.{item.ClassNo.ClassNo, item.StripeNo.StripeNo, lists.Entry.Entry, lists.Seg.Seg, stripe_event.StripeEvent.StripeEvent}
 use Rattle.mc_item.specs.declared.class_event.ClassEvent.TheVariants as entries
 use Rattle.mc_rule.specs.{Cited.IsSuited, Evidence.IsBacked, Lists.found, Lists.lists_of, Pairs.IsKeyOf, Places.Each, Segment.Rule}
@@ -30,6 +30,7 @@ IsElsewhere site behind (entries.Evicted e) = IsOfOthers site behind e.number
 IsElsewhere site behind (entries.Reclaimed e) = IsOfOthers site behind e.number
 IsElsewhere site behind (entries.Surveyed e) = Unit {0}
 IsElsewhere site behind (entries.Refused e) = Unit {0}
+IsElsewhere site behind (entries.Limited e) = Unit {0}
 
 module _ (site : Site) (class : ClassNo) (seen : List StripeEvent) where
   backed_elsewhere : (rule : Rule) (behind : List ClassEvent) (x : ClassEvent) → IsElsewhere site behind x → IsBacked site rule class seen behind x
@@ -40,6 +41,7 @@ module _ (site : Site) (class : ClassNo) (seen : List StripeEvent) where
   backed_elsewhere rule behind (entries.Reclaimed e) away = λ s x at of. absurd (away s x at of)
   backed_elsewhere rule behind (entries.Surveyed e) away = tt
   backed_elsewhere rule behind (entries.Refused e) away = tt
+  backed_elsewhere rule behind (entries.Limited e) away = tt
 
   suited_elsewhere : (behind : List ClassEvent) (x : ClassEvent) → IsElsewhere site behind x → IsSuited site class seen behind x
   suited_elsewhere behind (entries.Linked e) away = tt
@@ -49,6 +51,7 @@ module _ (site : Site) (class : ClassNo) (seen : List StripeEvent) where
   suited_elsewhere behind (entries.Reclaimed e) away = λ s x at of. absurd (away s x at of)
   suited_elsewhere behind (entries.Surveyed e) away = tt
   suited_elsewhere behind (entries.Refused e) away = tt
+  suited_elsewhere behind (entries.Limited e) away = tt
 
   -- an event for no entry of this stripe needs nothing in its history
   pub backed_on : (rule : Rule) (history : List ClassEvent) → Each (IsBacked site rule class seen) history → (x : ClassEvent) → IsElsewhere site history x
@@ -65,3 +68,9 @@ module _ (site : Site) (class : ClassNo) (seen : List StripeEvent) where
 
   pub refusal_suited : (history : List ClassEvent) (e : Refused) → Each (IsSuited site class seen) history → Each (IsSuited site class seen) (history ++ entries.Refused e ∷ [])
   refusal_suited history e each = suited_on history each (entries.Refused e) tt
+
+  pub limit_backed : (rule : Rule) (history : List ClassEvent) (e : Limited) → Each (IsBacked site rule class seen) history → Each (IsBacked site rule class seen) (history ++ entries.Limited e ∷ [])
+  limit_backed rule history e each = backed_on rule history each (entries.Limited e) tt
+
+  pub limit_suited : (history : List ClassEvent) (e : Limited) → Each (IsSuited site class seen) history → Each (IsSuited site class seen) (history ++ entries.Limited e ∷ [])
+  limit_suited history e each = suited_on history each (entries.Limited e) tt

@@ -108,7 +108,7 @@ hit_evicts false h = cc
 
 taken_by : (c : ClassView) (who : Who) (number moment : ℕ) (judge : Judge) (e : Entry) (item : Item) → MayJudgeBy c who number moment judge
     → done_by c.rule (lists_of c.history) moment judge e item ≡ done.Evicted
-    → IsIn Cold number (lists_of c.history) × IsFull c.chunks (lists_of c.history) × IsNearTail number (lists_of c.history).cold (passed_of judge)
+    → IsIn Cold number (lists_of c.history) × IsFull c.chunks c.history × IsNearTail number (lists_of c.history).cold (passed_of judge)
 taken_by c who number moment (Walk s mode passed) e item may is =
     let due = is_due c.rule (lists_of c.history) s mode moment e in
     let means = subst (Means s mode (is_dead item moment) item.marks.active due) is (outcome_means s mode (is_dead item moment) item.marks.active due) in
@@ -120,18 +120,18 @@ taken_by c who number moment Hit e item may is = absurd (hit_evicts (item.marks.
 
 taken_item : (c : ClassView) (q : Question) (e : Entry) (o : Option Item) → MayJudge c q
     → IsSomeAnd o (λ item. (has_link c.number q.number item ≡ true) × (done_by c.rule (lists_of c.history) q.moment q.judge e item ≡ done.Evicted))
-    → IsIn Cold q.number (lists_of c.history) × IsFull c.chunks (lists_of c.history) × IsNearTail q.number (lists_of c.history).cold (passed_of q.judge)
+    → IsIn Cold q.number (lists_of c.history) × IsFull c.chunks c.history × IsNearTail q.number (lists_of c.history).cold (passed_of q.judge)
 taken_item c q e None may h = absurd h
 taken_item c q e (Some item) may h = taken_by c q.who q.number q.moment q.judge e item may h.1
 
 taken_entry : (c : ClassView) (cache : Cache) (q : Question) (o : Option Entry) → MayJudge c q → done_with c cache q o ≡ done.Evicted
-    → IsIn Cold q.number (lists_of c.history) × IsFull c.chunks (lists_of c.history) × IsNearTail q.number (lists_of c.history).cold (passed_of q.judge)
+    → IsIn Cold q.number (lists_of c.history) × IsFull c.chunks c.history × IsNearTail q.number (lists_of c.history).cold (passed_of q.judge)
 taken_entry c cache q None may is = absurd (evicted_not (sym is))
 taken_entry c cache q (Some e) may is = taken_item c q e (cache.items e.key) may (done_is c cache q done.Evicted evicted_not (Some e) is)
 
 -- an eviction may come where the table says so
 pub taken_may : (c : ClassView) (cache : Cache) (q : Question) → MayJudge c q → done_of c cache q ≡ done.Evicted
-    → IsIn Cold q.number (lists_of c.history) × IsFull c.chunks (lists_of c.history) × IsNearTail q.number (lists_of c.history).cold (passed_of q.judge)
+    → IsIn Cold q.number (lists_of c.history) × IsFull c.chunks c.history × IsNearTail q.number (lists_of c.history).cold (passed_of q.judge)
 taken_may c cache q may is = taken_entry c cache q (entry_of q.number (lists_of c.history)) may is
 
 -- ---- an entry that goes to COLD

@@ -6,7 +6,7 @@ use Rattle.std.proofs.lemmas.{Bool.Decides.nat_tests, List.append-nil, List.leng
 use Rattle.mc_item.specs.{Cache.Cache, Item.is_dead, Measure.stripe_of}
 use Rattle.mc_item.specs.declared.{class_event.ClassEvent.ClassEvent, item.Item.Item, item.StripeNo.StripeNo, item.Who.Who, lists.Entry.Entry, lists.Seg.Seg}
 use Rattle.mc_item.specs.declared.{lists.Seg.TheVariants.Hot, lists.Seg.TheVariants.Cold}
-use Rattle.mc_rule.specs.{Lists.Lists, Lists.count_of, Lists.from_tail, Lists.lists_of, Lists.list_of, Segment.Rule}
+use Rattle.mc_rule.specs.{Lists.Lists, Lists.chunks_from, Lists.count_of, Lists.from_tail, Lists.lists_of, Lists.list_of, Segment.Rule}
 use Rattle.mc_segment.specs.{Entries.entry_of, ClassState.ClassView}
 use Rattle.mc_stripe.specs.StripeState.{cache_now}
 use Rattle.mc_pull.specs.declared.{judge.Done.Done, judge.Judge.TheVariants.Walk, judge.Mode.Mode, judge.Mode.TheVariants.Evict, judge.Mode.TheVariants.Force}
@@ -214,11 +214,11 @@ no_look true wanted left e b h = absurd (true_false e)
 no_look false false left e b h = absurd (true_false (sym b))
 no_look false true left e b h = none_left left (and_true (nat_lt 0 left) h)
 
-module _ (p : Pull) (number : StripeNo) (wanting : IsWanting p.seg p.mode) (h : List ClassEvent) (full : is_wanted p.mode p.class.chunks (count_of (lists_of h)) ≡ true) where
+module _ (p : Pull) (number : StripeNo) (wanting : IsWanting p.seg p.mode) (h : List ClassEvent) (full : is_wanted p.mode p.class.chunks h ≡ true) where
   pub passes : (w : Way) (xs : List Answer) → w.history ≡ h → w.ended ≡ false → IsAlong p w xs → AreHad number xs → is_going p (run p w xs) ≡ false → (run p w xs).history ≡ h → IsIdle p w number (run p w xs).pulled
   passes w [] here going along had over same =
-      let wanted = ap (λ (x : List ClassEvent). is_wanted p.mode p.class.chunks (count_of (lists_of x))) here ∙ full in
-      let left = no_look w.ended (is_wanted p.mode p.class.chunks (count_of (lists_of w.history))) w.left going wanted over in
+      let wanted = ap (λ (x : List ClassEvent). is_wanted p.mode p.class.chunks x) here ∙ full in
+      let left = no_look w.ended (is_wanted p.mode p.class.chunks w.history) w.left going wanted over in
       record { none_near = λ place e from to there. absurd (omega (arith, from, to, left)); idle = refl }
   passes w (a ∷ xs) here going along had over same =
       let next = step p w a in
@@ -263,7 +263,7 @@ wanted_full count chunks h = grind (arith, nat_tests)
 idle_not : (reclaimed moved evicted : ℕ) → reclaimed + moved + evicted ≡ 0 → nat_lt 0 (reclaimed + moved + evicted) ≡ false
 idle_not reclaimed moved evicted h = ap (λ (n : ℕ). nat_lt 0 n) h
 
-module _ (r : Rounds) (s : Seg) (mode : Mode) (number : StripeNo) (wanting : IsWanting s mode) (h : List ClassEvent) (full : is_wanted mode r.class.chunks (count_of (lists_of h)) ≡ true)
+module _ (r : Rounds) (s : Seg) (mode : Mode) (number : StripeNo) (wanting : IsWanting s mode) (h : List ClassEvent) (full : is_wanted mode r.class.chunks h ≡ true)
     (xs : List Answer) (after : List ClassEvent) (pulled : Pulled) (walk : Walks r s mode h xs after pulled) (had : AreHad number xs) (same : after ≡ h) where
   abbrev here : Pull
   here = pull (class_at r.class h) s mode r.who r.moment r.config
@@ -309,8 +309,8 @@ module _ (r : Rounds) (number : StripeNo) (h after : List ClassEvent) (xs : List
       tried_same r.who h round.between after (walk_tried r Cold Evict h round.between round.cold round.pulled round.cold_is)
       (forced_tried r (did_something round.pulled) round.between after round.hot round.hot_is) same
 
-  full : nat_le r.class.chunks (count_of (lists_of h)) ≡ true
-  full = wanted_full (count_of (lists_of h)) r.class.chunks round.full
+  full : nat_le (chunks_from r.class.chunks h) (count_of (lists_of h)) ≡ true
+  full = wanted_full (count_of (lists_of h)) (chunks_from r.class.chunks h) round.full
 
   pub cold_none : IsNoneNear r.config.stripes number Cold h
   cold_none = none_near r Cold Evict number cold_wanting h full round.cold round.between round.pulled round.cold_is split.0 between_same

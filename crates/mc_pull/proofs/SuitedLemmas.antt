@@ -1,10 +1,10 @@
 -- Each command makes only events that it may make: of its own part, and of the removal of a dead item.
 use Rattle.std.proofs.Common.{◌≡◌, ℕ, List, Bool, true, false, Option, Some, None, refl}
 use Rattle.std.specs.Prelude.{◌&&◌, not, if◌then◌else◌}
-use Rattle.mc_item.specs.{Answer.delete_row, Answer.get_row, Answer.let_go, Answer.touch_row, Cache.Cache, Cache.answer_of, Command.key_of, Item.expiry_of, Item.hit_marks}
+use Rattle.mc_item.specs.{Answer.delete_row, Answer.gat_row, Answer.get_row, Answer.let_go, Answer.touch_row, Cache.Cache, Cache.answer_of, Command.key_of, Item.expiry_of, Item.hit_marks}
 use Rattle.mc_item.specs.declared.{answer.Site.Site, class_event.ClassEvent.ClassEvent, command.Command.Command, command.Verb.Verb, item.Item.Item, item.Who.Who, reply.Room.Room}
-use Rattle.mc_item.specs.declared.command.Command.TheVariants.{Get, Store, Huge, Incr, Decr, Touch, Delete}
-use Rattle.mc_item.specs.declared.command.Verb.TheVariants.{Set, Add, Replace, Cas}
+use Rattle.mc_item.specs.declared.command.Command.TheVariants.{Get, Gat, Store, Huge, Incr, Decr, Touch, Delete}
+use Rattle.mc_item.specs.declared.command.Verb.TheVariants.{Set, Add, Replace, Cas, Append, Prepend}
 use Rattle.mc_segment.specs.ClassState.{ClassView}
 use Rattle.mc_stripe.specs.{Plan.fate_of, Plan.gone_fate, StripeState.Stripe, StripeState.cache_now}
 use Rattle.mc_stripe.specs.declared.fate.Fate.TheVariants as fates
@@ -21,6 +21,7 @@ needs_removes (Store verb key flags exptime value) needs = tt
 needs_removes (Incr key delta) needs = tt
 needs_removes (Decr key delta) needs = tt
 needs_removes (Get key) needs = absurd needs
+needs_removes (Gat key exptime) needs = absurd needs
 needs_removes (Huge verb key) needs = absurd needs
 needs_removes (Touch key exptime) needs = absurd needs
 needs_removes (Delete key) needs = absurd needs
@@ -71,6 +72,8 @@ suited_huge Set key v who moment room found = suited_goes (Huge Set key) tt v wh
 suited_huge Add key v who moment room found = tt
 suited_huge Replace key v who moment room found = tt
 suited_huge (Cas unique) key v who moment room found = tt
+suited_huge Append key v who moment room found = tt
+suited_huge Prepend key v who moment room found = tt
 
 -- a command may make the events of its part
 suited_for : (site : Site) (cache : Cache) (v : ClassView) (who : Who) (moment : ℕ) (room : Room) (command : Command)
@@ -80,6 +83,11 @@ suited_for site cache v who moment room (Get key) = by (cache.items key)
     by : (found : Option Item) → AreSuited (Get key) (part_events v who moment (part_for v key room (fate_of key found ((get_row found).answer room).change)))
     by None = tt
     by (Some item) = suited_hit (Get key) v who moment key room item ((hit_marks item.marks).active && not item.marks.active)
+suited_for site cache v who moment room (Gat key exptime) = by (cache.items key)
+  where
+    by : (found : Option Item) → AreSuited (Gat key exptime) (part_events v who moment (part_for v key room (fate_of key found ((gat_row (expiry_of exptime moment) found).answer room).change)))
+    by None = tt
+    by (Some item) = suited_hit (Gat key exptime) v who moment key room item ((hit_marks item.marks).active && not item.marks.active)
 suited_for site cache v who moment room (Touch key exptime) = by (cache.items key)
   where
     by : (found : Option Item) → AreSuited (Touch key exptime) (part_events v who moment (part_for v key room (fate_of key found ((touch_row (expiry_of exptime moment) found).answer room).change)))

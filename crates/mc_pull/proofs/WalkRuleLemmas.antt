@@ -6,7 +6,7 @@ use Rattle.std.specs.List.{filter}
 use Rattle.std.proofs.lemmas.{Bool.Decides.nat_tests, List.length-take-le, List.map-append, List.reverse-append, List.take-map, Option.slice_get_within}
 use Rattle.mc_item.specs.declared.{class_event.ClassEvent.ClassEvent, lists.Entry.Entry}
 use Rattle.mc_item.specs.Measure.{stripe_of}
-use Rattle.mc_rule.specs.{Lists.count_of, Lists.lists_of, Lists.list_of, Segment.numbers_of}
+use Rattle.mc_rule.specs.{Lists.HasFree, Lists.IsFull, Lists.lists_of, Lists.list_of, Segment.numbers_of}
 use Rattle.mc_pull.specs.declared.{judge.Done.Done, judge.Judge.TheVariants.Walk, judge.Mode.Mode, judge.Mode.TheVariants.Plain, judge.Mode.TheVariants.Evict}
 use Rattle.mc_pull.specs.declared.{judge.Mode.TheVariants.Force, looking.Answer.Answer, looking.Judged.Judged, pulled.Pulled.Pulled}
 use Rattle.mc_pull.specs.declared.judge.Done.TheVariants as done
@@ -38,18 +38,18 @@ goes_by false false left h = by (nat_lt 0 left) h
     by true h = absurd (true_false (sym h))
     by false h = absurd (true_false (sym h))
 
-goes : (p : Pull) (w : Way) → is_going p w ≡ true → Goes w.ended (is_wanted p.mode p.class.chunks (count_of (lists_of w.history))) w.left
-goes p w h = goes_by w.ended (is_wanted p.mode p.class.chunks (count_of (lists_of w.history))) w.left h
+goes : (p : Pull) (w : Way) → is_going p w ≡ true → Goes w.ended (is_wanted p.mode p.class.chunks w.history) w.left
+goes p w h = goes_by w.ended (is_wanted p.mode p.class.chunks w.history) w.left h
 
-full_for : (mode : Mode) (chunks count : ℕ) → is_wanted mode chunks count ≡ true → looks_for_chunk mode ≡ true → chunks ≤ count
-full_for (Plain survey) chunks count h looks = absurd (true_false (sym looks))
-full_for Evict chunks count h looks = grind (arith, nat_tests)
-full_for Force chunks count h looks = grind (arith, nat_tests)
+full_for : (mode : Mode) (chunks : ℕ) (history : List ClassEvent) → is_wanted mode chunks history ≡ true → looks_for_chunk mode ≡ true → IsFull chunks history
+full_for (Plain survey) chunks history h looks = absurd (true_false (sym looks))
+full_for Evict chunks history h looks = grind (arith, nat_tests)
+full_for Force chunks history h looks = grind (arith, nat_tests)
 
-free_for : (mode : Mode) (chunks count : ℕ) → is_wanted mode chunks count ≡ false → (looks_for_chunk mode ≡ true) × (count < chunks)
-free_for (Plain survey) chunks count h = absurd (true_false h)
-free_for Evict chunks count h = (refl, grind (arith, nat_tests))
-free_for Force chunks count h = (refl, grind (arith, nat_tests))
+free_for : (mode : Mode) (chunks : ℕ) (history : List ClassEvent) → is_wanted mode chunks history ≡ false → (looks_for_chunk mode ≡ true) × HasFree chunks history
+free_for (Plain survey) chunks history h = absurd (true_false h)
+free_for Evict chunks history h = (refl, grind (arith, nat_tests))
+free_for Force chunks history h = (refl, grind (arith, nat_tests))
 
 -- ---- at most so many looks
 left_few : (p : Pull) (w : Way) (xs : List Answer) → IsAlong p w xs → length xs + (run p w xs).left ≡ w.left
@@ -135,7 +135,7 @@ module _ (p : Pull) (xs : List Answer) (a : Answer) (answer : IsAnswer p (run p 
     makes = ap (λ (w : Way). w.history) (run-push p (start_of p) xs a)
         ∙ (ap (λ (o : Option Entry). before.history ++ events_at p before o a.judged) is
         ∙ ap (λ (ns : List ℕ). before.history ++ events_if (class_at p.class before.history) (question p.who e.number (Walk p.seg p.mode ns) p.moment) a.judged) near);
-    full = full_for p.mode p.class.chunks (count_of (lists_of before.history)) (goes p before answer.goes).wanted_is;
+    full = full_for p.mode p.class.chunks before.history (goes p before answer.goes).wanted_is;
   }
     where
       near : numbers_passed p before ≡ numbers_of (take before.pulled.passed from_end)
@@ -196,11 +196,11 @@ module _ (p : Pull) (xs : List Answer) (after : List ClassEvent) (pulled : Pulle
   by_looks (inl five) = inr (inl five)
   by_looks (inr each) = inr (inr (inl each))
 
-  by_end : (last.ended ≡ true) ⊎ ((last.left ≡ 0) ⊎ (is_wanted p.mode p.class.chunks (count_of (lists_of last.history)) ≡ false)) → HasEnded p xs after
+  by_end : (last.ended ≡ true) ⊎ ((last.left ≡ 0) ⊎ (is_wanted p.mode p.class.chunks last.history ≡ false)) → HasEnded p xs after
   by_end (inl end) = inl (ended_by p (start_of p) xs walk.along refl end)
   by_end (inr (inl none)) = by_looks (all_looked (length xs) (entries_at_start p) (omega (arith, left_few p (start_of p) xs walk.along)))
   by_end (inr (inr unwanted)) =
-      inr (inr (inr (subst (λ (h : List ClassEvent). HasChunk p h) (sym walk.history_is) (free_for p.mode p.class.chunks (count_of (lists_of last.history)) unwanted))))
+      inr (inr (inr (subst (λ (h : List ClassEvent). HasChunk p h) (sym walk.history_is) (free_for p.mode p.class.chunks last.history unwanted))))
 
   pub looks_end : (after ≡ history_after p xs) × HasEnded p xs after
-  looks_end = (walk.history_is, by_end (not_going last.ended (is_wanted p.mode p.class.chunks (count_of (lists_of last.history))) last.left walk.ends))
+  looks_end = (walk.history_is, by_end (not_going last.ended (is_wanted p.mode p.class.chunks last.history) last.left walk.ends))

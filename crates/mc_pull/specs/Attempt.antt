@@ -4,7 +4,8 @@ use Rattle.mc_item.specs.{Command.key_of, Measure.stripe_of}
 use Rattle.mc_item.specs.declared.class_event.ClassEvent.TheVariants as class_events
 use Rattle.mc_item.specs.declared.{command.Command.Command, config.Config.Config, item.Link.Link, reply.Reply.Reply, reply.Room.Room, item.Who.Who}
 use Rattle.mc_item.specs.declared.reply.Room.TheVariants as rooms
-use Rattle.mc_rule.specs.Lists.{count_of, entries_linked, lists_of}
+use Rattle.mc_rule.specs.Lists as rules
+use Rattle.mc_rule.specs.Lists.{entries_linked}
 use Rattle.mc_segment.specs.ClassState.{ClassView, HasPlaces as ClassHasPlaces}
 use Rattle.mc_stripe.specs.{Plan.woken_of, StripeState.Stripe, Trying.item_of, Trying.row_at, Wanting.IsWanting, Wanting.Uses}
 use Rattle.mc_stripe.specs.declared.{fate.Fate.Fate, wanting.Given.Given, wanting.Home.Home, wanting.Other.Other, trying.Turn.Turn}
@@ -16,7 +17,7 @@ use Rattle.mc_pull.specs.{Parts.is_here, Parts.part_for, Parts.places_of, Perfor
 
 -- the class has a free chunk
 abbrev pub HasFree : ClassView → Type 0
-HasFree v = count_of (lists_of v.history) < v.chunks
+HasFree v = rules.HasFree v.chunks v.history
 
 -- a class gives this room: its next link if a chunk is free, the refusal that it noted of this call, or nothing if neither
 abbrev pub GivesHome : ClassView → Option ℕ → Who → Room → Type 0

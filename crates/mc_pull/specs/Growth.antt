@@ -20,6 +20,7 @@ LooksForChunk (events.Linked e) = ⊥
 LooksForChunk (events.Unlinked e) = ⊥
 LooksForChunk (events.Reclaimed e) = ⊥
 LooksForChunk (events.Surveyed e) = ⊥
+LooksForChunk (events.Limited e) = ⊥
 
 -- none of these events looks for a chunk
 abbrev pub NoneLooks : List ClassEvent → Type 0

@@ -1,10 +1,10 @@
 -- A class's part of a command: which of its entries are added or removed, and the events of that.
-use Rattle.std.specs.Prelude.{ℕ, ◌≡◌, ◌==◌, ◌&&◌, ◌<◌, ◌≤◌, ◌^◌, nat_eq, List, [], ◌∷◌, Bool, true, false, if◌then◌else◌, Option, Some, None}
+use Rattle.std.specs.Prelude.{ℕ, ◌≡◌, ◌==◌, ◌&&◌, ◌≤◌, ◌^◌, nat_eq, List, [], ◌∷◌, Bool, true, false, if◌then◌else◌, Option, Some, None}
 use Rattle.std.specs.Cmp.Lexicographic.{pointwise}
 use Rattle.mc_item.specs.declared.{class_event.ClassEvent.ClassEvent, item.Expiry.Expiry, item.Link.Link, item.Who.Who, lists.Entry.Entry}
 use Rattle.mc_item.specs.declared.reply.Room.{Room}
 use Rattle.mc_item.specs.declared.reply.Room.TheVariants as rooms
-use Rattle.mc_rule.specs.{Lists.lists_of, Lists.count_of, Lawful.IsListed}
+use Rattle.mc_rule.specs.{Lists.HasFree, Lists.lists_of, Lawful.IsListed}
 use Rattle.mc_segment.specs.{ClassState.ClassView, ClassCalls.linked_event, ClassCalls.unlinked_event, Entries.entry_of}
 use Rattle.mc_stripe.specs.declared.fate.Fate.{Fate}
 use Rattle.mc_stripe.specs.declared.fate.Fate.TheVariants as fates
@@ -62,7 +62,7 @@ places_of (parts.Unlinks number) = 1
 
 -- a new entry may be added: a chunk is free, and the cost is one that a class can hold
 pub record MayLink (c : ClassView) (bytes : ℕ) : Type 0 where
-  pub free : count_of (lists_of c.history) < c.chunks
+  pub free : HasFree c.chunks c.history
   pub few : bytes ≤ 2 ^ 20
 
 -- the class may make a part's events: a new entry may be added, one that is removed is in a list, and one that moves is in COLD

@@ -1,10 +1,10 @@
 -- When a command may be made on a stripe and the classes that it is lent.
-use Rattle.std.specs.Prelude.{ℕ, ◌≡◌, ◌<◌, ◌≤◌, ◌^◌, List, true, Option, Some, slice_get}
+use Rattle.std.specs.Prelude.{ℕ, ◌≡◌, ◌≤◌, ◌^◌, List, true, Option, Some, slice_get}
 use Rattle.mc_item.specs.declared.{answer.Answer.Answer, command.Command.Command, config.Config.Config, item.Item.Item, item.Who.Who, reply.Room.Room}
 use Rattle.mc_item.specs.declared.class_event.ClassEvent.TheVariants as class_events
 use Rattle.mc_item.specs.declared.reply.Room.TheVariants as rooms
 use Rattle.mc_item.specs.{Answer.row_of, Cache.answer_of, Command.key_of, Measure.stripe_of, Stripe.Fits, Stripe.IsAlive, Stripe.link_of}
-use Rattle.mc_rule.specs.Lists.{lists_of, entries_linked, count_of}
+use Rattle.mc_rule.specs.Lists.{HasFree, entries_linked}
 use Rattle.mc_segment.specs.ClassState.{ClassView}
 use Rattle.mc_stripe.specs.declared.fate.Fate.{Fate}
 use Rattle.mc_stripe.specs.declared.fate.Fate.TheVariants as fates
@@ -42,7 +42,7 @@ IsRoomOf who rooms.Keep v = Unit {0}
 
 -- the room fits the class, and if it is a link of this class, a chunk is free
 pub record GivesRoom (who : Who) (room : Room) (v : ClassView) : Type 0 where
-  pub free : is_here v room ≡ true → count_of (lists_of v.history) < v.chunks
+  pub free : is_here v room ≡ true → HasFree v.chunks v.history
   pub named : IsRoomOf who room v
 
 -- the classes that a command needs are lent: its new version's, and that of an item that it replaces or removes

@@ -55,8 +55,8 @@ MayWalk c s Force who moment = s ≡ Hot
 -- an entry is taken or forced out only of a full class
 abbrev pub IsFullFor : ClassView → Mode → Type 0
 IsFullFor c (Plain survey) = Unit {0}
-IsFullFor c Evict = IsFull c.chunks (lists_of c.history)
-IsFullFor c Force = IsFull c.chunks (lists_of c.history)
+IsFullFor c Evict = IsFull c.chunks c.history
+IsFullFor c Force = IsFull c.chunks c.history
 
 -- an entry may be judged on a walk: it is in the list, just the passed ones are nearer to the tail, and the mode fits
 pub record MayJudgeOn (c : ClassView) (who : Who) (number moment : ℕ) (s : Seg) (mode : Mode) (passed : List ℕ) : Type 0 where

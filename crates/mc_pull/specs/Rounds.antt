@@ -2,7 +2,7 @@
 use Rattle.std.specs.Prelude.{ℕ, zero, suc, ◌≡◌, ◌≤◌, ◌++◌, List, [], Bool, true, false, nat_lt}
 use Rattle.mc_item.specs.declared.{class_event.ClassEvent.ClassEvent, config.Config.Config, item.Who.Who, lists.Seg.Seg, lists.Seg.TheVariants.Hot}
 use Rattle.mc_item.specs.declared.{lists.Seg.TheVariants.Cold}
-use Rattle.mc_rule.specs.Lists.{lists_of, count_of}
+use Rattle.mc_rule.specs.Lists.{chunks_from, lists_of, count_of}
 use Rattle.mc_segment.specs.ClassState.{ClassView}
 use Rattle.mc_pull.specs.declared.{judge.Mode.Mode, judge.Mode.TheVariants.Evict, judge.Mode.TheVariants.Force, looking.Answer.Answer, pulled.Pulled.Pulled}
 use Rattle.mc_pull.specs.{Pulled.did_something, Walk.pull, Walk.class_at, Walk.IsWalk}
@@ -30,7 +30,7 @@ Repeats {S} Step (suc n) first xs last =
 
 -- the class with this history has a free chunk
 abbrev pub is_free : ClassView → List ClassEvent → Bool
-is_free c history = nat_lt (count_of (lists_of history)) c.chunks
+is_free c history = nat_lt (count_of (lists_of history)) (chunks_from c.chunks history)
 
 -- HOT is pulled by force only if COLD gave nothing
 abbrev pub ForcesHot : Rounds → Bool → List ClassEvent → List Answer → List ClassEvent → Type 0

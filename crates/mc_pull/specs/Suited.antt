@@ -2,7 +2,7 @@
 use Rattle.std.specs.Prelude.{List, [], ◌∷◌}
 use Rattle.mc_item.specs.declared.{class_event.ClassEvent.ClassEvent, command.Command.Command}
 use Rattle.mc_item.specs.declared.class_event.ClassEvent.TheVariants as events
-use Rattle.mc_item.specs.declared.command.Command.TheVariants.{Get, Store, Huge, Incr, Decr, Touch, Delete}
+use Rattle.mc_item.specs.declared.command.Command.TheVariants.{Get, Gat, Store, Huge, Incr, Decr, Touch, Delete}
 
 -- a command may need a chunk: it stores a value or counts
 abbrev pub MayNeedChunk : Command → Type 0
@@ -10,6 +10,7 @@ MayNeedChunk (Store verb key flags exptime value) = Unit {0}
 MayNeedChunk (Incr key delta) = Unit {0}
 MayNeedChunk (Decr key delta) = Unit {0}
 MayNeedChunk (Get key) = ⊥
+MayNeedChunk (Gat key exptime) = ⊥
 MayNeedChunk (Huge verb key) = ⊥
 MayNeedChunk (Touch key exptime) = ⊥
 MayNeedChunk (Delete key) = ⊥
@@ -22,10 +23,11 @@ MayRemove (Incr key delta) = Unit {0}
 MayRemove (Decr key delta) = Unit {0}
 MayRemove (Delete key) = Unit {0}
 MayRemove (Get key) = ⊥
+MayRemove (Gat key exptime) = ⊥
 MayRemove (Touch key exptime) = ⊥
 
 -- a command may make this event: each may reclaim an entry, one that may remove an item may unlink its entry, and one that may
--- need a chunk may also link, move, evict or be refused; none makes a survey
+-- need a chunk may also link, move, evict or be refused; none makes a survey or sets a limit
 abbrev pub SuitsCommand : Command → ClassEvent → Type 0
 SuitsCommand command (events.Reclaimed e) = Unit {0}
 SuitsCommand command (events.Unlinked e) = MayRemove command
@@ -34,6 +36,7 @@ SuitsCommand command (events.Shifted e) = MayNeedChunk command
 SuitsCommand command (events.Evicted e) = MayNeedChunk command
 SuitsCommand command (events.Refused e) = MayNeedChunk command
 SuitsCommand command (events.Surveyed e) = ⊥
+SuitsCommand command (events.Limited e) = ⊥
 
 -- a command may make each of these events
 abbrev pub AreSuited : Command → List ClassEvent → Type 0

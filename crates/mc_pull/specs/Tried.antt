@@ -17,6 +17,7 @@ IsTry who (events.Linked e) = ⊥
 IsTry who (events.Unlinked e) = ⊥
 IsTry who (events.Surveyed e) = ⊥
 IsTry who (events.Refused e) = ⊥
+IsTry who (events.Limited e) = ⊥
 
 -- each of these events is a try of this call
 abbrev pub AreTries : Who → List ClassEvent → Type 0

@@ -3,7 +3,7 @@ use Rattle.std.specs.Prelude.{ℕ, ◌≡◌, ◌-◌, ◌++◌, List, [], ◌�
 use Rattle.std.specs.Option.{IsSomeAnd}
 use Rattle.mc_item.specs.declared.{class_event.ClassEvent.ClassEvent, config.Config.Config, item.Who.Who, lists.Entry.Entry, lists.Seg.Seg}
 use Rattle.mc_item.specs.Measure.{stripe_of}
-use Rattle.mc_rule.specs.{Lists.lists_of, Lists.list_of, Lists.count_of, Lists.from_tail, Segment.numbers_of}
+use Rattle.mc_rule.specs.{Lists.chunks_from, Lists.lists_of, Lists.list_of, Lists.count_of, Lists.from_tail, Segment.numbers_of}
 use Rattle.mc_segment.specs.ClassState.{ClassView}
 use Rattle.mc_pull.specs.declared.{judge.Judge.TheVariants.Walk, judge.Mode.Mode, judge.Mode.TheVariants.Plain, judge.Mode.TheVariants.Evict}
 use Rattle.mc_pull.specs.declared.{judge.Mode.TheVariants.Force, looking.Answer.Answer, looking.Judged.Judged, pulled.Pulled.Pulled}
@@ -53,15 +53,15 @@ numbers_passed p w = take w.pulled.passed (reverse (numbers_of (list_of (lists_o
 abbrev pub question_at : Pull → Way → Entry → Question
 question_at p w e = question p.who e.number (Walk p.seg p.mode (numbers_passed p w)) p.moment
 
--- a walk is still wanted: one that looks for a chunk only while the class is full
-abbrev pub is_wanted : Mode → ℕ → ℕ → Bool
-is_wanted (Plain survey) chunks count = true
-is_wanted Evict chunks count = nat_le chunks count
-is_wanted Force chunks count = nat_le chunks count
+-- a walk is still wanted: one that looks for a chunk only while the class is full. `chunks` is the limit with which it opened
+abbrev pub is_wanted : Mode → ℕ → List ClassEvent → Bool
+is_wanted (Plain survey) chunks history = true
+is_wanted Evict chunks history = nat_le (chunks_from chunks history) (count_of (lists_of history))
+is_wanted Force chunks history = nat_le (chunks_from chunks history) (count_of (lists_of history))
 
 -- a walk goes on: it hasn't ended, may look at one more entry, and is still wanted
 abbrev pub is_going : Pull → Way → Bool
-is_going p w = not w.ended && (nat_lt 0 w.left && is_wanted p.mode p.class.chunks (count_of (lists_of w.history)))
+is_going p w = not w.ended && (nat_lt 0 w.left && is_wanted p.mode p.class.chunks w.history)
 
 -- the events that an answer adds to the class
 abbrev pub events_at : Pull → Way → Option Entry → Option Judged → List ClassEvent

@@ -1,9 +1,9 @@
 -- A walk in a user's words: which entry each look is at, and where the walk ends.
-use Rattle.std.specs.Prelude.{ℕ, ◌≡◌, ◌<◌, ◌≤◌, ◌++◌, ◌⊎◌, List, [], ◌∷◌, Bool, true, false, Option, Some, None, length, reverse}
+use Rattle.std.specs.Prelude.{ℕ, ◌≡◌, ◌++◌, ◌⊎◌, List, [], ◌∷◌, Bool, true, false, Option, Some, None, length, reverse}
 use Rattle.std.specs.List.{filter}
 use Rattle.mc_item.specs.declared.{class_event.ClassEvent.ClassEvent, lists.Entry.Entry}
 use Rattle.mc_item.specs.Measure.{stripe_of}
-use Rattle.mc_rule.specs.{Lists.lists_of, Lists.list_of, Lists.count_of, Segment.numbers_of}
+use Rattle.mc_rule.specs.{Lists.HasFree, Lists.IsFull, Lists.lists_of, Lists.list_of, Segment.numbers_of}
 use Rattle.mc_pull.specs.declared.{judge.Done.Done, judge.Judge.TheVariants.Walk, looking.Answer.Answer, looking.Judged.Judged}
 use Rattle.mc_pull.specs.declared.judge.Done.TheVariants as done
 use Rattle.mc_pull.specs.{Growth.looks_for_chunk, Looks.IsJudgedIf, Looks.events_if, Pulled.is_end_if, Question.Question, Question.question}
@@ -49,7 +49,7 @@ pub record IsNextLook (p : Pull) (before : List Answer) (a : Answer) : Type 0 wh
   pub judged : IsJudgedIf p.config a.stripe (class_at p.class (history_after p before)) (question_past p passed entry) a.judged
   pub makes : history_after p (before ++ a ∷ [])
       ≡ history_after p before ++ events_if (class_at p.class (history_after p before)) (question_past p passed entry) a.judged
-  pub full : looks_for_chunk p.mode ≡ true → p.class.chunks ≤ count_of (lists_of (history_after p before))
+  pub full : looks_for_chunk p.mode ≡ true → IsFull p.class.chunks (history_after p before)
 
 -- the last of these answers ends a walk
 pub record IsEndedBy (xs : List Answer) : Type 0 where
@@ -60,7 +60,7 @@ pub record IsEndedBy (xs : List Answer) : Type 0 where
 
 -- a walk that looks for a chunk has one
 abbrev pub HasChunk : Pull → List ClassEvent → Type 0
-HasChunk p history = (looks_for_chunk p.mode ≡ true) × (count_of (lists_of history) < p.class.chunks)
+HasChunk p history = (looks_for_chunk p.mode ≡ true) × HasFree p.class.chunks history
 
 -- why a walk ends: by its last answer, after five looks, after as many as its list had entries, or as it looks for a chunk and has one
 abbrev pub HasEnded : Pull → List Answer → List ClassEvent → Type 0

@@ -1,6 +1,6 @@
 //! Events that can't be refused: the caller has made room for them, and the histories have places. None takes memory.
 ghost use Rattle.std.specs.Prelude.{◌≡◌, ◌<◌, ◌≤◌, ◌+◌, ◌^◌, length, true, Some, IsSomeAnd};
-ghost use Rattle.mc_rule.specs.Lists.{lists_of, count_of, segment_of};
+ghost use Rattle.mc_rule.specs.Lists.{HasFree, lists_of, segment_of};
 ghost use Rattle.mc_item.specs.Stripe.{IsDead};
 ghost use Rattle.mc_item.specs.declared.stripe_event.Cause.TheVariants as causes;
 ghost use Rattle.mc_segment.specs.ClassState.{appended, HasPlaces};
@@ -24,7 +24,7 @@ pub(crate) fn link(
     requires copy { class.old.keeps_events ≡ true → copy ≡ Some key }
     requires room { 0 < class.old.room }
     requires place { HasPlaces class.old 1 }
-    requires free { count_of (lists_of class.old.history) < class.old.chunks }
+    requires free { HasFree class.old.chunks class.old.history }
     requires cost { cost ≤ 2 ^ 20 }
     ensures event { class.new ≡ appended class.old (linked_event class.old who key cost moment expiry) class.new.room }
     ensures room { class.old.room ≤ class.new.room + 1 }

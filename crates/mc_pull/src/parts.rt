@@ -1,6 +1,6 @@
 //! A class's part of a command: which of its entries are added or removed.
-ghost use Rattle.std.specs.Prelude.{◌≡◌, ◌≤◌, ◌<◌, ◌^◌, true, IfSome};
-ghost use Rattle.mc_rule.specs.{Lists.lists_of, Lists.count_of, Lawful.IsListed};
+ghost use Rattle.std.specs.Prelude.{◌≡◌, ◌≤◌, ◌^◌, true, IfSome};
+ghost use Rattle.mc_rule.specs.{Lists.HasFree, Lists.lists_of, Lawful.IsListed};
 ghost use Rattle.mc_segment.specs.Entries.{entry_of};
 ghost use Rattle.mc_pull.specs.Parts as words;
 ghost use Rattle.mc_pull.specs.Parts.{MayMake};
@@ -80,7 +80,7 @@ pub(crate) fn linked_part(
     expiry: Expiry,
     old: Option<u64>,
 ) -> Part
-    requires free { count_of (lists_of class.now.history) < class.now.chunks }
+    requires free { HasFree class.now.chunks class.now.history }
     requires cost { cost ≤ 2 ^ 20 }
     requires old { IfSome old (λ number. IsListed number (lists_of class.now.history)) }
     ensures part { result ≡ words.new_part key cost expiry true old }

@@ -1,6 +1,6 @@
 //! Walks along a list from its tail.
 ghost use Rattle.std.specs.Prelude.{◌≡◌, ◌<◌, ◌≤◌, ◌++◌, ◌∷◌, [], List, true, false, length, take, reverse, IfOk, IfErr, OnErr};
-ghost use Rattle.mc_rule.specs.{Lists.lists_of, Lists.list_of, Lists.count_of, Segment.numbers_of};
+ghost use Rattle.mc_rule.specs.{Lists.lists_of, Lists.list_of, Segment.numbers_of};
 ghost use Rattle.mc_segment.specs.ClassState.{with_room};
 ghost use Rattle.mc_pull.specs.{Growth.GainsEvents, Growth.GainsFor, Growth.KeepsSince, Growth.looks_for_chunk};
 ghost use Rattle.mc_pull.specs.{Looks.answer_by, Looks.events_if, Looks.IsJudgedIf, Pulled.sum_of, Question.question};
@@ -35,7 +35,7 @@ fn passed_behind(class: &ClassState, seg: Seg, place: u64) -> Passed
 
 // Whether a walk of this mode still goes on. One that looks for a chunk ends when a chunk is free.
 fn is_wanted(class: &ClassState, mode: Mode) -> bool
-    ensures { result ≡ words.is_wanted mode class.now.chunks (count_of (lists_of class.now.history)) }
+    ensures { result ≡ words.is_wanted mode class.now.chunks class.now.history }
 {
     match mode {
         Mode::Plain(_) => true,
@@ -90,7 +90,7 @@ fn look_next<G: Gate>(
     gate: &mut G,
 ) -> Result<Answer, Fault>
     requires left { 0 < left }
-    requires wanted { words.is_wanted mode class.old.chunks (count_of (lists_of class.old.history)) ≡ true }
+    requires wanted { words.is_wanted mode class.old.chunks class.old.history ≡ true }
     requires few { pulled.passed ≤ 4 }
     requires there { pulled.passed < length (list_of (lists_of class.old.history) seg) }
     requires walk { MayWalk class.old seg mode who moment }

@@ -7,7 +7,7 @@ use Rattle.mc_item.specs.Stripe.{cache_after, cache_from, cache_of, IsLegalFrom,
 use Rattle.mc_item.specs.declared.{answer.Site.Site, class_event.ClassEvent.ClassEvent, item.ClassNo.ClassNo, item.Item.Item}
 use Rattle.mc_item.specs.declared.{stripe_event.StripeEvent.StripeEvent}
 use Rattle.mc_rule.specs.Lawful.{IsLawfulByLists, IsLawfulByListsFrom, IsLawfulFrom, IsLawfulHistory, IsLawfulHistoryByLists, is_named, names}
-use Rattle.mc_rule.specs.{Lists.Lists, Lists.lists_after, Lists.lists_from, Lists.lists_of, Lists.no_lists, Places.Stands, Segment.Rule}
+use Rattle.mc_rule.specs.{Lists.chunks_after, Lists.chunks_from, Lists.Lists, Lists.lists_after, Lists.lists_from, Lists.lists_of, Lists.no_lists, Places.Stands, Segment.Rule}
 
 -- ---- a class
 
@@ -18,6 +18,11 @@ lists_from-push l (x ∷ es) e = lists_from-push (lists_after l x) es e
 
 pub lists_of-push : (es : List ClassEvent) (e : ClassEvent) → lists_of (es ++ e ∷ []) ≡ lists_after (lists_of es) e
 lists_of-push es e = lists_from-push no_lists es e
+
+-- the limit of chunks, one event later
+pub chunks_from-push : (chunks : ℕ) (es : List ClassEvent) (e : ClassEvent) → chunks_from chunks (es ++ e ∷ []) ≡ chunks_after (chunks_from chunks es) e
+chunks_from-push chunks [] e = refl
+chunks_from-push chunks (x ∷ es) e = chunks_from-push (chunks_after chunks x) es e
 
 either_of : (a b c : Bool) → (a || (b || c)) ≡ ((a || b) || c)
 either_of true b c = refl

@@ -171,6 +171,7 @@ other_stays n l (events.Evicted e) h = unlinked_other n e.number l (λ k. false�
 other_stays n l (events.Reclaimed e) h = unlinked_other n e.number l (λ k. false≢true (sym h ∙ (ap (λ m. m == n) k ∙ itself n)))
 other_stays n l (events.Surveyed e) h = refl
 other_stays n l (events.Refused e) h = refl
+other_stays n l (events.Limited e) h = refl
 
 -- and how often it stands
 pub other_times : (n : ℕ) (l : Lists) (e : ClassEvent) → names n e ≡ false → times_in n (lists_after l e) ≡ times_in n l
@@ -181,6 +182,7 @@ other_times n l (events.Evicted e) h = unlinked_times_other n e.number l (λ k. 
 other_times n l (events.Reclaimed e) h = unlinked_times_other n e.number l (λ k. false≢true (sym h ∙ (ap (λ m. m == n) k ∙ itself n)))
 other_times n l (events.Surveyed e) h = refl
 other_times n l (events.Refused e) h = refl
+other_times n l (events.Limited e) h = refl
 
 -- ---- events of the number
 

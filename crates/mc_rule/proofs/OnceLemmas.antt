@@ -41,6 +41,7 @@ module _ (chunks : ℕ) (rule : Rule) where
       omega arith
   named_times n h (events.Surveyed e) inv may is = absurd (false≢true is)
   named_times n h (events.Refused e) inv may is = absurd (false≢true is)
+  named_times n h (events.Limited e) inv may is = absurd (false≢true is)
 
   still_numbered : (h : List ClassEvent) (e : ClassEvent) → IsNumbered h → IsLawfulByLists chunks rule h e → IsNumbered (h ++ e ∷ [])
   still_numbered h e inv may = record {

@@ -26,3 +26,4 @@ IsSuited site class seen behind (entries.Reclaimed e) =
     OfStripe site behind e.number (λ key. IsCitedIn site class seen e.number e.at (λ item. is_dead item e.moment ≡ true) key)
 IsSuited site class seen behind (entries.Surveyed e) = Unit {0}
 IsSuited site class seen behind (entries.Refused e) = Unit {0}
+IsSuited site class seen behind (entries.Limited e) = Unit {0}

@@ -36,8 +36,8 @@ HasTrace site rule class seen before (items.Cooled cooled) =
 abbrev pub OfStripe : Site → List ClassEvent → ℕ → (List ℕ → Type 0) → Type 0
 OfStripe site behind number P = (s : Seg) (entry : Entry) → found number (lists_of behind) ≡ Some (s, entry) → IsKeyOf site entry.key → P entry.key
 
--- a stripe's history has the partner of a class's event, if the event's entry has a key of that stripe; surveys, refusals, and
--- moves that clear no mark need none
+-- a stripe's history has the partner of a class's event, if the event's entry has a key of that stripe; surveys, refusals,
+-- new limits, and moves that clear no mark need none
 abbrev pub IsBacked : Site → Rule → ClassNo → List StripeEvent → List ClassEvent → ClassEvent → Type 0
 IsBacked site rule class seen behind (entries.Linked e) = IsKeyOf site e.key → Has items.Did seen (λ before did. IsLinking site rule class before did e)
 IsBacked site rule class seen behind (entries.Unlinked e) =
@@ -50,6 +50,7 @@ IsBacked site rule class seen behind (entries.Shifted e) =
     ClearsMark e.why → OfStripe site behind e.number (λ key. Has items.Cooled seen (λ before cooled. (cooled.key ≡ key) × IsCooling site class before cooled e))
 IsBacked site rule class seen behind (entries.Surveyed e) = Unit {0}
 IsBacked site rule class seen behind (entries.Refused e) = Unit {0}
+IsBacked site rule class seen behind (entries.Limited e) = Unit {0}
 
 -- a stripe's history and a class's are evidence of each other: each has the partners of the other's events
 pub record AreEvidence (site : Site) (rule : Rule) (class : ClassNo) (stripe : List StripeEvent) (history : List ClassEvent) : Type 0 where

@@ -1,6 +1,7 @@
 -- Which events of a slab class are lawful after the earlier ones (this project's own, modelled on items.c): first by its lists
--- alone, then also by the item that an event refers to (the cited item). A moment is a time in seconds.
-use Rattle.std.specs.Prelude.{ℕ, ◌<◌, ◌≤◌, ◌≡◌, ◌==◌, ◌||◌, ◌⊎◌, List, [], ◌∷◌, ◌++◌, Bool, true, false, Option, Some, slice_get, IsSome}
+-- alone, then also by the item that an event refers to (the cited item). A moment is a time in seconds, and `chunks` is the
+-- limit of chunks with which the class opened.
+use Rattle.std.specs.Prelude.{ℕ, ◌^◌, ◌<◌, ◌≤◌, ◌≡◌, ◌==◌, ◌||◌, ◌⊎◌, List, [], ◌∷◌, ◌++◌, Bool, true, false, Option, Some, slice_get, IsSome}
 use Rattle.std.specs.Option.{IsSomeAnd}
 use Rattle.mc_item.specs.declared.{class_event.ClassEvent.ClassEvent, class_event.Shifted.Shifted, class_event.Surveyed.Surveyed, class_event.Why.Why}
 use Rattle.mc_item.specs.declared.{item.ClassNo.ClassNo, item.Item.Item, lists.Entry.Entry, lists.Seg.Seg}
@@ -8,7 +9,7 @@ use Rattle.mc_item.specs.declared.class_event.ClassEvent.TheVariants as events
 use Rattle.mc_item.specs.declared.class_event.Why.TheVariants as whys
 use Rattle.mc_item.specs.declared.lists.Seg.TheVariants.{Hot, Warm, Cold, Temp}
 use Rattle.mc_item.specs.Item.{is_dead}
-use Rattle.mc_rule.specs.Lists.{IsFull, Lists, bytes_of, count_of, find, found, list_of, lists_of}
+use Rattle.mc_rule.specs.Lists.{HasFree, IsFull, Lists, bytes_of, find, found, list_of, lists_of}
 use Rattle.mc_rule.specs.Segment.{IsNearTail, Rule, age_of, cold_age_of, greatest_age_of, limit_of, total_of}
 
 -- whether an event is about the entry of this number
@@ -20,6 +21,7 @@ names n (events.Evicted e) = e.number == n
 names n (events.Reclaimed e) = e.number == n
 names n (events.Surveyed e) = false
 names n (events.Refused e) = false
+names n (events.Limited e) = false
 
 -- whether one of these events is about the entry of this number
 abbrev pub is_named : ℕ → List ClassEvent → Bool
@@ -70,19 +72,20 @@ IsMove chunks rule before e (whys.Over place) =
     IsSurveyed e.from_seg × (e.to_seg ≡ Cold) × IsByTail before e × ((survey : Surveyed) × Cites before place e survey × IsOver rule before e survey)
 IsMove chunks rule before e (whys.Old place) =
     IsSurveyed e.from_seg × (e.to_seg ≡ Cold) × IsByTail before e × ((survey : Surveyed) × Cites before place e survey × IsOld rule before e survey)
-IsMove chunks rule before e whys.Forced = (e.from_seg ≡ Hot) × (e.to_seg ≡ Cold) × IsByTail before e × IsFull chunks (lists_of before)
+IsMove chunks rule before e whys.Forced = (e.from_seg ≡ Hot) × (e.to_seg ≡ Cold) × IsByTail before e × IsFull chunks before
 
--- an event is lawful after the earlier ones, by the lists alone, in a class with this many chunks and this rule
+-- an event is lawful after the earlier ones, by the lists alone, in a class that opened with this limit and has this rule
 abbrev pub IsLawfulByLists : ℕ → Rule → List ClassEvent → ClassEvent → Type 0
-IsLawfulByLists chunks rule before (events.Linked e) = (count_of (lists_of before) < chunks) × (is_named e.number before ≡ false)
+IsLawfulByLists chunks rule before (events.Linked e) = HasFree chunks before × (is_named e.number before ≡ false)
 IsLawfulByLists chunks rule before (events.Unlinked e) = IsListed e.number (lists_of before)
 IsLawfulByLists chunks rule before (events.Shifted e) = IsIn e.from_seg e.number (lists_of before) × IsMove chunks rule before e e.why
 IsLawfulByLists chunks rule before (events.Evicted e) =
-    IsIn Cold e.number (lists_of before) × IsFull chunks (lists_of before) × IsNearTail e.number (lists_of before).cold e.passed
+    IsIn Cold e.number (lists_of before) × IsFull chunks before × IsNearTail e.number (lists_of before).cold e.passed
 IsLawfulByLists chunks rule before (events.Reclaimed e) = IsListed e.number (lists_of before)
 IsLawfulByLists chunks rule before (events.Surveyed e) =
     (e.total ≡ total_of (lists_of before)) × (e.cold_age ≡ cold_age_of e.moment (lists_of before))
-IsLawfulByLists chunks rule before (events.Refused e) = IsFull chunks (lists_of before)
+IsLawfulByLists chunks rule before (events.Refused e) = IsFull chunks before
+IsLawfulByLists chunks rule before (events.Limited e) = (1 ≤ e.chunks) × (e.chunks ≤ 2 ^ 20)
 
 -- each of these events is lawful after the events `before` and the earlier ones of these, by the lists alone
 abbrev pub IsLawfulByListsFrom : ℕ → Rule → List ClassEvent → List ClassEvent → Type 0
@@ -115,6 +118,7 @@ SuitsItem class cited before (events.Evicted e) = Unit {0}
 SuitsItem class cited before (events.Reclaimed e) = IsCited class cited (lists_of before) e.number e.at (λ item. is_dead item e.moment ≡ true)
 SuitsItem class cited before (events.Surveyed e) = Unit {0}
 SuitsItem class cited before (events.Refused e) = Unit {0}
+SuitsItem class cited before (events.Limited e) = Unit {0}
 
 -- an event of a class is lawful after the earlier ones, by the lists and by the cited item; `cited` gives the item that was held
 -- under a key when its stripe had a given number of events

@@ -1,5 +1,5 @@
 -- The four lists of a slab class, newest first, and how events change them (this project's own, after new_lru.txt and items.c).
-use Rattle.std.specs.Prelude.{ℕ, ◌+◌, ◌≤◌, ◌==◌, List, [], ◌∷◌, if◌then◌else◌, Option, Some, None, length, reverse, slice_get}
+use Rattle.std.specs.Prelude.{ℕ, ◌+◌, ◌<◌, ◌≤◌, ◌==◌, List, [], ◌∷◌, if◌then◌else◌, Option, Some, None, length, reverse, slice_get}
 use Rattle.std.specs.Option.{option_map}
 use Rattle.mc_item.specs.declared.{lists.Entry.Entry, lists.Seg.Seg, class_event.ClassEvent.ClassEvent, class_event.Why.Why}
 use Rattle.mc_item.specs.declared.lists.Seg.TheVariants.{Hot, Warm, Cold, Temp}
@@ -80,6 +80,7 @@ lists_after l (events.Evicted e) = unlinked e.number l
 lists_after l (events.Reclaimed e) = unlinked e.number l
 lists_after l (events.Surveyed e) = l
 lists_after l (events.Refused e) = l
+lists_after l (events.Limited e) = l
 
 -- the lists after these events, from these lists on
 abbrev pub lists_from : Lists → List ClassEvent → Lists
@@ -103,9 +104,29 @@ bytes_of l s = cost_sum (list_of l s)
 abbrev pub count_of : Lists → ℕ
 count_of l = length l.hot + length l.warm + length l.cold + length l.temp
 
--- each chunk of the class is taken: there are at least as many entries as chunks
-abbrev pub IsFull : ℕ → Lists → Type 0
-IsFull chunks l = chunks ≤ count_of l
+-- the limit of chunks after one event
+abbrev pub chunks_after : ℕ → ClassEvent → ℕ
+chunks_after chunks (events.Linked e) = chunks
+chunks_after chunks (events.Unlinked e) = chunks
+chunks_after chunks (events.Shifted e) = chunks
+chunks_after chunks (events.Evicted e) = chunks
+chunks_after chunks (events.Reclaimed e) = chunks
+chunks_after chunks (events.Surveyed e) = chunks
+chunks_after chunks (events.Refused e) = chunks
+chunks_after chunks (events.Limited e) = e.chunks
+
+-- the limit of chunks after these events, from this limit on
+abbrev pub chunks_from : ℕ → List ClassEvent → ℕ
+chunks_from chunks [] = chunks
+chunks_from chunks (e ∷ es) = chunks_from (chunks_after chunks e) es
+
+-- the class is full after this history: it has at least as many entries as its limit. `chunks` is the limit with which it opened
+abbrev pub IsFull : ℕ → List ClassEvent → Type 0
+IsFull chunks history = chunks_from chunks history ≤ count_of (lists_of history)
+
+-- the class has a free chunk after this history: it has fewer entries than its limit. `chunks` is the limit with which it opened
+abbrev pub HasFree : ℕ → List ClassEvent → Type 0
+HasFree chunks history = count_of (lists_of history) < chunks_from chunks history
 
 -- the segment with the entry that was found in it, otherwise what was found elsewhere
 abbrev pub found_in : Seg → Option Entry → Option (Seg × Entry) → Option (Seg × Entry)
@@ -142,6 +163,7 @@ entries_linked_by (events.Evicted e) = 0
 entries_linked_by (events.Reclaimed e) = 0
 entries_linked_by (events.Surveyed e) = 0
 entries_linked_by (events.Refused e) = 0
+entries_linked_by (events.Limited e) = 0
 
 -- how many entries these events linked: as entries are numbered from 0, this is the number of the next one
 abbrev pub entries_linked : List ClassEvent → ℕ

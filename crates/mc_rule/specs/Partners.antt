@@ -13,6 +13,7 @@ Links n (entries.Evicted e) = ⊥
 Links n (entries.Reclaimed e) = ⊥
 Links n (entries.Surveyed e) = ⊥
 Links n (entries.Refused e) = ⊥
+Links n (entries.Limited e) = ⊥
 
 -- an event of a class takes the entry of this number out of the lists
 abbrev pub TakesOut : ℕ → ClassEvent → Type 0
@@ -23,6 +24,7 @@ TakesOut n (entries.Evicted e) = e.number ≡ n
 TakesOut n (entries.Reclaimed e) = e.number ≡ n
 TakesOut n (entries.Surveyed e) = ⊥
 TakesOut n (entries.Refused e) = ⊥
+TakesOut n (entries.Limited e) = ⊥
 
 -- a move clears a mark that another one among the earlier events has cleared: for the same entry, at the same place of the stripe
 pub record ClearsAgain (behind : List ClassEvent) (e : Shifted) : Type 0 where
@@ -43,3 +45,4 @@ ClearsOnce behind (entries.Evicted e) = Unit {0}
 ClearsOnce behind (entries.Reclaimed e) = Unit {0}
 ClearsOnce behind (entries.Surveyed e) = Unit {0}
 ClearsOnce behind (entries.Refused e) = Unit {0}
+ClearsOnce behind (entries.Limited e) = Unit {0}

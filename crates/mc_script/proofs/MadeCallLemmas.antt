@@ -1,15 +1,14 @@
 -- Calls that were made, one behind the other, and a get, key by key.
 use Rattle.std.proofs.Common.{◌≡◌, ◌+◌, ◌≤◌, ℕ, zero, suc, List, [], ◌∷◌, ◌++◌, refl, sym, ap, ◌∙◌, append_assoc, append-nil, length, arith, Bool, length-append, map, take, drop, subst}
-use Rattle.std.specs.Prelude.{Option, None, Some}
+use Rattle.std.specs.Prelude.{Option, None, Some, ℤ}
 use Rattle.std.proofs.lemmas.List.{map-append}
-use Rattle.mc_item.specs.declared.command.Command.TheVariants as commands
 use Rattle.mc_item.specs.declared.{fault.Fault.Fault, reply.Reply.Reply}
 use Rattle.mc_item.specs.declared.fault.Fault.TheVariants as faults
-use Rattle.mc_proto.specs.{Answers.Answer, Answers.Replied, Answers.replies_of, Text.end_text, Text.value_text, Text.values_text}
+use Rattle.mc_proto.specs.{Answers.Answer, Answers.Replied, Answers.replies_of, Answers.text_of, Text.end_text, Text.value_text, Text.values_text}
 use Rattle.mc_proto.specs.declared.request.Limits.{Limits}
-use Rattle.mc_proto.specs.declared.request.Request.TheVariants as requests
-use Rattle.mc_script.specs.Calls.{AddsCalls, Answers, AnswersKey, AreCutOff, Begins, Breaks, BreaksOff, Fails, FailsKey, IsPart, MakesCalls, Notes}
+use Rattle.mc_script.specs.Calls.{AddsCalls, Answers, AnswersKey, AreCutOff, Begins, Breaks, BreaksOff, Fails, FailsKey, IsPart, MakesCalls, Notes, reading_command, reading_request}
 use Rattle.mc_script.specs.Exchanges.{AreAnswers, Asks, Begun, ScriptCall, Exchange, IsOfKind, MayBegin, exchange, exchanges}
+use Rattle.mc_script.specs.Script.{calls_of}
 
 -- nothing was added
 pub adds_none : (notes : Notes) → AddsCalls notes notes []
@@ -224,24 +223,35 @@ begins_further (x ∷ a) (y ∷ b) (z ∷ c) first second =
     cc
 
 -- the call of a key
-abbrev asks : List ℕ → ScriptCall
-asks key = Asks (commands.Get key)
+abbrev asks : Option ℤ → List ℕ → ScriptCall
+asks exptime key = Asks (reading_command exptime key)
+
+-- the calls of the request that reads keys
+calls_read : (limits : Limits) (exptime : Option ℤ) (keys : List (List ℕ)) (with_cas : Bool) → calls_of limits (reading_request exptime keys with_cas) ≡ map (asks exptime) keys
+calls_read limits None keys with_cas = refl
+calls_read limits (Some e) keys with_cas = refl
+
+-- its text
+text_read : (exptime : Option ℤ) (keys : List (List ℕ)) (with_cas : Bool) (answers : List Answer)
+    → text_of (reading_request exptime keys with_cas) answers ≡ values_text with_cas keys (replies_of answers) ++ end_text
+text_read None keys with_cas answers = refl
+text_read (Some e) keys with_cas answers = refl
 
 -- replies as answers
 replies_of-map : (replies : List Reply) → replies_of (map Replied replies) ≡ replies
 replies_of-map [] = refl
 replies_of-map (r ∷ rs) = ap (λ (t : List Reply). r ∷ t) (replies_of-map rs)
 
--- so far these keys of a get were answered
-pub record HasKeys (keys : List (List ℕ)) (with_cas : Bool) (caller turn turn' moment : ℕ) (notes notes' : Notes) (text text' : List ℕ) : Type 0 where
+-- so far these keys of a get or gat were answered
+pub record HasKeys (keys : List (List ℕ)) (exptime : Option ℤ) (with_cas : Bool) (caller turn turn' moment : ℕ) (notes notes' : Notes) (text text' : List ℕ) : Type 0 where
   pub replies : List Reply
   pub long : length replies ≡ length keys
   pub texts : text' ≡ text ++ values_text with_cas keys replies
-  pub makes : MakesCalls (map (λ key. Asks (commands.Get key)) keys) (map Replied replies) caller turn turn' moment notes notes'
+  pub makes : MakesCalls (map (λ key. Asks (reading_command exptime key)) keys) (map Replied replies) caller turn turn' moment notes notes'
 
 -- none yet
-pub keys_none : (with_cas : Bool) (caller turn moment : ℕ) (notes : Notes) (text : List ℕ) → HasKeys [] with_cas caller turn turn moment notes notes text text
-keys_none with_cas caller turn moment notes text = record {
+pub keys_none : (exptime : Option ℤ) (with_cas : Bool) (caller turn moment : ℕ) (notes : Notes) (text : List ℕ) → HasKeys [] exptime with_cas caller turn turn moment notes notes text text
+keys_none exptime with_cas caller turn moment notes text = record {
   replies = [];
   long = refl;
   texts = sym (append-nil text);
@@ -249,49 +259,51 @@ keys_none with_cas caller turn moment notes text = record {
 }
 
 -- one key more
-pub keys_more : (keys : List (List ℕ)) (key : List ℕ) (with_cas : Bool) (caller caller' turn turn' turn'' moment : ℕ) (notes notes' notes'' : Notes) (text text' text'' : List ℕ)
-    → HasKeys keys with_cas caller turn turn' moment notes notes' text text' → caller' ≡ caller
-    → AnswersKey key with_cas caller' turn' turn'' moment notes' notes'' text' text''
-    → HasKeys (keys ++ key ∷ []) with_cas caller turn turn'' moment notes notes'' text text''
-keys_more keys key with_cas caller caller' turn turn' turn'' moment notes notes' notes'' text text' text'' so_far same by =
-    let both = makes_both (map asks keys) (asks key ∷ []) (map Replied so_far.replies) (Replied by.reply ∷ []) caller caller' turn turn' turn'' moment notes notes' notes'' so_far.makes same by.makes in
+pub keys_more : (keys : List (List ℕ)) (key : List ℕ) (exptime : Option ℤ) (with_cas : Bool) (caller caller' turn turn' turn'' moment : ℕ) (notes notes' notes'' : Notes) (text text' text'' : List ℕ)
+    → HasKeys keys exptime with_cas caller turn turn' moment notes notes' text text' → caller' ≡ caller
+    → AnswersKey key exptime with_cas caller' turn' turn'' moment notes' notes'' text' text''
+    → HasKeys (keys ++ key ∷ []) exptime with_cas caller turn turn'' moment notes notes'' text text''
+keys_more keys key exptime with_cas caller caller' turn turn' turn'' moment notes notes' notes'' text text' text'' so_far same by =
+    let both = makes_both (map (asks exptime) keys) (asks exptime key ∷ []) (map Replied so_far.replies) (Replied by.reply ∷ []) caller caller' turn turn' turn'' moment notes notes' notes'' so_far.makes same by.makes in
     record {
       replies = so_far.replies ++ by.reply ∷ [];
       long = omega (arith, so_far.long, length-append so_far.replies (by.reply ∷ []), length-append keys (key ∷ []));
       texts = by.texts ∙ ap (λ (t : List ℕ). t ++ value_text key by.reply with_cas) so_far.texts ∙ append_assoc text (values_text with_cas keys so_far.replies) (value_text key by.reply with_cas)
           ∙ ap (λ (t : List ℕ). text ++ t) (sym (values_text-push with_cas keys so_far.replies key by.reply so_far.long));
-      makes = subst (λ (cs : List ScriptCall). MakesCalls cs (map Replied (so_far.replies ++ by.reply ∷ [])) caller turn turn'' moment notes notes'') (sym (map-append asks keys (key ∷ [])))
-          (subst (λ (bs : List Answer). MakesCalls (map asks keys ++ asks key ∷ []) bs caller turn turn'' moment notes notes'') (sym (map-append Replied so_far.replies (by.reply ∷ []))) both);
+      makes = subst (λ (cs : List ScriptCall). MakesCalls cs (map Replied (so_far.replies ++ by.reply ∷ [])) caller turn turn'' moment notes notes'') (sym (map-append (asks exptime) keys (key ∷ [])))
+          (subst (λ (bs : List Answer). MakesCalls (map (asks exptime) keys ++ asks exptime key ∷ []) bs caller turn turn'' moment notes notes'') (sym (map-append Replied so_far.replies (by.reply ∷ []))) both);
     }
 
 -- all keys, and the end of the text
-pub keys_all : (all keys : List (List ℕ)) (with_cas : Bool) (caller turn turn' moment : ℕ) (notes notes' : Notes) (text text' text'' : List ℕ)
-    → all ≡ keys → HasKeys keys with_cas caller turn turn' moment notes notes' text text' → text'' ≡ text' ++ end_text
-    → (limits : Limits) → Answers limits (requests.Get all with_cas) caller turn turn' moment notes notes' text text''
-keys_all all keys with_cas caller turn turn' moment notes notes' text text' text'' whole so_far last limits =
-    let made : Answers limits (requests.Get keys with_cas) caller turn turn' moment notes notes' text text'' = record {
+pub keys_all : (all keys : List (List ℕ)) (exptime : Option ℤ) (with_cas : Bool) (caller turn turn' moment : ℕ) (notes notes' : Notes) (text text' text'' : List ℕ)
+    → all ≡ keys → HasKeys keys exptime with_cas caller turn turn' moment notes notes' text text' → text'' ≡ text' ++ end_text
+    → (limits : Limits) → Answers limits (reading_request exptime all with_cas) caller turn turn' moment notes notes' text text''
+keys_all all keys exptime with_cas caller turn turn' moment notes notes' text text' text'' whole so_far last limits =
+    let made : Answers limits (reading_request exptime keys with_cas) caller turn turn' moment notes notes' text text'' = record {
       answers = map Replied so_far.replies;
       texts = last ∙ ap (λ (t : List ℕ). t ++ end_text) so_far.texts ∙ append_assoc text (values_text with_cas keys so_far.replies) end_text
-          ∙ ap (λ (rs : List Reply). text ++ (values_text with_cas keys rs ++ end_text)) (sym (replies_of-map so_far.replies));
-      makes = so_far.makes;
+          ∙ ap (λ (rs : List Reply). text ++ (values_text with_cas keys rs ++ end_text)) (sym (replies_of-map so_far.replies))
+          ∙ ap (λ (t : List ℕ). text ++ t) (sym (text_read exptime keys with_cas (map Replied so_far.replies)));
+      makes = subst (λ (cs : List ScriptCall). MakesCalls cs (map Replied so_far.replies) caller turn turn' moment notes notes') (sym (calls_read limits exptime keys with_cas)) so_far.makes;
     } in
-    subst (λ (ks : List (List ℕ)). Answers limits (requests.Get ks with_cas) caller turn turn' moment notes notes' text text'') (sym whole) made
+    subst (λ (ks : List (List ℕ)). Answers limits (reading_request exptime ks with_cas) caller turn turn' moment notes notes' text text'') (sym whole) made
 
 -- one key failed behind others
-pub keys_fail : (all keys : List (List ℕ)) (key : List ℕ) (others : List (List ℕ)) (fault : Fault) (with_cas : Bool) (caller caller' turn turn' moment : ℕ)
+pub keys_fail : (all keys : List (List ℕ)) (key : List ℕ) (others : List (List ℕ)) (fault : Fault) (exptime : Option ℤ) (with_cas : Bool) (caller caller' turn turn' moment : ℕ)
     (notes notes' notes'' : Notes) (text text' : List ℕ)
-    → all ≡ keys ++ key ∷ others → HasKeys keys with_cas caller turn turn' moment notes notes' text text' → caller' ≡ caller
-    → FailsKey fault key caller' turn' moment notes' notes''
-    → (limits : Limits) → Fails fault limits (requests.Get all with_cas) caller turn moment notes notes''
-keys_fail all keys key others fault with_cas caller caller' turn turn' moment notes notes' notes'' text text' split so_far same by limits =
-    let made : Breaks fault (map asks keys ++ (asks key ∷ [] ++ map asks others)) caller turn moment notes notes'' =
-    breaks_later fault (map asks keys) (asks key ∷ []) (map asks others) (map Replied so_far.replies) caller caller' turn turn' moment notes notes' notes'' so_far.makes same by in
-    subst (λ (ks : List (List ℕ)). Fails fault limits (requests.Get ks with_cas) caller turn moment notes notes'') (sym split)
-    (subst (λ (cs : List ScriptCall). Breaks fault cs caller turn moment notes notes'') (sym (map-append asks keys (key ∷ others))) made)
+    → all ≡ keys ++ key ∷ others → HasKeys keys exptime with_cas caller turn turn' moment notes notes' text text' → caller' ≡ caller
+    → FailsKey fault key exptime caller' turn' moment notes' notes''
+    → (limits : Limits) → Fails fault limits (reading_request exptime all with_cas) caller turn moment notes notes''
+keys_fail all keys key others fault exptime with_cas caller caller' turn turn' moment notes notes' notes'' text text' split so_far same by limits =
+    let made : Breaks fault (map (asks exptime) keys ++ (asks exptime key ∷ [] ++ map (asks exptime) others)) caller turn moment notes notes'' =
+    breaks_later fault (map (asks exptime) keys) (asks exptime key ∷ []) (map (asks exptime) others) (map Replied so_far.replies) caller caller' turn turn' moment notes notes' notes'' so_far.makes same by in
+    subst (λ (ks : List (List ℕ)). Fails fault limits (reading_request exptime ks with_cas) caller turn moment notes notes'') (sym split)
+    (subst (λ (cs : List ScriptCall). Breaks fault cs caller turn moment notes notes'') (sym (calls_read limits exptime (keys ++ key ∷ others) with_cas ∙ map-append (asks exptime) keys (key ∷ others))) made)
 
 -- all keys were answered, and then there was no memory for the end of the text
-pub keys_end_fails : (all keys : List (List ℕ)) (with_cas : Bool) (caller turn turn' moment : ℕ) (notes notes' : Notes) (text text' : List ℕ)
-    → all ≡ keys → HasKeys keys with_cas caller turn turn' moment notes notes' text text' → (limits : Limits) → Fails faults.NoMemory limits (requests.Get all with_cas) caller turn moment notes notes'
-keys_end_fails all keys with_cas caller turn turn' moment notes notes' text text' whole so_far limits =
-    subst (λ (ks : List (List ℕ)). Fails faults.NoMemory limits (requests.Get ks with_cas) caller turn moment notes notes') (sym whole)
-    (breaks_end (map asks keys) (map Replied so_far.replies) caller turn turn' moment notes notes' so_far.makes)
+pub keys_end_fails : (all keys : List (List ℕ)) (exptime : Option ℤ) (with_cas : Bool) (caller turn turn' moment : ℕ) (notes notes' : Notes) (text text' : List ℕ)
+    → all ≡ keys → HasKeys keys exptime with_cas caller turn turn' moment notes notes' text text' → (limits : Limits) → Fails faults.NoMemory limits (reading_request exptime all with_cas) caller turn moment notes notes'
+keys_end_fails all keys exptime with_cas caller turn turn' moment notes notes' text text' whole so_far limits =
+    subst (λ (ks : List (List ℕ)). Fails faults.NoMemory limits (reading_request exptime ks with_cas) caller turn moment notes notes') (sym whole)
+    (subst (λ (cs : List ScriptCall). Breaks faults.NoMemory cs caller turn moment notes notes') (sym (calls_read limits exptime keys with_cas))
+    (breaks_end (map (asks exptime) keys) (map Replied so_far.replies) caller turn turn' moment notes notes' so_far.makes))

@@ -4,7 +4,7 @@ use Rattle.std.specs.List.{sum}
 use Rattle.std.proofs.lemmas.List.Sums.{sum_by-cons}
 use Rattle.mc_item.specs.Counts.{FitInPairs, FitsTogether, added, no_counts, sums}
 use Rattle.mc_item.specs.declared.{counts.Histogram.Histogram, counts.Moves.Moves}
-use Rattle.mc_proto.specs.Answers.{Answer, Counted, Moved, Replied, counts_of, moves_of, moves_sum}
+use Rattle.mc_proto.specs.Answers.{Answer, Counted, Limited, Moved, Replied, counts_of, moves_of, moves_sum}
 use Rattle.mc_script.specs.Calls.{AddsUp}
 
 -- moves may be summed in any order
@@ -26,6 +26,7 @@ pub moves_of-push : (answers : List Answer) (sums moves : Moves) → sums ≡ mo
 moves_of-push [] sums moves is = rw is (sym (moves_sum-none moves))
 moves_of-push (Replied reply ∷ bs) sums moves is = moves_of-push bs sums moves is
 moves_of-push (Counted histogram ∷ bs) sums moves is = moves_of-push bs sums moves is
+moves_of-push (Limited ∷ bs) sums moves is = moves_of-push bs sums moves is
 moves_of-push (Moved first ∷ bs) sums moves is =
     ap (λ s. moves_sum s moves) is ∙ moves_sum-assoc first (moves_of bs) moves ∙ ap (moves_sum first) (moves_of-push bs (moves_of bs) moves refl)
 
@@ -78,6 +79,7 @@ pub counts_of-push : (answers : List Answer) (sum histogram : Histogram) → sum
 counts_of-push [] sum histogram is = rw is (added-comm no_counts histogram)
 counts_of-push (Replied reply ∷ bs) sum histogram is = counts_of-push bs sum histogram is
 counts_of-push (Moved moves ∷ bs) sum histogram is = counts_of-push bs sum histogram is
+counts_of-push (Limited ∷ bs) sum histogram is = counts_of-push bs sum histogram is
 counts_of-push (Counted first ∷ bs) sum histogram is =
     ap (λ s. added s histogram) is ∙ added-assoc first (counts_of bs) histogram ∙ ap (added first) (counts_of-push bs (counts_of bs) histogram refl)
 

@@ -1,10 +1,12 @@
 -- What is known of a caller's calls so far (`notes`), and what a request adds to it.
-use Rattle.std.specs.Prelude.{ℕ, ◌≡◌, ◌≤◌, ◌<◌, ◌+◌, Bool, List, [], ◌∷◌, ◌++◌, Option, None, length, map, take, drop}
+use Rattle.std.specs.Prelude.{ℕ, ℤ, ◌≡◌, ◌≤◌, ◌<◌, ◌+◌, Bool, List, [], ◌∷◌, ◌++◌, Option, Some, None, length, map, take, drop}
 use Rattle.std.specs.List.{sum}
-use Rattle.mc_item.specs.declared.{command.Command.TheVariants.Get, fault.Fault.Fault, item.ClassNo.ClassNo, counts.Histogram.Histogram, reply.Reply.Reply}
+use Rattle.mc_item.specs.declared.{command.Command.Command, fault.Fault.Fault, item.ClassNo.ClassNo, counts.Histogram.Histogram, reply.Reply.Reply}
+use Rattle.mc_item.specs.declared.command.Command.TheVariants.{Get, Gat}
 use Rattle.mc_item.specs.declared.fault.Fault.TheVariants as faults
 use Rattle.mc_proto.specs.{Answers.Answer, Answers.Replied, Answers.text_of, Text.value_text}
 use Rattle.mc_proto.specs.declared.{request.Limits.Limits, request.Request.Request}
+use Rattle.mc_proto.specs.declared.request.Request.TheVariants as requests
 use Rattle.mc_script.specs.Exchanges.{AreAnswers, Asks, Begun, Exchange, MayBegin, ScriptCall, exchanges}
 use Rattle.mc_script.specs.Script.{calls_of}
 
@@ -55,15 +57,26 @@ pub record Answers (limits : Limits) (request : Request) (caller turn turn' mome
 abbrev pub Fails : Fault → Limits → Request → ℕ → ℕ → ℕ → Notes → Notes → Type 0
 Fails fault limits request caller turn moment notes notes' = Breaks fault (calls_of limits request) caller turn moment notes notes'
 
--- one key of a get was answered: its call was made, and on a hit the value's text was added
-pub record AnswersKey (key : List ℕ) (with_cas : Bool) (caller turn turn' moment : ℕ) (notes notes' : Notes) (text text' : List ℕ) : Type 0 where
+-- the command that reads a key: a gat if there is an exptime, otherwise a get
+abbrev pub reading_command : Option ℤ → List ℕ → Command
+reading_command None key = Get key
+reading_command (Some exptime) key = Gat key exptime
+
+-- the request that reads keys: a gat if there is an exptime, otherwise a get
+abbrev pub reading_request : Option ℤ → List (List ℕ) → Bool → Request
+reading_request None keys with_cas = requests.Get keys with_cas
+reading_request (Some exptime) keys with_cas = requests.Gat exptime keys with_cas
+
+-- one key of a get or gat was answered: its call was made, and on a hit the value's text was added
+pub record AnswersKey (key : List ℕ) (exptime : Option ℤ) (with_cas : Bool) (caller turn turn' moment : ℕ) (notes notes' : Notes)
+    (text text' : List ℕ) : Type 0 where
   pub reply : Reply
   pub texts : text' ≡ text ++ value_text key reply with_cas
-  pub makes : MakesCalls (Asks (Get key) ∷ []) (Replied reply ∷ []) caller turn turn' moment notes notes'
+  pub makes : MakesCalls (Asks (reading_command exptime key) ∷ []) (Replied reply ∷ []) caller turn turn' moment notes notes'
 
--- the call for one key of a get failed, or memory for its text ran out
-abbrev pub FailsKey : Fault → List ℕ → ℕ → ℕ → ℕ → Notes → Notes → Type 0
-FailsKey fault key caller turn moment notes notes' = Breaks fault (Asks (Get key) ∷ []) caller turn moment notes notes'
+-- the call for one key of a get or gat failed, or memory for its text ran out
+abbrev pub FailsKey : Fault → List ℕ → Option ℤ → ℕ → ℕ → ℕ → Notes → Notes → Type 0
+FailsKey fault key exptime caller turn moment notes notes' = Breaks fault (Asks (reading_command exptime key) ∷ []) caller turn moment notes notes'
 
 -- the maintainer or the crawler worked on these classes in order, and its moves or histograms have this sum
 pub record SumsUp {S : Type 0} (call : ClassNo → ScriptCall) (sum_of : List Answer

@@ -1,25 +1,34 @@
 -- Calls, and exchanges: a call with its answer, in a turn of its caller (the call's number).
 use Rattle.std.specs.Prelude.{ℕ, ◌≡◌, ◌+◌, List, [], ◌∷◌, Option, Some, None}
 use Rattle.mc_item.specs.declared.{command.Command.Command, item.ClassNo.ClassNo, item.Who.Who}
-use Rattle.mc_proto.specs.Answers.{Answer, Counted, Replied, Moved}
+use Rattle.mc_proto.specs.Answers.{Answer, Counted, Limited, Replied, Moved}
 
--- a call: a command, or the maintainer's or the crawler's work on a slab class
+-- a call: a command, the maintainer's or the crawler's work on a slab class, or a class's new limit of chunks
 pub data ScriptCall : Type 0 where
   Asks : Command → ScriptCall
   Juggles : ClassNo → ScriptCall
   Crawls : ClassNo → ScriptCall
+  Limits : ClassNo → ℕ → ScriptCall
 
--- the answer fits the call: a reply to a command, moves for the maintainer's work, a histogram for the crawler's
+-- the answer fits the call: a reply to a command, moves for the maintainer's work, a histogram for the crawler's, or that a limit
+-- was set
 abbrev pub IsOfKind : ScriptCall → Answer → Type 0
 IsOfKind (Asks command) (Replied reply) = Unit {0}
 IsOfKind (Juggles class) (Moved moves) = Unit {0}
 IsOfKind (Crawls class) (Counted histogram) = Unit {0}
+IsOfKind (Limits class n) Limited = Unit {0}
 IsOfKind (Asks command) (Moved moves) = ⊥
 IsOfKind (Asks command) (Counted histogram) = ⊥
+IsOfKind (Asks command) Limited = ⊥
 IsOfKind (Juggles class) (Replied reply) = ⊥
 IsOfKind (Juggles class) (Counted histogram) = ⊥
+IsOfKind (Juggles class) Limited = ⊥
 IsOfKind (Crawls class) (Replied reply) = ⊥
 IsOfKind (Crawls class) (Moved moves) = ⊥
+IsOfKind (Crawls class) Limited = ⊥
+IsOfKind (Limits class n) (Replied reply) = ⊥
+IsOfKind (Limits class n) (Moved moves) = ⊥
+IsOfKind (Limits class n) (Counted histogram) = ⊥
 
 -- each of these answers fits its call; the last calls may have none
 abbrev pub AreAnswers : List ScriptCall → List Answer → Type 0

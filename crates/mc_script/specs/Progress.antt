@@ -45,7 +45,7 @@ abbrev pub FailsHere : Fault → Limits → List Request → List Answered → L
 FailsHere fault limits [] answered start taken text notes caller = ⊥
 FailsHere fault limits (r ∷ rs) answered start taken text notes caller = HasFailed fault limits r answered start taken text notes caller
 
--- none of these requests sets a time above 2^62 or names a class that doesn't exist
+-- none of these requests sets a time or a limit that is out of bounds, or names a class that doesn't exist
 abbrev pub AreModerate : Limits → List Request → Type 0
 AreModerate limits [] = Unit {0}
 AreModerate limits (r ∷ rs) = IsModerate limits r × AreModerate limits rs

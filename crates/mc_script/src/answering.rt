@@ -1,19 +1,38 @@
 //! Answers one request: makes its calls, and gathers its text.
-ghost use Rattle.std.specs.Prelude.{◌≡◌, ◌≤◌, ◌++◌, ◌^◌, [], OnErr, OnOk, IfErr, IsErrOf, if◌then◌else◌};
+ghost use Rattle.std.specs.Prelude.{◌≡◌, ◌≤◌, ◌++◌, ◌^◌, ℕ, [], OnErr, OnOk, IfErr, IsErrOf, if◌then◌else◌};
 ghost use Rattle.mc_item.specs.declared.fault.Fault.TheVariants as faults;
 ghost use Rattle.mc_proto.specs.{Grammar.IsModerate, Text.fault_text, Text.reply_text};
 ghost use Rattle.mc_proto.specs.declared.request.Limits.{Limits};
 ghost use Rattle.mc_proto.specs.declared.request.Request.TheVariants as requests;
-ghost use Rattle.mc_script.specs.{Calls.Answers, Calls.AnswersKey, Calls.Begins, Calls.Fails, Calls.FailsKey, Script.AllThere, Script.moment_after};
+ghost use Rattle.mc_script.specs.Calls.{Answers, AnswersKey, Begins, Fails, FailsKey, reading_command, reading_request};
+ghost use Rattle.mc_script.specs.{Script.AllThere, Script.moment_after};
 
 use crate::calls::Calls;
 use crate::crawling::answer_crawl;
 use crate::juggling::answer_juggle;
-use mc_item::{Command, Fault, Key, NoMemory, Reply};
+use mc_item::{ClassNo, Command, Fault, Key, NoMemory, Reply};
 use mc_proto::{Keys, Limits, LineFault, ReplyText, Request};
 use std::sync::Wait;
 
-// Looks up one key of a get, and on a hit adds the value's text. The text is begun before the call takes the key, and cut off
+// How a request reads its keys: with a gat that sets this exptime, or with a get. The reply has cas numbers if `with_cas`.
+#[derive(Clone, Copy)]
+pub(crate) struct Reading {
+    exptime: Option<i64>,
+    with_cas: bool,
+}
+
+// The command that reads a key.
+#[inline(always)]
+fn command_for(key: Key, exptime: Option<i64>) -> Command
+    ensures { result ≡ reading_command exptime key }
+{
+    match exptime {
+        None => Command::Get(key),
+        Some(exptime) => Command::Gat(key, exptime),
+    }
+}
+
+// Looks up one key of a get or gat, and on a hit adds the value's text. The text is begun before the call takes the key, and cut off
 // again on a miss, so no key is copied.
 #[inline(always)]
 fn answer_key<C: Calls>(
@@ -21,7 +40,7 @@ fn answer_key<C: Calls>(
     calls: &mut C,
     text: &mut ReplyText,
     key: Key,
-    with_cas: bool,
+    reading: Reading,
     moment: u64,
 ) -> Result<(), Fault>
     requires may { C.may_call calls.old }
@@ -29,29 +48,29 @@ fn answer_key<C: Calls>(
     ensures may { OnOk result (C.may_call calls.new) }
     ensures place { C.place calls.new ≡ C.place calls.old }
     ensures caller { C.caller calls.new ≡ C.caller calls.old }
-    ensures ok { OnOk result (AnswersKey key with_cas (C.caller calls.old) (C.turn calls.old) (C.turn calls.new) moment (C.notes calls.old) (C.notes calls.new)
-        text.old.items text.new.items) }
-    ensures err { IfErr result (λ e. FailsKey e key (C.caller calls.old) (C.turn calls.old) moment (C.notes calls.old) (C.notes calls.new)) }
+    ensures ok { OnOk result (AnswersKey key reading.exptime reading.with_cas (C.caller calls.old) (C.turn calls.old) (C.turn calls.new) moment
+        (C.notes calls.old) (C.notes calls.new) text.old.items text.new.items) }
+    ensures err { IfErr result (λ e. FailsKey e key reading.exptime (C.caller calls.old) (C.turn calls.old) moment (C.notes calls.old) (C.notes calls.new)) }
     ensures front { Begins text.old.items text.new.items }
     ensures full { IsErrOf result faults.HistoryFull → C.is_full calls.new }
 {
     let start = text.len();
     text.push_value_head(key.bytes())?;
-    let reply = calls.command(rt, Command::Get(key), moment)?;
+    let reply = calls.command(rt, command_for(key, reading.exptime), moment)?;
     match &reply {
-        Reply::Value { .. } => text.push_value_tail(&reply, with_cas)?,
+        Reply::Value { .. } => text.push_value_tail(&reply, reading.with_cas)?,
         _ => text.truncate(start),
     }
     Ok(())
 }
 
-// Answers a get of one key or more, in order, and ends its text.
-fn answer_get<C: Calls>(
+// Answers a get or gat of one key or more, in order, and ends its text.
+fn answer_reading<C: Calls>(
     rt: &impl Wait,
     calls: &mut C,
     text: &mut ReplyText,
     keys: Keys,
-    with_cas: bool,
+    reading: Reading,
     moment: u64,
 ) -> Result<(), Fault>
     requires may { C.may_call calls.old }
@@ -59,18 +78,18 @@ fn answer_get<C: Calls>(
     ensures may { OnOk result (C.may_call calls.new) }
     ensures place { C.place calls.new ≡ C.place calls.old }
     ensures caller { C.caller calls.new ≡ C.caller calls.old }
-    ensures ok { (limits : Limits) → OnOk result (Answers limits (requests.Get keys with_cas) (C.caller calls.old) (C.turn calls.old) (C.turn calls.new) moment
-        (C.notes calls.old) (C.notes calls.new) text.old.items text.new.items) }
-    ensures err { (limits : Limits) → IfErr result (λ e. Fails e limits (requests.Get keys with_cas) (C.caller calls.old) (C.turn calls.old) moment
-        (C.notes calls.old) (C.notes calls.new)) }
+    ensures ok { (limits : Limits) → OnOk result (Answers limits (reading_request reading.exptime keys reading.with_cas) (C.caller calls.old)
+        (C.turn calls.old) (C.turn calls.new) moment (C.notes calls.old) (C.notes calls.new) text.old.items text.new.items) }
+    ensures err { (limits : Limits) → IfErr result (λ e. Fails e limits (reading_request reading.exptime keys reading.with_cas) (C.caller calls.old)
+        (C.turn calls.old) moment (C.notes calls.old) (C.notes calls.new)) }
     ensures front { Begins text.old.items text.new.items }
     ensures full { IsErrOf result faults.HistoryFull → C.is_full calls.new }
 {
     match keys.into_one() {
-        Ok(key) => answer_key(rt, calls, text, key, with_cas, moment)?,
+        Ok(key) => answer_key(rt, calls, text, key, reading, moment)?,
         Err(keys) => {
             for key in keys {
-                answer_key(rt, calls, text, key, with_cas, moment)?;
+                answer_key(rt, calls, text, key, reading, moment)?;
             }
         }
     }
@@ -89,7 +108,7 @@ fn push_unless(text: &mut ReplyText, reply: &Reply, quiet: bool) -> Result<(), N
     text.push_reply(reply)
 }
 
-// Answers a command other than a get.
+// Answers a command other than a get or gat.
 fn answer_one<C: Calls>(
     rt: &impl Wait,
     calls: &mut C,
@@ -112,6 +131,35 @@ fn answer_one<C: Calls>(
 {
     let reply = calls.command(rt, command, moment)?;
     push_unless(text, &reply, quiet)?;
+    Ok(())
+}
+
+// Answers `%chunks`: makes its one call, and adds its text.
+#[cold]
+#[inline(never)]
+fn answer_chunks<C: Calls>(
+    rt: &impl Wait,
+    calls: &mut C,
+    text: &mut ReplyText,
+    class: ClassNo,
+    chunks: u64,
+) -> Result<(), Fault>
+    requires may { C.may_call calls.old }
+    requires there { C.has_class (C.place calls.old) class }
+    requires some { 1 ≤ chunks }
+    requires bound { chunks ≤ 2 ^ 20 }
+    ensures may { OnOk result (C.may_call calls.new) }
+    ensures place { C.place calls.new ≡ C.place calls.old }
+    ensures caller { C.caller calls.new ≡ C.caller calls.old }
+    ensures ok { (limits : Limits) (moment : ℕ) → OnOk result (Answers limits (requests.Chunks class chunks) (C.caller calls.old) (C.turn calls.old)
+        (C.turn calls.new) moment (C.notes calls.old) (C.notes calls.new) text.old.items text.new.items) }
+    ensures err { (limits : Limits) (moment : ℕ) → IfErr result (λ e. Fails e limits (requests.Chunks class chunks) (C.caller calls.old) (C.turn calls.old)
+        moment (C.notes calls.old) (C.notes calls.new)) }
+    ensures front { Begins text.old.items text.new.items }
+    ensures full { IsErrOf result faults.HistoryFull → C.is_full calls.new }
+{
+    calls.limit(rt, class, chunks)?;
+    text.push_chunks(class, chunks)?;
     Ok(())
 }
 
@@ -151,7 +199,24 @@ fn answer_whole<C: Calls>(
     ensures full { IsErrOf result faults.HistoryFull → C.is_full calls.new }
 {
     match request {
-        Request::Get { keys, with_cas } => answer_get(rt, calls, text, keys, with_cas, *moment),
+        Request::Get { keys, with_cas } => {
+            let reading = Reading {
+                exptime: None,
+                with_cas,
+            };
+            answer_reading(rt, calls, text, keys, reading, *moment)
+        }
+        Request::Gat {
+            exptime,
+            keys,
+            with_cas,
+        } => {
+            let reading = Reading {
+                exptime: Some(exptime),
+                with_cas,
+            };
+            answer_reading(rt, calls, text, keys, reading, *moment)
+        }
         Request::One { command, quiet } => answer_one(rt, calls, text, command, quiet, *moment),
         Request::Bad { why, quiet } => refuse(text, why, quiet),
         Request::At(next) => {
@@ -160,6 +225,7 @@ fn answer_whole<C: Calls>(
         }
         Request::Juggle(target) => answer_juggle(rt, limits, calls, text, target, *moment),
         Request::Crawl(target) => answer_crawl(rt, limits, calls, text, target, *moment),
+        Request::Chunks(class, chunks) => answer_chunks(rt, calls, text, class, chunks),
         Request::Next => Ok(()),
         Request::Quit => Ok(()),
     }

@@ -2,9 +2,9 @@
 ghost use Rattle.std.specs.Prelude.{◌≡◌, ◌≤◌, ◌<◌, ◌+◌, ◌^◌, ◌∷◌, ℕ, List, [], Option, IfOk, OnErr, OnOk, IsErrOf};
 ghost use Rattle.mc_item.specs.declared.fault.Fault.TheVariants as faults;
 ghost use Rattle.mc_item.specs.declared.item.ClassNo.{ClassNo};
-ghost use Rattle.mc_proto.specs.Answers.{Counted, Moved, Replied};
+ghost use Rattle.mc_proto.specs.Answers.{Counted, Limited, Moved, Replied};
 ghost use Rattle.mc_script.specs.Calls.{AddsCalls, AddsUp, BreaksOff};
-ghost use Rattle.mc_script.specs.Exchanges.{Asks, Begun, Crawls, Exchange, Juggles, exchange};
+ghost use Rattle.mc_script.specs.Exchanges.{Asks, Begun, Crawls, Exchange, Juggles, Limits, exchange};
 
 use mc_item::{ClassNo, Command, Fault, Histogram, Moves, Reply};
 use std::sync::Wait;
@@ -76,5 +76,21 @@ pub trait Calls: Drop {
         ensures small { IfOk result (λ histogram. histogram.seen ≤ 2 ^ 32) }
         ensures kinds { IfOk result AddsUp }
         ensures err { OnErr result (BreaksOff (notes self.old) (notes self.new) (Crawls class) moment) }
+        ensures full { IsErrOf result faults.HistoryFull → is_full self.new };
+
+    /// Makes a call that sets the limit of chunks of a slab class, from 1 to 2^20. No moment is noted for it, so its exchange may
+    /// have any. Errors are those of `command`.
+    fn limit(&mut self, rt: &impl Wait, class: ClassNo, chunks: u64) -> Result<(), Fault>
+        requires may { may_call self.old }
+        requires there { has_class (place self.old) class }
+        requires some { 1 ≤ chunks }
+        requires bound { chunks ≤ 2 ^ 20 }
+        ensures may { OnOk result (may_call self.new) }
+        ensures place { place self.new ≡ place self.old }
+        ensures caller { caller self.new ≡ caller self.old }
+        ensures turn { OnOk result (turn self.new ≡ turn self.old + 1) }
+        ensures ok { (moment : ℕ) → OnOk result (AddsCalls (notes self.old) (notes self.new)
+            (exchange (caller self.old) (turn self.old) (Limits class chunks) moment Limited ∷ [])) }
+        ensures err { (moment : ℕ) → OnErr result (BreaksOff (notes self.old) (notes self.new) (Limits class chunks) moment) }
         ensures full { IsErrOf result faults.HistoryFull → is_full self.new };
 }

@@ -35,11 +35,13 @@ fn ends_script(request: &Request) -> bool
         Request::Next => true,
         Request::Quit => true,
         Request::Get { .. } => false,
+        Request::Gat { .. } => false,
         Request::One { .. } => false,
         Request::Bad { .. } => false,
         Request::At(_) => false,
         Request::Juggle(_) => false,
         Request::Crawl(_) => false,
+        Request::Chunks(_, _) => false,
     }
 }
 
@@ -175,7 +177,7 @@ fn answer_piece<E: Ends, C: Calls>(
 ///
 /// Asks for the next piece only after all replies to the earlier pieces are out. Asks for none after the end, a failure, or a
 /// request that ends the script. Makes no call after one that failed.
-/// The caller must be at turn 0. The slab classes of `limits` must exist, as `%juggle` and `%crawl` work on them.
+/// The caller must be at turn 0. The slab classes of `limits` must exist, as `%juggle`, `%crawl` and `%chunks` work on them.
 pub fn run_script<E: Ends, C: Calls>(
     rt: &impl Wait,
     alloc: Global,

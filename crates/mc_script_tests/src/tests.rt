@@ -1,4 +1,4 @@
-//! The maintainer's and the crawler's directives in scripts over calls that are made up. Expected values are written from
+//! The directives that make calls, in scripts over calls that are made up. Expected values are written from
 //! the rules by hand.
 mod noted;
 
@@ -10,7 +10,7 @@ use std::process::Abort;
 use std::sync::Wait;
 
 // A script and how many of its calls may go well; then how it ends, what it prints, how many calls it makes, and the class
-// and the moment of each that is upkeep.
+// and the moment of each that is upkeep, or the class and the limit that it sets.
 #[derive(Clone, Copy)]
 struct Row {
     script: &'static str,
@@ -153,6 +153,46 @@ fn one_class_and_all_are_crawled_at_the_scripts_moment(rt: HostRuntime) {
     check_rows(&rt, rt.alloc(), CRAWLED.as_slice());
 }
 
+static LIMITED: [Row; 4] = [
+    Row {
+        script: "%chunks 1 5\r\n",
+        most: ALL,
+        outcome: Outcome::Done,
+        text: "CHUNKS 1 5\r\n",
+        made: 1,
+        upkeep: &[(1, 5)],
+    },
+    Row {
+        script: "%chunks 3 1048576\r\n%chunks 3 1\r\n",
+        most: ALL,
+        outcome: Outcome::Done,
+        text: "CHUNKS 3 1048576\r\nCHUNKS 3 1\r\n",
+        made: 2,
+        upkeep: &[(3, 1_048_576), (3, 1)],
+    },
+    Row {
+        script: "%chunks 2 7\r\n%juggle 2\r\nget a\r\n",
+        most: ALL,
+        outcome: Outcome::Done,
+        text: "CHUNKS 2 7\r\nJUGGLED 2 20\r\nEND\r\n",
+        made: 3,
+        upkeep: &[(2, 7), (2, 1000)],
+    },
+    Row {
+        script: "%chunks 2 7\r\n%chunks 2 8\r\n",
+        most: 1,
+        outcome: Outcome::Memory,
+        text: "CHUNKS 2 7\r\n",
+        made: 1,
+        upkeep: &[(2, 7)],
+    },
+];
+
+#[test]
+fn a_new_limit_is_one_call_and_its_text(rt: HostRuntime) {
+    check_rows(&rt, rt.alloc(), LIMITED.as_slice());
+}
+
 static FAULTS: [Row; 2] = [
     Row {
         script: "%crawl all\r\nget a\r\n",
@@ -177,7 +217,7 @@ fn a_fault_in_one_of_three_classes_prints_nothing(rt: HostRuntime) {
     check_rows(&rt, rt.alloc(), FAULTS.as_slice());
 }
 
-static NOT_THERE: [&str; 7] = [
+static NOT_THERE: [&str; 10] = [
     "%juggle 0\r\n",
     "%juggle 4\r\n",
     "%juggle 44\r\n",
@@ -185,6 +225,9 @@ static NOT_THERE: [&str; 7] = [
     "%crawl 0\r\n",
     "%crawl 4\r\n",
     "%crawl ALL\r\n",
+    "%chunks 0 1\r\n",
+    "%chunks 4 1\r\n",
+    "%chunks all 1\r\n",
 ];
 
 #[test]

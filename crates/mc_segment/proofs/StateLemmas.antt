@@ -6,7 +6,8 @@ use Rattle.mc_item.specs.declared.{class_event.ClassEvent.ClassEvent, config.Con
 use Rattle.mc_item.specs.declared.class_event.ClassEvent.TheVariants as events
 use Rattle.mc_item.specs.declared.config.ConfigFault.TheVariants.{Stripes, Sizes, Chunks, Percent, Factor, Callers, Events}
 use Rattle.mc_item.specs.Config.{fault_of, are_stripes, are_sizes, are_chunks, are_percents, are_factors, are_callers, are_events}
-use Rattle.mc_rule.specs.Lists.{Lists, no_lists, lists_from, lists_of, lists_after, entries_linked_by, entries_linked}
+use Rattle.mc_rule.proofs.HistoryLemmas.{chunks_from-push}
+use Rattle.mc_rule.specs.Lists.{Lists, no_lists, lists_from, lists_of, lists_after, chunks_after, chunks_from, entries_linked_by, entries_linked}
 use Rattle.mc_rule.specs.{Segment.Rule, Lawful.names, Lawful.is_named, Lawful.IsLawfulByLists, Lawful.IsLawfulByListsFrom}
 use Rattle.mc_segment.specs.{Arena.Held, ClassState.ClassView, ClassState.class_view, ClassState.HasPlaces, ClassState.IsReplay}
 use Rattle.mc_segment.proofs.ChainLemmas.{not_equal}
@@ -28,6 +29,7 @@ entries_linked_by-le (events.Evicted e) = omega arith
 entries_linked_by-le (events.Reclaimed e) = omega arith
 entries_linked_by-le (events.Surveyed e) = omega arith
 entries_linked_by-le (events.Refused e) = omega arith
+entries_linked_by-le (events.Limited e) = omega arith
 
 -- the last of these events stands at the place of their number
 pub last_is : (es : List ClassEvent) (e : ClassEvent) → slice_get (es ++ e ∷ []) (length es) ≡ Some e
@@ -61,15 +63,16 @@ IsLawfulByListsFrom-push chunks rule before (x ∷ es) e each may =
     (each.0, IsLawfulByListsFrom-push chunks rule (before ++ x ∷ []) es e each.1 here)
 
 -- what a class keeps is kept by a lawful event
-kept : (h later : Held) (chunks max_events : ℕ) (rule : Rule) (old : List ClassEvent) (e : ClassEvent) → IsReplay h chunks max_events rule old
-    → later.lists ≡ lists_after (lists_of old) e → later.next ≡ h.next + entries_linked_by e → length old + 1 ≤ max_events
-    → ((q : ℕ) → later.next ≤ q → names q e ≡ false) → IsLawfulByLists chunks rule old e → IsReplay later chunks max_events rule (old ++ e ∷ [])
-kept h later chunks max_events rule old e r lists next place fresh may =
+kept : (h later : Held) (chunks was now max_events : ℕ) (rule : Rule) (old : List ClassEvent) (e : ClassEvent) → IsReplay h chunks was max_events rule old
+    → later.lists ≡ lists_after (lists_of old) e → later.next ≡ h.next + entries_linked_by e → now ≡ chunks_after was e → length old + 1 ≤ max_events
+    → ((q : ℕ) → later.next ≤ q → names q e ≡ false) → IsLawfulByLists chunks rule old e → IsReplay later chunks now max_events rule (old ++ e ∷ [])
+kept h later chunks was now max_events rule old e r lists next limit place fresh may =
     let grown : length (old ++ e ∷ []) ≡ length old + 1 = length-append old (e ∷ []) in
     let step : entries_linked (old ++ e ∷ []) ≡ entries_linked old + entries_linked_by e = entries_linked-push old e in
-    let was = r.next_is in record {
+    let next_was = r.next_is in record {
       lists_is = lists ∙ sym (lists_from-push no_lists old e);
-      next_is = omega (arith, next, was, step);
+      next_is = omega (arith, next, next_was, step);
+      now_is = limit ∙ (ap (λ (n : ℕ). chunks_after n e) r.now_is ∙ sym (chunks_from-push chunks old e));
       places = omega (arith, grown, place);
       limit = r.limit;
       fresh = λ q below. is_named-push q old e (r.fresh q (omega (arith, next, below))) (fresh q below);
@@ -77,7 +80,7 @@ kept h later chunks max_events rule old e r lists next place fresh may =
     }
 
 -- the same, where the class is told of as its callers see it
-module _ (h : Held) (number : ClassNo) (chunks max_events : ℕ) (keeps_events : Bool) (rule : Rule) (old : List ClassEvent) (room : ℕ) (v : ClassView) (r : IsReplay h chunks max_events rule old)
+module _ {was : ℕ} (h : Held) (number : ClassNo) (chunks max_events : ℕ) (keeps_events : Bool) (rule : Rule) (old : List ClassEvent) (room : ℕ) (v : ClassView) (r : IsReplay h chunks was max_events rule old)
     (is : class_view number chunks max_events keeps_events rule old room ≡ v) where
   pub seen_lists : h.lists ≡ lists_of v.history
   seen_lists = r.lists_is ∙ ap (λ (x : ClassView). lists_of x.history) is
@@ -85,15 +88,19 @@ module _ (h : Held) (number : ClassNo) (chunks max_events : ℕ) (keeps_events :
   pub seen_next : h.next ≡ entries_linked v.history
   seen_next = r.next_is ∙ ap (λ (x : ClassView). entries_linked x.history) is
 
+  pub seen_limit : was ≡ chunks_from v.chunks v.history
+  seen_limit = r.now_is ∙ ap (λ (x : ClassView). chunks_from x.chunks x.history) is
+
   pub seen_fresh : (q : ℕ) → h.next ≤ q → is_named q v.history ≡ false
   seen_fresh q below = sym (ap (λ (x : ClassView). is_named q x.history) is) ∙ r.fresh q below
 
-  pub keeps : (later : Held) (now : List ClassEvent) (e : ClassEvent) → now ≡ old ++ e ∷ [] → later.lists ≡ lists_after (lists_of v.history) e → later.next ≡ h.next + entries_linked_by e → HasPlaces v 1
-      → ((q : ℕ) → later.next ≤ q → names q e ≡ false) → IsLawfulByLists v.chunks v.rule v.history e → IsReplay later chunks max_events rule now
-  keeps later now e more lists next place fresh may =
-      let P : List ClassEvent → Type 0 = λ es. IsReplay later chunks max_events rule es in
+  pub keeps : (later : Held) (now : ℕ) (grown : List ClassEvent) (e : ClassEvent) → grown ≡ old ++ e ∷ [] → later.lists ≡ lists_after (lists_of v.history) e
+      → later.next ≡ h.next + entries_linked_by e → now ≡ chunks_after was e → HasPlaces v 1
+      → ((q : ℕ) → later.next ≤ q → names q e ≡ false) → IsLawfulByLists v.chunks v.rule v.history e → IsReplay later chunks now max_events rule grown
+  keeps later now grown e more lists next limit place fresh may =
+      let P : List ClassEvent → Type 0 = λ es. IsReplay later chunks now max_events rule es in
       let Q : ClassView → Type 0 = λ x. later.lists ≡ lists_after (lists_of x.history) e → HasPlaces x 1 → IsLawfulByLists x.chunks x.rule x.history e → P (old ++ e ∷ []) in
-      subst P (sym more) ((subst Q is (λ l p m. kept h later chunks max_events rule old e r l next p fresh m)) lists place may)
+      subst P (sym more) ((subst Q is (λ l p m. kept h later chunks was now max_events rule old e r l next limit p fresh m)) lists place may)
 
 -- a number below the next is none of those that are to come
 pub not_to_come : (n next q : ℕ) → n < next → next ≤ q → (n == q) ≡ false
@@ -120,12 +127,13 @@ sound_events c sound =
     (are_factors c.hot_factor c.warm_factor c.temp_ttl) (are_callers c.callers) (are_events c.max_events) sound in
     grind (arith, nat_tests)
 
-pub opened_is : (h : Held) (chunks max_events : ℕ) (rule : Rule) (history : List ClassEvent) → h.lists ≡ no_lists → h.next ≡ 0 → history ≡ [] → max_events ≤ 2 ^ 32 → IsReplay h chunks max_events rule history
+pub opened_is : (h : Held) (chunks max_events : ℕ) (rule : Rule) (history : List ClassEvent) → h.lists ≡ no_lists → h.next ≡ 0 → history ≡ [] → max_events ≤ 2 ^ 32 → IsReplay h chunks chunks max_events rule history
 opened_is h chunks max_events rule history lists next none limit =
-    let P : List ClassEvent → Type 0 = λ es. IsReplay h chunks max_events rule es in
+    let P : List ClassEvent → Type 0 = λ es. IsReplay h chunks chunks max_events rule es in
     subst P (sym none) record {
       lists_is = lists;
       next_is = next;
+      now_is = refl;
       places = omega arith;
       limit = limit;
       fresh = λ q below. refl;

@@ -42,6 +42,10 @@ surveyed_event c who moment =
 abbrev pub refused_event : Who → ClassEvent
 refused_event who = events.Refused (record { who = who })
 
+-- the event that gives the class a new limit of chunks
+abbrev pub limited_event : Who → ℕ → ClassEvent
+limited_event who chunks = events.Limited (record { who = who; chunks = chunks })
+
 -- the event may come next, as far as the lists show
 abbrev pub MayCome : ClassView → ClassEvent → Type 0
 MayCome c e = IsLawfulByLists c.chunks c.rule c.history e

@@ -2,11 +2,13 @@
 use Rattle.std.specs.Prelude.{ℕ, ◌≡◌, ◌+◌, ◌-◌, ◌^◌, ◌<◌, ◌≤◌, Bool, false, List, [], ◌∷◌, ◌++◌, length, slice_index}
 use Rattle.mc_item.specs.declared.{class_event.ClassEvent.ClassEvent, config.Config.Config, fault.Fault.Fault, fault.Fault.TheVariants.NoMemory}
 use Rattle.mc_item.specs.declared.{fault.Fault.TheVariants.HistoryFull, item.ClassNo.ClassNo}
-use Rattle.mc_rule.specs.{Lists.lists_of, Lists.entries_linked, Segment.Rule, Segment.rule_of, Lawful.is_named, Lawful.IsLawfulHistoryByLists}
+use Rattle.mc_rule.specs.Lists.{chunks_from, lists_of, entries_linked}
+use Rattle.mc_rule.specs.{Segment.Rule, Segment.rule_of, Lawful.is_named, Lawful.IsLawfulHistoryByLists}
 use Rattle.mc_segment.specs.Arena.{Held}
 
--- a class: its number, its limits of chunks and events, whether it keeps events in memory, its rule, its history and its room.
--- The history is oldest first, and the room is how many more events take no memory
+-- a class: its number, the limit of chunks with which it opened, its limit of events, whether it keeps events in memory, its rule,
+-- its history and its room. The limit of chunks now is `chunks_from` of `chunks` and `history`. The history is oldest first, and the
+-- room is how many more events take no memory
 pub record ClassView : Type 0 where
   pub number : ClassNo
   pub chunks : ℕ
@@ -26,7 +28,7 @@ abbrev pub rule_with : Bool → ℕ → ℕ → ℕ → ℕ → ℕ → Rule
 rule_with temp temp_ttl hot_percent warm_percent hot_factor warm_factor =
     record { temp = temp; temp_ttl = temp_ttl; hot_percent = hot_percent; warm_percent = warm_percent; hot_factor = hot_factor; warm_factor = warm_factor }
 
--- how many chunks a configuration gives a class; classes are numbered from 1
+-- how many chunks a configuration gives a class at first; classes are numbered from 1
 abbrev pub chunks_for : Config → ClassNo → ℕ
 chunks_for config class = slice_index config.chunks (class.0 - 1)
 
@@ -52,11 +54,12 @@ abbrev pub MayRefuse : ClassView → ℕ → Fault → Type 0
 MayRefuse c n HistoryFull = c.max_events < length c.history + n
 MayRefuse c n NoMemory = HasPlaces c n × (c.room < n)
 
--- what a class keeps: its lists and its next number are those of its history. The history keeps to its limit, names no number
--- from the next one on, and is lawful as far as the lists show
-pub record IsReplay (h : Held) (chunks max_events : ℕ) (rule : Rule) (history : List ClassEvent) : Type 0 where
+-- what a class keeps: its lists, its next number and its limit of chunks `now` are those of its history. The history keeps to its
+-- limit, names no number from the next one on, and is lawful as far as the lists show
+pub record IsReplay (h : Held) (chunks now max_events : ℕ) (rule : Rule) (history : List ClassEvent) : Type 0 where
   pub lists_is : h.lists ≡ lists_of history
   pub next_is : h.next ≡ entries_linked history
+  pub now_is : now ≡ chunks_from chunks history
   pub places : length history ≤ max_events
   pub limit : max_events ≤ 2 ^ 32
   pub fresh : (q : ℕ) → h.next ≤ q → is_named q history ≡ false

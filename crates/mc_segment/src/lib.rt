@@ -4,6 +4,7 @@
 mod arena;
 mod ends;
 mod leaving;
+mod limiting;
 mod linking;
 mod looks;
 mod reading;

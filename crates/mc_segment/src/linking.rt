@@ -1,6 +1,6 @@
 //! Adds new entries to a class.
 ghost use Rattle.std.specs.Prelude.{◌≡◌, ◌<◌, ◌≤◌, ◌+◌, ◌^◌, Some, true, IfOk, OnOk, OnErr};
-ghost use Rattle.mc_rule.specs.Lists.{lists_of, entries_linked, count_of};
+ghost use Rattle.mc_rule.specs.Lists.{entries_linked, HasFree};
 ghost use Rattle.mc_rule.specs.Segment as rules;
 ghost use Rattle.mc_segment.specs.{ClassState.HasPlaces, ClassCalls.linked_event, ClassCalls.Makes, ClassCalls.Stays, ClassCalls.MayEnd};
 
@@ -36,7 +36,7 @@ impl ClassState {
         moment: u64,
         expiry: Expiry,
     ) -> Result<u64, Fault>
-        requires free { count_of (lists_of self.old.history) < self.old.chunks }
+        requires free { HasFree self.old.chunks self.old.history }
         requires cost { cost ≤ 2 ^ 20 }
         requires copy { self.old.keeps_events ≡ true → copy ≡ Some key }
         ensures number { IfOk result (λ number. number ≡ entries_linked self.old.history) }
@@ -61,7 +61,7 @@ impl ClassState {
     ) -> u64
         requires room { 0 < self.old.room }
         requires place { HasPlaces self.old 1 }
-        requires free { count_of (lists_of self.old.history) < self.old.chunks }
+        requires free { HasFree self.old.chunks self.old.history }
         requires cost { cost ≤ 2 ^ 20 }
         requires copy { self.old.keeps_events ≡ true → copy ≡ Some key }
         ensures number { result ≡ entries_linked self.old.history }

@@ -2,7 +2,7 @@
 ghost use Rattle.std.specs.Prelude.{◌≡◌, ◌≤◌, ◌^◌, ◌+◌, ◌↔◌, ℕ, false, None, Some, length, take, reverse, IsTrue, IfSome, IfOk};
 ghost use Rattle.std.specs.Option.{option_copied, IsSomeAnd};
 ghost use Rattle.mc_item.specs.declared.{lists.Entry.Entry, lists.Seg.Seg};
-ghost use Rattle.mc_rule.specs.Lists.{lists_of, entries_linked, list_of, bytes_of, count_of, times_in, find, found, IsFull};
+ghost use Rattle.mc_rule.specs.Lists.{lists_of, entries_linked, list_of, bytes_of, count_of, times_in, find, found, chunks_from, IsFull};
 ghost use Rattle.mc_segment.specs.Entries.{entry_of};
 ghost use Rattle.mc_rule.specs.{Segment.numbers_of, Segment.numbers_behind, Lawful.is_named, Lawful.IsIn, Lawful.IsListed, Lawful.IsLawfulHistoryByLists};
 
@@ -49,16 +49,17 @@ impl ClassState {
         self.lists.count()
     }
 
-    /// Returns how many chunks the class has, and so how many entries its lists may have.
+    /// Returns the limit of chunks now: that of the last `set_chunks`, else the one with which the class opened. As a lower limit
+    /// evicts nothing, the lists may have more entries.
     pub fn chunks(&self) -> u64
-        ensures { result ≡ self.now.chunks }
+        ensures { result ≡ chunks_from self.now.chunks self.now.history }
     {
         self.chunks
     }
 
-    /// Returns whether the class is full: it has no fewer entries than chunks.
+    /// Returns whether the class is full: it has no fewer entries than its limit of chunks now.
     pub fn is_full(&self) -> bool
-        ensures { IsTrue result ↔ IsFull self.now.chunks (lists_of self.now.history) }
+        ensures { IsTrue result ↔ IsFull self.now.chunks self.now.history }
     {
         self.count() >= self.chunks
     }

@@ -10,11 +10,14 @@ use mc_item::{ClassEvent, ClassNo, Config, Fault};
 use std::alloc::Global;
 use std::marker::Model;
 
-/// The lists of a slab class, and its history. Contracts see the class's number, its limits, the numbers of its rule, the
-/// history, and the room: how many more events take no memory.
+/// The lists of a slab class, and its history. Contracts see the class's number, the limits with which it opened, the numbers of
+/// its rule, the history, and the room: how many more events take no memory. The limit of chunks now follows from the history.
 #[derive(Drop)]
 pub struct ClassState {
     pub(crate) number: ClassNo,
+    // The limit of chunks with which the class opened.
+    pub(crate) opening: u64,
+    // The limit of chunks now.
     pub(crate) chunks: u64,
     pub(crate) max_events: u64,
     pub(crate) temp: bool,
@@ -34,11 +37,11 @@ impl Model for ClassState {
 
     ghost Value = { ClassView };
 
-    ghost view = { λ s. class_view s.number s.chunks s.max_events s.history.kept
+    ghost view = { λ s. class_view s.number s.opening s.max_events s.history.kept
         (rule_with s.temp s.temp_ttl s.hot_percent s.warm_percent s.hot_factor s.warm_factor) s.history.items
         (min s.lists.room s.history.room) };
 
-    ghost invariant = { λ s. IsReplay s.lists s.chunks s.max_events
+    ghost invariant = { λ s. IsReplay s.lists s.opening s.chunks s.max_events
         (rule_with s.temp s.temp_ttl s.hot_percent s.warm_percent s.hot_factor s.warm_factor) s.history.items };
 }
 
@@ -49,9 +52,11 @@ impl ClassState {
         requires number { (1 ≤ number.0) × (number.0 ≤ length config.now.sizes) }
         ensures { result ≡ opened config.now number }
     {
+        let chunks = config.chunks.as_slice()[number.0 as usize - 1];
         ClassState {
             number,
-            chunks: config.chunks.as_slice()[number.0 as usize - 1],
+            opening: chunks,
+            chunks,
             max_events: config.max_events,
             temp: config.temp,
             temp_ttl: config.temp_ttl,

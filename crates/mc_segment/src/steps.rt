@@ -2,7 +2,7 @@
 //! then reserves memory. If it fails, it has changed nothing but the room.
 ghost use Rattle.std.specs.Prelude.{◌≡◌, ◌+◌, ◌<◌, ◌≤◌, ◌==◌, ◌^◌, ℕ, Some, true, false, length, slice_get, IfOk, OnOk, OnErr};
 ghost use Rattle.mc_item.specs.declared.class_event.ClassEvent.TheVariants as events;
-ghost use Rattle.mc_rule.specs.Lists.{lists_of, entries_linked, entries_linked_by, count_of, lists_after, unlinked};
+ghost use Rattle.mc_rule.specs.Lists.{lists_of, entries_linked, entries_linked_by, lists_after, chunks_after, unlinked, HasFree};
 ghost use Rattle.mc_rule.specs.Lawful.{names, IsListed};
 ghost use Rattle.mc_segment.specs.ClassCalls.{MayCome, Makes, Stays, MayEnd};
 
@@ -22,7 +22,7 @@ impl ClassState {
         seg: Seg,
         moment: u64,
     ) -> Result<u64, Fault>
-        requires free { count_of (lists_of self.old.history) < self.old.chunks }
+        requires free { HasFree self.old.chunks self.old.history }
         requires cost { cost ≤ 2 ^ 20 }
         requires copy { self.old.keeps_events ≡ true → copy ≡ Some key }
         ensures number { IfOk result (λ number. number ≡ entries_linked self.old.history) }
@@ -74,6 +74,7 @@ impl ClassState {
         requires lawful { MayCome self.old event }
         requires leaves { lists_after (lists_of self.old.history) event ≡ unlinked number (lists_of self.old.history) }
         requires links { entries_linked_by event ≡ 0 }
+        requires limits { (n : ℕ) → chunks_after n event ≡ n }
         requires names { (q : ℕ) → names q event ≡ (number == q) }
         ensures ok { OnOk result (Makes self.old self.new event) }
         ensures err { OnErr result (Stays self.old self.new) }
@@ -113,11 +114,12 @@ impl ClassState {
         Ok(())
     }
 
-    // Notes an event that leaves the lists as they are, and returns its place in the history.
+    // Notes an event that leaves the lists and the limit of chunks as they are, and returns its place in the history.
     pub(crate) fn note(&mut self, event: ClassEvent) -> Result<u64, Fault>
         requires lawful { MayCome self.old event }
         requires stays { lists_after (lists_of self.old.history) event ≡ lists_of self.old.history }
         requires links { entries_linked_by event ≡ 0 }
+        requires limits { (n : ℕ) → chunks_after n event ≡ n }
         requires names { (q : ℕ) → names q event ≡ false }
         ensures place { IfOk result (λ place. place ≡ length self.old.history) }
         ensures noted { IfOk result (λ place. slice_get self.new.history place ≡ Some event) }

@@ -3,11 +3,11 @@ use Rattle.std.proofs.Common.{◌≡◌, ◌<◌, ◌+◌, ℕ, List, [], ◌∷
 use Rattle.mc_item.specs.declared.call_event.Answered as kinds
 use Rattle.mc_item.specs.declared.{call_event.CallEvent.CallEvent, class_event.ClassEvent.ClassEvent, config.Config.Config, item.Who.Who, stripe_event.Did.Did}
 use Rattle.mc_item.specs.declared.{stripe_event.StripeEvent.StripeEvent}
-use Rattle.mc_item.specs.declared.call_event.CallEvent.TheVariants.{Answered, Asked, Crawled, Juggled}
+use Rattle.mc_item.specs.declared.call_event.CallEvent.TheVariants.{Answered, Asked, Crawled, Juggled, Limits}
 use Rattle.mc_item.specs.declared.stripe_event.StripeEvent.TheVariants as events
 use Rattle.mc_store.specs.Callers.{IsCalled, IsNext, answered_at, moment_of, turns_of, who_of}
 use Rattle.mc_store.specs.Finals.{AreClasses, AreItsOwn, AreItsOwnInClasses, AreStripes, FinalView}
-use Rattle.mc_store.specs.{Made.IsClassCalled, Made.maker_of, Passes.PassView, Sides.ClassSide, Sides.StripeSide}
+use Rattle.mc_store.specs.{Made.WasCalled, Made.maker_of, Passes.PassView, Sides.ClassSide, Sides.StripeSide}
 use Rattle.mc_store.proofs.NextTurnLemmas.{turn_more}
 
 -- each event was called
@@ -24,7 +24,7 @@ was_called config final passes number place s event all own there at =
 pub class_was_called : (config : Config) (final : FinalView) (passes : ℕ → PassView) (number place : ℕ) (s : ClassSide) (event : ClassEvent) → AreClasses final.board config final.classes
     → ((caller : ℕ) → caller < config.callers → ((passes caller).caller ≡ caller) × AreItsOwnInClasses (passes caller) final.classes)
     → slice_get final.classes number ≡ Some s → slice_get s.class.history place ≡ Some event
-    → ((maker_of event).caller < config.callers) × IsClassCalled (passes (maker_of event).caller).calls (record { 0 = number + 1 }) event
+    → ((maker_of event).caller < config.callers) × WasCalled (passes (maker_of event).caller).calls (record { 0 = number + 1 }) event
 class_was_called config final passes number place s event all own there at =
     let of = ((all.each number s there).kept.called.each place event at).0 in
     let pass = own (maker_of event).caller of in
@@ -36,6 +36,7 @@ turns_tail (Asked a) xs ys same = omega (arith, same)
 turns_tail (Juggled w) xs ys same = omega (arith, same)
 turns_tail (Crawled w) xs ys same = omega (arith, same)
 turns_tail (Answered a) xs ys same = same
+turns_tail (Limits l) xs ys same = omega (arith, same)
 
 head_same : (x y : CallEvent) (xs ys : List CallEvent) → x ∷ xs ≡ y ∷ ys → x ≡ y
 head_same x y xs ys e = cc e

@@ -5,8 +5,9 @@ use Rattle.std.proofs.lemmas.List.{map-append}
 use mathlib.Core.List.{IsPrefix}
 use Rattle.mc_item.specs.declared.{answer.Site.Site, call_event.CallEvent.CallEvent, class_event.ClassEvent.ClassEvent, config.Config.Config, event.Event.Event}
 use Rattle.mc_item.specs.declared.{event.Event.TheVariants.Call, event.Event.TheVariants.Class, event.Event.TheVariants.Stripe, fault.Fault.Fault}
-use Rattle.mc_item.specs.declared.{command.Command.Command, item.ClassNo.ClassNo, item.Who.Who, stripe_event.Cause.Cause}
+use Rattle.mc_item.specs.declared.{class_event.Limited.Limited, command.Command.Command, item.ClassNo.ClassNo, item.Who.Who, stripe_event.Cause.Cause}
 use Rattle.mc_item.specs.declared.{stripe_event.Cause.TheVariants.Expired, stripe_event.Cause.TheVariants.Taken, stripe_event.StripeEvent.StripeEvent}
+use Rattle.mc_item.specs.declared.class_event.ClassEvent.TheVariants as entries
 use Rattle.mc_item.specs.declared.stripe_event.StripeEvent.TheVariants as events
 use Rattle.mc_board.specs.{Histories.Grows, Histories.list_at, Histories.with_seen, Views.SeenView}
 use Rattle.mc_board.specs.declared.rule.Sight.{Sight}
@@ -17,9 +18,10 @@ use Rattle.mc_stripe.specs.StripeState as states
 use Rattle.mc_pull.specs.{Lone.AreMadeBy, Lone.IsCauseOf, Lone.IsWalkersEvent, Lone.StripeGrows, Walker.Walker}
 use Rattle.mc_pull.specs.Perform as words
 use Rattle.mc_pull.specs.Performed.{IsPerformed, IsUntouched, did_event}
-use Rattle.mc_store.specs.Callers.{AreCalled, IsBegun, IsBegunAs, IsMomentOf, IsCalled, IsNext, IsOf, answered_at, asked_for, call_events, calls_told, who_of}
+use Rattle.mc_store.specs.Callers.{AreCalled, IsBegun, IsBegunAs, IsMomentOf, IsCalled, IsNext, IsOf, answered_at, asked_for, call_events, calls_told, limits_of, who_of}
 use Rattle.mc_store.specs.Locked.{HasBegun, HasBegunAs, HasBegunCommand, HasBegunSearch, caller_place, locks_for}
-use Rattle.mc_store.specs.{Made.IsClassCalled, Made.maker_of, Passes.CallerView, Passes.HasAsked, Passes.HasCalled}
+use Rattle.mc_store.specs.Made.{IsClassCalled, IsLimitCalled, WasCalled, maker_of}
+use Rattle.mc_store.specs.Passes.{CallerView, HasAsked, HasCalled}
 
 -- ---- a caller's history
 
@@ -122,8 +124,37 @@ class_called_more : (xs ys : List CallEvent) (class : ClassNo) (event : ClassEve
 unfolding begun_more
 class_called_more xs ys class event c = record { moment = c.moment; begun = begun_more xs ys (maker_of event).turn c.moment c.begun; timed = c.timed; own = c.own }
 
-pub class_called_prefix : (xs ys : List Event) (class : ClassNo) (event : ClassEvent) → IsPrefix xs ys → IsClassCalled (call_events xs) class event → IsClassCalled (call_events ys) class event
-class_called_prefix xs ys class event p c = subst (λ (l : List CallEvent). IsClassCalled l class event) (calls_prefix xs ys p) (class_called_more (call_events xs) (call_events p.0) class event c)
+limit_called_more : (xs ys : List CallEvent) (class : ClassNo) (e : Limited) → IsLimitCalled xs class e → IsLimitCalled (xs ++ ys) class e
+limit_called_more xs ys class e c = record {
+  before = c.before;
+  behind = c.behind ++ ys;
+  split = ap (λ (l : List CallEvent). l ++ ys) c.split ∙ append_assoc c.before (limits_of class e.chunks ∷ c.behind) ys;
+  turn_is = c.turn_is;
+}
+
+was_called_more : (xs ys : List CallEvent) (class : ClassNo) (event : ClassEvent) → WasCalled xs class event → WasCalled (xs ++ ys) class event
+was_called_more xs ys class (entries.Linked e) c = class_called_more xs ys class (entries.Linked e) c
+was_called_more xs ys class (entries.Unlinked e) c = class_called_more xs ys class (entries.Unlinked e) c
+was_called_more xs ys class (entries.Shifted e) c = class_called_more xs ys class (entries.Shifted e) c
+was_called_more xs ys class (entries.Evicted e) c = class_called_more xs ys class (entries.Evicted e) c
+was_called_more xs ys class (entries.Reclaimed e) c = class_called_more xs ys class (entries.Reclaimed e) c
+was_called_more xs ys class (entries.Surveyed e) c = class_called_more xs ys class (entries.Surveyed e) c
+was_called_more xs ys class (entries.Refused e) c = class_called_more xs ys class (entries.Refused e) c
+was_called_more xs ys class (entries.Limited e) c = limit_called_more xs ys class e c
+
+pub class_called_prefix : (xs ys : List Event) (class : ClassNo) (event : ClassEvent) → IsPrefix xs ys → WasCalled (call_events xs) class event → WasCalled (call_events ys) class event
+class_called_prefix xs ys class event p c = subst (λ (l : List CallEvent). WasCalled l class event) (calls_prefix xs ys p) (was_called_more (call_events xs) (call_events p.0) class event c)
+
+-- what a call with a moment made was called
+pub was_called_so : (calls : List CallEvent) (class : ClassNo) (event : ClassEvent) → IsClassCalled calls class event → WasCalled calls class event
+was_called_so calls class (entries.Linked e) c = c
+was_called_so calls class (entries.Unlinked e) c = c
+was_called_so calls class (entries.Shifted e) c = c
+was_called_so calls class (entries.Evicted e) c = c
+was_called_so calls class (entries.Reclaimed e) c = c
+was_called_so calls class (entries.Surveyed e) c = c
+was_called_so calls class (entries.Refused e) c = c
+was_called_so calls class (entries.Limited e) c = absurd c.timed
 
 -- more is seen
 pub begun_sees : (config : Config) (old new : Sight) (who : Who) (moment : ℕ) → Grows old new → HasBegun config old who moment → HasBegun config new who moment
@@ -181,6 +212,13 @@ told_begun config caller before after of told who moment call called = record {
       subst (λ (l : List CallEvent). IsBegunAs l who.turn moment call) (sym here) called.begun;
 }
 
+-- and all of it
+pub told_whole : (config : Config) (caller : CallerView) (before after : SeenView)
+    → after ≡ record before { sight = with_seen before.sight (caller_place config caller.number) (calls_told caller.calls) }
+    → list_at after.sight.seen (caller_place config caller.number) ≡ calls_told caller.calls
+told_whole config caller before after told =
+    ap (λ (s : SeenView). list_at s.sight.seen (caller_place config caller.number)) told ∙ list_at_same before.sight.seen (caller_place config caller.number) (calls_told caller.calls)
+
 -- who was told a caller's history with an answer at its end has seen it whole
 pub told_answer : {T E : Type 0} (config : Config) (old new : CallerView) (before after : SeenView) → after ≡ record before { sight = with_seen before.sight (caller_place config old.number) (calls_told new.calls) }
     → (r : Result T E) → OnOk r (list_at after.sight.seen (caller_place config old.number) ≡ calls_told new.calls)
@@ -204,12 +242,12 @@ get_append (x ∷ xs) ys y (suc k) e = ⊎_elim
     (get_append xs ys y k e)
 
 -- an event at a place of a stripe's history was called by one of the callers, as far as that one's history was seen
-abbrev WasCalled : Config → ℕ → ℕ → StripeEvent → (ℕ → List Event) → Type 0
-WasCalled config stripe place event seen = ((who_of event).caller < config.callers) × IsCalled (call_events (seen (locks_for config + (who_of event).caller))) stripe place event
+abbrev WasStripeCalled : Config → ℕ → ℕ → StripeEvent → (ℕ → List Event) → Type 0
+WasStripeCalled config stripe place event seen = ((who_of event).caller < config.callers) × IsCalled (call_events (seen (locks_for config + (who_of event).caller))) stripe place event
 
 -- each of these events, which come behind so many others, was
 abbrev WereCalled : Config → ℕ → ℕ → List StripeEvent → (ℕ → List Event) → Type 0
-WereCalled config stripe many es seen = (j : ℕ) (event : StripeEvent) → slice_get es j ≡ Some event → WasCalled config stripe (many + j) event seen
+WereCalled config stripe many es seen = (j : ℕ) (event : StripeEvent) → slice_get es j ≡ Some event → WasStripeCalled config stripe (many + j) event seen
 
 module _ (config : Config) (stripe : ℕ) where
   abbrev Called : List StripeEvent → Sight → Type 0
@@ -232,7 +270,7 @@ module _ (config : Config) (stripe : ℕ) where
   called_longer old es new seen more called all = record {
     each = λ place event at. ⊎_elim
         (λ (was : slice_get old place ≡ Some event). all.each place event was)
-        (λ (t : (j : ℕ) × (place ≡ length old + j) × (slice_get es j ≡ Some event)). subst (λ (k : ℕ). WasCalled config stripe k event seen) (sym t.1) (called t.0 event t.2))
+        (λ (t : (j : ℕ) × (place ≡ length old + j) × (slice_get es j ≡ Some event)). subst (λ (k : ℕ). WasStripeCalled config stripe k event seen) (sym t.1) (called t.0 event t.2))
         (get_append old es event place (ap (λ (h : List StripeEvent). slice_get h place) (sym more) ∙ at));
   }
 
@@ -246,7 +284,7 @@ moment_made w (Taken class place) is = tt
 
 -- a walker's event was called
 event_called : (config : Config) (stripe place : ℕ) (sight : Sight) (w : Walker) (event : StripeEvent) → HasBegun config sight w.who w.moment
-    → IsWalkersEvent w event → WasCalled config stripe place event (list_at sight.seen)
+    → IsWalkersEvent w event → WasStripeCalled config stripe place event (list_at sight.seen)
 event_called config stripe place sight w (events.Did did) begun made = absurd made
 event_called config stripe place sight w (events.Lost lost) begun made =
     let here : HasBegun config sight lost.who w.moment = subst (λ (who : Who). HasBegun config sight who w.moment) (sym made.0) begun in
@@ -259,10 +297,10 @@ event_called config stripe place sight w (events.Cooled cooled) begun made =
 made_called : (config : Config) (stripe many : ℕ) (sight : Sight) (w : Walker) (es : List StripeEvent) → HasBegun config sight w.who w.moment → AreMadeBy w es → WereCalled config stripe many es (list_at sight.seen)
 made_called config stripe many sight w [] begun made j event at = absurd (cc at)
 made_called config stripe many sight w (e ∷ es) begun made zero event at =
-    subst (λ (x : StripeEvent). WasCalled config stripe (many + zero) x (list_at sight.seen)) (some_event e event at) (event_called config stripe (many + zero) sight w e begun made.0)
+    subst (λ (x : StripeEvent). WasStripeCalled config stripe (many + zero) x (list_at sight.seen)) (some_event e event at) (event_called config stripe (many + zero) sight w e begun made.0)
 made_called config stripe many sight w (e ∷ es) begun made (suc j) event at =
     let place : many + 1 + j ≡ many + suc j = omega arith in
-    subst (λ (k : ℕ). WasCalled config stripe k event (list_at sight.seen)) place (made_called config stripe (many + 1) sight w es begun made.1 j event at)
+    subst (λ (k : ℕ). WasStripeCalled config stripe k event (list_at sight.seen)) place (made_called config stripe (many + 1) sight w es begun made.1 j event at)
 
 -- a stripe that a walker left
 pub called_walked : (config : Config) (w : Walker) (s s_new : states.Stripe) (old new : Sight) → StripeGrows w s s_new → Grows old new → HasBegun config old w.who w.moment
@@ -303,14 +341,14 @@ module _ (config : Config) (s s_new : states.Stripe) (c : words.Call) (vs ws : L
     of_now : c.who.caller < config.callers
     of_now = subst (λ (n : ℕ). n < config.callers) (sym asked.number) of
 
-    first : WasCalled config s_new.site.stripe place (did_event s c) (list_at new.seen)
+    first : WasStripeCalled config s_new.site.stripe place (did_event s c) (list_at new.seen)
     unfolding begun_now
     first = (of_now, record { moment = c.moment; begun = begun_now; own = (refl, refl) })
 
     made : WereCalled config s_new.site.stripe (length s.history) (did_event s c ∷ []) (list_at new.seen)
     made zero event is =
-        subst (λ (x : StripeEvent). WasCalled config s_new.site.stripe (length s.history + zero) x (list_at new.seen)) (some_event (did_event s c) event is)
-        (subst (λ (k : ℕ). WasCalled config s_new.site.stripe k (did_event s c) (list_at new.seen)) (omega (arith, at)) first)
+        subst (λ (x : StripeEvent). WasStripeCalled config s_new.site.stripe (length s.history + zero) x (list_at new.seen)) (some_event (did_event s c) event is)
+        (subst (λ (k : ℕ). WasStripeCalled config s_new.site.stripe k (did_event s c) (list_at new.seen)) (omega (arith, at)) first)
     made (suc j) event is = absurd (cc is)
 
   pub called_performed : {T : Type 0} (r : Result T Fault) → OnOk r (IsPerformed s s_new c vs ws) → OnErr r (IsUntouched s s_new vs ws) → OnOk r (caller.number < config.callers)

@@ -9,7 +9,7 @@ use Rattle.mc_item.specs.declared.{reply.Room.Room}
 use Rattle.mc_item.specs.declared.answer.Need.TheVariants as needs
 use Rattle.mc_item.specs.declared.reply.Room.TheVariants as rooms
 use Rattle.atomic_table.specs.Seated.{TableId}
-use Rattle.mc_rule.specs.Lists.{count_of, lists_of}
+use Rattle.mc_rule.specs.Lists.{IsFull, chunks_from, count_of, lists_of}
 use Rattle.mc_rule.proofs.EventPlaceLemmas.{at_place}
 use Rattle.mc_segment.specs.{ClassCalls.Makes, ClassCalls.refused_event, ClassState.ClassView, ClassState.with_room}
 use Rattle.mc_evidence.specs.Seen.{classes_seen}
@@ -138,11 +138,11 @@ pub keeps_full : (config : Config) (sight : Sight) (was v v_new : ClassView) (re
 keeps_full config sight was v v_new refused who None offers readied stay short keeps = absurd keeps
 keeps_full config sight was v v_new refused who (Some h) offers readied stay short keeps =
     let gives = subst (GivesHome v refused who) keeps offers.room in
-    let full = not_less (count_of (lists_of v.history)) v.chunks gives.1 in
+    let full = not_less (count_of (lists_of v.history)) (chunks_from v.chunks v.history) gives.1 in
     record {
       none = gives.0;
-      was_full = subst (λ (x : ClassView). x.chunks ≤ count_of (lists_of x.history)) readied full;
-      full = subst (λ (x : ClassView). x.chunks ≤ count_of (lists_of x.history)) (sym stay) full;
+      was_full = subst (λ (x : ClassView). IsFull x.chunks x.history) readied full;
+      full = subst (λ (x : ClassView). IsFull x.chunks x.history) (sym stay) full;
       history_is = ap (λ (x : ClassView). x.history) stay ∙ ap (λ (x : ClassView). x.history) readied;
       number_is = ap (λ (x : ClassView). x.number) stay ∙ ap (λ (x : ClassView). x.number) readied;
       short = λ few. short (subst (λ (x : ClassView). x.max_events < length x.history + 2) stay few);

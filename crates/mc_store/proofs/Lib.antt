@@ -10,6 +10,7 @@ pub mod AnsweredTurnLemmas
 mod LossCallLemmas
 mod PlacedLemmas
 pub mod LentClassLemmas
+mod LimitedClassLemmas
 pub mod LockKeepsLemmas
 mod NextTurnLemmas
 pub mod OwnEventLemmas

@@ -5,7 +5,7 @@ use Rattle.mc_item.specs.{Measure.cost_of, Stripe.IsDead, Stripe.MayLose}
 use Rattle.mc_item.specs.declared.{answer.Site.Site, call_event.CallEvent.CallEvent, class_event.ClassEvent.ClassEvent, class_event.Evicted.Evicted}
 use Rattle.mc_item.specs.declared.{config.Config.Config, item.ClassNo.ClassNo, item.Item.Item, item.Who.Who, stripe_event.Cause.Cause}
 use Rattle.mc_item.specs.declared.{stripe_event.Cause.TheVariants.Expired, stripe_event.Cause.TheVariants.Taken, stripe_event.Lost.Lost, stripe_event.StripeEvent.StripeEvent}
-use Rattle.mc_item.specs.declared.call_event.CallEvent.TheVariants.{Answered, Asked, Crawled, Juggled}
+use Rattle.mc_item.specs.declared.call_event.CallEvent.TheVariants.{Answered, Asked, Crawled, Juggled, Limits}
 use Rattle.mc_item.specs.declared.class_event.ClassEvent.TheVariants as entries
 use Rattle.mc_item.specs.declared.stripe_event.StripeEvent.TheVariants as events
 use Rattle.mc_rule.specs.{Pairs.item_after, Places.Stands}
@@ -53,6 +53,7 @@ for_chunk calls class e called = by called.begun.call refl
     by (Juggled worked) is = absurd ((subst (λ (c : CallEvent). SuitsCall class (entries.Evicted e) c) is called.own).1 tt)
     by (Crawled worked) is = absurd ((subst (λ (c : CallEvent). SuitsCall class (entries.Evicted e) c) is called.own).1)
     by (Answered answered) is = absurd (subst (λ (c : CallEvent). SuitsCall class (entries.Evicted e) c) is called.own)
+    by (Limits limits) is = absurd (subst (λ (c : CallEvent). SuitsCall class (entries.Evicted e) c) is called.own)
 
 module _ (config : Config) (final : FinalView) (passes : ℕ → PassView) (number : ℕ) (before : List StripeEvent) (lost : Lost)
     (sound : IsSoundStore (setting_of config) (stripe_histories final.stripes) (class_histories final.classes))

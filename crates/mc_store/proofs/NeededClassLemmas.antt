@@ -3,16 +3,17 @@ use Rattle.std.proofs.Common.{◌≡◌, ◌≢◌, ◌≤◌, ◌++◌, ◌&&�
 use Rattle.std.specs.Prelude.{◌==◌, Option, Some, None, IfSome, IsSomeAnd, nat_le, if◌then◌else◌, decimal}
 use Rattle.std.specs.Option.{option_map}
 use Rattle.std.proofs.lemmas.Bool.Decides.{nat_tests}
-use Rattle.mc_item.specs.Answer.{Row, cas_of, grown_row, number_row, padded, plain, row_of, store_row, stepped, version_of}
+use Rattle.mc_item.specs.Answer.{Row, Written, cas_of, grown_row, join_row, number_row, padded, plain, row_of, store_row, stepped, version_of, write_row, written_over}
 use Rattle.mc_item.specs.{Cache.marked, Command.key_of, Item.expiry_of, Item.is_dead, Item.link_of_item, Measure.class_of, Measure.cost_of, Measure.numeral_of}
 use Rattle.mc_item.specs.{Stripe.IsLegal, Stripe.cache_of}
 use Rattle.mc_item.specs.declared.{answer.Change.Change, answer.Need.Need, answer.Site.Site, command.Command.Command, command.Verb.Verb}
 use Rattle.mc_item.specs.declared.{command.Verb.TheVariants.Set, command.Verb.TheVariants.Add, command.Verb.TheVariants.Replace, command.Verb.TheVariants.Cas}
+use Rattle.mc_item.specs.declared.{command.Verb.TheVariants.Append, command.Verb.TheVariants.Prepend}
 use Rattle.mc_item.specs.declared.{config.Config.Config, counting.Step.TheVariants.Up, counting.Step.TheVariants.Down, item.ClassNo.ClassNo, item.Item.Item}
 use Rattle.mc_item.specs.declared.{item.Link.Link, item.Marks.Marks, stripe_event.StripeEvent.StripeEvent}
 use Rattle.mc_item.specs.declared.answer.Change.TheVariants as changes
 use Rattle.mc_item.specs.declared.answer.Need.TheVariants as needs
-use Rattle.mc_item.specs.declared.command.Command.TheVariants.{Get, Store, Huge, Incr, Decr, Touch, Delete}
+use Rattle.mc_item.specs.declared.command.Command.TheVariants.{Get, Gat, Store, Huge, Incr, Decr, Touch, Delete}
 use Rattle.mc_item.specs.declared.reply.Reply.TheVariants as replies
 use Rattle.mc_item.specs.declared.reply.Room.TheVariants as rooms
 use Rattle.atomic_table.specs.Seated.{TableId}
@@ -138,13 +139,27 @@ module _ (home other : Option ClassNo) where
 
   store_gone : (key : List ℕ) (o : Option ClassNo) (verb : Verb) (item : Item) (version : Link → Item) (class : ClassNo) → home ≡ Some class
       → (store_row o verb (Some item) version).need ≡ needs.Fresh class → Cover key None (store_row o verb None version)
-  store_gone key None verb item version class at is = absurd (cc is)
+  store_gone key o Append item version class at is = (tt, tt)
+  store_gone key o Prepend item version class at is = (tt, tt)
+  store_gone key None Set item version class at is = absurd (cc is)
+  store_gone key None Add item version class at is = absurd (cc is)
+  store_gone key None Replace item version class at is = absurd (cc is)
+  store_gone key None (Cas unique) item version class at is = absurd (cc is)
   store_gone key (Some c) Set item version class at is =
       let same : class ≡ c = cc is in
       (at ∙ ap (λ (n : ClassNo). Some n) same, tt)
   store_gone key (Some c) Add item version class at is = absurd (cc is)
   store_gone key (Some c) Replace item version class at is = (tt, tt)
   store_gone key (Some c) (Cas unique) item version class at is = (tt, tt)
+
+  write_gone : (site : Site) (n : ℕ) (key : List ℕ) (verb : Verb) (own : Written) (item : Item) (class : ClassNo) → home ≡ Some class
+      → (write_row site n key verb (Some item) (written_over verb own (Some item))).need ≡ needs.Fresh class → Cover key None (write_row site n key verb None (written_over verb own None))
+  write_gone site n key Append own item class at is = (tt, tt)
+  write_gone site n key Prepend own item class at is = (tt, tt)
+  write_gone site n key Set own item class at is = store_gone key (class_of site.sizes (cost_of key own.value)) Set item (version_of site n own.flags own.value own.expiry) class at is
+  write_gone site n key Add own item class at is = store_gone key (class_of site.sizes (cost_of key own.value)) Add item (version_of site n own.flags own.value own.expiry) class at is
+  write_gone site n key Replace own item class at is = store_gone key (class_of site.sizes (cost_of key own.value)) Replace item (version_of site n own.flags own.value own.expiry) class at is
+  write_gone site n key (Cas unique) own item class at is = store_gone key (class_of site.sizes (cost_of key own.value)) (Cas unique) item (version_of site n own.flags own.value own.expiry) class at is
 
   not_fresh : (class : ClassNo) → needs.Nothing ≡ needs.Fresh class → ⊥
   not_fresh class is = cc is
@@ -156,8 +171,9 @@ module _ (home other : Option ClassNo) where
   gone_covers : (site : Site) (n : ℕ) (command : Command) (moment : ℕ) (item : Item) (class : ClassNo) → home ≡ Some class → (row_of site n (Some item) command moment).need ≡ needs.Fresh class
       → Cover (key_of command) None (row_of site n None command moment)
   gone_covers site n (Get key) moment item class at is = absurd (not_fresh class is)
+  gone_covers site n (Gat key exptime) moment item class at is = absurd (not_fresh class is)
   gone_covers site n (Store verb key flags exptime value) moment item class at is =
-      store_gone key (class_of site.sizes (cost_of key value)) verb item (version_of site n flags value (expiry_of exptime moment)) class at is
+      write_gone site n key verb (record { flags = flags; value = value; expiry = expiry_of exptime moment }) item class at is
   gone_covers site n (Huge verb key) moment item class at is = absurd (too_large class is)
   gone_covers site n (Incr key delta) moment item class at is = (tt, tt)
   gone_covers site n (Decr key delta) moment item class at is = (tt, tt)
@@ -166,12 +182,32 @@ module _ (home other : Option ClassNo) where
 
 -- an item's marks don't matter to what a row needs
 module _ (marks : Marks) (item : Item) where
+  join_marked : (o : Option ClassNo) (version : Link → Item) → (join_row o (Some (marked marks item)) version).need ≡ (join_row o (Some item) version).need
+  join_marked None version = refl
+  join_marked (Some c) version = refl
+
   store_marked : (o : Option ClassNo) (verb : Verb) (version : Link → Item) → (store_row o verb (Some (marked marks item)) version).need ≡ (store_row o verb (Some item) version).need
-  store_marked None verb version = refl
+  store_marked o Append version = join_marked o version
+  store_marked o Prepend version = join_marked o version
+  store_marked None Set version = refl
+  store_marked None Add version = refl
+  store_marked None Replace version = refl
+  store_marked None (Cas unique) version = refl
   store_marked (Some c) Set version = refl
   store_marked (Some c) Add version = refl
   store_marked (Some c) Replace version = refl
   store_marked (Some c) (Cas unique) version = refl
+
+  written_marked : (verb : Verb) (own : Written) → written_over verb own (Some (marked marks item)) ≡ written_over verb own (Some item)
+  written_marked Set own = refl
+  written_marked Add own = refl
+  written_marked Replace own = refl
+  written_marked (Cas unique) own = refl
+  written_marked Append own = refl
+  written_marked Prepend own = refl
+
+  write_marked : (site : Site) (n : ℕ) (key : List ℕ) (verb : Verb) (w : Written) → (write_row site n key verb (Some (marked marks item)) w).need ≡ (write_row site n key verb (Some item) w).need
+  write_marked site n key verb w = store_marked (class_of site.sizes (cost_of key w.value)) verb (version_of site n w.flags w.value w.expiry)
 
   grown_marked : (site : Site) (n number : ℕ) (o : Option ClassNo) → (grown_row site n (marked marks item) number o).need ≡ (grown_row site n item number o).need
   grown_marked site n number None = refl
@@ -190,7 +226,10 @@ module _ (marks : Marks) (item : Item) where
 
   need_marked : (site : Site) (n : ℕ) (command : Command) (moment : ℕ) → (row_of site n (Some (marked marks item)) command moment).need ≡ (row_of site n (Some item) command moment).need
   need_marked site n (Get key) moment = refl
-  need_marked site n (Store verb key flags exptime value) moment = store_marked (class_of site.sizes (cost_of key value)) verb (version_of site n flags value (expiry_of exptime moment))
+  need_marked site n (Gat key exptime) moment = refl
+  need_marked site n (Store verb key flags exptime value) moment =
+      let own : Written = record { flags = flags; value = value; expiry = expiry_of exptime moment } in
+      ap (λ (w : Written). (write_row site n key verb (Some (marked marks item)) w).need) (written_marked verb own) ∙ write_marked site n key verb (written_over verb own (Some item))
   need_marked site n (Huge verb key) moment = refl
   need_marked site n (Incr key delta) moment = number_marked site n key (option_map (stepped (Up delta)) (numeral_of item.value))
   need_marked site n (Decr key delta) moment = number_marked site n key (option_map (stepped (Down delta)) (numeral_of item.value))
@@ -310,6 +349,8 @@ pub fresh_needs : (site : Site) (n : ℕ) (found : Option Item) (command : Comma
 fresh_needs site n found (Store verb key flags exptime value) moment class is = tt
 fresh_needs site n found (Incr key delta) moment class is = tt
 fresh_needs site n found (Decr key delta) moment class is = tt
+fresh_needs site n None (Gat key exptime) moment class is = absurd (cc is)
+fresh_needs site n (Some item) (Gat key exptime) moment class is = absurd (cc is)
 fresh_needs site n None (Get key) moment class is = absurd (cc is)
 fresh_needs site n (Some item) (Get key) moment class is = absurd (cc is)
 fresh_needs site n found (Huge verb key) moment class is = absurd (cc is)

@@ -1,36 +1,37 @@
--- A class under its lock notes a refusal.
-use Rattle.std.proofs.Common.{◌≡◌, ◌++◌, ◌∷◌, [], List, Result, Ok, Err, sym, ap, ◌∙◌, subst}
+-- A class under its lock notes a refusal or a new limit.
+use Rattle.std.proofs.Common.{◌≡◌, ◌++◌, ◌∷◌, [], ℕ, List, Result, Ok, Err, sym, ap, ◌∙◌, subst}
 use Rattle.std.specs.Prelude.{OnOk, OnErr}
 use Rattle.std.proofs.lemmas.List.{append-nil}
 use Rattle.atomic_table.specs.Seated.{TableId}
-use Rattle.mc_item.specs.declared.{class_event.ClassEvent.ClassEvent, class_event.Refused.Refused, config.Config.Config, fault.Fault.Fault, item.Who.Who}
+use Rattle.mc_item.specs.declared.{class_event.ClassEvent.ClassEvent, class_event.Limited.Limited, class_event.Refused.Refused, config.Config.Config, fault.Fault.Fault}
+use Rattle.mc_item.specs.declared.item.Who.{Who}
 use Rattle.mc_rule.specs.{Cited.IsSuited, Evidence.IsBacked, Lawful.IsLawfulHistoryByLists, Partners.ClearsOnce, Places.Each}
 use Rattle.mc_rule.proofs.EventPlaceLemmas.{each_push}
 use Rattle.mc_board.specs.Histories as seen
-use Rattle.mc_segment.specs.{ClassCalls.Makes, ClassCalls.Stays, ClassCalls.refused_event, ClassState.ClassView}
+use Rattle.mc_segment.specs.{ClassCalls.Makes, ClassCalls.Stays, ClassCalls.limited_event, ClassCalls.refused_event, ClassState.ClassView}
 use Rattle.mc_pull.specs.Growth.{GainsEvents}
-use Rattle.mc_pull.proofs.OtherSightLemmas.{refusal_backed, refusal_suited}
+use Rattle.mc_pull.proofs.OtherSightLemmas.{limit_backed, limit_suited, refusal_backed, refusal_suited}
 use Rattle.mc_store.specs.{Locked.IsHeldClass, Sides.ClassSide}
 use Rattle.mc_store.proofs.LockKeepsLemmas.{class_alone}
 
-module _ {T : Type 0} (v w : ClassView) (who : Who) where
+module _ {T : Type 0} (v w : ClassView) (event : ClassEvent) where
   -- the class has only grown
-  pub refusal_grows : (r : Result T Fault) → OnOk r (Makes v w (refused_event who)) → OnErr r (Stays v w) → GainsEvents v w
-  refusal_grows (Ok x) makes err = record {
+  pub noted_grows : (r : Result T Fault) → OnOk r (Makes v w event) → OnErr r (Stays v w) → GainsEvents v w
+  noted_grows (Ok x) makes err = record {
     same = makes ∙ ap (λ (h : List ClassEvent). record v { history = h; room = w.room }) (sym (ap (λ (c : ClassView). c.history) makes));
-    events = refused_event who ∷ [];
+    events = event ∷ [];
     history_is = ap (λ (c : ClassView). c.history) makes;
   }
-  refusal_grows (Err f) makes err = record {
+  noted_grows (Err f) makes err = record {
     same = err.0 ∙ ap (λ (h : List ClassEvent). record v { history = h; room = w.room }) (sym (ap (λ (c : ClassView). c.history) err.0));
     events = [];
     history_is = ap (λ (c : ClassView). c.history) err.0 ∙ sym (append-nil v.history);
   }
 
-  -- what its history does, with the refusal and without it, it does
-  refusal_does : (P : List ClassEvent → Type 0) → P v.history → P (v.history ++ refused_event who ∷ []) → (r : Result T Fault) → OnOk r (Makes v w (refused_event who)) → OnErr r (Stays v w) → P w.history
-  refusal_does P old new (Ok x) makes err = subst P (sym (ap (λ (c : ClassView). c.history) makes)) new
-  refusal_does P old new (Err f) makes err = subst P (sym (ap (λ (c : ClassView). c.history) err.0)) old
+  -- what its history does, with the event and without it, it does
+  pub noted_does : (P : List ClassEvent → Type 0) → P v.history → P (v.history ++ event ∷ []) → (r : Result T Fault) → OnOk r (Makes v w event) → OnErr r (Stays v w) → P w.history
+  noted_does P old new (Ok x) makes err = subst P (sym (ap (λ (c : ClassView). c.history) makes)) new
+  noted_does P old new (Err f) makes err = subst P (sym (ap (λ (c : ClassView). c.history) err.0)) old
 
 pub refused_after : {T : Type 0} (table : TableId) (config : Config) (lent lent_new : ClassSide) (who : Who) → IsHeldClass table config lent
     → lent_new.board ≡ lent.board → lent_new.lock ≡ lent.lock → seen.Grows lent.sight lent_new.sight
@@ -40,9 +41,26 @@ refused_after table config lent lent_new who kept board lock more lawful r makes
     let v = lent.class in
     let w = lent_new.class in
     let e : Refused = record { who = who } in
-    class_alone table config lent lent_new kept board lock (refusal_grows v w who r makes err) more lawful
-    (refusal_does v w who (Each ClearsOnce) kept.keeps.once (each_push ClearsOnce v.history (refused_event who) kept.keeps.once tt) r makes err)
+    let event = refused_event who in
+    class_alone table config lent lent_new kept board lock (noted_grows v w event r makes err) more lawful
+    (noted_does v w event (Each ClearsOnce) kept.keeps.once (each_push ClearsOnce v.history event kept.keeps.once tt) r makes err)
     (λ t history bears. (
-      refusal_does v w who (Each (IsBacked t v.rule v.number history)) bears.0 (refusal_backed t v.number history v.rule v.history e bears.0) r makes err,
-      refusal_does v w who (Each (IsSuited t v.number history)) bears.1 (refusal_suited t v.number history v.history e bears.1) r makes err,
+      noted_does v w event (Each (IsBacked t v.rule v.number history)) bears.0 (refusal_backed t v.number history v.rule v.history e bears.0) r makes err,
+      noted_does v w event (Each (IsSuited t v.number history)) bears.1 (refusal_suited t v.number history v.history e bears.1) r makes err,
+    ))
+
+pub limited_after : {T : Type 0} (table : TableId) (config : Config) (lent lent_new : ClassSide) (who : Who) (chunks : ℕ) → IsHeldClass table config lent
+    → lent_new.board ≡ lent.board → lent_new.lock ≡ lent.lock → seen.Grows lent.sight lent_new.sight
+    → IsLawfulHistoryByLists lent_new.class.chunks lent_new.class.rule lent_new.class.history
+    → (r : Result T Fault) → OnOk r (Makes lent.class lent_new.class (limited_event who chunks)) → OnErr r (Stays lent.class lent_new.class) → IsHeldClass table config lent_new
+limited_after table config lent lent_new who chunks kept board lock more lawful r makes err =
+    let v = lent.class in
+    let w = lent_new.class in
+    let e : Limited = record { who = who; chunks = chunks } in
+    let event = limited_event who chunks in
+    class_alone table config lent lent_new kept board lock (noted_grows v w event r makes err) more lawful
+    (noted_does v w event (Each ClearsOnce) kept.keeps.once (each_push ClearsOnce v.history event kept.keeps.once tt) r makes err)
+    (λ t history bears. (
+      noted_does v w event (Each (IsBacked t v.rule v.number history)) bears.0 (limit_backed t v.number history v.rule v.history e bears.0) r makes err,
+      noted_does v w event (Each (IsSuited t v.number history)) bears.1 (limit_suited t v.number history v.history e bears.1) r makes err,
     ))

@@ -23,10 +23,10 @@ use Rattle.mc_pull.proofs.{EventsLemmas.events_so, SuitedLemmas.needs_removes, S
 use Rattle.mc_crawl.specs.Crawl.{AreReclaims, Reclaims}
 use Rattle.mc_store.specs.Callers.{answered_at, asked_for, call_events, crawling_of, juggling_of}
 use Rattle.mc_store.specs.Locked.{HasBegunAs, HasBegunCommand, IsHeldClass, IsLockedClass, locks_for}
-use Rattle.mc_store.specs.Made.{AreCalledInClass, AreOwnEvents, GainsOwn, IsClassCalled, IsOwnEvent, NoneSurveys, SearchesOwn, SuitsCall, WalksOwn}
+use Rattle.mc_store.specs.Made.{AreCalledInClass, AreOwnEvents, GainsOwn, IsOwnEvent, NoneSurveys, SearchesOwn, SuitsCall, WalksOwn, WasCalled}
 use Rattle.mc_store.specs.Made.{maker_of}
 use Rattle.mc_store.specs.{Passes.CallerView, Passes.HasAsked, Passes.HasCalled, Sides.ClassSide}
-use Rattle.mc_store.proofs.CallerLemmas.{asked_called, begun_as_more, class_called_prefix, get_append}
+use Rattle.mc_store.proofs.CallerLemmas.{asked_called, begun_as_more, class_called_prefix, get_append, was_called_so}
 use Rattle.mc_store.proofs.LockKeepsLemmas.{class_sees, grows_trans}
 
 -- ---- what a history gains
@@ -161,6 +161,7 @@ none_surveys_both (events.Shifted e ∷ xs) ys first more = none_surveys_both xs
 none_surveys_both (events.Evicted e ∷ xs) ys first more = none_surveys_both xs ys first more
 none_surveys_both (events.Reclaimed e ∷ xs) ys first more = none_surveys_both xs ys first more
 none_surveys_both (events.Refused e ∷ xs) ys first more = none_surveys_both xs ys first more
+none_surveys_both (events.Limited e ∷ xs) ys first more = none_surveys_both xs ys first more
 
 surveys_warm : (q : Question) (at : ℕ) (j : Judge) → NoneSurveys (warm_events q at j)
 surveys_warm q at (Walk s mode passed) = tt
@@ -216,15 +217,16 @@ searches_visited X q a b c h v w j (Ok x) so more is err = searches_judged q a b
 searches_visited X q a b c h v w j (Err f) so more is err = searches_failed q.who q.moment a b c h v.history w.history so more (ap (λ (x : ClassView). x.history) err.0)
 
 -- a command that may need a chunk may make what a search makes
-pub suited_search : (command : Command) → MayNeedChunk command → (es : List ClassEvent) → NoneSurveys es → AreSuited command es
-suited_search command needs [] none = tt
-suited_search command needs (events.Surveyed e ∷ es) none = absurd none
-suited_search command needs (events.Unlinked e ∷ es) none = (needs_removes command needs, suited_search command needs es none)
-suited_search command needs (events.Linked e ∷ es) none = (needs, suited_search command needs es none)
-suited_search command needs (events.Shifted e ∷ es) none = (needs, suited_search command needs es none)
-suited_search command needs (events.Evicted e ∷ es) none = (needs, suited_search command needs es none)
-suited_search command needs (events.Reclaimed e ∷ es) none = (tt, suited_search command needs es none)
-suited_search command needs (events.Refused e ∷ es) none = (needs, suited_search command needs es none)
+pub suited_search : (who : Who) (moment : ℕ) (command : Command) → MayNeedChunk command → (es : List ClassEvent) → AreOwnEvents who moment es → NoneSurveys es → AreSuited command es
+suited_search who moment command needs [] own none = tt
+suited_search who moment command needs (events.Surveyed e ∷ es) own none = absurd none
+suited_search who moment command needs (events.Unlinked e ∷ es) own none = (needs_removes command needs, suited_search who moment command needs es own.1 none)
+suited_search who moment command needs (events.Linked e ∷ es) own none = (needs, suited_search who moment command needs es own.1 none)
+suited_search who moment command needs (events.Shifted e ∷ es) own none = (needs, suited_search who moment command needs es own.1 none)
+suited_search who moment command needs (events.Evicted e ∷ es) own none = (needs, suited_search who moment command needs es own.1 none)
+suited_search who moment command needs (events.Reclaimed e ∷ es) own none = (tt, suited_search who moment command needs es own.1 none)
+suited_search who moment command needs (events.Refused e ∷ es) own none = (needs, suited_search who moment command needs es own.1 none)
+suited_search who moment command needs (events.Limited e ∷ es) own none = absurd own.0.1
 
 -- ---- events that were called
 
@@ -245,7 +247,7 @@ of_juggling class (e ∷ es) moment none = ((refl, none.0), of_juggling class es
 
 -- an event of a class was called by one of the callers, as far as that one's history was seen
 abbrev WasMade : Config → ClassNo → ClassEvent → Sight → Type 0
-WasMade config class event sight = ((maker_of event).caller < config.callers) × IsClassCalled (call_events (list_at sight.seen (locks_for config + (maker_of event).caller))) class event
+WasMade config class event sight = ((maker_of event).caller < config.callers) × WasCalled (call_events (list_at sight.seen (locks_for config + (maker_of event).caller))) class event
 
 some_event : (a b : ClassEvent) → Some a ≡ Some b → a ≡ b
 some_event a b e = cc e
@@ -270,7 +272,8 @@ module _ (config : Config) (class : ClassNo) where
       → SuitsCall class event call → IsOwnEvent who moment event → WasMade config class event sight
   own_called sight who moment call event begun suits own =
       let here : HasBegunAs config sight (maker_of event) moment call = subst (λ (w : Who). HasBegunAs config sight w moment call) (sym own.0) begun in
-      (here.of, record { moment = moment; begun = here.begun.begun; timed = own.1; own = subst (SuitsCall class event) (sym here.begun.call_is) suits })
+      let calls = call_events (list_at sight.seen (locks_for config + (maker_of event).caller)) in
+      (here.of, was_called_so calls class event (record { moment = moment; begun = here.begun.begun; timed = own.1; own = subst (SuitsCall class event) (sym here.begun.call_is) suits }))
 
   all_called : (sight : Sight) (who : Who) (moment : ℕ) (call : CallEvent) (es : List ClassEvent) → HasBegunAs config sight who moment call → AreOf class es call → AreOwnEvents who moment es
       → (k : ℕ) (event : ClassEvent) → slice_get es k ≡ Some event → WasMade config class event sight
@@ -339,6 +342,7 @@ reclaims_own who moment (events.Shifted e ∷ es) are = absurd are.0
 reclaims_own who moment (events.Evicted e ∷ es) are = absurd are.0
 reclaims_own who moment (events.Surveyed e ∷ es) are = absurd are.0
 reclaims_own who moment (events.Refused e ∷ es) are = absurd are.0
+reclaims_own who moment (events.Limited e ∷ es) are = absurd are.0
 
 of_crawl : (class : ClassNo) (who : Who) (moment : ℕ) (es : List ClassEvent) → AreReclaims who moment es → AreOf class es (crawling_of class moment)
 of_crawl class who moment [] are = tt
@@ -349,6 +353,7 @@ of_crawl class who moment (events.Shifted e ∷ es) are = absurd are.0
 of_crawl class who moment (events.Evicted e ∷ es) are = absurd are.0
 of_crawl class who moment (events.Surveyed e ∷ es) are = absurd are.0
 of_crawl class who moment (events.Refused e ∷ es) are = absurd are.0
+of_crawl class who moment (events.Limited e ∷ es) are = absurd are.0
 
 -- a class behind a crawl of one of its links, however that ended
 pub gains_crawled : {T : Type 0} (class : ClassNo) (who : Who) (moment : ℕ) (history history_new : List ClassEvent) (before after : ℕ) (r : Result T Fault)

@@ -7,7 +7,7 @@ use Rattle.atomic_table.specs.Seated.{TableId}
 use Rattle.mc_item.specs.declared.{call_event.CallEvent.CallEvent, command.Command.Command, config.Config.Config, fault.Fault.Fault, item.Who.Who}
 use Rattle.mc_item.specs.declared.{reply.Reply.Reply, stripe_event.Did.Did, stripe_event.StripeEvent.StripeEvent}
 use Rattle.mc_item.specs.declared.call_event.Answered as answers
-use Rattle.mc_item.specs.declared.call_event.CallEvent.TheVariants.{Answered, Asked, Crawled, Juggled}
+use Rattle.mc_item.specs.declared.call_event.CallEvent.TheVariants.{Answered, Asked, Crawled, Juggled, Limits}
 use Rattle.mc_item.specs.declared.stripe_event.StripeEvent.TheVariants as events
 use Rattle.mc_board.specs.Histories.{Grows, list_at}
 use Rattle.mc_board.specs.declared.rule.Sight.{Sight}
@@ -38,6 +38,9 @@ placed_append turns (Juggled w ∷ xs) ys =
 placed_append turns (Crawled w ∷ xs) ys =
     let same : turns + 1 + length (turns_of xs) ≡ turns + length (turns_of (Crawled w ∷ xs)) = omega arith in
     placed_append (turns + 1) xs ys ∙ ap (λ (n : ℕ). placed_from (turns + 1) xs ++ placed_from n ys) same
+placed_append turns (Limits l ∷ xs) ys =
+    let same : turns + 1 + length (turns_of xs) ≡ turns + length (turns_of (Limits l ∷ xs)) = omega arith in
+    placed_append (turns + 1) xs ys ∙ ap (λ (n : ℕ). placed_from (turns + 1) xs ++ placed_from n ys) same
 placed_append turns (Answered a ∷ xs) ys =
     ap (λ (ps : List Placed). record { turn = turns - 1; stripe = a.stripe; place = a.place } ∷ ps) (placed_append turns xs ys)
 
@@ -51,6 +54,7 @@ none_placed turns [] one call = absurd (omega (arith, one))
 none_placed turns (Asked a ∷ es) one call = ap (placed_from (turns + 1)) (no_more (Asked a) es one)
 none_placed turns (Juggled w ∷ es) one call = ap (placed_from (turns + 1)) (no_more (Juggled w) es one)
 none_placed turns (Crawled w ∷ es) one call = ap (placed_from (turns + 1)) (no_more (Crawled w) es one)
+none_placed turns (Limits l ∷ es) one call = ap (placed_from (turns + 1)) (no_more (Limits l) es one)
 none_placed turns (Answered a ∷ es) one call =
     let none = ap (λ (l : List CallEvent). length (turns_of l)) (no_more (Answered a) es one) in
     absurd (omega (arith, none, call))
@@ -255,6 +259,7 @@ no_answer stripe place [] none next = next
 no_answer stripe place (Asked a ∷ es) none next = cc next
 no_answer stripe place (Juggled w ∷ es) none next = cc next
 no_answer stripe place (Crawled w ∷ es) none next = cc next
+no_answer stripe place (Limits l ∷ es) none next = cc next
 no_answer stripe place (Answered a ∷ es) none next = none
 
 -- has no command in a closed store

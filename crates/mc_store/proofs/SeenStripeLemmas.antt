@@ -20,7 +20,7 @@ use Rattle.mc_store.specs.declared.replied.Replied.{Replied}
 use Rattle.mc_store.proofs.{EarnedRefusalLemmas.told_sees, ShortHistoryLemmas.short_class_grows, ShortHistoryLemmas.short_grows, ShortHistoryLemmas.short_stripe, SyncedStepLemmas.map_length}
 use Rattle.mc_store.specs.Callers.{HasNoneOf, asked_for, answered_at, turns_of, calls_told, moment_of}
 use Rattle.mc_store.specs.Passes.{CallerView, PassView, HasAsked, HasCalled, caller_of, next_who}
-use Rattle.mc_item.specs.declared.call_event.CallEvent.TheVariants.{Answered, Asked, Crawled, Juggled}
+use Rattle.mc_item.specs.declared.call_event.CallEvent.TheVariants.{Answered, Asked, Crawled, Juggled, Limits}
 
 -- what a command shares with its pass: how it was answered or broken off, by what the pass had seen before and has seen behind it; and
 -- that a full history was seen
@@ -132,6 +132,7 @@ turns_answered (Asked a ∷ calls) stripe place = ap (λ (l : List CallEvent). A
 turns_answered (Juggled w ∷ calls) stripe place = ap (λ (l : List CallEvent). Juggled w ∷ l) (turns_answered calls stripe place)
 turns_answered (Crawled w ∷ calls) stripe place = ap (λ (l : List CallEvent). Crawled w ∷ l) (turns_answered calls stripe place)
 turns_answered (Answered a ∷ calls) stripe place = turns_answered calls stripe place
+turns_answered (Limits l ∷ calls) stripe place = ap (λ (es : List CallEvent). Limits l ∷ es) (turns_answered calls stripe place)
 
 -- a command adds no turn to its caller's history once it was asked for
 pub turns_kept : {config : Config} {s : Stripe} {own_new : StripeSide} {caller caller_new : CallerView} {command : Command} {turn : Turn} (r : Result Replied Fault)

@@ -10,7 +10,7 @@ use Rattle.mc_item.specs.declared.lists.Seg.TheVariants as segs
 use Rattle.mc_item.specs.declared.stripe_event.StripeEvent.TheVariants as events
 use Rattle.mc_evidence.specs.{Losses.AreNoCommands, Refusals.HasTried}
 use Rattle.mc_rule.specs.{Belonging.IsEntryOf, Lawful.IsIn, Lawful.IsListed, Pairs.item_after, Places.Stands, Segment.Rule}
-use Rattle.mc_rule.specs.Lists.{IsFull, Lists, count_of, find, found, found_in, lists_of}
+use Rattle.mc_rule.specs.Lists.{IsFull, Lists, chunks_from, count_of, find, found, found_in, lists_of}
 use Rattle.mc_segment.specs.{ClassState.ClassView, ClassState.with_room, Entries.entry_of}
 use Rattle.mc_stripe.specs.StripeState.{Stripe, cache_now}
 use Rattle.mc_pull.specs.declared.{judge.Done.Done, judge.Judge.Judge, judge.Judge.TheVariants.Dead, judge.Judge.TheVariants.Hit}
@@ -254,6 +254,7 @@ try_for who key history before (entries.Linked e) stands tries other = absurd tr
 try_for who key history before (entries.Unlinked e) stands tries other = absurd tries
 try_for who key history before (entries.Surveyed e) stands tries other = absurd tries
 try_for who key history before (entries.Refused e) stands tries other = absurd tries
+try_for who key history before (entries.Limited e) stands tries other = absurd tries
 
 -- whoever tried, and reclaimed no entry of its own key, has tried for it
 pub tried_for : (stripes : ℕ) (number : StripeNo) (who : Who) (key : List ℕ) (before after es : List ClassEvent) → IsTried stripes number who before after
@@ -272,9 +273,10 @@ lt_not a b few = grind (arith, nat_tests)
 
 -- a search that left its class full found nothing
 pub full_vain : (config : Config) (v v_new : ClassView) (who : Who) (moment : ℕ) (xs : List Answer) (there : Bool) → classes.GainsEvents v v_new → IsRoom (rounds v who moment config) v.history xs v_new.history there
-    → IsFull v_new.chunks (lists_of v_new.history) → there ≡ false
+    → IsFull v_new.chunks v_new.history → there ≡ false
 full_vain config v v_new who moment xs there grows room full =
-    room.found_is ∙ lt_not (count_of (lists_of v_new.history)) v.chunks (subst (λ (n : ℕ). n ≤ count_of (lists_of v_new.history)) (ap (λ (c : ClassView). c.chunks) grows.same) full)
+    room.found_is ∙ lt_not (count_of (lists_of v_new.history)) (chunks_from v.chunks v_new.history)
+    (subst (λ (n : ℕ). IsFull n v_new.history) (ap (λ (c : ClassView). c.chunks) grows.same) full)
 
 -- and has tried for each key of the stripe at hand whose item isn't dead, by rounds that asked it wherever they came upon it
 pub tried_any : (config config_at : Config) (c : ClassView) (who : Who) (moment : ℕ) (s : Stripe) (xs xs_new ys : List Answer) (h_new : List ClassEvent) (there : Bool) → config_at ≡ config

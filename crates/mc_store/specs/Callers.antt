@@ -6,7 +6,7 @@ use Rattle.mc_item.specs.declared.{call_event.CallEvent.CallEvent, command.Comma
 use Rattle.mc_item.specs.declared.{event.Event.TheVariants.Class, event.Event.TheVariants.Stripe, item.ClassNo.ClassNo, item.Who.Who, stripe_event.Cause.Cause}
 use Rattle.mc_item.specs.declared.{stripe_event.Cause.TheVariants.Expired, stripe_event.Cause.TheVariants.Taken, stripe_event.StripeEvent.StripeEvent}
 use Rattle.mc_store.specs.declared.placed.Placed.{Placed}
-use Rattle.mc_item.specs.declared.call_event.CallEvent.TheVariants.{Answered, Asked, Crawled, Juggled}
+use Rattle.mc_item.specs.declared.call_event.CallEvent.TheVariants.{Answered, Asked, Crawled, Juggled, Limits}
 use Rattle.mc_item.specs.declared.stripe_event.StripeEvent.TheVariants as events
 
 -- a caller's history as the board has it
@@ -32,6 +32,10 @@ juggling_of class moment = Juggled (record { class = class; moment = moment })
 abbrev pub crawling_of : ClassNo → ℕ → CallEvent
 crawling_of class moment = Crawled (record { class = class; moment = moment })
 
+-- the event that a caller set this class's limit of chunks to this number; the call has no moment
+abbrev pub limits_of : ClassNo → ℕ → CallEvent
+limits_of class chunks = Limits (record { class = class; chunks = chunks })
+
 -- the event that a caller's last command was answered, by the event at this place of this stripe's history
 abbrev pub answered_at : ℕ → ℕ → CallEvent
 answered_at stripe place = Answered (record { stripe = record { 0 = stripe }; place = place })
@@ -43,13 +47,15 @@ turns_of (Asked asked ∷ calls) = Asked asked ∷ turns_of calls
 turns_of (Juggled worked ∷ calls) = Juggled worked ∷ turns_of calls
 turns_of (Crawled worked ∷ calls) = Crawled worked ∷ turns_of calls
 turns_of (Answered answered ∷ calls) = turns_of calls
+turns_of (Limits limits ∷ calls) = Limits limits ∷ turns_of calls
 
--- the moment of a call; an answer has none
+-- the moment of a call; an answer and a call that sets a limit have none
 abbrev pub moment_of : CallEvent → Option ℕ
 moment_of (Asked asked) = Some asked.moment
 moment_of (Juggled worked) = Some worked.moment
 moment_of (Crawled worked) = Some worked.moment
 moment_of (Answered answered) = None
+moment_of (Limits limits) = None
 
 -- the answers among these events of a caller that has had so many turns before them: the turn that was answered, and where
 abbrev pub placed_from : ℕ → List CallEvent → List Placed
@@ -58,6 +64,7 @@ placed_from turns (Asked asked ∷ calls) = placed_from (turns + 1) calls
 placed_from turns (Juggled worked ∷ calls) = placed_from (turns + 1) calls
 placed_from turns (Crawled worked ∷ calls) = placed_from (turns + 1) calls
 placed_from turns (Answered answered ∷ calls) = record { turn = turns - 1; stripe = answered.stripe; place = answered.place } ∷ placed_from turns calls
+placed_from turns (Limits limits ∷ calls) = placed_from (turns + 1) calls
 
 -- where a caller's commands were answered, in their order
 abbrev pub placed_in : List CallEvent → List Placed
@@ -67,7 +74,7 @@ placed_in calls = placed_from 0 calls
 abbrev pub IsPlace : List CallEvent → Placed → Type 0
 IsPlace calls placed = (k : ℕ) × (slice_get (placed_in calls) k ≡ Some placed)
 
--- a caller's last event is a call: it isn't answered yet
+-- a caller's last event is a call that has a moment: it isn't answered yet
 pub record IsUnanswered (calls : List CallEvent) : Type 0 where
   pub before : List CallEvent
   pub call : CallEvent
@@ -82,6 +89,7 @@ HasNoAnswer (Answered answered ∷ calls) = ⊥
 HasNoAnswer (Asked asked ∷ calls) = Unit {0}
 HasNoAnswer (Juggled worked ∷ calls) = Unit {0}
 HasNoAnswer (Crawled worked ∷ calls) = Unit {0}
+HasNoAnswer (Limits limits ∷ calls) = Unit {0}
 
 -- the event is one of these
 abbrev pub IsCall : CallEvent → List CallEvent → Type 0

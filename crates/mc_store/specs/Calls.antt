@@ -6,7 +6,7 @@ use Rattle.mc_item.specs.declared.{item.ClassNo.ClassNo, item.Who.Who, counts.Mo
 use Rattle.mc_evidence.specs.{Locks.ClassKeeps, Locks.StripeKeeps, Seen.classes_seen, Seen.stripes_seen}
 use Rattle.mc_board.specs.Histories.{list_at}
 use Rattle.mc_board.specs.declared.rule.Sight.{Sight}
-use Rattle.mc_segment.specs.ClassState.{ClassView}
+use Rattle.mc_segment.specs.{ClassCalls.limited_event, ClassState.ClassView}
 use Rattle.mc_stripe.specs.{StripeState.Stripe, StripeCalls.KeepsSite}
 use Rattle.mc_pull.specs.{Juggle.IsJuggle, Question.IsClassOf, Question.IsStripeOf, Rounds.rounds}
 use Rattle.mc_pull.specs.declared.looking.Answer.{Answer}
@@ -92,3 +92,10 @@ pub record IsJuggledBy (config : Config) (class : ClassNo) (before after : PassV
   pub grew : IsSeenGrowOf config class before.sight after.sight old history_new
   pub first : HasNoneMadeBy (next_who before) old.history
   pub upkept : IsUpkept config old (record { who = next_who before; moment = moment }) before.hands after.hands history_new moves
+
+-- a class's limit of chunks was set, after all that the pass had seen of the class and what other calls made: its history gains
+-- the event of this call, and no other
+pub record IsLimitedBy (config : Config) (class : ClassNo) (before after : Sight) (who : Who) (chunks : ℕ) : Type 0 where
+  pub old : ClassView
+  pub grew : IsSeenGrowOf config class before after old (old.history ++ limited_event who chunks ∷ [])
+  pub first : HasNoneMadeBy who old.history

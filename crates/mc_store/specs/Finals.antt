@@ -9,7 +9,7 @@ use Rattle.mc_board.specs.Histories.{HasNoted, HasSeen}
 use Rattle.mc_board.specs.declared.rule.Sight.{Sight}
 use Rattle.mc_evidence.specs.Setting.{IsClass, Setting, site_in}
 use Rattle.mc_rule.specs.{Belonging.HasEntry, Belonging.HasItem, Lists.found, Lists.lists_of, Lists.times_in, Pairs.item_after}
-use Rattle.mc_store.specs.{Callers.IsCalled, Callers.who_of, Locked.IsClassUnder, Locked.IsStripeUnder, Made.IsClassCalled, Made.maker_of, Passes.ArePlaced}
+use Rattle.mc_store.specs.{Callers.IsCalled, Callers.who_of, Locked.IsClassUnder, Locked.IsStripeUnder, Made.WasCalled, Made.maker_of, Passes.ArePlaced}
 use Rattle.mc_store.specs.{Callers.IsPlace, Passes.IsPlacedIn, Passes.PassView, Passes.caller_of, declared.placed.Placed.Placed}
 use Rattle.mc_store.specs.Sides.{ClassSide, StripeSide, class_told, stripe_told}
 
@@ -90,4 +90,4 @@ pub record AreJustPlaced (config : Config) (pass : PassView) (stripes : List Str
 -- classes come in the order of their numbers, from 1
 pub record AreItsOwnInClasses (pass : PassView) (classes : List ClassSide) : Type 0 where
   pub each : (k : ℕ) (s : ClassSide) (place : ℕ) (event : ClassEvent) → slice_get classes k ≡ Some s → slice_get s.class.history place ≡ Some event
-      → (maker_of event).caller ≡ pass.caller → IsClassCalled pass.calls (record { 0 = k + 1 }) event
+      → (maker_of event).caller ≡ pass.caller → WasCalled pass.calls (record { 0 = k + 1 }) event

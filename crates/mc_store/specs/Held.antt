@@ -5,7 +5,7 @@ use Rattle.mc_item.specs.{Command.key_of, Measure.stripe_of, Stripe.IsAlive}
 use Rattle.mc_item.specs.declared.answer.Need.TheVariants as needs
 use Rattle.mc_item.specs.declared.{command.Command.Command, config.Config.Config, fault.Fault.Fault, fault.Fault.TheVariants.HistoryFull, item.ClassNo.ClassNo}
 use Rattle.mc_item.specs.declared.{reply.Room.Room, stripe_event.StripeEvent.StripeEvent}
-use Rattle.mc_rule.specs.Lists.{IsFull, lists_of}
+use Rattle.mc_rule.specs.Lists.{IsFull}
 use Rattle.mc_segment.specs.ClassState.{ClassView}
 use Rattle.mc_board.specs.declared.rule.Sight.{Sight}
 use Rattle.mc_stripe.specs.{StripeCalls.KeepsSite, StripeState.Stripe, StripeState.cache_now, Trying.item_of, Trying.row_at, Wanting.Holds, Wanting.IsWanting}
@@ -45,8 +45,8 @@ pub record Suffice (home other : Option ClassNo) (s : Stripe) (command : Command
 -- a class is full with an unchanged history, and no refusal is known; if that has fewer than two places left, this was seen
 pub record IsStillFull (config : Config) (sight : Sight) (refused : Option ℕ) (v v_new : ClassView) : Type 0 where
   pub none : refused ≡ None
-  pub was_full : IsFull v.chunks (lists_of v.history)
-  pub full : IsFull v_new.chunks (lists_of v_new.history)
+  pub was_full : IsFull v.chunks v.history
+  pub full : IsFull v_new.chunks v_new.history
   pub history_is : v_new.history ≡ v.history
   pub number_is : v_new.number ≡ v.number
   pub short : v_new.max_events < length v_new.history + 2 → HasSeenShortClass config sight

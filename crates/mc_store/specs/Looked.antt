@@ -28,6 +28,7 @@ IsOfOther key before (events.Linked e) = Unit {0}
 IsOfOther key before (events.Unlinked e) = Unit {0}
 IsOfOther key before (events.Surveyed e) = Unit {0}
 IsOfOther key before (events.Refused e) = Unit {0}
+IsOfOther key before (events.Limited e) = Unit {0}
 
 -- each entry that these events reclaim, after this history, had another key
 abbrev pub AreOfOthers : List ℕ → List ClassEvent → List ClassEvent → Type 0

@@ -2,7 +2,7 @@
 ghost use Rattle.std.specs.Prelude.{◌≡◌, ◌<◌, ◌≤◌, ◌^◌, ◌++◌, ◌∷◌, ℕ, [], if◌then◌else◌, length, OnOk, OnErr, IsErrOf};
 ghost use Rattle.mc_item.specs.declared.fault.Fault.TheVariants.{HistoryFull};
 ghost use Rattle.mc_item.specs.declared.{call_event.CallEvent.CallEvent, item.Who.Who};
-ghost use Rattle.mc_board.specs.Histories.{with_seen, Grows, HasSeen};
+ghost use Rattle.mc_board.specs.Histories.{list_at, with_seen, Grows, HasSeen};
 ghost use Rattle.mc_store.specs.{Callers.HasNoneOf, Callers.IsUnanswered, Callers.answered_at, Callers.call_events, Callers.calls_told, Callers.placed_in};
 ghost use Rattle.mc_store.specs.{Callers.turns_of, Locked.caller_place, Locked.HasBegunAs};
 ghost use Rattle.mc_store.specs.{Made.HasNoneMadeBy, Passes.HasCalled, Passes.next_call};
@@ -144,6 +144,8 @@ impl<N: Named> Caller<N> {
         ensures board { seen.new.board ≡ seen.old.board }
         ensures grows { Grows seen.old.sight seen.new.sight }
         ensures begun { (who : Who) (moment : ℕ) (call : CallEvent) → HasCalled self.old who moment call → HasBegunAs N.config seen.new.sight who moment call }
+        ensures of { self.old.number < N.config.callers }
+        ensures whole { list_at seen.new.sight.seen (caller_place N.config self.old.number) ≡ calls_told self.old.calls }
     {
         self.owner.tell(board, seen);
     }
@@ -180,6 +182,8 @@ impl<N: Named> Caller<N> {
         ensures class { class.new ≡ record class.old { sight = class.new.sight } }
         ensures grows { Grows class.old.sight class.new.sight }
         ensures begun { (who : Who) (moment : ℕ) (call : CallEvent) → HasCalled self.old who moment call → HasBegunAs N.config class.new.sight who moment call }
+        ensures of { self.old.number < N.config.callers }
+        ensures whole { list_at class.new.sight.seen (caller_place N.config self.old.number) ≡ calls_told self.old.calls }
     {
         self.tell(board, &mut class.side.seen);
     }

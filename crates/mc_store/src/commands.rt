@@ -13,22 +13,33 @@ use crate::named::Named;
 use crate::pass::Pass;
 use crate::replied::Replied;
 use crate::store::Store;
-use mc_item::{Asking, ClassNo, Command, Config, Fault, Link, Reply, class_of, cost, stripe_of};
+use mc_item::{
+    Asking, ClassNo, Command, Config, Fault, Link, Reply, Verb, class_of, cost, stripe_of,
+};
 use mc_stripe::Turn;
 use std::alloc::Global;
 use std::sync::Wait;
 
-// The class that a storage command's new version would be of, if there is one.
+// The class that a storage command's new version would be of, if there is one. That of an `append` or `prepend` depends on the
+// old value.
 #[inline(always)]
 fn class_for(config: &Config, command: &Command) -> Option<ClassNo>
     requires { length config.now.sizes ≤ 63 }
     ensures { IfSome result (λ class. IsClass (setting_of config.now) class) }
 {
     match command {
-        Command::Store { key, value, .. } => {
-            let cost = cost(key.bytes().len() as u64, value.bytes().len() as u64);
-            class_of(config, cost)
-        }
+        Command::Store {
+            verb,
+            key,
+            value,
+            ..
+        } => match verb {
+            Verb::Append | Verb::Prepend => None,
+            Verb::Set | Verb::Add | Verb::Replace | Verb::Cas(_) => {
+                let cost = cost(key.bytes().len() as u64, value.bytes().len() as u64);
+                class_of(config, cost)
+            }
+        },
         _ => None,
     }
 }
@@ -99,7 +110,7 @@ impl<N: Named> Store<N> {
         own.side.compare(&self.board, &mut pass.seen);
         let turn = Turn { who, moment };
         let caller = &mut pass.caller;
-        // A storage command is tried at once on its new version's class, if it has one, and any other on its stripe alone.
+        // A storage command is tried at once on its new version's class, if that is known, and any other on its stripe alone.
         let replied = match class_for(&self.config, &command) {
             Some(class) => answer_for(alloc, self, rt, own, caller, &command, turn, class),
             None => answer(alloc, self, rt, own, caller, &command, turn),

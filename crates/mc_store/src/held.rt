@@ -5,7 +5,7 @@ ghost use Rattle.mc_item.specs.declared.answer.Need.TheVariants as needs;
 ghost use Rattle.mc_item.specs.declared.fault.Fault.TheVariants.{HistoryFull};
 ghost use Rattle.mc_board.specs.Histories.{Grows};
 ghost use Rattle.mc_pull.specs.Attempt.{IsReady};
-ghost use Rattle.mc_rule.specs.Lists.{IsFull, lists_of};
+ghost use Rattle.mc_rule.specs.Lists.{IsFull};
 ghost use Rattle.mc_segment.specs.ClassState.{with_room};
 ghost use Rattle.mc_stripe.specs.StripeCalls.{KeepsSite};
 ghost use Rattle.mc_store.specs.Held.{Ends, HasGivenUpAny, IsCallOn, IsRefusedAt, IsStillFull, IsTriedOn, IsWalked, Suffice, WantsChunk, class_held};
@@ -129,7 +129,7 @@ fn search<N: Named>(
     turn: Turn,
 ) -> Result<(), Fault>
     requires begun { HasBegunSearch N.config own.old.sight turn.who turn.moment }
-    ensures tried { OnOk result (IsFull home.new.class.chunks (lists_of home.new.class.history) → HasGivenUpAny N.config own.old.stripe turn home.new.class) }
+    ensures tried { OnOk result (IsFull home.new.class.chunks home.new.class.history → HasGivenUpAny N.config own.old.stripe turn home.new.class) }
     ensures walked { IsWalked N.config turn home.old.class.number own.old.stripe own.new.stripe }
     ensures number { home.new.class.number ≡ home.old.class.number }
     ensures begun { HasBegunSearch N.config own.new.sight turn.who turn.moment }

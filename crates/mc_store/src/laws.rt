@@ -12,7 +12,7 @@ ghost use Rattle.mc_board.specs.Histories.{Grows};
 ghost use Rattle.mc_board.specs.declared.rule.Sight.{Sight};
 ghost use Rattle.mc_store.specs.{Calls.IsRepliedBy, Headline.IsBorneOut, Locked.setting_of, Passes.PassView};
 ghost use Rattle.mc_store.specs.Callers.{HasNoAnswer, IsBegun, IsCalled, moment_of, turns_of, who_of};
-ghost use Rattle.mc_store.specs.{Made.IsBegunForChunk, Made.IsClassCalled, Made.maker_of, Sides.ClassSide, Sides.StripeSide};
+ghost use Rattle.mc_store.specs.{Made.IsBegunForChunk, Made.WasCalled, Made.maker_of, Sides.ClassSide, Sides.StripeSide};
 ghost use Rattle.mc_store.specs.Finals.{AreClasses, AreItsOwn, AreItsOwnInClasses, AreStripes, FinalView, HasNoDid, IsBehindStripes, class_histories};
 ghost use Rattle.mc_store.specs.Finals.{stripe_histories};
 
@@ -55,14 +55,15 @@ pub fn each_event_of_a_closed_store_was_called()
 {}
 
 /// Each event of a closed store's slab classes was called. It names one of the store's callers, whose history has the call, with
-/// the event's turn and its time, if it has one. Juggling and crawls keep to their class, and a crawl only reclaims.
+/// the event's turn and its time, if it has one. Juggling and crawls keep to their class, and a crawl only reclaims. A new limit
+/// is the one that its call sets, of this class.
 /// It holds if each caller's pass was compared with the closed store.
 pub fn each_class_event_of_a_closed_store_was_called()
     ensures { (config : Config) (final : FinalView) (passes : ℕ → PassView) (number place : ℕ) (s : ClassSide) (event : ClassEvent)
         → AreClasses final.board config final.classes
         → ((caller : ℕ) → caller < config.callers → ((passes caller).caller ≡ caller) × AreItsOwnInClasses (passes caller) final.classes)
         → slice_get final.classes number ≡ Some s → slice_get s.class.history place ≡ Some event
-        → ((maker_of event).caller < config.callers) × IsClassCalled (passes (maker_of event).caller).calls (record { 0 = number + 1 }) event }
+        → ((maker_of event).caller < config.callers) × WasCalled (passes (maker_of event).caller).calls (record { 0 = number + 1 }) event }
 {}
 
 /// Each loss of a closed store has the call that it was made for. An item that was lost as dead was dead at the moment of a call of

@@ -13,6 +13,7 @@ mod held;
 mod judging;
 mod juggling;
 mod laws;
+mod limiting;
 mod lock_no;
 mod locked;
 mod looking;

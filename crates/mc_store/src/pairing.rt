@@ -4,7 +4,7 @@ ghost use Rattle.std.specs.Prelude.{ℕ, ◌≡◌, ◌≤◌, ◌<◌, ◌+◌,
 ghost use mathlib.Core.List.{IsPrefix};
 ghost use Rattle.mc_item.specs.declared.fault.Fault.TheVariants.{HistoryFull};
 ghost use Rattle.mc_evidence.specs.Seen.{classes_seen};
-ghost use Rattle.mc_rule.specs.Lists.{IsFull, lists_of};
+ghost use Rattle.mc_rule.specs.Lists.{IsFull};
 ghost use Rattle.mc_segment.specs.ClassCalls.{Makes, Stays, refused_event};
 ghost use Rattle.mc_board.specs.Histories.{Grows, list_at};
 ghost use Rattle.mc_pull.specs.{Agreeing.AgreeNow, Perform.call};
@@ -46,7 +46,7 @@ pub(crate) fn refuse<N: Named>(
 ) -> Result<u64, Fault>
     requires board { board.now ≡ N.board }
     requires begun { (moment : ℕ) × HasBegunSearch N.config own.old.sight who moment }
-    requires full { IsFull lent.old.class.chunks (lists_of lent.old.class.history) }
+    requires full { IsFull lent.old.class.chunks lent.old.class.history }
     ensures place { IfOk result (λ place. place ≡ length lent.old.class.history) }
     ensures refused { OnOk result (Makes lent.old.class lent.new.class (refused_event who)) }
     ensures err { OnErr result (Stays lent.old.class lent.new.class) }

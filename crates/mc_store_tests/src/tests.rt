@@ -11,6 +11,7 @@ mod full_classes;
 mod full_neighbours;
 mod full_store;
 mod hits;
+mod limits;
 mod many_hits;
 mod opening;
 mod own_locks;

@@ -3,3 +3,4 @@ pub mod PutLemmas
 pub mod TryLemmas
 pub mod CountLemmas
 pub mod WakeLemmas
+pub mod JoinLemmas

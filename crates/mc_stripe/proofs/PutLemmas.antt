@@ -5,7 +5,7 @@ use Rattle.mc_item.specs.{Answer.Row, Answer.store_row, Item.link_of_item, Measu
 use Rattle.mc_item.specs.declared.{answer.Need.Need, command.Verb.Verb, item.ClassNo.ClassNo, item.Expiry.Expiry, item.Item.Item, item.Link.Link}
 use Rattle.mc_item.specs.declared.{stripe_event.StripeEvent.StripeEvent}
 use Rattle.mc_item.specs.declared.answer.Need.TheVariants as needs
-use Rattle.mc_item.specs.declared.command.Verb.TheVariants.{Set, Add, Replace, Cas}
+use Rattle.mc_item.specs.declared.command.Verb.TheVariants.{Set, Add, Replace, Cas, Append, Prepend}
 use Rattle.mc_item.specs.declared.reply.Room as rooms
 use Rattle.mc_stripe.specs.{Plan.fate_of, Trying.MakesRow, Trying.Puts}
 use Rattle.mc_stripe.specs.Putting.{IsDecided, KnowsItem, answer_of_room, cas_in, decline_of, found_of, item_left, link_in, made_of, row_by, storing_row}
@@ -21,6 +21,10 @@ declined_by class Add None version = refl
 declined_by class Add (Some item) version = refl
 declined_by class Replace None version = refl
 declined_by class Replace (Some item) version = refl
+declined_by class Append None version = refl
+declined_by class Append (Some item) version = refl
+declined_by class Prepend None version = refl
+declined_by class Prepend (Some item) version = refl
 declined_by class (Cas unique) None version = refl
 declined_by class (Cas unique) (Some item) version = search rules
 

@@ -3,14 +3,14 @@ use Rattle.std.proofs.Common.{ℕ, ◌≡◌, ◌∙◌, ◌==◌, ◌&&◌, Boo
 use Rattle.std.specs.Prelude.{◌↔◌, Option, Some, None, decimal, nat_le, if◌then◌else◌}
 use Rattle.std.specs.Option.{option_map}
 use Rattle.std.proofs.lemmas.Bool.{false≢true}
-use Rattle.mc_item.specs.Answer.{Row, fresh, grown_row, let_go, number_row, row_of, stepped, store_row, version_of}
+use Rattle.mc_item.specs.Answer.{Row, Written, fresh, grown_row, join_row, let_go, number_row, row_of, stepped, store_row, version_of, written_over}
 use Rattle.mc_item.specs.{Command.key_of, Item.expiry_of, Measure.class_of, Measure.cost_of, Measure.numeral_of}
 use Rattle.mc_item.specs.declared.{answer.Answer.Answer, answer.Change.Change, answer.Site.Site, command.Command.Command, command.Verb.Verb}
 use Rattle.mc_item.specs.declared.{counting.Step.TheVariants.Up, counting.Step.TheVariants.Down, item.ClassNo.ClassNo, item.Item.Item, item.Link.Link}
 use Rattle.mc_item.specs.declared.{reply.Reply.Reply, reply.Room.Room}
 use Rattle.mc_item.specs.declared.answer.Change.TheVariants as changes
-use Rattle.mc_item.specs.declared.command.Command.TheVariants.{Get, Store, Huge, Incr, Decr, Touch, Delete}
-use Rattle.mc_item.specs.declared.command.Verb.TheVariants.{Set, Add, Replace, Cas}
+use Rattle.mc_item.specs.declared.command.Command.TheVariants.{Get, Gat, Store, Huge, Incr, Decr, Touch, Delete}
+use Rattle.mc_item.specs.declared.command.Verb.TheVariants.{Set, Add, Replace, Cas, Append, Prepend}
 use Rattle.mc_item.specs.declared.reply.Room.TheVariants as rooms
 use Rattle.mc_stripe.specs.Plan.{Wakes, fate_of, woken_of}
 use Rattle.mc_stripe.specs.declared.fate.Fate.{Fate}
@@ -30,6 +30,8 @@ let_go_unmarked Set = tt
 let_go_unmarked Add = tt
 let_go_unmarked Replace = tt
 let_go_unmarked (Cas unique) = tt
+let_go_unmarked Append = tt
+let_go_unmarked Prepend = tt
 
 fresh_unmarked : (room : Room) (class : ClassNo) (reply : Reply) (version : Link → Item) (refused : Answer) → ((link : Link) → (version link).marks.active ≡ false) → IsUnmarked refused.change
     → IsUnmarked ((fresh class reply version refused).answer room).change
@@ -45,8 +47,18 @@ module _ (room : Room) where
   either_unmarked true row other first second = first
   either_unmarked false row other first second = second
 
+  join_unmarked : (class : Option ClassNo) (found : Option Item) (version : Link → Item) → ((link : Link) → (version link).marks.active ≡ false) → RowIsUnmarked (join_row class found version)
+  join_unmarked class None version new = tt
+  join_unmarked None (Some item) version new = tt
+  join_unmarked (Some class) (Some item) version new = fresh_unmarked room class _ version _ new tt
+
   store_unmarked : (class : Option ClassNo) (verb : Verb) (found : Option Item) (version : Link → Item) → ((link : Link) → (version link).marks.active ≡ false) → RowIsUnmarked (store_row class verb found version)
-  store_unmarked None verb found version new = let_go_unmarked verb
+  store_unmarked class Append found version new = join_unmarked class found version new
+  store_unmarked class Prepend found version new = join_unmarked class found version new
+  store_unmarked None Set found version new = tt
+  store_unmarked None Add found version new = tt
+  store_unmarked None Replace found version new = tt
+  store_unmarked None (Cas unique) found version new = tt
   store_unmarked (Some class) Set found version new = fresh_unmarked room class _ version _ new tt
   store_unmarked (Some class) Add None version new = fresh_unmarked room class _ version _ new tt
   store_unmarked (Some class) Add (Some item) version new = tt
@@ -67,8 +79,12 @@ module _ (room : Room) where
   row_unmarked : (site : Site) (n : ℕ) (found : Option Item) (command : Command) (moment : ℕ) → RowIsUnmarked (row_of site n found command moment)
   row_unmarked site n None (Get key) moment = tt
   row_unmarked site n (Some item) (Get key) moment = tt
+  row_unmarked site n None (Gat key exptime) moment = tt
+  row_unmarked site n (Some item) (Gat key exptime) moment = tt
   row_unmarked site n found (Store verb key flags exptime value) moment =
-      store_unmarked (class_of site.sizes (cost_of key value)) verb found (version_of site n flags value (expiry_of exptime moment)) (λ link. refl)
+      let own : Written = record { flags = flags; value = value; expiry = expiry_of exptime moment } in
+      let written = written_over verb own found in
+      store_unmarked (class_of site.sizes (cost_of key written.value)) verb found (version_of site n written.flags written.value written.expiry) (λ link. refl)
   row_unmarked site n found (Huge verb key) moment = let_go_unmarked verb
   row_unmarked site n None (Incr key delta) moment = tt
   row_unmarked site n (Some item) (Incr key delta) moment = number_unmarked site n key item (option_map (stepped (Up delta)) (numeral_of item.value))

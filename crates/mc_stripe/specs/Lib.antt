@@ -8,4 +8,5 @@ pub mod Shown
 pub mod Trying
 pub mod Wanting
 pub mod Putting
+pub mod Joining
 pub mod Counting

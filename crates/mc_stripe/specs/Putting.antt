@@ -6,7 +6,7 @@ use Rattle.mc_item.specs.declared.answer.Change.TheVariants as changes
 use Rattle.mc_item.specs.declared.answer.Need.TheVariants as needs
 use Rattle.mc_item.specs.declared.{command.Verb.Verb, item.ClassNo.ClassNo, item.Expiry.Expiry, item.Item.Item, item.Link.Link, reply.Reply.Reply}
 use Rattle.mc_item.specs.declared.{reply.Room.Room}
-use Rattle.mc_item.specs.declared.command.Verb.TheVariants.{Set, Add, Replace, Cas}
+use Rattle.mc_item.specs.declared.command.Verb.TheVariants.{Set, Add, Replace, Cas, Append, Prepend}
 use Rattle.mc_item.specs.declared.reply.Reply.TheVariants as replies
 use Rattle.mc_item.specs.declared.reply.Room.TheVariants as rooms
 use Rattle.mc_stripe.specs.Wanting.{Uses}
@@ -52,6 +52,10 @@ decline_of Add None = None
 decline_of Add (Some cas) = Some answered.NotStored
 decline_of Replace None = Some answered.NotStored
 decline_of Replace (Some cas) = None
+decline_of Append None = Some answered.NotStored
+decline_of Append (Some cas) = None
+decline_of Prepend None = Some answered.NotStored
+decline_of Prepend (Some cas) = None
 decline_of (Cas unique) None = Some answered.NotFound
 decline_of (Cas unique) (Some cas) = if cas == unique then None else Some answered.Exists
 

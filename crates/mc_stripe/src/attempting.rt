@@ -1,5 +1,5 @@
 //! One try of a command on a stripe: it makes the command with its event, or says what the command wants.
-ghost use Rattle.std.specs.Prelude.{◌≡◌, ◌≤◌, ◌<◌, ◌+◌, ◌^◌, ◌↔◌, IfOk, IfErr, OnErr, IsErrOf, nat_eq, length};
+ghost use Rattle.std.specs.Prelude.{◌≡◌, ◌≤◌, ◌<◌, ◌+◌, ◌^◌, ◌↔◌, IfOk, IfErr, OnErr, IsErrOf, nat_eq, length, true};
 ghost use Rattle.std.specs.{Cmp.Lexicographic.pointwise, HashMap.get, HashMap.spare};
 ghost use Rattle.mc_item.specs.{Answer.cas_of, Answer.row_of, Command.key_of, Stripe.Fits};
 ghost use Rattle.mc_item.specs.Item as items;
@@ -7,20 +7,23 @@ ghost use Rattle.mc_item.specs.Measure as measure;
 ghost use Rattle.mc_item.specs.declared.answer.Need.TheVariants as needs;
 ghost use Rattle.mc_item.specs.declared.fault.Fault.TheVariants as faults;
 ghost use Rattle.mc_item.specs.declared.{item.ClassNo.ClassNo as TheClass, reply.Room.Room as TheRoom};
-ghost use Rattle.mc_stripe.specs.{StripeCalls.KeepsSite, Wanting.IsTaken};
+ghost use Rattle.mc_stripe.specs.{Joining.content_of, Joining.content_row, StripeCalls.KeepsSite, Wanting.IsTaken};
 ghost use Rattle.mc_stripe.specs.Trying.{IsDone, IsLeft, IsOpen, MakesRow, ItemsStay};
 
 use crate::counting::count_item;
 use crate::deleting::delete_item;
-use crate::getting::get_item;
+use crate::getting::{gat_item, get_item};
 use crate::huge::refuse_huge;
+use crate::joining::{Joint, Side, join_item};
 use crate::putting::put_item;
 use crate::shown::{copy_if, push_answer};
 use crate::state::{StripeState, is_full};
 use crate::touching::touch_item;
 use crate::trying::{Done, Made, Turn};
 use crate::wanting::{Given, Want};
-use mc_item::{Command, Content, Expiry, Fault, Item, Key, NoMemory, Site, Step, cost, expiry_of};
+use mc_item::{
+    Command, Content, Expiry, Fault, Item, Key, NoMemory, Site, Step, Verb, cost, expiry_of,
+};
 use std::alloc::Global;
 use std::collections::HashMap;
 use std::hash::RandomState;
@@ -32,6 +35,49 @@ fn expiry_at(exptime: &i64, moment: u64) -> Expiry
     ensures { result ≡ items.expiry_of exptime.now moment }
 {
     expiry_of(*exptime, moment)
+}
+
+// Makes a storage command on the items, or says what it wants.
+#[inline(always)]
+fn store_item(
+    alloc: Global,
+    site: &Site,
+    versions: u64,
+    items: &mut HashMap<Key, Item, RandomState>,
+    key: &Key,
+    verb: Verb,
+    content: &Content<'_>,
+    moment: u64,
+    given: &Given,
+) -> Result<Result<Made, Want>, NoMemory>
+    requires cas { cas_of site.now versions < 2 ^ 64 }
+    ensures made { IfOk result (λ t. IfOk t (MakesRow true given.now (get (pointwise nat_eq) items.old) (get (pointwise nat_eq) items.new) key.now
+        (content_row site.now versions key.now verb (content_of content.now.flags content.now.value.now content.now.expiry)
+        (get (pointwise nat_eq) items.old key.now)) moment)) }
+    ensures wants { IfOk result (λ t. IfErr t (IsLeft given.now (get (pointwise nat_eq) items.old) (get (pointwise nat_eq) items.new) key.now moment
+        (content_row site.now versions key.now verb (content_of content.now.flags content.now.value.now content.now.expiry)
+        (get (pointwise nat_eq) items.old key.now)))) }
+    ensures err { OnErr result (ItemsStay (get (pointwise nat_eq) items.old) (get (pointwise nat_eq) items.new)) }
+    ensures spare { spare items.old ≤ spare items.new + 1 }
+{
+    match Side::of(verb) {
+        Some(side) => {
+            let joint = Joint {
+                side,
+                block: content.value,
+            };
+            join_item(alloc, site, versions, items, key, &joint, moment, given)
+        }
+        None => {
+            let cost = cost(key.bytes().len() as u64, content.value.bytes().len() as u64);
+            match site.class_of(cost) {
+                None => Ok(refuse_huge(items, key, verb, moment, given)),
+                Some(fresh) => put_item(
+                    alloc, site, versions, items, key, verb, content, cost, fresh, moment, given,
+                ),
+            }
+        }
+    }
 }
 
 // Makes a command on the items, or says what it wants. Each kind of command has a function of its own, by its row of the table.
@@ -57,6 +103,13 @@ fn make(
 {
     match command {
         Command::Get(key) => get_item(items, key, moment, keeps),
+        Command::Gat(key, exptime) => gat_item(
+            items,
+            key,
+            expiry_at(exptime, moment),
+            moment,
+            keeps,
+        ),
         Command::Store {
             verb,
             key,
@@ -69,13 +122,9 @@ fn make(
                 value,
                 expiry: expiry_at(exptime, moment),
             };
-            let cost = cost(key.bytes().len() as u64, value.bytes().len() as u64);
-            match site.class_of(cost) {
-                None => Ok(refuse_huge(items, key, *verb, moment, given)),
-                Some(fresh) => put_item(
-                    alloc, site, versions, items, key, *verb, &content, cost, fresh, moment, given,
-                ),
-            }
+            store_item(
+                alloc, site, versions, items, key, *verb, &content, moment, given,
+            )
         }
         Command::Huge { verb, key } => Ok(refuse_huge(items, key, *verb, moment, given)),
         Command::Incr(key, delta) => {

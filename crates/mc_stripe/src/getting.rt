@@ -1,7 +1,7 @@
-//! The `get` command.
+//! The `get` and `gat` commands.
 ghost use Rattle.std.specs.Prelude.{◌≡◌, Some, IfOk, IfErr, OnErr, nat_eq, true};
 ghost use Rattle.std.specs.{Cmp.Lexicographic.pointwise, HashMap.get, HashMap.spare};
-ghost use Rattle.mc_item.specs.{Answer.get_row, Cache.changed, Item.hit_marks};
+ghost use Rattle.mc_item.specs.{Answer.gat_row, Answer.get_row, Cache.marked, Item.hit_marks};
 ghost use Rattle.mc_item.specs.declared.reply.Room.TheVariants as rooms;
 ghost use Rattle.mc_stripe.specs.{Plan.hit_fate, Trying.IsLeft, Trying.MakesRow, Trying.ItemsStay};
 ghost use Rattle.mc_stripe.specs.declared.wanting.Given.{Given};
@@ -9,7 +9,7 @@ ghost use Rattle.mc_stripe.specs.declared.wanting.Given.{Given};
 use crate::fate::fate_by_marks;
 use crate::trying::{Done, Made, untouched};
 use crate::wanting::Want;
-use mc_item::{Item, Key, NoMemory, Reply, Room};
+use mc_item::{Expiry, Item, Key, NoMemory, Reply, Room};
 use std::collections::HashMap;
 use std::hash::RandomState;
 
@@ -31,7 +31,7 @@ fn hit_item(item: &mut Item, keeps: bool) -> Result<Made, NoMemory>
     ensures reply { IfOk result (λ m. m.done.reply ≡ ((get_row (Some item.old)).answer rooms.Keep).reply) }
     ensures done { IfOk result (λ m. (m.done.fate ≡ hit_fate (hit_marks item.old.marks).active (Some item.old)) × (m.done.room ≡ rooms.Keep) × (m.added ≡ 0)) }
     ensures noted { IfOk result (λ m. keeps ≡ true → m.noted ≡ Some m.done.reply) }
-    ensures item { IfOk result (λ m. changed (Some item.old) ((get_row (Some item.old)).answer rooms.Keep).change ≡ Some item.new) }
+    ensures item { IfOk result (λ m. item.new ≡ marked (hit_marks item.old.marks) item.old) }
     ensures err { OnErr result (item.new ≡ item.old) }
 {
     let reply = Reply::Value {
@@ -77,4 +77,31 @@ pub(crate) fn get_item(
         return Ok(Err(Want::Burial(item.link)));
     }
     Ok(Ok(hit_item(item, keeps)?))
+}
+
+/// Makes a gat, with one look-up: a get that also gives the item this expiry.
+#[inline(always)]
+pub(crate) fn gat_item(
+    items: &mut HashMap<Key, Item, RandomState>,
+    key: &Key,
+    expiry: Expiry,
+    moment: u64,
+    keeps: bool,
+) -> Result<Result<Made, Want>, NoMemory>
+    ensures made { (given : Given) → IfOk result (λ t. IfOk t (MakesRow keeps given (get (pointwise nat_eq) items.old) (get (pointwise nat_eq) items.new)
+        key.now (gat_row expiry (get (pointwise nat_eq) items.old key.now)) moment)) }
+    ensures wants { (given : Given) → IfOk result (λ t. IfErr t (IsLeft given (get (pointwise nat_eq) items.old) (get (pointwise nat_eq) items.new)
+        key.now moment (gat_row expiry (get (pointwise nat_eq) items.old key.now)))) }
+    ensures err { OnErr result (ItemsStay (get (pointwise nat_eq) items.old) (get (pointwise nat_eq) items.new)) }
+    ensures spare { spare items.new ≡ spare items.old }
+{
+    match items.get_mut(key) {
+        None => Ok(Ok(untouched(Reply::Miss, Reply::Miss, 0))),
+        Some(item) if item.dead(moment) => Ok(Err(Want::Burial(item.link))),
+        Some(item) => {
+            let made = hit_item(item, keeps)?;
+            item.expiry = expiry;
+            Ok(Ok(made))
+        }
+    }
 }

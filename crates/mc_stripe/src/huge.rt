@@ -37,6 +37,9 @@ pub(crate) fn refuse_huge(
         Verb::Add => return Ok(untouched(Reply::TooLarge, Reply::TooLarge, 0)),
         Verb::Replace => return Ok(untouched(Reply::TooLarge, Reply::TooLarge, 0)),
         Verb::Cas(_) => return Ok(untouched(Reply::TooLarge, Reply::TooLarge, 0)),
+        Verb::Append | Verb::Prepend => {
+            return Ok(untouched(Reply::TooLarge, Reply::TooLarge, 0));
+        }
     }
     given.item(link)?;
     let fate = Fate::Goes(link);

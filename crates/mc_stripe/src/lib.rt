@@ -9,6 +9,7 @@ mod fate;
 mod forgetting;
 mod getting;
 mod huge;
+mod joining;
 mod putting;
 mod shown;
 mod state;

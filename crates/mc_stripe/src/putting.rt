@@ -1,4 +1,4 @@
-//! Storage commands with an item that fits a class: set, add, replace and cas.
+//! Storage commands with an item that fits a class: set, add, replace and cas. The other two are decided here too.
 ghost use Rattle.std.specs.Prelude.{◌≡◌, ◌<◌, ◌≤◌, ◌+◌, ◌^◌, ℕ, List, IfOk, IfErr, IfSome, OnErr, nat_eq, Option, Some, true};
 ghost use Rattle.std.specs.{Cmp.Lexicographic.pointwise, HashMap.get, HashMap.spare};
 ghost use Rattle.mc_item.specs.Answer as answers;
@@ -59,14 +59,14 @@ impl PutAnswer {
 #[derive(Clone, Copy, Debug)]
 pub(crate) struct Put {
     answer: PutAnswer,
-    room: Room,
+    pub(crate) room: Room,
     fate: Fate,
 }
 
 impl Put {
     // The decided command in the form that all commands share.
     #[inline(always)]
-    fn made(self) -> Made
+    pub(crate) fn made(self) -> Made
         ensures { result ≡ made_of self }
     {
         let answer = self.answer;
@@ -83,8 +83,8 @@ impl Put {
 // The item that a storage command finds: its link, and its cas number.
 #[derive(Clone, Copy, Debug)]
 pub(crate) struct Found {
-    link: Link,
-    cas: u64,
+    pub(crate) link: Link,
+    pub(crate) cas: u64,
 }
 
 #[inline(always)]
@@ -118,10 +118,11 @@ fn declines(verb: Verb, cas: Option<u64>) -> Option<PutAnswer>
             Verb::Set => None,
             Verb::Add => None,
             Verb::Replace => Some(PutAnswer::NotStored),
+            Verb::Append | Verb::Prepend => Some(PutAnswer::NotStored),
             Verb::Cas(_) => Some(PutAnswer::NotFound),
         },
         Some(cas) => match verb {
-            Verb::Set | Verb::Replace => None,
+            Verb::Set | Verb::Replace | Verb::Append | Verb::Prepend => None,
             Verb::Add => Some(PutAnswer::NotStored),
             Verb::Cas(unique) => {
                 if cas == unique {
@@ -147,6 +148,7 @@ fn let_go(verb: Verb, old: Option<Link>) -> Fate
         Verb::Add => Fate::Untouched,
         Verb::Replace => Fate::Untouched,
         Verb::Cas(_) => Fate::Untouched,
+        Verb::Append | Verb::Prepend => Fate::Untouched,
     }
 }
 
@@ -177,7 +179,7 @@ fn answer_in(room: Room) -> PutAnswer
 
 // Decides a storage command by its verb, the item that it finds and the room that it is given, or says what it wants.
 #[inline(always)]
-fn decide(
+pub(crate) fn decide(
     verb: Verb,
     expiry: Expiry,
     cost: u64,

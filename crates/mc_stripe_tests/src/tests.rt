@@ -61,6 +61,7 @@ fn value<R: Abort>(rt: &R, alloc: Global, text: &str) -> Value {
 #[derive(Clone, Copy)]
 enum Asked {
     Get,
+    Gat(i64),
     Store(Verb, &'static str),
     // A storage command with this exptime.
     StoreUntil(Verb, &'static str, i64),
@@ -88,6 +89,7 @@ fn store<R: Abort>(rt: &R, alloc: Global, verb: Verb, text: &str, exptime: i64) 
 fn command_of<R: Abort>(rt: &R, alloc: Global, asked: Asked) -> Command {
     match asked {
         Asked::Get => Command::Get(b(rt, alloc)),
+        Asked::Gat(exptime) => Command::Gat(b(rt, alloc), exptime),
         Asked::Store(verb, text) => store(rt, alloc, verb, text, 0),
         Asked::StoreUntil(verb, text, exptime) => store(rt, alloc, verb, text, exptime),
         Asked::Huge(verb) => Command::Huge {

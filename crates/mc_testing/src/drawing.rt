@@ -79,11 +79,13 @@ impl Drawing {
     // The verb of a storage command, and the letter of its key. A cas has the number that was shown last, mostly with its key.
     fn verb(&mut self) -> (Verb, u8) {
         let letter = self.letter();
-        match self.dice.below(8) {
+        match self.dice.below(10) {
             0 => (Verb::Add, letter),
             1 => (Verb::Replace, letter),
             2 => (Verb::Cas(self.cas), letter),
             3 | 4 => (Verb::Cas(self.cas), self.letter),
+            5 => (Verb::Append, letter),
+            6 => (Verb::Prepend, letter),
             _ => (Verb::Set, letter),
         }
     }
@@ -98,14 +100,16 @@ impl Drawing {
 
     // The verb of a storage command whose block is too large for any class.
     fn huge_verb(&mut self) -> Verb {
-        match self.dice.below(3) {
+        match self.dice.below(5) {
             0 => Verb::Set,
             1 => Verb::Add,
+            2 => Verb::Append,
+            3 => Verb::Prepend,
             _ => Verb::Cas(7),
         }
     }
 
-    // A command of any other kind, by `which`: half of them are gets.
+    // A command of any other kind, by `which`: five of twelve are gets.
     fn other(&mut self, alloc: Global, letter: u8, which: u64) -> Result<Command, KeyFault> {
         let key = try_key(alloc, letter)?;
         Ok(match which {
@@ -117,6 +121,7 @@ impl Drawing {
                 verb: self.huge_verb(),
                 key,
             },
+            14 => Command::Gat(key, self.exptime()),
             _ => Command::Get(key),
         })
     }

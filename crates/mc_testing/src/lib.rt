@@ -6,6 +6,7 @@ mod commands;
 mod dice;
 mod drawing;
 mod links;
+mod numerals;
 mod plain;
 mod plain_class;
 mod world;

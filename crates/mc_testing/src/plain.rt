@@ -1,5 +1,6 @@
 //! A plain memcached of one stripe, after protocol.txt, to compare with the real one. It is a list of items that answers
 //! commands, and says whether an item may be lost.
+use crate::numerals::{counted, number_in, numeral};
 use mc_item::{Cause, Command, NoMemory, Reply, Value, Verb};
 use std::alloc::Global;
 
@@ -47,53 +48,6 @@ fn end_of(exptime: i64, moment: u64) -> Option<u64> {
     }
 }
 
-// The number that these bytes are, if all are digits and it is below 2^64.
-fn number_of(digits: &[u8]) -> Option<u64> {
-    let mut number = 0u64;
-    for digit in digits {
-        if !digit.is_ascii_digit() {
-            return None;
-        }
-        number = number.checked_mul(10)?.checked_add(u64::from(*digit & 15))?;
-    }
-    Some(number)
-}
-
-// The number that a value is, if it is one below 2^64: digits, then spaces.
-fn number_in(value: &[u8]) -> Option<u64> {
-    let mut many = value.len();
-    for place in 0..value.len() {
-        if value[place] == b' ' && many == value.len() {
-            many = place;
-        }
-        if value[place] != b' ' && many != value.len() {
-            return None;
-        }
-    }
-    if many == 0 {
-        return None;
-    }
-    number_of(value.get(..many)?)
-}
-
-// The digits of a number, then spaces up to this length.
-fn numeral(alloc: Global, number: u64, len: usize) -> Result<Vec<u8>, NoMemory> {
-    let mut text = number.to_string(alloc)?.into_bytes();
-    for _ in text.len()..len {
-        text.push(b' ')?;
-    }
-    Ok(text)
-}
-
-// The number after an incr, which wraps at 2^64, or a decr, which stops at 0.
-fn counted(old: u64, up: bool, delta: u64) -> u64 {
-    if up {
-        old.wrapping_add(delta)
-    } else {
-        old.saturating_sub(delta)
-    }
-}
-
 // Whether no chunk is large enough.
 fn is_too_large(key: &[u8], len: usize) -> bool {
     key.len().saturating_add(len) > LARGEST
@@ -105,8 +59,8 @@ fn unmet(verb: Verb, cas: Option<u64>) -> Option<Reply> {
         (Verb::Set, _) => None,
         (Verb::Add, None) => None,
         (Verb::Add, Some(_)) => Some(Reply::NotStored),
-        (Verb::Replace, None) => Some(Reply::NotStored),
-        (Verb::Replace, Some(_)) => None,
+        (Verb::Replace | Verb::Append | Verb::Prepend, None) => Some(Reply::NotStored),
+        (Verb::Replace | Verb::Append | Verb::Prepend, Some(_)) => None,
         (Verb::Cas(_), None) => Some(Reply::NotFound),
         (Verb::Cas(asked), Some(cas)) => {
             if cas == asked {
@@ -215,6 +169,33 @@ impl Plain {
         reply
     }
 
+    // An append, or a prepend if `before` (protocol.txt, "Storage commands"): the data joins the value, and flags and end stay.
+    fn join(
+        &mut self,
+        key: &[u8],
+        data: &[u8],
+        before: bool,
+        refused: bool,
+    ) -> Result<Reply, NoMemory> {
+        let Some(kept) = self.find(key) else {
+            return Ok(Reply::NotStored);
+        };
+        let old = kept.value.as_slice();
+        let (front, back) = if before { (data, old) } else { (old, data) };
+        let mut value = Vec::from_slice(self.alloc, front)?;
+        value.extend_from_slice(back)?;
+        let flags = kept.flags;
+        let end = kept.end;
+        if is_too_large(key, value.len()) {
+            return Ok(Reply::TooLarge);
+        }
+        if refused {
+            return Ok(Reply::NoRoom);
+        }
+        self.put(key, flags, value.as_slice(), end)?;
+        Ok(Reply::Stored)
+    }
+
     fn cas_of(&self, key: &[u8]) -> Option<u64> {
         Some(self.find(key)?.cas)
     }
@@ -297,6 +278,13 @@ impl Plain {
         Reply::NotFound
     }
 
+    // A gat (protocol.txt, "Get And Touch").
+    fn gat(&mut self, key: &[u8], end: Option<u64>) -> Result<Reply, NoMemory> {
+        let reply = self.get(key)?;
+        let _touched = self.touch(key, end);
+        Ok(reply)
+    }
+
     // A delete (protocol.txt, "Deletion").
     fn delete(&mut self, key: &[u8]) -> Reply {
         match self.take(key) {
@@ -326,16 +314,21 @@ impl Plain {
         }
         match command {
             Command::Get(_) => self.get(key),
+            Command::Gat(_, exptime) => self.gat(key, end_of(*exptime, moment)),
             Command::Store {
                 verb,
                 flags,
                 exptime,
                 value,
                 ..
-            } => {
-                let end = end_of(*exptime, moment);
-                self.store(*verb, key, *flags, end, value.bytes(), refused)
-            }
+            } => match verb {
+                Verb::Append => self.join(key, value.bytes(), false, refused),
+                Verb::Prepend => self.join(key, value.bytes(), true, refused),
+                _ => {
+                    let end = end_of(*exptime, moment);
+                    self.store(*verb, key, *flags, end, value.bytes(), refused)
+                }
+            },
             Command::Huge { verb, .. } => Ok(self.failed(*verb, key, Reply::TooLarge)),
             Command::Incr(_, delta) => self.count(key, true, *delta, refused),
             Command::Decr(_, delta) => self.count(key, false, *delta, refused),

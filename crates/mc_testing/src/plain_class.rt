@@ -1,12 +1,15 @@
 //! A plain slab class, after new_lru.txt, to compare with the real one.
 //! It takes one event after another, and says what is wrong with it.
 use mc_history::History;
-use mc_item::{ClassEvent, Entry, Evicted, Linked, Seg, Shifted, Surveyed, Who, Why};
+use mc_item::{ClassEvent, Entry, Evicted, Limited, Linked, Seg, Shifted, Surveyed, Who, Why};
 use mc_segment::{ClassState, ShownClass};
 use std::alloc::Global;
 
 // How many entries may be nearer to the tail than one that is moved or evicted.
 const MOST_PASSED: usize = 4;
+
+// The greatest limit of chunks.
+const MOST_CHUNKS: u64 = 1 << 20;
 
 static SEGS: [Seg; 4] = [Seg::Hot, Seg::Warm, Seg::Cold, Seg::Temp];
 
@@ -25,7 +28,7 @@ struct Kept {
     time: u64,
 }
 
-/// A class: how many chunks it has, the number of its next entry, and its entries, the oldest of each segment first.
+/// A class: its limit of chunks, the number of its next entry, and its entries, the oldest of each segment first.
 #[derive(Drop)]
 pub struct PlainClass {
     alloc: Global,
@@ -75,7 +78,7 @@ impl Kept {
 }
 
 impl PlainClass {
-    /// Makes a class of this many chunks, without entries.
+    /// Makes a class with this limit of chunks, without entries.
     pub fn new(alloc: Global, chunks: u64) -> PlainClass {
         PlainClass {
             alloc,
@@ -119,7 +122,7 @@ impl PlainClass {
 
     // Whether no chunk is free.
     fn is_full(&self) -> bool {
-        self.entries.len() as u64 == self.chunks
+        self.entries.len() as u64 >= self.chunks
     }
 
     // Removes the entry with this number, and returns it.
@@ -259,6 +262,14 @@ impl PlainClass {
         )
     }
 
+    // Sets the limit of chunks. The entries stay, though they may be more.
+    fn limit(&mut self, limited: &Limited) -> Checked {
+        let is_so = 1 <= limited.chunks && limited.chunks <= MOST_CHUNKS;
+        holds(is_so, "a limit out of its bounds")?;
+        self.chunks = limited.chunks;
+        Ok(())
+    }
+
     /// Takes one more event, and returns what is wrong with it. `history` has the surveys to which it refers.
     pub fn next(&mut self, event: &ClassEvent, history: &Events) -> Checked {
         match event {
@@ -269,6 +280,7 @@ impl PlainClass {
             ClassEvent::Reclaimed(reclaimed) => self.remove(reclaimed.number),
             ClassEvent::Surveyed(survey) => self.check_survey(survey),
             ClassEvent::Refused(_) => holds(self.is_full(), "a refusal, and a chunk is free"),
+            ClassEvent::Limited(limited) => self.limit(limited),
         }
     }
 

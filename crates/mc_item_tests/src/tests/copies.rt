@@ -5,8 +5,9 @@ use mc_item::{Command, Reply, Value, Verb};
 use std::alloc::Global;
 use std::process::Abort;
 
-static COMMANDS: [(Asked, &str); 7] = [
+static COMMANDS: [(Asked, &str); 9] = [
     (Asked::Get, "Get(Key { bytes: [107] })"),
+    (Asked::Gat(-4), "Gat(Key { bytes: [107] }, -4)"),
     (
         Asked::Huge(Verb::Add),
         "Huge { verb: Add, key: Key { bytes: [107] } }",
@@ -18,6 +19,10 @@ static COMMANDS: [(Asked, &str); 7] = [
     (
         Asked::Store(Verb::Cas(8), b"v"),
         "Store { verb: Cas(8), key: Key { bytes: [107] }, flags: 7, exptime: 10, value: Value { bytes: [118] } }",
+    ),
+    (
+        Asked::Store(Verb::Append, b"v"),
+        "Store { verb: Append, key: Key { bytes: [107] }, flags: 7, exptime: 10, value: Value { bytes: [118] } }",
     ),
 ];
 
@@ -107,8 +112,8 @@ fn check_copies(rt: &impl Abort, value: Value, bytes: &[u8]) {
     same_bytes(rt, again.bytes(), bytes, 2);
 }
 
-// The bytes within a larger block, without the block's first byte.
-fn block_of(rt: &impl Abort, alloc: Global, bytes: &[u8]) -> Bytes {
+/// The bytes within a larger block, without the block's first byte.
+pub(super) fn block_of(rt: &impl Abort, alloc: Global, bytes: &[u8]) -> Bytes {
     let mut block = Vec::from_slice(alloc, b"<").expect(rt, "memory");
     block.extend_from_slice(bytes).expect(rt, "memory");
     block.push(b'>').expect(rt, "memory");
@@ -117,8 +122,8 @@ fn block_of(rt: &impl Abort, alloc: Global, bytes: &[u8]) -> Bytes {
     rest
 }
 
-// The value of the first so many bytes, which are cut off.
-fn part_of(rt: &impl Abort, alloc: Global, rest: &mut Bytes, count: usize) -> Value {
+/// The value of the first so many bytes, which are cut off.
+pub(super) fn part_of(rt: &impl Abort, alloc: Global, rest: &mut Bytes, count: usize) -> Value {
     let part = rest.split_to(count.min(rest.len())).expect(rt, "memory");
     Value::of_part(alloc, part).expect(rt, "memory")
 }

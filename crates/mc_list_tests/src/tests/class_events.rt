@@ -2,11 +2,13 @@
 ghost use Rattle.std.specs.Prelude.{◌≡◌, ◌≤◌, ◌^◌, IfOk};
 
 use super::class_lists::checked;
-use super::deeds::{Call, New, evict, force, hit, link, reclaim, refuse, unlink, wake};
+use super::deeds::{
+    Call, New, evict, force, hit, link, reclaim, refuse, try_set_chunks, unlink, wake,
+};
 use super::same;
 use mc_item::{
-    ClassEvent, ClassNo, Config, Evicted, Expiry, Linked, Numbers, Reclaimed, Seg, Shifted,
-    Surveyed, Unlinked, Who, Why,
+    ClassEvent, ClassNo, Config, Evicted, Expiry, Limited, Linked, Numbers, Reclaimed, Seg,
+    Shifted, Surveyed, Unlinked, Who, Why,
 };
 use mc_segment::ClassState;
 use std::alloc::Global;
@@ -176,6 +178,10 @@ fn refused_text<R: Abort>(rt: &R, alloc: Global, who: Who) -> String {
     format!(in alloc; "{who:?}: refused").expect(rt, "a text")
 }
 
+fn limited_text<R: Abort>(rt: &R, alloc: Global, e: &Limited) -> String {
+    format!(in alloc; "{:?}: limit of {} chunks", e.who, e.chunks).expect(rt, "a text")
+}
+
 // An event in short.
 fn event_text<R: Abort>(rt: &R, alloc: Global, event: &ClassEvent) -> String {
     match event {
@@ -186,6 +192,7 @@ fn event_text<R: Abort>(rt: &R, alloc: Global, event: &ClassEvent) -> String {
         ClassEvent::Reclaimed(e) => reclaimed_text(rt, alloc, e),
         ClassEvent::Surveyed(e) => surveyed_text(rt, alloc, e),
         ClassEvent::Refused(e) => refused_text(rt, alloc, e.who),
+        ClassEvent::Limited(e) => limited_text(rt, alloc, e),
     }
 }
 
@@ -209,7 +216,7 @@ fn check_events<R: Abort>(rt: &R, alloc: Global, class: &ClassState, texts: &[&s
 }
 
 // What happens in the test below.
-static TEXTS: [&str; 20] = [
+static TEXTS: [&str; 22] = [
     "Who { caller: 9, turn: 1 }: 0 linked in Hot at 1001, 60 bytes, key [107, 101, 121, 45, 111, 102, 45, 109, 111, 114, 101, 45, 116, 104, 97, 110, 45, 116, 104, 105, 114, 116, 121, 45, 98, 121, 116, 101, 115, 45, 45, 97]",
     "Who { caller: 9, turn: 2 }: 1 linked in Hot at 1002, 61 bytes, key [98]",
     "Who { caller: 9, turn: 3 }: 2 linked in Hot at 1003, 62 bytes, key [99]",
@@ -230,9 +237,17 @@ static TEXTS: [&str; 20] = [
     "Who { caller: 9, turn: 16 }: 5 from Hot to Cold at 2000, Old(16), past [], 32",
     "Who { caller: 9, turn: 17 }: 3 unlinked",
     "Who { caller: 9, turn: 18 }: 0 unlinked",
+    "Who { caller: 9, turn: 19 }: limit of 1 chunks",
+    "Who { caller: 9, turn: 20 }: limit of 1048576 chunks",
 ];
 
-// Six entries, and what becomes of them.
+// The limit of chunks becomes the least one, and the greatest one.
+fn sets_limits<R: Abort>(rt: &R, class: &mut ClassState) {
+    try_set_chunks(rt, class, who_of(19), 1).expect(rt, "a limit");
+    try_set_chunks(rt, class, who_of(20), 1 << 20).expect(rt, "a limit");
+}
+
+// Six entries, what becomes of them, and two new limits.
 fn plays<R: Abort>(rt: &R, alloc: Global, class: &mut ClassState)
     requires rule { (class.old.rule.hot_percent ≡ 20) × (class.old.rule.hot_factor ≡ 20) }
 {
@@ -254,6 +269,7 @@ fn plays<R: Abort>(rt: &R, alloc: Global, class: &mut ClassState)
     moves_for_age(rt, class, 16, 2000);
     unlink(rt, class, who_of(17), 3);
     unlink(rt, class, who_of(18), 0);
+    sets_limits(rt, class);
 }
 
 #[test]

@@ -4,10 +4,10 @@ ghost use Rattle.mc_item.specs.Config.{IsSound};
 
 use super::WHO;
 use super::deeds::{Call, New, try_force, try_link};
-use super::rows::Ask::{Do, Hit, KeepActive, Reserve, See, Survey, Surveys};
+use super::rows::Ask::{Do, Hit, KeepActive, Reserve, See, SetChunks, Survey, Surveys};
 use super::rows::Deed::{Evict, Force, Link, Reclaim, Refuse, Unlink};
 use super::rows::Sight::{
-    Bytes, Chunks, Count, Events, NextNumber, Number, Segment, Tail, TailKey, Time,
+    Bytes, Chunks, Count, Events, IsFull, NextNumber, Number, Segment, Tail, TailKey, Time,
 };
 use super::rows::{Row, Start, play};
 use mc_item::Expiry::{At, Never};
@@ -138,13 +138,40 @@ fn lists_are_read_from_their_tails(rt: HostRuntime) -> Result<(), Fail> {
     play(&rt, rt.alloc(), of(3), TAILS.as_slice())
 }
 
+// Three entries stay under a limit of one chunk, and under a limit of five two more find room.
+static LIMITS: [Row; 17] = [
+    (Do(Link("a", 66, 1000, Never)), "0"),
+    (Do(Link("b", 66, 1001, Never)), "1"),
+    (Do(Link("c", 66, 1002, Never)), "2"),
+    (See(IsFull), "full"),
+    (SetChunks(1), "Ok(())"),
+    (See(Chunks), "1"),
+    (See(Count), "3"),
+    (See(IsFull), "full"),
+    (Do(Refuse), "4"),
+    (SetChunks(5), "Ok(())"),
+    (See(Chunks), "5"),
+    (See(IsFull), "not full"),
+    (Do(Link("d", 66, 1003, Never)), "3"),
+    (Do(Link("e", 66, 1004, Never)), "4"),
+    (See(IsFull), "full"),
+    (See(Count), "5"),
+    (See(Events), "8"),
+];
+
+#[test]
+fn a_class_is_full_by_its_last_limit(rt: HostRuntime) -> Result<(), Fail> {
+    play(&rt, rt.alloc(), of(3), LIMITS.as_slice())
+}
+
 #[test]
 fn a_class_that_lets_its_events_go_answers_as_one_that_keeps_them(
     rt: HostRuntime,
 ) -> Result<(), Fail> {
     play(&rt, rt.alloc(), letting_go(2), OLDEST.as_slice())?;
     play(&rt, rt.alloc(), letting_go(1), TIMES.as_slice())?;
-    play(&rt, rt.alloc(), letting_go(3), TAILS.as_slice())
+    play(&rt, rt.alloc(), letting_go(3), TAILS.as_slice())?;
+    play(&rt, rt.alloc(), letting_go(3), LIMITS.as_slice())
 }
 
 // A class without an entry or an event.
@@ -188,11 +215,13 @@ fn a_refused_growth_changes_nothing(rt: HostRuntime) -> Result<(), Fail> {
     Ok(())
 }
 
-static FULL: [Row; 5] = [
+static FULL: [Row; 7] = [
     (Reserve(17), "Err(HistoryFull)"),
     (Reserve(16), "Ok(())"),
     (Surveys(16), "16"),
     (Survey(1000), "Err(HistoryFull)"),
+    (SetChunks(2), "Err(HistoryFull)"),
+    (See(Chunks), "1"),
     (See(Events), "16"),
 ];
 

@@ -310,6 +310,41 @@ pub(super) fn refuse_reserved<R: Abort>(rt: &R, class: &mut ClassState) -> u64 {
     class.refuse_reserved(WHO)
 }
 
+// The test goes on where a class may have this limit of chunks.
+fn asserts_limit<R: Abort>(rt: &R, chunks: u64)
+    ensures { (1 ≤ chunks) × (chunks ≤ 2 ^ 20) }
+{
+    assert!(rt; 1 <= chunks && chunks <= 1 << 20);
+}
+
+/// The class gets a new limit of chunks.
+pub(super) fn try_set_chunks<R: Abort>(
+    rt: &R,
+    class: &mut ClassState,
+    who: Who,
+    chunks: u64,
+) -> Result<(), Fault> {
+    asserts_limit(rt, chunks);
+    class.set_chunks(who, chunks)
+}
+
+/// A new limit of chunks and a new entry of 66 bytes after one reservation; the number of the entry.
+pub(super) fn set_and_link<R: Abort>(
+    rt: &R,
+    alloc: Global,
+    class: &mut ClassState,
+    chunks: u64,
+    text: &str,
+) -> u64 {
+    asserts_limit(rt, chunks);
+    let key = key(rt, alloc, text.as_bytes());
+    let copy = copy_for(rt, alloc, class, &key);
+    class.reserve(2).expect(rt, "room");
+    class.set_chunks(WHO, chunks).expect(rt, "a limit");
+    assert!(rt; class.count() < class.chunks());
+    class.link_reserved(WHO, key, copy, 66, 1000, Expiry::Never)
+}
+
 /// New entries of one key until this many were linked: how many of them have the number that was next.
 pub(super) fn link_until<R: Abort>(
     rt: &R,

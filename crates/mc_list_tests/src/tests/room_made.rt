@@ -1,5 +1,5 @@
 //! Calls of a class where room was made, one after the other: lists, places and surveys were worked out by hand.
-use super::rows::Ask::{LinkTwo, Reserved, See, SurveyReserved};
+use super::rows::Ask::{LinkTwo, Reserved, See, SetAndLink, SurveyReserved};
 use super::rows::Deed::{Evict, Force, Link, Reclaim, Refuse, Unlink};
 use super::rows::Sight::{Bytes, Count, Events, IsFull};
 use super::rows::{Row, Start, play};
@@ -7,8 +7,8 @@ use mc_item::Expiry::Never;
 use mc_item::Seg::Cold;
 use std::test::Fail;
 
-// Two entries fill the class, the older one is forced to COLD and taken, and the others go.
-static IN_ROOM: [Row; 12] = [
+// Two entries fill the class, the older one is forced to COLD and taken, and the others go. By a new limit one entry fills it.
+static IN_ROOM: [Row; 15] = [
     (LinkTwo("a", "b", 1000), "1"),
     (Reserved(Refuse), "2"),
     (Reserved(Force(1000)), "0"),
@@ -21,6 +21,9 @@ static IN_ROOM: [Row; 12] = [
     (Reserved(Reclaim(2, 1005)), "2"),
     (See(Count), "0"),
     (See(Events), "9"),
+    (SetAndLink(1, "d"), "3"),
+    (See(IsFull), "full"),
+    (See(Events), "11"),
 ];
 
 #[test]

@@ -2,8 +2,8 @@
 use super::class_lists::class_of;
 use super::deeds::{
     Call, New, evict, evict_reserved, force, force_reserved, hit, keep_active, link, link_reserved,
-    link_two, link_until, reclaim, reclaim_reserved, refuse, refuse_reserved, unlink, unlink_but,
-    unlink_reserved,
+    link_two, link_until, reclaim, reclaim_reserved, refuse, refuse_reserved, set_and_link,
+    try_set_chunks, unlink, unlink_but, unlink_reserved,
 };
 use super::{WHO, same};
 use mc_item::{Expiry, Fault, Key, Seg};
@@ -82,6 +82,10 @@ pub(super) enum Ask {
     Surveys(u64),
     // Room for so many events.
     Reserve(usize),
+    // A new limit of chunks.
+    SetChunks(u64),
+    // The same, and a new entry, after one reservation: the number of the entry.
+    SetAndLink(u64, &'static str),
     See(Sight),
 }
 
@@ -274,6 +278,7 @@ fn answered_number<R: Abort>(rt: &R, alloc: Global, class: &mut ClassState, ask:
         Ask::KeepActive(moment) => keep_active(rt, class, moment),
         Ask::LinkUntil(count) => link_until(rt, alloc, class, count),
         Ask::UnlinkBut(until, kept) => unlink_but(rt, class, until, kept),
+        Ask::SetAndLink(chunks, text) => set_and_link(rt, alloc, class, chunks, text),
         _ => 0,
     }
 }
@@ -285,6 +290,7 @@ fn tell<R: Abort>(rt: &R, alloc: Global, class: &mut ClassState, ask: Ask) -> St
         Ask::SurveyReserved(moment) => survey_text(rt, alloc, survey_reserved(rt, class, moment)),
         Ask::Surveys(surveys) => text_of_surveys(rt, alloc, class, surveys),
         Ask::Reserve(events) => room_text(rt, alloc, class.reserve(events)),
+        Ask::SetChunks(chunks) => room_text(rt, alloc, try_set_chunks(rt, class, WHO, chunks)),
         Ask::See(sight) => look(rt, alloc, class, sight),
         _ => number_text(rt, alloc, answered_number(rt, alloc, class, ask)),
     }

@@ -15,7 +15,7 @@ const SHORT: usize = 400;
 
 // What streams are made of: lines of all verbs, lines with a bad token or another number of them, blocks of right and wrong
 // lengths, and parts of lines.
-static FRAGMENTS: [&[u8]; 52] = [
+static FRAGMENTS: [&[u8]; 59] = [
     b"get a\r\n",
     b"gets a b\n",
     b"  get   a  \r\n",
@@ -23,6 +23,10 @@ static FRAGMENTS: [&[u8]; 52] = [
     b"add k 0 0 0 noreply\r\n\r\n",
     b"replace k 0 -1 2\r\n\r\n\r\n",
     b"cas k 0 0 1 7\r\nx\r\n",
+    b"append k 0 0 1\r\nx\r\n",
+    b"prepend k 1 -2 2 noreply\r\nxy\r\n",
+    b"gat 5 a\r\n",
+    b"gats -1 a b\n",
     b"incr k 5 noreply\r\n",
     b"decr k 5\r\n",
     b"touch k 9\n",
@@ -40,11 +44,14 @@ static FRAGMENTS: [&[u8]; 52] = [
     b"set k 0 0 90 noreply\r\n",
     b"set k 0 0 9\r\n",
     b"replace k 0 0 36\r\n",
+    b"append k 0 0 36\r\n",
     b"set \0 0 0 1\r\n",
     b"set k 4294967296 0 1\r\n",
     b"add k 0 x 1 noreply\r\n",
     b"cas k 0 0 1 18446744073709551616\r\n",
     b"get a\rb\r\n",
+    b"gat x a\r\n",
+    b"gats 0\r\n",
     b"incr k x\r\n",
     b"decr k 18446744073709551616 noreply\r\n",
     b"touch k --1 noreply\r\n",

@@ -1,7 +1,7 @@
 //! Hostile lines: too few tokens and too many, and what is no key, number, verb or block.
 use super::lines::{Case, compare};
 
-static LINES_WITH_TOO_FEW_OR_TOO_MANY_TOKENS: [Case; 13] = [
+static LINES_WITH_TOO_FEW_OR_TOO_MANY_TOKENS: [Case; 15] = [
     (
         b"add\r\nadd a\r\nadd a 0\r\nadd a 0 0\r\n",
         b"error;error;error;error;",
@@ -24,6 +24,14 @@ static LINES_WITH_TOO_FEW_OR_TOO_MANY_TOKENS: [Case; 13] = [
     ),
     (
         b"cas\r\ncas a\r\ncas a 0\r\ncas a 0 0\r\ncas a 0 0 1 2 x y\r\n",
+        b"error;error;error;error;error;",
+    ),
+    (
+        b"append\r\nappend a\r\nappend a 0\r\nappend a 0 0 1 x\r\nappend a 0 0 1 x y z\r\n",
+        b"error;error;error;error;error;",
+    ),
+    (
+        b"prepend\r\nprepend a\r\nprepend a 0\r\nprepend a 0 0 1 x\r\nprepend a 0 0 1 x noreply\r\n",
         b"error;error;error;error;error;",
     ),
     (
@@ -149,7 +157,7 @@ static VERBS_THAT_ARE_NONE: [Case; 5] = [
         b"error;error;error;error;",
     ),
     (
-        b"append a 0 0 1\r\nx\r\nprepend a 0 0 1\r\nx\r\ngats 0 a\r\n",
+        b"appends a 0 0 1\r\nx\r\nPrepend a 0 0 1\r\nx\r\ngatss 0 a\r\n",
         b"error;error;error;error;error;",
     ),
     (

@@ -43,7 +43,7 @@ static LINES_AND_GETS: [Case; 19] = [
     (b"get a\rb\r\nget a\r\r\n", b"format;format;"),
     (b"get \0\r\n", b"format;"),
     (b"get a b\0 c\r\nget a\r\n", b"format;get a;"),
-    (b"noreply\r\nstats\r\ngat 0 a\r\n", b"error;error;error;"),
+    (b"noreply\r\nstats\r\nmg a v\r\n", b"error;error;error;"),
     (b"\xff\xff\xff\r\nget a\r\n", b"error;get a;"),
     (b"get a\r\nget b", b"get a;"),
 ];
@@ -51,6 +51,52 @@ static LINES_AND_GETS: [Case; 19] = [
 #[test]
 fn lines_and_gets(rt: HostRuntime) {
     compare(&rt, rt.alloc(), LINES_AND_GETS.as_slice());
+}
+
+static GATS: [Case; 20] = [
+    (b"gat 0 a\r\n", b"gat 0 a;"),
+    (b"gats 0 a\n", b"gats 0 a;"),
+    (b"  gat   0   a  \r\n", b"gat 0 a;"),
+    (b"gats 100 a b\r\n", b"gats 100 a b;"),
+    (b"gat -1 a\r\n", b"gat -1 a;"),
+    (b"gat 0 a noreply\r\n", b"gat 0 a noreply;"),
+    (b"gat 0 noreply\r\n", b"gat 0 noreply;"),
+    (
+        b"gat 5 a b c d e f\r\ngats -5 a b c d e f g h i j\r\n",
+        b"gat 5 a b c d e f;gats -5 a b c d e f g h i j;",
+    ),
+    (
+        b"gat 999999999999999999 a\r\ngats -999999999999999999 a\r\n",
+        b"gat 999999999999999999 a;gats -999999999999999999 a;",
+    ),
+    (b"gat\r\ngats\r\n", b"error;error;"),
+    (b"gat 0\r\ngats 0 \r\n", b"error;error;"),
+    (b"gat x\r\ngats \0\r\n", b"error;error;"),
+    (b"gat x a\r\ngats x a b\r\n", b"exptime;exptime;"),
+    (
+        b"gat a 0\r\ngats noreply a noreply\r\n",
+        b"exptime;exptime;",
+    ),
+    (
+        b"gat - a\r\ngat --1 a\r\ngat +1 a\r\ngat 1000000000000000000 a\r\n",
+        b"exptime;exptime;exptime;exptime;",
+    ),
+    (b"gat x \0\r\ngats x a \0\r\n", b"exptime;exptime;"),
+    (b"gat 0 \0\r\ngats 0 a\rb\r\n", b"format;format;"),
+    (
+        b"gat 0 a \0 b\r\ngats 0 \0 noreply\r\nget a\r\n",
+        b"format;format;get a;",
+    ),
+    (
+        b"GAT 0 a\r\ngatt 0 a\r\nga 0 a\r\ngat\t0 a\r\n",
+        b"error;error;error;error;",
+    ),
+    (b"gat 0 a\r\ngat 0 b", b"gat 0 a;"),
+];
+
+#[test]
+fn gats(rt: HostRuntime) {
+    compare(&rt, rt.alloc(), GATS.as_slice());
 }
 
 static STORAGE_LINES: [Case; 18] = [
@@ -178,4 +224,28 @@ static DIRECTIVES: [Case; 16] = [
 #[test]
 fn directives(rt: HostRuntime) {
     compare(&rt, rt.alloc(), DIRECTIVES.as_slice());
+}
+
+static LIMITS_OF_CHUNKS: [Case; 16] = [
+    (b"%chunks 1 5\r\n", b"chunks 1 5;"),
+    (b"%chunks 43 1048576\r\n", b"chunks 43 1048576;"),
+    (b"%chunks 01 0000001\r\n", b"chunks 1 1;"),
+    (b"%chunks all 5\r\n", b"format;"),
+    (b"%chunks 0 5\r\n", b"format;"),
+    (b"%chunks 44 5\r\n", b"format;"),
+    (b"%chunks x 5\r\n", b"format;"),
+    (b"%chunks 1 0\r\n", b"format;"),
+    (b"%chunks 1 1048577\r\n", b"format;"),
+    (b"%chunks 1 x\r\n", b"format;"),
+    (b"%chunks 1 noreply\r\n", b"format;"),
+    (b"%chunks\r\n", b"error;"),
+    (b"%chunks 1\r\n%chunks 0\r\n", b"error;error;"),
+    (b"%chunks 1 2 3\r\n", b"error;"),
+    (b"%chunks all 0 noreply\r\n", b"error;"),
+    (b"%CHUNKS 1 5\r\n%chunk 1 5\r\n", b"error;error;"),
+];
+
+#[test]
+fn limits_of_chunks(rt: HostRuntime) {
+    compare(&rt, rt.alloc(), LIMITS_OF_CHUNKS.as_slice());
 }

@@ -5,10 +5,10 @@ use std::alloc::Global;
 use std::process::Abort;
 
 static EACH_KIND: &[u8] =
-    b"set a 7 -3 4 noreply\r\nx\r\ny\r\n  get   a b  \r\ngets a\r\n\r\nadd a 0 0 37\r\n0123456789012345678901234567890123456\r\nset a 0 0 1\r\nxyz\nincr a x\r\ntouch a x noreply\r\ndelete a\r\n%at 5\r\n%juggle all\r\n%crawl 2\r\n%next\r\nquit\r\nset b 0 0 9\r\n1234";
+    b"set a 7 -3 4 noreply\r\nx\r\ny\r\n  get   a b  \r\ngets a\r\n\r\nadd a 0 0 37\r\n0123456789012345678901234567890123456\r\nset a 0 0 1\r\nxyz\nincr a x\r\ntouch a x noreply\r\ndelete a\r\ngat x a\r\ngats -1 a b\r\nappend a 1 2 2\r\nx\n\r\nprepend a 0 0 36 noreply\r\n012345678901234567890123456789012345\r\n%at 5\r\n%juggle all\r\n%crawl 2\r\n%next\r\nquit\r\nset b 0 0 9\r\n1234";
 
 static EACH_KIND_READ: &[u8] =
-    b"~set a 7 -3 x\r\ny;get a b;gets a;error;huge add a;chunk;error;delta;~exptime;delete a;at 5;juggle all;crawl 2;next;quit;a block is left";
+    b"~set a 7 -3 x\r\ny;get a b;gets a;error;huge add a;chunk;error;delta;~exptime;delete a;exptime;gats -1 a b;append a 1 2 x\n;~huge prepend a;at 5;juggle all;crawl 2;next;quit;a block is left";
 
 fn check_lent(rt: &impl Abort, alloc: Global, size: usize) {
     let seen = read(rt, alloc, EACH_KIND, size.max(1));
@@ -103,6 +103,23 @@ fn a_key_has_at_most_250_bytes(rt: HostRuntime) {
     let after = b";nothing is left".as_slice();
     let wanted = long(&rt, alloc, b"delete ".as_slice(), 250, after);
     same(&rt, seen.as_slice(), wanted.as_slice(), "bytes", 250);
+}
+
+static KEYS_OF_251_BYTES: [Row; 4] = [
+    (b"gat 0 ", 251, b"\r\n", b"format;nothing is left"),
+    (b"gats 0 a ", 251, b" b\r\n", b"format;nothing is left"),
+    (b"gat x ", 251, b"\r\n", b"exptime;nothing is left"),
+    (
+        b"append ",
+        251,
+        b" 0 0 1 noreply\r\n",
+        b"~format;nothing is left",
+    ),
+];
+
+#[test]
+fn a_key_of_251_bytes_is_refused(rt: HostRuntime) {
+    check_rows(&rt, rt.alloc(), KEYS_OF_251_BYTES.as_slice());
 }
 
 static BLOCKS: [Row; 3] = [

@@ -42,6 +42,50 @@ fn plain_lines_add_and_replace(rt: HostRuntime) {
     compare(&rt, rt.alloc(), PLAIN_LINES_ADD_AND_REPLACE.as_slice());
 }
 
+static PLAIN_LINES_APPEND_AND_PREPEND: [Case; 9] = [
+    (
+        b"append a 0 0 1\r\nx\r\nprepend a 3 4 2\r\nxy\r\n",
+        b"append a 0 0 x;prepend a 3 4 xy;",
+    ),
+    (
+        b"append a 0 0 1 noreply\r\nx\r\nprepend a 4294967295 999999999999999999 0 noreply\n\r\n",
+        b"~append a 0 0 x;~prepend a 4294967295 999999999999999999 ;",
+    ),
+    (
+        b"append  a  1  2  1\r\nx\r\n prepend a 3 4 1  noreply\r\nx\r\nappend a 1 2 1 \r\nx\r\n",
+        b"append a 1 2 x;~prepend a 3 4 x;append a 1 2 x;",
+    ),
+    (
+        b"append a 1 -2 1\r\nx\r\nprepend a 1 -2 1 noreply\r\nx\r\n",
+        b"append a 1 -2 x;~prepend a 1 -2 x;",
+    ),
+    (
+        b"append a 0 0 36\r\n012345678901234567890123456789012345\r\nprepend a 0 0 35\r\n01234567890123456789012345678901234\r\n",
+        b"huge append a;prepend a 0 0 01234567890123456789012345678901234;",
+    ),
+    (
+        b"prepend  a 0 0 36 noreply\r\n012345678901234567890123456789012345\r\nappend a 0 0 1\r\nxy\r\n",
+        b"~huge prepend a;chunk;error;",
+    ),
+    (
+        b"append \0 1 2 1\r\nappend \0 1 2 1 noreply\r\nprepend \0 1 2 1\r\nprepend \0 1 2 1 noreply\r\n",
+        b"format;~format;format;~format;",
+    ),
+    (
+        b"append a 4294967296 0 1\r\nappend a 0 0 2147483646\r\nprepend a 0 x 1\r\nprepend a 0 0 2147483646 noreply\r\n",
+        b"format;format;format;~format;",
+    ),
+    (
+        b"append a 0 0\r\nprepend a 1 2 1 noreplyx\r\nappend a 1 2 1 noreply noreply\r\nappends a 1 2 1\r\nprepen a 1 2 1\r\nappend\ta 1 2 1\r\n",
+        b"error;error;error;error;error;error;",
+    ),
+];
+
+#[test]
+fn plain_lines_append_and_prepend(rt: HostRuntime) {
+    compare(&rt, rt.alloc(), PLAIN_LINES_APPEND_AND_PREPEND.as_slice());
+}
+
 static PLAIN_LINES_WITHOUT_A_BLOCK: [Case; 8] = [
     (
         b"incr a 5\r\nincr a 5 noreply\r\ndecr a 5\r\ndecr a 5 noreply\n",

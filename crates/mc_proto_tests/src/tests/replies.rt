@@ -1,9 +1,10 @@
 //! The text of each reply.
 use super::show::{same, text};
-use mc_item::{Histogram, Key, Moves, Reply, Value};
+use mc_item::{ClassNo, Histogram, Key, Moves, Reply, Value};
 use mc_proto::{
-    Keys, LineFault, fault_text, histogram_text, moves_text, push_end, push_fault, push_histogram,
-    push_moves, push_reply, push_value_head, push_value_tail, reply_text, value_text,
+    Keys, LineFault, chunks_text, fault_text, histogram_text, moves_text, push_chunks, push_end,
+    push_fault, push_histogram, push_moves, push_reply, push_value_head, push_value_tail,
+    reply_text, value_text,
 };
 use std::alloc::Global;
 use std::process::Abort;
@@ -226,6 +227,22 @@ fn upkeep(rt: HostRuntime) {
     end(&rt, &mut out);
     push_moves(&mut out, &MOVES).expect(&rt, "memory");
     same(&rt, out.as_slice(), b"END\r\nJUGGLED 3 500\r\n", "moves", 1);
+}
+
+#[test]
+fn a_new_limit_is_told_with_its_class(rt: HostRuntime) {
+    let got = chunks_text(rt.alloc(), ClassNo(1), 5).expect(&rt, "memory");
+    same(&rt, got.as_slice(), b"CHUNKS 1 5\r\n", "chunks", 0);
+    let mut out = Vec::new(rt.alloc());
+    end(&rt, &mut out);
+    push_chunks(&mut out, ClassNo(43), 1_048_576).expect(&rt, "memory");
+    same(
+        &rt,
+        out.as_slice(),
+        b"END\r\nCHUNKS 43 1048576\r\n",
+        "chunks",
+        1,
+    );
 }
 
 fn check_histogram(rt: &impl Abort, alloc: Global, counts: &Histogram, want: &[u8]) {

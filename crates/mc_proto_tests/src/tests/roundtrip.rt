@@ -119,6 +119,8 @@ fn push_token(rt: &impl Abort, out: &mut Vec<u8>, token: Token, drawn: &Drawn) {
         Token::Number => number(rt, out, drawn.number),
         Token::Moment => number(rt, out, drawn.moment),
         Token::Classes => classes(rt, out, drawn.class),
+        Token::OneClass => number(rt, out, 1 + drawn.class % 43),
+        Token::ChunkLimit => number(rt, out, 1 + drawn.number % 1_048_576),
     }
 }
 

@@ -43,6 +43,8 @@ fn verb(rt: &impl Abort, out: &mut Vec<u8>, verb: Verb) {
             text(rt, out, b"cas".as_slice());
             number(rt, out, unique);
         }
+        Verb::Append => text(rt, out, b"append".as_slice()),
+        Verb::Prepend => text(rt, out, b"prepend".as_slice()),
     }
 }
 
@@ -67,8 +69,8 @@ fn counted(rt: &impl Abort, out: &mut Vec<u8>, word: &[u8], key: &Key, delta: u6
     number(rt, out, delta);
 }
 
-fn touched(rt: &impl Abort, out: &mut Vec<u8>, key: &Key, exptime: i64) {
-    keyed(rt, out, b"touch".as_slice(), key);
+fn touched(rt: &impl Abort, out: &mut Vec<u8>, word: &[u8], key: &Key, exptime: i64) {
+    keyed(rt, out, word, key);
     number(rt, out, exptime);
 }
 
@@ -92,7 +94,8 @@ fn command(rt: &impl Abort, out: &mut Vec<u8>, command: &Command) {
         }
         Command::Incr(key, delta) => counted(rt, out, b"incr".as_slice(), key, *delta),
         Command::Decr(key, delta) => counted(rt, out, b"decr".as_slice(), key, *delta),
-        Command::Touch(key, exptime) => touched(rt, out, key, *exptime),
+        Command::Touch(key, exptime) => touched(rt, out, b"touch".as_slice(), key, *exptime),
+        Command::Gat(key, exptime) => touched(rt, out, b"gat".as_slice(), key, *exptime),
         Command::Delete(key) => keyed(rt, out, b"delete".as_slice(), key),
     }
 }
@@ -135,11 +138,17 @@ fn listed(rt: &impl Abort, out: &mut Vec<u8>, keys: &[Key]) {
     }
 }
 
-fn gets(rt: &impl Abort, out: &mut Vec<u8>, with_cas: bool) {
+fn limited(rt: &impl Abort, out: &mut Vec<u8>, class: ClassNo, chunks: u64) {
+    text(rt, out, b"chunks".as_slice());
+    number(rt, out, class.0);
+    number(rt, out, chunks);
+}
+
+// Adds a word, with an `s` behind it if cas numbers are asked for.
+fn reading(rt: &impl Abort, out: &mut Vec<u8>, word: &[u8], with_cas: bool) {
+    text(rt, out, word);
     if with_cas {
-        text(rt, out, b"gets".as_slice());
-    } else {
-        text(rt, out, b"get".as_slice());
+        text(rt, out, b"s".as_slice());
     }
 }
 
@@ -151,7 +160,13 @@ fn all_keys(rt: &impl Abort, out: &mut Vec<u8>, keys: Keys) {
 }
 
 fn got(rt: &impl Abort, out: &mut Vec<u8>, keys: Keys, with_cas: bool) {
-    gets(rt, out, with_cas);
+    reading(rt, out, b"get".as_slice(), with_cas);
+    all_keys(rt, out, keys);
+}
+
+fn got_and_touched(rt: &impl Abort, out: &mut Vec<u8>, exptime: i64, keys: Keys, with_cas: bool) {
+    reading(rt, out, b"gat".as_slice(), with_cas);
+    number(rt, out, exptime);
     all_keys(rt, out, keys);
 }
 
@@ -159,12 +174,18 @@ fn got(rt: &impl Abort, out: &mut Vec<u8>, keys: Keys, with_cas: bool) {
 fn request(rt: &impl Abort, out: &mut Vec<u8>, request: Request) {
     match request {
         Request::Get { keys, with_cas } => got(rt, out, keys, with_cas),
+        Request::Gat {
+            exptime,
+            keys,
+            with_cas,
+        } => got_and_touched(rt, out, exptime, keys, with_cas),
         Request::One { command, quiet } => one(rt, out, &command, quiet),
         Request::Bad { why, quiet } => bad(rt, out, why, quiet),
         Request::At(moment) => at(rt, out, moment),
         Request::Next => text(rt, out, b"next".as_slice()),
         Request::Juggle(classes) => target(rt, out, b"juggle".as_slice(), classes),
         Request::Crawl(classes) => target(rt, out, b"crawl".as_slice(), classes),
+        Request::Chunks(class, chunks) => limited(rt, out, class, chunks),
         Request::Quit => text(rt, out, b"quit".as_slice()),
     }
 }

@@ -14,6 +14,8 @@ pub(super) enum Token {
     Number,
     Moment,
     Classes,
+    OneClass,
+    ChunkLimit,
 }
 
 /// A row of the table: a line's word and tokens, whether a block and noreply may follow; and the request in short, of an item
@@ -29,7 +31,7 @@ pub(super) struct Row {
 }
 
 /// The table of lines in docs/GUIDE.md.
-pub(super) static TABLE: [Row; 15] = [
+pub(super) static TABLE: [Row; 20] = [
     Row {
         word: b"set",
         tokens: &[Token::Key, Token::Flags, Token::Exptime, Token::Bytes],
@@ -79,6 +81,24 @@ pub(super) static TABLE: [Row; 15] = [
         huge: &[Token::Number, Token::Key],
     },
     Row {
+        word: b"append",
+        tokens: &[Token::Key, Token::Flags, Token::Exptime, Token::Bytes],
+        has_block: true,
+        takes_noreply: true,
+        said: b"append",
+        shown: &[Token::Key, Token::Flags, Token::Exptime, Token::Value],
+        huge: &[Token::Key],
+    },
+    Row {
+        word: b"prepend",
+        tokens: &[Token::Key, Token::Flags, Token::Exptime, Token::Bytes],
+        has_block: true,
+        takes_noreply: true,
+        said: b"prepend",
+        shown: &[Token::Key, Token::Flags, Token::Exptime, Token::Value],
+        huge: &[Token::Key],
+    },
+    Row {
         word: b"get",
         tokens: &[Token::Keys],
         has_block: false,
@@ -94,6 +114,24 @@ pub(super) static TABLE: [Row; 15] = [
         takes_noreply: false,
         said: b"gets",
         shown: &[Token::Keys],
+        huge: &[],
+    },
+    Row {
+        word: b"gat",
+        tokens: &[Token::Exptime, Token::Keys],
+        has_block: false,
+        takes_noreply: false,
+        said: b"gat",
+        shown: &[Token::Exptime, Token::Keys],
+        huge: &[],
+    },
+    Row {
+        word: b"gats",
+        tokens: &[Token::Exptime, Token::Keys],
+        has_block: false,
+        takes_noreply: false,
+        said: b"gats",
+        shown: &[Token::Exptime, Token::Keys],
         huge: &[],
     },
     Row {
@@ -175,6 +213,15 @@ pub(super) static TABLE: [Row; 15] = [
         takes_noreply: false,
         said: b"crawl",
         shown: &[Token::Classes],
+        huge: &[],
+    },
+    Row {
+        word: b"%chunks",
+        tokens: &[Token::OneClass, Token::ChunkLimit],
+        has_block: false,
+        takes_noreply: false,
+        said: b"chunks",
+        shown: &[Token::OneClass, Token::ChunkLimit],
         huge: &[],
     },
 ];

@@ -70,7 +70,7 @@ fn compare(rt: &impl Abort, alloc: Global, cases: &[Case]) {
     }
 }
 
-static EACH_NEXT_BEGINS_A_SCRIPT: [Case; 9] = [
+static EACH_NEXT_BEGINS_A_SCRIPT: [Case; 10] = [
     ("nothing", b"", b"|"),
     ("no next", b"get a\r\nget b\r\n", b"get a\r\nget b\r\n|"),
     ("next alone", b"%next\r\n", b"||"),
@@ -94,6 +94,11 @@ static EACH_NEXT_BEGINS_A_SCRIPT: [Case; 9] = [
         "behind quit",
         b"quit\r\nget a\r\n%next\r\nget b\r\n",
         b"quit\r\nget a\r\n|get b\r\n|",
+    ),
+    (
+        "behind a gat, good or refused",
+        b"gat 0 a\r\n%next\r\ngats x a\r\n%next\r\nget k\r\n",
+        b"gat 0 a\r\n|gats x a\r\n|get k\r\n|",
     ),
     (
         "behind a refused line, which has no block",
@@ -137,7 +142,7 @@ fn other_lines_begin_no_script(rt: HostRuntime) {
     compare(&rt, rt.alloc(), OTHER_LINES_BEGIN_NO_SCRIPT.as_slice());
 }
 
-static A_NEXT_WITHIN_A_BLOCK_IS_PART_OF_IT: [Case; 6] = [
+static A_NEXT_WITHIN_A_BLOCK_IS_PART_OF_IT: [Case; 7] = [
     (
         "a kept block",
         b"set k 0 0 9\r\n%next\r\nxx\r\nget k\r\n",
@@ -147,6 +152,11 @@ static A_NEXT_WITHIN_A_BLOCK_IS_PART_OF_IT: [Case; 6] = [
         "kept blocks of each verb",
         b"add k 0 0 7\r\n\n%next\n\r\nreplace k 0 0 7\n\n%next\n\r\ncas k 0 0 7 1 noreply\n\n%next\n\r\n%next\n",
         b"add k 0 0 7\r\n\n%next\n\r\nreplace k 0 0 7\n\n%next\n\r\ncas k 0 0 7 1 noreply\n\n%next\n\r\n||",
+    ),
+    (
+        "blocks of append and prepend",
+        b"append k 0 0 7\r\n\n%next\n\r\nprepend k 0 0 7\n\n%next\n\r\n%next\n",
+        b"append k 0 0 7\r\n\n%next\n\r\nprepend k 0 0 7\n\n%next\n\r\n||",
     ),
     (
         "a skipped block",

@@ -1,7 +1,7 @@
 //! Each row of the table of lines: each token wrong in its place, one token fewer and one more, and noreply in each place.
 use super::lines::{Case, compare};
 
-static EACH_TOKEN_WRONG_IN_ITS_PLACE: [Case; 8] = [
+static EACH_TOKEN_WRONG_IN_ITS_PLACE: [Case; 10] = [
     (
         b"get \0\r\ngets \0\r\ngets a \0\r\nget a \0 b\r\n",
         b"format;format;format;format;",
@@ -23,6 +23,14 @@ static EACH_TOKEN_WRONG_IN_ITS_PLACE: [Case; 8] = [
         b"format;format;format;format;format;",
     ),
     (
+        b"append \0 0 0 1\r\nappend a x 0 1\r\nprepend a 0 x 1\r\nprepend a 0 0 x\r\n",
+        b"format;format;format;format;",
+    ),
+    (
+        b"gat x a\r\ngat 0 \0\r\ngats x a b\r\ngats 0 a \0\r\n",
+        b"exptime;format;exptime;format;",
+    ),
+    (
         b"incr \0 1\r\nincr a x\r\ndecr \0 1\r\ndecr a x\r\n",
         b"format;delta;format;delta;",
     ),
@@ -41,7 +49,7 @@ fn each_token_wrong_in_its_place(rt: HostRuntime) {
     compare(&rt, rt.alloc(), EACH_TOKEN_WRONG_IN_ITS_PLACE.as_slice());
 }
 
-static EACH_TOKEN_WRONG_IN_A_QUIET_LINE: [Case; 8] = [
+static EACH_TOKEN_WRONG_IN_A_QUIET_LINE: [Case; 9] = [
     (
         b"set \0 0 0 1 noreply\r\nset a x 0 1 noreply\r\nset a 0 x 1 noreply\r\nset a 0 0 x noreply\r\n",
         b"~format;~format;~format;~format;",
@@ -57,6 +65,10 @@ static EACH_TOKEN_WRONG_IN_A_QUIET_LINE: [Case; 8] = [
     (
         b"cas \0 0 0 1 1 noreply\r\ncas a x 0 1 1 noreply\r\ncas a 0 x 1 1 noreply\r\ncas a 0 0 x 1 noreply\r\ncas a 0 0 1 x noreply\r\n",
         b"~format;~format;~format;~format;~format;",
+    ),
+    (
+        b"append \0 0 0 1 noreply\r\nappend a x 0 1 noreply\r\nprepend a 0 x 1 noreply\r\nprepend a 0 0 x noreply\r\n",
+        b"~format;~format;~format;~format;",
     ),
     (
         b"incr \0 1 noreply\r\nincr a x noreply\r\ndecr \0 1 noreply\r\ndecr a x noreply\r\n",
@@ -81,7 +93,7 @@ fn each_token_wrong_in_a_quiet_line(rt: HostRuntime) {
     compare(&rt, rt.alloc(), EACH_TOKEN_WRONG_IN_A_QUIET_LINE.as_slice());
 }
 
-static OF_TWO_WRONG_TOKENS_THE_FIRST_NAMES_THE_FAULT: [Case; 5] = [
+static OF_TWO_WRONG_TOKENS_THE_FIRST_NAMES_THE_FAULT: [Case; 6] = [
     (
         b"incr \0 x\r\ndecr \0 x\r\ntouch \0 x\r\n",
         b"format;format;format;",
@@ -99,6 +111,10 @@ static OF_TWO_WRONG_TOKENS_THE_FIRST_NAMES_THE_FAULT: [Case; 5] = [
         b"format;format;format;format;~format;",
     ),
     (b"get \0 \0\r\n", b"format;"),
+    (
+        b"gat x \0\r\ngats - a \0\r\nappend \0 x 0 1\r\nprepend a x x 1\r\n",
+        b"exptime;exptime;format;format;",
+    ),
 ];
 
 #[test]
@@ -110,7 +126,7 @@ fn of_two_wrong_tokens_the_first_names_the_fault(rt: HostRuntime) {
     );
 }
 
-static ANOTHER_NUMBER_OF_TOKENS_COMES_BEFORE_A_WRONG_ONE: [Case; 6] = [
+static ANOTHER_NUMBER_OF_TOKENS_COMES_BEFORE_A_WRONG_ONE: [Case; 7] = [
     (
         b"set \0 0 0\r\nset \0 0 0 1 x\r\nadd a x 0\r\nadd a x 0 1 y\r\n",
         b"error;error;error;error;",
@@ -132,6 +148,10 @@ static ANOTHER_NUMBER_OF_TOKENS_COMES_BEFORE_A_WRONG_ONE: [Case; 6] = [
         b"error;error;error;error;error;",
     ),
     (b"foo \0 noreply\r\nfoo noreply\r\n", b"error;error;"),
+    (
+        b"gat x\r\ngats \0\r\nappend \0 0 0\r\nprepend a x 0 1 y\r\n",
+        b"error;error;error;error;",
+    ),
 ];
 
 #[test]
@@ -143,7 +163,7 @@ fn another_number_of_tokens_comes_before_a_wrong_one(rt: HostRuntime) {
     );
 }
 
-static ONE_TOKEN_FEWER_AND_ONE_MORE: [Case; 7] = [
+static ONE_TOKEN_FEWER_AND_ONE_MORE: [Case; 8] = [
     (
         b"get\r\ngets\r\nset a 0 0\r\nadd a 0 0\r\nreplace a 0 0\r\ncas a 0 0 1\r\n",
         b"error;error;error;error;error;error;",
@@ -169,6 +189,10 @@ static ONE_TOKEN_FEWER_AND_ONE_MORE: [Case; 7] = [
         b"error;error;error;error;",
     ),
     (
+        b"gat 0\r\ngats 0\r\nappend a 0 0\r\nprepend a 0 0\r\nappend a 0 0 1 x\r\nprepend a 0 0 1 x\r\n",
+        b"error;error;error;error;error;error;",
+    ),
+    (
         b"set a 0 0 1 x noreply\r\ncas a 0 0 1 1 noreply x\r\ncas a 0 0 1 1 x noreply\r\ndelete a x noreply\r\n",
         b"error;error;error;error;",
     ),
@@ -179,10 +203,18 @@ fn one_token_fewer_and_one_more(rt: HostRuntime) {
     compare(&rt, rt.alloc(), ONE_TOKEN_FEWER_AND_ONE_MORE.as_slice());
 }
 
-static NOREPLY_WHERE_A_TOKEN_IS_DUE: [Case; 9] = [
+static NOREPLY_WHERE_A_TOKEN_IS_DUE: [Case; 11] = [
     (
         b"get noreply\r\ngets noreply a\r\nget a noreply b\r\n",
         b"get noreply;gets noreply a;get a noreply b;",
+    ),
+    (
+        b"gat 0 noreply\r\ngats 0 a noreply\r\ngat noreply a\r\ngats noreply\r\n",
+        b"gat 0 noreply;gats 0 a noreply;exptime;error;",
+    ),
+    (
+        b"append noreply 0 0 1\r\nx\r\nprepend a 0 noreply 1\r\nprepend a 0 0 noreply noreply\r\n",
+        b"append noreply 0 0 x;format;~format;",
     ),
     (
         b"add noreply 0 0 1\r\nx\r\ncas noreply 0 0 1 1 noreply\r\nx\r\n",
@@ -223,7 +255,7 @@ fn noreply_where_a_token_is_due(rt: HostRuntime) {
     compare(&rt, rt.alloc(), NOREPLY_WHERE_A_TOKEN_IS_DUE.as_slice());
 }
 
-static EACH_VERB_IN_A_QUIET_LINE: [Case; 4] = [
+static EACH_VERB_IN_A_QUIET_LINE: [Case; 5] = [
     (
         b"set a 1 2 1 noreply\r\nx\r\nadd a 1 2 1 noreply\r\nx\r\nreplace a 1 -2 1 noreply\r\nx\r\n",
         b"~set a 1 2 x;~add a 1 2 x;~replace a 1 -2 x;",
@@ -231,6 +263,10 @@ static EACH_VERB_IN_A_QUIET_LINE: [Case; 4] = [
     (
         b"cas a 1 2 1 3 noreply\r\nx\r\nincr a 1 noreply\r\ndecr a 2 noreply\r\n",
         b"~cas 3 a 1 2 x;~incr a 1;~decr a 2;",
+    ),
+    (
+        b"append a 1 2 1 noreply\r\nx\r\nprepend a 1 -2 1 noreply\r\nx\r\n",
+        b"~append a 1 2 x;~prepend a 1 -2 x;",
     ),
     (
         b"touch a 7 noreply\r\ndelete a noreply\r\n",

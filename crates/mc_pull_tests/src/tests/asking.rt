@@ -16,6 +16,8 @@ use std::test::Fail;
 #[derive(Clone, Copy)]
 pub(super) enum Asked {
     Get(u8),
+    /// A gat with exptime 0.
+    Gat(u8),
     Delete(u8),
     /// A set to so many letters.
     Set(u8, usize),
@@ -23,6 +25,12 @@ pub(super) enum Asked {
     SetUntil(u8, i64),
     /// A set to one letter, with the refusal at this place of the first class's history.
     SetRefused(u8, u64),
+    /// An append of so many letters.
+    Append(u8, usize),
+    /// An append of one letter, with the refusal at this place of the first class's history.
+    AppendRefused(u8, u64),
+    /// A prepend of so many letters.
+    Prepend(u8, usize),
     /// A set whose block no class can hold.
     SetHuge(u8),
     Incr(u8, u64),
@@ -53,24 +61,34 @@ pub(super) const DOES: [&str; 3] = ["", "", "[does]"];
 /// What a command wants that needs the class of its item.
 pub(super) const ITEM: &str = "Classes(Classes { home: None, other: Some(ClassNo(1)) })";
 
-// A set of the key of one letter to so many of that letter.
-fn set_of(alloc: Global, letter: u8, len: usize, exptime: i64) -> Result<Command, Fail> {
+// A storage command for the key of one letter, with so many of that letter.
+fn storage_of(
+    alloc: Global,
+    verb: Verb,
+    letter: u8,
+    len: usize,
+    exptime: i64,
+) -> Result<Command, Fail> {
     let text = [letter; 128];
     let text = &text[..usize::min(len, 128)];
-    storage(alloc, Verb::Set, letter, 0, exptime, text)
+    storage(alloc, verb, letter, 0, exptime, text)
 }
 
 // The command that is asked, where one is.
 fn command_of(alloc: Global, asked: Asked) -> Result<Command, Fail> {
     match asked {
         Asked::Get(letter) => Ok(Command::Get(key(alloc, letter)?)),
+        Asked::Gat(letter) => Ok(Command::Gat(key(alloc, letter)?, 0)),
         Asked::Delete(letter) => Ok(Command::Delete(key(alloc, letter)?)),
         Asked::Incr(letter, delta) => Ok(Command::Incr(key(alloc, letter)?, delta)),
         Asked::Decr(letter, delta) => Ok(Command::Decr(key(alloc, letter)?, delta)),
         Asked::Touch(letter) => Ok(Command::Touch(key(alloc, letter)?, 0)),
-        Asked::Set(letter, len) => set_of(alloc, letter, len, 0),
-        Asked::SetUntil(letter, exptime) => set_of(alloc, letter, 1, exptime),
-        Asked::SetRefused(letter, _) => set_of(alloc, letter, 1, 0),
+        Asked::Set(letter, len) => storage_of(alloc, Verb::Set, letter, len, 0),
+        Asked::SetUntil(letter, exptime) => storage_of(alloc, Verb::Set, letter, 1, exptime),
+        Asked::SetRefused(letter, _) => storage_of(alloc, Verb::Set, letter, 1, 0),
+        Asked::Append(letter, len) => storage_of(alloc, Verb::Append, letter, len, 0),
+        Asked::AppendRefused(letter, _) => storage_of(alloc, Verb::Append, letter, 1, 0),
+        Asked::Prepend(letter, len) => storage_of(alloc, Verb::Prepend, letter, len, 0),
         Asked::SetHuge(letter) => {
             let key = key(alloc, letter)?;
             let verb = Verb::Set;
@@ -85,7 +103,7 @@ fn command_of(alloc: Global, asked: Asked) -> Result<Command, Fail> {
 // The place of the refusal that is cited.
 fn refused_of(asked: Asked) -> Option<u64> {
     match asked {
-        Asked::SetRefused(_, place) => Some(place),
+        Asked::SetRefused(_, place) | Asked::AppendRefused(_, place) => Some(place),
         _ => None,
     }
 }

@@ -4,7 +4,7 @@ use super::hitting::{Taken, tell_taken};
 use super::judging::{Judged, tell_judged};
 use super::seeing::{Seen, tell_seen};
 use mc_item::Config;
-use mc_testing::{World, opened, store};
+use mc_testing::{WHO, World, opened, store};
 use std::alloc::Global;
 use std::process::Abort;
 use std::random::RandomSource;
@@ -15,6 +15,8 @@ use std::test::Fail;
 pub enum Ask {
     /// An item of 66 bytes under the key of one letter and its entry, with an exptime and at a moment.
     Store(u8, i64, u64),
+    /// The class's limit of chunks is set.
+    Limit(u64),
     /// A walk or a round.
     Walk(Walked),
     /// A judgement.
@@ -67,10 +69,20 @@ fn text_of_store(world: &mut World, letter: u8, exptime: i64, moment: u64) -> Re
     Ok(format!(in world.alloc; "stored")?)
 }
 
+fn text_of_limit(world: &mut World, chunks: u64) -> Result<String, Fail> {
+    if chunks < 1 || chunks > 1 << 20 {
+        return Err(Fail::from("no class has such a limit"));
+    }
+    let class = &mut world.class;
+    class.set_chunks(WHO, chunks)?;
+    Ok(format!(in world.alloc; "limited")?)
+}
+
 // What a row does, and what it tells.
 fn tell(world: &mut World, ask: Ask) -> Result<String, Fail> {
     match ask {
         Ask::Store(letter, exptime, moment) => text_of_store(world, letter, exptime, moment),
+        Ask::Limit(chunks) => text_of_limit(world, chunks),
         Ask::Walk(walked) => tell_walked(world, walked),
         Ask::Judge(judged) => tell_judged(world, judged),
         Ask::Hit(taken) => tell_taken(world, taken),

@@ -67,6 +67,7 @@ fn text_of_event(alloc: Global, event: &ClassEvent) -> Result<String, Fail> {
         }
         ClassEvent::Surveyed(_) => Ok(format!(in alloc; "surveys")?),
         ClassEvent::Refused(_) => Ok(format!(in alloc; "refuses")?),
+        ClassEvent::Limited(e) => Ok(format!(in alloc; "limits to {}", e.chunks)?),
     }
 }
 

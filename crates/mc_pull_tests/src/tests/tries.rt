@@ -1,7 +1,7 @@
 //! Tries of commands as rows: what each makes in its classes and its stripe, or what it wants, worked out by hand.
 use super::asking::Asked::{
-    At, Bury, Decr, Delete, Get, Incr, Juggle, Refuse, See, Set, SetHuge, SetRefused, SetUntil,
-    Touch,
+    Append, AppendRefused, At, Bury, Decr, Delete, Gat, Get, Incr, Juggle, Prepend, Refuse, See,
+    Set, SetHuge, SetRefused, SetUntil, Touch,
 };
 use super::asking::{DOES, ITEM, NONE, Row, play};
 use super::seeing::Seen::{Item, Lengths, List};
@@ -253,7 +253,7 @@ fn a_set_over_a_dead_item_wants_its_burial(rt: HostRuntime) -> Result<(), Fail> 
     play(&rt, rt.alloc(), 4, MANY, &[OVER_THE_DEAD.as_slice()])
 }
 
-static BURIED: [Row; 7] = [
+static BURIED: [Row; 9] = [
     (
         SetUntil(b'a', 5),
         Home,
@@ -262,6 +262,8 @@ static BURIED: [Row; 7] = [
     ),
     (At(1005), Nothing, "", NONE),
     (Get(b'a'), Nothing, BURIAL, NONE),
+    (Gat(b'a'), Nothing, BURIAL, NONE),
+    (Append(b'a', 1), Home, BURIAL, NONE),
     (Delete(b'a'), Other, BURIAL, NONE),
     (
         Bury(0),
@@ -323,6 +325,74 @@ fn a_touch_that_wakes_an_item_tells_its_link_and_moves_nothing(
     rt: HostRuntime,
 ) -> Result<(), Fail> {
     play(&rt, rt.alloc(), 4, MANY, &[TOUCHES.as_slice()])
+}
+
+// A gat wakes an item as a get does.
+static GATS: [Row; 7] = [
+    (Set(b'a', 1), Home, "Stored", ["[links 0]", "", "[does]"]),
+    (
+        Juggle,
+        Nothing,
+        "1 moved",
+        [
+            "[surveys][moves 0 from Hot to Cold for Over(1) past [] at 1]",
+            "",
+            "",
+        ],
+    ),
+    (Gat(b'a'), Nothing, "a value", DOES),
+    (Gat(b'a'), Nothing, FIRST_WOKEN, DOES),
+    (Gat(b'a'), Other, "a value", DOES),
+    (See(List(Cold)), Nothing, "[0]", NONE),
+    (Gat(b'z'), Nothing, "Miss", DOES),
+];
+
+#[test]
+fn a_gat_that_wakes_an_item_tells_its_link_and_moves_nothing(rt: HostRuntime) -> Result<(), Fail> {
+    play(&rt, rt.alloc(), 4, MANY, &[GATS.as_slice()])
+}
+
+// An item of two bytes is of the first class. With 30 more it has 97 bytes and is of the second one, and with 96 more than that
+// it is too large.
+static JOINS: [Row; 9] = [
+    (Append(b'a', 1), Home, "NotStored", DOES),
+    (Set(b'a', 1), Home, "Stored", ["[links 0]", "", "[does]"]),
+    (Append(b'a', 1), Nothing, FIRST, NONE),
+    (
+        Append(b'a', 1),
+        Home,
+        "Stored",
+        ["[links 1][unlinks 0]", "", "[does]"],
+    ),
+    (Prepend(b'a', 30), Home, SECOND_OVER, NONE),
+    (
+        Prepend(b'a', 30),
+        Both,
+        "Stored",
+        ["[unlinks 1]", "[links 0]", "[does]"],
+    ),
+    (Append(b'a', 96), Nothing, "TooLarge", DOES),
+    (See(Lengths), Nothing, "4 5", NONE),
+    (See(Item(b'a')), Nothing, "there", NONE),
+];
+
+#[test]
+fn a_joined_value_wants_the_class_of_its_version(rt: HostRuntime) -> Result<(), Fail> {
+    play(&rt, rt.alloc(), 4, MANY, &[JOINS.as_slice()])
+}
+
+static FULL_JOINS: [Row; 6] = [
+    (Set(b'a', 1), Home, "Stored", ["[links 0]", "", "[does]"]),
+    (Append(b'a', 1), Home, "Room", NONE),
+    (Refuse, Nothing, "refused at 1", ["[refuses]", "", ""]),
+    (AppendRefused(b'a', 1), Home, "NoRoom", DOES),
+    (AppendRefused(b'b', 1), Home, "NotStored", DOES),
+    (See(Item(b'a')), Nothing, "there", NONE),
+];
+
+#[test]
+fn an_append_that_is_refused_leaves_the_entry_of_its_item(rt: HostRuntime) -> Result<(), Fail> {
+    play(&rt, rt.alloc(), 1, MANY, &[FULL_JOINS.as_slice()])
 }
 
 // With 128 letters an item has 193 bytes, one more than the largest chunk.

@@ -1,7 +1,7 @@
 //! Walks and rounds along lists of six items, by the answers that a gate is got to give.
-use super::by_list::Walked::{Evict, Force, Room};
+use super::by_list::Walked::{Evict, Force, Juggle, Room};
 use super::by_list::{evict, pull};
-use super::rows::Ask::{See, Walk};
+use super::rows::Ask::{Limit, See, Store, Walk};
 use super::rows::{Row, SIX, SIX_AND_A_DIES, SIX_AND_FIVE_DIE, check_rows, play};
 use super::seeing::Seen::{LastOfClass, LastOfStripe, Lengths, List};
 use super::seeing::numbers;
@@ -159,6 +159,40 @@ fn a_forced_entry_goes_to_colds_head(rt: HostRuntime) -> Result<(), Fail> {
         one_class(alloc, 6)?,
         SIX.as_slice(),
         FORCED.as_slice(),
+    )
+}
+
+// Three chunks, all taken, and all three entries in COLD: HOT may have a fifth of the bytes, which is 39. Then one chunk.
+static THREE_AND_ONE_CHUNK: [Row; 7] = [
+    (Store(b'a', 0, 1000), "stored"),
+    (Store(b'b', 0, 1000), "stored"),
+    (Store(b'c', 0, 1000), "stored"),
+    (Walk(Juggle(1000)), "0 reclaimed, 3 moved"),
+    (See(List(Cold)), "[0, 1, 2]"),
+    (Limit(1), "limited"),
+    (See(LastOfClass), "limits to 1"),
+];
+
+static FREE_BELOW_ONE: [Row; 7] = [
+    // Two rounds evict one entry each, and eight pass the one that is left.
+    (Walk(Room(1000, &[true, true])), "false after 10"),
+    (See(LastOfClass), "evicts 1 past [] at 4"),
+    (See(List(Cold)), "[2]"),
+    (See(Lengths), "10 5"),
+    (Walk(Room(1000, &[true])), "true after 1"),
+    (See(List(Cold)), "[]"),
+    (See(Lengths), "11 6"),
+];
+
+#[test]
+fn a_lowered_limit_has_no_chunk_free_while_an_entry_is_left(rt: HostRuntime) -> Result<(), Fail> {
+    let alloc = rt.alloc();
+    play(
+        &rt,
+        alloc,
+        one_class(alloc, 3)?,
+        THREE_AND_ONE_CHUNK.as_slice(),
+        FREE_BELOW_ONE.as_slice(),
     )
 }
 

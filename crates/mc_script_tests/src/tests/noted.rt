@@ -18,6 +18,7 @@ const LIMITS: Limits = Limits {
 // Calls that are noted; all fail that come after so many. Each command misses; the maintainer reclaims as many entries of a
 // class as its number says, and moves ten times as many. The crawler counts as many with a minute to live, or with none
 // if the number is even, ten times as many with an hour, and so on by tens: without an expiry, reclaimed, passed, gone.
+// The call that sets a limit is noted with the limit in place of a moment.
 #[derive(Drop)]
 struct Noted {
     made: u64,
@@ -88,6 +89,11 @@ impl Calls for Noted {
         histogram.gone = 100_000 * number;
         histogram.seen = 111_111 * number;
         Ok(histogram)
+    }
+
+    fn limit(&mut self, _rt: &impl Wait, class: ClassNo, chunks: u64) -> Result<(), Fault> {
+        self.note(class, chunks)?;
+        Ok(())
     }
 }
 

@@ -1,5 +1,5 @@
 //! What the tests ask stores for; where that fails, the test ends.
-ghost use Rattle.std.specs.Prelude.{◌<◌, ◌≤◌, length};
+ghost use Rattle.std.specs.Prelude.{◌<◌, ◌≤◌, ◌^◌, length};
 
 use mc_item::{ClassNo, Command, Histogram, Moves, Reply, Verb};
 use mc_store::{Named, Pass, Store};
@@ -12,6 +12,7 @@ use std::sync::Wait;
 #[derive(Clone, Copy)]
 pub(super) enum Ask {
     Get,
+    Gat(i64),
     /// A storage command of these flags and this value, which doesn't expire.
     Store(Verb, u32, &'static str),
     /// A set of this exptime and value, without flags.
@@ -39,10 +40,11 @@ fn store<R: Abort>(
     try_storage(alloc, verb, letter, flags, exptime, text.as_bytes()).expect(rt, "a command")
 }
 
-// A command that stores nothing new, or a get.
+// A command that stores no text, or a get.
 fn other_of<R: Abort>(rt: &R, alloc: Global, letter: u8, ask: Ask) -> Command {
     let key = try_key(alloc, letter).expect(rt, "a key");
     match ask {
+        Ask::Gat(exptime) => Command::Gat(key, exptime),
         Ask::Incr(delta) => Command::Incr(key, delta),
         Ask::Decr(delta) => Command::Decr(key, delta),
         Ask::Touch(exptime) => Command::Touch(key, exptime),
@@ -115,6 +117,20 @@ pub(super) fn crawl<N: Named, R: Abort + Wait>(
     store
         .crawl(alloc, rt, pass, class, u64::from(moment))
         .expect(rt, "a histogram")
+}
+
+/// Sets a class's limit of chunks.
+pub(super) fn limit<N: Named, R: Abort + Wait>(
+    rt: &R,
+    store: &Store<N>,
+    pass: &mut Pass<N>,
+    class: ClassNo,
+    chunks: u64,
+)
+    requires class { (0 < class.0) × (class.0 ≤ length N.config.sizes) }
+    requires chunks { (1 ≤ chunks) × (chunks ≤ 2 ^ 20) }
+{
+    store.chunks(rt, pass, class, chunks).expect(rt, "a limit");
 }
 
 // A text of its own.

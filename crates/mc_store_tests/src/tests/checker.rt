@@ -20,6 +20,9 @@ use std::random::RandomSource;
 use std::sync::Wait;
 use std::thread::Threads;
 
+// So many chunks has each class.
+const CHUNKS: [u64; 2] = [4, 1];
+
 // A value as a text.
 fn shown<T: Debug, R: Abort>(rt: &R, alloc: Global, value: &T) -> String {
     format!(in alloc; "{value:?}").expect(rt, "a text")
@@ -209,7 +212,7 @@ pub(super) fn check_played<R: Abort>(
     requires classes { length ledger.now.classes ≡ 2 }
 {
     replay(rt, alloc, ledger, stripes, threads);
-    check_classes(rt, alloc, ledger, stripes);
+    check_classes(rt, alloc, ledger, stripes, CHUNKS);
     check_found(rt, threads);
 }
 
@@ -220,7 +223,7 @@ pub(super) fn run<R: Threads + Abort + Wait + RandomSource + Sync>(
     stripes: u32,
     seed: u64,
 ) {
-    let config = two_classes(rt, alloc, stripes, [4, 1], PLAYERS + 3);
+    let config = two_classes(rt, alloc, stripes, CHUNKS, PLAYERS + 3);
     share(rt, alloc, config, Task::Play(seed), &[], &[]);
 }
 

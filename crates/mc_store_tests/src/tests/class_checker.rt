@@ -113,9 +113,15 @@ fn replay<R: Abort>(rt: &R, class: &ClassState, plain: &mut PlainClass, given: &
     }
 }
 
-// Replays a class's history, and compares what it leaves with the class.
-fn check_class<R: Abort>(rt: &R, alloc: Global, class: &ClassState, given: &mut Vec<Given>) {
-    let mut plain = PlainClass::new(alloc, class.chunks());
+// Replays the history of a class that opened with this limit of chunks, and compares what it leaves with the class.
+fn check_class<R: Abort>(
+    rt: &R,
+    alloc: Global,
+    class: &ClassState,
+    chunks: u64,
+    given: &mut Vec<Given>,
+) {
+    let mut plain = PlainClass::new(alloc, chunks);
     replay(rt, class, &mut plain, given);
     check(rt, plain.compare(class), class.history().len());
 }
@@ -127,14 +133,21 @@ fn check_all<R: Abort>(rt: &R, given: &Vec<Given>) {
     }
 }
 
-/// Replays the histories of both classes. Ends the test where an event may not happen, where a list isn't what its history
-/// leaves, or where a chunk and the command that was given it aren't each other's.
-pub(super) fn check_classes<R: Abort>(rt: &R, alloc: Global, ledger: &Final, stripes: u32)
+/// Replays the histories of both classes, which opened with these limits of chunks. Ends the test where an event may not happen,
+/// where a list isn't what its history leaves, or where a chunk and the command that was given it aren't each other's.
+pub(super) fn check_classes<R: Abort>(
+    rt: &R,
+    alloc: Global,
+    ledger: &Final,
+    stripes: u32,
+    chunks: [u64; 2],
+)
     requires stripes { length ledger.now.stripes ≡ stripes }
     requires classes { length ledger.now.classes ≡ 2 }
 {
     let mut given = all_given(rt, alloc, ledger, stripes);
-    check_class(rt, alloc, ledger.class(ClassNo(1)), &mut given);
-    check_class(rt, alloc, ledger.class(ClassNo(2)), &mut given);
+    let [first, second] = chunks;
+    check_class(rt, alloc, ledger.class(ClassNo(1)), first, &mut given);
+    check_class(rt, alloc, ledger.class(ClassNo(2)), second, &mut given);
     check_all(rt, &given);
 }

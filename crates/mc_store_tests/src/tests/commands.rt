@@ -1,9 +1,9 @@
 //! Commands on shared stores of one stripe and of two: what is answered, by protocol.txt and worked out by hand.
-use super::asking::Ask::{Cas, Decr, Delete, Get, Huge, Incr, Store as Put, Touch};
+use super::asking::Ask::{Cas, Decr, Delete, Gat, Get, Huge, Incr, Store as Put, Touch};
 use super::opening::two_classes;
 use super::running::Act::On;
 use super::running::{Row, check_script};
-use mc_item::Verb::{Add, Replace, Set};
+use mc_item::Verb::{Add, Append, Prepend, Replace, Set};
 use std::alloc::Global;
 use std::process::Abort;
 use std::random::RandomSource;
@@ -49,6 +49,26 @@ fn each_command_is_answered(rt: HostRuntime) {
     check(&rt, rt.alloc(), 9, EACH.as_slice());
 }
 
+static JOINED: [Row; 11] = [
+    (0, 1000, On(b'a', Put(Append, 0, "x")), "NotStored"),
+    (0, 1000, On(b'a', Gat(10)), "Miss"),
+    (0, 1000, On(b'a', Put(Set, 5, "b")), "Stored"),
+    (0, 1000, On(b'a', Gat(10)), "5 b"),
+    (0, 1000, On(b'a', Put(Append, 7, "c")), "Stored"),
+    (0, 1000, On(b'a', Put(Prepend, 7, "a")), "Stored"),
+    (0, 1009, On(b'a', Get), "5 abc"),
+    (0, 1010, On(b'a', Put(Append, 0, "x")), "NotStored"),
+    (0, 1010, On(b'a', Gat(10)), "Miss"),
+    (0, 1010, On(b'a', Put(Prepend, 0, "x")), "NotStored"),
+    (0, 1010, On(b'a', Get), "Miss"),
+];
+
+// What is joined keeps the flags, and the expiry that a gat set.
+#[test]
+fn a_joined_value_dies_with_the_old_one(rt: HostRuntime) {
+    check(&rt, rt.alloc(), 9, JOINED.as_slice());
+}
+
 const LONG: &str = "0123456789012345678901234567890123456789";
 
 const SHOWN: &str = "0 0123456789012345678901234567890123456789";
@@ -65,6 +85,24 @@ static CHANGING: [Row; 5] = [
 #[test]
 fn a_value_changes_its_class(rt: HostRuntime) {
     check(&rt, rt.alloc(), 1, CHANGING.as_slice());
+}
+
+const JOINED_SHOWN: &str = "0 10123456789012345678901234567890123456789";
+
+static JOINED_CHANGING: [Row; 6] = [
+    (0, 1000, On(b'a', Put(Set, 0, "1")), "Stored"),
+    (0, 1000, On(b'a', Put(Append, 0, LONG)), "Stored"),
+    (0, 1000, On(b'a', Get), JOINED_SHOWN),
+    (0, 1000, On(b'a', Put(Prepend, 0, LONG)), "TooLarge"),
+    (0, 1000, On(b'b', Put(Set, 0, "2")), "Stored"),
+    (0, 1000, On(b'a', Get), JOINED_SHOWN),
+];
+
+// The same of a value that an append makes longer. The old chunk is free for another key, and with 40 bytes more the value has 81,
+// for which each class is too small.
+#[test]
+fn a_joined_value_changes_its_class(rt: HostRuntime) {
+    check(&rt, rt.alloc(), 1, JOINED_CHANGING.as_slice());
 }
 
 static EVICTING: [Row; 4] = [
@@ -99,8 +137,18 @@ static COMPARED: [Row; 6] = [
     (0, 1000, On(b'a', Get), "0 2"),
 ];
 
+static JOINED_COMPARED: [Row; 6] = [
+    (0, 1000, On(b'a', Put(Set, 0, "1")), "Stored"),
+    (0, 1000, On(b'a', Gat(0)), "0 1"),
+    (0, 1000, On(b'a', Cas("2")), "Stored"),
+    (0, 1000, On(b'a', Gat(0)), "0 2"),
+    (0, 1000, On(b'a', Put(Append, 0, "")), "Stored"),
+    (0, 1000, On(b'a', Cas("3")), "Exists"),
+];
+
 // A cas stores where its number is the one that was shown last, and not where the item was changed since.
 #[test]
 fn a_cas_is_compared(rt: HostRuntime) {
     check(&rt, rt.alloc(), 9, COMPARED.as_slice());
+    check(&rt, rt.alloc(), 9, JOINED_COMPARED.as_slice());
 }

@@ -1,15 +1,21 @@
 //! Each command on a store of one class without a free chunk, by the rules of commands and of making room. Room is made
 //! first: COLD's tail is taken, or else HOT's tail is forced to COLD, so of entries in HOT the oldest goes. TEMP and WARM
 //! are never taken from. Then the command is answered on what is left.
-use super::asking::Ask::{Decr, Delete, Get, Incr, Store, Touch};
+use super::asking::Ask::{Decr, Delete, Gat, Get, Incr, Store, Touch};
 use super::full_store::{Before, IN_TEMP, Mode, PLAIN, Row, check_rows};
-use mc_item::Verb::{Add, Cas, Replace, Set};
+use mc_item::Verb::{Add, Append, Cas, Prepend, Replace, Set};
 
 // A value of which no class of 96 bytes has the cost, under a key of one letter.
 const LONG: &str = "xxxxxxxxxxxxxxxxxxxxxxxxxxxxxxxx";
 
+// One byte less: it fits the class alone, but not joined to another byte.
+const FILLS: &str = "xxxxxxxxxxxxxxxxxxxxxxxxxxxxxxx";
+
 // Two chunks, those of `p` and `q`: a new item takes that of `p`, and what needs no chunk takes none.
-static ABSENT: [Row; 13] = [
+static ABSENT: [Row; 16] = [
+    (Gat(30), "Miss", "-", "1", &[2]),
+    (Store(Append, 0, "x"), "NotStored", "-", "1", &[2]),
+    (Store(Prepend, 0, LONG), "NotStored", "-", "1", &[2]),
     (Get, "Miss", "-", "1", &[2]),
     (Store(Set, 0, "x"), "Stored", "x", "-", &[2]),
     (Store(Add, 0, "x"), "Stored", "x", "-", &[2]),
@@ -26,7 +32,11 @@ static ABSENT: [Row; 13] = [
 ];
 
 // Two chunks, and the own item's is the older: it is itself what room takes, and the answer is that of an absent key.
-static OLDER: [Row; 13] = [
+static OLDER: [Row; 17] = [
+    (Gat(30), "0 5", "5", "1", &[2]),
+    (Store(Append, 0, "x"), "NotStored", "-", "1", &[1]),
+    (Store(Prepend, 0, "x"), "NotStored", "-", "1", &[1]),
+    (Store(Append, 0, FILLS), "TooLarge", "5", "1", &[2]),
     (Get, "0 5", "5", "1", &[2]),
     (Store(Set, 0, "x"), "Stored", "x", "1", &[2]),
     (Store(Add, 0, "x"), "NotStored", "5", "1", &[2]),
@@ -43,7 +53,11 @@ static OLDER: [Row; 13] = [
 ];
 
 // Two chunks, and the own item's is the newer: the other item is taken, and then the own old version's entry goes too.
-static NEWER: [Row; 13] = [
+static NEWER: [Row; 17] = [
+    (Gat(30), "0 5", "5", "1", &[2]),
+    (Store(Append, 0, "x"), "Stored", "5x", "-", &[1]),
+    (Store(Prepend, 0, "x"), "Stored", "x5", "-", &[1]),
+    (Store(Prepend, 0, FILLS), "TooLarge", "5", "1", &[2]),
     (Get, "0 5", "5", "1", &[2]),
     (Store(Set, 0, "x"), "Stored", "x", "-", &[1]),
     (Store(Add, 0, "x"), "NotStored", "5", "1", &[2]),
@@ -60,7 +74,10 @@ static NEWER: [Row; 13] = [
 ];
 
 // One chunk, the own item's, which room takes.
-static ONLY: [Row; 13] = [
+static ONLY: [Row; 16] = [
+    (Gat(30), "0 5", "5", "-", &[1]),
+    (Store(Append, 0, "x"), "NotStored", "-", "-", &[0]),
+    (Store(Append, 0, FILLS), "TooLarge", "5", "-", &[1]),
     (Get, "0 5", "5", "-", &[1]),
     (Store(Set, 0, "x"), "Stored", "x", "-", &[1]),
     (Store(Add, 0, "x"), "NotStored", "5", "-", &[1]),
@@ -77,7 +94,10 @@ static ONLY: [Row; 13] = [
 ];
 
 // The own item is dead: it goes first, its chunk is free, and the answer is that of an absent key.
-static DEAD: [Row; 13] = [
+static DEAD: [Row; 16] = [
+    (Gat(30), "Miss", "-", "1", &[1]),
+    (Store(Append, 0, "x"), "NotStored", "-", "1", &[1]),
+    (Store(Prepend, 0, LONG), "NotStored", "-", "1", &[1]),
     (Get, "Miss", "-", "1", &[1]),
     (Store(Set, 0, "x"), "Stored", "x", "1", &[2]),
     (Store(Add, 0, "x"), "Stored", "x", "1", &[2]),
@@ -94,7 +114,9 @@ static DEAD: [Row; 13] = [
 ];
 
 // Both chunks are in TEMP, and no room is found: a refused set removes the own item, which is absent.
-static HELD_ABSENT: [Row; 10] = [
+static HELD_ABSENT: [Row; 12] = [
+    (Gat(30), "Miss", "-", "1", &[2]),
+    (Store(Append, 0, "x"), "NotStored", "-", "1", &[2]),
     (Get, "Miss", "-", "1", &[2]),
     (Store(Set, 0, "x"), "NoRoom", "-", "1", &[2]),
     (Store(Add, 0, "x"), "NoRoom", "-", "1", &[2]),
@@ -108,7 +130,10 @@ static HELD_ABSENT: [Row; 10] = [
 ];
 
 // Both chunks are in TEMP, one of them the own item's, which was set first: a refused set removes it, the others don't.
-static HELD_THERE: [Row; 12] = [
+static HELD_THERE: [Row; 15] = [
+    (Gat(30), "0 5", "5", "1", &[2]),
+    (Store(Append, 0, "x"), "NoRoom", "5", "1", &[2]),
+    (Store(Prepend, 0, FILLS), "TooLarge", "5", "1", &[2]),
     (Get, "0 5", "5", "1", &[2]),
     (Store(Set, 0, "x"), "NoRoom", "-", "1", &[1]),
     (Store(Add, 0, "x"), "NotStored", "5", "1", &[2]),
@@ -124,7 +149,10 @@ static HELD_THERE: [Row; 12] = [
 ];
 
 // The only chunk is the own item's, in TEMP, or active, so that it goes to WARM: no room is found either way.
-static HELD_ONLY: [Row; 12] = [
+static HELD_ONLY: [Row; 15] = [
+    (Gat(30), "0 5", "5", "-", &[1]),
+    (Store(Append, 0, "x"), "NoRoom", "5", "-", &[1]),
+    (Store(Prepend, 0, "x"), "NoRoom", "5", "-", &[1]),
     (Get, "0 5", "5", "-", &[1]),
     (Store(Set, 0, "x"), "NoRoom", "-", "-", &[0]),
     (Store(Add, 0, "x"), "NotStored", "5", "-", &[1]),

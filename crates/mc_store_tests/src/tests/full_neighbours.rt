@@ -2,7 +2,7 @@
 //! the new version's class alone, so an own item in another class isn't taken; its entry goes when the new one stands.
 use super::asking::Ask::{Get, Incr, Store};
 use super::full_store::{Before, IN_TEMP, PLAIN, Row, check_rows};
-use mc_item::Verb::{Add, Cas, Replace, Set};
+use mc_item::Verb::{Add, Append, Cas, Prepend, Replace, Set};
 
 // Chunks of 66 and of 120 bytes, one each: a value of one letter is of class 1, a longer one of class 2. The own item has the
 // chunk of class 1, and that of class 2 is free.
@@ -13,7 +13,8 @@ const LOW: Before = Before {
     other: b'q',
 };
 
-static LOW_FREE: [Row; 6] = [
+static LOW_FREE: [Row; 7] = [
+    (Store(Append, 0, "y"), "Stored", "5y", "-", &[0, 1]),
     (Store(Set, 0, "xy"), "Stored", "xy", "-", &[0, 1]),
     (Store(Replace, 0, "xy"), "Stored", "xy", "-", &[0, 1]),
     (Store(Cas(1), 0, "xy"), "Stored", "xy", "-", &[0, 1]),
@@ -28,7 +29,9 @@ const LOW_BOTH: Before = Before {
     ..LOW
 };
 
-static LOW_TAKES: [Row; 8] = [
+static LOW_TAKES: [Row; 10] = [
+    (Store(Prepend, 0, "y"), "Stored", "y5", "-", &[0, 1]),
+    (Store(Append, 0, ""), "NotStored", "-", "42", &[0, 1]),
     (Store(Set, 0, "xy"), "Stored", "xy", "-", &[0, 1]),
     (Store(Replace, 0, "xy"), "Stored", "xy", "-", &[0, 1]),
     (Store(Cas(1), 0, "xy"), "Stored", "xy", "-", &[0, 1]),
@@ -40,7 +43,8 @@ static LOW_TAKES: [Row; 8] = [
 ];
 
 // `q` is in TEMP, and no room is found in class 2: a refused set removes the own item, the others leave it.
-static LOW_HELD: [Row; 5] = [
+static LOW_HELD: [Row; 6] = [
+    (Store(Append, 0, "y"), "NoRoom", "5", "42", &[1, 1]),
     (Store(Set, 0, "xy"), "NoRoom", "-", "42", &[0, 1]),
     (Store(Replace, 0, "xy"), "NoRoom", "5", "42", &[1, 1]),
     (Store(Cas(1), 0, "xy"), "NoRoom", "5", "42", &[1, 1]),
@@ -55,7 +59,8 @@ const HIGH_BOTH: Before = Before {
     ..LOW
 };
 
-static HIGH_TAKES: [Row; 5] = [
+static HIGH_TAKES: [Row; 6] = [
+    (Store(Append, 0, "y"), "NotStored", "-", "1", &[1, 0]),
     (Store(Set, 0, "x"), "Stored", "x", "-", &[1, 0]),
     (Store(Replace, 0, "x"), "Stored", "x", "-", &[1, 0]),
     (Store(Set, 0, "xy"), "Stored", "xy", "1", &[1, 1]),
@@ -133,13 +138,14 @@ const LAST_TWO: Before = Before {
     ..LAST_FULL
 };
 
-static LAST_THERE: [Row; 6] = [
+static LAST_THERE: [Row; 7] = [
     (Store(Set, 0, V62), "Stored", V62, "-", &[0, 1]),
     (Store(Replace, 0, V62), "Stored", V62, "-", &[0, 1]),
     (Store(Cas(1), 0, V62), "Stored", V62, "-", &[0, 1]),
     (Store(Set, 0, V61), "Stored", V61, V62, &[1, 1]),
     (Store(Set, 0, V63), "TooLarge", "-", V62, &[0, 1]),
     (Store(Replace, 0, V63), "TooLarge", V61, V62, &[1, 1]),
+    (Store(Append, 0, "22"), "TooLarge", V61, V62, &[1, 1]),
 ];
 
 static LAST_HELD: [Row; 3] = [

@@ -1,7 +1,7 @@
 //! Hits that wait in the queue of their class until it is juggled, worked out by hand. The items cost 66 bytes each and are of
 //! class 1. HOT may have a fifth of the bytes of two and WARM two fifths, so juggling moves both to COLD. With four stripes `a`
 //! is of stripe 0 and `b` of stripe 1.
-use super::asking::Ask::{Delete, Get, Store as Put, Touch};
+use super::asking::Ask::{Delete, Gat, Get, Store as Put, Touch};
 use super::ends::{End, Ended};
 use super::opening::two_classes;
 use super::running::Act::{Juggle, On};
@@ -38,6 +38,22 @@ static IN_COLD: [Row; 7] = [
 #[test]
 fn a_hit_moves_its_entry_from_cold_when_the_class_is_juggled(rt: HostRuntime) {
     check(&rt, rt.alloc(), IN_COLD.as_slice(), MOVED_BY_ONE.as_slice());
+}
+
+// The same by a gat, which is a hit as a get is.
+static BY_GAT: [Row; 7] = [
+    (0, 1000, On(b'a', Put(Set, 0, "1")), "Stored"),
+    (0, 1000, On(b'b', Put(Set, 0, "2")), "Stored"),
+    (2, 1000, Juggle(1), "reclaimed 0, moved 2"),
+    (0, 1000, On(b'a', Gat(9)), "0 1"),
+    (0, 1000, On(b'a', Gat(9)), "0 1"),
+    (2, 1000, Juggle(1), "reclaimed 0, moved 1"),
+    (2, 1000, Juggle(1), "reclaimed 0, moved 0"),
+];
+
+#[test]
+fn a_gat_moves_its_entry_as_a_get_does(rt: HostRuntime) {
+    check(&rt, rt.alloc(), BY_GAT.as_slice(), MOVED_BY_ONE.as_slice());
 }
 
 // The active entry goes from HOT to WARM by the walk of HOT, and then to COLD.

@@ -24,6 +24,8 @@ pub(super) enum Act {
     Juggle(u32),
     /// Crawls a class, and tells what became of its entries.
     Crawl(u32),
+    /// Sets a class's limit of chunks, and tells it.
+    Limit(u32, u64),
     /// Tells how many events the caller's pass counts of a stripe.
     OfStripe(u32),
     /// Tells how many events the caller's pass counts of a class.
@@ -149,6 +151,24 @@ fn crawled<N: Named, R: Abort + Wait>(
     .expect(rt, "a text")
 }
 
+// What is got of a class that has a new limit of chunks.
+fn limited<N: Named, R: Abort + Wait>(
+    rt: &R,
+    alloc: Global,
+    store: &Store<N>,
+    pass: &mut Pass<N>,
+    shape: Shape,
+    class: u32,
+    chunks: u64,
+) -> String
+    requires { length N.config.sizes ≡ shape.classes }
+{
+    assert!(rt; class > 0 && class as usize <= shape.classes);
+    assert!(rt; chunks > 0 && chunks <= 1 << 20);
+    asking::limit(rt, store, pass, ClassNo(class), chunks);
+    digits(rt, alloc, chunks)
+}
+
 // How many events a pass counts of a stripe.
 fn of_stripe<N: Named, R: Abort>(
     rt: &R,
@@ -221,6 +241,7 @@ fn tell<N: Named, R: Abort + Wait>(
         Act::Value(letter) => value_of(rt, alloc, store, pass, moment, letter),
         Act::Juggle(class) => juggled(rt, alloc, store, pass, moment, shape, class),
         Act::Crawl(class) => crawled(rt, alloc, store, pass, moment, shape, class),
+        Act::Limit(class, chunks) => limited(rt, alloc, store, pass, shape, class, chunks),
         Act::Turn => turn_of(rt, alloc, pass.next_who()),
         Act::Places => places_of(rt, alloc, pass.places()),
         other => digits(rt, alloc, counted(rt, store, pass, shape, other)),

@@ -1,7 +1,7 @@
 //! The table of commands, row by row, after five versions of stripe 1 of 4, at the moment 1000: what a command wants, its reply,
 //! and the item that it leaves. Each row was worked out by hand from protocol.txt. An item of the key `b` costs 65 bytes and
 //! those of its value; class 1 has 66 bytes, class 2 has 70.
-use super::Asked::{Decr, Delete, Get, Huge, Incr, StoreUntil, Touch};
+use super::Asked::{Decr, Delete, Gat, Get, Huge, Incr, StoreUntil, Touch};
 use super::calls::asserts_owned;
 use super::plain::{text, text_of_item};
 use super::trying::Held::{Both, Home, Nothing, Other};
@@ -160,6 +160,85 @@ fn large_values(rt: HostRuntime) {
     check_rows(&rt, rt.alloc(), LARGE.as_slice());
 }
 
+const APPEND: Asked = StoreUntil(Verb::Append, "1", 10);
+
+const PREPEND: Asked = StoreUntil(Verb::Prepend, "1", 10);
+
+const HIT: There = Some(("o", true));
+
+const FOUR: There = Some(("2345", false));
+
+const FIVE: There = Some(("23456", false));
+
+// Data goes behind the old value or before it, and the new version keeps the old flags and expiry. A hit of the item is an event.
+static JOINED: [Row; 12] = [
+    (ABSENT, APPEND, Nothing, NOTHING, "NotStored; none"),
+    (
+        ABSENT,
+        StoreUntil(Verb::Prepend, SIX, 10),
+        AT,
+        NOTHING,
+        "NotStored; none",
+    ),
+    (
+        ABSENT,
+        Huge(Verb::Append),
+        Nothing,
+        NOTHING,
+        "TooLarge; none",
+    ),
+    (OLD, Huge(Verb::Prepend), Nothing, NOTHING, LEFT),
+    (
+        OLD,
+        StoreUntil(Verb::Append, "", 10),
+        AT,
+        CHUNK,
+        "Stored; Item { flags: 5, value: Value { bytes: [111] }, expiry: Never, cas: 22, link: Link { class: ClassNo(1), number: 5 }, marks: Marks { fetched: false, active: false } }",
+    ),
+    (
+        HIT,
+        APPEND,
+        Both(2, Link, 2, 1, 2),
+        LARGER_OVER,
+        "Stored; Item { flags: 5, value: Value { bytes: [111, 49] }, expiry: Never, cas: 22, link: Link { class: ClassNo(2), number: 6 }, marks: Marks { fetched: false, active: false } }",
+    ),
+    (
+        OLD,
+        PREPEND,
+        Both(2, Link, 2, 1, 2),
+        LARGER_OVER,
+        "Stored; Item { flags: 5, value: Value { bytes: [49, 111] }, expiry: Never, cas: 22, link: Link { class: ClassNo(2), number: 5 }, marks: Marks { fetched: false, active: false } }",
+    ),
+    (
+        FOUR,
+        PREPEND,
+        Home(2, Link, 2),
+        LARGER,
+        "Stored; Item { flags: 5, value: Value { bytes: [49, 50, 51, 52, 53] }, expiry: Never, cas: 22, link: Link { class: ClassNo(2), number: 5 }, marks: Marks { fetched: false, active: false } }",
+    ),
+    (FIVE, APPEND, Home(2, Link, 2), NOTHING, LEFT),
+    (
+        OLD,
+        StoreUntil(Verb::Append, "23456", 10),
+        Nothing,
+        NOTHING,
+        LEFT,
+    ),
+    (
+        HIT,
+        APPEND,
+        Both(2, Refusal, 2, 1, 2),
+        LARGER_OVER,
+        "NoRoom; the same",
+    ),
+    (FOUR, PREPEND, REFUSED_LARGER, LARGER, "NoRoom; the same"),
+];
+
+#[test]
+fn joined_values(rt: HostRuntime) {
+    check_rows(&rt, rt.alloc(), JOINED.as_slice());
+}
+
 const X: There = Some(("x", false));
 
 const NINE: There = Some(("9", false));
@@ -237,8 +316,9 @@ fn a_number_too_long_for_each_class(rt: HostRuntime) {
     check_rows(&rt, rt.alloc(), LONGER.as_slice());
 }
 
-static OF_NONE: [Row; 5] = [
+static OF_NONE: [Row; 6] = [
     (ABSENT, Get, Nothing, NOTHING, "Miss; none"),
+    (ABSENT, Gat(10), Nothing, NOTHING, "Miss; none"),
     (ABSENT, Incr(1), Nothing, NOTHING, "NotFound; none"),
     (ABSENT, Decr(1), Nothing, NOTHING, "NotFound; none"),
     (ABSENT, Touch(1), Nothing, NOTHING, "NotFound; none"),
@@ -252,7 +332,7 @@ fn absent_items(rt: HostRuntime) {
 
 const FETCHED: There = Some(("x", true));
 
-static FOUND: [Row; 5] = [
+static FOUND: [Row; 7] = [
     (
         X,
         Get,
@@ -280,6 +360,20 @@ static FOUND: [Row; 5] = [
         Nothing,
         NOTHING,
         "Touched; Item { flags: 5, value: Value { bytes: [120] }, expiry: At(1010), cas: 6, link: Link { class: ClassNo(1), number: 1 }, marks: Marks { fetched: true, active: true } }",
+    ),
+    (
+        X,
+        Gat(10),
+        Nothing,
+        NOTHING,
+        "Value { flags: 5, value: Value { bytes: [120] }, cas: 6 }; Item { flags: 5, value: Value { bytes: [120] }, expiry: At(1010), cas: 6, link: Link { class: ClassNo(1), number: 1 }, marks: Marks { fetched: true, active: false } }",
+    ),
+    (
+        FETCHED,
+        Gat(10),
+        Nothing,
+        NOTHING,
+        "Value { flags: 5, value: Value { bytes: [120] }, cas: 6 }; Item { flags: 5, value: Value { bytes: [120] }, expiry: At(1010), cas: 6, link: Link { class: ClassNo(1), number: 1 }, marks: Marks { fetched: true, active: true } }",
     ),
     (X, Delete, HELD, ITEM, "Deleted; none"),
 ];

@@ -1,6 +1,6 @@
 //! Commands that are drawn one after another: a command is given what its tries want, and no more, until it is made, and
 //! each try is held against the plain program of the table.
-use super::Asked::{Decr, Delete, Get, Huge, Incr, Store, StoreUntil, Touch};
+use super::Asked::{Decr, Delete, Gat, Get, Huge, Incr, Store, StoreUntil, Touch};
 use super::calls::expire;
 use super::trying::{Held, Lent, held_of, opened, text_of_try};
 use super::{Asked, WHO};
@@ -11,7 +11,7 @@ use std::alloc::Global;
 use std::process::Abort;
 use std::random::RandomSource;
 
-static ASKS: [Asked; 20] = [
+static ASKS: [Asked; 24] = [
     Get,
     Get,
     Touch(2),
@@ -32,6 +32,10 @@ static ASKS: [Asked; 20] = [
     Store(Verb::Set, "123456"),
     Huge(Verb::Set),
     Huge(Verb::Add),
+    Gat(3),
+    Store(Verb::Append, "1"),
+    Store(Verb::Append, ""),
+    StoreUntil(Verb::Prepend, "12", 2),
 ];
 
 // What is held where a room was wanted, too.
@@ -98,7 +102,7 @@ fn makes<R: Abort>(
 
 // A command that is drawn.
 fn drawn(dice: &mut Dice) -> (Asked, Lent) {
-    let asked = ASKS[dice.below(20) as usize];
+    let asked = ASKS[dice.below(24) as usize];
     let lent = match dice.below(4) {
         0 => Lent::Refusal,
         _ => Lent::Link,

@@ -1,5 +1,5 @@
 //! Each kind of event, read back from a history.
-use super::Asked::{Decr, Delete, Get, Huge, Incr, StoreUntil, Touch};
+use super::Asked::{Decr, Delete, Gat, Get, Huge, Incr, StoreUntil, Touch};
 use super::plain::{reply_text, text};
 use super::rows::Ask::{Cool, Event, Events, Expire, FullTurn, Take, Turn};
 use super::rows::{Row, play};
@@ -153,4 +153,39 @@ static TURNS: [Row; 33] = [
 #[test]
 fn each_event_is_read_as_it_was_noted(rt: HostRuntime) {
     play(&rt, rt.alloc(), TURNS.as_slice());
+}
+
+// An event has the data of an append or prepend alone.
+static JOINS: [Row; 11] = [
+    (Turn(1, Gat(5)), "Miss"),
+    (Turn(2, StoreUntil(Verb::Set, "5", 100)), "Stored"),
+    (Turn(3, StoreUntil(Verb::Append, "6", 9)), "Stored"),
+    (
+        Turn(4, Gat(-1)),
+        "Value { flags: 7, value: Value { bytes: [53, 54] }, cas: 6 }",
+    ),
+    (Expire(5, 1005), "expired"),
+    (FullTurn(6, StoreUntil(Verb::Prepend, "7", 0)), "NotStored"),
+    (Events, "6"),
+    (
+        Event(0),
+        "caller 9, turn 1, moment 1001: Gat(Key { bytes: [98] }, 5); Miss; Keep",
+    ),
+    (
+        Event(2),
+        "caller 9, turn 3, moment 1003: Store { verb: Append, key: Key { bytes: [98] }, flags: 7, exptime: 9, value: Value { bytes: [54] } }; Stored; At(Link { class: ClassNo(2), number: 2 })",
+    ),
+    (
+        Event(3),
+        "caller 9, turn 4, moment 1004: Gat(Key { bytes: [98] }, -1); Value { flags: 7, value: Value { bytes: [53, 54] }, cas: 6 }; Keep",
+    ),
+    (
+        Event(5),
+        "caller 9, turn 6, moment 1006: Store { verb: Prepend, key: Key { bytes: [98] }, flags: 7, exptime: 0, value: Value { bytes: [55] } }; NotStored; Keep",
+    ),
+];
+
+#[test]
+fn a_gat_and_what_is_joined_are_noted(rt: HostRuntime) {
+    play(&rt, rt.alloc(), JOINS.as_slice());
 }

@@ -26,8 +26,8 @@ fn declined(verb: Verb, found: Option<&Item>) -> Option<Reply> {
         (Verb::Set, _) => None,
         (Verb::Add, None) => None,
         (Verb::Add, Some(_)) => Some(Reply::NotStored),
-        (Verb::Replace, None) => Some(Reply::NotStored),
-        (Verb::Replace, Some(_)) => None,
+        (Verb::Replace | Verb::Append | Verb::Prepend, None) => Some(Reply::NotStored),
+        (Verb::Replace | Verb::Append | Verb::Prepend, Some(_)) => None,
         (Verb::Cas(_), None) => Some(Reply::NotFound),
         (Verb::Cas(unique), Some(item)) => {
             if item.cas == unique {
@@ -39,9 +39,21 @@ fn declined(verb: Verb, found: Option<&Item>) -> Option<Reply> {
     }
 }
 
-// What a storage command needs.
+// How many bytes an append or prepend joins to its data.
+fn joined_len(verb: Verb, found: Option<&Item>) -> u64 {
+    match (verb, found) {
+        (Verb::Append | Verb::Prepend, Some(item)) => item.value.bytes().len() as u64,
+        _ => 0,
+    }
+}
+
+// What a storage command needs. An append or prepend without an item stores nothing, whatever its size.
 fn store_need(verb: Verb, found: Option<&Item>, key: &Key, value: &Value) -> Need {
-    let cost = cost(key.bytes().len() as u64, value.bytes().len() as u64);
+    if let (Verb::Append | Verb::Prepend, None) = (verb, found) {
+        return Need::Nothing;
+    }
+    let alone = cost(key.bytes().len() as u64, value.bytes().len() as u64);
+    let cost = alone.saturating_add(joined_len(verb, found));
     let Some(class) = site().class_of(cost) else {
         return Need::TooLarge;
     };
@@ -56,6 +68,7 @@ fn store_need(verb: Verb, found: Option<&Item>, key: &Key, value: &Value) -> Nee
 pub(super) fn need(found: Option<&Item>, command: &Command) -> Need {
     match command {
         Command::Get(_) => Need::Nothing,
+        Command::Gat(_, _) => Need::Nothing,
         Command::Store {
             verb,
             key,
@@ -87,6 +100,16 @@ fn get_answer<R: Abort>(rt: &R, found: Option<&Item>) -> Answer {
         },
         change: Change::Hit(item.marks.hit()),
     }
+}
+
+// An item is shown as by a get, and dies at another moment.
+fn gat_answer<R: Abort>(rt: &R, expiry: Expiry, found: Option<&Item>) -> Answer {
+    let Answer { reply, change } = get_answer(rt, found);
+    let change = match change {
+        Change::Hit(marks) => Change::Touched(expiry, marks),
+        other => other,
+    };
+    Answer { reply, change }
 }
 
 // An item is hit, and dies at another moment.
@@ -122,24 +145,63 @@ fn refused(verb: Verb, reply: Reply) -> Answer {
     let change = match verb {
         Verb::Set => Change::Goes,
         Verb::Add | Verb::Replace | Verb::Cas(_) => Change::Stays,
+        Verb::Append | Verb::Prepend => Change::Stays,
     };
     Answer { reply, change }
 }
 
+// What a storage command writes.
+#[derive(Drop)]
+struct Written {
+    flags: u32,
+    value: Value,
+    expiry: Expiry,
+}
+
+// An item's flags and expiry, and the bytes of two values, of which one is its own.
+fn joined<R: Abort>(rt: &R, alloc: Global, item: &Item, front: &Value, back: &Value) -> Written {
+    let mut bytes = Vec::from_slice(alloc, front.bytes()).expect(rt, "bytes");
+    bytes.extend_from_slice(back.bytes()).expect(rt, "bytes");
+    Written {
+        flags: item.flags,
+        value: Value::of(alloc, bytes).expect(rt, "a value"),
+        expiry: item.expiry,
+    }
+}
+
+// What a storage command of this content writes over the item that is there: an append puts its data behind the old value, and a
+// prepend before it.
+fn write_over<R: Abort>(
+    rt: &R,
+    alloc: Global,
+    verb: Verb,
+    content: &Content<'_>,
+    found: Option<&Item>,
+) -> Written {
+    match (verb, found) {
+        (Verb::Append, Some(item)) => joined(rt, alloc, item, &item.value, content.value),
+        (Verb::Prepend, Some(item)) => joined(rt, alloc, item, content.value, &item.value),
+        _ => Written {
+            flags: content.flags,
+            value: content.value.copy().expect(rt, "a value"),
+            expiry: content.expiry,
+        },
+    }
+}
+
 // A new version is stored in a chunk, where there is one.
-fn stored<R: Abort>(rt: &R, versions: u64, verb: Verb, content: &Content<'_>, room: Room) -> Answer
+fn stored(versions: u64, verb: Verb, written: Written, room: Room) -> Answer
     requires few { versions ≤ 16 }
 {
     let Room::At(link) = room else {
         return refused(verb, Reply::NoRoom);
     };
-    let value = content.value.copy().expect(rt, "a value");
     Answer {
         reply: Reply::Stored,
         change: Change::Renewed(Item {
-            flags: content.flags,
-            value,
-            expiry: content.expiry,
+            flags: written.flags,
+            value: written.value,
+            expiry: written.expiry,
             cas: site().cas_of(versions),
             link,
             marks: Marks {
@@ -165,6 +227,7 @@ pub(super) fn answer<R: Abort>(
 {
     match command {
         Command::Get(_) => get_answer(rt, found),
+        Command::Gat(_, exptime) => gat_answer(rt, expiry_of(*exptime, moment), found),
         Command::Store {
             verb,
             flags,
@@ -179,7 +242,10 @@ pub(super) fn answer<R: Abort>(
             };
             match (need(found, command), declined(*verb, found)) {
                 (Need::TooLarge, _) => refused(*verb, Reply::TooLarge),
-                (_, None) => stored(rt, versions, *verb, &content, room),
+                (_, None) => {
+                    let written = write_over(rt, alloc, *verb, &content, found);
+                    stored(versions, *verb, written, room)
+                }
                 (_, Some(reply)) => Answer {
                     reply,
                     change: Change::Stays,

@@ -29,6 +29,36 @@ fn storage_commands_follow_the_table(rt: HostRuntime) {
     play(&rt, rt.alloc(), STORAGE.as_slice());
 }
 
+static JOINS: [Row; 16] = [
+    (Answer(Store(Verb::Append, "1")), "NotStored"),
+    (Answer(Store(Verb::Prepend, "1")), "NotStored"),
+    (Answer(Store(Verb::Set, "3")), "Stored"),
+    (Answer(Store(Verb::Append, "45")), "Stored"),
+    (Answer(Store(Verb::Prepend, "12")), "Stored"),
+    (Answer(Store(Verb::Append, "6")), "TooLarge"),
+    (Answer(Store(Verb::Cas(6), "9")), "Exists"),
+    (
+        Answer(Get),
+        "Value { flags: 7, value: Value { bytes: [49, 50, 51, 52, 53] }, cas: 10 }",
+    ),
+    (Answer(Store(Verb::Cas(10), "9")), "Stored"),
+    (Full(Store(Verb::Prepend, "1")), "NoRoom"),
+    (Answer(Huge(Verb::Append)), "TooLarge"),
+    (Answer(Store(Verb::Append, "")), "Stored"),
+    (Answer(Store(Verb::Prepend, "1")), "Stored"),
+    (Answer(Incr(1)), "Number(20)"),
+    (
+        Answer(Get),
+        "Value { flags: 7, value: Value { bytes: [50, 48] }, cas: 26 }",
+    ),
+    (Events, "15"),
+];
+
+#[test]
+fn values_are_joined_into_new_versions(rt: HostRuntime) {
+    play(&rt, rt.alloc(), JOINS.as_slice());
+}
+
 static NUMBERS: [Row; 14] = [
     (Answer(Incr(1)), "NotFound"),
     (Answer(Decr(1)), "NotFound"),

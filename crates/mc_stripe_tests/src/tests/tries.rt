@@ -1,7 +1,7 @@
 //! Tries of commands on an absent, a live and a dead item: each reply, what is wanted, and what becomes of chunks was worked
 //! out by hand from the table of commands. An item of the key `b` costs 65 bytes and those of its value; class 1 has 66 bytes,
 //! class 2 has 70.
-use super::Asked::{Decr, Delete, Get, Huge, Incr, Store, StoreUntil, Touch};
+use super::Asked::{Decr, Delete, Gat, Get, Huge, Incr, Store, StoreUntil, Touch};
 use super::calls::expire;
 use super::trying::Held::{Both, Home, Nothing, Other};
 use super::trying::Lent::{Link as Chunk, Nothing as Keep, Refusal};
@@ -104,8 +104,9 @@ const NINE_UNTIL: Row = (
 
 const MISS: Row = (Get, Nothing, Made("Miss", Keep, Untouched));
 
-static ABSENT: [Row; 18] = [
+static ABSENT: [Row; 20] = [
     MISS,
+    (Gat(100), Nothing, Made("Miss", Keep, Untouched)),
     (Touch(100), Nothing, Made("NotFound", Keep, Untouched)),
     (Delete, Nothing, Made("NotFound", Keep, Untouched)),
     (Incr(1), Nothing, Made("NotFound", Keep, Untouched)),
@@ -119,6 +120,11 @@ static ABSENT: [Row; 18] = [
         Store(Verb::Cas(2), "9"),
         Home(1, Chunk, 0),
         Made("NotFound", Keep, Untouched),
+    ),
+    (
+        Store(Verb::Append, "123456"),
+        Home(1, Chunk, 0),
+        Made("NotStored", Keep, Untouched),
     ),
     (Huge(Verb::Set), Nothing, Made("TooLarge", Keep, Untouched)),
     (
@@ -197,7 +203,7 @@ fn the_hit_that_wakes_an_item_wants_no_class(rt: HostRuntime) {
 }
 
 // Nothing happens before the last row: the item of class 1 stays as it was.
-static OVER: [Row; 20] = [
+static OVER: [Row; 26] = [
     NINE,
     (Store(Verb::Set, "8"), Nothing, Wants(FIRST)),
     (Store(Verb::Set, "12"), Nothing, Wants(SECOND_OVER)),
@@ -237,6 +243,32 @@ static OVER: [Row; 20] = [
     (Incr(1), Nothing, Wants(SECOND_OVER)),
     (Incr(1), Both(2, Keep, 9, 1, 9), Wants(Room)),
     (Incr(1), Both(2, Chunk, 9, 1, 0), Wants(Place(ClassNo(1)))),
+    (Store(Verb::Append, ""), Nothing, Wants(FIRST)),
+    (
+        Store(Verb::Append, ""),
+        Home(1, Chunk, 1),
+        Wants(Place(ClassNo(1))),
+    ),
+    (
+        Store(Verb::Prepend, "1"),
+        Home(1, Chunk, 9),
+        Wants(SECOND_OVER),
+    ),
+    (
+        Store(Verb::Prepend, "1"),
+        Home(2, Chunk, 9),
+        Wants(SECOND_OVER),
+    ),
+    (
+        Store(Verb::Append, "1"),
+        Both(2, Keep, 9, 1, 9),
+        Wants(Room),
+    ),
+    (
+        Store(Verb::Append, "1"),
+        Both(2, Chunk, 9, 1, 0),
+        Wants(Place(ClassNo(1))),
+    ),
     (Delete, Home(1, Chunk, 9), Wants(ITEM)),
     (Delete, Other(1, 0), Wants(Place(ClassNo(1)))),
     (Huge(Verb::Set), Nothing, Wants(ITEM)),
@@ -259,7 +291,7 @@ fn what_is_wanted_over_an_item(rt: HostRuntime) {
 }
 
 // The least that each command on an item of class 1 needs, which the first event of a stripe of its own stores.
-static LEAST: [Row; 12] = [
+static LEAST: [Row; 17] = [
     (
         Store(Verb::Set, "8"),
         Home(1, Chunk, 2),
@@ -310,6 +342,31 @@ static LEAST: [Row; 12] = [
         Other(1, 1),
         Made("TooLarge", Keep, Goes(OLD)),
     ),
+    (
+        Store(Verb::Append, ""),
+        Home(1, Chunk, 2),
+        Made("Stored", Chunk, OVER_1),
+    ),
+    (
+        Store(Verb::Prepend, "1"),
+        Both(2, Chunk, 1, 1, 1),
+        Made("Stored", Chunk, OVER_2),
+    ),
+    (
+        Store(Verb::Append, "1"),
+        Both(2, Refusal, 0, 1, 0),
+        Made("NoRoom", Refusal, Untouched),
+    ),
+    (
+        Store(Verb::Append, "12345"),
+        Nothing,
+        Made("TooLarge", Keep, Untouched),
+    ),
+    (
+        Huge(Verb::Prepend),
+        Nothing,
+        Made("TooLarge", Keep, Untouched),
+    ),
     (Delete, Other(1, 1), Made("Deleted", Keep, Goes(OLD))),
     (Touch(100), Nothing, Made("Touched", Keep, Untouched)),
 ];
@@ -328,8 +385,9 @@ fn the_least_that_a_command_needs_suffices(rt: HostRuntime) {
     }
 }
 
-static ALL: [Asked; 12] = [
+static ALL: [Asked; 16] = [
     Get,
+    Gat(100),
     Touch(100),
     Delete,
     Incr(1),
@@ -338,9 +396,12 @@ static ALL: [Asked; 12] = [
     Store(Verb::Add, "8"),
     Store(Verb::Replace, "8"),
     Store(Verb::Cas(2), "8"),
+    Store(Verb::Append, "8"),
+    Store(Verb::Prepend, "123456"),
     Store(Verb::Set, "123456"),
     Huge(Verb::Set),
     Huge(Verb::Add),
+    Huge(Verb::Append),
 ];
 
 // Ends the test where a command that is given all it may need tells something else at this moment.
@@ -386,6 +447,21 @@ fn a_grown_number_dies_with_the_old_one(rt: HostRuntime) {
     check_tries(&rt, rt.alloc(), &mut stripe, 1000, GROWS.as_slice());
 }
 
+static JOINS: [Row; 2] = [
+    NINE_UNTIL,
+    (
+        StoreUntil(Verb::Append, "1", 5),
+        Both(2, Chunk, 1, 1, 1),
+        Made("Stored", Chunk, GROWN),
+    ),
+];
+
+#[test]
+fn a_joined_value_dies_with_the_old_one(rt: HostRuntime) {
+    let mut stripe = opened(&rt, rt.alloc());
+    check_tries(&rt, rt.alloc(), &mut stripe, 1000, JOINS.as_slice());
+}
+
 const NINE_FIRST: &str = "Value { flags: 7, value: Value { bytes: [57] }, cas: 2 }";
 
 static HIT: [Row; 2] = [
@@ -411,6 +487,24 @@ fn the_second_hit_of_a_live_item_wakes_it(rt: HostRuntime) {
     check_tries(&rt, rt.alloc(), &mut stripe, 1000, HIT.as_slice());
     check_tries(&rt, rt.alloc(), &mut stripe, 1100, HIT_TOO_LATE.as_slice());
     check_tries(&rt, rt.alloc(), &mut stripe, 1099, HIT_IN_TIME.as_slice());
+}
+
+// What is held is of no matter to a gat.
+static GATS: [Row; 4] = [
+    NINE,
+    (Gat(100), Nothing, Made(NINE_FIRST, Keep, Untouched)),
+    (Gat(0), Other(1, 0), Made(NINE_FIRST, Keep, Woken(OLD))),
+    (
+        Gat(100),
+        Home(1, Chunk, 0),
+        Made(NINE_FIRST, Keep, Untouched),
+    ),
+];
+
+#[test]
+fn the_second_gat_wakes_an_item(rt: HostRuntime) {
+    let mut stripe = opened(&rt, rt.alloc());
+    check_tries(&rt, rt.alloc(), &mut stripe, 1000, GATS.as_slice());
 }
 
 static MISSES: [Row; 16] = [MISS; 16];

@@ -1,6 +1,6 @@
 //! Which commands are made that are given nothing, and which are given back since they touch a chunk, or may. A hit is made, and
 //! leaves its mark.
-use super::Asked::{Decr, Delete, Get, Incr, Store, Touch};
+use super::Asked::{Decr, Delete, Gat, Get, Incr, Store, Touch};
 use super::rows::Ask::{Answer, Events, Item, Misses, Unheld};
 use super::rows::{Row, play};
 use mc_item::Verb;
@@ -79,6 +79,31 @@ static WOKEN: [Row; 9] = [
 #[test]
 fn a_hit_makes_a_live_item_active_without_a_class(rt: HostRuntime) {
     play(&rt, rt.alloc(), WOKEN.as_slice());
+}
+
+const JOINED_UNTIL: &str =
+    "Item { flags: 7, value: Value { bytes: [57] }, expiry: At(1005), cas: 2, link: Link { class: ClassNo(1), number: 2 }, marks: Marks { fetched: true, active: true } }";
+
+// Nothing is joined to an absent item, and an item of six bytes is too large.
+static JOINS: [Row; 10] = [
+    (Unheld(Store(Verb::Append, "9"), 1000), "NotStored"),
+    (Unheld(Gat(5), 1000), "Miss"),
+    (Answer(Store(Verb::Set, "9")), "Stored"),
+    (
+        Unheld(Store(Verb::Append, ""), 1000),
+        "given back after Stored",
+    ),
+    (Unheld(Store(Verb::Prepend, "12345"), 1000), "TooLarge"),
+    (Unheld(Gat(0), 1000), NINE),
+    (Unheld(Gat(5), 1000), NINE),
+    (Unheld(Gat(0), 1005), AFTER_NINE),
+    (Events, "6"),
+    (Item, JOINED_UNTIL),
+];
+
+#[test]
+fn what_joins_nothing_and_a_gat_are_made_without_a_class(rt: HostRuntime) {
+    play(&rt, rt.alloc(), JOINS.as_slice());
 }
 
 static FULL: [Row; 2] = [(Misses(16), "16"), (Unheld(Get, 1000), "HistoryFull")];

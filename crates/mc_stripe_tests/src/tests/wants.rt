@@ -1,6 +1,6 @@
 //! What a command wants and does to chunks, row by row of the table of commands: each row was worked out by hand.
 //! An item of the key `b` costs 65 bytes and those of its value; class 1 has 66 bytes, class 2 has 70.
-use super::Asked::{Decr, Delete, Get, Huge, Incr, Store, Touch};
+use super::Asked::{Decr, Delete, Gat, Get, Huge, Incr, Store, Touch};
 use super::calls::expire;
 use super::plain::need_of;
 use super::rows::Ask::{Answer, Events};
@@ -23,15 +23,18 @@ const FIRST: Need = Fresh(ClassNo(1));
 
 const SECOND: Need = Fresh(ClassNo(2));
 
-static ABSENT: [Row; 12] = [
+static ABSENT: [Row; 15] = [
     (Get, Nothing, Untouched, Untouched),
+    (Gat(100), Nothing, Untouched, Untouched),
     (Store(Verb::Set, "1"), FIRST, NEW_1, Untouched),
     (Store(Verb::Add, "12"), SECOND, NEW_2, Untouched),
     (Store(Verb::Replace, "1"), Nothing, Untouched, Untouched),
     (Store(Verb::Cas(2), "1"), Nothing, Untouched, Untouched),
+    (Store(Verb::Append, "123456"), Nothing, Untouched, Untouched),
     (Store(Verb::Set, "123456"), TooLarge, Untouched, Untouched),
     (Huge(Verb::Set), TooLarge, Untouched, Untouched),
     (Huge(Verb::Add), TooLarge, Untouched, Untouched),
+    (Huge(Verb::Prepend), TooLarge, Untouched, Untouched),
     (Incr(1), Nothing, Untouched, Untouched),
     (Decr(1), Nothing, Untouched, Untouched),
     (Touch(100), Nothing, Untouched, Untouched),
@@ -39,8 +42,9 @@ static ABSENT: [Row; 12] = [
 ];
 
 // The item's value is `9`, its cas number 2, and it was never hit.
-static THERE: [Row; 17] = [
+static THERE: [Row; 22] = [
     (Get, Nothing, Untouched, Untouched),
+    (Gat(100), Nothing, Untouched, Untouched),
     (Store(Verb::Set, "12"), SECOND, OVER_2, Goes(OLD)),
     (Store(Verb::Add, "1"), Nothing, Untouched, Untouched),
     (Store(Verb::Replace, "1"), FIRST, OVER_1, Untouched),
@@ -51,6 +55,15 @@ static THERE: [Row; 17] = [
     (Huge(Verb::Set), TooLarge, Goes(OLD), Goes(OLD)),
     (Huge(Verb::Replace), TooLarge, Untouched, Untouched),
     (Huge(Verb::Cas(2)), TooLarge, Untouched, Untouched),
+    (Store(Verb::Append, "1"), SECOND, OVER_2, Untouched),
+    (Store(Verb::Prepend, ""), FIRST, OVER_1, Untouched),
+    (
+        Store(Verb::Prepend, "12345"),
+        TooLarge,
+        Untouched,
+        Untouched,
+    ),
+    (Huge(Verb::Append), TooLarge, Untouched, Untouched),
     (Incr(1), SECOND, OVER_2, Untouched),
     (Incr(1000000), TooLarge, Untouched, Untouched),
     (Decr(1), Same, Untouched, Untouched),
@@ -60,15 +73,18 @@ static THERE: [Row; 17] = [
 ];
 
 // The item was hit by a touch, and dies at the moment 1100.
-static TOUCHED: [Row; 3] = [
+static TOUCHED: [Row; 5] = [
     (Get, Nothing, Woken(OLD), Woken(OLD)),
+    (Gat(200), Nothing, Woken(OLD), Woken(OLD)),
     (Touch(200), Nothing, Woken(OLD), Woken(OLD)),
     (Incr(1), SECOND, GROWN, Untouched),
+    (Store(Verb::Append, "1"), SECOND, GROWN, Untouched),
 ];
 
 // The item was hit twice.
-static ACTIVE: [Row; 2] = [
+static ACTIVE: [Row; 3] = [
     (Get, Nothing, Untouched, Untouched),
+    (Gat(100), Nothing, Untouched, Untouched),
     (Touch(100), Nothing, Untouched, Untouched),
 ];
 
@@ -79,11 +95,13 @@ static TEXT: [Row; 2] = [
 ];
 
 // The item is dead, so that the key has none once that is forgotten.
-static DEAD: [Row; 5] = [
+static DEAD: [Row; 7] = [
     (Get, Nothing, Untouched, Untouched),
+    (Gat(100), Nothing, Untouched, Untouched),
     (Store(Verb::Set, "1"), FIRST, NEW_1, Untouched),
     (Store(Verb::Add, "1"), FIRST, NEW_1, Untouched),
     (Store(Verb::Replace, "1"), Nothing, Untouched, Untouched),
+    (Store(Verb::Append, "1"), Nothing, Untouched, Untouched),
     (Delete, Nothing, Untouched, Untouched),
 ];
 

@@ -125,6 +125,14 @@ impl Calls for Misses {
         self.made += 1;
         Ok(Histogram::new())
     }
+
+    fn limit(&mut self, _rt: &impl Wait, _class: ClassNo, _chunks: u64) -> Result<(), Fault> {
+        if self.made >= MOST {
+            return Err(Fault::HistoryFull);
+        }
+        self.made += 1;
+        Ok(())
+    }
 }
 
 // How a script ended, how many bytes were taken at each read, and which are still to come.

@@ -6,11 +6,14 @@ use std::process::Abort;
 
 // Lines of all commands. A capital letter or a bar stands for a word that is drawn (WORDS), `L` for a length and `B` for a
 // block, mostly of this length; the rest stands for itself.
-static LINES: [&str; 25] = [
+static LINES: [&str; 28] = [
     "GSK|",
     "GSKSK|",
     "GSKSKSKS|",
     "G|",
+    "ASESK|",
+    "ASESKSKSK|",
+    "ASE|",
     "VSKSFSESLR|B|",
     "VSKSFSESLR|B|",
     "setSKSFSESLR|B|",
@@ -35,12 +38,13 @@ static LINES: [&str; 25] = [
 ];
 
 // The words that a letter stands for.
-static WORDS: [(u8, &[&str]); 14] = [
+static WORDS: [(u8, &[&str]); 15] = [
     (b'|', &["\r\n", "\r\n", "\r\n", "\r\n", "\r\n", "\n"]),
     (b'S', &[" ", " ", " ", " ", "  "]),
     (b'R', &["", "", "", " noreply", " noreplyx"]),
     (b'G', &["get", "gets"]),
-    (b'V', &["set", "add", "replace"]),
+    (b'A', &["gat", "gats"]),
+    (b'V', &["set", "add", "replace", "append", "prepend"]),
     (b'N', &["incr", "decr"]),
     (
         b'K',

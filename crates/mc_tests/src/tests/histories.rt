@@ -19,7 +19,7 @@ struct Left {
     class: &'static [&'static str],
 }
 
-static LEFT: [Left; 2] = [
+static LEFT: [Left; 3] = [
     // The item of `a` costs 64 and 2 bytes, that of `bb` 64 and 4: both are of class 1, whose items have at most 96. Each call
     // has the next turn, and each new item the next link of its class. `a` dies ten seconds behind moment 1000.
     Left {
@@ -60,6 +60,25 @@ static LEFT: [Left; 2] = [
             "turn 2: 1 to Cold, Over(4)",
         ],
     },
+    // An append's event has its own data, and a gat makes a call for each of its keys. The joined item dies at 1020.
+    Left {
+        words: &["mcseg"],
+        script: "set a 7 10 1|x|append a 1 0 1|y|gats 20 a b|%at 1020|gat 0 a|",
+        stripe: &[
+            "caller 0, turn 0, moment 1000: Store { verb: Set, key: Key { bytes: [97] }, flags: 7, exptime: 10, value: Value { bytes: [120] } }; Stored; At(Link { class: ClassNo(1), number: 0 })",
+            "caller 0, turn 1, moment 1000: Store { verb: Append, key: Key { bytes: [97] }, flags: 1, exptime: 0, value: Value { bytes: [121] } }; Stored; At(Link { class: ClassNo(1), number: 1 })",
+            "caller 0, turn 2, moment 1000: Gat(Key { bytes: [97] }, 20); Value { flags: 7, value: Value { bytes: [120, 121] }, cas: 2 }; Keep",
+            "caller 0, turn 3, moment 1000: Gat(Key { bytes: [98] }, 20); Miss; Keep",
+            "caller 0, turn 4: Key { bytes: [97] } lost, Expired(1020)",
+            "caller 0, turn 4, moment 1020: Gat(Key { bytes: [97] }, 0); Miss; Keep",
+        ],
+        class: &[
+            "turn 0: 0 linked in Hot",
+            "turn 1: 1 linked in Hot",
+            "turn 1: 0 unlinked",
+            "turn 4: 1 reclaimed",
+        ],
+    },
 ];
 
 // An event of a stripe in short.
@@ -98,6 +117,7 @@ fn class_text(alloc: Global, event: &ClassEvent) -> Result<String, AllocError> {
             format!(in alloc; "turn {}: {} reclaimed", e.who.turn, e.number)
         }
         ClassEvent::Refused(e) => format!(in alloc; "turn {}: refused", e.who.turn),
+        ClassEvent::Limited(e) => format!(in alloc; "turn {}: limited to {}", e.who.turn, e.chunks),
     }
 }
 

@@ -47,13 +47,15 @@ fn several_stripes_hold(rt: HostRuntime) {
 const SCRIPT: &str =
     "set a 1 0 1|1|set b 2 0 2|22|set c 3 0 3|333|add a 0 0 1|x|add d 0 0 1|9|replace b 5 0 1|7|replace e 0 0 1|x|\
 cas f 0 0 1 1|x|incr a 5|incr d 1|decr b 3|decr zz 1|get a b c d e|touch c 10|touch e 0|%at 1010|get c|delete a|delete a|\
-get a b c d|set k 0 0 2 noreply|hi|get k b|%juggle 43|set a 0 100 1|z|get a a|%at 1110|get a k|bogus|incr k 1|";
+get a b c d|set k 0 0 2 noreply|hi|get k b|%juggle 43|set a 0 100 1|z|get a a|%at 1110|get a k|bogus|incr k 1|\
+append k 9 1 1|!|prepend k 9 1 1 noreply|>|append zz 0 0 1|x|gat 100 k zz|%at 1210|gat 0 k|";
 
 const REPLIES: &str =
     "STORED|STORED|STORED|NOT_STORED|STORED|STORED|NOT_STORED|NOT_FOUND|6|10|4|NOT_FOUND|\
 VALUE a 1 1|6|VALUE b 5 1|4|VALUE c 3 3|333|VALUE d 0 2|10|END|TOUCHED|NOT_FOUND|END|DELETED|NOT_FOUND|\
 VALUE b 5 1|4|VALUE d 0 2|10|END|VALUE k 0 2|hi|VALUE b 5 1|4|END|JUGGLED 0 0|STORED|VALUE a 0 1|z|VALUE a 0 1|z|END|\
-VALUE k 0 2|hi|END|ERROR|CLIENT_ERROR cannot increment or decrement non-numeric value|";
+VALUE k 0 2|hi|END|ERROR|CLIENT_ERROR cannot increment or decrement non-numeric value|\
+STORED|NOT_STORED|VALUE k 0 4|>hi!|END|END|";
 
 static STRIPES: [Example; 4] = [
     Example {

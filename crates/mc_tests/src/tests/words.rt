@@ -198,9 +198,10 @@ fn words_that_are_no_options_are_refused(rt: HostRuntime) {
 }
 
 // What a person has to find in the help: each line on standard error, each number, each limit.
-static HELP: [&str; 34] = [
+static HELP: [&str; 35] = [
     "%juggle <class>",
     "%crawl <class>",
+    "%chunks <class> <n>",
     "%next",
     "--stripes",
     "[default: 1]",

@@ -11,6 +11,6 @@ pub evict-requires-clause-lawful : goal.evict-requires-clause-lawful
 evict-requires-clause-lawful c =
     let v = c.args.class.now in
     let may = taken_may v (cache_now c.args.stripe.now) (question_of c.args.ask.now) c.requires.asked.judge c.requires.done in
-    let P : ClassView → List ℕ → Type 0 = λ x passed. IsIn Cold c.args.ask.now.number (lists_of x.history) × IsFull x.chunks (lists_of x.history) × IsNearTail c.args.ask.now.number (lists_of x.history).cold passed in
+    let P : ClassView → List ℕ → Type 0 = λ x passed. IsIn Cold c.args.ask.now.number (lists_of x.history) × IsFull x.chunks x.history × IsNearTail c.args.ask.now.number (lists_of x.history).cold passed in
     subst (λ (passed : List ℕ). P c.prepare.new.class passed) (sym c.passed_of.ensures)
     (subst (λ (x : ClassView). P x (passed_of c.args.ask.now.judge.now)) (sym c.prepare.ensures.class) may)

@@ -1,9 +1,9 @@
 use Rattle.std.proofs.Common.{ap, refl, sym, subst}
 use Rattle.mc_board.specs.{Histories.Grows, Histories.list_at, Views.OwnerView}
 use Rattle.mc_board.proofs.PrefixLemmas.{prefix_self}
-use Rattle.mc_segment.specs.ClassState.{ClassView}
+use Rattle.mc_segment.specs.{ClassCalls.refused_event, ClassState.ClassView}
 use Rattle.mc_store.specs.{Locked.HasBegunSearch, Locked.IsLockedClass, Serving.class_side, Sides.ClassSide, Sides.StripeSide}
-use Rattle.mc_store.proofs.{CallerLemmas.search_sees, OwnEventLemmas.gains_refused, OwnEventLemmas.locked_told, LentClassLemmas.class_behind, NotedRefusalLemmas.refusal_grows}
+use Rattle.mc_store.proofs.{CallerLemmas.search_sees, OwnEventLemmas.gains_refused, OwnEventLemmas.locked_told, LentClassLemmas.class_behind, NotedRefusalLemmas.noted_grows}
 use Rattle.mc_store.proofs.{NotedRefusalLemmas.refused_after}
 use Rattle.mc_store.proofs.pairing.refuse.Goals as goal
 
@@ -11,7 +11,7 @@ pub catch_up_class-requires-clause-behind : goal.catch_up_class-requires-clause-
 catch_up_class-requires-clause-behind g c =
     let raw = c.lent-inside.inside.0.0 in
     class_behind raw.owner.history raw.state c.refuse-place.new.self c.lent-inside.invariant.0
-    (refusal_grows raw.state c.refuse-place.new.self c.args.who c.refuse-place.result c.refuse-place.ensures.ok c.refuse-place.ensures.err)
+    (noted_grows raw.state c.refuse-place.new.self (refused_event c.args.who) c.refuse-place.result c.refuse-place.ensures.ok c.refuse-place.ensures.err)
 
 pub invariant_of-lent : goal.invariant_of-lent
 invariant_of-lent g c =
@@ -31,5 +31,5 @@ invariant_of-lent g c =
     (subst (λ (x : StripeSide). HasBegunSearch config x.sight c.args.who moment) (sym c.own.view_is) c.requires.begun.1) in
     locked_told table config old mid mid c.learn.new.self c.args.who moment kept (record { command = begun.command; begun = begun.begun })
     (gains_refused begun.command begun.needs raw.state c.refuse-place.new.self c.args.who moment c.refuse-place.result c.refuse-place.ensures.ok c.refuse-place.ensures.err)
-    (ap (λ (v : ClassView). v.number) (refusal_grows raw.state c.refuse-place.new.self c.args.who c.refuse-place.result c.refuse-place.ensures.ok
+    (ap (λ (v : ClassView). v.number) (noted_grows raw.state c.refuse-place.new.self (refused_event c.args.who) c.refuse-place.result c.refuse-place.ensures.ok
     c.refuse-place.ensures.err).same) refl refl none held c.learn.ensures.class c.learn.ensures.grows

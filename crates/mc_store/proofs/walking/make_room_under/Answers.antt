@@ -82,8 +82,11 @@ invariant_of-class g c =
     subst (IsLockedClass table config) (sym last)
     (locked_commanded table config old mid c.args.who c.args.moment (subst (IsLockedClass table config) (sym c.side.view_is) c.class.invariant)
     made.ensures.served.kept (ap (λ (v : ClassView). v.number) made.ensures.class.same)
-    (record { command = searched.command; begun = searched.begun }) made.ensures.searched.walked.sees
-    (made.ensures.searched.walked.gains, suited_search searched.command searched.needs made.ensures.searched.walked.gains.events made.ensures.searched.none))
+    (record { command = searched.command; begun = searched.begun }) made.ensures.searched.walked.sees (
+      made.ensures.searched.walked.gains,
+      suited_search c.args.who c.args.moment searched.command searched.needs made.ensures.searched.walked.gains.events made.ensures.searched.walked.gains.each
+          made.ensures.searched.none,
+    ))
 
 pub returns-clause-begun : goal.returns-clause-begun
 returns-clause-begun g c =

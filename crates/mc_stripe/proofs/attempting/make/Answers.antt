@@ -1,24 +1,41 @@
-use Rattle.std.proofs.Common.{rules, ◌≡◌, ◌∙◌, ap, subst, true}
-use Rattle.std.specs.Prelude.{IfErr, IfOk, Option, Some, nat_eq}
+use Rattle.std.proofs.Common.{rules, ◌≡◌, subst, true}
+use Rattle.std.specs.Prelude.{IfErr, IfOk, nat_eq}
 use Rattle.std.specs.{Cmp.Lexicographic.pointwise, HashMap.get}
-use Rattle.mc_item.specs.{Answer.store_row, Answer.touch_row, Answer.version_of, Item.expiry_of, Measure.class_of, Measure.cost_of}
-use Rattle.mc_item.specs.declared.{item.ClassNo.ClassNo, item.Expiry.Expiry}
+use Rattle.mc_item.specs.{Answer.gat_row, Answer.touch_row, Item.expiry_of}
+use Rattle.mc_item.specs.declared.item.Expiry.{Expiry}
+use Rattle.mc_stripe.specs.Joining.{content_of, content_row}
 use Rattle.mc_stripe.specs.Trying.{IsLeft, MakesRow}
 use Rattle.mc_stripe.proofs.attempting.make.Goals as goal
 
 pub returns-in-Get-clause-wants : goal.returns-in-Get-clause-wants
 returns-in-Get-clause-wants c = rw c.in-Get.is (c.get_item.ensures.wants c.args.given.now)
 
-pub returns-in-Some-clause-wants : goal.returns-in-Some-clause-wants
-returns-in-Some-clause-wants c =
+pub returns-in-Gat-clause-wants : goal.returns-in-Gat-clause-wants
+returns-in-Gat-clause-wants c =
+    let g = c.in-Gat in
+    let items = get (pointwise nat_eq) c.args.items.now in
+    let left = λ (e : Expiry). IfOk c.gat_item.result (λ t. IfErr t (IsLeft c.args.given.now items (get (pointwise nat_eq) c.gat_item.new.items) g.key c.args.moment (gat_row e (items g.key)))) in
+    let dies : c.expiry_at.result ≡ expiry_of g.exptime c.args.moment = c.expiry_at.ensures in
+    rw g.is (subst left dies (c.gat_item.ensures.wants c.args.given.now))
+
+pub returns-in-Store-clause-made : goal.returns-in-Store-clause-made
+returns-in-Store-clause-made c =
     let s = c.in-Store in
     let items = get (pointwise nat_eq) c.args.items.now in
-    let left = λ (o : Option ClassNo) (e : Expiry). IfOk c.put_item.result (λ t. IfErr t (IsLeft c.args.given.now items (get (pointwise nat_eq) c.put_item.new.items) s.key c.args.moment
-    (store_row o s.verb (items s.key) (version_of c.args.site.now c.args.versions s.flags s.value e)))) in
-    let cost_is : c.cost-cost.result ≡ cost_of s.key s.value = search rules in
-    let class_is = c.in-Some.ensures.value ∙ ap (class_of c.args.site.now.sizes) cost_is in
-    let dies : c.expiry_at.result ≡ expiry_of s.exptime c.args.moment = c.expiry_at.ensures in
-    rw s.is (subst (λ (o : Option ClassNo). left o (expiry_of s.exptime c.args.moment)) class_is (subst (left (Some c.in-Some.fresh)) dies c.put_item.ensures.wants))
+    let makes = λ (e : Expiry). IfOk c.store_item.result (λ t. IfOk t (MakesRow true c.args.given.now items (get (pointwise nat_eq) c.store_item.new.items) s.key
+    (content_row c.args.site.now c.args.versions s.key s.verb (content_of s.flags s.value e) (items s.key)) c.args.moment)) in
+    let dies : c.expiry_at-in-Store.result ≡ expiry_of s.exptime c.args.moment = c.expiry_at-in-Store.ensures in
+    let made = subst makes dies c.store_item.ensures.made in
+    rw s.is (search (rules, made))
+
+pub returns-in-Store-clause-wants : goal.returns-in-Store-clause-wants
+returns-in-Store-clause-wants c =
+    let s = c.in-Store in
+    let items = get (pointwise nat_eq) c.args.items.now in
+    let left = λ (e : Expiry). IfOk c.store_item.result (λ t. IfErr t (IsLeft c.args.given.now items (get (pointwise nat_eq) c.store_item.new.items) s.key c.args.moment
+    (content_row c.args.site.now c.args.versions s.key s.verb (content_of s.flags s.value e) (items s.key)))) in
+    let dies : c.expiry_at-in-Store.result ≡ expiry_of s.exptime c.args.moment = c.expiry_at-in-Store.ensures in
+    rw s.is (subst left dies c.store_item.ensures.wants)
 
 pub returns-in-Incr-clause-wants : goal.returns-in-Incr-clause-wants
 returns-in-Incr-clause-wants c = rw c.in-Incr.is c.count_item.ensures.wants

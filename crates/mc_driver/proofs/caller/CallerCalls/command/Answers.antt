@@ -27,7 +27,7 @@ returns-clause-full g c =
     let old = c.args.self.now.pass in
     let new = c.command.new.pass in
     let call = asked_for c.args.command c.args.moment in
-    full_calls g.N.Named.config old new call c.args.moment c.command.result c.requires.may refl
+    full_calls g.N.Named.config old new call c.command.result c.requires.may refl
     (cut_calls g.N.Named.config (stripe_of (key_of c.args.command) g.N.Named.config.stripes).0 old new (next_who old) c.args.command c.args.moment c.command.result c.command.ensures.cut)
     (λ is. ⊎_elim (λ short. inl (short_any g.N.Named.config number c.args.command new.sight (below_stripes (key_of c.args.command) g.N.Named.config.stripes c.requires.may.some) short))
     (λ most. inr most) (c.command.ensures.full is))

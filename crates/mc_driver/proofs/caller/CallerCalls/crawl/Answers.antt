@@ -22,4 +22,4 @@ returns-clause-may g c = may_again g.N.Named.config c.args.self.now.pass c.crawl
 
 pub returns-clause-full : goal.returns-clause-full
 returns-clause-full g c =
-    full_calls g.N.Named.config c.args.self.now.pass c.crawl.new.pass (crawling_of c.args.class c.args.moment) c.args.moment c.crawl.result c.requires.may refl c.crawl.ensures.cut c.crawl.ensures.full
+    full_calls g.N.Named.config c.args.self.now.pass c.crawl.new.pass (crawling_of c.args.class c.args.moment) c.crawl.result c.requires.may refl c.crawl.ensures.cut c.crawl.ensures.full

@@ -18,4 +18,4 @@ returns-clause-may g c = may_again g.N.Named.config c.args.self.now.pass c.juggl
 
 pub returns-clause-full : goal.returns-clause-full
 returns-clause-full g c =
-    full_calls g.N.Named.config c.args.self.now.pass c.juggle.new.pass (juggling_of c.args.class c.args.moment) c.args.moment c.juggle.result c.requires.may refl c.juggle.ensures.cut c.juggle.ensures.full
+    full_calls g.N.Named.config c.args.self.now.pass c.juggle.new.pass (juggling_of c.args.class c.args.moment) c.juggle.result c.requires.may refl c.juggle.ensures.cut c.juggle.ensures.full

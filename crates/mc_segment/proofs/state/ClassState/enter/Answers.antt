@@ -1,4 +1,4 @@
-use Rattle.std.proofs.Common.{◌+◌, ◌∙◌, ap, arith, rules}
+use Rattle.std.proofs.Common.{◌+◌, ◌∙◌, refl, ap, arith, rules}
 use Rattle.mc_item.specs.declared.class_event.ClassEvent.{ClassEvent}
 use Rattle.mc_item.specs.declared.class_event.ClassEvent.TheVariants as events
 use Rattle.mc_rule.specs.Lists.{Lists, linked, entry}
@@ -20,8 +20,8 @@ invariant_of-self-2 c =
     let same = c.reserve-2.ensures.same in
     let seen = seen_lists _ _ _ _ _ _ _ _ _ c.self.invariant c.self.view_is in
     let e : ClassEvent = events.Linked (record { who = a.who; number = n; key = a.key; cost = a.cost; seg = a.seg; moment = a.moment }) in
-    keeps _ _ _ _ _ _ _ _ _ c.self.invariant c.self.view_is c.push.new.self _ e (search rules)
+    keeps _ _ _ _ _ _ _ _ _ c.self.invariant c.self.view_is c.push.new.self _ _ e (search rules)
     (c.push.ensures.lists ∙ ap (λ (l : Lists). linked a.seg (entry n a.key a.cost a.moment) l) (same.0 ∙ seen))
-    (omega (arith, same, c.push.ensures.room)) place
+    (omega (arith, same, c.push.ensures.room)) refl place
     (λ q below. not_to_come n (n + 1) q (omega arith) (omega (arith, same, c.push.ensures.room, c.next-number.ensures, below)))
     (c.requires.free, seen_fresh _ _ _ _ _ _ _ _ _ c.self.invariant c.self.view_is n (omega (arith, same, c.next-number.ensures)))

@@ -1,4 +1,4 @@
-use Rattle.std.proofs.Common.{◌≤◌, ◌∙◌, ap, subst, rules, arith}
+use Rattle.std.proofs.Common.{◌≤◌, ◌∙◌, refl, ap, subst, rules, arith}
 use Rattle.mc_item.specs.declared.class_event.ClassEvent.TheVariants as events
 use Rattle.mc_rule.specs.Lists.{Lists, moved, segment_of, times_in}
 use Rattle.mc_segment.specs.ClassState.{HasPlaces}
@@ -17,8 +17,8 @@ invariant_of-self-2 c =
     let e = c.args.shifted in
     let now = c.move_to in
     let place : HasPlaces c.args.self.now 1 = search rules in
-    keeps _ _ _ _ _ _ _ _ _ c.self.invariant c.self.view_is now.new.self _ (events.Shifted e) (search rules)
+    keeps _ _ _ _ _ _ _ _ _ c.self.invariant c.self.view_is now.new.self _ _ (events.Shifted e) (search rules)
     (now.ensures.lists ∙ ap (moved e.number e.from_seg e.to_seg e.why e.moment) (seen_lists _ _ _ _ _ _ _ _ _ c.self.invariant c.self.view_is))
-    (omega (arith, now.ensures.same)) place
+    (omega (arith, now.ensures.same)) refl place
     (λ q below. not_to_come e.number c.self.inside.lists.next q now.ensures.inside (omega (arith, now.ensures.same, below)))
     c.requires.lawful

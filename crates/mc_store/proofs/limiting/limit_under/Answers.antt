@@ -1,0 +1,52 @@
+use Rattle.std.proofs.Common.{◌≡◌, ◌++◌, ◌∷◌, [], ap, ◌∙◌, refl, subst, sym}
+use Rattle.std.specs.Prelude.{OnOk}
+use Rattle.mc_board.specs.{Histories.Grows, Histories.list_at, Views.OwnerView}
+use Rattle.mc_board.proofs.PrefixLemmas.{prefix_self}
+use Rattle.mc_segment.specs.{ClassCalls.limited_event, ClassState.ClassView}
+use Rattle.mc_pull.specs.Growth as classes
+use Rattle.mc_store.specs.{Callers.call_events, Locked.IsLockedClass, Locked.caller_place, Made.IsLimitCalled, Serving.class_side, Sides.ClassSide}
+use Rattle.mc_store.proofs.{LentClassLemmas.class_behind, LimitedClassLemmas.limit_fails, LimitedClassLemmas.limit_made, LimitedClassLemmas.locked_limited, NotedRefusalLemmas.noted_grows}
+use Rattle.mc_store.proofs.limiting.limit_under.Goals as goal
+
+pub catch_up_class-requires-clause-behind : goal.catch_up_class-requires-clause-behind
+catch_up_class-requires-clause-behind g c =
+    let made = c.set_chunks-limited in
+    let raw = c.side.inside in
+    class_behind raw.owner.history raw.state made.new.self c.side.invariant.0
+    (noted_grows raw.state made.new.self (limited_event c.args.who c.args.chunks) made.result made.ensures.ok made.ensures.err)
+
+pub invariant_of-class : goal.invariant_of-class
+invariant_of-class g c =
+    let table = g.N.Named.board.table in
+    let config = g.N.Named.config in
+    let made = c.set_chunks-limited in
+    let raw = c.side.inside in
+    let owner = c.catch_up_class.new.owner in
+    let old : ClassSide = class_side raw.owner raw.seen raw.state in
+    let mid : ClassSide = class_side owner raw.seen made.new.self in
+    let none : Grows raw.seen.sight raw.seen.sight = record { at = λ lock. prefix_self (list_at raw.seen.sight.seen lock) } in
+    let called = subst (λ (x : ClassSide). IsLimitCalled (call_events (list_at x.sight.seen (caller_place config c.args.who.caller))) x.class.number
+    (record { who = c.args.who; chunks = c.args.chunks })) (sym (c.side.view_is ∙ c.class.view_is)) c.requires.called in
+    locked_limited table config old mid c.args.who c.args.chunks (subst (IsLockedClass table config) (sym c.side.view_is) c.class.invariant)
+    (ap (λ (o : OwnerView). o.board) c.catch_up_class.ensures) (ap (λ (o : OwnerView). o.lock) c.catch_up_class.ensures) none refl c.law.ensures.lawful
+    c.requires.of called made.result made.ensures.ok made.ensures.err
+
+pub returns-clause-made : goal.returns-clause-made
+returns-clause-made g c =
+    let made = c.set_chunks-limited in
+    let event = limited_event c.args.who c.args.chunks in
+    let of : c.side.inside.state ≡ c.args.class.now.class = ap (λ (x : ClassSide). x.class) (c.side.view_is ∙ c.class.view_is) in
+    subst (λ (v : ClassView). OnOk made.result (made.new.self.history ≡ v.history ++ event ∷ [])) of
+    (limit_made c.side.inside.state made.new.self event made.result made.ensures.ok)
+
+pub returns-clause-class : goal.returns-clause-class
+returns-clause-class g c =
+    let made = c.set_chunks-limited in
+    let of : c.side.inside.state ≡ c.args.class.now.class = ap (λ (x : ClassSide). x.class) (c.side.view_is ∙ c.class.view_is) in
+    subst (λ (v : ClassView). classes.GainsEvents v made.new.self) of
+    (noted_grows c.side.inside.state made.new.self (limited_event c.args.who c.args.chunks) made.result made.ensures.ok made.ensures.err)
+
+pub returns-clause-fault : goal.returns-clause-fault
+returns-clause-fault g c =
+    let made = c.set_chunks-limited in
+    limit_fails g.N.Named.config c.side.inside.seen.sight c.side.inside.state made.new.self made.result made.ensures.refusal made.ensures.err

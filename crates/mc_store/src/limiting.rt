@@ -1,0 +1,77 @@
+//! Setting how many chunks a class that threads share may use.
+ghost use Rattle.std.specs.Prelude.{◌≡◌, ◌<◌, ◌≤◌, ◌⊎◌, ◌+◌, ◌^◌, ◌++◌, ◌∷◌, [], IfErr, OnOk, OnErr, IsErrOf, length};
+ghost use Rattle.mc_item.specs.declared.fault.Fault.TheVariants.{HistoryFull};
+ghost use Rattle.mc_evidence.specs.Setting.{IsClass};
+ghost use Rattle.mc_board.specs.Histories.{Grows, list_at};
+ghost use Rattle.mc_segment.specs.ClassCalls.{limited_event};
+ghost use Rattle.mc_pull.specs.Growth as classes;
+ghost use Rattle.mc_store.specs.{Callers.call_events, Callers.limits_of, Callers.turns_of, Calls.IsLimitedBy, Locked.caller_place, Locked.setting_of};
+ghost use Rattle.mc_store.specs.{Made.IsLimitCalled, Passes.next_who, Serving.HasSeenShort, Serving.MayFailSeen};
+
+use crate::locked::LockedClass;
+use crate::named::Named;
+use crate::owned_class::catch_up_class;
+use crate::pass::Pass;
+use crate::store::Store;
+use mc_board::Board;
+use mc_item::{CallEvent, ClassNo, Fault, Limits, Who};
+use std::sync::Wait;
+
+// Sets the limit of a class under its lock, which has seen the call.
+fn limit_under<N: Named>(
+    board: &Board,
+    class: &mut LockedClass<N>,
+    who: Who,
+    chunks: u64,
+) -> Result<(), Fault>
+    requires board { board.now ≡ N.board }
+    requires bounds { (1 ≤ chunks) × (chunks ≤ 2 ^ 20) }
+    requires of { who.caller < N.config.callers }
+    requires called { IsLimitCalled (call_events (list_at class.old.sight.seen (caller_place N.config who.caller))) class.old.class.number
+        (record { who = who; chunks = chunks }) }
+    ensures made { OnOk result (class.new.class.history ≡ class.old.class.history ++ limited_event who chunks ∷ []) }
+    ensures class { classes.GainsEvents class.old.class class.new.class }
+    ensures fault { IfErr result (MayFailSeen N.config class.new.sight class.new.class) }
+{
+    let side = &mut class.side;
+    let limited = side.state.set_chunks(who, chunks);
+    side.state.law();
+    catch_up_class(&side.state, &mut side.owner, board);
+    limited
+}
+
+impl<N: Named> Store<N> {
+    /// Sets a class's limit of chunks, from 1 to 2^20. From then on the class is full if it has at least that many entries. A lower
+    /// limit evicts nothing by itself: commands that need a chunk make room. It waits for the class's lock alone.
+    /// After a fault what happened so far stays. `HistoryFull` comes only if a stripe's or class's history has fewer than two
+    /// places left, or the pass has had `max_events` turns. `NoMemory` comes if an allocation fails.
+    pub fn chunks(
+        &self,
+        rt: &impl Wait,
+        pass: &mut Pass<N>,
+        class: ClassNo,
+        chunks: u64,
+    ) -> Result<(), Fault>
+        requires class { IsClass (setting_of N.config) class }
+        requires some { 1 ≤ chunks }
+        requires bound { chunks ≤ 2 ^ 20 }
+        ensures limited { OnOk result (IsLimitedBy N.config class pass.old.sight pass.new.sight (next_who pass.old) chunks) }
+        ensures hands { pass.new.hands ≡ pass.old.hands }
+        ensures grows { Grows pass.old.sight pass.new.sight }
+        ensures caller { pass.new.caller ≡ pass.old.caller }
+        ensures calls { OnOk result (pass.new.calls ≡ pass.old.calls ++ limits_of class chunks ∷ []) }
+        ensures cut { OnErr result ((pass.new ≡ pass.old) ⊎ (pass.new.calls ≡ pass.old.calls ++ limits_of class chunks ∷ [])) }
+        ensures turn { (pass.new.turn ≡ length (turns_of pass.new.calls)) × OnOk result (pass.new.turn ≡ pass.old.turn + 1) }
+        ensures full { IsErrOf result HistoryFull → HasSeenShort N.config pass.new.sight ⊎ (N.config.max_events ≤ pass.old.turn) }
+    {
+        let event = CallEvent::Limits(Limits { class, chunks });
+        let mut guard = self.lock_class(rt, class);
+        let own = &mut *guard;
+        let who = pass.take_turn_in(self, &event, own)?;
+        own.side.compare(&self.board, &mut pass.seen);
+        pass.caller.tell_class(&self.board, own);
+        let limited = limit_under(&self.board, own, who, chunks);
+        own.side.share(&self.board, &mut pass.seen);
+        limited
+    }
+}

@@ -1,0 +1,7 @@
+-- A limit that is set nowhere is one call more.
+use Rattle.std.proofs.Common.{arith, length-append}
+use Rattle.mc_script.specs.Exchanges.{Exchange}
+use Rattle.mc_tests.proofs.tests.asking.MissesCalls.limit.Goals as goal
+
+pub returns-clause-ok : goal.returns-clause-ok
+returns-clause-ok g c = λ moment. record { at = λ calls is. omega (arith, length-append {A = Exchange}) }
