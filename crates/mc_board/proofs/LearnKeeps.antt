@@ -8,7 +8,8 @@ use Rattle.mc_board.specs.declared.{rule.Counts.Counts, rule.Known.Known, rule.S
 use Rattle.mc_board.specs.declared.rule.View.TheVariants as views
 use Rattle.mc_board.specs.Histories.{list_at, Grows, IsBehind}
 use Rattle.mc_board.specs.Learning.{joined, all_joined, with_learned, known_learned, Learned}
-use Rattle.mc_board.proofs.{PrefixLemmas.prefix_nil, PrefixLemmas.prefix_self, CountKeeps.viewed, RuleLemmas.Law}
+use Rattle.mc_board.proofs.{PrefixLemmas.prefix_nil, PrefixLemmas.prefix_self, CompareKeeps.viewed, RuleLemmas.Law, RuleLemmas.ledger}
+use Rattle.mc_board.specs.Board.{IsToken}
 
 joined_nil : (xs : List Event) → xs ≡ joined xs []
 joined_nil [] = refl
@@ -55,6 +56,7 @@ IsBehind-with_learned h s t a b =
     record {
       seen = λ lock. subst (λ (l : List Event). IsPrefix l (h lock)) (sym (joined_at s.seen t.seen lock)) (joined_within (list_at s.seen lock) (list_at t.seen lock) (h lock) (a.seen lock) (b.seen lock));
       noted = a.noted;
+      figures = a.figures;
     }
 
 grows_mine : (s t : Sight) → Grows s (with_learned s t)
@@ -67,13 +69,13 @@ grows_theirs h s t a b =
 learns : (counts : Counts) (slots id word : ℕ) (known : Known)
     → Allows (Law counts) slots id (views.Seen known, []) word (λ n. n) (Learned (step slots word 0 0 none) (views.Seen known, []))
 learns counts slots id word known s k homes at fits =
-    let mine = k.known id (views.Seen known) at in
+    let mine : IsToken (ledger counts s.words k.history k.stage k.owner) known = k.known id (views.Seen known) at in
     let w = views.Seen (known_learned known) in (
       w,
       keeps,
       tt,
-      viewed counts s k id word w (IsBehind-with_learned k.history known.sight known.told mine.0 mine.1, mine.1),
-      (refl, (grows_mine known.sight known.told, grows_theirs k.history known.sight known.told mine.0 mine.1)),
+      viewed counts s k id word w (record { sight = IsBehind-with_learned k.history known.sight known.told mine.sight mine.told; told = mine.told; look = mine.look }),
+      (refl, (grows_mine known.sight known.told, grows_theirs k.history known.sight known.told mine.sight mine.told)),
     )
 
 -- the same at a view that is known to be this

@@ -1,7 +1,12 @@
+pub mod FigureLemmas
 pub mod PrefixLemmas
 pub mod SeenLemmas
 pub mod RuleLemmas
-pub mod AppendKeeps
-pub mod CountKeeps
+pub mod WordLemmas
+pub mod WriteKeeps
+pub mod CompareKeeps
+pub mod LookKeeps
+pub mod OwnerLemmas
+pub mod LookLemmas
 pub mod ShareKeeps
 pub mod LearnKeeps

@@ -1,5 +1,6 @@
 -- Beginnings of lists, and lists by their places.
-use Rattle.std.proofs.Common.{◌≡◌, ◌≢◌, ◌⊎◌, ◌≤◌, ◌<◌, ℕ, zero, suc, set, List, [], ◌∷◌, ◌++◌, length, get_or, refl, ap, sym, subst, ◌∙◌, inl, inr, ⊎_elim, arith, append_assoc, length-append}
+use Rattle.std.proofs.Common.{◌≡◌, ◌≢◌, ◌⊎◌, ◌≤◌, ◌<◌, ℕ, zero, suc, set, List, [], ◌∷◌, ◌++◌, length, take, drop, refl, ap, sym, subst, ◌∙◌, inl, inr, ⊎_elim, arith, append_assoc, length-append}
+use Rattle.std.proofs.lemmas.List.{take-append-le}
 use Rattle.std.specs.Prelude.{slice_index}
 use mathlib.Core.List.{IsPrefix}
 use mathlib.Core.Option.{some, some-injective, some-ne-none}
@@ -22,15 +23,18 @@ prefix_more xs ys zs p = (p.0 ++ zs, sym (append_assoc xs p.0 zs) ∙ ap (λ w. 
 pub prefix_trans : {A : Type 0} (xs ys zs : List A) → IsPrefix xs ys → IsPrefix ys zs → IsPrefix xs zs
 prefix_trans xs ys zs p q = subst (IsPrefix xs) q.1 (prefix_more xs ys q.0 p)
 
--- the next element of a list makes a beginning of it longer
-pub prefix_next : {A : Type 0} (xs ys : List A) (d : A) → IsPrefix xs ys → length xs < length ys → IsPrefix (xs ++ get_or ys (length xs) d ∷ []) ys
-prefix_next [] [] d p lt = absurd (omega (arith, lt))
-prefix_next [] (y ∷ ys) d p lt = (ys, refl)
-prefix_next (x ∷ xs) [] d p lt = absurd (omega (arith, lt))
-prefix_next (x ∷ xs) (y ∷ ys) d p lt =
+-- a beginning of a list, and what the list has beyond its length
+pub prefix_rest : {A : Type 0} (xs ys : List A) → IsPrefix xs ys → xs ++ drop (length xs) ys ≡ ys
+prefix_rest [] ys p = refl
+prefix_rest (x ∷ xs) [] p = absurd (cc (p.1))
+prefix_rest (x ∷ xs) (y ∷ ys) p =
     let heads : x ≡ y = cc (p.1) in
-    let r = prefix_next xs ys d (p.0, cc (p.1)) (omega (arith, lt)) in
-    (r.0, cc (heads, r.1))
+    let tails : xs ++ drop (length xs) ys ≡ ys = prefix_rest xs ys (p.0, cc (p.1)) in
+    cc (heads, tails)
+
+-- the first elements of a list are those of each beginning that has as many
+pub prefix_take : {A : Type 0} (n : ℕ) (xs ys : List A) → IsPrefix xs ys → n ≤ length xs → take n ys ≡ take n xs
+prefix_take n xs ys p few = ap (take n) (sym p.1) ∙ take-append-le n xs p.0 few
 
 -- a beginning that is as long is the whole list
 pub prefix_whole : {A : Type 0} (xs ys : List A) → IsPrefix xs ys → length ys ≤ length xs → xs ≡ ys
@@ -56,6 +60,14 @@ prefix_either (x ∷ xs) (y ∷ ys) (z ∷ zs) p q =
     (λ (r : IsPrefix xs ys). inl (r.0, cc (heads, r.1)))
     (λ (r : IsPrefix ys xs). inr (r.0, cc (heads, r.1)))
     (prefix_either xs ys zs (p.0, cc (p.1)) (q.0, cc (q.1)))
+
+-- what holds of each element of a list, and of one more
+pub each_more : (P : ℕ → ℕ → Type 0) (xs : List ℕ) (x : ℕ) → ((j : ℕ) → j < length xs → P j (slice_index xs j)) → P (length xs) x
+    → (j : ℕ) → j < length (xs ++ x ∷ []) → P j (slice_index (xs ++ x ∷ []) j)
+each_more P [] x all last zero lt = last
+each_more P [] x all last (suc j) lt = absurd (omega (arith, lt))
+each_more P (y ∷ ys) x all last zero lt = all 0 (omega arith)
+each_more P (y ∷ ys) x all last (suc j) lt = each_more (λ i v. P (suc i) v) ys x (λ i below. all (suc i) (omega (arith, below))) last j (omega (arith, lt))
 
 -- two numbers are equal or not
 pub same_or_not : (j k : ℕ) → (j ≡ k) ⊎ (j ≢ k)

@@ -1,62 +1,72 @@
--- The rule, one event more, and views that change.
-use Rattle.std.proofs.Common.{◌≡◌, ◌≢◌, ℕ, ◌<◌, ◌≤◌, List, [], ◌∷◌, ◌++◌, length, set, cond, eqb, refl, sym, ap, ◌∙◌, subst, ⊎_elim, arith, length-append, eq-eqb, ne_eqb}
+-- The rule, and what the other seats know after a step of a lock's owner.
+use Rattle.std.proofs.Common.{◌≡◌, ◌≢◌, ℕ, ◌+◌, ◌*◌, ◌<◌, List, length, set, cond, eqb, sym, refl, ap, ◌∙◌, subst, ⊎_elim, arith, eq-eqb, ne_eqb}
+use Rattle.std.proofs.lemmas.List.Elements.{All-weaker}
+use Rattle.std.specs.Prelude.{slice_index}
 use mathlib.Core.Option.{Option, some, some-injective, some-ne-none}
 use mathlib.Core.List.{IsPrefix}
 use lib.ListN.{get_elem?}
 use Rattle.atomic_table.specs.Table.{State}
 use Rattle.atomic_table.proofs.Lists.{at_set}
 use Rattle.mc_item.specs.declared.event.Event.{Event}
-use Rattle.mc_board.specs.declared.{rule.Counts.Counts, rule.Sight.Sight, rule.View.View}
+use Rattle.mc_board.specs.declared.{rule.Counts.Counts, rule.Look.Look, rule.Note.Note, rule.Reading.Reading, rule.Sight.Sight, rule.Stage.Stage, rule.View.View}
+use Rattle.mc_board.specs.declared.rule.Look.TheVariants as looks
 use Rattle.mc_board.specs.declared.rule.View.TheVariants as views
-use Rattle.mc_board.specs.{Histories.list_at, Histories.number_at, Histories.IsBehind, Views.locks_of, Views.first_word, Views.words_of, Board.Ledger}
-use Rattle.mc_board.specs.{Board.Knows, Board.IsGrowing}
-use Rattle.mc_board.proofs.PrefixLemmas.{same_or_not, prefix_more}
+use Rattle.mc_board.specs.{Figures.figures_of, Histories.list_at, Histories.IsBehind, Histories.IsNoteOf, Views.locks_of, Views.first_word, Views.words_of}
+use Rattle.mc_board.specs.Board.{Ledger, IsFree, IsGrowing, IsOwner, IsReading, IsToken, Knows, Reads}
+use Rattle.mc_board.proofs.PrefixLemmas.{same_or_not, prefix_self, prefix_trans, prefix_length, prefix_take}
 
 -- the rule of a table's state
 abbrev pub Law : Counts → State Unit View → Type 0
 Law counts s = IsGrowing counts s.words s.views
 
-abbrev pub ledger : Counts → List ℕ → (ℕ → List Event) → (ℕ → Option ℕ) → Ledger
-ledger counts words history owner = record { counts = counts; words = words; history = history; owner = owner }
+abbrev pub ledger : Counts → List ℕ → (ℕ → List Event) → (ℕ → Stage) → (ℕ → Option ℕ) → Ledger
+ledger counts words history stage owner = record { counts = counts; words = words; history = history; stage = stage; owner = owner }
 
--- a lock's first word is one of the words
-pub word_within : (counts : Counts) (lock : ℕ) → lock < locks_of counts → first_word counts lock < words_of counts
-word_within counts lock below = omega (arith, below)
+-- a lock's words are some of the words
+pub word_within : (counts : Counts) (lock i : ℕ) → lock < locks_of counts → i < 16 → first_word counts lock + i < words_of counts
+word_within counts lock i below few = omega (arith, below, few)
 
 -- there is a word
 pub words_some : (counts : Counts) (n : ℕ) → n ≡ words_of counts → 0 < n
 words_some counts n wide = omega (arith, wide)
 
 -- two locks share no word
-pub words_apart : (counts : Counts) (j k : ℕ) → j < locks_of counts → k < locks_of counts → j ≢ k → first_word counts j ≢ first_word counts k
-words_apart counts j k below also apart same = apart (omega (arith, same))
+pub words_apart : (counts : Counts) (j k a b : ℕ) → j ≢ k → a < 16 → b < 16 → first_word counts j + a ≢ first_word counts k + b
+words_apart counts j k a b apart here there same = apart (omega (arith, same, here, there))
 
--- the histories with one more event of this lock
-abbrev pub added : ℕ → Event → (ℕ → List Event) → ℕ → List Event
-added lock e h j = cond (eqb j lock) (h j ++ e ∷ []) (h j)
+-- what is known of each lock, with this instead for one lock
+abbrev pub changed_at : {A : Type 0} → ℕ → A → (ℕ → A) → ℕ → A
+changed_at lock x f j = cond (eqb j lock) x (f j)
 
-pub added_here : (lock : ℕ) (e : Event) (h : ℕ → List Event) → added lock e h lock ≡ h lock ++ e ∷ []
-added_here lock e h = ap (λ b. cond b (h lock ++ e ∷ []) (h lock)) (eq-eqb lock lock refl)
+pub changed_here : {A : Type 0} (lock : ℕ) (x : A) (f : ℕ → A) → changed_at lock x f lock ≡ x
+changed_here lock x f = ap (λ b. cond b x (f lock)) (eq-eqb lock lock refl)
 
-pub added_else : (lock : ℕ) (e : Event) (h : ℕ → List Event) (j : ℕ) → j ≢ lock → added lock e h j ≡ h j
-added_else lock e h j n = ap (λ b. cond b (h j ++ e ∷ []) (h j)) (ne_eqb j lock n)
+pub changed_else : {A : Type 0} (lock : ℕ) (x : A) (f : ℕ → A) (j : ℕ) → j ≢ lock → changed_at lock x f j ≡ f j
+changed_else lock x f j n = ap (λ b. cond b x (f j)) (ne_eqb j lock n)
 
--- what was behind is behind the longer histories
-pub IsBehind-added : (lock : ℕ) (e : Event) (h : ℕ → List Event) (s : Sight) → IsBehind h s → IsBehind (added lock e h) s
-IsBehind-added lock e h s b =
+-- a note of a history is one of each longer history
+IsNoteOf-longer : (xs ys : List Event) (note : Note) → IsPrefix xs ys → IsNoteOf xs note → IsNoteOf ys note
+IsNoteOf-longer xs ys note p is =
     record {
-      seen = λ j. ⊎_elim
-          (λ (same : j ≡ lock). subst (λ (k : ℕ). IsPrefix (list_at s.seen k) (added lock e h k)) (sym same)
-          (subst (IsPrefix (list_at s.seen lock)) (sym (added_here lock e h)) (prefix_more (list_at s.seen lock) (h lock) (e ∷ []) (b.seen lock))))
-          (λ (n : j ≢ lock). subst (IsPrefix (list_at s.seen j)) (sym (added_else lock e h j n)) (b.seen j))
-          (same_or_not j lock);
-      noted = λ j. ⊎_elim
-          (λ (same : j ≡ lock). subst (λ (k : ℕ). number_at s.noted k ≤ length (added lock e h k)) (sym same)
-          (subst (λ (l : List Event). number_at s.noted lock ≤ length l) (sym (added_here lock e h)) (let m = b.noted lock in
-          omega (arith, m, length-append (h lock) (e ∷ [])))))
-          (λ (n : j ≢ lock). subst (λ (l : List Event). number_at s.noted j ≤ length l) (sym (added_else lock e h j n)) (b.noted j))
-          (same_or_not j lock);
+      events = omega (arith, prefix_length xs ys p, is.events);
+      values = is.values ∙ ap figures_of (sym (prefix_take note.events xs ys p is.events));
     }
+
+-- what was behind is behind the histories with this longer one
+pub IsBehind-longer : (lock : ℕ) (xs : List Event) (h : ℕ → List Event) (s : Sight) → IsPrefix (h lock) xs → IsBehind h s → IsBehind (changed_at lock xs h) s
+IsBehind-longer lock xs h s p b =
+    record {
+      seen = λ j. prefix_trans (list_at s.seen j) (h j) (changed_at lock xs h j) (b.seen j) (longer j);
+      noted = λ j. omega (arith, b.noted j, prefix_length (h j) (changed_at lock xs h j) (longer j));
+      figures = All-weaker (λ (n : Note). IsNoteOf (h n.lock) n) (λ (n : Note). IsNoteOf (changed_at lock xs h n.lock) n)
+          (λ (n : Note) (is : IsNoteOf (h n.lock) n). IsNoteOf-longer (h n.lock) (changed_at lock xs h n.lock) n (longer n.lock) is) s.figures b.figures;
+    }
+  where
+    longer : (j : ℕ) → IsPrefix (h j) (changed_at lock xs h j)
+    longer j = ⊎_elim
+        (λ (same : j ≡ lock). subst (λ (k : ℕ). IsPrefix (h k) (changed_at lock xs h k)) (sym same) (subst (IsPrefix (h lock)) (sym (changed_here lock xs h)) p))
+        (λ (apart : j ≢ lock). subst (IsPrefix (h j)) (sym (changed_else lock xs h j apart)) (prefix_self (h j)))
+        (same_or_not j lock)
 
 -- one view is changed
 pub known_set : (l : Ledger) (seats : List View) (id : ℕ) (w : View)
@@ -69,24 +79,76 @@ known_set l seats id w others mine j u e =
     (λ (x : (j ≢ id) × (get_elem? seats j ≡ some u)). others j u x.0 x.1)
     (at_set seats id j w u e)
 
--- what the other seats know after the owner of the lock has added an event
-pub others_added : (counts : Counts) (ws ws' : List ℕ) (h : ℕ → List Event) (o : ℕ → Option ℕ) (lock id : ℕ) (e : Event) → o lock ≡ some id
-    → (j : ℕ) (u : View) → j ≢ id → Knows (ledger counts ws h o) j u → Knows (ledger counts ws' (added lock e h) o) j u
-others_added counts ws ws' h o lock id e mine j (views.Root root) apart k = (
+-- what a step of a lock's owner leaves: the histories and stages of the other locks, who was behind, and what holds of readings
+pub record Moves (counts : Counts) (ws ws' : List ℕ) (h h' : ℕ → List Event) (st st' : ℕ → Stage) (lock : ℕ) : Type 0 where
+  pub same : (j : ℕ) → j ≢ lock → h' j ≡ h j
+  pub quiet : (j : ℕ) → j ≢ lock → st' j ≡ st j
+  pub behind : (s : Sight) → IsBehind h s → IsBehind h' s
+  pub reads : (o : ℕ → Option ℕ) (look : Look) → Reads (ledger counts ws h st o) look → Reads (ledger counts ws' h' st' o) look
+
+-- what the other seats know after a step of a lock's owner
+pub others_moved : (counts : Counts) (ws ws' : List ℕ) (h h' : ℕ → List Event) (st st' : ℕ → Stage) (o : ℕ → Option ℕ) (lock id : ℕ) → o lock ≡ some id
+    → Moves counts ws ws' h h' st st' lock
+    → (j : ℕ) (u : View) → j ≢ id → Knows (ledger counts ws h st o) j u → Knows (ledger counts ws' h' st' o) j u
+others_moved counts ws ws' h h' st st' o lock id mine m j (views.Root root) apart k = (
   k.0,
   k.1,
-  λ i le. let was = k.2 i le in (
-    was.0,
-    added_else lock e h i (λ (same : i ≡ lock). some-ne-none id (sym mine ∙ (ap o (sym same) ∙ was.0))) ∙ was.1,
-  ),
+  λ i le.
+      let was : IsFree (ledger counts ws h st o) i = k.2 i le in
+      let else' : i ≢ lock = λ same. some-ne-none id (sym mine ∙ (ap o (sym same) ∙ was.owner)) in
+      record { owner = was.owner; history = m.same i else' ∙ was.history; stage = m.quiet i else' ∙ was.stage },
 )
-others_added counts ws ws' h o lock id e mine j (views.Owner owned) apart k =
+others_moved counts ws ws' h h' st st' o lock id mine m j (views.Owner owned) apart k =
+    let was : IsOwner (ledger counts ws h st o) j owned = k in
+    let else' : owned.lock ≢ lock = λ same. apart (some-injective j id (sym was.owner ∙ (ap o same ∙ mine))) in
     record {
-      owner = k.owner;
-      lock = k.lock;
-      word = k.word;
-      history = k.history ∙ sym (added_else lock e h owned.lock (λ (same : owned.lock ≡ lock). apart (some-injective j id (sym k.owner ∙ (ap o same ∙ mine)))));
-      told = IsBehind-added lock e h owned.told k.told;
+      owner = was.owner;
+      lock = was.lock;
+      word = was.word;
+      history = was.history ∙ sym (m.same owned.lock else');
+      stage = was.stage ∙ sym (m.quiet owned.lock else');
+      told = m.behind owned.told was.told;
     }
-others_added counts ws ws' h o lock id e mine j (views.Seen known) apart k = (IsBehind-added lock e h known.sight k.0, IsBehind-added lock e h known.told k.1)
-others_added counts ws ws' h o lock id e mine j views.Spent apart k = tt
+others_moved counts ws ws' h h' st st' o lock id mine m j (views.Seen known) apart k =
+    let was : IsToken (ledger counts ws h st o) known = k in
+    record { sight = m.behind known.sight was.sight; told = m.behind known.told was.told; look = m.reads o known.look was.look }
+others_moved counts ws ws' h h' st st' o lock id mine m j views.Spent apart k = tt
+
+-- a reading holds on if its lock's first word and history stay
+reading_same : (counts : Counts) (ws ws' : List ℕ) (h h' : ℕ → List Event) (st st' : ℕ → Stage) (o : ℕ → Option ℕ) (r : Reading)
+    → slice_index ws' (first_word counts r.lock) ≡ slice_index ws (first_word counts r.lock) → h' r.lock ≡ h r.lock
+    → IsReading (ledger counts ws h st o) r → IsReading (ledger counts ws' h' st' o) r
+reading_same counts ws ws' h h' st st' o r first same k =
+    record {
+      lock = k.lock;
+      later = omega (arith, k.later, first);
+      same = subst (λ (x : ℕ × List Event). r.at ≡ x.0 → r.at ≡ 2 * length x.1 → (j : ℕ) → j < length r.got → slice_index r.got j ≡ slice_index (figures_of x.1) j)
+          (λ i. (sym first i, sym same i)) k.same;
+    }
+
+-- readings hold on if no first word and no history changes
+pub reads_same : (counts : Counts) (ws ws' : List ℕ) (h : ℕ → List Event) (st st' : ℕ → Stage) → ((j : ℕ) → slice_index ws' (first_word counts j) ≡ slice_index ws (first_word counts j))
+    → (o : ℕ → Option ℕ) (look : Look) → Reads (ledger counts ws h st o) look → Reads (ledger counts ws' h st' o) look
+reads_same counts ws ws' h st st' firsts o looks.Away k = tt
+reads_same counts ws ws' h st st' firsts o (looks.Reading r) k = reading_same counts ws ws' h h st st' o r (firsts r.lock) refl k
+
+-- readings hold on if the first word of one lock becomes greater, and those of the others stay
+pub reads_later : (counts : Counts) (ws ws' : List ℕ) (h h' : ℕ → List Event) (st st' : ℕ → Stage) (lock : ℕ)
+    → ((j : ℕ) → j ≢ lock → slice_index ws' (first_word counts j) ≡ slice_index ws (first_word counts j))
+    → ((j : ℕ) → j ≢ lock → h' j ≡ h j)
+    → slice_index ws (first_word counts lock) < slice_index ws' (first_word counts lock)
+    → (o : ℕ → Option ℕ) (look : Look) → Reads (ledger counts ws h st o) look → Reads (ledger counts ws' h' st' o) look
+reads_later counts ws ws' h h' st st' lock firsts same lt o looks.Away k = tt
+reads_later counts ws ws' h h' st st' lock firsts same lt o (looks.Reading r) k =
+    let was : IsReading (ledger counts ws h st o) r = k in
+    ⊎_elim
+    (λ (here : r.lock ≡ lock).
+    let more : slice_index ws (first_word counts r.lock) < slice_index ws' (first_word counts r.lock) =
+    subst (λ (j : ℕ). slice_index ws (first_word counts j) < slice_index ws' (first_word counts j)) (sym here) lt in
+    let now : IsReading (ledger counts ws' h' st' o) r = record {
+      lock = was.lock;
+      later = omega (arith, was.later, more);
+      same = λ is even. absurd (omega (arith, was.later, more, is));
+    } in now)
+    (λ (apart : r.lock ≢ lock). reading_same counts ws ws' h h' st st' o r (firsts r.lock apart) (same r.lock apart) was)
+    (same_or_not r.lock lock)

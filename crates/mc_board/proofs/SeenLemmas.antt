@@ -2,8 +2,9 @@
 use Rattle.std.proofs.Common.{◌≡◌, ◌≢◌, ◌≤◌, ℕ, zero, suc, List, [], ◌∷◌, refl, sym, ap, subst, ⊎_elim, arith, length}
 use mathlib.Core.List.{IsPrefix}
 use Rattle.mc_item.specs.declared.event.Event.{Event}
-use Rattle.mc_board.specs.declared.rule.Sight.{Sight}
-use Rattle.mc_board.specs.Histories.{list_at, number_at, with_list_at, with_number, blind, with_seen, with_noted, Grows, IsBehind}
+use Rattle.std.proofs.lemmas.List.Elements.{All-nil, All-cons}
+use Rattle.mc_board.specs.declared.{rule.Note.Note, rule.Sight.Sight}
+use Rattle.mc_board.specs.Histories.{list_at, number_at, with_list_at, with_number, blind, with_seen, with_noted, with_figures, Grows, IsBehind, IsNoteOf}
 use Rattle.mc_board.proofs.PrefixLemmas.{same_or_not, prefix_nil, prefix_self, prefix_trans}
 
 pub list_at_same : (lists : List (List Event)) (k : ℕ) (x : List Event) → list_at (with_list_at lists k x) k ≡ x
@@ -40,7 +41,7 @@ number_at_other (y ∷ ys) (suc k) (suc j) x n = number_at_other ys k j x (λ e.
 
 -- who has seen nothing is behind
 pub IsBehind-blind : (h : ℕ → List Event) → IsBehind h blind
-IsBehind-blind h = record { seen = λ lock. prefix_nil (h lock); noted = λ lock. omega arith }
+IsBehind-blind h = record { seen = λ lock. prefix_nil (h lock); noted = λ lock. omega arith; figures = All-nil (λ (note : Note). IsNoteOf (h note.lock) note) }
 
 -- who notes at most the length stays behind
 pub IsBehind-with_noted : (h : ℕ → List Event) (s : Sight) (lock n : ℕ) → IsBehind h s → n ≤ length (h lock) → IsBehind h (with_noted s lock n)
@@ -51,7 +52,20 @@ IsBehind-with_noted h s lock n b le =
           (λ (same : j ≡ lock). subst (λ (k : ℕ). number_at (with_number s.noted lock n) k ≤ length (h k)) (sym same) (subst (λ m. m ≤ length (h lock)) (sym (number_at_same s.noted lock n)) le))
           (λ (apart : j ≢ lock). subst (λ m. m ≤ length (h j)) (sym (number_at_other s.noted lock j n apart)) (b.noted j))
           (same_or_not j lock);
+      figures = b.figures;
     }
+
+-- who notes figures of a beginning stays behind
+pub IsBehind-with_figures : (h : ℕ → List Event) (s : Sight) (note : Note) → IsBehind h s → IsNoteOf (h note.lock) note → IsBehind h (with_figures s note)
+IsBehind-with_figures h s note b is =
+    record { seen = b.seen; noted = b.noted; figures = All-cons (λ (n : Note). IsNoteOf (h n.lock) n) note s.figures is b.figures }
+
+-- of two numbers that are noted of a lock the second stays
+pub with_number_again : (ns : List ℕ) (k x y : ℕ) → with_number (with_number ns k x) k y ≡ with_number ns k y
+with_number_again [] zero x y = refl
+with_number_again [] (suc k) x y = ap (λ (l : List ℕ). 0 ∷ l) (with_number_again [] k x y)
+with_number_again (z ∷ ns) zero x y = refl
+with_number_again (z ∷ ns) (suc k) x y = ap (λ (l : List ℕ). z ∷ l) (with_number_again ns k x y)
 
 -- who is told a whole history stays behind
 pub IsBehind-with_seen : (h : ℕ → List Event) (s : Sight) (lock : ℕ) (xs : List Event) → IsBehind h s → xs ≡ h lock → IsBehind h (with_seen s lock xs)
@@ -63,6 +77,7 @@ IsBehind-with_seen h s lock xs b is =
           (λ (apart : j ≢ lock). subst (λ l. IsPrefix l (h j)) (sym (list_at_other s.seen lock j xs apart)) (b.seen j))
           (same_or_not j lock);
       noted = b.noted;
+      figures = b.figures;
     }
 
 -- one list of a lock that grows leaves all lists no shorter

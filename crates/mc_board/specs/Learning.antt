@@ -20,7 +20,7 @@ all_joined (x ∷ a) (y ∷ b) = joined x y ∷ all_joined a b
 
 -- the sight after learning another: for each lock the two seen lists joined, and what was noted as it was
 abbrev pub with_learned : Sight → Sight → Sight
-with_learned sight other = record { seen = all_joined sight.seen other.seen; noted = sight.noted }
+with_learned sight other = record sight { seen = all_joined sight.seen other.seen }
 
 -- what a token knows after it has learnt what it was shown
 abbrev pub known_learned : Known → Known

@@ -1,27 +1,22 @@
--- The kinds of step on the board: what each does to the views, and what it ensures (own).
-use Rattle.std.specs.Prelude.{◌≡◌, ℕ, ◌+◌, ◌≤◌, [], ◌∷◌, ◌++◌, length}
+-- The steps on the board that compare, split and join: what each does to the views, and what it ensures (own).
+use Rattle.std.specs.Prelude.{◌≡◌, ℕ, ◌+◌, []}
 use Rattle.atomic_table.specs.Table.{Me, Step}
-use Rattle.mc_item.specs.declared.event.Event.{Event}
-use Rattle.mc_item.specs.declared.event.Event.TheVariants as events
-use Rattle.mc_item.specs.declared.class_event.ClassEvent.TheVariants as class_events
 use Rattle.mc_board.specs.declared.{rule.Counts.Counts, rule.Sight.Sight, rule.Owned.Owned, rule.Known.Known, rule.View.View}
+use Rattle.mc_board.specs.declared.rule.Look.TheVariants as looks
+use Rattle.mc_board.specs.declared.rule.Stage.TheVariants as stages
 use Rattle.mc_board.specs.declared.rule.View.TheVariants as views
-use Rattle.mc_board.specs.Histories.{blind, list_at, number_at, with_seen, with_noted, HasSeen, HasNoted, AreInLine}
+use Rattle.mc_board.specs.Histories.{blind, with_seen, AreInLine, IsAhead}
 use Rattle.mc_board.specs.Views.{first_word}
-
--- a default event, for a name that picks none
-abbrev pub some_event : Event
-some_event = events.Class (class_events.Refused (record { who = record { caller = 0; turn = 0 } }))
 
 -- what an owner knows, or a default for any other view
 abbrev pub owned_of : View → Owned
 owned_of (views.Owner owned) = owned
-owned_of _ = record { lock = 0; word = 0; history = []; told = blind }
+owned_of _ = record { lock = 0; word = 0; history = []; stage = stages.Still; told = blind }
 
 -- what a token knows, or nothing for any other view
 abbrev pub known_of : View → Known
 known_of (views.Seen known) = known
-known_of _ = record { sight = blind; told = blind }
+known_of _ = record { sight = blind; told = blind; look = looks.Away }
 
 -- the root's view at the start, when no owner is given out
 abbrev pub opening_of : Counts → View
@@ -29,60 +24,27 @@ opening_of counts = views.Root (record { counts = counts; given = 0 })
 
 -- the view of a token that has seen nothing
 abbrev pub newcomer : View
-newcomer = views.Seen (record { sight = blind; told = blind })
+newcomer = views.Seen (record { sight = blind; told = blind; look = looks.Away })
 
 -- the view of a token that has seen this, and was shown nothing
 abbrev pub seeing : Sight → View
-seeing sight = views.Seen (record { sight = sight; told = blind })
+seeing sight = views.Seen (record { sight = sight; told = blind; look = looks.Away })
 
 -- the view of a lock's owner, with an empty history
 abbrev pub owning : ℕ → ℕ → View
-owning lock word = views.Owner (record { lock = lock; word = word; history = []; told = blind })
-
--- what an owner knows after one more event
-abbrev pub owned_with : Owned → Event → Owned
-owned_with owned event = record owned { history = owned.history ++ event ∷ [] }
+owning lock word = views.Owner (record { lock = lock; word = word; history = []; stage = stages.Still; told = blind })
 
 -- what an owner knows after a token showed it this sight
 abbrev pub owned_told : Owned → Sight → Owned
 owned_told owned sight = record owned { told = sight }
 
--- what a token knows after it noted this number for the lock
-abbrev pub known_with : Known → ℕ → ℕ → Known
-known_with known lock number = record known { sight = with_noted known.sight lock number }
-
 -- what a token knows after another showed it this sight
 abbrev pub known_told : Known → Sight → Known
 known_told known sight = record known { told = sight }
 
--- append: the owner's history gains the event at its end
-abbrev pub added_to : Event → View → View
-added_to event (views.Owner owned) = views.Owner (owned_with owned event)
-added_to event v = v
-
--- what an append ensures: the owner's history has gained the event at its end
-abbrev pub Added : Event → Step Unit → Me Unit View → ℕ → Me Unit View → Type 0
-Added event step me found after = after ≡ (added_to event me.0, me.1)
-
--- count: the token notes the number that it found
-abbrev pub noted_in : ℕ → ℕ → View → View
-noted_in lock found (views.Seen known) = views.Seen (known_with known lock found)
-noted_in lock found v = v
-
--- the number is no less than the length of what the token has seen of the lock, and no less than what it has noted
-abbrev pub IsAsLong : ℕ → ℕ → View → Type 0
-IsAsLong lock found (views.Seen known) =
-    (length (list_at known.sight.seen lock) ≤ found) × (number_at known.sight.noted lock ≤ found)
-IsAsLong lock found v = Unit {0}
-
--- what a count ensures: the token has noted the number, which is no less than what it had seen and noted
-abbrev pub Counted : ℕ → Step Unit → Me Unit View → ℕ → Me Unit View → Type 0
-Counted lock step me found after = (after ≡ (noted_in lock found me.0, me.1)) × IsAsLong lock found me.0
-
 -- what an owner was shown of its own lock is behind its history
 abbrev pub IsOwnerAhead : View → Type 0
-IsOwnerAhead (views.Owner owned) =
-    HasSeen owned.history owned.told owned.lock × HasNoted owned.history owned.told owned.lock
+IsOwnerAhead (views.Owner owned) = IsAhead owned.history owned.told owned.lock
 IsOwnerAhead v = Unit {0}
 
 -- what an owner's comparison ensures: nothing changes, and what the owner was shown of its lock is behind its history

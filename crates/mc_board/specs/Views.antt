@@ -1,5 +1,5 @@
 -- What a contract sees of a board, an owner and a token (own).
-use Rattle.std.specs.Prelude.{◌≡◌, ℕ, ◌+◌, ◌*◌, ◌<◌, List, [], length, Some, slice_get}
+use Rattle.std.specs.Prelude.{◌≡◌, ℕ, ◌+◌, ◌-◌, ◌*◌, ◌/◌, ◌<◌, List, [], length, Some, slice_get}
 use Rattle.atomic_table.specs.Seated.{TableId}
 use Rattle.mc_item.specs.declared.event.Event.{Event}
 use Rattle.mc_board.specs.declared.{rule.Counts.Counts, rule.Sight.Sight}
@@ -15,7 +15,7 @@ pub record OwnerView : Type 0 where
   pub lock : ℕ
   pub history : List Event
 
--- a token: the board's table, and what it has seen and noted
+-- a token: the board's table, and what it has seen and noted, figures too
 pub record SeenView : Type 0 where
   pub board : TableId
   pub sight : Sight
@@ -24,15 +24,19 @@ pub record SeenView : Type 0 where
 abbrev pub locks_of : Counts → ℕ
 locks_of counts = counts.stripes + counts.classes + counts.callers
 
--- the words of one lock: a cache line, so that no two locks share one
+-- the words of one lock, of which nine are used: two cache lines, so that no two locks share one
 abbrev pub line_words : ℕ
-line_words = 8
+line_words = 16
 
 -- the index of a lock's first word; word 0 belongs to no lock, and is read by steps that need no length
 abbrev pub first_word : Counts → ℕ → ℕ
 first_word counts lock = (lock + 1) * line_words
 
--- the number of words: a line for each lock, after a first line that belongs to no lock
+-- the lock with this first word
+abbrev pub lock_of : ℕ → ℕ
+lock_of word = word / line_words - 1
+
+-- the number of words: those of each lock, after as many that belong to no lock
 abbrev pub words_of : Counts → ℕ
 words_of counts = (locks_of counts + 1) * line_words
 

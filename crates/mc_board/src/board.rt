@@ -11,7 +11,7 @@ use mc_item::NoMemory;
 use std::alloc::Global;
 use std::marker::Model;
 
-/// A board: for each lock, an atomic word with the length of its history. Calls on owners and tokens borrow it.
+/// A board: for each lock, nine atomic words with the length and the figures of its history. Calls on owners and tokens borrow it.
 #[derive(Drop)]
 pub struct Board {
     pub(crate) table: Words,
@@ -41,7 +41,7 @@ impl Board {
         ensures owners { IfOk result (λ r. AreOwners r.0.table locks r.1.items) }
         ensures seen { IfOk result (λ r. r.2 ≡ record { board = r.0.table; sight = blind }) }
     {
-        // All locks are counted as stripes here, since each has one word, whatever its kind.
+        // All locks are counted as stripes here, since each has nine words, whatever its kind.
         let counts = Counts {
             stripes: locks,
             classes: 0,
@@ -56,19 +56,19 @@ impl Board {
         Ok((board, owners, seen))
     }
 
-    // The index of the word that holds a lock's length. The first line of words belongs to no lock.
+    // The index of a lock's first word, after which its figures come. The first words of the board belong to no lock.
     pub(crate) fn first_word(&self, lock: usize) -> usize
         requires { lock < locks_of self.now.counts }
         ensures word { result ≡ first_word self.now.counts lock }
-        ensures within { result < self.now.table.words }
+        ensures within { (result + 8 < self.now.table.words) × (self.now.table.words < 2 ^ 64) }
     {
         let _ = &self.table;
         (lock + 1) * LINE
     }
 }
 
-// The words of one lock: a cache line of 64 bytes, so that no two locks share one.
-const LINE: usize = 8;
+// The words of one lock, of which nine are used: two cache lines of 64 bytes, so that no two locks share one.
+const LINE: usize = 16;
 
 // The number of words for this many locks. Fails if that is 2^64 or more.
 fn words_for(locks: usize) -> Result<usize, NoMemory>

@@ -1,31 +1,34 @@
 //! The owner of a lock's history.
-ghost use Rattle.std.specs.Prelude.{◌≡◌, ◌<◌, ◌≤◌, ◌+◌, ◌^◌, ◌++◌, ◌∷◌, [], get_or, length, map};
+ghost use Rattle.std.specs.Prelude.{◌≡◌, ◌<◌, ◌≤◌, ◌+◌, ◌^◌, ◌++◌, ◌∷◌, [], length, map};
 ghost use mathlib.Core.List.{IsPrefix};
-ghost use Rattle.mc_board.specs.Histories.{with_seen, Grows, HasSeen, HasNoted};
-ghost use Rattle.mc_board.specs.Steps.{owned_of, owned_with, owned_told, some_event};
+ghost use Rattle.mc_evidence.specs.Seen.{class_events};
+ghost use Rattle.mc_board.specs.Histories.{with_seen, Grows, HasFigures, HasNoted, HasSeen, IsAhead};
+ghost use Rattle.mc_board.specs.{Figures.figures_of, Steps.owned_of, Steps.owned_told, Writing.IsOwnerAt};
+ghost use Rattle.mc_board.specs.declared.rule.Stage.TheVariants as stages;
 ghost use Rattle.mc_board.specs.declared.rule.View.TheVariants as views;
 
 use crate::board::Board;
-use crate::naming::NamesEvent;
 use crate::rule::Place;
 use crate::seen::Seen;
-use crate::steps::{Adds, Compares, Hears, Tells};
+use crate::steps::{Compares, Hears, Tells};
+use crate::writing::{add, begin, end, write};
 use mc_history::{History, Shows};
 use mc_item::Logged;
 use std::marker::{Brand, Model};
 
-/// The only token that can add to a lock's history. It knows the whole history.
+/// The only token that can add to a lock's history. It knows the whole history, and has its figures in memory.
 #[derive(Drop)]
 pub struct Owner {
     word: usize,
     events: usize,
+    figures: [u64; 8],
     place: Place,
 }
 
 impl Model for Owner {
-    ghost use Rattle.std.specs.Prelude.{◌≡◌, ◌<◌, [], length};
-    ghost use Rattle.mc_board.specs.{Views.OwnerView, Steps.owned_of};
-    ghost use Rattle.mc_board.specs.declared.rule.View.TheVariants as views;
+    ghost use Rattle.std.specs.Prelude.{◌≡◌, ◌<◌, ◌+◌, ◌^◌, length};
+    ghost use Rattle.mc_board.specs.{Figures.figures_of, Steps.owned_of, Views.OwnerView, Writing.IsOwnerAt};
+    ghost use Rattle.mc_board.specs.declared.rule.Stage.TheVariants as stages;
 
     ghost Value = { OwnerView };
 
@@ -36,17 +39,18 @@ impl Model for Owner {
     } };
 
     ghost invariant = { λ o.
-        (o.place.me ≡ (views.Owner (owned_of o.place.me.0), []))
-        × ((owned_of o.place.me.0).word ≡ o.word)
+        IsOwnerAt o.word stages.Still o.place.me
         × (length (owned_of o.place.me.0).history ≡ o.events)
-        × (o.word < o.place.table_id.words) };
+        × (o.figures ≡ figures_of (owned_of o.place.me.0).history)
+        × (o.word + 8 < o.place.table_id.words)
+        × (o.place.table_id.words < 2 ^ 64) };
 }
 
 impl Owner {
     // Makes an owner from its seat at the table. The history has no event yet.
     pub(crate) fn at(word: usize, place: Place) -> Owner
-        requires owner { place.me ≡ (views.Owner (owned_of place.me.0), []) }
-        requires word { ((owned_of place.me.0).word ≡ word) × (word < place.table_id.words) }
+        requires owner { IsOwnerAt word stages.Still place.me }
+        requires word { (word + 8 < place.table_id.words) × (place.table_id.words < 2 ^ 64) }
         requires empty { (owned_of place.me.0).history ≡ [] }
         ensures { result ≡ record {
           board = place.table_id;
@@ -57,31 +61,28 @@ impl Owner {
         Owner {
             word,
             events: 0,
+            figures: [0; 8],
             place,
         }
     }
 
     /// Adds the event at the end of the history, in one atomic step. Allocates nothing and never waits.
-    /// Before the call the history has fewer than 2^64 - 1 events.
+    /// It is no class's event, so the figures stay. Before the call the history has fewer than 2^63 - 1 events.
     #[inline(always)]
     pub fn append<E: Logged>(&mut self, board: &Board, event: &E)
         requires board { self.old.board ≡ board.now.table }
-        requires room { length self.old.history + 1 < 2 ^ 64 }
+        requires room { length self.old.history + 1 < 2 ^ 63 }
+        requires plain { class_events (E.entry event.now ∷ []) ≡ [] }
         ensures history { self.new ≡ record self.old {
           history = self.old.history ++ E.entry event.now ∷ [];
         } }
     {
-        add::<Brand, E>(board, self.word, &mut self.place, event);
+        add::<Brand, E>(board, self.word, &mut self.place, 1, event);
         self.events += 1;
     }
 
-    fn len(&self) -> usize
-        ensures { result ≡ length self.now.history }
-    {
-        self.events
-    }
-
-    /// Adds the events of the list that the history doesn't have yet, in order. Allocates nothing and never waits.
+    /// Adds the events of the list that the history doesn't have yet, in order and in one atomic step. Allocates nothing and never
+    /// waits. None is a class's event, so the figures stay.
     /// Before the call the history is a beginning of the list, and after it the two are equal. The list has at most 2^32 events.
     #[inline(always)]
     pub fn catch_up<E: Logged + Drop, S: Shows<E> + Drop>(
@@ -92,38 +93,58 @@ impl Owner {
         requires board { self.old.board ≡ board.now.table }
         requires behind { IsPrefix self.old.history (map E.entry events.now.items) }
         requires room { length events.now.items ≤ 2 ^ 32 }
+        requires plain { class_events (map E.entry events.now.items) ≡ [] }
         ensures history { self.new ≡ record self.old { history = map E.entry events.now.items } }
     {
-        for place in self.len()..events.len() {
-            self.append_at(board, events, place);
+        let count = events.len() - self.len();
+        if count > 0 {
+            add::<Brand, History<E, S>>(board, self.word, &mut self.place, count, events);
+            self.events = events.len();
         }
     }
 
-    // Adds the list's event at that place.
+    fn len(&self) -> usize
+        ensures { result ≡ length self.now.history }
+    {
+        self.events
+    }
+
+    /// Adds the events of the list that the history doesn't have yet, in order and in one atomic step, once the figures that changed
+    /// are written. These are the figures that the whole list leaves. In between, a token that reads them finds the lock busy.
+    /// Allocates nothing and never waits. Without such events it does nothing.
+    /// Before the call the history is a beginning of the list, and after it the two are equal. The list has at most 2^32 events.
     #[inline(always)]
-    fn append_at<E: Logged + Drop, S: Shows<E> + Drop>(
+    pub fn publish<E: Logged + Drop, S: Shows<E> + Drop>(
         &mut self,
         board: &Board,
         events: &History<E, S>,
-        place: usize,
+        figures: &[u64; 8],
     )
         requires board { self.old.board ≡ board.now.table }
-        requires room { length self.old.history + 1 < 2 ^ 64 }
-        ensures history { self.new ≡ record self.old {
-          history = self.old.history ++ get_or (map E.entry events.now.items) place some_event ∷ [];
-        } }
+        requires behind { IsPrefix self.old.history (map E.entry events.now.items) }
+        requires room { length events.now.items ≤ 2 ^ 32 }
+        requires figures { figures.now ≡ figures_of (map E.entry events.now.items) }
+        ensures history { self.new ≡ record self.old { history = map E.entry events.now.items } }
     {
-        add::<Brand, (&History<E, S>, usize)>(board, self.word, &mut self.place, &(events, place));
-        self.events += 1;
+        let count = events.len() - self.len();
+        if count > 0 {
+            begin(board, self.word, &mut self.place);
+            write(board, self.word, &mut self.place, &self.figures, figures);
+            end::<Brand, History<E, S>>(board, self.word, &mut self.place, count, events);
+            self.events = events.len();
+            self.figures = *figures;
+        }
     }
 
     /// Compares the history with a token. Nothing changes.
-    /// What the token has seen of this lock is a beginning of the history. What it has noted is at most the history's length.
+    /// What the token has seen of this lock is a beginning of the history. What it has noted is at most the history's length. The
+    /// figures that it has noted of this lock are those of beginnings of the history.
     pub fn compare(&mut self, board: &Board, seen: &mut Seen)
         requires board { (self.old.board ≡ board.now.table) × (seen.old.board ≡ board.now.table) }
         ensures same { (self.new ≡ self.old) × (seen.new ≡ seen.old) }
         ensures seen { HasSeen self.old.history seen.old.sight self.old.lock }
         ensures noted { HasNoted self.old.history seen.old.sight self.old.lock }
+        ensures figures { HasFigures self.old.history seen.old.sight self.old.lock }
     {
         hear(board, self.word, &mut self.place, seen);
     }
@@ -147,20 +168,6 @@ impl Owner {
     }
 }
 
-// Adds the event that `N` names, in one atomic step. Only proofs need `_named_by`: no byte of it is read.
-#[inline(always)]
-fn add<N: NamesEvent, A>(board: &Board, word: usize, place: &mut Place, _named_by: &A)
-    requires board { place.old.table_id ≡ board.now.table }
-    requires owner { place.old.me ≡ (views.Owner (owned_of place.old.me.0), []) }
-    requires word { ((owned_of place.old.me.0).word ≡ word) × (word < board.now.table.words) }
-    requires room { length (owned_of place.old.me.0).history + 1 < 2 ^ 64 }
-    ensures place { (place.new.table_id ≡ place.old.table_id) × (place.new.id ≡ place.old.id) }
-    ensures added { place.new.me
-        ≡ (views.Owner (owned_with (owned_of place.old.me.0) N.entry), []) }
-{
-    board.table.shared.fetch_add::<Adds<N>>(place, word, 1);
-}
-
 // Shows the owner a copy of what the token has seen, and compares it with the owner's history.
 #[inline(always)]
 fn hear(board: &Board, word: usize, place: &mut Place, seen: &mut Seen)
@@ -170,10 +177,7 @@ fn hear(board: &Board, word: usize, place: &mut Place, seen: &mut Seen)
     ensures place { (place.new.table_id ≡ place.old.table_id) × (place.new.id ≡ place.old.id) }
     ensures told { place.new.me ≡ (views.Owner (owned_told (owned_of place.old.me.0) seen.old.sight), []) }
     ensures same { seen.new ≡ seen.old }
-    ensures seen { HasSeen (owned_of place.old.me.0).history seen.old.sight
-        (owned_of place.old.me.0).lock }
-    ensures noted { HasNoted (owned_of place.old.me.0).history seen.old.sight
-        (owned_of place.old.me.0).lock }
+    ensures ahead { IsAhead (owned_of place.old.me.0).history seen.old.sight (owned_of place.old.me.0).lock }
 {
     let copy = seen.copy(board);
     board.table.shared.join_seat::<Hears>(place, copy);

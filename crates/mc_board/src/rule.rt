@@ -12,10 +12,38 @@ pub struct Counts {
     pub callers: usize,
 }
 
-/// What a token knows of each lock: the list of events that it has seen, and the length that it has noted.
+/// Figures of a lock at one moment: how many events its history had, and the eight figures that these leave (`figures_of`).
+pub struct Note {
+    pub lock: usize,
+    pub events: u64,
+    pub values: LinkedList<u64>,
+}
+
+/// What a token knows of each lock: the list of events that it has seen, the length that it has noted, and the figures that it
+/// has noted, the newest first.
 pub struct Sight {
     pub seen: LinkedList<LinkedList<Event>>,
     pub noted: LinkedList<u64>,
+    pub figures: LinkedList<Note>,
+}
+
+/// Whether an owner is writing, and what its lock's eight further words have then.
+pub enum Stage {
+    Still,
+    Writing(LinkedList<u64>),
+}
+
+/// What a token has read of a lock: the number that it found first, and the figures after it.
+pub struct Reading {
+    pub lock: usize,
+    pub at: u64,
+    pub got: LinkedList<u64>,
+}
+
+/// Whether a token is reading figures.
+pub enum Look {
+    Away,
+    Reading(Reading),
 }
 
 /// What the root knows: the counts, and that it has given out the owners of the locks below `given`.
@@ -24,18 +52,21 @@ pub struct Root {
     pub given: usize,
 }
 
-/// What an owner knows: its lock, that lock's word, and the whole history. `told` is what a token showed it last, to compare.
+/// What an owner knows: its lock, that lock's first word, the whole history, and whether it is writing. `told` is what a token
+/// showed it last, to compare.
 pub struct Owned {
     pub lock: usize,
     pub word: usize,
     pub history: LinkedList<Event>,
+    pub stage: Stage,
     pub told: Sight,
 }
 
-/// What a token knows: what it has seen and noted. `told` is what another token showed it last, to compare.
+/// What a token knows: what it has seen and noted, and what it is reading. `told` is what another token showed it last, to compare.
 pub struct Known {
     pub sight: Sight,
     pub told: Sight,
+    pub look: Look,
 }
 
 /// What a seat knows, by its kind. A spent seat was joined into another.

@@ -1,16 +1,18 @@
 //! Tokens: what a thread knows of histories whose locks it doesn't hold.
-ghost use Rattle.std.specs.Prelude.{◌≡◌, ◌<◌, ◌≤◌, [], length};
-ghost use Rattle.mc_board.specs.{Histories.list_at, Histories.number_at, Histories.with_noted, Histories.Grows, Histories.AreInLine, Learning.known_learned};
-ghost use Rattle.mc_board.specs.{Learning.with_learned, Views.locks_of, Views.first_word, Steps.known_of, Steps.known_with, Steps.known_told, Steps.seeing};
+ghost use Rattle.std.specs.Prelude.{◌≡◌, ◌<◌, ◌≤◌, ◌/◌, ◌%◌, ◌⊎◌, [], length, IfErr, IfOk, MatchResult};
+ghost use Rattle.mc_board.specs.Histories.{list_at, number_at, with_figures, with_noted, AreInLine, Grows};
+ghost use Rattle.mc_board.specs.{Learning.known_learned, Learning.with_learned, Looking.note_of, Views.locks_of};
+ghost use Rattle.mc_board.specs.Steps.{known_of, known_told, seeing};
 ghost use Rattle.mc_board.specs.declared.rule.View.TheVariants as views;
 
 use crate::board::Board;
-use crate::naming::NamesLock;
+use crate::figures::{Busy, Figures, check_look, gather, open_look};
 use crate::rule::Place;
-use crate::steps::{Copies, CountsOne, Hears, Learns, Meets};
-use std::marker::{Brand, Model};
+use crate::steps::{Copies, Hears, Learns, Meets};
+use std::marker::Model;
 
-/// A token. For each lock it has seen a beginning of the history, and has noted a length that the history has reached.
+/// A token. For each lock it has seen a beginning of the history, and has noted a length that the history has reached. It may
+/// also have noted figures of beginnings.
 #[derive(Drop)]
 pub struct Seen {
     place: Place,
@@ -65,7 +67,40 @@ impl Seen {
         ensures later { number_at self.old.sight.noted lock ≤ result }
     {
         let word = board.first_word(lock);
-        read::<Brand>(board, lock, word, &mut self.place)
+        open_look(board, lock, word, &mut self.place) / 2
+    }
+
+    /// Reads the figures of a lock's history, all of one moment, and notes them. It is one try, of ten atomic loads at most.
+    /// Allocates nothing and never waits. The figures are of no fewer events than the token has seen or noted of the lock.
+    /// Errors: `Busy` if the lock's owner was writing, or has written between the loads. Then half of the last number is noted, as
+    /// by `count`.
+    pub fn figures(&mut self, board: &Board, lock: usize) -> Result<Figures, Busy>
+        requires board { self.old.board ≡ board.now.table }
+        requires lock { lock < locks_of board.now.counts }
+        ensures noted { MatchResult result
+            (λ f. self.new ≡ record self.old { sight = with_figures (with_noted self.old.sight lock f.events) (note_of lock f) })
+            (λ b. self.new ≡ record self.old { sight = with_noted self.old.sight lock (b.last / 2) }) }
+        ensures seen { IfOk result (λ f. length (list_at self.old.sight.seen lock) ≤ f.events) }
+        ensures later { MatchResult result
+            (λ f. number_at self.old.sight.noted lock ≤ f.events)
+            (λ b. number_at self.old.sight.noted lock ≤ b.first / 2) }
+        ensures busy { IfErr result (λ b. ((b.first % 2 ≡ 1) × (b.last ≡ b.first)) ⊎ (b.first < b.last)) }
+    {
+        let word = board.first_word(lock);
+        let first = open_look(board, lock, word, &mut self.place);
+        if first % 2 == 1 {
+            return Err(Busy { first, last: first });
+        }
+        let v = gather(board, word, &mut self.place);
+        let last = check_look(board, word, &mut self.place);
+        if last != first {
+            return Err(Busy { first, last });
+        }
+        Ok(Figures {
+            events: first / 2,
+            bytes: [v[0], v[1], v[2], v[3]],
+            counts: [v[4], v[5], v[6], v[7]],
+        })
     }
 
     /// Learns what another token has seen. Afterwards this token has seen, for each lock, all that either of the two had.
@@ -106,22 +141,6 @@ fn take_in(board: &Board, place: &mut Place, copy: Place)
 {
     board.table.shared.join_seat::<Hears>(place, copy);
     board.table.shared.load::<Learns>(place, 0);
-}
-
-// Reads the first word of the lock that `N` names, in one atomic step, and notes it.
-fn read<N: NamesLock>(board: &Board, lock: usize, word: usize, place: &mut Place) -> u64
-    requires board { place.old.table_id ≡ board.now.table }
-    requires lock { lock < locks_of board.now.counts }
-    requires word { (word ≡ first_word board.now.counts lock) × (word < board.now.table.words) }
-    requires token { place.old.me ≡ (views.Seen (known_of place.old.me.0), []) }
-    requires name { N.lock ≡ lock }
-    ensures place { (place.new.table_id ≡ place.old.table_id) × (place.new.id ≡ place.old.id) }
-    ensures noted { place.new.me
-        ≡ (views.Seen (known_with (known_of place.old.me.0) lock result), []) }
-    ensures seen { length (list_at (known_of place.old.me.0).sight.seen lock) ≤ result }
-    ensures later { number_at (known_of place.old.me.0).sight.noted lock ≤ result }
-{
-    board.table.shared.load::<CountsOne<N>>(place, word)
 }
 
 // Joins another token's copy into this seat, and compares what the two have seen.

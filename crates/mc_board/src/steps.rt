@@ -1,29 +1,74 @@
 //! The kinds of step on the board's table: what each ensures, and how views are split and joined.
-use crate::naming::{NamesEvent, NamesLock};
+use crate::naming::NamesEvents;
 use crate::rule::View;
 use atomic_table::{Join, Play, Split};
 use std::marker::PhantomData;
 
-/// Append: an owner adds the event to its history.
-pub(crate) struct Adds<N: NamesEvent> {
+/// Add: an owner adds events to its history.
+pub(crate) struct Adds<N: NamesEvents> {
     of: PhantomData<N>,
 }
 
-impl<N: NamesEvent> Play<(), View> for Adds<N> {
-    ghost use Rattle.mc_board.specs.Steps.{Added};
+impl<N: NamesEvents> Play<(), View> for Adds<N> {
+    ghost use Rattle.mc_board.specs.Writing.{Added};
 
-    ghost then = { Added N.entry };
+    ghost then = { Added N.entries };
 }
 
-/// Count: a token notes the length of the lock's history.
-pub(crate) struct CountsOne<N: NamesLock> {
+/// Begin: an owner is about to change figures.
+pub(crate) struct Begins;
+
+impl Play<(), View> for Begins {
+    ghost use Rattle.mc_board.specs.Writing.{Begun};
+
+    ghost then = { Begun };
+}
+
+/// Write: an owner changes one figure.
+pub(crate) struct Writes;
+
+impl Play<(), View> for Writes {
+    ghost use Rattle.mc_board.specs.Writing.{Wrote};
+
+    ghost then = { Wrote };
+}
+
+/// End: an owner adds the events whose figures it has written to its history.
+pub(crate) struct Ends<N: NamesEvents> {
     of: PhantomData<N>,
 }
 
-impl<N: NamesLock> Play<(), View> for CountsOne<N> {
-    ghost use Rattle.mc_board.specs.Steps.{Counted};
+impl<N: NamesEvents> Play<(), View> for Ends<N> {
+    ghost use Rattle.mc_board.specs.Writing.{Ended};
 
-    ghost then = { Counted N.lock };
+    ghost then = { Ended N.entries };
+}
+
+/// Open: a token notes the length of the lock's history, and is about to read its figures.
+pub(crate) struct OpensLook;
+
+impl Play<(), View> for OpensLook {
+    ghost use Rattle.mc_board.specs.{Looking.Opened, Views.lock_of};
+
+    ghost then = { λ step. Opened (lock_of step.word) step };
+}
+
+/// Read: a token reads one figure.
+pub(crate) struct ReadsOne;
+
+impl Play<(), View> for ReadsOne {
+    ghost use Rattle.mc_board.specs.Looking.{Read};
+
+    ghost then = { Read };
+}
+
+/// Check: a token notes the figures that it has read, if they are of one moment.
+pub(crate) struct Checks;
+
+impl Play<(), View> for Checks {
+    ghost use Rattle.mc_board.specs.Looking.{Checked};
+
+    ghost then = { Checked };
 }
 
 /// An owner compares what a token showed it with its own history.

@@ -17,7 +17,7 @@ use Rattle.mc_script.specs.Exchanges.{Asks, Crawls, Juggles, Limits, exchange}
 use Rattle.mc_segment.specs.{ClassCalls.limited_event, ClassState.ClassView}
 use Rattle.mc_stripe.specs.{Plan.dead_link, Plan.visible_row, StripeState.Stripe, StripeState.stripe}
 use Rattle.mc_store.specs.{Commands.IsSearch, Commands.LeadsUp, Commands.burial}
-use Rattle.mc_store.specs.{Calls.IsJuggledBy, Calls.IsLimitedBy, Calls.IsRepliedBy, Locked.setting_of, Locked.class_lock, Sides.class_told, Crawls.AreLinksCounted}
+use Rattle.mc_store.specs.{Calls.IsJuggledBy, Calls.HasGained, Calls.IsRepliedBy, Locked.setting_of, Locked.class_lock, Sides.class_told, Crawls.AreLinksCounted}
 use Rattle.mc_store.specs.{Crawls.HasReclaims, Crawls.IsCrawledBy, Earned.IsLastResort, Passes.PassView, Passes.next_who}
 use Rattle.mc_store.proofs.{EarnedRefusalLemmas.opened_again, LockKeepsLemmas.site_of_number}
 use Rattle.mc_driver.specs.{Caller.histories_seen, Noted.answered_command, Noted.answered_event, Noted.stripe_with, Stand.Grow, Stand.StandsBetween, Stand.stripe_number}
@@ -148,7 +148,7 @@ crawled_between config class before after who moment histogram is grows by =
 
 -- and by a new limit
 pub limited_between : (config : Config) (class : ClassNo) (before after : Sight) (who : Who) (chunks moment : ℕ) → IsClass (setting_of config) class → Grows before after
-    → IsLimitedBy config class before after who chunks
+    → HasGained config class before after who (limited_event who chunks ∷ [])
     → StandsBetween config (histories_seen config before) (histories_seen config after) (exchange who.caller who.turn (Limits class chunks) moment Limited)
 limited_between config class before after who chunks moment is grows by =
     let longer : List ClassEvent = by.old.history ++ limited_event who chunks ∷ [] in

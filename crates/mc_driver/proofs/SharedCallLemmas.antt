@@ -12,11 +12,12 @@ use Rattle.mc_board.specs.declared.rule.Sight.{Sight}
 use Rattle.mc_board.proofs.PrefixLemmas.{prefix_length}
 use Rattle.mc_evidence.specs.{Seen.stripe_events, Setting.IsClass}
 use Rattle.mc_evidence.proofs.SeenLemmas.{stripe_events-map}
+use Rattle.mc_segment.specs.ClassCalls.{limited_event}
 use Rattle.mc_proto.specs.Answers.{Counted, Limited, Moved, Replied}
 use Rattle.mc_script.specs.{Calls.AddsCalls, Calls.AddsUp, Calls.BreaksOff, Exchanges.Asks, Exchanges.Begun, Exchanges.Crawls, Exchanges.Exchange}
 use Rattle.mc_script.specs.Exchanges.{Juggles, Limits, ScriptCall, exchange}
 use Rattle.mc_store.specs.Callers.{answered_at, asked_for, crawling_of, juggling_of, limits_of, turns_of}
-use Rattle.mc_store.specs.{Calls.IsJuggledBy, Calls.IsLimitedBy, Calls.IsRepliedBy, Locked.setting_of, Passes.PassView, Passes.next_who, Crawls.IsCrawledBy}
+use Rattle.mc_store.specs.{Calls.IsJuggledBy, Calls.HasGained, Calls.IsRepliedBy, Locked.setting_of, Passes.PassView, Passes.next_who, Crawls.IsCrawledBy}
 use Rattle.mc_driver.specs.{Called.AreInTurn, Called.call_event_of}
 use Rattle.mc_driver.specs.Caller.{AreAt, AreNoted, AreRising, IsAt, MayCall, histories_seen, places_in}
 use Rattle.mc_driver.specs.Stand.{StandsBetween, calls_at, is_command_at, nothing_seen, stripe_number}
@@ -197,7 +198,7 @@ module _ (config : Config) (old new : PassView) (same : new.caller ≡ old.calle
 
   -- and a new limit where it was set
   pub limited_ok : {T : Type 0} (class : ClassNo) (chunks moment : ℕ) (r : Result T Fault) → MayCall config old → IsClass (setting_of config) class
-      → OnOk r (new.calls ≡ old.calls ++ limits_of class chunks ∷ []) → OnOk r (IsLimitedBy config class old.sight new.sight (next_who old) chunks)
+      → OnOk r (new.calls ≡ old.calls ++ limits_of class chunks ∷ []) → OnOk r (HasGained config class old.sight new.sight (next_who old) (limited_event (next_who old) chunks ∷ []))
       → OnOk r (AddsCalls (AreNoted config old) (AreNoted config new) (exchange old.caller old.turn (Limits class chunks) moment Limited ∷ []))
   limited_ok class chunks moment (Ok x) may is gained by =
       class_adds _ may refl gained (λ n. refl) (limited_between config class old.sight new.sight (next_who old) chunks moment is grows by)

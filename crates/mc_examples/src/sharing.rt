@@ -1,10 +1,11 @@
 //! A store that threads share: two of them count visits, and a third caller reads.
-ghost use Rattle.std.specs.Prelude.{◌≡◌, IfSome};
+ghost use Rattle.std.specs.Prelude.{◌≡◌, ◌<◌, IfSome, length};
 ghost use Rattle.mc_item.specs.Config.{IsBounded, IsSound};
 ghost use Rattle.mc_examples.specs.Parts.{AreParts};
 
 use crate::no_memory;
-use mc_item::{Command, Config, Fault, Key, NoMemory, Reply, Value, Verb};
+use mc_board::{Busy, Figures};
+use mc_item::{ClassNo, Command, Config, Fault, Key, NoMemory, Reply, Value, Verb};
 use mc_store::{Named, Pass, Store, Tokens};
 use std::alloc::Global;
 use std::hash::RandomState;
@@ -19,6 +20,13 @@ struct Parts {
     config: Config,
     tokens: Tokens,
     seed: RandomState,
+}
+
+// What the reader was answered, and what it found in the slab class of its item.
+#[derive(Drop)]
+struct Read {
+    reply: Reply,
+    figures: Result<Figures, Busy>,
 }
 
 // The configuration, where it is sound.
@@ -102,7 +110,7 @@ fn visited<N: Named + Send + Sync, R: Threads + Wait + Sync>(
     store.command(alloc, rt, reader, Command::Get(page(alloc)?), 1000)
 }
 
-// Shares a store, closes it, and compares what each caller has seen with what is left: what the reader was answered.
+// Shares a store, reads the figures of its first class, closes it, and compares what each caller has seen with what is left.
 fn closed<N: Named + Send + Sync, R: Threads + Wait + Sync>(
     rt: &R,
     alloc: Global,
@@ -110,16 +118,20 @@ fn closed<N: Named + Send + Sync, R: Threads + Wait + Sync>(
     reader: Pass<N>,
     first: Pass<N>,
     second: Pass<N>,
-) -> Result<Reply, Fault> {
+) -> Result<Read, Fault>
+    requires class { 0 < length N.config.sizes }
+{
     let mut reader = reader;
     let mut first = first;
     let mut second = second;
     let reply = visited(rt, alloc, &store, &mut reader, &mut first, &mut second);
+    let figures = store.figures(&mut reader, ClassNo(1));
     let mut ledger = store.close(rt);
     ledger.compare(&mut reader);
     ledger.compare(&mut first);
     ledger.compare(&mut second);
-    reply
+    let reply = reply?;
+    Ok(Read { reply, figures })
 }
 
 // Shares a store among three callers, who have a pass each.
@@ -128,7 +140,9 @@ fn with_passes<N: Named + Send + Sync, R: Threads + Wait + Sync>(
     alloc: Global,
     store: Store<N>,
     passes: Vec<Pass<N>>,
-) -> Result<Reply, Fault> {
+) -> Result<Read, Fault>
+    requires class { 0 < length N.config.sizes }
+{
     let mut passes = passes;
     match (passes.pop(), passes.pop(), passes.pop()) {
         (Some(reader), Some(second), Some(first)) => {
@@ -143,7 +157,7 @@ fn shared<N: Named + Send + Sync, R: Threads + Wait + Sync>(
     rt: &R,
     alloc: Global,
     parts: Parts,
-) -> Result<Reply, Fault>
+) -> Result<Read, Fault>
     requires named { (parts.tokens.board ≡ N.board) × (parts.config ≡ N.config) × (parts.tokens.queues ≡ N.queues) }
     requires fit { AreParts N.board N.config N.queues parts.tokens }
 {
@@ -163,22 +177,46 @@ fn show_visits(rt: &impl Print, visits: &[u8]) -> io::Result<()> {
     println!(rt; " visits")
 }
 
-fn show_reply(rt: &impl Print, reply: Result<Reply, Fault>) -> io::Result<()> {
+fn show_reply(rt: &impl Print, reply: Reply) -> io::Result<()> {
     match reply {
-        Ok(Reply::Value { value, .. }) => show_visits(rt, value.bytes()),
-        Ok(_) => println!(rt; "no visits"),
+        Reply::Value { value, .. } => show_visits(rt, value.bytes()),
+        _ => println!(rt; "no visits"),
+    }
+}
+
+fn show_numbers(rt: &impl Print, what: &str, numbers: [u64; 4]) -> io::Result<()> {
+    let [hot, warm, cold, temp] = numbers;
+    println!(rt; "{what}: HOT {hot}, WARM {warm}, COLD {cold}, TEMP {temp}")
+}
+
+fn show_figures(rt: &impl Print, figures: Figures) -> io::Result<()> {
+    show_numbers(rt, "items", figures.counts)?;
+    show_numbers(rt, "bytes", figures.bytes)
+}
+
+fn show_read(rt: &impl Print, read: Read) -> io::Result<()> {
+    show_reply(rt, read.reply)?;
+    match read.figures {
+        Ok(figures) => show_figures(rt, figures),
+        Err(_) => println!(rt; "the class was being changed"),
+    }
+}
+
+fn show_outcome(rt: &impl Print, outcome: Result<Read, Fault>) -> io::Result<()> {
+    match outcome {
+        Ok(read) => show_read(rt, read),
         Err(fault) => println!(rt; "broken off: {fault:?}"),
     }
 }
 
-/// Opens a store, shares it, and shows how many visits were counted.
+/// Opens a store, shares it, and shows how many visits were counted, and what the item's slab class has.
 pub(crate) fn show<R: Threads + Wait + Sync + Print>(
     rt: &R,
     alloc: Global,
     seed: RandomState,
 ) -> io::Result<()> {
     match parts_for(alloc, seed) {
-        Some(parts) => show_reply(rt, shared::<Brand, R>(rt, alloc, parts)),
+        Some(parts) => show_outcome(rt, shared::<Brand, R>(rt, alloc, parts)),
         None => Err(no_memory()),
     }
 }

@@ -1,4 +1,5 @@
 pub mod Lists
+pub mod Figures
 pub mod Segment
 pub mod Lawful
 pub mod Places

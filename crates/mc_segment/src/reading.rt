@@ -2,6 +2,7 @@
 ghost use Rattle.std.specs.Prelude.{◌≡◌, ◌≤◌, ◌^◌, ◌+◌, ◌↔◌, ℕ, false, None, Some, length, take, reverse, IsTrue, IfSome, IfOk};
 ghost use Rattle.std.specs.Option.{option_copied, IsSomeAnd};
 ghost use Rattle.mc_item.specs.declared.{lists.Entry.Entry, lists.Seg.Seg};
+ghost use Rattle.mc_rule.specs.Figures.{figures_of_lists};
 ghost use Rattle.mc_rule.specs.Lists.{lists_of, entries_linked, list_of, bytes_of, count_of, times_in, find, found, chunks_from, IsFull};
 ghost use Rattle.mc_segment.specs.Entries.{entry_of};
 ghost use Rattle.mc_rule.specs.{Segment.numbers_of, Segment.numbers_behind, Lawful.is_named, Lawful.IsIn, Lawful.IsListed, Lawful.IsLawfulHistoryByLists};
@@ -121,6 +122,22 @@ impl ClassState {
         ensures { result ≡ length (list_of (lists_of self.now.history) seg) }
     {
         self.lists.len(seg)
+    }
+
+    /// Returns the class's figures: the bytes of HOT, WARM, COLD and TEMP, then how many entries each has.
+    pub fn figures(&self) -> [u64; 8]
+        ensures { result ≡ figures_of_lists (lists_of self.now.history) }
+    {
+        [
+            self.bytes(Seg::Hot),
+            self.bytes(Seg::Warm),
+            self.bytes(Seg::Cold),
+            self.bytes(Seg::Temp),
+            self.len(Seg::Hot),
+            self.len(Seg::Warm),
+            self.len(Seg::Cold),
+            self.len(Seg::Temp),
+        ]
     }
 
     /// Returns the entry with this number, if a list has it.

@@ -26,6 +26,8 @@ pub mod JudgedEntryLemmas
 pub mod GateLemmas
 pub mod VisitedStripeLemmas
 pub mod GrownClassLemmas
+mod LaterLemmas
+mod FiguresLemmas
 pub mod CrawledLemmas
 pub mod SeenStripeLemmas
 pub mod SendStoreLemmas

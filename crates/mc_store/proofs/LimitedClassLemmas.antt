@@ -1,5 +1,5 @@
 -- A class under its lock has a new limit of chunks: the event was called, and the lock keeps all that it keeps.
-use Rattle.std.proofs.Common.{◌≡◌, ◌<◌, ◌+◌, ◌++◌, ◌∷◌, [], ℕ, zero, suc, List, Some, Result, Ok, Err, slice_get, length, sym, ap, ◌∙◌, subst, inl, ⊎_elim, arith}
+use Rattle.std.proofs.Common.{◌≡◌, ◌<◌, ◌+◌, ◌++◌, ◌∷◌, [], ℕ, zero, suc, List, Some, Result, Ok, Err, append-nil, slice_get, length, sym, ap, ◌∙◌, subst, inl, ⊎_elim, arith}
 use Rattle.std.specs.Prelude.{IfErr, OnOk, OnErr}
 use Rattle.atomic_table.specs.Seated.{TableId}
 use Rattle.mc_item.specs.declared.{call_event.CallEvent.CallEvent, class_event.ClassEvent.ClassEvent, config.Config.Config, fault.Fault.Fault, item.ClassNo.ClassNo, item.Who.Who}
@@ -9,7 +9,7 @@ use Rattle.mc_board.specs.Histories.{Grows, list_at}
 use Rattle.mc_board.specs.declared.rule.Sight.{Sight}
 use Rattle.mc_segment.specs.{ClassCalls.Makes, ClassCalls.MayEnd, ClassCalls.Stays, ClassCalls.limited_event, ClassState.ClassView}
 use Rattle.mc_store.specs.Callers.{call_events, calls_told, limits_of, turns_of}
-use Rattle.mc_store.specs.{Calls.IsLimitedBy, Calls.IsSeenGrowOf, Locked.IsLockedClass, Locked.caller_place, Locked.locks_for, Passes.CallerView}
+use Rattle.mc_store.specs.{Calls.HasGained, Calls.IsSeenGrowOf, Locked.IsLockedClass, Locked.caller_place, Locked.locks_for, Passes.CallerView}
 use Rattle.mc_store.specs.Made.{AreCalledInClass, HasNoneMadeBy, IsLimitCalled, WasCalled, maker_of}
 use Rattle.mc_store.specs.{Serving.MayFailSeen, Sides.ClassSide}
 use Rattle.mc_store.proofs.{CallerLemmas.call_events-told, CallerLemmas.get_append, NotedRefusalLemmas.limited_after, NotedRefusalLemmas.noted_does, NotedRefusalLemmas.noted_grows}
@@ -76,6 +76,11 @@ limit_fails config sight v w (Ok x) may stays = tt
 limit_fails config sight v w (Err HistoryFull) may stays = inl (subst (λ (c : ClassView). c.max_events < length c.history + 2) (sym stays.0) (omega (arith, may)))
 limit_fails config sight v w (Err NoMemory) may stays = tt
 
+-- no event at all
+pub limit_stays : {T : Type 0} (v w : ClassView) (r : Result T Fault) → OnErr r (Stays v w) → OnErr r (w.history ≡ v.history)
+limit_stays v w (Ok x) stays = tt
+limit_stays v w (Err f) stays = ap (λ (c : ClassView). c.history) stays.0
+
 -- the event of the call, and no other
 pub limit_made : {T : Type 0} (v w : ClassView) (event : ClassEvent) (r : Result T Fault) → OnOk r (Makes v w event) → OnOk r (w.history ≡ v.history ++ event ∷ [])
 limit_made v w event (Ok x) makes = ap (λ (c : ClassView). c.history) makes
@@ -84,7 +89,18 @@ limit_made v w event (Err f) makes = tt
 -- the pass that made the call has seen it
 pub limited_so : {T : Type 0} (config : Config) (class : ClassNo) (before after : Sight) (old : ClassView) (history_new : List ClassEvent) (who : Who) (chunks : ℕ)
     → IsSeenGrowOf config class before after old history_new → HasNoneMadeBy who old.history
-    → (r : Result T Fault) → OnOk r (history_new ≡ old.history ++ limited_event who chunks ∷ []) → OnOk r (IsLimitedBy config class before after who chunks)
+    → (r : Result T Fault) → OnOk r (history_new ≡ old.history ++ limited_event who chunks ∷ []) → OnOk r (HasGained config class before after who (limited_event who chunks ∷ []))
 limited_so config class before after old history_new who chunks grew first (Ok x) made =
     record { old = old; grew = subst (λ (h : List ClassEvent). IsSeenGrowOf config class before after old h) made grew; first = first }
 limited_so config class before after old history_new who chunks grew first (Err f) made = tt
+
+-- and after a fault it has seen no event of the call
+pub unlimited_so : {T : Type 0} (config : Config) (class : ClassNo) (before after : Sight) (old : ClassView) (history_new : List ClassEvent) (who : Who)
+    → IsSeenGrowOf config class before after old history_new → HasNoneMadeBy who old.history
+    → (r : Result T Fault) → OnErr r (history_new ≡ old.history) → OnErr r (HasGained config class before after who [])
+unlimited_so config class before after old history_new who grew first (Ok x) stays = tt
+unlimited_so config class before after old history_new who grew first (Err f) stays = record {
+  old = old;
+  grew = subst (λ (h : List ClassEvent). IsSeenGrowOf config class before after old h) (stays ∙ sym (append-nil old.history)) grew;
+  first = first;
+}

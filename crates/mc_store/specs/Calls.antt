@@ -93,9 +93,8 @@ pub record IsJuggledBy (config : Config) (class : ClassNo) (before after : PassV
   pub first : HasNoneMadeBy (next_who before) old.history
   pub upkept : IsUpkept config old (record { who = next_who before; moment = moment }) before.hands after.hands history_new moves
 
--- a class's limit of chunks was set, after all that the pass had seen of the class and what other calls made: its history gains
--- the event of this call, and no other
-pub record IsLimitedBy (config : Config) (class : ClassNo) (before after : Sight) (who : Who) (chunks : ℕ) : Type 0 where
+-- a call gave a class's history these events and no other, after all that the pass had seen of the class and what other calls made
+pub record HasGained (config : Config) (class : ClassNo) (before after : Sight) (who : Who) (events : List ClassEvent) : Type 0 where
   pub old : ClassView
-  pub grew : IsSeenGrowOf config class before after old (old.history ++ limited_event who chunks ∷ [])
+  pub grew : IsSeenGrowOf config class before after old (old.history ++ events)
   pub first : HasNoneMadeBy who old.history

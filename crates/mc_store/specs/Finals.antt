@@ -5,7 +5,7 @@ use Rattle.mc_item.specs.declared.{class_event.ClassEvent.ClassEvent, config.Con
 use Rattle.mc_item.specs.declared.{lists.Entry.Entry, lists.Seg.Seg, item.Who.Who, stripe_event.Did.Did, stripe_event.StripeEvent.StripeEvent}
 use Rattle.mc_item.specs.declared.stripe_event.StripeEvent.TheVariants as events
 use Rattle.mc_item.specs.Measure.{stripe_of}
-use Rattle.mc_board.specs.Histories.{HasNoted, HasSeen}
+use Rattle.mc_board.specs.Histories.{HasFigures, HasNoted, HasSeen}
 use Rattle.mc_board.specs.declared.rule.Sight.{Sight}
 use Rattle.mc_evidence.specs.Setting.{IsClass, Setting, site_in}
 use Rattle.mc_rule.specs.{Belonging.HasEntry, Belonging.HasItem, Lists.found, Lists.lists_of, Lists.times_in, Pairs.item_after}
@@ -57,16 +57,18 @@ pub record AreExactlyEntries (setting : Setting) (stripes : ℕ → List StripeE
       (s < setting.stripes) × HasItem (site_in setting s) class (stripes s) number entry
   pub once : (class : ClassNo) (number : ℕ) → IsClass setting class → times_in number (lists_of (classes class)) ≤ 1
 
--- what was seen of a lock is a beginning of this history, and what was noted of it is at most its length
+-- what was seen of a lock is a beginning of this history, a number that was noted of it is at most its length, and figures that were
+-- noted of it are those of its first so many events
 pub record IsBehindAt (sight : Sight) (lock : ℕ) (history : List Event) : Type 0 where
   pub seen : HasSeen history sight lock
   pub noted : HasNoted history sight lock
+  pub figures : HasFigures history sight lock
 
--- for each stripe, what was seen is a beginning of its final history, and what was noted is at most its length
+-- for each stripe, what was seen and noted is behind its final history
 pub record IsBehindStripes (sight : Sight) (stripes : List StripeSide) : Type 0 where
   pub each : (k : ℕ) (s : StripeSide) → slice_get stripes k ≡ Some s → IsBehindAt sight s.lock (stripe_told s.stripe.history)
 
--- for each class, what was seen is a beginning of its final history, and what was noted is at most its length
+-- for each class, what was seen and noted is behind its final history
 pub record IsBehindClasses (sight : Sight) (classes : List ClassSide) : Type 0 where
   pub each : (k : ℕ) (s : ClassSide) → slice_get classes k ≡ Some s → IsBehindAt sight s.lock (class_told s.class.history)
 

@@ -3,7 +3,7 @@ use Rattle.std.specs.Prelude.{◌≡◌, ◌≢◌, ◌<◌, ◌+◌, ◌⊎◌,
 use mathlib.Core.List.{IsPrefix}
 use Rattle.atomic_table.specs.Seated.{TableId}
 use Rattle.mc_item.specs.declared.{config.Config.Config, fault.Fault.Fault, fault.Fault.TheVariants.HistoryFull, fault.Fault.TheVariants.NoMemory}
-use Rattle.mc_board.specs.{Histories.list_at, Views.OwnerView, Views.SeenView}
+use Rattle.mc_board.specs.{Histories.Grows, Histories.NotesStay, Histories.list_at, Views.OwnerView, Views.SeenView}
 use Rattle.mc_board.specs.declared.rule.Sight.{Sight}
 use Rattle.mc_item.specs.declared.{command.Command.Command, item.ClassNo.ClassNo}
 use Rattle.mc_evidence.specs.Setting.{IsClass}
@@ -51,6 +51,11 @@ IsShortFor config command s = IsShort config s ⊎ (MayNeedChunk command × HasS
 abbrev pub HasSeenShortFor : Config → ℕ → Command → Sight → Type 0
 HasSeenShortFor config number command sight =
     (config.max_events < length (list_at sight.seen number) + 2) ⊎ (HasSeenShortClass config sight ⊎ (MayNeedChunk command × HasSeenShort config sight))
+
+-- a token later: it has seen no less, and what it has noted stays
+pub record IsLater (old new : Sight) : Type 0 where
+  pub seen : Grows old new
+  pub notes : NotesStay old new
 
 -- for each lock but this one, the old list is a beginning of the new one
 pub record GrowsBut (but : ℕ) (old new : Sight) : Type 0 where

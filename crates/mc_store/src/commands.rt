@@ -2,10 +2,9 @@
 ghost use Rattle.std.specs.Prelude.{◌≡◌, ◌≤◌, ◌⊎◌, ◌+◌, ◌-◌, ◌^◌, IfOk, IfSome, OnOk, OnErr, IsErrOf, length};
 ghost use Rattle.mc_item.specs.{Command.key_of, Measure.stripe_of};
 ghost use Rattle.mc_item.specs.declared.fault.Fault.TheVariants.{HistoryFull};
-ghost use Rattle.mc_board.specs.Histories.{Grows};
 ghost use Rattle.mc_evidence.specs.Setting.{IsClass};
 ghost use Rattle.mc_store.specs.{Calls.IsCutBy, Calls.IsRepliedBy, Callers.turns_of, Hits.IsOffered, Locked.setting_of, Passes.next_who};
-ghost use Rattle.mc_store.specs.Serving.{HasSeenShortFor};
+ghost use Rattle.mc_store.specs.Serving.{HasSeenShortFor, IsLater};
 ghost use Rattle.mc_store.specs.Waking.{reply_in, woken_in};
 
 use crate::answering::{answer, answer_for};
@@ -93,7 +92,7 @@ impl<N: Named> Store<N> {
             command moment) }
         ensures offers { (pass.new.hands ≡ pass.old.hands) ⊎ IsOffered N.config (stripe_of (key_of command) N.config.stripes).0 pass.new.sight
             (next_who pass.old) command moment pass.old.hands pass.new.hands }
-        ensures grows { Grows pass.old.sight pass.new.sight }
+        ensures grows { IsLater pass.old.sight pass.new.sight }
         ensures caller { pass.new.caller ≡ pass.old.caller }
         ensures turn { (pass.new.turn ≡ length (turns_of pass.new.calls)) × OnOk result (pass.new.turn ≡ pass.old.turn + 1) }
         ensures full { IsErrOf result HistoryFull → HasSeenShortFor N.config (stripe_of (key_of command) N.config.stripes).0 command pass.new.sight

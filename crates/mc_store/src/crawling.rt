@@ -2,12 +2,12 @@
 ghost use Rattle.std.specs.Prelude.{◌≡◌, ◌⊎◌, ◌+◌, ◌-◌, ◌^◌, length, IfErr, IfOk, OnOk, IsErrOf, ◌++◌, ◌∷◌, ◌≤◌, [], OnErr};
 ghost use Rattle.mc_item.specs.declared.fault.Fault.TheVariants.{HistoryFull, NoMemory};
 ghost use Rattle.mc_evidence.specs.Setting.{IsClass};
-ghost use Rattle.mc_board.specs.Histories.{Grows, list_at};
+ghost use Rattle.mc_board.specs.Histories.{list_at};
 ghost use Rattle.mc_pull.specs.Growth as classes;
 ghost use Rattle.mc_crawl.specs.{Crawl.Reclaims, CrawlCount.IsBalanced, CrawlCount.MayCount};
 ghost use Rattle.mc_store.specs.Crawls.{CountsLink, IsCrawledBy, IsLinkCounted, IsSeenSound, IsSnapshot, ShowsReclaims};
 ghost use Rattle.mc_store.specs.{Locked.class_lock, Locked.setting_of, Locked.HasBegun, Locked.HasBegunAs, Passes.next_who, Passes.caller_of, Passes.HasCalled};
-ghost use Rattle.mc_store.specs.{Made.WalksOwn, Sides.class_told, Serving.HasSeenShort, Serving.IsServed, Serving.MayFailSeen};
+ghost use Rattle.mc_store.specs.{Made.WalksOwn, Sides.class_told, Serving.HasSeenShort, Serving.IsLater, Serving.IsServed, Serving.MayFailSeen};
 ghost use Rattle.mc_store.specs.Callers.{crawling_of, turns_of};
 ghost use Rattle.mc_pull.specs.Question.{IsClassOf};
 
@@ -106,7 +106,7 @@ impl<N: Named> Store<N> {
             × (snapshot.links ≡ links.items) × (list_at pass.new.sight.seen (class_lock N.config class) ≡ class_told snapshot.history)) }
         ensures few { IfOk result (λ links. length links.items ≤ 2 ^ 32) }
         ensures sound { OnOk result (IsSeenSound N.config class pass.new.sight) }
-        ensures grows { Grows pass.old.sight pass.new.sight }
+        ensures grows { IsLater pass.old.sight pass.new.sight }
         ensures same { pass.new ≡ record pass.old { sight = pass.new.sight } }
         ensures memory { IfErr result (λ fault. fault ≡ NoMemory) }
     {
@@ -139,7 +139,7 @@ impl<N: Named> Store<N> {
         ensures counted { OnOk result (IsLinkCounted N.config class (list_at pass.old.sight.seen (class_lock N.config class))
             (list_at pass.new.sight.seen (class_lock N.config class)) who moment link histogram.old histogram.new) }
         ensures sound { IsSeenSound N.config class pass.new.sight }
-        ensures grows { Grows pass.old.sight pass.new.sight }
+        ensures grows { IsLater pass.old.sight pass.new.sight }
         ensures same { pass.new ≡ record pass.old { sight = pass.new.sight } }
         ensures full { IsErrOf result HistoryFull → HasSeenShort N.config pass.new.sight }
     {
@@ -170,7 +170,7 @@ impl<N: Named> Store<N> {
         ensures crawled { IfOk result (IsCrawledBy N.config class pass.old.sight pass.new.sight (next_who pass.old) moment) }
         ensures few { IfOk result (λ histogram. histogram.seen ≤ 2 ^ 32) }
         ensures hands { pass.new.hands ≡ pass.old.hands }
-        ensures grows { Grows pass.old.sight pass.new.sight }
+        ensures grows { IsLater pass.old.sight pass.new.sight }
         ensures caller { pass.new.caller ≡ pass.old.caller }
         ensures calls { OnOk result (pass.new.calls ≡ pass.old.calls ++ crawling_of class moment ∷ []) }
         ensures cut { OnErr result ((pass.new ≡ pass.old) ⊎ (pass.new.calls ≡ pass.old.calls ++ crawling_of class moment ∷ [])) }

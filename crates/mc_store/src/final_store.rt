@@ -63,9 +63,9 @@ impl Final {
     }
 
     /// Compares the closed store with a pass of it. Nothing changes. Allocates nothing and never waits.
-    /// The pass has seen a beginning of each stripe's and class's final history, and noted at most its length. Each event in
-    /// these histories that names the pass's caller belongs to a call in the caller's history. The caller's commands in them are
-    /// just those at the places that its history gives.
+    /// The pass has seen a beginning of each stripe's and class's final history, and noted at most its length. Figures that it noted
+    /// are those of the history's first so many events. Each event in these histories that names the pass's caller belongs to a call
+    /// in the caller's history. The caller's commands in them are just those at the places that its history gives.
     pub fn compare<N: Named>(&mut self, pass: &mut Pass<N>)
         requires board { self.old.board ≡ N.board.table }
         ensures same { (self.new ≡ self.old) × (pass.new ≡ pass.old) }

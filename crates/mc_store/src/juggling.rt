@@ -2,8 +2,8 @@
 ghost use Rattle.std.specs.Prelude.{◌≡◌, ◌≤◌, ◌⊎◌, ◌+◌, ◌-◌, IfOk, OnOk, IsErrOf, ◌++◌, ◌∷◌, [], OnErr, length};
 ghost use Rattle.mc_item.specs.declared.fault.Fault.TheVariants.{HistoryFull};
 ghost use Rattle.mc_evidence.specs.Setting.{IsClass};
-ghost use Rattle.mc_board.specs.Histories.{Grows};
 ghost use Rattle.mc_store.specs.{Callers.juggling_of, Callers.turns_of, Calls.IsJuggledBy, Hits.Takes, Hits.queue_of, Locked.setting_of, Serving.HasSeenShort};
+ghost use Rattle.mc_store.specs.Serving.{IsLater};
 
 use crate::named::Named;
 use crate::pass::Pass;
@@ -33,7 +33,7 @@ impl<N: Named> Store<N> {
         ensures juggled { IfOk result (IsJuggledBy N.config class pass.old pass.new moment) }
         ensures taken { Takes (queue_of class) pass.old.hands pass.new.hands }
         ensures few { IfOk result (λ moves. moves.reclaimed + moves.moved ≤ 10000) }
-        ensures grows { Grows pass.old.sight pass.new.sight }
+        ensures grows { IsLater pass.old.sight pass.new.sight }
         ensures caller { pass.new.caller ≡ pass.old.caller }
         ensures calls { OnOk result (pass.new.calls ≡ pass.old.calls ++ juggling_of class moment ∷ []) }
         ensures cut { OnErr result ((pass.new ≡ pass.old) ⊎ (pass.new.calls ≡ pass.old.calls ++ juggling_of class moment ∷ [])) }

@@ -1,20 +1,20 @@
 //! The README's headline, said of a closed store: laws, which are contracts without code.
-ghost use Rattle.std.specs.Prelude.{◌≡◌, ◌<◌, ◌+◌, ◌++◌, ℕ, List, IsSomeAnd, None, Some, ◌∷◌, length, slice_get};
+ghost use Rattle.std.specs.Prelude.{◌≡◌, ◌<◌, ◌≤◌, ◌+◌, ◌++◌, ℕ, List, IsSomeAnd, None, Some, ◌∷◌, length, slice_get, take};
 ghost use Rattle.mc_item.specs.{Cache.visible_items, Stripe.IsDead, Stripe.cache_of};
 ghost use Rattle.mc_item.specs.declared.{call_event.CallEvent.CallEvent, class_event.ClassEvent.ClassEvent, command.Command.Command, config.Config.Config};
 ghost use Rattle.mc_item.specs.declared.{item.ClassNo.ClassNo, item.Item.Item, item.Who.Who, reply.Reply.Reply, stripe_event.StripeEvent.StripeEvent};
 ghost use Rattle.mc_item.specs.declared.{stripe_event.Cause.TheVariants.Expired, stripe_event.Cause.TheVariants.Taken, stripe_event.Did.Did};
 ghost use Rattle.mc_item.specs.declared.{stripe_event.Lost.Lost};
 ghost use Rattle.mc_item.specs.declared.stripe_event.StripeEvent.TheVariants as events;
-ghost use Rattle.mc_rule.specs.{Pairs.item_after, Places.Stands};
-ghost use Rattle.mc_evidence.specs.{Losses.AreNoCommands, Losses.IsSameItem, Losses.WasLost, Setting.site_in, Sound.IsSoundStore};
+ghost use Rattle.mc_rule.specs.{Figures.figures_of_lists, Lists.lists_of, Pairs.item_after, Places.Stands};
+ghost use Rattle.mc_evidence.specs.{Losses.AreNoCommands, Losses.IsSameItem, Losses.WasLost, Setting.IsClass, Setting.site_in, Sound.IsSoundStore};
 ghost use Rattle.mc_board.specs.Histories.{Grows};
-ghost use Rattle.mc_board.specs.declared.rule.Sight.{Sight};
-ghost use Rattle.mc_store.specs.{Calls.IsRepliedBy, Headline.IsBorneOut, Locked.setting_of, Passes.PassView};
+ghost use Rattle.mc_board.specs.declared.rule.{Note.Note, Sight.Sight};
+ghost use Rattle.mc_store.specs.{Calls.IsRepliedBy, Headline.IsBorneOut, Locked.class_lock, Locked.setting_of, Passes.PassView};
 ghost use Rattle.mc_store.specs.Callers.{HasNoAnswer, IsBegun, IsCalled, moment_of, turns_of, who_of};
 ghost use Rattle.mc_store.specs.{Made.IsBegunForChunk, Made.WasCalled, Made.maker_of, Sides.ClassSide, Sides.StripeSide};
-ghost use Rattle.mc_store.specs.Finals.{AreClasses, AreItsOwn, AreItsOwnInClasses, AreStripes, FinalView, HasNoDid, IsBehindStripes, class_histories};
-ghost use Rattle.mc_store.specs.Finals.{stripe_histories};
+ghost use Rattle.mc_store.specs.Finals.{AreClasses, AreItsOwn, AreItsOwnInClasses, AreStripes, FinalView, HasNoDid};
+ghost use Rattle.mc_store.specs.Finals.{IsBehindClasses, IsBehindStripes, class_histories, stripe_histories};
 
 /// A closed store bears out each reply to a pass's command. The stripe's final history is legal, and has the command with this
 /// reply in one event, after all that the pass had seen of the stripe before the call.
@@ -100,4 +100,14 @@ pub fn a_turn_of_a_closed_store_is_answered_once()
         → slice_get final.stripes number ≡ Some s → slice_get s.stripe.history place ≡ Some (events.Did did)
         → slice_get final.stripes number_too ≡ Some s_too → slice_get s_too.stripe.history place_too ≡ Some (events.Did did_too)
         → (number ≡ number_too) × (place ≡ place_too) }
+{}
+
+/// Figures that a pass noted of a slab class are those of the class's lists after the first so many events of its final history.
+/// It holds if the pass was compared with the closed store.
+pub fn a_closed_store_bears_out_figures()
+    ensures { (config : Config) (final : FinalView) (sight : Sight) (note : Note) (class : ClassNo) (place : ℕ)
+        → IsClass (setting_of config) class → AreClasses final.board config final.classes → IsBehindClasses sight final.classes
+        → slice_get sight.figures place ≡ Some note → note.lock ≡ class_lock config class
+        → (note.events ≤ length (class_histories final.classes class))
+        × (note.values ≡ figures_of_lists (lists_of (take note.events (class_histories final.classes class)))) }
 {}

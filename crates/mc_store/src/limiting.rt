@@ -2,11 +2,11 @@
 ghost use Rattle.std.specs.Prelude.{◌≡◌, ◌<◌, ◌≤◌, ◌⊎◌, ◌+◌, ◌^◌, ◌++◌, ◌∷◌, [], IfErr, OnOk, OnErr, IsErrOf, length};
 ghost use Rattle.mc_item.specs.declared.fault.Fault.TheVariants.{HistoryFull};
 ghost use Rattle.mc_evidence.specs.Setting.{IsClass};
-ghost use Rattle.mc_board.specs.Histories.{Grows, list_at};
+ghost use Rattle.mc_board.specs.Histories.{list_at};
 ghost use Rattle.mc_segment.specs.ClassCalls.{limited_event};
 ghost use Rattle.mc_pull.specs.Growth as classes;
-ghost use Rattle.mc_store.specs.{Callers.call_events, Callers.limits_of, Callers.turns_of, Calls.IsLimitedBy, Locked.caller_place, Locked.setting_of};
-ghost use Rattle.mc_store.specs.{Made.IsLimitCalled, Passes.next_who, Serving.HasSeenShort, Serving.MayFailSeen};
+ghost use Rattle.mc_store.specs.{Callers.call_events, Callers.limits_of, Callers.turns_of, Calls.HasGained, Locked.caller_place, Locked.setting_of};
+ghost use Rattle.mc_store.specs.{Made.IsLimitCalled, Passes.next_who, Serving.HasSeenShort, Serving.IsLater, Serving.MayFailSeen};
 
 use crate::locked::LockedClass;
 use crate::named::Named;
@@ -30,6 +30,7 @@ fn limit_under<N: Named>(
     requires called { IsLimitCalled (call_events (list_at class.old.sight.seen (caller_place N.config who.caller))) class.old.class.number
         (record { who = who; chunks = chunks }) }
     ensures made { OnOk result (class.new.class.history ≡ class.old.class.history ++ limited_event who chunks ∷ []) }
+    ensures stays { OnErr result (class.new.class.history ≡ class.old.class.history) }
     ensures class { classes.GainsEvents class.old.class class.new.class }
     ensures fault { IfErr result (MayFailSeen N.config class.new.sight class.new.class) }
 {
@@ -43,7 +44,7 @@ fn limit_under<N: Named>(
 impl<N: Named> Store<N> {
     /// Sets a class's limit of chunks, from 1 to 2^20. From then on the class is full if it has at least that many entries. A lower
     /// limit evicts nothing by itself: commands that need a chunk make room. It waits for the class's lock alone.
-    /// After a fault what happened so far stays. `HistoryFull` comes only if a stripe's or class's history has fewer than two
+    /// After a fault the limit is what it was. `HistoryFull` comes only if a stripe's or class's history has fewer than two
     /// places left, or the pass has had `max_events` turns. `NoMemory` comes if an allocation fails.
     pub fn chunks(
         &self,
@@ -55,12 +56,14 @@ impl<N: Named> Store<N> {
         requires class { IsClass (setting_of N.config) class }
         requires some { 1 ≤ chunks }
         requires bound { chunks ≤ 2 ^ 20 }
-        ensures limited { OnOk result (IsLimitedBy N.config class pass.old.sight pass.new.sight (next_who pass.old) chunks) }
+        ensures limited { OnOk result (HasGained N.config class pass.old.sight pass.new.sight (next_who pass.old)
+            (limited_event (next_who pass.old) chunks ∷ [])) }
         ensures hands { pass.new.hands ≡ pass.old.hands }
-        ensures grows { Grows pass.old.sight pass.new.sight }
+        ensures grows { IsLater pass.old.sight pass.new.sight }
         ensures caller { pass.new.caller ≡ pass.old.caller }
         ensures calls { OnOk result (pass.new.calls ≡ pass.old.calls ++ limits_of class chunks ∷ []) }
-        ensures cut { OnErr result ((pass.new ≡ pass.old) ⊎ (pass.new.calls ≡ pass.old.calls ++ limits_of class chunks ∷ [])) }
+        ensures cut { OnErr result ((pass.new ≡ pass.old) ⊎ ((pass.new.calls ≡ pass.old.calls ++ limits_of class chunks ∷ [])
+            × HasGained N.config class pass.old.sight pass.new.sight (next_who pass.old) [])) }
         ensures turn { (pass.new.turn ≡ length (turns_of pass.new.calls)) × OnOk result (pass.new.turn ≡ pass.old.turn + 1) }
         ensures full { IsErrOf result HistoryFull → HasSeenShort N.config pass.new.sight ⊎ (N.config.max_events ≤ pass.old.turn) }
     {

@@ -1,14 +1,17 @@
-//! Calls that change nothing but what a pass has noted: visits, counts and meetings.
-ghost use Rattle.std.specs.Prelude.{◌≡◌, ◌<◌, ◌≤◌, length};
+//! Calls that change nothing but what a pass has noted: visits, counts, figures and meetings.
+ghost use Rattle.std.specs.Prelude.{◌≡◌, ◌<◌, ◌≤◌, ◌⊎◌, ◌/◌, ◌%◌, IfErr, IfOk, MatchResult, length};
 ghost use Rattle.std.specs.Fn.{FnOnceReturnsAt, FnOnceTakesAt};
-ghost use Rattle.mc_board.specs.{Histories.list_at, Histories.number_at, Histories.with_noted, Histories.AreInLine, Views.locks_of};
-ghost use Rattle.mc_store.specs.{Locked.lock_of, Locked.IsLock, Locked.IsStripeUnder, Sides.StripeSide};
+ghost use Rattle.mc_board.specs.{Histories.list_at, Histories.number_at, Histories.with_figures, Histories.with_noted, Histories.AreInLine, Views.locks_of};
+ghost use Rattle.mc_board.specs.Looking.{note_of};
+ghost use Rattle.mc_evidence.specs.Setting.{IsClass};
+ghost use Rattle.mc_store.specs.{Locked.class_lock, Locked.lock_of, Locked.setting_of, Locked.IsLock, Locked.IsStripeUnder, Sides.StripeSide};
 
 use crate::lock_no::LockNo;
 use crate::named::Named;
 use crate::pass::Pass;
 use crate::store::Store;
-use mc_item::StripeNo;
+use mc_board::{Busy, Figures};
+use mc_item::{ClassNo, StripeNo};
 use mc_stripe::StripeState;
 use std::sync::Wait;
 
@@ -51,6 +54,27 @@ impl<N: Named> Store<N> {
     {
         let place = self.lock_of(lock);
         pass.seen.count(&self.board, place)
+    }
+
+    /// Reads a slab class's figures without its lock: how many events its history has, and how many bytes and items HOT, WARM, COLD
+    /// and TEMP had after these events. They are of one moment. The pass notes them, and they are no older than what it had seen
+    /// and noted of the class. Allocates nothing and never waits.
+    /// Errors: `Busy` if the class was changed meanwhile. Then the pass notes a number of events alone, as `events` does. Try again.
+    pub fn figures(&self, pass: &mut Pass<N>, class: ClassNo) -> Result<Figures, Busy>
+        requires { IsClass (setting_of N.config) class }
+        ensures noted { MatchResult result
+            (λ figures. pass.new ≡ record pass.old {
+              sight = with_figures (with_noted pass.old.sight (class_lock N.config class) figures.events)
+                  (note_of (class_lock N.config class) figures);
+            })
+            (λ busy. pass.new ≡ record pass.old { sight = with_noted pass.old.sight (class_lock N.config class) (busy.last / 2) }) }
+        ensures seen { IfOk result (λ figures. length (list_at pass.old.sight.seen (class_lock N.config class)) ≤ figures.events) }
+        ensures later { MatchResult result (λ figures. number_at pass.old.sight.noted (class_lock N.config class) ≤ figures.events)
+            (λ busy. number_at pass.old.sight.noted (class_lock N.config class) ≤ busy.first / 2) }
+        ensures busy { IfErr result (λ busy. ((busy.first % 2 ≡ 1) × (busy.last ≡ busy.first)) ⊎ (busy.first < busy.last)) }
+    {
+        let place = self.lock_of(LockNo::Class(class));
+        pass.seen.figures(&self.board, place)
     }
 
     /// Compares two passes: for each lock, what one of them has seen is a beginning of what the other has. Nothing changes.

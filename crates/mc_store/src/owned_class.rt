@@ -2,7 +2,7 @@
 ghost use Rattle.std.specs.Prelude.{◌≡◌, []};
 ghost use mathlib.Core.List.{IsPrefix};
 ghost use Rattle.mc_board.specs.Histories.{list_at, with_seen, Grows};
-ghost use Rattle.mc_store.specs.{Finals.IsBehindAt, Sides.class_told, Sides.stripe_told, Serving.GrowsBut};
+ghost use Rattle.mc_store.specs.{Finals.IsBehindAt, Sides.class_told, Sides.stripe_told, Serving.GrowsBut, Serving.IsLater};
 
 use crate::owned_stripe::OwnedStripe;
 use mc_board::{Board, Owner, Seen};
@@ -32,7 +32,7 @@ impl Model for OwnedClass {
         × (s.seen.board ≡ s.owner.board) };
 }
 
-// Adds to the board the events of the class that the board lacks.
+// Adds to the board the events of the class that the board lacks, with the figures that they leave.
 #[inline(always)]
 pub(crate) fn catch_up_class(state: &ClassState, owner: &mut Owner, board: &Board)
     requires board { owner.old.board ≡ board.now.table }
@@ -40,7 +40,7 @@ pub(crate) fn catch_up_class(state: &ClassState, owner: &mut Owner, board: &Boar
     ensures { owner.new ≡ record owner.old { history = class_told state.now.history } }
 {
     state.law();
-    owner.catch_up(board, state.history());
+    owner.publish(board, state.history(), &state.figures());
 }
 
 impl OwnedClass {
@@ -114,7 +114,7 @@ impl OwnedClass {
         ensures same { self.new ≡ self.old }
         ensures board { seen.new.board ≡ seen.old.board }
         ensures told { list_at seen.new.sight.seen self.old.lock ≡ class_told self.old.class.history }
-        ensures grows { Grows seen.old.sight seen.new.sight }
+        ensures grows { IsLater seen.old.sight seen.new.sight }
         ensures theirs { GrowsBut self.old.lock self.old.sight seen.new.sight }
         ensures all { Grows self.old.sight seen.new.sight }
     {

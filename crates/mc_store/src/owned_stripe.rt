@@ -2,7 +2,7 @@
 ghost use Rattle.std.specs.Prelude.{◌≡◌, [], length};
 ghost use mathlib.Core.List.{IsPrefix};
 ghost use Rattle.mc_board.specs.Histories.{list_at, with_seen, Grows};
-ghost use Rattle.mc_store.specs.{Finals.IsBehindAt, Sides.class_told, Sides.stripe_told, Serving.GrowsBut};
+ghost use Rattle.mc_store.specs.{Finals.IsBehindAt, Sides.class_told, Sides.stripe_told, Serving.GrowsBut, Serving.IsLater};
 
 use crate::owned_class::OwnedClass;
 use mc_board::{Board, Owner, Seen};
@@ -109,7 +109,7 @@ impl OwnedStripe {
         ensures same { self.new ≡ self.old }
         ensures board { seen.new.board ≡ seen.old.board }
         ensures told { list_at seen.new.sight.seen self.old.lock ≡ stripe_told self.old.stripe.history }
-        ensures grows { Grows seen.old.sight seen.new.sight }
+        ensures grows { IsLater seen.old.sight seen.new.sight }
         ensures theirs { GrowsBut self.old.lock self.old.sight seen.new.sight }
         ensures all { Grows self.old.sight seen.new.sight }
     {

@@ -7,6 +7,7 @@ mod class_checker;
 mod commands;
 mod counters;
 mod ends;
+mod figures;
 mod full_classes;
 mod full_neighbours;
 mod full_store;
@@ -19,6 +20,10 @@ mod playing;
 mod running;
 mod sharing;
 mod upkeep;
+mod watching;
 
 /// What tests draw by.
 const SEED: u64 = 0;
+
+/// Figures are read so often beside threads that write.
+const READS: u32 = 200_000;

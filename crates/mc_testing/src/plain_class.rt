@@ -120,6 +120,31 @@ impl PlainClass {
         many
     }
 
+    // The sum of the costs of a segment's entries.
+    fn bytes(&self, seg: Seg) -> u64 {
+        let mut bytes = 0u64;
+        for kept in &self.entries {
+            if kept.seg == seg {
+                bytes = bytes.wrapping_add(kept.cost);
+            }
+        }
+        bytes
+    }
+
+    /// Returns the bytes of HOT, WARM, COLD and TEMP, then how many entries each has.
+    pub fn figures(&self) -> [u64; 8] {
+        [
+            self.bytes(Seg::Hot),
+            self.bytes(Seg::Warm),
+            self.bytes(Seg::Cold),
+            self.bytes(Seg::Temp),
+            self.len(Seg::Hot),
+            self.len(Seg::Warm),
+            self.len(Seg::Cold),
+            self.len(Seg::Temp),
+        ]
+    }
+
     // Whether no chunk is free.
     fn is_full(&self) -> bool {
         self.entries.len() as u64 >= self.chunks
@@ -304,9 +329,10 @@ impl PlainClass {
         Ok(())
     }
 
-    /// Compares the lists with those of the real class, and returns what is wrong.
+    /// Compares the lists and the figures with those of the real class, and returns what is wrong.
     pub fn compare(&self, class: &ClassState) -> Checked {
         holds(class.next_number() == self.next, "another next number")?;
+        holds(class.figures() == self.figures(), "other figures")?;
         for seg in SEGS.as_slice() {
             self.compare_list(class, *seg)?;
         }

@@ -7,7 +7,7 @@ use super::deeds::{Call, New, try_force, try_link};
 use super::rows::Ask::{Do, Hit, KeepActive, Reserve, See, SetChunks, Survey, Surveys};
 use super::rows::Deed::{Evict, Force, Link, Reclaim, Refuse, Unlink};
 use super::rows::Sight::{
-    Bytes, Chunks, Count, Events, IsFull, NextNumber, Number, Segment, Tail, TailKey, Time,
+    Bytes, Chunks, Count, Events, Figures, IsFull, NextNumber, Number, Segment, Tail, TailKey, Time,
 };
 use super::rows::{Row, Start, play};
 use mc_item::Expiry::{At, Never};
@@ -59,17 +59,21 @@ const fn letting_go(chunks: u64) -> Start {
 }
 
 // A worked example: two entries, a forced move, an eviction, a third entry and two surveys.
-static OLDEST: [Row; 15] = [
+static OLDEST: [Row; 19] = [
+    (See(Figures), "[0, 0, 0, 0, 0, 0, 0, 0]"),
     (Do(Link("a", 66, 1000, Never)), "0"),
     (Do(Link("b", 66, 1000, Never)), "1"),
     (See(Bytes(Hot)), "132"),
     (See(Count), "2"),
+    (See(Figures), "[132, 0, 0, 0, 2, 0, 0, 0]"),
     (Do(Force(1000)), "0"),
     (See(Bytes(Hot)), "66"),
     (See(Bytes(Cold)), "66"),
+    (See(Figures), "[66, 0, 66, 0, 1, 0, 1, 0]"),
     (Survey(1003), "[3, 132, 3]"),
     (Do(Evict), "0"),
     (See(Count), "1"),
+    (See(Figures), "[66, 0, 0, 0, 1, 0, 0, 0]"),
     (Do(Link("c", 66, 1004, Never)), "2"),
     (Do(Unlink(1)), "1"),
     (See(Segment(1)), "None"),
@@ -82,12 +86,13 @@ fn the_oldest_is_forced_out(rt: HostRuntime) -> Result<(), Fail> {
     play(&rt, rt.alloc(), of(2), OLDEST.as_slice())
 }
 
-static TIMES: [Row; 8] = [
+static TIMES: [Row; 9] = [
     (Do(Link("a", 66, 1000, Never)), "0"),
     (Do(Force(1010)), "0"),
     (See(Time(Cold)), "1000"),
     (Hit(0, 1020), "0"),
     (See(Time(Warm)), "1020"),
+    (See(Figures), "[0, 66, 0, 0, 0, 1, 0, 0]"),
     (KeepActive(1030), "0"),
     (See(Time(Warm)), "1030"),
     (See(Segment(0)), "Some(Warm)"),
@@ -99,13 +104,14 @@ fn hits_set_the_time_and_forced_moves_keep_it(rt: HostRuntime) -> Result<(), Fai
 }
 
 // TEMP isn't counted by a survey.
-static DYING: [Row; 8] = [
+static DYING: [Row; 9] = [
     (Do(Link("a", 66, 1000, At(1061))), "0"),
     (Do(Link("b", 67, 1000, At(1062))), "1"),
     (Do(Link("c", 68, 1000, At(1000))), "2"),
     (Do(Link("d", 69, 1000, Never)), "3"),
     (See(Bytes(Temp)), "66"),
     (See(Bytes(Hot)), "204"),
+    (See(Figures), "[204, 0, 0, 66, 3, 0, 0, 1]"),
     (See(NextNumber), "4"),
     (Survey(1000), "[4, 204, 0]"),
 ];

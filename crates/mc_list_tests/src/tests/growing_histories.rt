@@ -1,11 +1,15 @@
-//! Histories counted by one thread, and raced for by three.
-ghost use Rattle.std.specs.Prelude.{◌≡◌, ◌+◌, ◌<◌, ◌≤◌, ◌^◌, [], length};
+//! Histories counted by one thread, and raced for by three. Figures read while another thread publishes them.
+ghost use Rattle.std.specs.Prelude.{◌≡◌, ◌+◌, ◌*◌, ◌<◌, ◌≤◌, ◌^◌, ◌∷◌, [], length, map, false};
+ghost use mathlib.Core.List.{IsPrefix};
+ghost use Rattle.mc_item.specs.declared.event.Event.TheVariants.{Call};
+ghost use Rattle.mc_evidence.specs.Seen.{class_events};
 ghost use Rattle.mc_board.specs.Views.{locks_of};
+ghost use Rattle.mc_list_tests.specs.Rounds.{HasRounds};
 
 use super::WHO;
-use mc_board::{Board, Owner, Seen};
+use mc_board::{Board, Busy, Figures, Owner, Seen};
 use mc_history::{History, Shows};
-use mc_item::{ClassEvent, Cooled, Key, Logged, StripeEvent, Unlinked};
+use mc_item::{CallEvent, ClassEvent, ClassNo, Cooled, Key, Logged, Seg, StripeEvent, Worked};
 use mc_segment::ShownClass;
 use std::alloc::Global;
 use std::process::Abort;
@@ -13,10 +17,21 @@ use std::snapshot::Snapshot;
 use std::thread;
 use std::thread::Threads;
 
+// An event of a caller: it asked for a class to be juggled.
+fn juggled() -> CallEvent
+    ensures { class_events (Call result ∷ []) ≡ [] }
+{
+    CallEvent::Juggled(Worked {
+        class: ClassNo(1),
+        moment: 0,
+    })
+}
+
 // Appends the event this many times.
 fn append_many<E: Logged>(board: &Board, owner: &mut Owner, event: &E, times: u64)
     requires board { owner.old.board ≡ board.now.table }
     requires room { length owner.old.history + times ≤ 2 ^ 32 }
+    requires plain { class_events (E.entry event.now ∷ []) ≡ [] }
     ensures same { (owner.new.board ≡ owner.old.board) × (owner.new.lock ≡ owner.old.lock) }
 {
     for _i in 0..times {
@@ -45,6 +60,7 @@ fn append_and_tell<E: Logged>(
 )
     requires board { (owner.old.board ≡ board.now.table) × (token.old.board ≡ board.now.table) }
     requires room { length owner.old.history + times ≤ 2 ^ 32 }
+    requires plain { class_events (E.entry event.now ∷ []) ≡ [] }
     ensures owner { (owner.new.board ≡ owner.old.board) × (owner.new.lock ≡ owner.old.lock) }
     ensures token { token.new.board ≡ token.old.board }
 {
@@ -104,6 +120,14 @@ fn three_appended_events_are_counted(rt: HostRuntime) {
     asserts_counts(&rt, &board, &mut root, [0, 3, 0]);
 }
 
+// What a history is shown of a caller's event that it lets go.
+#[derive(Drop)]
+struct ShownCall(Snapshot<CallEvent>);
+
+impl Shows<CallEvent> for ShownCall {
+    ghost event = { λ s. s.0.value };
+}
+
 // Lets an owner without events catch up with a list, and once more.
 fn catch_up_twice<E: Logged + Drop, S: Shows<E> + Drop>(
     board: &Board,
@@ -113,6 +137,7 @@ fn catch_up_twice<E: Logged + Drop, S: Shows<E> + Drop>(
     requires board { owner.old.board ≡ board.now.table }
     requires empty { owner.old.history ≡ [] }
     requires few { length events.now.items ≤ 2 ^ 32 }
+    requires plain { class_events (map E.entry events.now.items) ≡ [] }
     ensures { (owner.new.board ≡ owner.old.board) × (owner.new.lock ≡ owner.old.lock) }
 {
     owner.catch_up(board, events);
@@ -122,18 +147,12 @@ fn catch_up_twice<E: Logged + Drop, S: Shows<E> + Drop>(
 // An owner without events catches up with two, each of which is added once.
 #[test]
 fn an_owner_catches_up_with_a_list(rt: HostRuntime) {
-    let first = ClassEvent::Unlinked(Unlinked {
-        who: WHO,
-        number: 1,
-    });
-    let second = ClassEvent::Unlinked(Unlinked {
-        who: WHO,
-        number: 2,
-    });
     let mut events = History::new(rt.alloc());
     events.reserve(2).expect(&rt, "room");
-    events.push_reserved(&ShownClass::Whole(Snapshot::of(&first)), Some(first));
-    events.push_reserved(&ShownClass::Whole(Snapshot::of(&second)), Some(second));
+    let first = juggled();
+    events.push_reserved(&ShownCall(Snapshot::of(&first)), Some(first));
+    let second = juggled();
+    events.push_reserved(&ShownCall(Snapshot::of(&second)), Some(second));
     let (board, mut owners, mut token) = Board::open(rt.alloc(), 3).expect(&rt, "a board");
     asserts_many(&rt, owners.len(), 3);
     catch_up_twice(&board, &mut owners[2], &events);
@@ -143,10 +162,7 @@ fn an_owner_catches_up_with_a_list(rt: HostRuntime) {
 // One token was told of lock 0, another of lock 1. Once the second has learnt what the first has seen, it counts both.
 #[test]
 fn a_token_learns_what_another_has_seen(rt: HostRuntime) {
-    let event = ClassEvent::Unlinked(Unlinked {
-        who: WHO,
-        number: 1,
-    });
+    let event = juggled();
     let (board, mut owners, mut first) = Board::open(rt.alloc(), 3).expect(&rt, "a board");
     let mut second = first.split(&board);
     asserts_many(&rt, owners.len(), 3);
@@ -193,10 +209,7 @@ fn append_and_count<R: Threads + Sync>(
     requires locks { 1 < locks_of board.now.counts }
     requires empty { owner.old.history ≡ [] }
 {
-    let event = ClassEvent::Unlinked(Unlinked {
-        who: WHO,
-        number: 1,
-    });
+    let event = juggled();
     let (_, rising) = thread::join(
         rt,
         || append_many(board, owner, &event, 10_000),
@@ -218,10 +231,7 @@ fn race<R: Threads + Sync>(
     requires locks { 1 < locks_of board.now.counts }
     requires empty { (first.history ≡ []) × (second.history ≡ []) }
 {
-    let event = ClassEvent::Unlinked(Unlinked {
-        who: WHO,
-        number: 0,
-    });
+    let event = juggled();
     let mut other = token.split(board);
     let (_, rising) = thread::join(
         rt,
@@ -248,4 +258,173 @@ fn no_count_falls_while_two_threads_append(rt: HostRuntime) {
     let first = owners.pop().expect(&rt, "an owner");
     let (rising, counts) = race(&rt, &board, first, second, &mut token);
     asserts_race(&rt, rising, counts);
+}
+
+type ClassHistory = History<ClassEvent, ShownClass>;
+
+// Plays one round more: an entry of 69 bytes is linked in HOT, and one in COLD. The history lets the events go.
+fn play_round(history: &mut ClassHistory, key: &Key, round: u64)
+    requires room { 1 < history.old.room }
+    requires kept { history.old.kept ≡ false }
+    requires rounds { HasRounds history.old.items round }
+    ensures rounds { HasRounds history.new.items (round + 1) }
+    ensures begins { IsPrefix history.old.items history.new.items }
+    ensures room { history.old.room ≡ history.new.room + 2 }
+    ensures kept { history.new.kept ≡ false }
+{
+    let hot = ShownClass::Linked {
+        who: WHO,
+        number: round,
+        key: Snapshot::of(key),
+        cost: 69,
+        seg: Seg::Hot,
+        moment: 0,
+    };
+    history.push_reserved(&hot, None);
+    let cold = ShownClass::Linked {
+        who: WHO,
+        number: round,
+        key: Snapshot::of(key),
+        cost: 69,
+        seg: Seg::Cold,
+        moment: 0,
+    };
+    history.push_reserved(&cold, None);
+}
+
+// Plays this many rounds, and publishes the figures after each: 69 bytes more in HOT and in COLD, and one entry more.
+fn publish_rounds(
+    board: &Board,
+    owner: &mut Owner,
+    history: &mut ClassHistory,
+    key: &Key,
+    rounds: u64,
+)
+    requires board { owner.old.board ≡ board.now.table }
+    requires empty { (owner.old.history ≡ []) × (history.old.items ≡ []) }
+    requires room { (2 * rounds ≤ history.old.room) × (2 * rounds ≤ 2 ^ 32) }
+    requires kept { history.old.kept ≡ false }
+    ensures same { (owner.new.board ≡ owner.old.board) × (owner.new.lock ≡ owner.old.lock) }
+{
+    for round in 0..rounds {
+        play_round(history, key, round);
+        let bytes = 69 * (round + 1);
+        let figures = [bytes, 0, bytes, 0, round + 1, 0, round + 1, 0];
+        owner.publish(board, history, &figures);
+    }
+}
+
+// Whether figures are of a moment between two rounds.
+fn is_of_one_moment(f: &Figures) -> bool {
+    let rounds = f.events / 2;
+    let bytes = rounds.wrapping_mul(69);
+    f.events % 2 == 0 && f.counts == [rounds, 0, rounds, 0] && f.bytes == [bytes, 0, bytes, 0]
+}
+
+// Whether a try gave figures of one moment, or says why not: the owner was writing, or it has written since.
+fn is_right(found: &Result<Figures, Busy>) -> bool {
+    match found {
+        Ok(f) => is_of_one_moment(f),
+        Err(b) if b.first % 2 == 1 => b.last == b.first,
+        Err(b) => b.first < b.last,
+    }
+}
+
+// Tries this many times to read the figures of lock 0, and says whether each answer was right.
+fn read_many(board: &Board, token: &mut Seen, tries: u64) -> bool
+    requires board { token.old.board ≡ board.now.table }
+    requires locks { 0 < locks_of board.now.counts }
+    ensures { token.new.board ≡ token.old.board }
+{
+    let mut right = true;
+    for _i in 0..tries {
+        let found = token.figures(board, 0);
+        right = right && is_right(&found);
+    }
+    right
+}
+
+// One thread publishes figures after each of 500 rounds, and another tries 500 times to read them.
+fn publish_and_read<R: Threads + Sync>(
+    rt: &R,
+    board: &Board,
+    owner: &mut Owner,
+    history: &mut ClassHistory,
+    key: &Key,
+    token: &mut Seen,
+) -> bool
+    requires board { (owner.old.board ≡ board.now.table) × (token.old.board ≡ board.now.table) }
+    requires locks { 0 < locks_of board.now.counts }
+    requires empty { (owner.old.history ≡ []) × (history.old.items ≡ []) }
+    requires room { 1000 ≤ history.old.room }
+    requires kept { history.old.kept ≡ false }
+{
+    let (_, right) = thread::join(
+        rt,
+        || publish_rounds(board, owner, history, key, 500),
+        || read_many(board, token, 500),
+    );
+    right
+}
+
+// A try gave these figures.
+fn asserts_figures<R: Abort>(
+    rt: &R,
+    found: Result<Figures, Busy>,
+    events: u64,
+    bytes: [u64; 4],
+    counts: [u64; 4],
+) {
+    let wanted = Figures {
+        events,
+        bytes,
+        counts,
+    };
+    assert_eq!(rt; found, Ok(wanted));
+}
+
+// Every answer was right.
+fn asserts_right<R: Abort>(rt: &R, right: bool) {
+    assert!(rt; right);
+}
+
+// A token that has seen nothing reads the last figures, after 500 rounds of two entries of 69 bytes each.
+#[test]
+fn figures_are_of_one_moment_while_they_are_published(rt: HostRuntime) {
+    let key = Key::of(rt.alloc(), b"a").expect(&rt, "a key");
+    let mut history = History::keeping(rt.alloc(), false);
+    history.reserve(1000).expect(&rt, "room");
+    let (board, mut owners, mut first) = Board::open(rt.alloc(), 1).expect(&rt, "a board");
+    let mut second = first.split(&board);
+    asserts_many(&rt, owners.len(), 1);
+    let right = publish_and_read(&rt, &board, &mut owners[0], &mut history, &key, &mut first);
+    asserts_right(&rt, right);
+    let found = second.figures(&board, 0);
+    asserts_figures(&rt, found, 1000, [34_500, 0, 34_500, 0], [500, 0, 500, 0]);
+}
+
+// A class's owner publishes one round, and a stripe's owner adds three events, which leave no figures.
+#[test]
+fn figures_that_were_read_are_compared(rt: HostRuntime) {
+    let key = Key::of(rt.alloc(), b"a").expect(&rt, "a key");
+    let mut history = History::keeping(rt.alloc(), false);
+    history.reserve(2).expect(&rt, "room");
+    let (board, mut owners, mut token) = Board::open(rt.alloc(), 2).expect(&rt, "a board");
+    asserts_many(&rt, owners.len(), 2);
+    publish_rounds(&board, &mut owners[0], &mut history, &key, 1);
+    append_cooled(&rt, rt.alloc(), &board, &mut owners[1]);
+    asserts_two(&rt, &board, &mut token);
+    owners[0].compare(&board, &mut token);
+}
+
+// The figures of lock 0 are those of a round, and those of lock 1 are of three events that are no class's.
+fn asserts_two<R: Abort>(rt: &R, board: &Board, token: &mut Seen)
+    requires board { token.old.board ≡ board.now.table }
+    requires locks { locks_of board.now.counts ≡ 2 }
+    ensures { token.new.board ≡ token.old.board }
+{
+    let found = token.figures(board, 0);
+    asserts_figures(rt, found, 2, [69, 0, 69, 0], [1, 0, 1, 0]);
+    let found = token.figures(board, 1);
+    asserts_figures(rt, found, 3, [0, 0, 0, 0], [0, 0, 0, 0]);
 }

@@ -56,6 +56,8 @@ pub(super) enum Sight {
     Cost(u64),
     // The key of an entry.
     Key(u64),
+    // The bytes of HOT, WARM, COLD and TEMP, and then how many entries each has.
+    Figures,
 }
 
 /// What a row does or looks at.
@@ -223,6 +225,7 @@ fn look<R: Abort>(rt: &R, alloc: Global, class: &ClassState, sight: Sight) -> St
         Sight::TailKey(seg, j) => text_of_tail_key(rt, alloc, class, seg, j),
         Sight::Passed(j) => text_of_passed(rt, alloc, class, j),
         Sight::Key(number) => text_of_key(rt, alloc, class, number),
+        Sight::Figures => numbers_text(rt, alloc, &class.figures()),
         _ => some_text(rt, alloc, number_of(class, sight)),
     }
 }

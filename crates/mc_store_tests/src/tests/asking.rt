@@ -1,12 +1,17 @@
 //! What the tests ask stores for; where that fails, the test ends.
 ghost use Rattle.std.specs.Prelude.{◌<◌, ◌≤◌, ◌^◌, length};
 
+use mc_board::Figures;
 use mc_item::{ClassNo, Command, Histogram, Moves, Reply, Verb};
 use mc_store::{Named, Pass, Store};
 use mc_testing::{try_key, try_storage};
 use std::alloc::Global;
 use std::process::Abort;
 use std::sync::Wait;
+use std::thread;
+
+// A class that is busy is read so often, and lets others run in between.
+const TRIES: u32 = 10_000_000;
 
 /// What is asked for a key.
 #[derive(Clone, Copy)]
@@ -133,6 +138,24 @@ pub(super) fn limit<N: Named, R: Abort + Wait>(
     store.chunks(rt, pass, class, chunks).expect(rt, "a limit");
 }
 
+/// Reads a class's figures, once it isn't busy.
+pub(super) fn figures<N: Named, R: Abort>(
+    rt: &R,
+    store: &Store<N>,
+    pass: &mut Pass<N>,
+    class: ClassNo,
+) -> Figures
+    requires { (0 < class.0) × (class.0 ≤ length N.config.sizes) }
+{
+    for _ in 0..TRIES {
+        match store.figures(pass, class) {
+            Ok(figures) => return figures,
+            Err(_) => thread::yield_now(),
+        }
+    }
+    panic!(rt; "too often busy")
+}
+
 // A text of its own.
 fn owned<R: Abort>(rt: &R, alloc: Global, text: &str) -> String {
     format!(in alloc; "{text}").expect(rt, "a text")
@@ -164,4 +187,23 @@ pub(super) fn text_of_value<R: Abort>(rt: &R, alloc: Global, reply: &Reply) -> S
         Reply::Value { value, .. } => text_of(rt, alloc, value.bytes()),
         _ => owned(rt, alloc, "-"),
     }
+}
+
+// Four numbers as a text.
+fn four<R: Abort>(rt: &R, alloc: Global, numbers: [u64; 4]) -> String {
+    let [hot, warm, cold, temp] = numbers;
+    format!(in alloc; "{hot} {warm} {cold} {temp}").expect(rt, "a text")
+}
+
+/// A class's figures in one line.
+pub(super) fn text_of_figures<R: Abort>(rt: &R, alloc: Global, figures: Figures) -> String {
+    let bytes = four(rt, alloc, figures.bytes);
+    let items = four(rt, alloc, figures.counts);
+    format!(in alloc;
+        "events {}; bytes {}; items {}",
+        figures.events,
+        bytes.as_str(),
+        items.as_str()
+    )
+    .expect(rt, "a text")
 }

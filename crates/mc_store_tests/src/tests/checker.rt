@@ -1,12 +1,13 @@
-//! Threads make drawn commands on a shared store while two others juggle and crawl its classes; then a plain memcached
-//! replays what the closed store's stripes say happened, and each thread finds there what it was answered.
+//! Threads make drawn commands on a shared store while others juggle and crawl its classes, set their limits and read their
+//! figures; then a plain memcached replays what the closed store's stripes say happened, and each thread finds there what it was
+//! answered.
 ghost use Rattle.std.specs.Prelude.{◌≡◌, length};
 
 use super::SEED;
 use super::class_checker::check_classes;
 use super::ends::stripe_event;
 use super::opening::two_classes;
-use super::playing::{COMMANDS, PLAYERS};
+use super::playing::{COMMANDS, OTHERS, PLAYERS};
 use super::sharing::{Call, Task, share};
 use mc_history::History;
 use mc_item::{Cause, ClassEvent, ClassNo, Did, Lost, Reply, Room, StripeEvent, StripeNo};
@@ -20,8 +21,8 @@ use std::random::RandomSource;
 use std::sync::Wait;
 use std::thread::Threads;
 
-// So many chunks has each class.
-const CHUNKS: [u64; 2] = [4, 1];
+/// So many chunks has each class when its store opens.
+pub(super) const CHUNKS: [u64; 2] = [4, 1];
 
 // A value as a text.
 fn shown<T: Debug, R: Abort>(rt: &R, alloc: Global, value: &T) -> String {
@@ -188,7 +189,7 @@ fn are_found(calls: &Vec<Call>) -> bool {
 
 // Ends the test where a call that was answered was found nowhere, or a player didn't make all its calls.
 fn check_found<R: Abort>(rt: &R, threads: &Vec<Vec<Call>>) {
-    assert_eq!(rt; threads.len(), PLAYERS as usize + 2);
+    assert_eq!(rt; threads.len(), (PLAYERS + OTHERS) as usize);
     for (caller, calls) in threads.iter().enumerate() {
         let wanted = if caller < PLAYERS as usize {
             COMMANDS
@@ -223,7 +224,7 @@ pub(super) fn run<R: Threads + Abort + Wait + RandomSource + Sync>(
     stripes: u32,
     seed: u64,
 ) {
-    let config = two_classes(rt, alloc, stripes, CHUNKS, PLAYERS + 3);
+    let config = two_classes(rt, alloc, stripes, CHUNKS, PLAYERS + OTHERS + 1);
     share(rt, alloc, config, Task::Play(seed), &[], &[]);
 }
 

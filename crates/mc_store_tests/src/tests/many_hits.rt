@@ -25,7 +25,8 @@ fn key_of<R: Abort>(rt: &R, alloc: Global, number: u32) -> Key {
     Key::of(alloc, text.as_str().as_bytes()).expect(rt, "a key")
 }
 
-fn set_of<R: Abort>(rt: &R, alloc: Global, number: u32) -> Command {
+/// A set of one byte.
+pub(super) fn set_of<R: Abort>(rt: &R, alloc: Global, number: u32) -> Command {
     let bytes = Vec::from_slice(alloc, b"x").expect(rt, "a byte");
     let value = Value::of(alloc, bytes).expect(rt, "a value");
     Command::Store {

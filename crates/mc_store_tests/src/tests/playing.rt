@@ -1,8 +1,10 @@
-//! What threads play on a shared store: some make drawn commands, one juggles its classes and one crawls them.
-ghost use Rattle.std.specs.Prelude.{◌≡◌, length};
+//! What threads play on a shared store: some make drawn commands, one juggles its classes, one crawls them, one sets their limits
+//! of chunks, and one reads their figures.
+ghost use Rattle.std.specs.Prelude.{◌≡◌, ◌<◌, length};
 
 use super::asking;
 use super::sharing::{Work, make_call};
+use super::watching::watch;
 use mc_item::ClassNo;
 use mc_store::{Named, Pass, Store};
 use mc_testing::Drawing;
@@ -12,14 +14,26 @@ use std::sync::Wait;
 use std::sync::atomic::{AtomicU64, Ordering};
 use std::thread;
 
-/// So many callers make commands; of the two behind them one juggles and one crawls.
+/// So many callers make commands.
 pub(super) const PLAYERS: u32 = 4;
+
+/// Of so many callers behind them one juggles, one crawls, one sets limits, and one reads figures.
+pub(super) const OTHERS: u32 = 4;
 
 /// So many commands each of them makes.
 pub(super) const COMMANDS: u64 = 2000;
 
-/// The juggler and the crawler give up after so many rounds, and so end in any case.
+/// All of these but the last give up after so many rounds, and so end in any case.
 const ROUNDS: u32 = 20_000;
+
+// What a caller does with both classes.
+#[derive(Clone, Copy)]
+enum Upkeep {
+    Juggle,
+    Crawl,
+    // Limits of 4, 3, 2 and 1 chunks, and so on, for the first class, and of 1 and 2 for the second.
+    Limit,
+}
 
 // Makes a drawn command, and notes the cas number that it shows.
 fn play_one<N: Named, R: Abort + Wait>(
@@ -50,39 +64,48 @@ fn draw<N: Named, R: Abort + Wait>(
     }
 }
 
-// Juggles or crawls both classes.
+// Juggles or crawls both classes, at moments that go on, or sets their limits.
 fn keep_up<N: Named, R: Abort + Wait>(
     rt: &R,
     alloc: Global,
     store: &Store<N>,
     pass: &mut Pass<N>,
-    crawls: bool,
-    moment: u32,
+    upkeep: Upkeep,
+    round: u32,
 )
-    requires { length N.config.sizes ≡ 2 }
+    requires round { round < 20000 }
+    requires classes { length N.config.sizes ≡ 2 }
 {
-    if crawls {
-        asking::crawl(rt, alloc, store, pass, ClassNo(1), moment);
-        asking::crawl(rt, alloc, store, pass, ClassNo(2), moment);
-    } else {
-        asking::juggle(rt, alloc, store, pass, ClassNo(1), moment);
-        asking::juggle(rt, alloc, store, pass, ClassNo(2), moment);
+    let moment = 1000 + round / 16;
+    match upkeep {
+        Upkeep::Juggle => {
+            asking::juggle(rt, alloc, store, pass, ClassNo(1), moment);
+            asking::juggle(rt, alloc, store, pass, ClassNo(2), moment);
+        }
+        Upkeep::Crawl => {
+            asking::crawl(rt, alloc, store, pass, ClassNo(1), moment);
+            asking::crawl(rt, alloc, store, pass, ClassNo(2), moment);
+        }
+        Upkeep::Limit => {
+            asking::limit(rt, store, pass, ClassNo(1), u64::from(4 - round % 4));
+            asking::limit(rt, store, pass, ClassNo(2), u64::from(1 + round % 2));
+        }
     }
 }
 
-// Juggles or crawls both classes, at moments that go on, until all players have ended.
+// Keeps both classes up until all players have ended.
 fn tend<N: Named, R: Abort + Wait>(
     rt: &R,
     alloc: Global,
     store: &Store<N>,
     pass: &mut Pass<N>,
-    crawls: bool,
+    upkeep: Upkeep,
     ended: &AtomicU64,
 )
     requires { length N.config.sizes ≡ 2 }
 {
     for round in 0..ROUNDS {
-        keep_up(rt, alloc, store, pass, crawls, 1000 + round / 16);
+        keep_up(rt, alloc, store, pass, upkeep, round);
         if ended.load(Ordering::SeqCst) == u64::from(PLAYERS) {
             break;
         }
@@ -106,8 +129,12 @@ pub(super) fn play<N: Named, R: Abort + Wait>(
         let own = seed.wrapping_mul(u64::from(PLAYERS));
         draw(rt, alloc, store, work, own.wrapping_add(u64::from(caller)));
         ended.fetch_add(1, Ordering::SeqCst);
-    } else {
-        let crawls = caller > PLAYERS;
-        tend(rt, alloc, store, &mut work.pass, crawls, ended);
+        return;
+    }
+    match caller - PLAYERS {
+        0 => tend(rt, alloc, store, &mut work.pass, Upkeep::Juggle, ended),
+        1 => tend(rt, alloc, store, &mut work.pass, Upkeep::Crawl, ended),
+        2 => tend(rt, alloc, store, &mut work.pass, Upkeep::Limit, ended),
+        _ => watch(rt, store, work, ended),
     }
 }

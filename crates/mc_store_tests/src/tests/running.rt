@@ -2,7 +2,7 @@
 ghost use Rattle.std.specs.Prelude.{◌≡◌, ◌≤◌, ◌<◌, length};
 ghost use Rattle.mc_store_tests.specs.Opening.{AreParts};
 
-use super::asking::{self, Ask, command_of, text_of_reply, text_of_value};
+use super::asking::{self, Ask, command_of, text_of_figures, text_of_reply, text_of_value};
 use super::ends::{Ended, check_ends};
 use super::opening::{Parts, Shape, compare_all, opened, parts_for, shape_of};
 use mc_item::{ClassNo, Config, Reply, StripeNo, Who};
@@ -26,6 +26,10 @@ pub(super) enum Act {
     Crawl(u32),
     /// Sets a class's limit of chunks, and tells it.
     Limit(u32, u64),
+    /// Tells a class's figures, or `busy`.
+    Figures(u32),
+    /// Tells how many items a class's figures have.
+    Items(u32),
     /// Tells how many events the caller's pass counts of a stripe.
     OfStripe(u32),
     /// Tells how many events the caller's pass counts of a class.
@@ -169,6 +173,39 @@ fn limited<N: Named, R: Abort + Wait>(
     digits(rt, alloc, chunks)
 }
 
+// What is got of a class whose figures are read.
+fn figured<N: Named, R: Abort>(
+    rt: &R,
+    alloc: Global,
+    store: &Store<N>,
+    pass: &mut Pass<N>,
+    shape: Shape,
+    class: u32,
+) -> String
+    requires { length N.config.sizes ≡ shape.classes }
+{
+    assert!(rt; class > 0 && class as usize <= shape.classes);
+    match store.figures(pass, ClassNo(class)) {
+        Ok(figures) => text_of_figures(rt, alloc, figures),
+        Err(_) => format!(in alloc; "busy").expect(rt, "a text"),
+    }
+}
+
+// How many items a class's figures have.
+fn items_of<N: Named, R: Abort>(
+    rt: &R,
+    store: &Store<N>,
+    pass: &mut Pass<N>,
+    shape: Shape,
+    class: u32,
+) -> u64
+    requires { length N.config.sizes ≡ shape.classes }
+{
+    assert!(rt; class > 0 && class as usize <= shape.classes);
+    let [hot, warm, cold, temp] = asking::figures(rt, store, pass, ClassNo(class)).counts;
+    hot.wrapping_add(warm).wrapping_add(cold).wrapping_add(temp)
+}
+
 // How many events a pass counts of a stripe.
 fn of_stripe<N: Named, R: Abort>(
     rt: &R,
@@ -205,7 +242,7 @@ fn visited<N: Named, R: Abort + Wait>(rt: &R, store: &Store<N>, shape: Shape, st
     store.visit_stripe(rt, StripeNo(stripe), |state| state.history().len() as u64)
 }
 
-// How many events a row counts.
+// How many events or items a row counts.
 fn counted<N: Named, R: Abort + Wait>(
     rt: &R,
     store: &Store<N>,
@@ -219,6 +256,7 @@ fn counted<N: Named, R: Abort + Wait>(
         Act::OfStripe(stripe) => of_stripe(rt, store, pass, shape, stripe),
         Act::OfClass(class) => of_class(rt, store, pass, shape, class),
         Act::Visit(stripe) => visited(rt, store, shape, stripe),
+        Act::Items(class) => items_of(rt, store, pass, shape, class),
         _ => 0,
     }
 }
@@ -242,6 +280,7 @@ fn tell<N: Named, R: Abort + Wait>(
         Act::Juggle(class) => juggled(rt, alloc, store, pass, moment, shape, class),
         Act::Crawl(class) => crawled(rt, alloc, store, pass, moment, shape, class),
         Act::Limit(class, chunks) => limited(rt, alloc, store, pass, shape, class, chunks),
+        Act::Figures(class) => figured(rt, alloc, store, pass, shape, class),
         Act::Turn => turn_of(rt, alloc, pass.next_who()),
         Act::Places => places_of(rt, alloc, pass.places()),
         other => digits(rt, alloc, counted(rt, store, pass, shape, other)),

@@ -4,7 +4,7 @@ ghost use Rattle.mc_store_tests.specs.Opening.{AreParts};
 
 use super::opening::{Parts, Shape, compare_all, last_of, opened, parts_for, shape_of};
 use super::running::{Row, check_rows};
-use super::{asking, cas_loops, checker, counters, playing};
+use super::{asking, cas_loops, checker, counters, figures, playing, watching};
 use mc_item::{Command, Config, Reply};
 use mc_store::{Final, Named, Pass, Store};
 use std::alloc::Global;
@@ -25,11 +25,12 @@ pub(super) struct Call {
     pub(super) found: bool,
 }
 
-/// A thread's pass, and the calls that it made.
+/// A thread's pass, the calls that it made, and the figures that it read.
 #[derive(Drop)]
 pub(super) struct Work<N: Named> {
     pub(super) pass: Pass<N>,
     pub(super) calls: Vec<Call>,
+    pub(super) reads: watching::Reads,
 }
 
 /// What the threads do.
@@ -39,8 +40,10 @@ pub(super) enum Task {
     Count(&'static [u8]),
     /// They add to a number by reading it and a cas.
     Cas,
-    /// They make what is drawn by a seed, and the last two juggle and crawl.
+    /// They make what is drawn by a seed, and the last four juggle, crawl, set limits and read figures.
     Play(u64),
+    /// The first reads figures, and the others write meanwhile.
+    Read,
 }
 
 /// What the threads do, and how many of them have ended.
@@ -84,6 +87,7 @@ fn do_job<N: Named, R: Abort + Wait>(
         Task::Count(letters) => counters::count(rt, alloc, store, work, letters),
         Task::Cas => cas_loops::add_all(rt, alloc, store, work),
         Task::Play(seed) => playing::play(rt, alloc, store, work, seed, &job.ended),
+        Task::Read => figures::work(rt, alloc, store, &mut work.pass, &job.ended),
     }
 }
 
@@ -100,6 +104,7 @@ fn work_with<N: Named, R: Abort + Wait>(
     let mut work = Work {
         pass,
         calls: Vec::new(alloc),
+        reads: watching::Reads::new(alloc),
     };
     do_job(rt, alloc, store, &mut work, job);
     work
@@ -167,6 +172,23 @@ fn check_calls<R: Abort>(
         Task::Count(letters) => counters::check_counts(rt, alloc, threads, letters),
         Task::Cas => cas_loops::check_added(rt, threads),
         Task::Play(_) => checker::check_played(rt, alloc, ledger, stripes, threads),
+        Task::Read => (),
+    }
+}
+
+// Ends the test where the last thread played, and the figures that it read aren't those of a replay.
+fn check_reads<N: Named, R: Abort>(
+    rt: &R,
+    alloc: Global,
+    ledger: &Final,
+    works: &Vec<Work<N>>,
+    task: Task,
+)
+    requires { length ledger.now.classes ≡ 2 }
+{
+    if let Task::Play(_) = task {
+        let reader = works.as_slice().last().expect(rt, "a reader");
+        watching::check_reads(rt, alloc, ledger, &reader.reads, checker::CHUNKS);
     }
 }
 
@@ -197,6 +219,7 @@ fn share_store<N: Named + Send + Sync, R: Threads + Abort + Wait + Sync>(
     compare_all(&mut ledger, &mut own);
     compare_works(&mut ledger, &mut works);
     check_calls(rt, alloc, &ledger, shape.stripes, &mut threads, job.task);
+    check_reads(rt, alloc, &ledger, &works, job.task);
 }
 
 /// Ends the test where threads that share a new store of this configuration of two classes are answered otherwise than their

@@ -3,7 +3,7 @@ use Rattle.atomic_table.specs.Table.{Me}
 use Rattle.mc_board.specs.declared.rule.View.{View}
 use Rattle.mc_board.specs.declared.rule.View.TheVariants as views
 use Rattle.mc_board.specs.Steps.{owned_of, owned_told, hearing, IsOwnerAhead}
-use Rattle.mc_board.proofs.{RuleLemmas.words_some, ShareKeeps.owner_hears_as, CountKeeps.compares_as}
+use Rattle.mc_board.proofs.{RuleLemmas.words_some, ShareKeeps.owner_hears_as, CompareKeeps.compares_as}
 use Rattle.mc_board.proofs.owner.hear.Goals as goal
 
 pub join_seat-requires : goal.join_seat-requires
@@ -28,14 +28,8 @@ load-requires c =
       compares_as _ _ _ _ _ _ (c.join_seat.ensures.2 ∙ (λ i. (hearing ((c.requires.owner i).0) ((c.copy-copy.ensures.copy.1 i).0), (c.requires.owner i).1))),
     )
 
-ahead : (c : goal.After-load) → IsOwnerAhead (views.Owner (owned_told (owned_of c.args.place.now.me.0) c.args.seen.now.sight))
-ahead c = subst (λ (m : Me Unit View). IsOwnerAhead m.0) (heard c) c.load.ensures.2.1
-
 pub returns-clause-told : goal.returns-clause-told
 returns-clause-told c = c.load.ensures.2.0 ∙ heard c
 
-pub returns-clause-seen : goal.returns-clause-seen
-returns-clause-seen c = (ahead c).0
-
-pub returns-clause-noted : goal.returns-clause-noted
-returns-clause-noted c = (ahead c).1
+pub returns-clause-ahead : goal.returns-clause-ahead
+returns-clause-ahead c = subst (λ (m : Me Unit View). IsOwnerAhead m.0) (heard c) c.load.ensures.2.1

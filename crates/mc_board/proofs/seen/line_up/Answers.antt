@@ -3,7 +3,7 @@ use Rattle.atomic_table.specs.Table.{Me}
 use Rattle.mc_board.specs.declared.rule.View.{View}
 use Rattle.mc_board.specs.declared.rule.View.TheVariants as views
 use Rattle.mc_board.specs.Steps.{known_of, known_told, hearing, IsInLine}
-use Rattle.mc_board.proofs.{RuleLemmas.words_some, ShareKeeps.seen_hears_as, CountKeeps.meets_as}
+use Rattle.mc_board.proofs.{RuleLemmas.words_some, ShareKeeps.seen_hears_as, CompareKeeps.meets_as}
 use Rattle.mc_board.proofs.seen.line_up.Goals as goal
 
 pub join_seat-requires : goal.join_seat-requires

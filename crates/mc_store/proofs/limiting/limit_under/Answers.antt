@@ -1,11 +1,11 @@
 use Rattle.std.proofs.Common.{◌≡◌, ◌++◌, ◌∷◌, [], ap, ◌∙◌, refl, subst, sym}
-use Rattle.std.specs.Prelude.{OnOk}
+use Rattle.std.specs.Prelude.{OnErr, OnOk}
 use Rattle.mc_board.specs.{Histories.Grows, Histories.list_at, Views.OwnerView}
 use Rattle.mc_board.proofs.PrefixLemmas.{prefix_self}
 use Rattle.mc_segment.specs.{ClassCalls.limited_event, ClassState.ClassView}
 use Rattle.mc_pull.specs.Growth as classes
 use Rattle.mc_store.specs.{Callers.call_events, Locked.IsLockedClass, Locked.caller_place, Made.IsLimitCalled, Serving.class_side, Sides.ClassSide}
-use Rattle.mc_store.proofs.{LentClassLemmas.class_behind, LimitedClassLemmas.limit_fails, LimitedClassLemmas.limit_made, LimitedClassLemmas.locked_limited, NotedRefusalLemmas.noted_grows}
+use Rattle.mc_store.proofs.{LentClassLemmas.class_behind, LimitedClassLemmas.limit_fails, LimitedClassLemmas.limit_made, LimitedClassLemmas.limit_stays, LimitedClassLemmas.locked_limited, NotedRefusalLemmas.noted_grows}
 use Rattle.mc_store.proofs.limiting.limit_under.Goals as goal
 
 pub catch_up_class-requires-clause-behind : goal.catch_up_class-requires-clause-behind
@@ -50,3 +50,9 @@ pub returns-clause-fault : goal.returns-clause-fault
 returns-clause-fault g c =
     let made = c.set_chunks-limited in
     limit_fails g.N.Named.config c.side.inside.seen.sight c.side.inside.state made.new.self made.result made.ensures.refusal made.ensures.err
+
+pub returns-clause-stays : goal.returns-clause-stays
+returns-clause-stays g c =
+    let made = c.set_chunks-limited in
+    let of : c.side.inside.state ≡ c.args.class.now.class = ap (λ (x : ClassSide). x.class) (c.side.view_is ∙ c.class.view_is) in
+    subst (λ (v : ClassView). OnErr made.result (made.new.self.history ≡ v.history)) of (limit_stays c.side.inside.state made.new.self made.result made.ensures.err)

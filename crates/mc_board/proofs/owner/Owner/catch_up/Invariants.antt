@@ -1,8 +1,7 @@
-use Rattle.std.proofs.Common.{◌≡◌, length, map}
-use mathlib.Core.List.{IsPrefix}
+use Rattle.std.proofs.Common.{drop, length, map}
+use Rattle.mc_board.specs.Steps.{owned_of}
 use Rattle.mc_board.proofs.owner.Owner.catch_up.Given as goal
 
-abbrev pub invariant-loop-place : goal.invariant-loop-place
-invariant-loop-place g l =
-    (l.self.board ≡ l.fn.self.board) × (l.self.lock ≡ l.fn.self.lock) × (length l.self.history ≡ l.place)
-    × IsPrefix l.self.history (map g.E.Logged.entry l.fn.events.items)
+-- the events that the history doesn't have yet
+abbrev pub ghosts-add : goal.ghosts-add
+ghosts-add g a = record { entries = drop (length (owned_of a.place.now.me.0).history) (map g.E.Logged.entry a._named_by.now.items) }

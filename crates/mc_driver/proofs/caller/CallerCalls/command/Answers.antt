@@ -8,14 +8,14 @@ use Rattle.mc_driver.proofs.caller.CallerCalls.command.Goals as goal
 
 pub returns-clause-ok : goal.returns-clause-ok
 returns-clause-ok g c =
-    replied_ok g.N.Named.config c.args.self.now.pass c.command.new.pass c.command.ensures.caller c.command.ensures.grows c.args.command c.args.moment c.command.result
+    replied_ok g.N.Named.config c.args.self.now.pass c.command.new.pass c.command.ensures.caller c.command.ensures.grows.seen c.args.command c.args.moment c.command.result
     c.requires.may c.command.ensures.replied
 
 pub returns-clause-err : goal.returns-clause-err
 returns-clause-err g c =
     let old = c.args.self.now.pass in
     let new = c.command.new.pass in
-    call_failed g.N.Named.config old new c.command.ensures.caller c.command.ensures.grows (Asks c.args.command) c.args.moment c.command.result
+    call_failed g.N.Named.config old new c.command.ensures.caller c.command.ensures.grows.seen (Asks c.args.command) c.args.moment c.command.result
     (cut_calls g.N.Named.config (stripe_of (key_of c.args.command) g.N.Named.config.stripes).0 old new (next_who old) c.args.command c.args.moment c.command.result c.command.ensures.cut)
 
 pub returns-clause-may : goal.returns-clause-may

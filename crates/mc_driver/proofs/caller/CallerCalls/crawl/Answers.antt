@@ -6,7 +6,7 @@ use Rattle.mc_driver.proofs.caller.CallerCalls.crawl.Goals as goal
 
 pub returns-clause-ok : goal.returns-clause-ok
 returns-clause-ok g c =
-    crawled_ok g.N.Named.config c.args.self.now.pass c.crawl.new.pass c.crawl.ensures.caller c.crawl.ensures.grows c.args.class c.args.moment c.crawl.result
+    crawled_ok g.N.Named.config c.args.self.now.pass c.crawl.new.pass c.crawl.ensures.caller c.crawl.ensures.grows.seen c.args.class c.args.moment c.crawl.result
     c.requires.may c.requires.there c.crawl.ensures.calls c.crawl.ensures.crawled
 
 pub returns-clause-kinds : goal.returns-clause-kinds
@@ -15,7 +15,7 @@ returns-clause-kinds g c =
 
 pub returns-clause-err : goal.returns-clause-err
 returns-clause-err g c =
-    call_failed g.N.Named.config c.args.self.now.pass c.crawl.new.pass c.crawl.ensures.caller c.crawl.ensures.grows (Crawls c.args.class) c.args.moment c.crawl.result c.crawl.ensures.cut
+    call_failed g.N.Named.config c.args.self.now.pass c.crawl.new.pass c.crawl.ensures.caller c.crawl.ensures.grows.seen (Crawls c.args.class) c.args.moment c.crawl.result c.crawl.ensures.cut
 
 pub returns-clause-may : goal.returns-clause-may
 returns-clause-may g c = may_again g.N.Named.config c.args.self.now.pass c.crawl.new.pass c.crawl.result c.requires.may c.crawl.ensures.turn.0

@@ -6,12 +6,12 @@ use Rattle.mc_driver.proofs.caller.CallerCalls.juggle.Goals as goal
 
 pub returns-clause-ok : goal.returns-clause-ok
 returns-clause-ok g c =
-    juggled_ok g.N.Named.config c.args.self.now.pass c.juggle.new.pass c.juggle.ensures.caller c.juggle.ensures.grows c.args.class c.args.moment c.juggle.result
+    juggled_ok g.N.Named.config c.args.self.now.pass c.juggle.new.pass c.juggle.ensures.caller c.juggle.ensures.grows.seen c.args.class c.args.moment c.juggle.result
     c.requires.may c.requires.there c.juggle.ensures.calls c.juggle.ensures.juggled
 
 pub returns-clause-err : goal.returns-clause-err
 returns-clause-err g c =
-    call_failed g.N.Named.config c.args.self.now.pass c.juggle.new.pass c.juggle.ensures.caller c.juggle.ensures.grows (Juggles c.args.class) c.args.moment c.juggle.result c.juggle.ensures.cut
+    call_failed g.N.Named.config c.args.self.now.pass c.juggle.new.pass c.juggle.ensures.caller c.juggle.ensures.grows.seen (Juggles c.args.class) c.args.moment c.juggle.result c.juggle.ensures.cut
 
 pub returns-clause-may : goal.returns-clause-may
 returns-clause-may g c = may_again g.N.Named.config c.args.self.now.pass c.juggle.new.pass c.juggle.result c.requires.may c.juggle.ensures.turn.0

@@ -2,8 +2,10 @@ use Rattle.std.proofs.Common.{◌≡◌, ◌<◌, ◌++◌, ◌∷◌, [], List,
 use Rattle.std.specs.Prelude.{if◌then◌else◌, vec_capacity, vec_len}
 use Rattle.mc_item.specs.declared.{call_event.CallEvent.CallEvent, config.Config.Config, event.Event.Event}
 use Rattle.mc_board.specs.Views.{OwnerView}
+use Rattle.mc_evidence.specs.Seen.{class_events}
 use Rattle.mc_store.specs.{Callers.call_events, Callers.placed_in, Callers.turns_of, Locked.caller_place, Passes.CallerView}
 use Rattle.mc_store.specs.declared.{placed.Placed.Placed}
+use Rattle.mc_board.proofs.FigureLemmas.{class_events-call}
 use Rattle.mc_store.proofs.CallerLemmas.{calls_more, only_calls}
 use Rattle.mc_store.proofs.{NextTurnLemmas.turns_both, PlacedLemmas.call_places, SeenStripeLemmas.one_event}
 use Rattle.mc_store.proofs.caller.Caller.begin.Given.{Over}
@@ -21,6 +23,9 @@ kept g c = elim c.if-self.branch [
   | then-self+in_ok-reserve w ↦ rw w.self-inside-is (refl, refl, refl, refl, w.reserve.ensures.items, λ yes. omega (arith, w.in_ok-reserve.ensures.ok))
   | else-self w ↦ rw w.self-inside-is (refl, refl, refl, refl, refl, λ yes. absurd (true_false (sym yes ∙ w.if-self.false)))
 ]
+
+pub append-requires-clause-plain : goal.append-requires-clause-plain
+append-requires-clause-plain g c = subst (λ (es : List Event). class_events es ≡ []) c.requires.call (class_events-call (call_events (g.E.Logged.entry c.args.event.now ∷ [])))
 
 pub invariant_of-self-2 : goal.invariant_of-self-2
 invariant_of-self-2 g c =

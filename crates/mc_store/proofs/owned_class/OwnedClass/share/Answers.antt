@@ -3,7 +3,7 @@ use Rattle.mc_board.specs.{Views.SeenView, Histories.Grows}
 use Rattle.mc_board.proofs.SeenLemmas.{Grows-trans}
 use Rattle.mc_board.specs.declared.rule.Sight.{Sight}
 use Rattle.mc_store.specs.Sides.{ClassSide, class_told}
-use Rattle.mc_store.proofs.UnderLockLemmas.{grows_but, told_at}
+use Rattle.mc_store.proofs.{LaterLemmas.later_told, UnderLockLemmas.grows_but, UnderLockLemmas.told_at}
 use Rattle.mc_store.proofs.owned_class.OwnedClass.share.Goals as goal
 
 pub returns-clause-told : goal.returns-clause-told
@@ -13,7 +13,10 @@ returns-clause-told c =
     (c.self.invariant.0 ∙ ap (λ (s : ClassSide). class_told s.class.history) c.self.view_is)
 
 pub returns-clause-grows : goal.returns-clause-grows
-returns-clause-grows c = Grows-trans c.args.seen.now.sight c.learn.new.self.sight c.tell.new.seen.sight c.learn.ensures.mine c.tell.ensures.grows
+returns-clause-grows c =
+    later_told c.args.seen.now.sight c.learn.new.self.sight c.tell.new.seen.sight c.self.inside.seen.sight c.self.inside.owner.lock c.self.inside.owner.history c.learn.ensures.learned
+    (ap (λ (v : SeenView). v.sight) c.tell.ensures.whole)
+    (Grows-trans c.args.seen.now.sight c.learn.new.self.sight c.tell.new.seen.sight c.learn.ensures.mine c.tell.ensures.grows)
 
 pub returns-clause-all : goal.returns-clause-all
 returns-clause-all c =

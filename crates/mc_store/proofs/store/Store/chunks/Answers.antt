@@ -1,5 +1,5 @@
-use Rattle.std.proofs.Common.{◌≡◌, ◌<◌, ◌++◌, ◌∷◌, [], ap, ◌∙◌, inl, length, refl, subst, sym}
-use Rattle.std.specs.Prelude.{OnOk}
+use Rattle.std.proofs.Common.{◌≡◌, ◌<◌, ◌+◌, ◌++◌, ◌∷◌, [], ap, ◌∙◌, inl, inr, length, refl, subst, sym}
+use Rattle.std.specs.Prelude.{OnErr, OnOk}
 use Rattle.mc_item.specs.declared.{item.Who.Who, item.ClassNo.ClassNo}
 use Rattle.mc_board.specs.{Histories.Grows, Histories.list_at, Views.SeenView}
 use Rattle.mc_board.specs.declared.rule.Sight.{Sight}
@@ -7,60 +7,87 @@ use Rattle.mc_segment.specs.{ClassCalls.limited_event, ClassState.ClassView}
 use Rattle.mc_evidence.specs.Seen.{stripes_seen}
 use Rattle.mc_pull.specs.Growth as classes
 use Rattle.mc_hits.specs.Rule.{AreBefore}
-use Rattle.mc_store.specs.{Callers.call_events, Callers.turns_of, Finals.IsBehindAt, Locked.IsHeldClass, Locked.caller_place, Made.HasNoneMadeBy, Made.IsLimitCalled}
-use Rattle.mc_store.specs.{Passes.ArePlaced, Passes.CallerView, Passes.PassView, Passes.next_who, Sides.ClassSide, Sides.class_told}
+use Rattle.mc_store.specs.{Callers.call_events, Callers.limits_of, Callers.turns_of, Calls.IsSeenGrowOf, Finals.IsBehindAt, Locked.IsHeldClass, Locked.caller_place, Made.HasNoneMadeBy, Made.IsLimitCalled}
+use Rattle.mc_store.specs.{Passes.ArePlaced, Passes.CallerView, Passes.PassView, Passes.next_who, Passes.pass_of, Sides.ClassSide, Sides.class_told}
 use Rattle.mc_store.proofs.CallerLemmas.{on_ok_always}
-use Rattle.mc_store.proofs.{GrownClassLemmas.class_grew, GrownClassLemmas.fails_full, LimitedClassLemmas.limit_seen, LimitedClassLemmas.limited_so, PlacedLemmas.placed_sees}
+use Rattle.mc_store.proofs.{GrownClassLemmas.class_grew, GrownClassLemmas.fails_full, LimitedClassLemmas.limit_seen, LimitedClassLemmas.limited_so, LimitedClassLemmas.unlimited_so, PlacedLemmas.placed_sees}
+use Rattle.mc_store.proofs.SeenStripeLemmas.{on_err_more}
+use Rattle.mc_store.proofs.store.Store.chunks.Given.{Over}
 use Rattle.mc_store.proofs.store.Store.chunks.Goals as goal
+use Rattle.mc_store.proofs.store.Store.chunks.Goals.{After-share}
+
+-- the class is under its lock before and after
+module _ (g : Over) (c : After-share g) where
+  abbrev old_side : ClassSide
+  old_side = c.compare.new.self
+
+  abbrev new_side : ClassSide
+  new_side = c.limit_under-limited.new.class
+
+  old_is : old_side ≡ c.own.inside.side
+  old_is = c.compare.ensures.same.0
+
+  old_kept : IsHeldClass g.N.Named.board.table g.N.Named.config old_side
+  old_kept = subst (IsHeldClass g.N.Named.board.table g.N.Named.config) (sym old_is) c.own.invariant.held
+
+  new_kept : IsHeldClass g.N.Named.board.table g.N.Named.config new_side
+  new_kept = subst (IsHeldClass g.N.Named.board.table g.N.Named.config) c.own-2.view_is c.own-2.invariant.held
+
+  -- no step before the limit's changed the class
+  class_is : c.tell_class.new.class.class ≡ old_side.class
+  class_is = ap (λ (x : ClassSide). x.class) c.tell_class.ensures.class
+
+  grew : classes.GainsEvents old_side.class new_side.class
+  grew = subst (λ (v : ClassView). classes.GainsEvents v new_side.class) class_is c.limit_under-limited.ensures.class
+
+  number : old_side.class.number ≡ c.args.class
+  number = ap (λ (x : ClassSide). x.class.number) (old_is ∙ (c.own.view_is ∙ (c.in_ok-who.ensures.class ∙ c.deref_mut-own.ensures.value))) ∙ c.lock_class-guard.ensures
+
+  took : pass_of c.pass.inside.caller c.pass.inside.seen.sight c.pass.inside.hands ≡ record c.args.pass.now { turn = c.args.pass.now.turn + 1; calls = c.args.pass.now.calls ++ limits_of c.args.class c.args.chunks ∷ [] }
+  took = c.pass.view_is ∙ c.in_ok-who.ensures.took.turn
+
+  behind : IsBehindAt c.args.pass.now.sight old_side.lock (class_told old_side.class.history)
+  behind = subst (λ (t : Sight). IsBehindAt t old_side.lock (class_told old_side.class.history)) (ap (λ (p : PassView). p.sight) took)
+      (subst (λ (x : ClassSide). IsBehindAt c.pass.inside.seen.sight x.lock (class_told x.class.history)) (sym old_is) c.compare.ensures.behind)
+
+  told : list_at c.share.new.seen.sight.seen new_side.lock ≡ class_told new_side.class.history
+  told = subst (λ (x : ClassSide). list_at c.share.new.seen.sight.seen x.lock ≡ class_told x.class.history) c.own-2.view_is c.share.ensures.told
+
+  all : Grows new_side.sight c.share.new.seen.sight
+  all = subst (λ (x : ClassSide). Grows x.sight c.share.new.seen.sight) c.own-2.view_is c.share.ensures.all
+
+  first : HasNoneMadeBy (next_who c.args.pass.now) old_side.class.history
+  first = subst (λ (x : ClassSide). HasNoneMadeBy (next_who c.args.pass.now) x.class.history) (sym (old_is ∙ (c.own.view_is ∙ c.in_ok-who.ensures.class))) c.in_ok-who.ensures.first
+
+  -- and the pass sees what it gained
+  seen_grow : IsSeenGrowOf g.N.Named.config c.args.class c.args.pass.now.sight c.share.new.seen.sight old_side.class new_side.class.history
+  seen_grow =
+      class_grew g.N.Named.board.table g.N.Named.config c.args.class c.args.pass.now.sight c.share.new.seen.sight old_side new_side old_kept new_kept number grew behind told all
 
 pub returns-clause-limited : goal.returns-clause-limited
 returns-clause-limited g c =
-    let config = g.N.Named.config in
-    let table = g.N.Named.board.table in
-    let old = c.compare.new.self in
-    let same : old ≡ c.own.inside.side = c.compare.ensures.same.0 in
-    let old_kept : IsHeldClass table config old = subst (IsHeldClass table config) (sym same) c.own.invariant.held in
-    let new = c.limit_under-limited.new.class in
-    let new_kept : IsHeldClass table config new = subst (IsHeldClass table config) c.own-2.view_is c.own-2.invariant.held in
-    let cls : c.tell_class.new.class.class ≡ old.class = ap (λ (x : ClassSide). x.class) c.tell_class.ensures.class in
-    let grows = subst (λ (v : ClassView). classes.GainsEvents v new.class) cls c.limit_under-limited.ensures.class in
-    let number : old.class.number ≡ c.args.class = ap (λ (x : ClassSide). x.class.number) (same ∙ (c.own.view_is ∙ (c.in_ok-who.ensures.class ∙ c.deref_mut-own.ensures.value))) ∙ c.lock_class-guard.ensures in
-    let sight : c.pass.inside.seen.sight ≡ c.args.pass.now.sight = ap (λ (v : PassView). v.sight) (c.pass.view_is ∙ c.in_ok-who.ensures.took.turn) in
-    let behind : IsBehindAt c.args.pass.now.sight old.lock (class_told old.class.history) =
-    subst (λ (t : Sight). IsBehindAt t old.lock (class_told old.class.history)) sight
-    (subst (λ (x : ClassSide). IsBehindAt c.pass.inside.seen.sight x.lock (class_told x.class.history)) (sym same) c.compare.ensures.behind) in
-    let told : list_at c.share.new.seen.sight.seen new.lock ≡ class_told new.class.history =
-    subst (λ (x : ClassSide). list_at c.share.new.seen.sight.seen x.lock ≡ class_told x.class.history) c.own-2.view_is c.share.ensures.told in
-    let all : Grows new.sight c.share.new.seen.sight = subst (λ (x : ClassSide). Grows x.sight c.share.new.seen.sight) c.own-2.view_is c.share.ensures.all in
+    let at = (goal.at.returns-clause-limited g c).After-share in
     let r = c.limit_under-limited.result in
-    let made = subst (λ (who : Who). OnOk r (new.class.history ≡ old.class.history ++ limited_event who c.args.chunks ∷ [])) c.in_ok-who.ensures.took.who
-    (subst (λ (v : ClassView). OnOk r (new.class.history ≡ v.history ++ limited_event c.in_ok-who.who c.args.chunks ∷ [])) cls c.limit_under-limited.ensures.made) in
-    let first = subst (λ (x : ClassSide). HasNoneMadeBy (next_who c.args.pass.now) x.class.history)
-    (sym (same ∙ (c.own.view_is ∙ c.in_ok-who.ensures.class))) c.in_ok-who.ensures.first in
-    limited_so config c.args.class c.args.pass.now.sight c.share.new.seen.sight old.class new.class.history (next_who c.args.pass.now) c.args.chunks
-    (class_grew table config c.args.class c.args.pass.now.sight c.share.new.seen.sight old new old_kept new_kept number grows behind told all) first r made
+    let made = subst (λ (who : Who). OnOk r ((new_side g at).class.history ≡ (old_side g at).class.history ++ limited_event who c.args.chunks ∷ [])) c.in_ok-who.ensures.took.who
+    (subst (λ (v : ClassView). OnOk r ((new_side g at).class.history ≡ v.history ++ limited_event c.in_ok-who.who c.args.chunks ∷ [])) (class_is g at) c.limit_under-limited.ensures.made) in
+    limited_so g.N.Named.config c.args.class c.args.pass.now.sight c.share.new.seen.sight (old_side g at).class (new_side g at).class.history (next_who c.args.pass.now) c.args.chunks
+    (seen_grow g at) (first g at) r made
+
+pub returns-clause-cut : goal.returns-clause-cut
+returns-clause-cut g c =
+    let at = (goal.at.returns-clause-cut g c).After-share in
+    let r = c.limit_under-limited.result in
+    let stays = subst (λ (v : ClassView). OnErr r ((new_side g at).class.history ≡ v.history)) (class_is g at) c.limit_under-limited.ensures.stays in
+    let calls = ap (λ (k : CallerView). k.calls) c.tell_class.ensures.same ∙ ap (λ (p : PassView). p.calls) (took g at) in
+    on_err_more r _ _ (λ gained. inr (calls, gained))
+    (unlimited_so g.N.Named.config c.args.class c.args.pass.now.sight c.share.new.seen.sight (old_side g at).class (new_side g at).class.history (next_who c.args.pass.now)
+    (seen_grow g at) (first g at) r stays)
 
 pub returns-clause-full : goal.returns-clause-full
 returns-clause-full g c = λ is.
-    let config = g.N.Named.config in
-    let table = g.N.Named.board.table in
-    let old = c.compare.new.self in
-    let same : old ≡ c.own.inside.side = c.compare.ensures.same.0 in
-    let old_kept : IsHeldClass table config old = subst (IsHeldClass table config) (sym same) c.own.invariant.held in
-    let new = c.limit_under-limited.new.class in
-    let new_kept : IsHeldClass table config new = subst (IsHeldClass table config) c.own-2.view_is c.own-2.invariant.held in
-    let cls : c.tell_class.new.class.class ≡ old.class = ap (λ (x : ClassSide). x.class) c.tell_class.ensures.class in
-    let grows = subst (λ (v : ClassView). classes.GainsEvents v new.class) cls c.limit_under-limited.ensures.class in
-    let number : old.class.number ≡ c.args.class = ap (λ (x : ClassSide). x.class.number) (same ∙ (c.own.view_is ∙ (c.in_ok-who.ensures.class ∙ c.deref_mut-own.ensures.value))) ∙ c.lock_class-guard.ensures in
-    let sight : c.pass.inside.seen.sight ≡ c.args.pass.now.sight = ap (λ (v : PassView). v.sight) (c.pass.view_is ∙ c.in_ok-who.ensures.took.turn) in
-    let behind : IsBehindAt c.args.pass.now.sight old.lock (class_told old.class.history) =
-    subst (λ (t : Sight). IsBehindAt t old.lock (class_told old.class.history)) sight
-    (subst (λ (x : ClassSide). IsBehindAt c.pass.inside.seen.sight x.lock (class_told x.class.history)) (sym same) c.compare.ensures.behind) in
-    let told : list_at c.share.new.seen.sight.seen new.lock ≡ class_told new.class.history =
-    subst (λ (x : ClassSide). list_at c.share.new.seen.sight.seen x.lock ≡ class_told x.class.history) c.own-2.view_is c.share.ensures.told in
-    let all : Grows new.sight c.share.new.seen.sight = subst (λ (x : ClassSide). Grows x.sight c.share.new.seen.sight) c.own-2.view_is c.share.ensures.all in
-    inl (fails_full table config c.args.class c.args.pass.now.sight c.share.new.seen.sight old new old_kept new_kept number grows behind told all
-    c.limit_under-limited.result c.limit_under-limited.ensures.fault is)
+    let at = (goal.at.returns-clause-full g c).After-share in
+    inl (fails_full g.N.Named.board.table g.N.Named.config c.args.class c.args.pass.now.sight c.share.new.seen.sight (old_side g at) (new_side g at) (old_kept g at) (new_kept g at)
+    (number g at) (grew g at) (behind g at) (told g at) (all g at) c.limit_under-limited.result c.limit_under-limited.ensures.fault is)
 
 pub returns-clause-turn : goal.returns-clause-turn
 returns-clause-turn g c = (
@@ -96,7 +123,7 @@ invariant_of-pass g c =
     let i = c.pass.invariant in
     let caller = c.tell_class.ensures.same in
     let seen : c.compare.new.seen ≡ c.pass.inside.seen = c.compare.ensures.same.1 in
-    let grows : Grows c.pass.inside.seen.sight c.share.new.seen.sight = subst (λ (v : SeenView). Grows v.sight c.share.new.seen.sight) seen c.share.ensures.grows in (
+    let grows : Grows c.pass.inside.seen.sight c.share.new.seen.sight = subst (λ (v : SeenView). Grows v.sight c.share.new.seen.sight) seen c.share.ensures.grows.seen in (
       c.share.ensures.board ∙ (ap (λ (v : SeenView). v.board) seen ∙ i.0),
       subst (λ (k : CallerView). ArePlaced config k (stripes_seen (list_at c.share.new.seen.sight.seen))) (sym caller)
           (placed_sees config c.pass.inside.caller c.pass.inside.seen.sight c.share.new.seen.sight grows i.1),

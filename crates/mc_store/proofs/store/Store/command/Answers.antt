@@ -8,7 +8,7 @@ use Rattle.mc_hits.specs.{Rule.AreBefore, Views.HandsView}
 use Rattle.mc_board.specs.{Histories.Grows, Histories.HasSeen, Histories.list_at, Views.SeenView}
 use Rattle.mc_board.specs.declared.rule.Sight.{Sight}
 use Rattle.mc_store.specs.{Hits.IsOffered, Hits.OffersOne, Locked.setting_of, Waking.reply_in, Waking.woken_in}
-use Rattle.mc_store.specs.{Callers.HasNoneOf, Held.Ends, Held.IsCallOn, Locked.IsLockedStripe, Passes.HasAsked, Passes.PassView, Passes.caller_of, Passes.next_who, Sides.StripeSide, Sides.stripe_told}
+use Rattle.mc_store.specs.{Callers.HasNoneOf, Held.Ends, Held.IsCallOn, Locked.IsLockedStripe, Passes.HasAsked, Passes.PassView, Passes.caller_of, Passes.next_who, Serving.IsLater, Sides.StripeSide, Sides.stripe_told}
 use Rattle.mc_store.proofs.{SeenStripeLemmas.IsShared, SeenStripeLemmas.asked_now, SeenStripeLemmas.on_err_more, SeenStripeLemmas.shared_by, SeenStripeLemmas.turns_kept, CallerLemmas.on_ok_always}
 use Rattle.mc_evidence.specs.Seen.{stripes_seen}
 use Rattle.mc_store.specs.{Callers.asked_for, Callers.turns_of, Calls.IsCutBy, Calls.IsRepliedBy, Passes.ArePlaced, Passes.next_call, Passes.pass_of}
@@ -97,7 +97,7 @@ pub returns-clause-grows : goal.returns-clause-grows
 returns-clause-grows g c =
     let seen = ap (λ p. p.seen) (rest g (goal.at.returns-clause-grows g c).After-share) ∙ c.compare.ensures.same.1 in
     let sight = ap (λ (v : SeenView). v.sight) seen ∙ ap (λ (p : PassView). p.sight) (c.pass.view_is ∙ c.in_ok-who.ensures.took.turn) in
-    subst (λ (x : Sight). Grows x c.share.new.seen.sight) sight c.share.ensures.grows
+    subst (λ (x : Sight). IsLater x c.share.new.seen.sight) sight c.share.ensures.grows
 
 pub returns-clause-caller : goal.returns-clause-caller
 returns-clause-caller g c = (ends g (goal.at.returns-clause-caller g c).After-share).number ∙ ap (λ (p : PassView). p.caller) (c.pass.view_is ∙ c.in_ok-who.ensures.took.turn)
@@ -173,7 +173,7 @@ invariant_of-pass g c =
     let next : c.in_ok-who.who.turn + 1 ≡ length (turns_of c.match-class_for.pass-inside.caller.calls) = ap (λ (w : Who). w.turn + 1) c.in_ok-who.ensures.took.who ∙ sym turns in
     let below : (stripe_of (key_of c.args.command) config.stripes).0 < config.stripes = subst (λ (n : StripeNo). n.0 < config.stripes) (sym (own_is g place.After-compare)) (below_stripes g place.After-compare) in
     let seen = ap (λ (v : SeenView). v.sight) (ap (λ p. p.seen) (rest g at) ∙ c.compare.ensures.same.1) ∙ ap (λ (p : PassView). p.sight) took in
-    let grows = subst (λ (x : Sight). Grows x c.share.new.seen.sight) seen c.share.ensures.grows in
+    let grows = subst (λ (x : Sight). Grows x c.share.new.seen.sight) seen c.share.ensures.grows.seen in
     let number : c.match-class_for.pass-inside.caller.number ≡ old.caller = ended.number ∙ ap (λ (p : PassView). p.caller) took in
     let begun : ArePlaced config (record { number = old.caller; calls = old.calls ++ asked_for c.args.command c.args.moment ∷ [] }) (stripes_seen (list_at old.sight.seen)) =
     subst (λ (p : PassView). ArePlaced config (caller_of p) (stripes_seen (list_at p.sight.seen))) took i.1 in

@@ -3,12 +3,13 @@ use Rattle.std.proofs.Math.Seq.{take-length}
 use Rattle.std.proofs.lemmas.List.{take_more}
 use Rattle.mc_item.specs.Counts.{no_counts}
 use Rattle.mc_item.specs.declared.{counts.Histogram.Histogram, item.Link.Link, item.Who.Who}
-use Rattle.mc_board.specs.Histories.{Grows, list_at}
+use Rattle.mc_board.specs.Histories.{list_at}
 use Rattle.mc_crawl.specs.CrawlCount.{IsBalanced}
 use Rattle.mc_store.specs.Crawls.{IsCrawledBy, IsSnapshot, ShowsReclaims}
-use Rattle.mc_store.specs.{Locked.class_lock, Passes.PassView, Sides.class_told, Callers.crawling_of}
+use Rattle.mc_store.specs.{Locked.class_lock, Passes.PassView, Serving.IsLater, Sides.class_told, Callers.crawling_of}
 use Rattle.mc_store.proofs.CrawledLemmas.{shows_both, shows_none, so_far_all, so_far_more, so_far_none}
-use Rattle.mc_store.proofs.{LockKeepsLemmas.grows_trans, SeenStripeLemmas.on_err_always, SeenStripeLemmas.called_now}
+use Rattle.mc_store.proofs.{SeenStripeLemmas.on_err_always, SeenStripeLemmas.called_now}
+use Rattle.mc_store.proofs.LaterLemmas.{later_trans}
 use Rattle.mc_store.proofs.{CallerLemmas.on_ok_always, NextTurnLemmas.turn_called}
 use Rattle.mc_store.proofs.store.Store.crawl.Goals as goal
 
@@ -20,16 +21,16 @@ loop-i-init g c =
     let none : c.new-histogram.result ≡ no_counts = c.new-histogram.ensures in
     let turn = c.in_ok-who.ensures.took.turn in
     let links = c.in_ok-links.links.items in
-    let grows : Grows pass.sight seen = subst (λ (p : PassView). Grows p.sight seen) turn c.snapshot_of.ensures.grows in (
+    let later : IsLater pass.sight seen = subst (λ (p : PassView). IsLater p.sight seen) turn c.snapshot_of.ensures.grows in (
       ap (λ (h : Histogram). h.seen) none,
       subst IsBalanced (sym none) refl,
       subst (λ (h : Histogram). ShowsReclaims config c.args.class pass.sight seen c.in_ok-who.who c.args.moment 0 h.reclaimed) (sym none)
-          (shows_none config c.args.class pass.sight seen c.in_ok-who.who c.args.moment 0 grows),
+          (shows_none config c.args.class pass.sight seen c.in_ok-who.who c.args.moment 0 later.seen),
       so_far_none config c.args.class pass.sight seen c.in_ok-who.who c.args.moment links c.new-histogram.result none
           (subst
           (λ (p : PassView). (snapshot : IsSnapshot config c.args.class p.sight seen (length links)) × (snapshot.links ≡ links) × (list_at seen.seen (class_lock config c.args.class) ≡ class_told snapshot.history)) turn
           c.in_ok-links.ensures.links),
-      grows,
+      later,
       ap (λ (p : PassView). p.caller) c.snapshot_of.ensures.same ∙ ap (λ (p : PassView). p.caller) turn,
       ap (λ (p : PassView). p.turn) c.snapshot_of.ensures.same ∙ ap (λ (p : PassView). p.turn) turn,
       c.in_ok-who.ensures.took.who,
@@ -39,7 +40,7 @@ loop-i-init g c =
     )
 
 pub returns-in_err-crawl_link-clause-grows : goal.returns-in_err-crawl_link-clause-grows
-returns-in_err-crawl_link-clause-grows g c = grows_trans c.args.pass.now.sight c.loop-i.pass.sight c.crawl_link.new.pass.sight c.loop-i.invariant.4 c.crawl_link.ensures.grows
+returns-in_err-crawl_link-clause-grows g c = later_trans c.args.pass.now.sight c.loop-i.pass.sight c.crawl_link.new.pass.sight c.loop-i.invariant.4 c.crawl_link.ensures.grows
 
 pub returns-in_err-crawl_link-clause-cut : goal.returns-in_err-crawl_link-clause-cut
 returns-in_err-crawl_link-clause-cut g c = on_err_always c.from_residual-in_err-crawl_link.result (inr (ap (λ (p : PassView). p.calls) c.crawl_link.ensures.same ∙ c.loop-i.invariant.8))
@@ -63,10 +64,10 @@ loop-i-preserved g c =
       shows_both config c.args.class pass.sight c.loop-i.pass.sight new.sight c.in_ok-who.who c.args.moment 0 c.loop-i.histogram.reclaimed c.crawl_link.new.histogram.reclaimed i.2 c.in_ok-crawl_link.ensures.reclaims,
       so_far_more config c.args.class pass.sight c.loop-i.pass.sight new.sight c.in_ok-who.who c.args.moment c.in_ok-links.links.items
           (take c.loop-i.i c.in_ok-links.links.items) (take (c.loop-i.i + 1) c.in_ok-links.links.items)
-          c.index.result.now c.loop-i.histogram c.crawl_link.new.histogram i.3 c.crawl_link.ensures.grows c.in_ok-crawl_link.ensures.counted
+          c.index.result.now c.loop-i.histogram c.crawl_link.new.histogram i.3 c.crawl_link.ensures.grows.seen c.in_ok-crawl_link.ensures.counted
           (ap (λ (l : Link). take c.loop-i.i c.in_ok-links.links.items ++ l ∷ []) c.index.ensures
           ∙ sym (take_more c.in_ok-links.links.items c.loop-i.i c.index.result.now (omega (arith, c.loop-i-test.true, c.len-i-end.ensures)))),
-      grows_trans pass.sight c.loop-i.pass.sight new.sight i.4 c.crawl_link.ensures.grows,
+      later_trans pass.sight c.loop-i.pass.sight new.sight i.4 c.crawl_link.ensures.grows,
       ap (λ (p : PassView). p.caller) c.crawl_link.ensures.same ∙ i.5,
       ap (λ (p : PassView). p.turn) c.crawl_link.ensures.same ∙ i.6,
       i.7,

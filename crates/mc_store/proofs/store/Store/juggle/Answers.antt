@@ -9,7 +9,7 @@ use Rattle.mc_pull.specs.Growth as classes
 use Rattle.mc_hits.specs.{Rule.AreBefore, Views.HandsView}
 use Rattle.mc_store.specs.{Calls.IsUpkept, Finals.IsBehindAt, Locked.HasBegunAs, Locked.IsHeldClass, Sides.ClassSide, Sides.class_told, Callers.juggling_of}
 use Rattle.mc_evidence.specs.Seen.{stripes_seen}
-use Rattle.mc_store.proofs.PlacedLemmas.{placed_sees}
+use Rattle.mc_store.proofs.{CallerLemmas.on_ok_always, PlacedLemmas.placed_sees}
 use Rattle.mc_store.specs.{Callers.turns_of, Passes.ArePlaced, Made.HasNoneMadeBy, Passes.next_who, Hits.Takes, Hits.queue_of, Locked.setting_of}
 use Rattle.mc_store.specs.Passes.{CallerView, PassView, HasCalled, caller_of}
 use Rattle.mc_store.proofs.{GrownClassLemmas.fails_full, GrownClassLemmas.juggled_so, SeenStripeLemmas.called_now, TakenHitLemmas.takes_none}
@@ -67,6 +67,13 @@ returns-clause-full g c = λ is.
     inl (fails_full table config c.args.class c.args.pass.now.sight c.share.new.seen.sight old new old_kept new_kept number grows behind told all
     c.upkeep_under-moves.result c.upkeep_under-moves.ensures.fault is)
 
+pub returns-clause-turn : goal.returns-clause-turn
+returns-clause-turn g c = (
+  refl,
+  on_ok_always c.upkeep_under-moves.result
+      (ap (λ (k : CallerView). length (turns_of k.calls)) c.tell_class.ensures.same ∙ ap (λ (p : PassView). p.turn) (c.pass.view_is ∙ c.in_ok-who.ensures.took.turn)),
+)
+
 pub upkeep_under-moves-requires : goal.upkeep_under-moves-requires
 upkeep_under-moves-requires g c =
     let config = g.N.Named.config in
@@ -106,7 +113,7 @@ invariant_of-pass g c =
     let same = c.upkeep_under-moves.ensures.same in
     let caller = c.tell_class.ensures.same in
     let seen : c.compare.new.seen ≡ c.pass.inside.seen = c.compare.ensures.same.1 in
-    let grows : Grows c.pass.inside.seen.sight c.share.new.seen.sight = subst (λ (v : SeenView). Grows v.sight c.share.new.seen.sight) seen c.share.ensures.grows in (
+    let grows : Grows c.pass.inside.seen.sight c.share.new.seen.sight = subst (λ (v : SeenView). Grows v.sight c.share.new.seen.sight) seen c.share.ensures.grows.seen in (
       c.share.ensures.board ∙ (ap (λ (v : SeenView). v.board) seen ∙ i.0),
       subst (λ (k : CallerView). ArePlaced config k (stripes_seen (list_at c.share.new.seen.sight.seen))) (sym caller)
           (placed_sees config c.pass.inside.caller c.pass.inside.seen.sight c.share.new.seen.sight grows i.1),

@@ -1,0 +1,7 @@
+use Rattle.std.proofs.Common.{drop, length, map}
+use Rattle.mc_board.specs.Steps.{owned_of}
+use Rattle.mc_board.proofs.owner.Owner.publish.Given as goal
+
+-- the events that the history doesn't have yet
+abbrev pub ghosts-end : goal.ghosts-end
+ghosts-end g a = record { entries = drop (length (owned_of a.place.now.me.0).history) (map g.E.Logged.entry a._named_by.now.items) }

@@ -1,0 +1,9 @@
+use Rattle.std.proofs.Common.{◌≡◌, ◌≤◌, ◌+◌, ◌*◌, false, map}
+use Rattle.mc_item.specs.declared.event.Event.TheVariants.{Class}
+use Rattle.mc_list_tests.specs.Rounds.{HasRounds}
+use Rattle.mc_list_tests.proofs.tests.growing_histories.publish_rounds.Given as goal
+
+abbrev pub invariant-loop-round : goal.invariant-loop-round
+invariant-loop-round l =
+    (l.owner.board ≡ l.fn.owner.board) × (l.owner.lock ≡ l.fn.owner.lock) × (l.owner.history ≡ map Class l.history.items)
+    × HasRounds l.history.items l.round × (2 * l.rounds ≤ l.history.room + 2 * l.round) × (l.history.kept ≡ false)
