@@ -26,4 +26,4 @@ mod watching;
 const SEED: u64 = 0;
 
 /// Figures are read so often beside threads that write.
-const READS: u32 = 200_000;
+const READS: u32 = 1_000_000;
