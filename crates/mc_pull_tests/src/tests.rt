@@ -3,6 +3,7 @@
 mod advances;
 mod asking;
 mod bounds;
+mod breaking;
 mod by_list;
 mod hits;
 mod hitting;

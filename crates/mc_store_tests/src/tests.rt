@@ -11,13 +11,18 @@ mod figures;
 mod full_classes;
 mod full_neighbours;
 mod full_store;
+mod held_stripes;
 mod hits;
 mod limits;
 mod many_hits;
+mod meetings;
 mod opening;
 mod own_locks;
+mod paces;
+mod passes;
 mod playing;
 mod running;
+mod schedules;
 mod sharing;
 mod upkeep;
 mod watching;
@@ -27,3 +32,6 @@ const SEED: u64 = 0;
 
 /// Figures are read so often beside threads that write.
 const READS: u32 = 1_000_000;
+
+/// So many schedules are drawn for threads, and so many for one thread. Each prints its own seed.
+const SCHEDULES: u64 = 12;

@@ -1,11 +1,13 @@
 //! What the tests run: the program over bytes in memory, and a script over pieces.
 mod asking;
 mod at_once;
+mod beginnings;
 mod classes;
 mod crawls;
 mod drawing;
 mod drawn;
 mod examples;
+mod failing;
 mod failures;
 mod faulty;
 mod histories;
@@ -20,6 +22,7 @@ mod runs;
 mod scripts;
 mod stripes;
 mod supplies;
+mod two_sinks;
 mod upkeep;
 mod words;
 

@@ -7,12 +7,14 @@ use mc_testing::{WHO, World, juggle};
 use std::alloc::Global;
 use std::test::Fail;
 
-/// A gate that is lent stripe 0, and lends it where its list says yes. Past the end of the list it says no.
+/// A gate that is lent stripe 0, and lends it where its list says yes. Past the end of the list it says no. The visit of one
+/// number fails, if there is one.
 #[derive(Drop)]
 pub struct ByList<'a> {
     pub stripe: &'a mut StripeState,
     pub answers: &'a mut Vec<Answer>,
     pub yes: &'a [bool],
+    pub fails: Option<usize>,
 }
 
 impl<'a> Gate for ByList<'a> {
@@ -31,6 +33,11 @@ impl<'a> Gate for ByList<'a> {
 
     fn visit(&mut self, stripe: StripeNo, look: &mut Look<'_>) -> Result<bool, Fault> {
         let place = self.answers.len();
+        if let Some(fails) = self.fails {
+            if fails == place {
+                return Err(Fault::NoMemory);
+            }
+        }
         let had = stripe.0 == 0 && place < self.yes.len() && self.yes[place];
         self.answers.reserve(1)?;
         if !had {
@@ -57,6 +64,8 @@ pub enum Walked {
     Juggle(u64),
     /// COLD is pulled for an entry to take.
     Evict(u64, &'static [bool]),
+    /// COLD is pulled by a survey that is made first.
+    Pull(u64, &'static [bool]),
     /// HOT is pulled for an entry to force to COLD.
     Force(u64, &'static [bool]),
     /// Room is made.
@@ -70,6 +79,7 @@ fn walk(
     mode: Mode,
     moment: u64,
     yes: &[bool],
+    fails: Option<usize>,
 ) -> Result<Option<Pulled>, Fault> {
     let alloc = world.alloc;
     let class = &mut world.class;
@@ -80,6 +90,7 @@ fn walk(
         stripe: &mut world.stripe,
         answers: &mut Vec::new(alloc),
         yes,
+        fails,
     };
     let config = &world.config;
     let pulled = pull_tail(alloc, class, seg, mode, WHO, moment, config, &mut gate)?;
@@ -88,17 +99,22 @@ fn walk(
 
 /// Pulls COLD for an entry to take.
 pub(super) fn evict(world: &mut World, moment: u64, yes: &[bool]) -> Result<Option<Pulled>, Fault> {
-    walk(world, Seg::Cold, Mode::Evict, moment, yes)
+    walk(world, Seg::Cold, Mode::Evict, moment, yes, None)
 }
 
 /// Pulls COLD by a survey that is made first.
 pub(super) fn pull(world: &mut World, moment: u64, yes: &[bool]) -> Result<Option<Pulled>, Fault> {
     let mode = Mode::Plain(world.class.survey(WHO, moment)?);
-    walk(world, Seg::Cold, mode, moment, yes)
+    walk(world, Seg::Cold, mode, moment, yes, None)
 }
 
 // Makes room. It says whether a chunk was found, and after how many looks.
-fn room(world: &mut World, moment: u64, yes: &[bool]) -> Result<(bool, usize), Fault> {
+fn room(
+    world: &mut World,
+    moment: u64,
+    yes: &[bool],
+    fails: Option<usize>,
+) -> Result<(bool, usize), Fault> {
     let alloc = world.alloc;
     let class = &mut world.class;
     let mut answers = Vec::new(alloc);
@@ -106,9 +122,46 @@ fn room(world: &mut World, moment: u64, yes: &[bool]) -> Result<(bool, usize), F
         stripe: &mut world.stripe,
         answers: &mut answers,
         yes,
+        fails,
     };
     let found = make_room(alloc, class, WHO, moment, &world.config, &mut gate)?;
     Ok((found, answers.len()))
+}
+
+// Juggles the class by a gate whose visit of one number fails, if there is one, and which else is always lent the stripe.
+fn juggle_by(world: &mut World, moment: u64, fails: Option<usize>) -> Result<(), Fault> {
+    let alloc = world.alloc;
+    let class = &mut world.class;
+    let mut gate = ByList {
+        stripe: &mut world.stripe,
+        answers: &mut Vec::new(alloc),
+        yes: &[true; 100],
+        fails,
+    };
+    mc_pull::juggle(alloc, class, WHO, moment, &world.config, &mut gate)?;
+    Ok(())
+}
+
+/// Walks by a gate whose visit of this number fails, and so the walk, unless it makes fewer visits.
+pub(super) fn walk_broken(world: &mut World, walked: Walked, fails: usize) -> Result<(), Fault> {
+    let fails = Some(fails);
+    match walked {
+        Walked::Juggle(moment) => juggle_by(world, moment, fails)?,
+        Walked::Evict(moment, yes) => {
+            walk(world, Seg::Cold, Mode::Evict, moment, yes, fails)?;
+        }
+        Walked::Pull(moment, yes) => {
+            let mode = Mode::Plain(world.class.survey(WHO, moment)?);
+            walk(world, Seg::Cold, mode, moment, yes, fails)?;
+        }
+        Walked::Force(moment, yes) => {
+            walk(world, Seg::Hot, Mode::Force, moment, yes, fails)?;
+        }
+        Walked::Room(moment, yes) => {
+            room(world, moment, yes, fails)?;
+        }
+    }
+    Ok(())
 }
 
 // How many entries a walk has met.
@@ -139,9 +192,11 @@ pub(super) fn tell_walked(world: &mut World, walked: Walked) -> Result<String, F
     match walked {
         Walked::Juggle(moment) => text_of_juggled(world, moment),
         Walked::Evict(moment, yes) => text_of_pulled(alloc, evict(world, moment, yes)?),
-        Walked::Force(moment, yes) => {
-            text_of_pulled(alloc, walk(world, Seg::Hot, Mode::Force, moment, yes)?)
-        }
-        Walked::Room(moment, yes) => text_of_room(alloc, room(world, moment, yes)?),
+        Walked::Pull(moment, yes) => text_of_pulled(alloc, pull(world, moment, yes)?),
+        Walked::Force(moment, yes) => text_of_pulled(
+            alloc,
+            walk(world, Seg::Hot, Mode::Force, moment, yes, None)?,
+        ),
+        Walked::Room(moment, yes) => text_of_room(alloc, room(world, moment, yes, None)?),
     }
 }

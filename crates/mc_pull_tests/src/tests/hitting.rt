@@ -18,6 +18,7 @@ fn take(world: &mut World, taken: Taken) -> Result<(bool, usize), Fault> {
         stripe: &mut world.stripe,
         answers: &mut answers,
         yes: taken.2,
+        fails: None,
     };
     let config = &world.config;
     let moved = advance(alloc, class, taken.0, WHO, taken.1, config, &mut gate)?;

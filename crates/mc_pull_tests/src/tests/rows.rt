@@ -4,7 +4,7 @@ use super::hitting::{Taken, tell_taken};
 use super::judging::{Judged, tell_judged};
 use super::seeing::{Seen, tell_seen};
 use mc_item::Config;
-use mc_testing::{WHO, World, opened, store};
+use mc_testing::{WHO, World, one_class, opened, store};
 use std::alloc::Global;
 use std::process::Abort;
 use std::random::RandomSource;
@@ -116,4 +116,15 @@ pub(super) fn play<R: Abort + RandomSource>(
     let mut world = opened(rt, alloc, config)?;
     check_rows(rt, &mut world, before)?;
     check_rows(rt, &mut world, rows)
+}
+
+/// A store of one class of six chunks, on which rows were played.
+pub(super) fn six<R: Abort + RandomSource>(
+    rt: &R,
+    alloc: Global,
+    rows: &[Row],
+) -> Result<World, Fail> {
+    let mut world = opened(rt, alloc, one_class(alloc, 6)?)?;
+    check_rows(rt, &mut world, rows)?;
+    Ok(world)
 }

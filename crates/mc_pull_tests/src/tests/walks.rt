@@ -2,11 +2,11 @@
 use super::by_list::Walked::{Evict, Force, Juggle, Room};
 use super::by_list::{evict, pull};
 use super::rows::Ask::{Limit, See, Store, Walk};
-use super::rows::{Row, SIX, SIX_AND_A_DIES, SIX_AND_FIVE_DIE, check_rows, play};
+use super::rows::{Row, SIX, SIX_AND_A_DIES, SIX_AND_FIVE_DIE, play, six};
 use super::seeing::Seen::{LastOfClass, LastOfStripe, Lengths, List};
-use super::seeing::numbers;
+use super::seeing::{numbers, tell_seen};
 use mc_item::Seg::{Cold, Hot};
-use mc_testing::{World, one_class, opened};
+use mc_testing::{World, one_class};
 use std::alloc::Global;
 use std::process::Abort;
 use std::random::RandomSource;
@@ -202,32 +202,36 @@ fn pattern(digits: u32) -> [bool; 5] {
     [digit(0), digit(1), digit(2), digit(3), digit(4)]
 }
 
-// Where a walk for a chunk takes whom it gets, the first yes ends it: how many were evicted, passed, and are left.
-fn plain_walk(yes: [bool; 5]) -> (u64, u64, u64) {
+// Where a walk for a chunk takes whom it gets, the first yes ends it: how many were evicted, passed, and are left, and the
+// class's last event. Where no answer is yes it is the last move of the juggling.
+fn plain_walk(yes: [bool; 5]) -> ((u64, u64, u64), &'static str) {
     match yes {
-        [true, ..] => (1, 0, 5),
-        [_, true, ..] => (1, 1, 5),
-        [_, _, true, ..] => (1, 2, 5),
-        [_, _, _, true, _] => (1, 3, 5),
-        [_, _, _, _, true] => (1, 4, 5),
-        _ => (0, 5, 6),
+        [true, ..] => ((1, 0, 5), "evicts 0 past [] at 6"),
+        [_, true, ..] => ((1, 1, 5), "evicts 1 past [0] at 6"),
+        [_, _, true, ..] => ((1, 2, 5), "evicts 2 past [0, 1] at 6"),
+        [_, _, _, true, _] => ((1, 3, 5), "evicts 3 past [0, 1, 2] at 6"),
+        [_, _, _, _, true] => ((1, 4, 5), "evicts 4 past [0, 1, 2, 3] at 6"),
+        _ => (
+            (0, 5, 6),
+            "moves 4 from Hot to Cold for Over(6) past [] at 6",
+        ),
     }
+}
+
+fn asserts_last<R: Abort>(rt: &R, world: &World, last: &str, digits: u32) -> Result<(), Fail> {
+    let told = tell_seen(world.alloc, &world.class, &world.stripe, LastOfClass)?;
+    assert_eq!(rt; told.as_str(), last, "at {digits}");
+    Ok(())
 }
 
 fn check_walk<R: Abort>(rt: &R, world: &mut World, digits: u32) -> Result<(), Fail> {
     let yes = pattern(digits);
+    let (counts, last) = plain_walk(yes);
     let pulled = evict(world, 1000, &yes)?.expect(rt, "a walk");
     let got = (pulled.evicted, pulled.passed, world.class.count());
-    assert_eq!(rt; got, plain_walk(yes), "at {digits}");
+    assert_eq!(rt; got, counts, "at {digits}");
     assert_eq!(rt; (pulled.reclaimed, pulled.moved), (0, 0), "at {digits}");
-    Ok(())
-}
-
-// Six items, and what is asked of them then.
-fn six<R: Abort + RandomSource>(rt: &R, alloc: Global, before: &[Row]) -> Result<World, Fail> {
-    let mut world = opened(rt, alloc, one_class(alloc, 6)?)?;
-    check_rows(rt, &mut world, before)?;
-    Ok(world)
+    asserts_last(rt, world, last, digits)
 }
 
 fn walk_by<R: Abort + RandomSource>(rt: &R, alloc: Global, digits: u32) -> Result<(), Fail> {

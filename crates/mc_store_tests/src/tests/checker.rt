@@ -159,8 +159,8 @@ fn replay_one<R: Abort>(
     }
 }
 
-// The same of the history of each stripe.
-fn replay<R: Abort>(
+/// Replays the history of each stripe of a closed store, and looks for each answered command among the threads' calls.
+pub(super) fn replay<R: Abort>(
     rt: &R,
     alloc: Global,
     ledger: &Final,
@@ -185,6 +185,13 @@ fn are_found(calls: &Vec<Call>) -> bool {
         }
     }
     true
+}
+
+/// Ends the test where a call that was answered was found nowhere.
+pub(super) fn are_all_found<R: Abort>(rt: &R, threads: &Vec<Vec<Call>>) {
+    for (caller, calls) in threads.iter().enumerate() {
+        assert!(rt; are_found(calls), "calls of {caller}");
+    }
 }
 
 // Ends the test where a call that was answered was found nowhere, or a player didn't make all its calls.

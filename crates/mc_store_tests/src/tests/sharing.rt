@@ -136,8 +136,8 @@ fn meet<N: Named, R: Abort>(rt: &R, store: &Store<N>, works: &mut Vec<Work<N>>) 
     store.meet(&mut first.pass, &mut second.pass);
 }
 
-// Compares the threads' passes with the closed store.
-fn compare_works<N: Named>(ledger: &mut Final, works: &mut Vec<Work<N>>)
+/// Compares the threads' passes with the closed store.
+pub(super) fn compare_works<N: Named>(ledger: &mut Final, works: &mut Vec<Work<N>>)
     requires { ledger.old.board ≡ N.board.table }
     ensures { ledger.new ≡ ledger.old }
 {
@@ -146,8 +146,12 @@ fn compare_works<N: Named>(ledger: &mut Final, works: &mut Vec<Work<N>>)
     }
 }
 
-// Takes out the threads' calls.
-fn calls_of<N: Named, R: Abort>(rt: &R, alloc: Global, works: &mut Vec<Work<N>>) -> Vec<Vec<Call>> {
+/// Takes out the threads' calls.
+pub(super) fn calls_of<N: Named, R: Abort>(
+    rt: &R,
+    alloc: Global,
+    works: &mut Vec<Work<N>>,
+) -> Vec<Vec<Call>> {
     let mut all = Vec::new(alloc);
     for work in works.as_mut_slice() {
         let calls = std::mem::replace(&mut work.calls, Vec::new(alloc));

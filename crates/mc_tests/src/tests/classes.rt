@@ -2,7 +2,7 @@
 use super::{Example, all_hold};
 
 // An item of one byte under a key of one costs 66, so it is of class 1, whose items have at most 96.
-static EXAMPLES: [Example; 20] = [
+pub(super) static EXAMPLES: [Example; 20] = [
     Example {
         name: "the third set takes the chunk of the oldest item",
         words: &["mcseg", "--sizes", "96", "--chunks", "2"],

@@ -1,7 +1,7 @@
 //! The crawler through the program: kinds by the seconds left, what is reclaimed, and classes summed.
 use super::{Example, all_hold};
 
-static EXAMPLES: [Example; 5] = [
+pub(super) static EXAMPLES: [Example; 5] = [
     // At 1000 `g` and `a` have died or die within a minute, and so on; `f` never does.
     Example {
         name: "each item is counted by the minutes that it has left",

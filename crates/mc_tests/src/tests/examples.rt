@@ -2,7 +2,7 @@
 use super::{Example, all_hold};
 
 /// The worked examples of one script, those with options too.
-pub static EXAMPLES: [Example; 37] = [
+pub static EXAMPLES: [Example; 38] = [
     Example {
         name: "a set is read back",
         words: &["mcseg"],
@@ -264,6 +264,14 @@ pub static EXAMPLES: [Example; 37] = [
         words: &["mcseg"],
         input: "set a 0 0 2147483646|",
         output: "CLIENT_ERROR bad command line format|",
+        status: 0,
+        errors: "",
+    },
+    Example {
+        name: "the most bytes of a block, of which few come",
+        words: &["mcseg"],
+        input: "set a 0 0 2147483645|xyz|get a|",
+        output: "",
         status: 0,
         errors: "",
     },

@@ -2,7 +2,7 @@
 ghost use Rattle.std.specs.Prelude.{◌≤◌, length};
 
 use super::lines;
-use super::runs::{Supply, asserts_outcomes, config_of, one_script, run_of};
+use super::runs::{Supply, WHOLE, asserts_outcomes, config_of, one_script, run_of};
 use mc_driver::{Final, Outcome};
 use mc_item::{ClassEvent, ClassNo, StripeEvent, StripeNo};
 use std::alloc::{AllocError, Global};
@@ -166,9 +166,8 @@ fn check_left<R: Abort + RandomSource + Threads + Wait + Sync>(rt: &R, alloc: Gl
     let config = config_of(rt, alloc, left.words);
     let supply = Supply {
         sizes: &[5],
-        read: None,
         taken: 5,
-        write: None,
+        ..WHOLE
     };
     let scripts = one_script(rt, alloc, input.as_slice(), supply);
     let run = run_of(rt, alloc, config, scripts, &[]);

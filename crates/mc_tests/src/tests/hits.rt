@@ -7,7 +7,7 @@ use mc_segment::ClassState;
 use std::process::Abort;
 
 // An item of one byte under a key of one costs 66. HOT may have a fifth of the bytes of its class, and WARM two fifths.
-static EXAMPLES: [Example; 2] = [
+pub(super) static EXAMPLES: [Example; 2] = [
     // The item of `a` is active and at COLD's tail, from which the set takes a chunk.
     Example {
         name: "a hit still queued saves nothing",

@@ -2,7 +2,7 @@
 //! bytes and those of its key and value.
 use super::{Example, all_hold};
 
-static EXAMPLES: [Example; 14] = [
+pub(super) static EXAMPLES: [Example; 14] = [
     Example {
         name: "data goes behind the old value and before it",
         words: &["mcseg"],

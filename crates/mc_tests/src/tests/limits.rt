@@ -2,7 +2,7 @@
 use super::{Example, all_hold};
 
 // An item of one byte under a key of one costs 66, so it is of class 1, whose items have at most 96; one of 60 bytes costs 125.
-static EXAMPLES: [Example; 8] = [
+pub(super) static EXAMPLES: [Example; 8] = [
     Example {
         name: "a set in a class whose limit was lowered makes room for its own item",
         words: &["mcseg", "--sizes", "96", "--chunks", "3"],

@@ -15,13 +15,15 @@ use std::sync::Wait;
 use std::thread::Threads;
 
 /// The sizes of a script's pieces, of which the last one goes on, the read that fails, how many bytes one write takes, and
-/// the write that fails.
+/// the write that fails. It is refused, or takes none of its bytes. A write may also be of a whole text.
 #[derive(Clone, Copy)]
 pub(super) struct Supply<'a> {
     pub(super) sizes: &'a [usize],
     pub(super) read: Option<u64>,
     pub(super) taken: usize,
     pub(super) write: Option<u64>,
+    pub(super) takes_none: bool,
+    pub(super) at_once: bool,
 }
 
 /// One piece and one write.
@@ -30,6 +32,8 @@ pub(super) const WHOLE: Supply<'static> = Supply {
     read: None,
     taken: 1 << 20,
     write: None,
+    takes_none: false,
+    at_once: false,
 };
 
 /// The source and the sink of a script.
@@ -44,7 +48,9 @@ pub(super) fn add_script<'a, R: Abort>(
     supply: Supply<'a>,
 ) {
     let source = Pieces::new(alloc, input, supply.sizes, supply.read);
-    let sink = Slow::new(rt, alloc, supply.taken, supply.write);
+    let mut sink = Slow::new(rt, alloc, supply.taken, supply.write);
+    sink.little.takes_none = supply.takes_none;
+    sink.at_once = supply.at_once;
     scripts.push((source, sink)).expect(rt, "memory");
 }
 
@@ -103,6 +109,12 @@ pub(super) fn output_of<R: Abort>(rt: &R, alloc: Global, ends: &[Ends<'_, R>]) -
         add(rt, &mut output, end.1.little.bytes.as_slice());
     }
     output
+}
+
+/// How many bytes the first script's sink had taken after each write.
+pub(super) fn writes_of<R: Abort>(rt: &R, alloc: Global, ends: &[Ends<'_, R>]) -> Vec<usize> {
+    let first = ends.first().expect(rt, "a script");
+    Vec::from_slice(alloc, first.1.little.writes.as_slice()).expect(rt, "memory")
 }
 
 /// Asserts how the scripts and upkeep ended.

@@ -1,7 +1,7 @@
 //! Several scripts through the program, with and without upkeep.
 use super::{Example, all_hold};
 
-static EXAMPLES: [Example; 11] = [
+pub(super) static EXAMPLES: [Example; 11] = [
     Example {
         name: "two scripts and upkeep on four stripes",
         words: &["mcseg", "--stripes", "4", "--upkeep", "1000,1001,1002"],

@@ -3,7 +3,7 @@ use super::{Example, all_hold};
 
 // The stripe of a key is that of its hash, so a version's cas number tells which: with four stripes 1 is the first one
 // of stripe 0, 2 of stripe 1, and 3 of stripe 2.
-static EXAMPLES: [Example; 4] = [
+pub(super) static EXAMPLES: [Example; 4] = [
     Example {
         name: "three keys of three stripes",
         words: &["mcseg", "--stripes", "4"],

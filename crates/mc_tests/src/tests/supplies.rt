@@ -1,4 +1,4 @@
-//! Sources and sinks for tests: pieces of any size, one read that fails, one write that fails, slow sinks.
+//! Sources and sinks for tests: pieces of any size, one read that fails, one write that fails or takes nothing, slow sinks.
 ghost use Rattle.std.specs.Prelude.{◌≡◌, [], false};
 
 use mc_driver::{Source, SourceFault};
@@ -85,14 +85,29 @@ impl Source for Pieces<'_> {
 }
 
 /// A sink that takes so many bytes at a time, but one at least, and keeps them; a whole text it takes at once. The write of
-/// one number fails, once, if there is one. Want of memory ends the test.
+/// one number fails, once, if there is one: it is refused, or takes none of its bytes. It notes how many bytes were taken
+/// after each write. Want of memory ends the test.
 #[derive(Drop)]
 pub struct Little<'a, R: Abort> {
     rt: &'a R,
     pub bytes: Vec<u8>,
+    pub(super) writes: Vec<usize>,
     size: usize,
-    writes: Option<u64>,
+    left: Option<u64>,
+    pub(super) takes_none: bool,
     pub failed: bool,
+}
+
+// Counts one write more. Whether it is the one that fails.
+fn is_due(left: &mut Option<u64>) -> bool {
+    match *left {
+        Some(0) => true,
+        Some(more) => {
+            *left = Some(more - 1);
+            false
+        }
+        None => false,
+    }
 }
 
 impl<R: Abort> Sink for Little<'_, R> {
@@ -103,51 +118,57 @@ impl<R: Abort> Sink for Little<'_, R> {
     ghost failures = { λ s. if s.failed then 1 else 0 };
 
     fn put(&mut self, bytes: &[u8]) -> Result<usize, SinkFault> {
-        match self.writes {
-            Some(0) => {
-                if !self.failed {
-                    self.failed = true;
-                    return Err(SinkFault);
-                }
-            }
-            Some(left) => {
-                self.writes = Some(left - 1);
-            }
-            None => {}
+        if is_due(&mut self.left) && !self.failed {
+            self.failed = true;
+            return if self.takes_none {
+                Ok(0)
+            } else {
+                Err(SinkFault)
+            };
         }
         let end = self.size.max(1).min(bytes.len());
         self.bytes
             .extend_from_slice(bytes.split_at(end).0)
             .expect(self.rt, "memory");
+        self.writes.push(self.bytes.len()).expect(self.rt, "memory");
         Ok(end)
     }
 
     fn put_whole(&mut self, text: &mut ReplyText) -> Result<(), SinkFault> {
+        if is_due(&mut self.left) && !self.failed {
+            self.failed = true;
+            return Err(SinkFault);
+        }
         text.copy_behind(&mut self.bytes).expect(self.rt, "memory");
         text.truncate(0);
+        self.writes.push(self.bytes.len()).expect(self.rt, "memory");
         Ok(())
     }
 }
 
-/// A sink that takes whole texts a little at a time too.
+/// A sink that takes whole texts at once, or a little at a time too.
 #[derive(Drop)]
 pub struct Slow<'a, R: Abort> {
     pub little: Little<'a, R>,
+    pub(super) at_once: bool,
 }
 
 impl<'a, R: Abort> Slow<'a, R> {
-    /// A sink that has taken nothing.
-    pub(super) fn new(rt: &'a R, alloc: Global, size: usize, writes: Option<u64>) -> Slow<'a, R>
+    /// A sink that has taken nothing, and takes whole texts a little at a time.
+    pub(super) fn new(rt: &'a R, alloc: Global, size: usize, left: Option<u64>) -> Slow<'a, R>
         ensures { result.little.bytes.items ≡ [] }
     {
         Slow {
             little: Little {
                 rt,
                 bytes: Vec::new(alloc),
+                writes: Vec::new(alloc),
                 size,
-                writes,
+                left,
+                takes_none: false,
                 failed: false,
             },
+            at_once: false,
         }
     }
 }
@@ -164,6 +185,9 @@ impl<R: Abort> Sink for Slow<'_, R> {
     }
 
     fn put_whole(&mut self, text: &mut ReplyText) -> Result<(), SinkFault> {
+        if self.at_once {
+            return self.little.put_whole(text);
+        }
         write_whole(&mut self.little, text)
     }
 }

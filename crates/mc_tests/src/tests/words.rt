@@ -7,7 +7,7 @@ use std::str;
 use std::sync::Wait;
 use std::thread::Threads;
 
-static EXAMPLES: [Example; 18] = [
+pub(super) static EXAMPLES: [Example; 18] = [
     Example {
         name: "the version",
         words: &["mcseg", "--version"],

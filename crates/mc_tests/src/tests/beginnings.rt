@@ -1,0 +1,118 @@
+//! Each beginning of a worked example's input, through the program: it ends well or as the example does, and what it prints
+//! begins what the example prints. Scripts are printed one behind the other, so those before the cut print all that they do.
+use super::{
+    Example, Ran, Wanted, add, add_lines, asserts_ran, classes, crawls, examples, hits, joined,
+    limits, lines, pieces, run_program, scripts, stripes, words,
+};
+use std::alloc::Global;
+use std::process::Abort;
+use std::random::RandomSource;
+use std::sync::Wait;
+use std::thread::Threads;
+
+fn asserts_begins<R: Abort>(rt: &R, ran: &Ran, whole: &Wanted<'_>, place: usize) {
+    let ends = ran.status == whole.status;
+    assert!(rt; ends || ran.status == 0, "{}, at {place}", whole.name);
+    assert!(rt;
+        whole.output.starts_with(ran.output.as_slice()),
+        "{}, at {place}",
+        whole.name
+    );
+    let errors: &[u8] = if ends { whole.errors } else { b"" };
+    assert_eq!(rt; ran.errors.as_slice(), errors, "{}, at {place}", whole.name);
+}
+
+// Asserts this of each beginning of an input, and that the whole input is answered as is wanted.
+fn check_beginnings<R: Abort + RandomSource + Threads + Wait + Sync>(
+    rt: &R,
+    alloc: Global,
+    words: &[&str],
+    input: &[u8],
+    whole: &Wanted<'_>,
+) {
+    for place in 0..input.len() {
+        let ran = run_program(rt, alloc, words, input.split_at(place).0);
+        asserts_begins(rt, &ran, whole, place);
+    }
+    let ran = run_program(rt, alloc, words, input);
+    asserts_ran(rt, &ran, whole, input.len());
+}
+
+fn check_example<R: Abort + RandomSource + Threads + Wait + Sync>(
+    rt: &R,
+    alloc: Global,
+    example: &Example,
+) {
+    let input = lines(rt, alloc, example.input);
+    let output = lines(rt, alloc, example.output);
+    let whole = Wanted {
+        name: example.name,
+        status: example.status,
+        output: output.as_slice(),
+        errors: example.errors.as_bytes(),
+    };
+    check_beginnings(rt, alloc, example.words, input.as_slice(), &whole);
+}
+
+fn check_all<R: Abort + RandomSource + Threads + Wait + Sync>(
+    rt: &R,
+    alloc: Global,
+    examples: &[Example],
+) {
+    for example in examples {
+        check_example(rt, alloc, example);
+    }
+}
+
+#[test]
+fn each_beginning_of_a_worked_example_prints_a_beginning(rt: HostRuntime) {
+    let first = examples::EXAMPLES.as_slice().split_at(13).0;
+    check_all(&rt, rt.alloc(), first);
+}
+
+#[test]
+fn each_beginning_of_a_later_example_prints_a_beginning(rt: HostRuntime) {
+    let later = examples::EXAMPLES.as_slice().split_at(13).1;
+    check_all(&rt, rt.alloc(), later);
+}
+
+#[test]
+fn each_beginning_of_several_scripts_prints_a_beginning(rt: HostRuntime) {
+    check_example(&rt, rt.alloc(), &pieces::ALL);
+    check_all(&rt, rt.alloc(), scripts::EXAMPLES.as_slice());
+    check_all(&rt, rt.alloc(), stripes::EXAMPLES.as_slice());
+    check_all(&rt, rt.alloc(), words::EXAMPLES.as_slice());
+}
+
+#[test]
+fn each_beginning_of_a_script_on_full_classes_prints_a_beginning(rt: HostRuntime) {
+    check_all(&rt, rt.alloc(), classes::EXAMPLES.as_slice());
+    check_all(&rt, rt.alloc(), hits::EXAMPLES.as_slice());
+}
+
+#[test]
+fn each_beginning_of_joins_and_crawls_prints_a_beginning(rt: HostRuntime) {
+    check_all(&rt, rt.alloc(), crawls::EXAMPLES.as_slice());
+    check_all(&rt, rt.alloc(), joined::EXAMPLES.as_slice());
+}
+
+#[test]
+fn each_beginning_of_changed_limits_prints_a_beginning(rt: HostRuntime) {
+    check_all(&rt, rt.alloc(), limits::EXAMPLES.as_slice());
+}
+
+// 300 bytes of 255 are no text, and a line like another.
+#[test]
+fn bytes_that_are_no_text_are_an_unknown_verb(rt: HostRuntime) {
+    let mut input = Vec::new(rt.alloc());
+    add(&rt, &mut input, &[255; 300]);
+    add_lines(&rt, &mut input, "|get a|");
+    let output = lines(&rt, rt.alloc(), "ERROR|END|");
+    let whole = Wanted {
+        name: "bytes that are no text",
+        status: 0,
+        output: output.as_slice(),
+        errors: b"",
+    };
+    check_beginnings(&rt, rt.alloc(), &["mcseg"], input.as_slice(), &whole);
+}
