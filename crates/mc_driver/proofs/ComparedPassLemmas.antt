@@ -1,5 +1,5 @@
 -- What a caller's work leaves in the store of a run, where its pass was compared with that store.
-use Rattle.std.proofs.Common.{◌≡◌, ◌≤◌, ℕ, List, Option, None, length, inl, inr, subst, ⊎_elim}
+use Rattle.std.proofs.Common.{◌≡◌, ◌≤◌, ◌++◌, ℕ, List, [], Option, None, length, inl, inr, refl, subst, ⊎_elim}
 use Rattle.mc_item.specs.declared.{call_event.CallEvent.CallEvent, config.Config.Config}
 use Rattle.mc_hits.specs.Views.{HitsView, tables_of}
 use Rattle.mc_proto.specs.declared.request.Limits.{Limits}
@@ -13,32 +13,41 @@ use Rattle.mc_driver.specs.declared.{jobs.Work.Work, jobs.Work.TheVariants.Scrip
 use Rattle.mc_driver.proofs.{ScriptFactLemmas.KnowsSome, ScriptFactLemmas.keeps_some, ScriptFactLemmas.keeps_up_as, ScriptFactLemmas.leaves_as, ScriptFactLemmas.leaves_some, RunLeavesLemmas.left_calls}
 use Rattle.mc_driver.proofs.{RunLeavesLemmas.left_full, LeftEventLemmas.whole_turns}
 
-module _ {S K : Type 0} (coming : S → List ℕ) (reads : S → ℕ) (taken : K → List ℕ) (writes : K → ℕ) where
+module _ {E : Type 0} (gave : E → E → List ℕ → Type 0) (at_end : E → Type 0) (taken : E → List ℕ) (reads writes : E → ℕ) where
   -- what is known of a caller's calls may be said by another fact that follows
-  works_as : (limits : Limits) (moments : List ℕ) (notes notes' : Notes) (caller : ℕ) (outcome : Outcome) (work work' : Work S K)
+  works_as : (limits : Limits) (moments : List ℕ) (notes notes' : Notes) (caller : ℕ) (outcome : Outcome) (work work' : Work E)
       → ((calls : List Exchange) (begun : Option Begun) → notes calls begun → notes' calls begun)
-      → Works coming reads taken writes limits moments notes caller outcome work work' → Works coming reads taken writes limits moments notes' caller outcome work work'
+      → Works gave at_end taken reads writes limits moments notes caller outcome work work' → Works gave at_end taken reads writes limits moments notes' caller outcome work work'
   works_as limits moments notes notes' caller outcome (Script ends) (Script left) follows works =
-      (leaves_as notes notes' caller follows limits (taken ends.sink) (taken left.sink) outcome (coming ends.source) (coming left.source) works.0, works.1)
+      let of = works.0 in (
+        record {
+          came = of.came;
+          since = of.since;
+          leaves = λ rest over. leaves_as notes notes' caller follows limits (taken ends) (taken left) outcome (of.came ++ rest) rest (of.leaves rest over);
+        },
+        works.1,
+      )
   works_as limits moments notes notes' caller outcome (Upkeep keeper) (Upkeep left) follows works = (works.0, keeps_up_as notes notes' caller follows limits (work_of keeper moments) outcome works.1)
   works_as limits moments notes notes' caller outcome (Script ends) (Upkeep left) follows works = works
   works_as limits moments notes notes' caller outcome (Upkeep keeper) (Script left) follows works = works
 
   -- however a work ended, some calls of it are known
-  works_some : (limits : Limits) (moments : List ℕ) (notes : Notes) (caller : ℕ) (outcome : Outcome) (work work' : Work S K)
-      → Works coming reads taken writes limits moments notes caller outcome work work'
+  works_some : (limits : Limits) (moments : List ℕ) (notes : Notes) (caller : ℕ) (outcome : Outcome) (work work' : Work E)
+      → Works gave at_end taken reads writes limits moments notes caller outcome work work'
       → KnowsSome notes
   works_some limits moments notes caller outcome (Script ends) (Script left) works =
-      leaves_some limits (coming ends.source) (coming left.source) (taken ends.sink) (taken left.sink) notes caller outcome works.0
+      let of = works.0 in
+      leaves_some limits (of.came ++ []) [] (taken ends) (taken left) notes caller outcome (of.leaves [] (λ over. refl))
   works_some limits moments notes caller outcome (Upkeep keeper) (Upkeep left) works = keeps_some limits (work_of keeper moments) notes caller outcome works.1
   works_some limits moments notes caller outcome (Script ends) (Upkeep left) works = absurd works
   works_some limits moments notes caller outcome (Upkeep keeper) (Script left) works = absurd works
 
   -- and where it is done, none of them broke off
-  works_done : (limits : Limits) (moments : List ℕ) (notes : Notes) (caller : ℕ) (outcome : Outcome) (work work' : Work S K) → outcome ≡ outcomes.Done
-      → Works coming reads taken writes limits moments notes caller outcome work work' → (calls : List Exchange) × notes calls None
+  works_done : (limits : Limits) (moments : List ℕ) (notes : Notes) (caller : ℕ) (outcome : Outcome) (work work' : Work E) → outcome ≡ outcomes.Done
+      → Works gave at_end taken reads writes limits moments notes caller outcome work work' → (calls : List Exchange) × notes calls None
   works_done limits moments notes caller outcome (Script ends) (Script left) is works =
-      let ended = subst (λ (o : Outcome). Leaves o limits (coming ends.source) (coming left.source) (taken ends.sink) (taken left.sink) notes caller) is works.0 in
+      let of = works.0 in
+      let ended = subst (λ (o : Outcome). Leaves o limits (of.came ++ []) [] (taken ends) (taken left) notes caller) is (of.leaves [] (λ over. refl)) in
       (_, ended.run.calls)
   works_done limits moments notes caller outcome (Upkeep keeper) (Upkeep left) is works =
       let kept = subst (λ (o : Outcome). KeepsUp o limits (work_of keeper moments) notes caller) is works.1 in
@@ -47,8 +56,8 @@ module _ {S K : Type 0} (coming : S → List ℕ) (reads : S → ℕ) (taken : K
   works_done limits moments notes caller outcome (Upkeep keeper) (Script left) is works = absurd works
 
   module _ (config : Config) (queues : List HitsView) (limits : Limits) (moments : List ℕ) (final : FinalView) (all : AreStripes final.board config final.stripes)
-      (all_classes : AreClasses final.board config final.classes) (caller : ℕ) (pass : PassView) (outcome : Outcome) (work work' : Work S K)
-      (has : HasWorked coming reads taken writes config limits moments (new_pass (tables_of queues) caller) pass outcome work work') (compared : IsCompared pass final) where
+      (all_classes : AreClasses final.board config final.classes) (caller : ℕ) (pass : PassView) (outcome : Outcome) (work work' : Work E)
+      (has : HasWorked gave at_end taken reads writes config limits moments (new_pass (tables_of queues) caller) pass outcome work work') (compared : IsCompared pass final) where
     -- the calls that it has noted, as the store shows them
     shown : (calls : List Exchange) (begun : Option Begun) → AreNoted config pass calls begun → AreItsCalls config caller (histories_left final) calls begun
     shown calls begun noted = subst (λ (k : ℕ). AreItsCalls config k (histories_left final) calls begun) has.caller (left_calls config final all all_classes pass compared calls begun noted)
@@ -57,7 +66,7 @@ module _ {S K : Type 0} (coming : S → List ℕ) (reads : S → ℕ) (taken : K
     own calls begun noted = subst (λ (k : ℕ). AreInTurn k calls) has.caller noted.own
 
     -- a caller's work as the store shows it
-    pub works_left : Works coming reads taken writes limits moments (AreItsCalls config caller (histories_left final)) caller outcome work work'
+    pub works_left : Works gave at_end taken reads writes limits moments (AreItsCalls config caller (histories_left final)) caller outcome work work'
     works_left = works_as limits moments (AreNoted config pass) (AreItsCalls config caller (histories_left final)) caller outcome work work' shown has.works
 
     -- where a history was full, one is, or the caller made all calls that it may

@@ -6,31 +6,31 @@ use Rattle.std.proofs.lemmas.{List.length-map, List.map-append, Option.get_or_fr
 use Rattle.mc_item.specs.declared.config.Config.{Config}
 use Rattle.mc_hits.specs.Views.{HitsView, tables_of}
 use Rattle.mc_proto.specs.declared.request.Limits.{Limits}
-use Rattle.mc_script.specs.declared.{ends.Both.Both, outcome.Outcome.Outcome, upkeep.Keeper.Keeper, upkeep.Keeper.TheVariants.Maintainer}
+use Rattle.mc_script.specs.declared.{outcome.Outcome.Outcome, upkeep.Keeper.Keeper, upkeep.Keeper.TheVariants.Maintainer}
 use Rattle.mc_script.specs.declared.{upkeep.Keeper.TheVariants.Crawler}
 use Rattle.mc_store.specs.Passes.{ArePasses, PassView, new_pass}
 use Rattle.mc_store.proofs.NumberOrderLemmas.{get_some}
-use Rattle.mc_driver.specs.Jobs.{HasWorked, IsAtStart, ends_in, script_of, works_of}
+use Rattle.mc_driver.specs.Jobs.{HasWorked, IsAtStart, MayRun, MayRunAll, ends_in, works_of}
 use Rattle.mc_driver.specs.declared.{jobs.Work.Work, jobs.Work.TheVariants.Script, jobs.Work.TheVariants.Upkeep}
 use Rattle.mc_driver.proofs.StandingCallLemmas.{grow_nothing}
 
-module _ {S K : Type 0} (coming : S → List ℕ) (reads : S → ℕ) (taken : K → List ℕ) (writes : K → ℕ) (config : Config) (queues : List HitsView) (limits : Limits) (moments : List ℕ) where
+module _ {E : Type 0} (gave : E → E → List ℕ → Type 0) (at_end : E → Type 0) (taken : E → List ℕ) (reads writes : E → ℕ) (config : Config) (queues : List HitsView) (limits : Limits) (moments : List ℕ) where
   -- the caller of this number has worked: what it was to do and what it left, how that ended, and its pass behind it
-  pub record HasWorkedAt (before after : List (Work S K)) (passes : List PassView) (outcomes : List Outcome) (caller : ℕ) : Type 0 where
-    pub work : Work S K
-    pub work' : Work S K
+  pub record HasWorkedAt (before after : List (Work E)) (passes : List PassView) (outcomes : List Outcome) (caller : ℕ) : Type 0 where
+    pub work : Work E
+    pub work' : Work E
     pub pass : PassView
     pub outcome : Outcome
     pub was : slice_get before caller ≡ Some work
     pub is : slice_get after caller ≡ Some work'
     pub passed : slice_get passes caller ≡ Some pass
     pub ended : slice_get outcomes caller ≡ Some outcome
-    pub has : HasWorked coming reads taken writes config limits moments (new_pass (tables_of queues) caller) pass outcome work work'
+    pub has : HasWorked gave at_end taken reads writes config limits moments (new_pass (tables_of queues) caller) pass outcome work work'
 
   -- each caller has, where each of their jobs was done
-  pub worked_at : {X : Type 0} (pass_of : X → PassView) (work_in : X → Work S K) (outcome_of : X → Outcome) (jobs done : List X) (callers : ℕ) → length done ≡ length jobs
+  pub worked_at : {X : Type 0} (pass_of : X → PassView) (work_in : X → Work E) (outcome_of : X → Outcome) (jobs done : List X) (callers : ℕ) → length done ≡ length jobs
       → ArePasses (tables_of queues) callers (map pass_of jobs)
-      → ((i : ℕ) (d : X) → i < length jobs → HasWorked coming reads taken writes config limits moments (pass_of (slice_index_or jobs i d))
+      → ((i : ℕ) (d : X) → i < length jobs → HasWorked gave at_end taken reads writes config limits moments (pass_of (slice_index_or jobs i d))
       (pass_of (slice_index_or done i d)) (outcome_of (slice_index_or done i d)) (work_in (slice_index_or jobs i d)) (work_in (slice_index_or done i d)))
       → (i : ℕ) → i < callers → HasWorkedAt (map work_in jobs) (map work_in done) (map pass_of done) (map outcome_of done) i
   worked_at {X = X} pass_of work_in outcome_of jobs done callers same passes each i below =
@@ -42,9 +42,9 @@ module _ {S K : Type 0} (coming : S → List ℕ) (reads : S → ℕ) (taken : K
       let left = get_or_from_slice_get done i h.0 g.0 h.1 in
       let first : pass_of g.0 ≡ new_pass (tables_of queues) i = some_is (sym (slice_get-map pass_of jobs i ∙ ap (option_map pass_of) g.1) ∙ begun) in
       let has = each i g.0 inside in
-      let has' = subst (λ (x : X). HasWorked coming reads taken writes config limits moments (pass_of x) (pass_of (slice_index_or done i g.0))
+      let has' = subst (λ (x : X). HasWorked gave at_end taken reads writes config limits moments (pass_of x) (pass_of (slice_index_or done i g.0))
       (outcome_of (slice_index_or done i g.0)) (work_in x) (work_in (slice_index_or done i g.0))) job has in
-      let has'' = subst (λ (x : X). HasWorked coming reads taken writes config limits moments (pass_of g.0) (pass_of x) (outcome_of x) (work_in g.0) (work_in x)) left has' in
+      let has'' = subst (λ (x : X). HasWorked gave at_end taken reads writes config limits moments (pass_of g.0) (pass_of x) (outcome_of x) (work_in g.0) (work_in x)) left has' in
       record {
         work = work_in g.0;
         work' = work_in h.0;
@@ -54,7 +54,7 @@ module _ {S K : Type 0} (coming : S → List ℕ) (reads : S → ℕ) (taken : K
         is = slice_get-map work_in done i ∙ ap (option_map work_in) h.1;
         passed = slice_get-map pass_of done i ∙ ap (option_map pass_of) h.1;
         ended = slice_get-map outcome_of done i ∙ ap (option_map outcome_of) h.1;
-        has = subst (λ (p : PassView). HasWorked coming reads taken writes config limits moments p (pass_of h.0) (outcome_of h.0) (work_in g.0) (work_in h.0)) first has'';
+        has = subst (λ (p : PassView). HasWorked gave at_end taken reads writes config limits moments p (pass_of h.0) (outcome_of h.0) (work_in g.0) (work_in h.0)) first has'';
       }
     where
       some_is : {A : Type 0} {a b : A} → Some a ≡ Some b → a ≡ b
@@ -65,19 +65,19 @@ module _ {S K : Type 0} (coming : S → List ℕ) (reads : S → ℕ) (taken : K
       inside_map f (x ∷ xs) zero y e = omega arith
       inside_map f (x ∷ xs) (suc k) y e = let in_rest = inside_map f xs k y e in omega (arith, in_rest)
 
-module _ {S K : Type 0} where
+module _ {E : Type 0} where
   -- the first so many of these works are scripts
-  pub record AreScripts (works : List (Work S K)) (n : ℕ) : Type 0 where
-    pub each : (i : ℕ) → i < n → (ends : Both S K) × (slice_get works i ≡ Some (Script ends))
+  pub record AreScripts (works : List (Work E)) (n : ℕ) : Type 0 where
+    pub each : (i : ℕ) → i < n → (ends : E) × (slice_get works i ≡ Some (Script ends))
 
   -- behind the first
-  scripts_behind : (work : Work S K) (works : List (Work S K)) (n : ℕ) → AreScripts (work ∷ works) (suc n) → AreScripts works n
+  scripts_behind : (work : Work E) (works : List (Work E)) (n : ℕ) → AreScripts (work ∷ works) (suc n) → AreScripts works n
   scripts_behind work works n all = record { each = λ i below. all.each (suc i) (omega (arith, below)) }
 
   -- the source and sink of a script stand among those of all, at its place
-  pub ends_at : (works : List (Work S K)) (n i : ℕ) (left : Both S K) (d : S × K) → AreScripts works n → i < n → slice_get works i ≡ Some (Script left) → slice_index_or (ends_in works) i d ≡ (left.source, left.sink)
+  pub ends_at : (works : List (Work E)) (n i : ℕ) (left d : E) → AreScripts works n → i < n → slice_get works i ≡ Some (Script left) → slice_index_or (ends_in works) i d ≡ left
   ends_at [] n i left d all below there = absurd (cc)
-  ends_at (Script ends ∷ works) n zero left d all below there = let same : ends ≡ left = cc in ap (λ (b : Both S K). (b.source, b.sink)) same
+  ends_at (Script ends ∷ works) n zero left d all below there = cc there
   ends_at (Script ends ∷ works) zero (suc i) left d all below there = absurd (omega (arith, below))
   ends_at (Script ends ∷ works) (suc n) (suc i) left d all below there = ends_at works n i left d (scripts_behind (Script ends) works n all) (omega (arith, below)) there
   ends_at (Upkeep keeper ∷ works) n i left d all below there =
@@ -85,7 +85,7 @@ module _ {S K : Type 0} where
       absurd (cc first.1)
 
   -- there are as many sources and sinks as scripts, where two works of upkeep follow them
-  pub ends_many : (works : List (Work S K)) (n : ℕ) (one two : Keeper) → AreScripts works n → slice_get works n ≡ Some (Upkeep one)
+  pub ends_many : (works : List (Work E)) (n : ℕ) (one two : Keeper) → AreScripts works n → slice_get works n ≡ Some (Upkeep one)
       → slice_get works (suc n) ≡ Some (Upkeep two) → length works ≡ suc (suc n) → length (ends_in works) ≡ n
   ends_many [] n one two all first second long = absurd (cc)
   ends_many (Upkeep keeper ∷ Upkeep other ∷ []) zero one two all first second long = refl
@@ -101,34 +101,34 @@ module _ {S K : Type 0} where
       absurd (cc at.1)
 
   -- where a script stands among the works of a run
-  pub script_at : (scripts : List (S × K)) (i : ℕ) (d : S × K) → i < length scripts → slice_get (works_of scripts) i ≡ Some (script_of (slice_index_or scripts i d))
+  pub script_at : (scripts : List E) (i : ℕ) (d : E) → i < length scripts → slice_get (works_of scripts) i ≡ Some (Script (slice_index_or scripts i d))
   script_at [] i d below = absurd (omega (arith, below))
   script_at (ends ∷ scripts) zero d below = refl
   script_at (ends ∷ scripts) (suc i) d below = script_at scripts i d (omega (arith, below))
 
   -- and where upkeep does
-  pub maintainer_at : (scripts : List (S × K)) → slice_get (works_of scripts) (length scripts) ≡ Some (Upkeep Maintainer)
+  pub maintainer_at : (scripts : List E) → slice_get (works_of scripts) (length scripts) ≡ Some (Upkeep Maintainer)
   maintainer_at [] = refl
   maintainer_at (ends ∷ scripts) = maintainer_at scripts
 
-  pub crawler_at : (scripts : List (S × K)) → slice_get (works_of scripts) (suc (length scripts)) ≡ Some (Upkeep Crawler)
+  pub crawler_at : (scripts : List E) → slice_get (works_of scripts) (suc (length scripts)) ≡ Some (Upkeep Crawler)
   crawler_at [] = refl
   crawler_at (ends ∷ scripts) = crawler_at scripts
 
   -- how many works there are
-  pub works_many : (scripts : List (S × K)) → length (works_of scripts) ≡ length scripts + 2
+  pub works_many : (scripts : List E) → length (works_of scripts) ≡ length scripts + 2
   works_many [] = refl
   works_many (ends ∷ scripts) = let rest = works_many scripts in omega (arith, rest)
 
-module _ {S K : Type 0} where
+module _ {E : Type 0} where
   -- the sources and sinks of two lists of works are those of the one and then of the other
-  pub ends_in-append : (xs ys : List (Work S K)) → ends_in (xs ++ ys) ≡ ends_in xs ++ ends_in ys
+  pub ends_in-append : (xs ys : List (Work E)) → ends_in (xs ++ ys) ≡ ends_in xs ++ ends_in ys
   ends_in-append [] ys = refl
-  ends_in-append (Script ends ∷ xs) ys = ap (λ (es : List (S × K)). (ends.source, ends.sink) ∷ es) (ends_in-append xs ys)
+  ends_in-append (Script ends ∷ xs) ys = ap (λ (es : List E). ends ∷ es) (ends_in-append xs ys)
   ends_in-append (Upkeep keeper ∷ xs) ys = ends_in-append xs ys
 
   -- a work has one source and sink at most
-  pub one_end : (work : Work S K) → length (ends_in (work ∷ [])) ≤ 1
+  pub one_end : (work : Work E) → length (ends_in (work ∷ [])) ≤ 1
   one_end (Script ends) = omega arith
   one_end (Upkeep keeper) = omega arith
 
@@ -181,3 +181,23 @@ all_start pass_of config queues jobs passes callers are all some i d below =
   where
     only_some : {A : Type 0} {a b : A} → Some a ≡ Some b → a ≡ b
     only_some e = cc
+
+found : {A : Type 0} {a b : A} → Some a ≡ Some b → a ≡ b
+found e = cc
+
+module _ {E : Type 0} (gave : E → E → List ℕ → Type 0) (taken : E → List ℕ) (reads writes over : E → ℕ) (may_ask : E → Type 0) (limits : Limits) where
+  -- each work of a run may be done, where each of its scripts may run
+  works_may : (scripts : List E) → MayRunAll gave taken reads writes over may_ask limits scripts → (k : ℕ) (work : Work E) → slice_get (works_of scripts) k ≡ Some work
+      → MayRun gave taken reads writes over may_ask limits work
+  works_may [] all zero work there = subst (MayRun gave taken reads writes over may_ask limits) (found there) tt
+  works_may [] all (suc zero) work there = subst (MayRun gave taken reads writes over may_ask limits) (found there) tt
+  works_may [] all (suc (suc k)) work there = absurd (cc)
+  works_may (ends ∷ scripts) all zero work there = subst (MayRun gave taken reads writes over may_ask limits) (found there) (all 0 ends (omega arith))
+  works_may (ends ∷ scripts) all (suc k) work there = works_may scripts (λ i d below. all (suc i) d (omega (arith, below))) k work there
+
+  -- and so may each job
+  pub jobs_may : {X : Type 0} (work_in : X → Work E) (jobs : List X) (scripts : List E) → map work_in jobs ≡ works_of scripts → MayRunAll gave taken reads writes over may_ask limits scripts
+      → (i : ℕ) (d : X) → i < length jobs → MayRun gave taken reads writes over may_ask limits (work_in (slice_index_or jobs i d))
+  jobs_may work_in jobs scripts are all i d below =
+      works_may scripts all i (work_in (slice_index_or jobs i d)) (subst (λ works. slice_get works i ≡ Some (work_in (slice_index_or jobs i d))) are
+      (slice_get-map work_in jobs i ∙ ap (option_map work_in) (slice_get-get_or jobs i d below)))

@@ -13,5 +13,6 @@ pub mod RunLemmas
 pub mod InputLemmas
 pub mod ReaderPieceLemmas
 pub mod CutInputLemmas
+pub mod ConversationLemmas
 pub mod StatusLemmas
 pub mod SendJobLemmas

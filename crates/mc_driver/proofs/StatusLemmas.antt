@@ -1,8 +1,9 @@
 -- Why a run ends with a status: a sound configuration is sound for each number of scripts that may be run, so an input isn't
 -- run for their number alone; and which status tells of callers.
-use Rattle.std.proofs.Common.{◌≡◌, ◌≢◌, ◌≤◌, ◌<◌, ◌+◌, ◌⊎◌, inl, inr, ℕ, Bool, true, false, not, leb, List, length, Option, Some, None, zero, suc, refl, subst, ◌∙◌, slice_index_or, arith}
+use Rattle.std.proofs.Common.{◌≡◌, ◌≢◌, ◌≤◌, ◌<◌, ◌+◌, ◌⊎◌, inl, inr, ℕ, Bool, true, false, not, leb, List, length, Option, Some, None, zero, suc, refl, subst, sym, ap, ◌∙◌, ◌∷◌, [], take, slice_index_or, arith}
 use Rattle.std.specs.Prelude.{if◌then◌else◌}
-use Rattle.std.proofs.lemmas.Bool.Decides.{leb_tells, nat_tests}
+use Rattle.std.proofs.lemmas.{Bool.Decides.leb_tells, Bool.Decides.nat_tests, List.length-take}
+use Rattle.std.specs.List.{All}
 use Rattle.clap.specs.Words.{HasKind, Text, kind_of}
 use Rattle.clap.specs.declared.error.Error.{Error as Refusal}
 use Rattle.clap.specs.declared.error.kind.ErrorKind.TheVariants.{DisplayHelp, DisplayVersion, OutOfMemory}
@@ -84,39 +85,62 @@ unrun_for_number unrun.Configuration c input sound other why =
 unrun_for_number unrun.Scripts c input sound other why = why
 
 -- a caller whose status is 0 is done
-pub done_by_status : (outcome : Outcome) → status_of outcome ≡ 0 → outcome ≡ Done
-done_by_status Done none = refl
-done_by_status Memory none = cc
-done_by_status HistoryFull none = cc
-done_by_status Output none = cc
-done_by_status Input none = cc
+pub done_by_status : (follow : Bool) (outcome : Outcome) → status_of follow outcome ≡ 0 → outcome ≡ Done
+done_by_status follow Done none = refl
+done_by_status follow Memory none = cc
+done_by_status follow HistoryFull none = cc
+done_by_status true Output none = cc
+done_by_status false Output none = cc
+done_by_status follow Input none = cc
 
 -- no status of a caller is above 3, and none is 2
-status_small : (outcome : Outcome) → status_of outcome ≤ 3
-status_small Done = omega arith
-status_small Memory = omega arith
-status_small HistoryFull = omega arith
-status_small Output = omega arith
-status_small Input = omega arith
+status_small : (follow : Bool) (outcome : Outcome) → status_of follow outcome ≤ 3
+status_small follow Done = omega arith
+status_small follow Memory = omega arith
+status_small follow HistoryFull = omega arith
+status_small true Output = omega arith
+status_small false Output = omega arith
+status_small follow Input = omega arith
 
-status_not_two : (outcome : Outcome) → status_of outcome ≡ 2 → ⊥
-status_not_two Done two = omega (arith, two)
-status_not_two Memory two = omega (arith, two)
-status_not_two HistoryFull two = omega (arith, two)
-status_not_two Output two = omega (arith, two)
-status_not_two Input two = omega (arith, two)
+status_not_two : (follow : Bool) (outcome : Outcome) → status_of follow outcome ≡ 2 → ⊥
+status_not_two follow Done two = omega (arith, two)
+status_not_two follow Memory two = omega (arith, two)
+status_not_two follow HistoryFull two = omega (arith, two)
+status_not_two true Output two = omega (arith, two)
+status_not_two false Output two = omega (arith, two)
+status_not_two follow Input two = omega (arith, two)
 
 -- so neither is what tells of a run's callers
-pub told_small : (status : ℕ) (ended : List Outcome) → (0 < status → IsFirstFault status ended) → status ≤ 3
-told_small zero ended first = omega arith
-told_small (suc n) ended first =
+pub told_small : (follow : Bool) (status : ℕ) (ended : List Outcome) → (0 < status → IsFirstFault follow status ended) → status ≤ 3
+told_small follow zero ended first = omega arith
+told_small follow (suc n) ended first =
     let fault = first (omega arith) in
-    subst (λ k. k ≤ 3) (fault.told Done) (status_small (slice_index_or ended fault.place Done))
+    subst (λ k. k ≤ 3) (fault.told Done) (status_small follow (slice_index_or ended fault.place Done))
 
-pub told_not_two : (status : ℕ) (ended : List Outcome) → (0 < status → IsFirstFault status ended) → status ≡ 2 → ⊥
-told_not_two status ended first two =
+pub told_not_two : (follow : Bool) (status : ℕ) (ended : List Outcome) → (0 < status → IsFirstFault follow status ended) → status ≡ 2 → ⊥
+told_not_two follow status ended first two =
     let fault = first (omega (arith, two)) in
-    status_not_two (slice_index_or ended fault.place Done) (fault.told Done ∙ two)
+    status_not_two follow (slice_index_or ended fault.place Done) (fault.told Done ∙ two)
+
+-- where the first fault's status is 1, no write of a conversation failed
+pub not_output : (ended : List Outcome) → IsFirstFault true 1 ended → (outcome : Outcome) → slice_index_or ended 0 outcome ≢ Output
+not_output [] fault outcome is = absurd (omega (arith, fault.within))
+not_output (x ∷ xs) fault outcome is = first fault.place (fault.told outcome) (λ some. fault.done 0 outcome (omega (arith, some, fault.within, length-take fault.place (x ∷ xs))))
+  where
+    not_both : (y : Outcome) → y ≡ Done → y ≡ Output → ⊥
+    not_both y one two = cc
+
+    first : (place : ℕ) → status_of true (slice_index_or (x ∷ xs) place outcome) ≡ 1
+        → (0 < place → slice_index_or (take place (x ∷ xs)) 0 outcome ≡ Done) → ⊥
+    first zero told done = omega (arith, sym told ∙ ap (status_of true) is)
+    first (suc place) told done = not_both x (done (omega arith)) is
+
+-- nor where all callers are done
+pub all_done : (ended : List Outcome) → 0 < length ended → All (λ outcome. outcome ≡ Done) ended → (outcome : Outcome) → slice_index_or ended 0 outcome ≢ Output
+all_done ended some all outcome is = not_both (sym (all 0 outcome some) ∙ is)
+  where
+    not_both : Done ≡ Output → ⊥
+    not_both e = cc
 
 -- words that their reader refuses, though memory wasn't wanting, and shows neither help nor the version for, are mistaken
 pub mistaken : (words : List Text) (e : Refusal) → HasKind (refusals words) e → (kind_of e ≡ OutOfMemory → ⊥)

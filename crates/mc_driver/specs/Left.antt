@@ -1,7 +1,7 @@
 -- What holds after a run, of each of its callers and of the store (own).
 use Rattle.std.specs.Prelude.{ℕ, ◌≡◌, ◌<◌, ◌+◌, List, [], length, slice_index_or}
 use Rattle.mc_item.specs.declared.config.Config.{Config}
-use Rattle.mc_script.specs.{Run.AreCounted, Run.Leaves, Upkeep.KeepsUp, Upkeep.work_of}
+use Rattle.mc_script.specs.{Run.AreCounted, Run.HasLeft, Upkeep.KeepsUp, Upkeep.work_of}
 use Rattle.mc_script.specs.declared.{outcome.Outcome.Outcome, upkeep.Keeper.Keeper, upkeep.Keeper.TheVariants.Maintainer, upkeep.Keeper.TheVariants.Crawler}
 use Rattle.mc_script.specs.declared.outcome.Outcome.TheVariants as outcomes
 use Rattle.mc_store.specs.Finals.{FinalView}
@@ -18,15 +18,15 @@ pub record AreKeepersDone (scripts : ℕ) (ended : List Outcome) : Type 0 where
   pub maintainer : (outcome : Outcome) → slice_index_or ended scripts outcome ≡ outcomes.Done
   pub crawler : (outcome : Outcome) → slice_index_or ended (scripts + 1) outcome ≡ outcomes.Done
 
-module _ {S K : Type 0} (coming : S → List ℕ) (reads : S → ℕ) (taken : K → List ℕ) (writes : K → ℕ) where
+module _ {E : Type 0} (gave : E → E → List ℕ → Type 0) (at_end : E → Type 0) (taken : E → List ℕ) (reads writes : E → ℕ) where
   -- what holds after the script of this caller: its bytes, its calls in the histories, and its failures, by its outcome
-  pub record IsScriptLeft (config : Config) (histories : Histories) (caller : ℕ) (ends left : S × K) (outcome : Outcome) : Type 0 where
-    pub leaves : Leaves outcome (limits_of config) (coming ends.0) (coming left.0) (taken ends.1) (taken left.1) (AreItsCalls config caller histories) caller
-    pub counted : AreCounted outcome (reads ends.0) (reads left.0) (writes ends.1) (writes left.1)
+  pub record IsScriptLeft (config : Config) (histories : Histories) (caller : ℕ) (ends left : E) (outcome : Outcome) : Type 0 where
+    pub leaves : HasLeft gave at_end taken outcome (limits_of config) ends left (AreItsCalls config caller histories) caller
+    pub counted : AreCounted outcome (reads ends) (reads left) (writes ends) (writes left)
 
   -- what holds after a run of scripts, with upkeep at these moments, on a store of this configuration
-  pub record IsRunDone (config : Config) (moments : List ℕ) (scripts ends : List (S × K)) (ended : List Outcome) (final : FinalView) : Type 0 where
-    pub each : (i : ℕ) (d : S × K) (outcome : Outcome) → i < length scripts
+  pub record IsRunDone (config : Config) (moments : List ℕ) (scripts ends : List E) (ended : List Outcome) (final : FinalView) : Type 0 where
+    pub each : (i : ℕ) (d : E) (outcome : Outcome) → i < length scripts
         → IsScriptLeft config (histories_left final) i (slice_index_or scripts i d) (slice_index_or ends i d) (slice_index_or ended i outcome)
     pub maintained : (outcome : Outcome) → IsKeptUp Maintainer config moments (length scripts) (slice_index_or ended (length scripts) outcome)
         (histories_left final)

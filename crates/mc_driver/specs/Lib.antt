@@ -2,6 +2,8 @@ pub mod Noted
 pub mod Stand
 pub mod Called
 pub mod Caller
+pub mod Links
+pub mod Live
 pub mod Jobs
 pub mod Run
 pub mod Left

@@ -1,5 +1,5 @@
 //! Cuts an input into its scripts, and runs them.
-ghost use Rattle.std.specs.Prelude.{◌≡◌, ◌≤◌, ◌^◌, IfErr, IfOk};
+ghost use Rattle.std.specs.Prelude.{◌≡◌, ◌≤◌, ◌^◌, IfErr, IfOk, false};
 ghost use Rattle.std.specs.List.{All, flat_map};
 ghost use Rattle.mc_item.specs.Config.{IsBounded};
 ghost use Rattle.mc_proto.specs.Gathered.{bytes_of_parts};
@@ -31,12 +31,12 @@ pub(crate) fn run_cut<'a, R: Threads + Wait + Sync, L: Ledger + Send + Sync>(
     upkeep: &[u64],
     book: &'a Mutex<Book<L>>,
     share: Share<L>,
-) -> Result<Run<Pieces, Kept<'a, R, L>>, RunFault>
+) -> Result<Run<(Pieces, Kept<'a, R, L>)>, RunFault>
     requires parts { 62 ≤ share.parts }
     requires none { share.amount ≡ 0 }
     requires bounded { IsBounded config }
     requires early { All (λ moment. moment ≤ 2 ^ 62) upkeep.now }
-    ensures ok { IfOk result (λ run. IsRunOf config upkeep.now (flat_map (λ v. v.items) input.items)
+    ensures ok { IfOk result (λ run. IsRunOf false config upkeep.now (flat_map (λ v. v.items) input.items)
         (flat_map (λ end. bytes_of_parts end.1.pieces.items) run.ends.items) run.outcomes.items run.ledger) }
     ensures err { IfErr result (λ fault. IsUnrun fault config (flat_map (λ v. v.items) input.items)) }
 {

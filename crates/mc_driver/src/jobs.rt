@@ -2,47 +2,48 @@
 ghost use Rattle.std.specs.Prelude.{◌≡◌, ◌≤◌, ◌<◌, ◌+◌, ◌^◌, ◌++◌, ◌∷◌, [], ℕ, IfOk, length, map, slice_index_or, vec_len, vec_capacity};
 ghost use Rattle.std.specs.List.{All};
 ghost use Rattle.mc_script.specs.Script.{AllThere};
-ghost use Rattle.mc_driver.specs.Jobs.{HasWorked, IsAtStart, ends_in, works_of};
+ghost use Rattle.mc_driver.specs.Jobs.{HasWorked, IsAtStart, MayRun, ends_in, works_of};
 ghost use Rattle.mc_driver.specs.declared.jobs.Job.{Job};
 ghost use Rattle.mc_evidence.specs.Setting.{IsClass};
 ghost use Rattle.mc_store.specs.Locked.{setting_of};
 
 use crate::caller::Caller;
 use mc_item::NoMemory;
-use mc_proto::{Limits, Sink};
-use mc_script::{Both, Keeper, Outcome, Source, run_script, run_upkeep};
+use mc_proto::Limits;
+use mc_script::{Ends, Keeper, Outcome, run_script, run_upkeep};
 use mc_store::{Named, Pass, Store};
 use std::alloc::Global;
 use std::sync::Wait;
 use std::thread::{self, Threads};
 
-/// A caller's work: a script, with its source and its sink, or the upkeep of all slab classes.
+/// A caller's work: a script, with its ends (where its bytes come from, and where its texts go), or the upkeep of all slab classes.
 #[derive(Drop)]
-pub(crate) enum Work<S: Drop, K: Drop> {
-    Script(Both<S, K>),
+pub(crate) enum Work<E: Drop> {
+    Script(E),
     Upkeep(Keeper),
 }
 
 /// A caller of a store, its work, and how that ended.
 #[derive(Drop)]
-pub(crate) struct Job<'a, N: Named, S: Drop, K: Drop> {
+pub(crate) struct Job<'a, N: Named, E: Drop> {
     pub(crate) calls: Caller<'a, N>,
-    pub(crate) work: Work<S, K>,
+    pub(crate) work: Work<E>,
     pub(crate) outcome: Outcome,
 }
 
 // Does a caller's work, and keeps its outcome.
-fn run_job<'a, N: Named, S: Source, K: Sink>(
+fn run_job<'a, N: Named, E: Ends>(
     rt: &impl Wait,
     alloc: Global,
     limits: Limits,
     moments: &[u64],
-    job: &mut Job<'a, N, S, K>,
+    job: &mut Job<'a, N, E>,
 )
     requires first { IsAtStart N.config job.old.calls.pass }
     requires early { All (λ moment. moment ≤ 2 ^ 62) moments.now }
     requires classes { AllThere (IsClass (setting_of N.config)) limits }
-    ensures { HasWorked S.coming S.failures K.taken K.failures N.config limits moments.now job.old.calls.pass job.new.calls.pass job.new.outcome job.old.work
+    requires asks { MayRun E.gave E.taken E.reads E.writes E.over E.may_ask limits job.old.work }
+    ensures { HasWorked E.gave E.ended E.taken E.reads E.writes N.config limits moments.now job.old.calls.pass job.new.calls.pass job.new.outcome job.old.work
         job.new.work }
 {
     let calls = &mut job.calls;
@@ -54,26 +55,22 @@ fn run_job<'a, N: Named, S: Source, K: Sink>(
 
 /// Does the work of all callers at once, on at most `threads` threads.
 /// If a thread can't be started, the one that tried does its work.
-pub(crate) fn run_jobs<
-    'a,
-    N: Named + Send + Sync,
-    S: Source + Send,
-    K: Sink + Send,
-    R: Threads + Wait + Sync,
->(
+pub(crate) fn run_jobs<'a, N: Named + Send + Sync, E: Ends + Send, R: Threads + Wait + Sync>(
     rt: &R,
     alloc: Global,
     limits: Limits,
     moments: &[u64],
     threads: usize,
-    jobs: &mut [Job<'a, N, S, K>],
+    jobs: &mut [Job<'a, N, E>],
 )
     requires threads { 0 < threads }
-    requires first { (i : ℕ) (d : Job N S K) → i < length jobs.old → IsAtStart N.config (slice_index_or jobs.old i d).calls.pass }
+    requires first { (i : ℕ) (d : Job N E) → i < length jobs.old → IsAtStart N.config (slice_index_or jobs.old i d).calls.pass }
     requires early { All (λ moment. moment ≤ 2 ^ 62) moments.now }
     requires classes { AllThere (IsClass (setting_of N.config)) limits }
+    requires asks { (i : ℕ) (d : Job N E) → i < length jobs.old
+        → MayRun E.gave E.taken E.reads E.writes E.over E.may_ask limits (slice_index_or jobs.old i d).work }
     ensures many { length jobs.new ≡ length jobs.old }
-    ensures each { (i : ℕ) (d : Job N S K) → i < length jobs.old → HasWorked S.coming S.failures K.taken K.failures N.config limits moments.now
+    ensures each { (i : ℕ) (d : Job N E) → i < length jobs.old → HasWorked E.gave E.ended E.taken E.reads E.writes N.config limits moments.now
         (slice_index_or jobs.old i d).calls.pass (slice_index_or jobs.new i d).calls.pass (slice_index_or jobs.new i d).outcome
         (slice_index_or jobs.old i d).work (slice_index_or jobs.new i d).work }
 {
@@ -88,12 +85,12 @@ pub(crate) fn run_jobs<
 }
 
 // Creates the job of a pass, which is still to be done.
-fn job_of<'a, N: Named, S: Source, K: Sink>(
+fn job_of<'a, N: Named, E: Ends>(
     alloc: Global,
     store: &'a Store<N>,
     pass: Pass<N>,
-    work: Work<S, K>,
-) -> Job<'a, N, S, K>
+    work: Work<E>,
+) -> Job<'a, N, E>
     ensures pass { result.calls.pass ≡ pass }
     ensures work { result.work ≡ work }
 {
@@ -104,42 +101,44 @@ fn job_of<'a, N: Named, S: Source, K: Sink>(
     }
 }
 
-/// Creates the jobs of a run, one for each pass in order: the scripts, then the maintainer's, then the crawler's.
-pub(crate) fn jobs_for<'a, N: Named, S: Source, K: Sink>(
+/// Creates the jobs of a run, one for each pass in order: the scripts, then the maintainer's, then the crawler's. `room` is empty,
+/// with memory reserved for them.
+pub(crate) fn jobs_for<'a, N: Named, E: Ends>(
     alloc: Global,
     store: &'a Store<N>,
     passes: Vec<Pass<N>>,
-    scripts: Vec<(S, K)>,
-) -> Result<Vec<Job<'a, N, S, K>>, NoMemory>
-    requires { length passes.items ≡ length scripts.items + 2 }
-    ensures passes { IfOk result (λ jobs. map (λ job. job.calls.pass) jobs.items ≡ passes.items) }
-    ensures works { IfOk result (λ jobs. map (λ job. job.work) jobs.items ≡ works_of scripts.items) }
+    scripts: Vec<E>,
+    room: Vec<Job<'a, N, E>>,
+) -> Vec<Job<'a, N, E>>
+    requires many { length passes.items ≡ length scripts.items + 2 }
+    requires room { (room.items ≡ []) × (length passes.items ≤ vec_capacity room) }
+    ensures passes { map (λ job. job.calls.pass) result.items ≡ passes.items }
+    ensures works { map (λ job. job.work) result.items ≡ works_of scripts.items }
 {
     let mut passes = passes;
-    let mut jobs = Vec::with_capacity(alloc, passes.len())?;
-    for (source, sink) in scripts {
+    let mut jobs = room;
+    for ends in scripts {
         let pass = passes.remove(0);
-        let work = Work::Script(Both { source, sink });
-        jobs.push(job_of(alloc, store, pass, work))?;
+        jobs.push_reserved(job_of(alloc, store, pass, Work::Script(ends)));
     }
     let first = passes.remove(0);
-    jobs.push(job_of(alloc, store, first, Work::Upkeep(Keeper::Maintainer)))?;
+    jobs.push_reserved(job_of(alloc, store, first, Work::Upkeep(Keeper::Maintainer)));
     let second = passes.remove(0);
-    jobs.push(job_of(alloc, store, second, Work::Upkeep(Keeper::Crawler)))?;
-    Ok(jobs)
+    jobs.push_reserved(job_of(alloc, store, second, Work::Upkeep(Keeper::Crawler)));
+    jobs
 }
 
-/// What jobs leave, in order: the passes, the outcomes, and the sources and sinks of the scripts.
+/// What jobs leave, in order: the passes, the outcomes, and the ends of the scripts.
 #[derive(Drop)]
-pub(crate) struct Ended<N: Named, S: Drop, K: Drop> {
+pub(crate) struct Ended<N: Named, E: Drop> {
     pub(crate) passes: Vec<Pass<N>>,
     pub(crate) outcomes: Vec<Outcome>,
-    pub(crate) ends: Vec<(S, K)>,
+    pub(crate) ends: Vec<E>,
 }
 
-impl<N: Named, S: Source, K: Sink> Ended<N, S, K> {
+impl<N: Named, E: Ends> Ended<N, E> {
     /// Creates an empty `Ended`, with memory reserved for so many jobs.
-    pub(crate) fn with_room(alloc: Global, jobs: usize) -> Result<Ended<N, S, K>, NoMemory>
+    pub(crate) fn with_room(alloc: Global, jobs: usize) -> Result<Ended<N, E>, NoMemory>
         ensures none { IfOk result (λ ended. (ended.passes.items ≡ []) × (ended.outcomes.items ≡ []) × (ended.ends.items ≡ [])) }
         ensures room { IfOk result (λ ended. (jobs ≤ vec_capacity ended.passes) × (jobs ≤ vec_capacity ended.outcomes) × (jobs ≤ vec_capacity ended.ends)) }
     {
@@ -151,7 +150,7 @@ impl<N: Named, S: Source, K: Sink> Ended<N, S, K> {
     }
 
     // Adds what one job leaves, into memory that is already reserved.
-    fn end_one(&mut self, job: Job<'_, N, S, K>)
+    fn end_one(&mut self, job: Job<'_, N, E>)
         requires room { (vec_len self.old.passes < vec_capacity self.old.passes) × (vec_len self.old.outcomes < vec_capacity self.old.outcomes)
             × (vec_len self.old.ends < vec_capacity self.old.ends) }
         ensures passes { self.new.passes.items ≡ self.old.passes.items ++ job.entry.calls.pass ∷ [] }
@@ -168,13 +167,12 @@ impl<N: Named, S: Source, K: Sink> Ended<N, S, K> {
         self.passes.push_reserved(calls.into_pass());
         self.outcomes.push_reserved(outcome);
         if let Work::Script(ends) = work {
-            let Both { source, sink } = ends;
-            self.ends.push_reserved((source, sink));
+            self.ends.push_reserved(ends);
         }
     }
 
     /// Adds what these jobs leave, in order. `self` must be empty, with memory reserved for them.
-    pub(crate) fn end_all(&mut self, jobs: Vec<Job<'_, N, S, K>>)
+    pub(crate) fn end_all(&mut self, jobs: Vec<Job<'_, N, E>>)
         requires none { (self.old.passes.items ≡ []) × (self.old.outcomes.items ≡ []) × (self.old.ends.items ≡ []) }
         requires room { (length jobs.items ≤ vec_capacity self.old.passes) × (length jobs.items ≤ vec_capacity self.old.outcomes)
             × (length jobs.items ≤ vec_capacity self.old.ends) }

@@ -2,10 +2,13 @@
 #![tactic(auto)]
 
 mod caller;
+mod conversing;
 mod cutting;
 mod fault;
+mod ghost_list;
 mod input;
 mod jobs;
+mod live;
 mod memory;
 mod printing;
 mod program;
@@ -14,7 +17,7 @@ mod running;
 
 pub use fault::RunFault;
 pub use mc_options::{Options, Plan, PlanFault, WordsFault, plan_for, read_words};
-pub use mc_script::{Outcome, Source, SourceFault};
+pub use mc_script::{Ends, Outcome, Source, SourceFault};
 pub use mc_store::Final;
 pub use program::run_words;
 pub use running::{Run, run_scripts};

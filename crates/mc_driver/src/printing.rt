@@ -9,8 +9,8 @@ use std::io::{self, Write};
 use std::sync::Wait;
 use std::sync::ledger::Ledger;
 
-// Writes pieces one after the other.
-fn print_pieces<W: Write>(writer: &mut W, pieces: &[TextPart]) -> io::Result<()>
+/// Writes pieces one after the other.
+pub(crate) fn print_pieces<W: Write>(writer: &mut W, pieces: &[TextPart]) -> io::Result<()>
     ensures { OnOk result (Appends (W.contents writer.old) (W.contents writer.new) (bytes_of_parts pieces.now)) }
 {
     for piece in pieces {

@@ -1,5 +1,5 @@
 //! The whole program, over any reader and writers.
-ghost use Rattle.std.specs.Prelude.{◌≡◌, ◌≢◌, ◌≤◌, ◌<◌, ◌^◌, ◌⊎◌, []};
+ghost use Rattle.std.specs.Prelude.{◌≡◌, ◌≢◌, ◌≤◌, ◌<◌, ◌^◌, ◌⊎◌, [], false, true};
 ghost use Rattle.std.specs.{List.All, List.flat_map, Io.KnownBytes.Appends, Io.KnownBytes.Keeps};
 ghost use Rattle.clap.specs.Words.{kind_of};
 ghost use Rattle.clap.specs.Walk.{texts};
@@ -7,11 +7,12 @@ ghost use Rattle.clap.specs.declared.error.kind.ErrorKind.TheVariants.{DisplayHe
 ghost use Rattle.mc_item.specs.Config.{IsSound};
 ghost use Rattle.mc_proto.specs.Gathered.{bytes_of_parts};
 ghost use Rattle.mc_script.specs.declared.outcome.Outcome.TheVariants.{Done};
-ghost use Rattle.mc_driver.specs.Input.{HasServed, IsInputAnswered, IsUnrun};
+ghost use Rattle.mc_driver.specs.Input.{HasServed, IsInputAnswered, IsUnrun, OfAllBytes};
 ghost use Rattle.mc_driver.specs.Status.{AreForHelp, AreRefused, HasServedInPart, HasTooMany, IsAnsweredInPart, IsFirstFault, status_of};
 ghost use Rattle.mc_driver.specs.declared.fault.RunFault.TheVariants as unrun;
 ghost use Rattle.mc_options.specs.Words.{refusals};
 
+use crate::conversing::converse;
 use crate::cutting::{MOST_SCRIPTS, run_cut};
 use crate::fault::RunFault;
 use crate::memory::{Kept, Pieces};
@@ -93,13 +94,15 @@ fn say_configuration<E: Write>(alloc: Global, number: u8, errors: &mut E) -> u8
     }
 }
 
-// Returns the status of an outcome, and says its fault on standard error. A sink in memory fails only if memory runs out.
-fn say_outcome<E: Write>(outcome: Outcome, errors: &mut E) -> u8
-    ensures { result ≡ status_of outcome }
+// Returns the status of an outcome, and says its fault on standard error. A conversation (`follow`) writes to the output, other
+// scripts into memory, which fails only if memory runs out.
+fn say_outcome<E: Write>(outcome: Outcome, follow: bool, errors: &mut E) -> u8
+    ensures { result ≡ status_of follow outcome }
 {
     match outcome {
         Outcome::Done => 0,
         Outcome::Memory => say_line(errors, MEMORY, 1),
+        Outcome::Output if follow => say_line(errors, OUTPUT, 3),
         Outcome::Output => say_line(errors, MEMORY, 1),
         Outcome::HistoryFull => say_line(errors, HISTORY, 1),
         Outcome::Input => say_line(errors, INPUT, 3),
@@ -107,12 +110,12 @@ fn say_outcome<E: Write>(outcome: Outcome, errors: &mut E) -> u8
 }
 
 // Returns the status of a run: that of the first caller that isn't done. Callers are the scripts, the maintainer, the crawler.
-fn say_outcomes<E: Write>(outcomes: &[Outcome], errors: &mut E) -> u8
+fn say_outcomes<E: Write>(outcomes: &[Outcome], follow: bool, errors: &mut E) -> u8
     ensures done { result ≡ 0 → All (λ outcome. outcome ≡ Done) outcomes.now }
-    ensures first { 0 < result → IsFirstFault result outcomes.now }
+    ensures first { 0 < result → IsFirstFault follow result outcomes.now }
 {
     for outcome in outcomes {
-        let status = say_outcome(*outcome, errors);
+        let status = say_outcome(*outcome, follow, errors);
         if status != 0 {
             return status;
         }
@@ -135,21 +138,21 @@ fn say_fault<E: Write>(fault: RunFault, errors: &mut E) -> u8
 // After a run, prints what was answered, script by script, and returns the status. No status but 3 (reading or writing failed)
 // leaves a reply unwritten, whether memory ran out, a history was full, or all went well.
 fn print_answered<R: Wait, L: Ledger, W: Write, E: Write>(
-    run: &Run<Pieces, Kept<'_, R, L>>,
+    run: &Run<(Pieces, Kept<'_, R, L>)>,
     writer: &mut W,
     errors: &mut E,
 ) -> u8
     ensures printed { result ≢ 3 → Appends (W.contents writer.old) (W.contents writer.new)
         (flat_map (λ end. bytes_of_parts end.1.pieces.items) run.now.ends.items) }
     ensures done { result ≡ 0 → All (λ outcome. outcome ≡ Done) run.now.outcomes.items }
-    ensures first { result ≡ 1 → IsFirstFault 1 run.now.outcomes.items }
+    ensures first { result ≡ 1 → IsFirstFault false 1 run.now.outcomes.items }
     ensures never { result ≢ 2 }
     ensures few { result ≤ 3 }
 {
     let Ok(()) = print_scripts(writer, run.ends.as_slice()) else {
         return say_line(errors, OUTPUT, 3);
     };
-    say_outcomes(run.outcomes.as_slice(), errors)
+    say_outcomes(run.outcomes.as_slice(), false, errors)
 }
 
 // Runs the scripts of an input, and prints their replies.
@@ -168,14 +171,15 @@ fn run_input<R: Threads + Wait + Sync, L: Ledger + Send + Sync, W: Write, E: Wri
     requires some { 62 ≤ blank.parts }
     requires sound { IsSound plan.config }
     requires early { All (λ moment. moment ≤ 2 ^ 62) plan.upkeep }
-    ensures done { result ≡ 0 → IsInputAnswered plan.config plan.upkeep (flat_map (λ v. v.items) input.items) (W.contents writer.old) (W.contents writer.new) }
+    ensures done { result ≡ 0 → IsInputAnswered false plan.config plan.upkeep (flat_map (λ v. v.items) input.items) (W.contents writer.old)
+        (W.contents writer.new) }
     ensures broken { result ≡ 1 → Keeps (W.contents writer.old) (W.contents writer.new)
-        ⊎ IsAnsweredInPart 1 plan.config plan.upkeep (flat_map (λ v. v.items) input.items) (W.contents writer.old) (W.contents writer.new) }
+        ⊎ IsAnsweredInPart 1 false plan.config plan.upkeep (flat_map (λ v. v.items) input.items) (W.contents writer.old) (W.contents writer.new) }
     ensures refused { result ≡ 2 → IsUnrun unrun.Scripts plan.config (flat_map (λ v. v.items) input.items) }
     ensures kept { result ≡ 2 → Keeps (W.contents writer.old) (W.contents writer.new) }
     ensures few { result ≤ 3 }
 {
-    let Plan { config, upkeep } = plan;
+    let Plan { config, upkeep, .. } = plan;
     let (book, share) = blank.open::<L>();
     let book = Mutex::new(book);
     let upkeep = upkeep.as_slice();
@@ -189,8 +193,34 @@ fn run_input<R: Threads + Wait + Sync, L: Ledger + Send + Sync, W: Write, E: Wri
     status
 }
 
+// Runs an input as a conversation: its requests are answered as they come.
+fn run_conversation<T: Threads + Wait + Sync, R: Read + Send, W: Write + Send, E: Write>(
+    rt: &T,
+    alloc: Global,
+    seed: RandomState,
+    plan: Plan,
+    reader: &mut R,
+    writer: &mut W,
+    errors: &mut E,
+) -> u8
+    requires sound { IsSound plan.config }
+    requires early { All (λ moment. moment ≤ 2 ^ 62) plan.upkeep }
+    ensures done { result ≡ 0 → OfAllBytes (R.remaining reader.old)
+        (λ input. IsInputAnswered true plan.config plan.upkeep input (W.contents writer.old) (W.contents writer.new)) }
+    ensures broken { result ≡ 1 → Keeps (W.contents writer.old) (W.contents writer.new) ⊎ OfAllBytes (R.remaining reader.old)
+        (λ input. IsAnsweredInPart 1 true plan.config plan.upkeep input (W.contents writer.old) (W.contents writer.new)) }
+    ensures never { result ≢ 2 }
+    ensures few { result ≤ 3 }
+{
+    match converse(rt, alloc, seed, plan, reader, writer) {
+        Ok(outcomes) => say_outcomes(outcomes.as_slice(), true, errors),
+        Err(_) => say_line(errors, MEMORY, 1),
+    }
+}
+
 /// Runs the whole program, and returns the exit status. Reads the command line and the input, runs the input's scripts at once,
-/// with the upkeep asked for, and prints the replies script by script. `words` begin with the program's name.
+/// with the upkeep asked for, and prints the replies script by script. With `--follow` the input is one script, which is answered
+/// as it comes. `words` begin with the program's name.
 ///
 /// - 0: all went well. All that the reader had to give is answered as the words ask, or help or the version is shown.
 /// - 1: memory ran out, or a history was full. `writer` got nothing, or all replies up to what went wrong.
@@ -199,7 +229,7 @@ fn run_input<R: Threads + Wait + Sync, L: Ledger + Send + Sync, W: Write, E: Wri
 ///
 /// If several callers went wrong, the first script decides, then the maintainer, then the crawler.
 /// `seed` is for the store's hash, and no reply depends on it. The store's memory isn't freed, as the process is about to end.
-pub fn run_words<T: Threads + Wait + Sync, R: Read, W: Write, E: Write>(
+pub fn run_words<T: Threads + Wait + Sync, R: Read + Send, W: Write + Send, E: Write>(
     rt: &T,
     alloc: Global,
     seed: RandomState,
@@ -237,6 +267,9 @@ pub fn run_words<T: Threads + Wait + Sync, R: Read, W: Write, E: Write>(
             return say_line(errors, MEMORY, 1);
         }
     };
+    if plan.follow {
+        return run_conversation(rt, alloc, seed, plan, reader, writer, errors);
+    }
     let input = match read_pieces(alloc, reader) {
         Ok(input) => input,
         Err(error) => {

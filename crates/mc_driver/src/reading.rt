@@ -1,6 +1,6 @@
 //! Reads an input to its end, in pieces.
-ghost use Rattle.std.specs.Prelude.{◌≡◌, ◌≤◌, ◌<◌, ◌+◌, ◌++◌, IfOk, IfSome, OnOk, drop, length, take};
-ghost use Rattle.std.specs.{List.flat_map, Io.KnownBytes.Consumes, Io.KnownBytes.IsAtEnd};
+ghost use Rattle.std.specs.Prelude.{◌≡◌, ◌≤◌, ◌<◌, ◌+◌, ◌++◌, IfOk, IfSome, OnErr, OnOk, drop, length, take};
+ghost use Rattle.std.specs.{List.flat_map, Io.KnownBytes.Consumes, Io.KnownBytes.IsAtEnd, Io.KnownBytes.Keeps};
 
 use crate::input::PIECE;
 use std::alloc::Global;
@@ -10,12 +10,13 @@ use std::io::{self, ErrorKind, Read};
 // How many tries one read may take, and how many pieces an input may have. Beyond that, reading fails.
 const MOST_READS: u64 = 1 << 32;
 
-// Reads once, and tries again if a signal interrupts the read.
-fn read_once<R: Read>(reader: &mut R, room: &mut [u8]) -> io::Result<usize>
+/// Reads once, and tries again if a signal interrupts the read.
+pub(crate) fn read_once<R: Read>(reader: &mut R, room: &mut [u8]) -> io::Result<usize>
     ensures fits { IfOk result (λ n. n ≤ length room.old) }
     ensures room { length room.new ≡ length room.old }
     ensures bytes { IfOk result (λ n. Consumes (R.remaining reader.old) (R.remaining reader.new) (take n room.new)) }
     ensures end { IfOk result (λ n. n ≡ 0 → 0 < length room.old → IsAtEnd (R.remaining reader.new)) }
+    ensures err { OnErr result (Keeps (R.remaining reader.old) (R.remaining reader.new)) }
 {
     for _ in 0..MOST_READS {
         match reader.read(room) {

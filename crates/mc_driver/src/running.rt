@@ -4,20 +4,20 @@ ghost use Rattle.std.specs.List.{All};
 ghost use Rattle.mc_item.specs.Config.{fault_of, IsBounded, IsSound};
 ghost use Rattle.mc_board.specs.{Histories.blind, Views.AreOwners, Views.locks_of};
 ghost use Rattle.mc_hits.specs.Views.{AreHands, tables_of};
-ghost use Rattle.mc_script.specs.Run.{AreCounted, Leaves};
+ghost use Rattle.mc_script.specs.Run.{AreCounted, HasLeft};
 ghost use Rattle.mc_script.specs.declared.{outcome.Outcome.Outcome, upkeep.Keeper.TheVariants.Crawler, upkeep.Keeper.TheVariants.Maintainer};
 ghost use Rattle.mc_script.specs.declared.outcome.Outcome.TheVariants as outcomes;
 ghost use Rattle.mc_store.specs.{Finals.AreClasses, Finals.AreStripes, Locked.histories_for, Passes.PassView};
 ghost use Rattle.mc_driver.specs.Called.{AreByCallers, AreItsCalls, AreWholeTurns, HasNoPlace, IsCompared};
-ghost use Rattle.mc_driver.specs.{Left.AreKeepersDone, Left.IsKeptUp, Left.IsRunDone};
+ghost use Rattle.mc_driver.specs.{Jobs.MayRunAll, Left.AreKeepersDone, Left.IsKeptUp, Left.IsRunDone};
 ghost use Rattle.mc_driver.specs.Run.{IsAccepted, IsRefused, IsStore, callers_at_work, histories_left, limits_of, with_callers};
 ghost use Rattle.mc_driver.specs.declared.fault.RunFault.TheVariants as faults;
 
 use crate::fault::RunFault;
 use crate::jobs::{Ended, jobs_for, run_jobs};
-use mc_item::{Config, NoMemory};
-use mc_proto::{Limits, Sink};
-use mc_script::{Outcome, Source};
+use mc_item::Config;
+use mc_proto::Limits;
+use mc_script::{Ends, Outcome};
 use mc_store::{Final, Named, Pass, Store, Tokens};
 use std::alloc::Global;
 use std::hash::RandomState;
@@ -25,12 +25,12 @@ use std::marker::Brand;
 use std::sync::Wait;
 use std::thread::Threads;
 
-/// What a run leaves: the closed store, the outcomes of scripts, maintainer and crawler in this order, and the sources and sinks.
+/// What a run leaves: the closed store, the outcomes of scripts, maintainer and crawler in this order, and the scripts' ends.
 #[derive(Drop)]
-pub struct Run<S: Drop, K: Drop> {
+pub struct Run<E: Drop> {
     pub ledger: Final,
     pub outcomes: Vec<Outcome>,
-    pub ends: Vec<(S, K)>,
+    pub ends: Vec<E>,
 }
 
 /// Returns the limits of a configuration's requests: the size of the last slab class, and the number of classes.
@@ -82,17 +82,24 @@ fn threads_for(scripts: usize, moments: usize) -> usize
     if scripts == 1 && moments == 0 { 1 } else { 64 }
 }
 
+/// Why scripts weren't run, and their ends, of which nothing was asked.
+#[derive(Drop)]
+pub(crate) struct Unrun<E: Drop> {
+    pub(crate) fault: RunFault,
+    pub(crate) ends: Vec<E>,
+}
+
 // Opens a store with the board, the queues and the configuration that `N` names, runs scripts and upkeep as its callers, and
-// closes it.
-fn run_named<N: Named + Send + Sync, S: Source + Send, K: Sink + Send, R: Threads + Wait + Sync>(
+// closes it. If there is no memory for that, it returns the scripts' ends before any of them runs.
+fn run_named<N: Named + Send + Sync, E: Ends + Send, R: Threads + Wait + Sync>(
     rt: &R,
     alloc: Global,
     config: Config,
     tokens: Tokens,
     seed: RandomState,
-    scripts: Vec<(S, K)>,
+    scripts: Vec<E>,
     upkeep: &[u64],
-) -> Result<Run<S, K>, NoMemory>
+) -> Result<Run<E>, Vec<E>>
     requires board { tokens.board ≡ N.board }
     requires config { (config ≡ N.config) × IsBounded N.config × IsSound N.config }
     requires locks { locks_of N.board.counts ≡ histories_for N.config }
@@ -102,14 +109,23 @@ fn run_named<N: Named + Send + Sync, S: Source + Send, K: Sink + Send, R: Thread
     requires hands { AreHands (tables_of N.queues) N.config.callers tokens.hands.items }
     requires callers { N.config.callers ≡ length scripts.items + 2 }
     requires early { All (λ moment. moment ≤ 2 ^ 62) upkeep.now }
-    ensures { IfOk result (λ run. IsRunDone S.coming S.failures K.taken K.failures N.config upkeep.now scripts.items run.ends.items run.outcomes.items
+    requires asks { MayRunAll E.gave E.taken E.reads E.writes E.over E.may_ask (limits_of N.config) scripts.items }
+    ensures ok { IfOk result (λ run. IsRunDone E.gave E.ended E.taken E.reads E.writes N.config upkeep.now scripts.items run.ends.items run.outcomes.items
         run.ledger) }
+    ensures err { IfErr result (λ back. back.items ≡ scripts.items) }
 {
     let limits = limits_for(&config);
     let threads = threads_for(scripts.len(), upkeep.len());
-    let (store, passes) = Store::<N>::open(alloc, config, tokens, seed)?;
-    let mut ended = Ended::with_room(alloc, passes.len())?;
-    let mut jobs = jobs_for(alloc, &store, passes, scripts)?;
+    let Ok((store, passes)) = Store::<N>::open(alloc, config, tokens, seed) else {
+        return Err(scripts);
+    };
+    let Ok(mut ended) = Ended::with_room(alloc, passes.len()) else {
+        return Err(scripts);
+    };
+    let Ok(room) = Vec::with_capacity(alloc, passes.len()) else {
+        return Err(scripts);
+    };
+    let mut jobs = jobs_for(alloc, &store, passes, scripts, room);
     run_jobs(rt, alloc, limits, upkeep, threads, jobs.as_mut_slice());
     ended.end_all(jobs);
     let Ended {
@@ -126,8 +142,57 @@ fn run_named<N: Named + Send + Sync, S: Source + Send, K: Sink + Send, R: Thread
     })
 }
 
+/// Runs scripts as `run_scripts` does. If they aren't run, it returns their ends, too.
+pub(crate) fn run_ends<E: Ends + Send, R: Threads + Wait + Sync>(
+    rt: &R,
+    alloc: Global,
+    config: Config,
+    seed: RandomState,
+    scripts: Vec<E>,
+    upkeep: &[u64],
+) -> Result<Run<E>, Unrun<E>>
+    requires early { All (λ moment. moment ≤ 2 ^ 62) upkeep.now }
+    requires asks { MayRunAll E.gave E.taken E.reads E.writes E.over E.may_ask (limits_of config) scripts.items }
+    ensures accepted { IfOk result (λ _. IsAccepted (length scripts.items) config) }
+    ensures ok { IfOk result (λ run. IsRunDone E.gave E.ended E.taken E.reads E.writes (with_callers (length scripts.items) config) upkeep.now scripts.items
+        run.ends.items run.outcomes.items run.ledger) }
+    ensures refused { IfErr result (λ unrun. IsRefused unrun.fault (length scripts.items) config) }
+    ensures back { IfErr result (λ unrun. unrun.ends.items ≡ scripts.items) }
+{
+    let count = scripts.len();
+    if count == 0 || count > 62 {
+        return Err(Unrun {
+            fault: RunFault::Scripts,
+            ends: scripts,
+        });
+    }
+    let config = match checked(config, count) {
+        Ok(config) => config,
+        Err(fault) => {
+            return Err(Unrun {
+                fault,
+                ends: scripts,
+            });
+        }
+    };
+    let Ok(tokens) = Tokens::open(alloc, &config) else {
+        return Err(Unrun {
+            fault: RunFault::NoMemory,
+            ends: scripts,
+        });
+    };
+    match run_named::<Brand, E, R>(rt, alloc, config, tokens, seed, scripts, upkeep) {
+        Ok(run) => Ok(run),
+        Err(ends) => Err(Unrun {
+            fault: RunFault::NoMemory,
+            ends,
+        }),
+    }
+}
+
 /// Runs 1 to 62 scripts at once on a new store of this configuration, closes the store, and returns what the run leaves.
-/// Reads each script from its source, and prints its replies to its sink. If there are moments of upkeep (whole seconds, at most
+/// Reads each script from its ends, and prints its replies there: to a source and a sink, or to one object that is both. Asks for the
+/// next bytes only after all replies to the earlier ones are out. If there are moments of upkeep (whole seconds, at most
 /// 2^62), the maintainer and the crawler work beside the scripts.
 ///
 /// Of n scripts, script i is caller i, the maintainer is caller n, and the crawler is caller n + 1. The configuration's number of
@@ -136,32 +201,32 @@ fn run_named<N: Named + Send + Sync, S: Source + Send, K: Sink + Send, R: Thread
 ///
 /// Errors come before the first script begins: `Scripts` for no script or more than 62. Else `Configuration` if that isn't sound
 /// for so many. Else `NoMemory` if an allocation failed.
-pub fn run_scripts<S: Source + Send, K: Sink + Send, R: Threads + Wait + Sync>(
+pub fn run_scripts<E: Ends + Send, R: Threads + Wait + Sync>(
     rt: &R,
     alloc: Global,
     config: Config,
     seed: RandomState,
-    scripts: Vec<(S, K)>,
+    scripts: Vec<E>,
     upkeep: &[u64],
-) -> Result<Run<S, K>, RunFault>
+) -> Result<Run<E>, RunFault>
     requires early { All (λ moment. moment ≤ 2 ^ 62) upkeep.now }
+    requires asks { MayRunAll E.gave E.taken E.reads E.writes E.over E.may_ask (limits_of config) scripts.items }
 
     // Which runs are accepted, and why others are refused.
     ensures refused { IfErr result (λ e. IsRefused e (length scripts.items) config) }
     ensures accepted { IfOk result (λ _. IsAccepted (length scripts.items) config) }
 
-    // What each script leaves: the bytes still to come, what its sink took, its calls in the histories, and which side
+    // What each script leaves: the bytes that came, what was taken of its texts, its calls in the histories, and which side
     // failed. Each call is there after all that the script had seen by then. The script's own history has just these calls, with
     // the one that broke off if one did, and each of its events on any stripe or class belongs to one of them.
-    ensures leaves { IfOk result (λ run. (i : ℕ) (ends : S × K) (outcome : Outcome) → i < length scripts.items
-        → Leaves (slice_index_or run.outcomes.items i outcome) (limits_of config)
-        (S.coming (slice_index_or scripts.items i ends).0) (S.coming (slice_index_or run.ends.items i ends).0)
-        (K.taken (slice_index_or scripts.items i ends).1) (K.taken (slice_index_or run.ends.items i ends).1)
+    ensures leaves { IfOk result (λ run. (i : ℕ) (d : E) (outcome : Outcome) → i < length scripts.items
+        → HasLeft E.gave E.ended E.taken (slice_index_or run.outcomes.items i outcome) (limits_of config)
+        (slice_index_or scripts.items i d) (slice_index_or run.ends.items i d)
         (AreItsCalls (with_callers (length scripts.items) config) i (histories_left run.ledger)) i) }
-    ensures counted { IfOk result (λ run. (i : ℕ) (ends : S × K) (outcome : Outcome) → i < length scripts.items
+    ensures counted { IfOk result (λ run. (i : ℕ) (d : E) (outcome : Outcome) → i < length scripts.items
         → AreCounted (slice_index_or run.outcomes.items i outcome)
-        (S.failures (slice_index_or scripts.items i ends).0) (S.failures (slice_index_or run.ends.items i ends).0)
-        (K.failures (slice_index_or scripts.items i ends).1) (K.failures (slice_index_or run.ends.items i ends).1)) }
+        (E.reads (slice_index_or scripts.items i d)) (E.reads (slice_index_or run.ends.items i d))
+        (E.writes (slice_index_or scripts.items i d)) (E.writes (slice_index_or run.ends.items i d))) }
 
     // What upkeep leaves: the calls of maintainer and crawler at these moments, in turn, and no others, as for a script. Without
     // moments both are done.
@@ -185,17 +250,13 @@ pub fn run_scripts<S: Source + Send, K: Sink + Send, R: Threads + Wait + Sync>(
     ensures by { IfOk result (λ run. AreByCallers (with_callers (length scripts.items) config) (callers_at_work (length scripts.items) upkeep.now)
         (histories_left run.ledger)) }
 
-    // What is left: an outcome for each caller, a source and a sink for each script, and the store.
+    // What is left: an outcome for each caller, the ends of each script, and the store.
     ensures outcomes { IfOk result (λ run. length run.outcomes.items ≡ length scripts.items + 2) }
     ensures ends { IfOk result (λ run. length run.ends.items ≡ length scripts.items) }
     ensures store { IfOk result (λ run. IsStore (with_callers (length scripts.items) config) run.ledger) }
 {
-    let count = scripts.len();
-    if count == 0 || count > 62 {
-        return Err(RunFault::Scripts);
+    match run_ends(rt, alloc, config, seed, scripts, upkeep) {
+        Ok(run) => Ok(run),
+        Err(unrun) => Err(unrun.fault),
     }
-    let config = checked(config, count)?;
-    let tokens = Tokens::open(alloc, &config)?;
-    let run = run_named::<Brand, S, K, R>(rt, alloc, config, tokens, seed, scripts, upkeep)?;
-    Ok(run)
 }

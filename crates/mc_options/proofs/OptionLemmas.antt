@@ -1,6 +1,6 @@
 -- The command of the program as the reader of the command line sees it: its options, and what their texts are.
-use Rattle.std.proofs.Common.{◌≡◌, ◌∙◌, ◌<◌, ◌&&◌, ℕ, zero, suc, Bool, true, false, not, List, [], ◌∷◌, Some, ap, arith, codes, length, refl, slice_index, sym}
-use Rattle.std.proofs.lemmas.{Bool.Decides.nat_tests, List.get_or-map, List.length-map}
+use Rattle.std.proofs.Common.{◌≡◌, ◌∙◌, ◌<◌, ◌+◌, ◌&&◌, ◌||◌, ℕ, zero, suc, Bool, true, false, not, List, [], ◌∷◌, Some, ap, arith, codes, eqb, length, refl, slice_index, sym}
+use Rattle.std.proofs.lemmas.{Bool.Decides.nat_tests, Bool.eqb-true, List.get_or-map, List.length-map}
 use Rattle.std.specs.{List.slice_index_or, Str.bytes_eq}
 use Rattle.std.specs.Prelude.{map}
 use Rattle.clap.proofs.OnLiterals.{clap_on_literals}
@@ -13,7 +13,7 @@ use Rattle.clap.specs.declared.builder.command.Command.TheViews.{out-Command}
 use Rattle.clap.specs.declared.builder.value_parser.ValueParser.{ValueParser}
 use Rattle.clap.specs.declared.builder.value_parser.ValueParser.TheVariants as parsers
 use Rattle.clap.specs.declared.parser.matches.ArgMatches.{ArgMatches}
-use Rattle.mc_options.specs.Words.{any_number, any_small_number, chunks_rule, events_rule, mcseg, sizes_rule, stripes_rule, temp_rule, temp_ttl_rule, upkeep_rule}
+use Rattle.mc_options.specs.Words.{any_number, any_small_number, chunks_rule, events_rule, follow_rule, mcseg, sizes_rule, stripes_rule, temp_rule, temp_ttl_rule, upkeep_rule}
 
 -- the command is one whose clauses can be computed
 pub is_plain : is_simple mcseg ≡ true
@@ -35,21 +35,21 @@ first_text_is name app words m is has = first_value-rows (found_of m) name ∙ a
 
 -- the options of the command
 abbrev pub option_rules : List Rule
-option_rules = stripes_rule ∷ sizes_rule ∷ chunks_rule ∷ temp_rule ∷ temp_ttl_rule ∷ events_rule ∷ upkeep_rule ∷ []
+option_rules = stripes_rule ∷ sizes_rule ∷ chunks_rule ∷ temp_rule ∷ temp_ttl_rule ∷ events_rule ∷ upkeep_rule ∷ follow_rule ∷ []
 
 -- are these
 options_are : (old : Command) → app_of old ≡ mcseg → map rule_of (args_of old) ≡ option_rules
 unfolding mcseg
 options_are old is = ap (λ (a : App). a.top.rules) is
 
--- so there are seven
-pub seven_options : (old : Command) → app_of old ≡ mcseg → length (args_of old) ≡ 7
-seven_options old is = sym (length-map (args_of old) rule_of) ∙ ap length (options_are old is)
+-- so there are eight
+pub eight_options : (old : Command) → app_of old ≡ mcseg → length (args_of old) ≡ 8
+eight_options old is = sym (length-map (args_of old) rule_of) ∙ ap length (options_are old is)
 
 -- and each has its rule
-pub rule_at : (old : Command) → app_of old ≡ mcseg → (k : ℕ) (d : Arg) → k < 7 → rule_of (slice_index_or (args_of old) k d) ≡ slice_index_or option_rules k sizes_rule
+pub rule_at : (old : Command) → app_of old ≡ mcseg → (k : ℕ) (d : Arg) → k < 8 → rule_of (slice_index_or (args_of old) k d) ≡ slice_index_or option_rules k sizes_rule
 rule_at old is k d below =
-    let few : k < length (args_of old) = rw (seven_options old is) below in
+    let few : k < length (args_of old) = rw (eight_options old is) below in
     sym (get_or-map rule_of (args_of old) k d sizes_rule few) ∙ ap (λ rs. slice_index_or rs k sizes_rule) (options_are old is)
 
 -- the third of four tests that hold
@@ -63,6 +63,17 @@ third false y z w is = absurd (cc)
 first : (x y : Bool) → (x && y) ≡ true → x ≡ true
 first true y is = refl
 first false y is = is
+
+-- the second of two tests that hold
+second : (x y : Bool) → (x && y) ≡ true → y ≡ true
+second true y is = is
+second false y is = absurd (cc)
+
+-- the first of two tests, one of which holds, where the second doesn't
+either : (x y : Bool) → (x || not y) ≡ true → y ≡ true → x ≡ true
+either true y is both = refl
+either false true is both = is
+either false false is both = both
 
 -- a list that is empty
 none_left : {X : Type 0} (xs : List X) → is_empty xs ≡ true → xs ≡ []
@@ -89,7 +100,7 @@ in_no_group : (a : Arg) → is_simple_arg a ≡ true → a.groups.items ≡ []
 in_no_group a is = none_left a.groups.items (third _ _ _ _ is)
 
 -- each rule is of the simple kind
-rules_simple : (k : ℕ) → k < 7 → (slice_index_or option_rules k sizes_rule).is_simple ≡ true
+rules_simple : (k : ℕ) → k < 8 → (slice_index_or option_rules k sizes_rule).is_simple ≡ true
 rules_simple zero below = refl
 rules_simple (suc zero) below = refl
 rules_simple (suc (suc zero)) below = refl
@@ -97,20 +108,37 @@ rules_simple (suc (suc (suc zero))) below = refl
 rules_simple (suc (suc (suc (suc zero)))) below = refl
 rules_simple (suc (suc (suc (suc (suc zero))))) below = refl
 rules_simple (suc (suc (suc (suc (suc (suc zero)))))) below = refl
-rules_simple (suc (suc (suc (suc (suc (suc (suc k))))))) below = absurd (omega arith)
+rules_simple (suc (suc (suc (suc (suc (suc (suc zero))))))) below = refl
+rules_simple (suc (suc (suc (suc (suc (suc (suc (suc k)))))))) below = absurd (omega arith)
 
 -- so no option names a group
 pub groups_unnamed : (old : Command) → app_of old ≡ mcseg → NamesNoGroup old
 groups_unnamed old is = λ k d below.
-    let few : k < 7 = rw (← seven_options old is) below in
+    let few : k < 8 = rw (← eight_options old is) below in
     in_no_group (slice_index_or (args_of old) k d) (ap (λ (r : Rule). r.is_simple) (rule_at old is k d few) ∙ rules_simple k few)
+
+-- whether all of these options, numbered from `i` on, have other names, except the one of number `k`
+abbrev pub others_differ : Text → ℕ → ℕ → List Rule → Bool
+others_differ name k i [] = true
+others_differ name k i (r ∷ rs) = (eqb i k || not (bytes_eq r.id name)) && others_differ name k (suc i) rs
+
+-- then an option of this name has that number
+numbered : (name : Text) (k i : ℕ) (rs : List Rule) (j : ℕ) (d : Rule) → others_differ name k i rs ≡ true → j < length rs → bytes_eq (slice_index_or rs j d).id name ≡ true
+    → i + j ≡ k
+numbered name k i [] j d differ below is = absurd (omega arith)
+numbered name k i (r ∷ rs) zero d differ below is = omega (arith, eqb-true i k (either _ _ (first _ _ differ) is))
+numbered name k i (r ∷ rs) (suc j) d differ below is = omega (arith, numbered name k (suc i) rs j d (second _ _ differ) (omega arith) is)
+
+-- so the command has no other option of its name
+pub alone_at : (name : Text) (k : ℕ) → others_differ name k 0 option_rules ≡ true → (j : ℕ) → j < 8 → bytes_eq (slice_index_or option_rules j sizes_rule).id name ≡ true → j ≡ k
+alone_at name k differ j below is = omega (arith, numbered name k 0 option_rules j sizes_rule differ below is)
 
 -- what is known of an option that takes a value: its place, its name, which no other has, and what its text must be
 pub record IsOption (k : ℕ) (name : Text) (parser : ValueParser) : Type 0 where
-  pub below : k < 7
+  pub below : k < 8
   pub named : (slice_index_or option_rules k sizes_rule).id ≡ name
   pub parsed : (slice_index_or option_rules k sizes_rule).parser ≡ Some parser
-  pub alone : (j : ℕ) → j < 7 → bytes_eq (slice_index_or option_rules j sizes_rule).id name ≡ true → j ≡ k
+  pub alone : (j : ℕ) → j < 8 → bytes_eq (slice_index_or option_rules j sizes_rule).id name ≡ true → j ≡ k
   pub no_help : name ≡ codes "help" → ⊥
   pub no_version : name ≡ codes "version" → ⊥
   pub no_group : name ≡ [] → ⊥
@@ -121,23 +149,13 @@ stripes_option = record {
   below = omega arith;
   named = refl;
   parsed = refl;
-  alone = only;
+  alone = alone_at (codes "stripes") 0 refl;
   no_help = λ is. cc;
   no_version = λ is.
       let bad : 115 ≡ 118 = ap (λ (t : List ℕ). slice_index t 0) is in
       absurd (omega arith);
   no_group = λ is. cc;
 }
-  where
-    only : (j : ℕ) → j < 7 → bytes_eq (slice_index_or option_rules j sizes_rule).id (codes "stripes") ≡ true → j ≡ 0
-    only zero below is = refl
-    only (suc zero) below is = absurd (cc)
-    only (suc (suc zero)) below is = absurd (cc)
-    only (suc (suc (suc zero))) below is = absurd (cc)
-    only (suc (suc (suc (suc zero)))) below is = absurd (cc)
-    only (suc (suc (suc (suc (suc zero))))) below is = absurd (cc)
-    only (suc (suc (suc (suc (suc (suc zero)))))) below is = absurd (cc)
-    only (suc (suc (suc (suc (suc (suc (suc j))))))) below is = absurd (omega arith)
 
 -- the number of chunks
 pub chunks_option : IsOption 2 (codes "chunks") any_number
@@ -145,21 +163,11 @@ chunks_option = record {
   below = omega arith;
   named = refl;
   parsed = refl;
-  alone = only;
+  alone = alone_at (codes "chunks") 2 refl;
   no_help = λ is. cc;
   no_version = λ is. cc;
   no_group = λ is. cc;
 }
-  where
-    only : (j : ℕ) → j < 7 → bytes_eq (slice_index_or option_rules j sizes_rule).id (codes "chunks") ≡ true → j ≡ 2
-    only zero below is = absurd (cc)
-    only (suc zero) below is = absurd (cc)
-    only (suc (suc zero)) below is = refl
-    only (suc (suc (suc zero))) below is = absurd (cc)
-    only (suc (suc (suc (suc zero)))) below is = absurd (cc)
-    only (suc (suc (suc (suc (suc zero))))) below is = absurd (cc)
-    only (suc (suc (suc (suc (suc (suc zero)))))) below is = absurd (cc)
-    only (suc (suc (suc (suc (suc (suc (suc j))))))) below is = absurd (omega arith)
 
 -- whether TEMP is on
 pub temp_option : IsOption 3 (codes "temp") parsers.Bool
@@ -167,23 +175,13 @@ temp_option = record {
   below = omega arith;
   named = refl;
   parsed = refl;
-  alone = only;
+  alone = alone_at (codes "temp") 3 refl;
   no_help = λ is.
       let bad : 116 ≡ 104 = ap (λ (t : List ℕ). slice_index t 0) is in
       absurd (omega arith);
   no_version = λ is. cc;
   no_group = λ is. cc;
 }
-  where
-    only : (j : ℕ) → j < 7 → bytes_eq (slice_index_or option_rules j sizes_rule).id (codes "temp") ≡ true → j ≡ 3
-    only zero below is = absurd (cc)
-    only (suc zero) below is = absurd (cc)
-    only (suc (suc zero)) below is = absurd (cc)
-    only (suc (suc (suc zero))) below is = refl
-    only (suc (suc (suc (suc zero)))) below is = absurd (cc)
-    only (suc (suc (suc (suc (suc zero))))) below is = absurd (cc)
-    only (suc (suc (suc (suc (suc (suc zero)))))) below is = absurd (cc)
-    only (suc (suc (suc (suc (suc (suc (suc j))))))) below is = absurd (omega arith)
 
 -- the life in TEMP
 pub temp_ttl_option : IsOption 4 (codes "temp-ttl") any_number
@@ -191,21 +189,11 @@ temp_ttl_option = record {
   below = omega arith;
   named = refl;
   parsed = refl;
-  alone = only;
+  alone = alone_at (codes "temp-ttl") 4 refl;
   no_help = λ is. cc;
   no_version = λ is. cc;
   no_group = λ is. cc;
 }
-  where
-    only : (j : ℕ) → j < 7 → bytes_eq (slice_index_or option_rules j sizes_rule).id (codes "temp-ttl") ≡ true → j ≡ 4
-    only zero below is = absurd (cc)
-    only (suc zero) below is = absurd (cc)
-    only (suc (suc zero)) below is = absurd (cc)
-    only (suc (suc (suc zero))) below is = absurd (cc)
-    only (suc (suc (suc (suc zero)))) below is = refl
-    only (suc (suc (suc (suc (suc zero))))) below is = absurd (cc)
-    only (suc (suc (suc (suc (suc (suc zero)))))) below is = absurd (cc)
-    only (suc (suc (suc (suc (suc (suc (suc j))))))) below is = absurd (omega arith)
 
 -- the limit of events
 pub events_option : IsOption 5 (codes "events") any_number
@@ -213,18 +201,20 @@ events_option = record {
   below = omega arith;
   named = refl;
   parsed = refl;
-  alone = only;
+  alone = alone_at (codes "events") 5 refl;
   no_help = λ is. cc;
   no_version = λ is. cc;
   no_group = λ is. cc;
 }
-  where
-    only : (j : ℕ) → j < 7 → bytes_eq (slice_index_or option_rules j sizes_rule).id (codes "events") ≡ true → j ≡ 5
-    only zero below is = absurd (cc)
-    only (suc zero) below is = absurd (cc)
-    only (suc (suc zero)) below is = absurd (cc)
-    only (suc (suc (suc zero))) below is = absurd (cc)
-    only (suc (suc (suc (suc zero)))) below is = absurd (cc)
-    only (suc (suc (suc (suc (suc zero))))) below is = refl
-    only (suc (suc (suc (suc (suc (suc zero)))))) below is = absurd (cc)
-    only (suc (suc (suc (suc (suc (suc (suc j))))))) below is = absurd (omega arith)
+
+-- whether the input is answered as it comes
+pub follow_option : IsOption 7 (codes "follow") parsers.Bool
+follow_option = record {
+  below = omega arith;
+  named = refl;
+  parsed = refl;
+  alone = alone_at (codes "follow") 7 refl;
+  no_help = λ is. cc;
+  no_version = λ is. cc;
+  no_group = λ is. cc;
+}

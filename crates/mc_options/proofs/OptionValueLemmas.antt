@@ -19,7 +19,7 @@ use Rattle.std.specs.Str.Parse.{IsNumeral, starts_with_minus, without_leading_pl
 use Rattle.clap.specs.Lexer.{without_minus}
 use Rattle.clap.specs.Values.{IsSignedIn, IsUnsignedIn}
 use Rattle.mc_options.specs.Words.{mcseg, numbers_below, sizes_rule}
-use Rattle.mc_options.proofs.OptionLemmas.{IsOption, globals_none, groups_none, groups_unnamed, option_rules, rule_at, seven_options, stripes_option}
+use Rattle.mc_options.proofs.OptionLemmas.{IsOption, eight_options, globals_none, groups_none, groups_unnamed, option_rules, rule_at, stripes_option}
 
 -- an argument of the command as it was given
 abbrev arg_at : Command → ℕ → Arg → Arg
@@ -29,14 +29,14 @@ arg_at old k d = slice_index_or (args_of old) k d
 reads : (old : Command) (m : ArgMatches) (p : IsParsedFrom old m) → app_of old ≡ mcseg → {k : ℕ} {name : Text} {parser : ValueParser} → IsOption k name parser
     → (j : ℕ) (x : Arg) → j < length (args_of p.built) → slice_index_or (args_of p.built) j x ≡ x → bytes_eq x.id.now name ≡ true → parser_of x ≡ parser
 reads old m p is {k} {name} {parser} option j x high at same =
-    let seven = seven_options old is in
-    let few : k < length (args_of old) = rw seven option.below in
+    let eight = eight_options old is in
+    let few : k < length (args_of old) = rw eight option.below in
     let rule = rule_at old is k x option.below in
     let id : (arg_at old k x).id.now ≡ name = ap (λ (r : Rule). r.id) rule ∙ option.named in
     let named : bytes_eq x.id.now (arg_at old k x).id.now ≡ true = rw id same in
     let same_rules = same_rules_by_id old m p k x few
     (λ i e below equal.
-    let less : i < 7 = rw (← seven) below in
+    let less : i < 8 = rw (← eight) below in
     let its : (arg_at old i e).id.now ≡ (slice_index_or option_rules i sizes_rule).id = ap (λ (r : Rule). r.id) (rule_at old is i e less) in
     option.alone i less (rw (← its, ← id) equal))
     (λ auto. elim auto [

@@ -15,7 +15,7 @@ use Rattle.mc_options.specs.Words.{is_yes, mcseg, refusals, text_in}
 use Rattle.mc_options.specs.declared.{plans.Options.Options, plans.PlanFault.PlanFault}
 use Rattle.mc_options.specs.declared.plans.PlanFault.TheVariants as plan_faults
 use Rattle.mc_options.specs.declared.words.WordsFault.TheVariants as words_faults
-use Rattle.mc_options.proofs.OptionLemmas.{chunks_option, events_option, is_free, rows_are, temp_option, temp_ttl_option}
+use Rattle.mc_options.proofs.OptionLemmas.{chunks_option, events_option, follow_option, is_free, rows_are, temp_option, temp_ttl_option}
 use Rattle.mc_options.proofs.OptionValueLemmas.{option_passes, stripes_pass}
 
 -- std's numerals are read as these digits are
@@ -91,6 +91,7 @@ given_by old words m options is parsed has found =
       temp = found.temp (option_passes old m parsed is temp_option refl) ∙ ap is_yes (text_is (codes "temp"));
       temp_ttl = subst (λ t. IsNumberOf t options.temp_ttl) (text_is (codes "temp-ttl")) (found.temp_ttl (option_passes old m parsed is temp_ttl_option refl));
       events = subst (λ t. IsNumberOf t options.events) (text_is (codes "events")) (found.events (option_passes old m parsed is events_option refl));
+      follow = found.follow (option_passes old m parsed is follow_option refl) ∙ ap is_yes (text_is (codes "follow"));
     }
 
 -- what an error that is known fulfils

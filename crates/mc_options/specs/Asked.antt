@@ -7,7 +7,7 @@ use Rattle.clap.specs.declared.parser.matches.Found.{Found}
 use Rattle.mc_item.specs.{Config.fault_of, Config.usual_config, Measure.number_in}
 use Rattle.mc_item.specs.declared.{config.Config.Config, config.ConfigFault.ConfigFault}
 use Rattle.mc_item.specs.declared.config.ConfigFault.TheVariants.{Stripes, Sizes, Chunks, Percent, Factor, Callers, Events}
-use Rattle.mc_options.specs.Words.{is_yes, numbers_below, sizes_in, temp_in, text_in, upkeep_in}
+use Rattle.mc_options.specs.Words.{follow_in, is_yes, numbers_below, sizes_in, temp_in, text_in, upkeep_in}
 use Rattle.mc_options.specs.declared.{plans.Options.Options, plans.PlanFault.PlanFault, words.WordsFault.WordsFault}
 use Rattle.mc_options.specs.declared.plans.PlanFault.TheVariants as plan_faults
 use Rattle.mc_options.specs.declared.words.WordsFault.TheVariants as words_faults
@@ -55,6 +55,7 @@ pub record AreGiven (words : List Text) (options : Options) : Type 0 where
   pub temp : options.temp ≡ temp_in words
   pub temp_ttl : IsNumberOf (text_in (codes "temp-ttl") words) options.temp_ttl
   pub events : IsNumberOf (text_in (codes "events") words) options.events
+  pub follow : options.follow ≡ follow_in words
 
 -- if the text is absent or a number below the limit, this is what was read from it: no number, or that one
 abbrev pub IsNumberRead : ℕ → Option Text → Option ℕ → Type 0
@@ -72,6 +73,7 @@ pub record AreFound (found : Found) (options : Options) : Type 0 where
   pub temp : IsYesRead (one_text found (codes "temp")) options.temp
   pub temp_ttl : IsNumberRead (2 ^ 64) (one_text found (codes "temp-ttl")) options.temp_ttl
   pub events : IsNumberRead (2 ^ 64) (one_text found (codes "events")) options.events
+  pub follow : IsYesRead (one_text found (codes "follow")) options.follow
 
 -- the words ask for these sizes, if any, for these times of upkeep, and for what these options say
 pub record AreAsked (words : List Text) (sizes : Option (List ℕ)) (upkeep : List ℕ) (options : Options) : Type 0 where

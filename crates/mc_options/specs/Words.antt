@@ -50,12 +50,16 @@ events_rule = number_rule (codes "events")
 abbrev pub upkeep_rule : Rule
 upkeep_rule = record (new_rule (codes "upkeep")) { long = Some (codes "upkeep"); action = Some Set; value_names = 1 }
 
+-- the option `--follow`, which takes nothing
+abbrev pub follow_rule : Rule
+follow_rule = record (new_rule (codes "follow")) { long = Some (codes "follow"); action = Some SetTrue; parser = Some parsers.Bool }
+
 -- the command `mcseg`: these options and a version
 unfoldable pub mcseg : App
 mcseg =
-    with_rule (with_rule (with_rule (with_rule
+    with_rule (with_rule (with_rule (with_rule (with_rule
     (with_rule (with_rule (with_rule (record { top = record (new_app (codes "mcseg")).top { has_version = true }; subs = [] })
-    stripes_rule) sizes_rule) chunks_rule) temp_rule) temp_ttl_rule) events_rule) upkeep_rule
+    stripes_rule) sizes_rule) chunks_rule) temp_rule) temp_ttl_rule) events_rule) upkeep_rule) follow_rule
 
 -- the kinds of error with which `clap` refuses the words, none if the command takes them
 abbrev pub refusals : List Text → Kinds
@@ -81,3 +85,7 @@ is_yes (Some text) = bytes_eq text (codes "true")
 -- whether the words have the option `--temp`
 abbrev pub temp_in : List Text → Bool
 temp_in words = is_yes (text_in (codes "temp") words)
+
+-- whether the words have the option `--follow`
+abbrev pub follow_in : List Text → Bool
+follow_in words = is_yes (text_in (codes "follow") words)

@@ -9,8 +9,8 @@ pub const ABOUT: &str =
 
 /// The rest of `--help`: requests, directives, scripts, limits, exit statuses and an example.
 pub const AFTER: &str = "\
-Requests are those of memcached's classic text protocol. Their replies are printed when the input
-has ended and its scripts have run.
+Requests are those of memcached's classic text protocol. Without --follow their replies are printed
+when the input has ended and its scripts have run.
   get, gets <key>..    gat, gats <exptime> <key>..    touch <key> <exptime>    delete <key>    quit
   set, add, replace, append, prepend <key> <flags> <exptime> <bytes>    incr, decr <key> <delta>
   cas <key> <flags> <exptime> <bytes> <cas number>
@@ -38,6 +38,9 @@ quit ends the script: what follows it up to a %next is read and ignored. With --
 class is juggled by the maintainer and crawled by the crawler at each of the moments in order,
 beside the scripts; nothing is printed of that.
 
+With --follow the input is one script, and is answered as it comes: before the program reads on, it
+has printed the replies to all requests that are whole. %next ends that script, as quit does.
+
 Limits:
   key           1 to 250 bytes, none of them NUL, LF, CR or space
   line          65,536 bytes before its LF
@@ -60,8 +63,8 @@ a get or gat, for each item that goes since it is dead or its chunk is taken, an
 is cleared; a class one for each entry that comes, moves or goes, one for each %chunks, and one or
 two for each %juggle or moment of upkeep. A script's calls count against --events too, as do those
 of upkeep: one for each command, for each class that is juggled or crawled, and for each %chunks. So
-memory holds the items, the input and the replies. With n stripes the new versions of a stripe's
-items have cas numbers n apart.
+memory holds the items, and without --follow the input and the replies too. With n stripes the new
+versions of a stripe's items have cas numbers n apart.
 
 Exit statuses, and the lines on standard error:
   0  all went well, or help or the version was printed

@@ -15,11 +15,13 @@ const MOST_MOMENTS: usize = 1000;
 // The latest time (moment) of upkeep, in seconds.
 const MAX_MOMENT: u64 = 1 << 62;
 
-/// What the command line asks for: a store's configuration, and the times of upkeep.
+/// What the command line asks for: a store's configuration, the times of upkeep, and whether the input is one script that is
+/// answered as it comes.
 #[derive(Drop)]
 pub struct Plan {
     pub config: Config,
     pub upkeep: Numbers,
+    pub follow: bool,
 }
 
 /// What the options ask for, except `--sizes` and `--upkeep`. `None`: the option is absent.
@@ -35,6 +37,8 @@ pub struct Options {
     pub temp_ttl: Option<u64>,
     /// How many events a history may count; 1,048,576 if absent.
     pub events: Option<u64>,
+    /// Whether the input is one script that is answered as it comes.
+    pub follow: bool,
 }
 
 /// Why no plan is made.
@@ -167,23 +171,29 @@ fn config_of(alloc: Global, sizes: Option<Vec<u64>>, options: Options) -> Result
     Ok(config)
 }
 
-// The plan of a configuration and of times of upkeep, if the configuration has no fault.
-fn plan_of(config: Config, upkeep: Numbers) -> Result<Plan, PlanFault>
+// The plan of a configuration, of times of upkeep and of how the input is answered, if the configuration has no fault.
+fn plan_of(config: Config, upkeep: Numbers, follow: bool) -> Result<Plan, PlanFault>
     ensures config { IfOk result (λ plan. (plan.config ≡ config) × (fault_of config ≡ None)) }
     ensures upkeep { IfOk result (λ plan. plan.upkeep ≡ upkeep) }
+    ensures follow { IfOk result (λ plan. plan.follow ≡ follow) }
     ensures list { result ≡ Err faults.List → ⊥ }
     ensures fault { (n : ℕ) → result ≡ Err (faults.Configuration n) → IsFault n config }
 {
     match config.check() {
-        Ok(config) => Ok(Plan { config, upkeep }),
+        Ok(config) => Ok(Plan {
+            config,
+            upkeep,
+            follow,
+        }),
         Err(fault) => Err(PlanFault::Configuration(fault_number(fault))),
     }
 }
 
-/// Makes the plan that the options ask for. Without options that is the usual configuration, of one stripe and 3 callers, and no
-/// upkeep. `sizes` has the slab classes' sizes in bytes, such as "96,1024", instead of the usual 43. `upkeep` has the times at
-/// which maintainer and crawler work: at most 1,000, each at most 2^62. Both are decimal numbers with one comma between two, and
-/// nothing else. The other options are in `options`; if its `chunks` are absent, each class has 1,024.
+/// Makes the plan that the options ask for. Without options that is the usual configuration, of one stripe and 3 callers, no
+/// upkeep, and an input that is answered once it has ended. `sizes` has the slab classes' sizes in bytes, such as "96,1024",
+/// instead of the usual 43. `upkeep` has the times at which maintainer and crawler work: at most 1,000, each at most 2^62. Both
+/// are decimal numbers with one comma between two, and nothing else. The other options are in `options`; if its `chunks` are
+/// absent, each class has 1,024.
 ///
 /// *Errors*: `List` if a text is no such list, whatever the other options are. Otherwise `Configuration` if the sizes or a number
 /// are out of range. `NoMemory` if memory is refused.
@@ -195,7 +205,7 @@ pub fn plan_for(
 ) -> Result<Plan, PlanFault>
     ensures ok { IfOk result (λ plan. (numbers : Option (List ℕ)) × AreNamed (option_copied sizes.entry) numbers × (plan.config ≡ asked numbers options)
         × (fault_of plan.config ≡ None)
-        × AreMomentsNamed (option_copied upkeep.entry) plan.upkeep) }
+        × AreMomentsNamed (option_copied upkeep.entry) plan.upkeep × (plan.follow ≡ options.follow)) }
     ensures list { result ≡ Err faults.List → IsBadList (option_copied sizes.entry) (option_copied upkeep.entry) }
     ensures configuration { (n : ℕ) → result ≡ Err (faults.Configuration n)
         → (numbers : Option (List ℕ)) × (moments : List ℕ) × AreNamed (option_copied sizes.entry) numbers × AreMomentsNamed (option_copied upkeep.entry) moments
@@ -204,5 +214,5 @@ pub fn plan_for(
     let numbers = named(alloc, sizes)?;
     let moments = moments_named(alloc, upkeep)?;
     let config = config_of(alloc, numbers, options)?;
-    plan_of(config, moments)
+    plan_of(config, moments, options.follow)
 }

@@ -5,7 +5,7 @@ ghost use Rattle.clap.specs.Walk.{texts};
 ghost use Rattle.clap.specs.Words.{HasKind, app_of, found_of, one_text, rule_of};
 ghost use Rattle.clap.specs.declared.error.Error.{Error as Refusal};
 ghost use Rattle.mc_options.specs.Asked.{AreAsked, AreFound, IsBadList, IsFault, IsNumberRead, IsYesRead, asked, words_fault_of};
-ghost use Rattle.mc_options.specs.Words.{mcseg, number_rule, refusals, sizes_in, sizes_rule, stripes_rule, temp_rule, upkeep_in, upkeep_rule};
+ghost use Rattle.mc_options.specs.Words.{follow_rule, mcseg, number_rule, refusals, sizes_in, sizes_rule, stripes_rule, temp_rule, upkeep_in, upkeep_rule};
 ghost use Rattle.mc_options.specs.declared.plans.Options.{Options};
 ghost use Rattle.mc_options.specs.declared.words.WordsFault.TheVariants as words_faults;
 
@@ -117,6 +117,19 @@ fn temp_option<'a>(alloc: Global) -> Arg<'a>
         .help("items that expire within the seconds of --temp-ttl begin in TEMP,{n}and not in HOT")
 }
 
+fn follow_option<'a>(alloc: Global) -> Arg<'a>
+    ensures rule { rule_of result ≡ follow_rule }
+    ensures local { result.global ≡ false }
+{
+    Arg::new(alloc, "follow")
+        .long("follow")
+        .action(ArgAction::SetTrue)
+        .value_parser(clap::value_parser!(bool))
+        .help(
+            "answers each request at once, and not when the input has ended;{n}the input is then one script",
+        )
+}
+
 // The command `mcseg` with all its options.
 fn command_of<'a>(alloc: Global) -> Result<Command<'a>, AllocError>
     ensures { IfOk result (λ command. app_of command ≡ mcseg) }
@@ -136,7 +149,8 @@ fn command_of<'a>(alloc: Global) -> Result<Command<'a>, AllocError>
         .arg(temp_option(alloc))?
         .arg(number_option(alloc, "temp-ttl", temp_ttl))?
         .arg(number_option(alloc, "events", events))?
-        .arg(upkeep_option(alloc))
+        .arg(upkeep_option(alloc))?
+        .arg(follow_option(alloc))
 }
 
 // The number given to `--stripes`, if any.
@@ -160,6 +174,13 @@ fn temp_at(matches: &ArgMatches) -> bool
     matches.get_flag("temp")
 }
 
+// Whether `--follow` was given.
+fn follow_at(matches: &ArgMatches) -> bool
+    ensures { IsYesRead (one_text (found_of matches.now) (codes "follow")) result }
+{
+    matches.get_flag("follow")
+}
+
 // What the options ask for, except `--sizes` and `--upkeep`.
 fn options_of(matches: &ArgMatches) -> Options
     ensures { AreFound (found_of matches.now) result }
@@ -170,11 +191,12 @@ fn options_of(matches: &ArgMatches) -> Options
         temp: temp_at(matches),
         temp_ttl: number_at(matches, "temp-ttl"),
         events: number_at(matches, "events"),
+        follow: follow_at(matches),
     }
 }
 
 /// Reads the words of the command line, the first of which is the program's name, and makes the plan that they ask for. That is
-/// the usual configuration and no upkeep, changed as the options say.
+/// the usual configuration, no upkeep and an input that is answered once it has ended, changed as the options say.
 ///
 /// *Errors*: `Words` if `clap` refuses the words, has the help or the version to show, or runs out of memory. Otherwise `List` if
 /// the sizes or the times of upkeep are no list as `plan_for` takes it. Otherwise `Configuration` if the sizes or a number are
@@ -183,7 +205,7 @@ pub fn read_words(alloc: Global, words: &[&str]) -> Result<Plan, WordsFault>
     ensures config { IfOk result (λ plan. fault_of plan.config ≡ None) }
     ensures taken { IfOk result (λ plan. refusals (texts words.now) ≡ []) }
     ensures asked { IfOk result (λ plan. (sizes : Option (List ℕ)) × (options : Options)
-        × AreAsked (texts words.now) sizes plan.upkeep options × (plan.config ≡ asked sizes options)) }
+        × AreAsked (texts words.now) sizes plan.upkeep options × (plan.config ≡ asked sizes options) × (plan.follow ≡ options.follow)) }
     ensures words { (error : Refusal) → result ≡ Err (words_faults.Words error) → HasKind (refusals (texts words.now)) error }
     ensures list { result ≡ Err words_faults.List
         → (refusals (texts words.now) ≡ []) × IsBadList (sizes_in (texts words.now)) (upkeep_in (texts words.now)) }

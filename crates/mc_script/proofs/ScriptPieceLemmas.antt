@@ -3,7 +3,7 @@ use Rattle.std.proofs.Common.{◌≡◌, ℕ, List, [], ◌∷◌, ◌++◌, ref
 use Rattle.std.specs.Prelude.{None, if◌then◌else◌}
 use Rattle.mc_item.specs.declared.fault.Fault.{Fault}
 use Rattle.mc_item.specs.declared.fault.Fault.TheVariants as faults
-use Rattle.mc_proto.specs.{Grammar.Reads, Text.IsBeginning}
+use Rattle.mc_proto.specs.Text.{IsBeginning}
 use Rattle.mc_proto.specs.declared.{request.Limits.Limits, request.Request.Request}
 use Rattle.mc_proto.proofs.{KeptRestLemmas.after_reads, StreamLemmas.stream_reads, StreamLemmas.reading_on}
 use Rattle.mc_script.specs.{Calls.Notes, Progress.EndsHere, Progress.FailsHere, Progress.Goes, Progress.AnswersWhole, Progress.HasAnswered, Progress.HasCome}
@@ -57,72 +57,12 @@ cut_none limits (r ∷ rs) done notes caller all =
     let none = breaks_none (calls_of limits r) caller (turn_behind limits 0 done) (moment_behind first_moment done) notes in
     (faults.NoMemory, none.at (all_exchanges limits caller 0 first_moment done) all)
 
--- what was read, where the first of these requests were answered
-come_read : (limits : Limits) (bytes left : List ℕ) (done : List Answered) (added front back : List Request) (more : List Answered)
-    → HasCome limits bytes left done added → added ≡ front ++ back → NoneEnds front → requests_of more ≡ front → HasRead limits bytes left (requests_of (done ++ more) ++ own_requests back)
-come_read limits bytes left done added front back more come split own asked =
-    let read = after_reads limits come.state come.unread come.came (come.requests ++ added) come.after in
-    record {
-      came = come.came;
-      split = come.split;
-      requests = come.requests ++ added;
-      rest = read.0;
-      reads = read.1;
-      own_are = own_requests-append come.requests added come.own ∙ ap (λ (t : List Request). come.requests ++ own_requests t) split ∙ ap (λ (t : List Request). come.requests ++ t) (own_requests-append front back own)
-          ∙ sym (append_assoc come.requests front (own_requests back)) ∙ ap (λ (t : List Request). (t ++ front) ++ own_requests back) (sym come.asked)
-          ∙ ap (λ (t : List Request). (requests_of done ++ t) ++ own_requests back) (sym asked)
-          ∙ ap (λ (t : List Request). t ++ own_requests back) (sym (requests_of-append done more));
-    }
-
--- all requests before the one that ends the script were answered
-abbrev piece_runs : (limits : Limits) (bytes left start taken text taken' : List ℕ) (notes : Notes) (caller turn moment : ℕ) (done : List Answered) (added : List Request)
-    → HasCome limits bytes left done added → Goes progress.Ended limits added done start taken text notes caller turn moment → taken' ≡ taken ++ text → HasRun limits bytes start taken' notes caller
-piece_runs limits bytes left start taken text taken' notes caller turn moment done added come g out =
-    let whole = stream_reads limits bytes in
-    let on = reading_on limits come.came left come.after.rest whole.1 (come.requests ++ added) whole.0 come.after.spelt (subst (λ (t : List ℕ). Reads limits t whole.0 whole.1) come.split whole.2) in
-    let cut_at : whole.0 ≡ come.requests ++ (g.front ++ (g.back ++ on.0)) =
-    on.1 ∙ append_assoc come.requests added on.0 ∙ ap (λ (t : List Request). come.requests ++ (t ++ on.0)) g.split ∙ ap (λ (t : List Request). come.requests ++ t) (append_assoc g.front g.back on.0) in
-    record {
-      requests = whole.0;
-      rest = whole.1;
-      answered = done ++ g.added;
-      reads = whole.2;
-      asked = requests_of-append done g.added ∙ ap (λ (t : List Request). t ++ requests_of g.added) come.asked ∙ ap (λ (t : List Request). come.requests ++ t) (g.asked ∙ sym (append-nil g.front))
-          ∙ ap (λ (t : List Request). come.requests ++ (g.front ++ t)) (sym (own_requests-ends g.back on.0 g.state.0))
-          ∙ ap (λ (t : List Request). come.requests ++ t) (sym (own_requests-append g.front (g.back ++ on.0) g.own))
-          ∙ sym (own_requests-append come.requests (g.front ++ (g.back ++ on.0)) come.own) ∙ ap own_requests (sym cut_at);
-      whole = g.state.1.whole;
-      texts = now_printed g.state.1.printed start taken text taken' (texts_of (done ++ g.added)) g.state.1.took g.state.1.texts out;
-      calls = g.state.1.notes_all;
-    }
-
 -- the requests before the one that ends the script are those in what came
 read_ended : (limits : Limits) (bytes left : List ℕ) (answered : List Answered) (back : List Request) → HasRead limits bytes left (requests_of answered ++ own_requests back) → EndsHere back
     → HasRead limits bytes left (requests_of answered)
 read_ended limits bytes left answered back read last =
     let none : own_requests back ≡ [] = sym (ap own_requests (append-nil back)) ∙ own_requests-ends back [] last in
     subst (HasRead limits bytes left) (ap (λ (t : List Request). requests_of answered ++ t) none ∙ append-nil (requests_of answered)) read
-
--- the script ended in a piece
-pub piece_ended : (limits : Limits) (bytes left start taken text taken' : List ℕ) (notes : Notes) (caller turn moment : ℕ) (done : List Answered) (added : List Request)
-    → HasCome limits bytes left done added → Goes progress.Ended limits added done start taken text notes caller turn moment → taken' ≡ taken ++ text → HasEnded limits bytes left start taken' notes caller
-piece_ended limits bytes left start taken text taken' notes caller turn moment done added come g out = record {
-  run = piece_runs limits bytes left start taken text taken' notes caller turn moment done added come g out;
-  read = read_ended limits bytes left (done ++ g.added) g.back (come_read limits bytes left done added g.front g.back g.added come g.split g.own g.asked) g.state.0;
-}
-
--- all requests of a piece were answered, and the script goes on
-pub piece_goes_on : (limits : Limits) (start taken text taken' text' : List ℕ) (notes : Notes) (caller turn moment : ℕ) (done : List Answered) (added : List Request)
-    → Goes progress.More limits added done start taken text notes caller turn moment → taken' ≡ taken ++ text → text' ≡ [] → AnswersWhole limits start taken' text' notes caller turn moment done added
-piece_goes_on limits start taken text taken' text' notes caller turn moment done added g out none =
-    let all : added ≡ g.front = g.split ∙ ap (λ (t : List Request). g.front ++ t) g.state.0 ∙ append-nil g.front in
-    record {
-      own = subst NoneEnds (sym all) g.own;
-      out = none;
-      now = done ++ g.added;
-      asked = requests_of-append done g.added ∙ ap (λ (t : List Request). requests_of done ++ t) (g.asked ∙ sym all);
-      state_of = printed_more limits (done ++ g.added) start taken text taken' text' notes caller turn moment g.state.1 (text, out, sym (append-nil text) ∙ ap (λ (t : List ℕ). text ++ t) (sym none));
-    }
 
 -- a request failed, and the texts before it are out
 failed_stops : (fault : Fault) (limits : Limits) (bytes left start taken text taken' : List ℕ) (notes : Notes) (caller : ℕ) (done : List Answered) (back : List Request)
@@ -166,46 +106,93 @@ answered_breaks limits bytes left start taken text taken' notes caller turn mome
   calls = cut_none limits (own_requests back) done notes caller has.notes_all;
 }
 
--- the sink failed within a piece
-pub piece_torn : (limits : Limits) (bytes left start taken text : List ℕ) (notes : Notes) (caller turn moment : ℕ) (done : List Answered) (added : List Request)
-    → HasCome limits bytes left done added → Goes progress.Output limits added done start taken text notes caller turn moment → HasBroken limits bytes left start taken notes caller
-piece_torn limits bytes left start taken text notes caller turn moment done added come g =
-    let read = come_read limits bytes left done added g.front g.back g.added come g.split g.own g.asked in
+-- all requests of a piece were answered, and the script goes on
+pub piece_goes_on : {limits : Limits} {start taken text taken' text' : List ℕ} {notes : Notes} {caller turn moment : ℕ} {done : List Answered} {added : List Request}
+    → Goes progress.More limits added done start taken text notes caller turn moment → taken' ≡ taken ++ text → text' ≡ [] → AnswersWhole limits start taken' text' notes caller turn moment done added
+piece_goes_on {limits = limits} {start = start} {taken = taken} {text = text} {done = done} g out none =
+    let all = g.split ∙ ap (λ (t : List Request). g.front ++ t) g.state.0 ∙ append-nil g.front in
     record {
-      answered = done ++ g.added;
-      back = own_requests g.back;
-      read = come_read limits bytes left done added g.front g.back g.added come g.split g.own g.asked;
-      whole = g.state.whole;
-      texts = g.state.texts;
-      calls = cut_none limits (own_requests g.back) (done ++ g.added) notes caller g.state.notes_all;
+      own = subst NoneEnds (sym all) g.own;
+      out = none;
+      now = done ++ g.added;
+      asked = requests_of-append done g.added ∙ ap (λ (t : List Request). requests_of done ++ t) (g.asked ∙ sym all);
+      state_of = printed_more limits (done ++ g.added) start taken text _ _ _ _ _ _ g.state.1 (text, out, sym (append-nil text) ∙ ap (λ (t : List ℕ). text ++ t) (sym none));
     }
 
--- a request failed for want of memory
-pub piece_memory : (limits : Limits) (bytes left start taken text taken' : List ℕ) (notes : Notes) (caller turn moment : ℕ) (done : List Answered) (added : List Request)
-    → HasCome limits bytes left done added → Goes progress.Memory limits added done start taken text notes caller turn moment → taken' ≡ taken ++ text
-    → HasStopped faults.NoMemory limits bytes left start taken' notes caller
-piece_memory limits bytes left start taken text taken' notes caller turn moment done added come g out =
-    failed_stops faults.NoMemory limits bytes left start taken text taken' notes caller (done ++ g.added) g.back
-    (come_read limits bytes left done added g.front g.back g.added come g.split g.own g.asked) g.state out
+-- a piece came, and its requests were answered up to some progress, whatever is still left
+module _ {limits : Limits} {came start taken text : List ℕ} {notes : Notes} {caller turn moment : ℕ} {done : List Answered} {added : List Request}
+    (come : HasCome limits came done added) (left : List ℕ) where
+  -- what was read, where the first of these requests were answered
+  come_read : {p : Progress} (g : Goes p limits added done start taken text notes caller turn moment)
+      → HasRead limits (came ++ left) left (requests_of (done ++ g.added) ++ own_requests g.back)
+  come_read g =
+      let read = after_reads limits come.state come.unread came (come.requests ++ added) come.after in
+      record {
+        came = came;
+        split = refl;
+        requests = come.requests ++ added;
+        rest = read.0;
+        reads = read.1;
+        own_are = own_requests-append come.requests added come.own ∙ ap (λ (t : List Request). come.requests ++ own_requests t) g.split
+            ∙ ap (λ (t : List Request). come.requests ++ t) (own_requests-append g.front g.back g.own)
+            ∙ sym (append_assoc come.requests g.front (own_requests g.back)) ∙ ap (λ (t : List Request). (t ++ g.front) ++ own_requests g.back) (sym come.asked)
+            ∙ ap (λ (t : List Request). (requests_of done ++ t) ++ own_requests g.back) (sym g.asked)
+            ∙ ap (λ (t : List Request). t ++ own_requests g.back) (sym (requests_of-append done g.added));
+      }
 
--- or since the history is full
-pub piece_full : (limits : Limits) (bytes left start taken text taken' : List ℕ) (notes : Notes) (caller turn moment : ℕ) (done : List Answered) (added : List Request)
-    → HasCome limits bytes left done added → Goes progress.Full limits added done start taken text notes caller turn moment → taken' ≡ taken ++ text
-    → HasStopped faults.HistoryFull limits bytes left start taken' notes caller
-piece_full limits bytes left start taken text taken' notes caller turn moment done added come g out =
-    failed_stops faults.HistoryFull limits bytes left start taken text taken' notes caller (done ++ g.added) g.back
-    (come_read limits bytes left done added g.front g.back g.added come g.split g.own g.asked) g.state out
+  -- all requests before the one that ends the script were answered
+  abbrev piece_runs : {taken' : List ℕ} → Goes progress.Ended limits added done start taken text notes caller turn moment → taken' ≡ taken ++ text
+      → HasRun limits (came ++ left) start taken' notes caller
+  piece_runs {taken' = taken'} g out =
+      let whole = stream_reads limits (came ++ left) in
+      let on = reading_on limits came left come.after.rest whole.1 (come.requests ++ added) whole.0 come.after.spelt whole.2 in
+      let cut_at = on.1 ∙ append_assoc come.requests added on.0 ∙ ap (λ (t : List Request). come.requests ++ (t ++ on.0)) g.split
+      ∙ ap (λ (t : List Request). come.requests ++ t) (append_assoc g.front g.back on.0) in
+      record {
+        requests = whole.0;
+        rest = whole.1;
+        answered = done ++ g.added;
+        reads = whole.2;
+        asked = requests_of-append done g.added ∙ ap (λ (t : List Request). t ++ requests_of g.added) come.asked ∙ ap (λ (t : List Request). come.requests ++ t) (g.asked ∙ sym (append-nil g.front))
+            ∙ ap (λ (t : List Request). come.requests ++ (g.front ++ t)) (sym (own_requests-ends g.back on.0 g.state.0))
+            ∙ ap (λ (t : List Request). come.requests ++ t) (sym (own_requests-append g.front (g.back ++ on.0) g.own))
+            ∙ sym (own_requests-append come.requests (g.front ++ (g.back ++ on.0)) come.own) ∙ ap own_requests (sym cut_at);
+        whole = g.state.1.whole;
+        texts = now_printed g.state.1.printed start taken text taken' (texts_of (done ++ g.added)) g.state.1.took g.state.1.texts out;
+        calls = g.state.1.notes_all;
+      }
 
--- the sink failed behind a piece
-pub piece_breaks : (p : Progress) (limits : Limits) (bytes left start taken text taken' : List ℕ) (notes : Notes) (caller turn moment : ℕ) (done : List Answered) (added : List Request)
-    → HasCome limits bytes left done added → Goes p limits added done start taken text notes caller turn moment → (p ≡ progress.Output → ⊥)
-    → IsBeginning taken taken' text → HasBroken limits bytes left start taken' notes caller
-piece_breaks progress.More limits bytes left start taken text taken' notes caller turn moment done added come g not by =
-    answered_breaks limits bytes left start taken text taken' notes caller turn moment (done ++ g.added) g.back (come_read limits bytes left done added g.front g.back g.added come g.split g.own g.asked) g.state.1 by
-piece_breaks progress.Ended limits bytes left start taken text taken' notes caller turn moment done added come g not by =
-    answered_breaks limits bytes left start taken text taken' notes caller turn moment (done ++ g.added) g.back (come_read limits bytes left done added g.front g.back g.added come g.split g.own g.asked) g.state.1 by
-piece_breaks progress.Memory limits bytes left start taken text taken' notes caller turn moment done added come g not by =
-    failed_breaks faults.NoMemory limits bytes left start taken text taken' notes caller (done ++ g.added) g.back (come_read limits bytes left done added g.front g.back g.added come g.split g.own g.asked) g.state by
-piece_breaks progress.Full limits bytes left start taken text taken' notes caller turn moment done added come g not by =
-    failed_breaks faults.HistoryFull limits bytes left start taken text taken' notes caller (done ++ g.added) g.back (come_read limits bytes left done added g.front g.back g.added come g.split g.own g.asked) g.state by
-piece_breaks progress.Output limits bytes left start taken text taken' notes caller turn moment done added come g not by = absurd (not refl)
+  -- the script ended in the piece
+  pub piece_ended : {taken' : List ℕ} → Goes progress.Ended limits added done start taken text notes caller turn moment → taken' ≡ taken ++ text
+      → HasEnded limits (came ++ left) left start taken' notes caller
+  piece_ended g out = record { run = piece_runs g out; read = read_ended limits (came ++ left) left (done ++ g.added) g.back (come_read g) g.state.0 }
+
+  -- the sink failed within the piece
+  pub piece_torn : Goes progress.Output limits added done start taken text notes caller turn moment → HasBroken limits (came ++ left) left start taken notes caller
+  piece_torn g = record {
+    answered = done ++ g.added;
+    back = own_requests g.back;
+    read = come_read g;
+    whole = g.state.whole;
+    texts = g.state.texts;
+    calls = cut_none limits (own_requests g.back) (done ++ g.added) notes caller g.state.notes_all;
+  }
+
+  -- a request failed for want of memory
+  pub piece_memory : {taken' : List ℕ} → Goes progress.Memory limits added done start taken text notes caller turn moment → taken' ≡ taken ++ text
+      → HasStopped faults.NoMemory limits (came ++ left) left start taken' notes caller
+  piece_memory g out = failed_stops faults.NoMemory limits (came ++ left) left start taken text _ notes caller (done ++ g.added) g.back (come_read g) g.state out
+
+  -- or since the history is full
+  pub piece_full : {taken' : List ℕ} → Goes progress.Full limits added done start taken text notes caller turn moment → taken' ≡ taken ++ text
+      → HasStopped faults.HistoryFull limits (came ++ left) left start taken' notes caller
+  piece_full g out = failed_stops faults.HistoryFull limits (came ++ left) left start taken text _ notes caller (done ++ g.added) g.back (come_read g) g.state out
+
+  -- the sink failed behind the piece
+  pub piece_breaks : {taken' : List ℕ} (p : Progress) → Goes p limits added done start taken text notes caller turn moment → (p ≡ progress.Output → ⊥)
+      → IsBeginning taken taken' text → HasBroken limits (came ++ left) left start taken' notes caller
+  piece_breaks progress.More g not by = answered_breaks limits (came ++ left) left start taken text _ notes caller turn moment (done ++ g.added) g.back (come_read g) g.state.1 by
+  piece_breaks progress.Ended g not by = answered_breaks limits (came ++ left) left start taken text _ notes caller turn moment (done ++ g.added) g.back (come_read g) g.state.1 by
+  piece_breaks progress.Memory g not by = failed_breaks faults.NoMemory limits (came ++ left) left start taken text _ notes caller (done ++ g.added) g.back (come_read g) g.state by
+  piece_breaks progress.Full g not by = failed_breaks faults.HistoryFull limits (came ++ left) left start taken text _ notes caller (done ++ g.added) g.back (come_read g) g.state by
+  piece_breaks progress.Output g not by = absurd (not refl)

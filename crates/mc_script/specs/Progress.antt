@@ -78,24 +78,20 @@ pub record Went (limits : Limits) (yielded : List Request) (before : List Answer
   pub asked : requests_of added ≡ yielded
   pub state : HasAnswered limits (before ++ added) start taken text notes caller turn moment
 
--- a run between two pieces of its input: all requests read so far were answered, and none of them ends the script
-pub record IsOnWay (limits : Limits) (state : State) (unread bytes left start taken text : List ℕ) (notes : Notes) (caller turn moment : ℕ) : Type 0 where
-  pub came : List ℕ
+-- a run between two pieces of its input: all requests in the bytes that came were answered, and none of them ends the script
+pub record IsOnWay (limits : Limits) (state : State) (unread came start taken text : List ℕ) (notes : Notes) (caller turn moment : ℕ) : Type 0 where
   pub requests : List Request
   pub done : List Answered
-  pub split : bytes ≡ came ++ left
   pub after : After limits state unread came requests
   pub own : NoneEnds requests
   pub asked : requests_of done ≡ requests
   pub state_of : HasAnswered limits done start taken text notes caller turn moment
 
--- a run read one more piece: `done` was answered before, and `added` are the requests that the piece completes
-pub record HasCome (limits : Limits) (bytes left : List ℕ) (done : List Answered) (added : List Request) : Type 0 where
-  pub came : List ℕ
+-- one more piece came: `done` was answered before, and `added` are the requests that the piece completes
+pub record HasCome (limits : Limits) (came : List ℕ) (done : List Answered) (added : List Request) : Type 0 where
   pub requests : List Request
   pub state : State
   pub unread : List ℕ
-  pub split : bytes ≡ came ++ left
   pub after : After limits state unread came (requests ++ added)
   pub own : NoneEnds requests
   pub asked : requests_of done ≡ requests

@@ -39,9 +39,7 @@ pub record HasRead (limits : Limits) (bytes left : List ℕ) (own : List Request
   pub own_are : own_requests requests ≡ own
 
 -- all requests in the bytes that came were answered, the sink took their texts, and none of them ends the script
-pub record IsOut (limits : Limits) (bytes left start taken : List ℕ) : Type 0 where
-  pub came : List ℕ
-  pub split : bytes ≡ came ++ left
+pub record IsOut (limits : Limits) (came start taken : List ℕ) : Type 0 where
   pub requests : List Request
   pub rest : List ℕ
   pub reads : Reads limits came requests rest
@@ -50,6 +48,13 @@ pub record IsOut (limits : Limits) (bytes left start taken : List ℕ) : Type 0 
   pub asked : requests_of answered ≡ requests
   pub whole : AreWhole limits answered
   pub texts : taken ≡ start ++ texts_of answered
+
+module _ {E : Type 0} (gave : E → E → List ℕ → Type 0) (taken : E → List ℕ) (reads writes over : E → ℕ) (may_ask : E → Type 0) where
+  -- a script may run from these ends: the next bytes may be asked for as long as all requests in the bytes that came are answered,
+  -- nothing has failed and the end wasn't reached
+  abbrev pub MayRunFrom : Limits → E → Type 0
+  MayRunFrom limits start = (e : E) (came : List ℕ) → gave start e came → IsOut limits came (taken start) (taken e)
+      → reads e ≡ reads start → writes e ≡ writes start → over e ≡ over start → may_ask e
 
 -- the source gave all its bytes but those left, all requests in what it gave were answered, and none of them ends the script
 pub record HasRunTo (limits : Limits) (bytes left start taken : List ℕ) (notes : Notes) (caller : ℕ) : Type 0 where
@@ -106,6 +111,14 @@ Leaves Memory limits bytes left start taken notes caller =
     HasStopped faults.NoMemory limits bytes left start taken notes caller ⊎ HasStarved limits bytes left start taken notes caller
 Leaves HistoryFull limits bytes left start taken notes caller = HasStopped faults.HistoryFull limits bytes left start taken notes caller
 Leaves Output limits bytes left start taken notes caller = HasBroken limits bytes left start taken notes caller
+
+module _ {E : Type 0} (gave : E → E → List ℕ → Type 0) (ended : E → Type 0) (taken : E → List ℕ) where
+  -- what holds after a script with this outcome: some bytes came, and whatever bytes are still left, what was printed and which
+  -- calls were made is as the outcome says; no bytes are left if the end was reached
+  pub record HasLeft (outcome : Outcome) (limits : Limits) (before after : E) (notes : Notes) (caller : ℕ) : Type 0 where
+    pub came : List ℕ
+    pub since : gave before after came
+    pub leaves : (left : List ℕ) → (ended after → left ≡ []) → Leaves outcome limits (came ++ left) left (taken before) (taken after) notes caller
 
 -- the source counted failures if the outcome is `Input`, the sink if it is `Output`, and no other failure was counted
 abbrev pub AreCounted : Outcome → ℕ → ℕ → ℕ → ℕ → Type 0

@@ -12,7 +12,7 @@ mod source;
 mod upkeep;
 
 pub use calls::Calls;
-pub use ends::{Both, Ends};
+pub use ends::Ends;
 pub use outcome::Outcome;
 pub use scripting::run_script;
 pub use source::{Source, SourceFault};

@@ -1,16 +1,16 @@
 //! Runs a script: answers its requests as they come, and prints their texts.
-ghost use Rattle.std.specs.Prelude.{◌≡◌, ◌≤◌, ◌<◌, ◌++◌, ◌^◌, List, ℕ, [], None, Some, OnErr, OnOk, true, false, length};
-ghost use Rattle.mc_proto.specs.Text.{IsBeginning};
+ghost use Rattle.std.specs.Prelude.{◌≡◌, ◌≤◌, ◌<◌, ◌++◌, ◌^◌, All, List, ℕ, [], None, Some, IfOk, OnErr, OnOk, true, false, length};
+ghost use Rattle.mc_proto.specs.{Grammar.IsModerate, Reader.After, Text.IsBeginning};
 ghost use Rattle.mc_script.specs.Progress.{AreModerate, AreWritten, Goes, HasAnswered, HasCome, LeavesPiece};
-ghost use Rattle.mc_script.specs.{Run.AreCounted, Run.AreCountedSoFar, Run.IsOut, Run.Leaves, Script.AllThere, Script.Answered, Script.ends};
-ghost use Rattle.mc_proto.specs.declared.request.Limits.{Limits};
+ghost use Rattle.mc_script.specs.{Run.AreCounted, Run.AreCountedSoFar, Run.HasLeft, Run.MayRunFrom, Script.AllThere, Script.Answered, Script.ends};
+ghost use Rattle.mc_proto.specs.declared.{request.Limits.Limits, request.Request.Request};
 ghost use Rattle.mc_script.specs.declared.outcome.Outcome.TheVariants as outcomes;
 
 use crate::answering::answer_request;
 use crate::calls::Calls;
 use crate::ends::Ends;
 use crate::outcome::Outcome;
-use mc_item::Fault;
+use mc_item::{Fault, NoMemory};
 use mc_proto::{Limits, Reader, ReplyText, Request, SinkFault};
 use std::alloc::Global;
 use std::sync::Wait;
@@ -49,7 +49,7 @@ fn ends_script(request: &Request) -> bool
 fn print_text<E: Ends>(ends: &mut E, text: &mut ReplyText) -> Result<(), SinkFault>
     ensures ok { OnOk result ((E.taken ends.new ≡ E.taken ends.old ++ text.old.items) × (text.new.items ≡ []) × (E.writes ends.new ≡ E.writes ends.old)) }
     ensures err { OnErr result ((E.writes ends.old < E.writes ends.new) × IsBeginning (E.taken ends.old) (E.taken ends.new) text.old.items) }
-    ensures coming { E.coming ends.new ≡ E.coming ends.old }
+    ensures gave { E.gave ends.old ends.new [] }
     ensures reads { E.reads ends.new ≡ E.reads ends.old }
     ensures over { E.over ends.new ≡ E.over ends.old }
 {
@@ -64,7 +64,7 @@ fn print_much<E: Ends>(ends: &mut E, text: &mut ReplyText) -> Result<(), SinkFau
     ensures ok { OnOk result ((more : List ℕ) × (E.taken ends.new ≡ E.taken ends.old ++ more) × (text.old.items ≡ more ++ text.new.items)) }
     ensures fine { OnOk result (E.writes ends.new ≡ E.writes ends.old) }
     ensures err { OnErr result ((E.writes ends.old < E.writes ends.new) × IsBeginning (E.taken ends.old) (E.taken ends.new) text.old.items) }
-    ensures coming { E.coming ends.new ≡ E.coming ends.old }
+    ensures gave { E.gave ends.old ends.new [] }
     ensures reads { E.reads ends.new ≡ E.reads ends.old }
     ensures over { E.over ends.new ≡ E.over ends.old }
 {
@@ -99,7 +99,7 @@ fn answer_all<E: Ends, C: Calls>(
         moment.new }
     ensures full { result ≡ Progress.Full → C.is_full calls.new }
     ensures written { AreWritten result (E.writes ends.old) (E.writes ends.new) }
-    ensures coming { E.coming ends.new ≡ E.coming ends.old }
+    ensures gave { E.gave ends.old ends.new [] }
     ensures reads { E.reads ends.new ≡ E.reads ends.old }
     ensures over { E.over ends.new ≡ E.over ends.old }
 {
@@ -146,13 +146,13 @@ fn answer_piece<E: Ends, C: Calls>(
     ensures early { moment.new ≤ 2 ^ 62 }
     ensures place { C.place calls.new ≡ C.place calls.old }
     ensures caller { C.caller calls.new ≡ C.caller calls.old }
-    ensures leaves { (bytes start : List ℕ) (done : List Answered) → HasCome limits bytes (E.coming ends.old) done requests.items
+    ensures leaves { (came left start : List ℕ) (done : List Answered) → HasCome limits came done requests.items
         → HasAnswered limits done start (E.taken ends.old) text.old.items (C.notes calls.old) (C.caller calls.old) (C.turn calls.old) moment.old
-        → LeavesPiece result limits bytes (E.coming ends.old) start (E.taken ends.new) text.new.items (C.notes calls.new) (C.caller calls.old)
+        → LeavesPiece result limits (came ++ left) left start (E.taken ends.new) text.new.items (C.notes calls.new) (C.caller calls.old)
         (C.turn calls.new) moment.new done requests.items }
     ensures full { result ≡ Some outcomes.HistoryFull → C.is_full calls.new }
     ensures counted { AreCountedSoFar result (E.reads ends.old) (E.reads ends.new) (E.writes ends.old) (E.writes ends.new) }
-    ensures coming { E.coming ends.new ≡ E.coming ends.old }
+    ensures gave { E.gave ends.old ends.new [] }
     ensures over { E.over ends.new ≡ E.over ends.old }
 {
     let progress = answer_all(rt, limits, calls, ends, text, requests, moment);
@@ -169,6 +169,20 @@ fn answer_piece<E: Ends, C: Calls>(
         Progress::Memory => Some(Outcome::Memory),
         Progress::Full => Some(Outcome::HistoryFull),
         Progress::Output => Some(Outcome::Output),
+    }
+}
+
+// Reads the requests that a piece completes. If pieces aren't kept, it copies their values.
+fn read_piece(reader: &mut Reader, piece: Vec<u8>, keeps: bool) -> Result<Vec<Request>, NoMemory>
+    ensures limits { reader.new.limits ≡ reader.old.limits }
+    ensures reads { IfOk result (λ v. (stream : List ℕ) (requests : List Request) → After reader.old.limits reader.old.state reader.old.unread stream requests
+        → After reader.new.limits reader.new.state reader.new.unread (stream ++ piece.items) (requests ++ v.items)) }
+    ensures moderate { IfOk result (λ v. All (IsModerate reader.old.limits) v.items) }
+{
+    if keeps {
+        reader.take(piece)
+    } else {
+        reader.feed(piece.as_slice())
     }
 }
 
@@ -189,10 +203,8 @@ pub fn run_script<E: Ends, C: Calls>(
     requires first { C.turn calls.old ≡ 0 }
     requires none { C.notes calls.old [] None }
     requires classes { AllThere (C.has_class (C.place calls.old)) limits }
-    requires asks { (e : E) → IsOut limits (E.coming ends.old) (E.coming e) (E.taken ends.old) (E.taken e)
-        → E.reads e ≡ E.reads ends.old → E.writes e ≡ E.writes ends.old → E.over e ≡ E.over ends.old → E.may_ask e }
-    ensures leaves { Leaves result limits (E.coming ends.old) (E.coming ends.new) (E.taken ends.old) (E.taken ends.new) (C.notes calls.new)
-        (C.caller calls.old) }
+    requires asks { MayRunFrom E.gave E.taken E.reads E.writes E.over E.may_ask limits ends.old }
+    ensures leaves { HasLeft E.gave E.ended E.taken result limits ends.old ends.new (C.notes calls.new) (C.caller calls.old) }
     ensures counted { AreCounted result (E.reads ends.old) (E.reads ends.new) (E.writes ends.old) (E.writes ends.new) }
     ensures place { C.place calls.new ≡ C.place calls.old }
     ensures caller { C.caller calls.new ≡ C.caller calls.old }
@@ -208,7 +220,7 @@ pub fn run_script<E: Ends, C: Calls>(
             Ok(None) => return Outcome::Done,
             Err(fault) => return Outcome::from(fault),
         };
-        let requests = match reader.take(piece) {
+        let requests = match read_piece(&mut reader, piece, ends.keeps_pieces()) {
             Ok(requests) => requests,
             Err(_) => return Outcome::Memory,
         };

@@ -3,6 +3,7 @@ mod asking;
 mod at_once;
 mod beginnings;
 mod classes;
+mod conversations;
 mod crawls;
 mod drawing;
 mod drawn;

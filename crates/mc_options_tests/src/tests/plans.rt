@@ -5,8 +5,15 @@ use mc_options::{Options, Plan, PlanFault, WordsFault, plan_for, read_words};
 use std::alloc::Global;
 use std::process::Abort;
 
-// The options of stripes, chunks, TEMP, its life in seconds, and events.
-type Given = (Option<u32>, Option<u64>, bool, Option<u64>, Option<u64>);
+// The options of stripes, chunks, TEMP, its life in seconds, events, and whether the input is followed.
+type Given = (
+    Option<u32>,
+    Option<u64>,
+    bool,
+    Option<u64>,
+    Option<u64>,
+    bool,
+);
 
 // The text of sizes, the other options, the words, and the plan or its fault.
 type Row = (
@@ -16,7 +23,7 @@ type Row = (
     &'static str,
 );
 
-pub(crate) const NONE: Given = (None, None, false, None, None);
+pub(crate) const NONE: Given = (None, None, false, None, None, false);
 
 const USUAL: [u64; 43] = [
     96, 120, 152, 192, 240, 304, 384, 480, 600, 752, 944, 1184, 1480, 1856, 2320, 2904, 3632, 4544,
@@ -27,7 +34,7 @@ const USUAL: [u64; 43] = [
 // What no option of a row changes: callers, percents, factors and upkeep.
 const USUAL_REST: &str = ", 3 callers, 20 40 percent, 20 200 factors, upkeep []";
 
-static WANTED: [Row; 20] = [
+static WANTED: [Row; 24] = [
     (
         None,
         NONE,
@@ -36,7 +43,7 @@ static WANTED: [Row; 20] = [
     ),
     (
         Some(b"96,1024"),
-        (None, None, false, None, Some(20)),
+        (None, None, false, None, Some(20), false),
         &["mcseg", "--events", "20", "--sizes", "96,1024"],
         "1 stripes, sizes [96, 1024], 2 of 1024 chunks, no temp 61, 20 events let go",
     ),
@@ -48,13 +55,13 @@ static WANTED: [Row; 20] = [
     ),
     (
         None,
-        (None, None, false, None, Some(16)),
+        (None, None, false, None, Some(16), false),
         &["mcseg", "--events", "+16"],
         "1 stripes, sizes usual, 43 of 1024 chunks, no temp 61, 16 events let go",
     ),
     (
         Some(b"96,1024,2048"),
-        (None, Some(3), true, Some(2_592_000), None),
+        (None, Some(3), true, Some(2_592_000), None, false),
         &[
             "mcseg",
             "--temp",
@@ -69,105 +76,143 @@ static WANTED: [Row; 20] = [
     ),
     (
         None,
-        (None, Some(1_048_576), false, Some(1), None),
+        (None, Some(1_048_576), false, Some(1), None, false),
         &["mcseg", "--chunks=+1048576", "--temp-ttl=1"],
         "1 stripes, sizes usual, 43 of 1048576 chunks, no temp 1, 1048576 events let go",
     ),
     (
         None,
-        (None, None, true, None, None),
+        (None, None, true, None, None, false),
         &["mcseg", "--temp"],
         "1 stripes, sizes usual, 43 of 1024 chunks, temp 61, 1048576 events let go",
     ),
     (
         Some(b"96,"),
-        (None, None, false, None, Some(15)),
+        (None, None, false, None, Some(15), false),
         &["mcseg", "--sizes", "96,", "--events", "15"],
         "List",
     ),
     (
         Some(b"96,80"),
-        (None, None, false, None, Some(15)),
+        (None, None, false, None, Some(15), false),
         &["mcseg", "--sizes", "96,80", "--events", "15"],
         "Configuration(2)",
     ),
     (
         Some(b"96"),
-        (None, None, false, None, Some(15)),
+        (None, None, false, None, Some(15), false),
         &["mcseg", "--sizes", "96", "--events", "15"],
         "Configuration(7)",
     ),
     (
         None,
-        (None, None, false, None, Some(4_294_967_297)),
+        (None, None, false, None, Some(4_294_967_297), false),
         &["mcseg", "--events", "4294967297"],
         "Configuration(7)",
     ),
     (
         None,
-        (None, Some(0), false, Some(0), None),
+        (None, Some(0), false, Some(0), None, false),
         &["mcseg", "--chunks", "0", "--temp-ttl", "0"],
         "Configuration(3)",
     ),
     (
         None,
-        (None, Some(1_048_577), false, None, None),
+        (None, Some(1_048_577), false, None, None, false),
         &["mcseg", "--chunks", "1048577"],
         "Configuration(3)",
     ),
     (
         None,
-        (None, None, true, Some(0), Some(15)),
+        (None, None, true, Some(0), Some(15), false),
         &["mcseg", "--temp-ttl", "0", "--temp", "--events", "15"],
         "Configuration(5)",
     ),
     (
         None,
-        (None, None, false, Some(2_592_001), None),
+        (None, None, false, Some(2_592_001), None, false),
         &["mcseg", "--temp-ttl", "2592001"],
         "Configuration(5)",
     ),
     (
         None,
-        (Some(4), None, false, None, Some(20)),
+        (Some(4), None, false, None, Some(20), false),
         &["mcseg", "--stripes", "4", "--events", "20"],
         "4 stripes, sizes usual, 43 of 1024 chunks, no temp 61, 20 events let go",
     ),
     (
         None,
-        (Some(64), None, false, None, None),
+        (Some(64), None, false, None, None, false),
         &["mcseg", "--stripes=+64"],
         "64 stripes, sizes usual, 43 of 1024 chunks, no temp 61, 1048576 events let go",
     ),
     (
         Some(b"96,80"),
-        (Some(3), None, false, None, None),
+        (Some(3), None, false, None, None, false),
         &["mcseg", "--sizes", "96,80", "--stripes", "3"],
         "Configuration(1)",
     ),
     (
         None,
-        (Some(0), None, false, None, None),
+        (Some(0), None, false, None, None, false),
         &["mcseg", "--stripes=-0"],
         "Configuration(1)",
     ),
     (
         None,
-        (Some(4_294_967_295), None, false, None, None),
+        (Some(4_294_967_295), None, false, None, None, false),
         &["mcseg", "--stripes", "4294967295"],
         "Configuration(1)",
+    ),
+    (
+        None,
+        (None, None, false, None, None, true),
+        &["mcseg", "--follow"],
+        "1 stripes, sizes usual, 43 of 1024 chunks, no temp 61, 1048576 events let go, followed",
+    ),
+    (
+        Some(b"96"),
+        (Some(2), Some(3), true, Some(1), Some(20), true),
+        &[
+            "mcseg",
+            "--stripes",
+            "2",
+            "--follow",
+            "--chunks",
+            "3",
+            "--temp",
+            "--temp-ttl",
+            "1",
+            "--events",
+            "20",
+            "--sizes=96",
+        ],
+        "2 stripes, sizes [96], 1 of 3 chunks, temp 1, 20 events let go, followed",
+    ),
+    (
+        Some(b"96,"),
+        (None, None, false, None, None, true),
+        &["mcseg", "--sizes", "96,", "--follow"],
+        "List",
+    ),
+    (
+        None,
+        (None, None, false, None, Some(15), true),
+        &["mcseg", "--follow", "--events", "15"],
+        "Configuration(7)",
     ),
 ];
 
 // The options that are given.
 pub(super) fn options_of(given: Given) -> Options {
-    let (stripes, chunks, temp, temp_ttl, events) = given;
+    let (stripes, chunks, temp, temp_ttl, events, follow) = given;
     Options {
         stripes,
         chunks,
         temp,
         temp_ttl,
         events,
+        follow,
     }
 }
 
@@ -219,6 +264,10 @@ fn text_of_kept(kept: bool) -> &'static str {
     if kept { "kept" } else { "let go" }
 }
 
+fn text_of_followed(follow: bool) -> &'static str {
+    if follow { ", followed" } else { "" }
+}
+
 // What a plan has.
 fn text_of_plan(rt: &impl Abort, alloc: Global, plan: &Plan) -> String {
     let config = &plan.config;
@@ -228,8 +277,9 @@ fn text_of_plan(rt: &impl Abort, alloc: Global, plan: &Plan) -> String {
     let rest = text_of_rest(rt, alloc, plan);
     let (stripes, life, events) = (config.stripes, config.temp_ttl, config.max_events);
     let kept = text_of_kept(config.keeps_events);
+    let followed = text_of_followed(plan.follow);
     format!(in alloc;
-        "{stripes} stripes, sizes {sizes}, {chunks} chunks, {temp} {life}, {events} events {kept}{rest}"
+        "{stripes} stripes, sizes {sizes}, {chunks} chunks, {temp} {life}, {events} events {kept}{rest}{followed}"
     ).expect(rt, "memory")
 }
 
@@ -299,7 +349,7 @@ fn options_and_words_ask_for_one_plan(rt: HostRuntime) {
     check_rows(&rt, rt.alloc(), WANTED.as_slice());
 }
 
-static REFUSED: [&[&str]; 11] = [
+static REFUSED: [&[&str]; 15] = [
     &["mcseg", "--color"],
     &["mcseg", "--version"],
     &["mcseg", "--events", "18446744073709551616"],
@@ -309,6 +359,10 @@ static REFUSED: [&[&str]; 11] = [
     &["mcseg", "--temp-ttl", "x"],
     &["mcseg", "--temp=yes"],
     &["mcseg", "--temp", "--temp"],
+    &["mcseg", "--follow=1"],
+    &["mcseg", "--follow=true"],
+    &["mcseg", "--follow", "1"],
+    &["mcseg", "--follow", "--follow"],
     &["mcseg", "--upkeep"],
     &["mcseg", "--upkeep", "1", "--upkeep", "1"],
 ];

@@ -3,7 +3,7 @@ ghost use Rattle.std.specs.Prelude.{◌≡◌, ◌+◌, ◌<◌, IfOk, OnErr, On
 
 use mc_item::{ClassNo, Command, Fault, Histogram, Moves, Reply};
 use mc_proto::{Limits, ReplyText, Sink, SinkFault};
-use mc_script::{Both, Calls, Outcome, Source, SourceFault, run_script};
+use mc_script::{Calls, Outcome, Source, SourceFault, run_script};
 use std::alloc::Global;
 use std::mem;
 use std::process::Abort;
@@ -160,20 +160,19 @@ pub(super) fn run_noted<R: Abort + Wait>(rt: &R, alloc: Global, script: Vec<u8>,
         most,
         upkeep: Vec::new(alloc),
     };
-    let mut ends = Both {
-        source: Whole {
-            alloc,
-            bytes: script,
-        },
-        sink: Kept {
-            rt,
-            bytes: Vec::new(alloc),
-        },
+    let source = Whole {
+        alloc,
+        bytes: script,
     };
+    let sink = Kept {
+        rt,
+        bytes: Vec::new(alloc),
+    };
+    let mut ends = (source, sink);
     let outcome = run_script(rt, alloc, LIMITS, &mut calls, &mut ends);
     Ran {
         outcome,
-        text: ends.sink.bytes,
+        text: ends.1.bytes,
         made: calls.made,
         upkeep: calls.upkeep,
     }

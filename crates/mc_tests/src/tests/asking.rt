@@ -1,5 +1,5 @@
 //! A source that sees its sink: each piece is asked for only when the replies to all that came are out.
-ghost use Rattle.std.specs.Prelude.{◌≡◌};
+ghost use Rattle.std.specs.Prelude.{◌≡◌, ◌++◌, ℕ, List, []};
 
 use super::supplies::{Pieces, Slow};
 use mc_driver::Outcome;
@@ -30,10 +30,13 @@ struct Watched<'a, R: Abort> {
 
 impl<R: Abort> Ends for Watched<'_, R> {
     ghost use Rattle.std.specs.Prelude.{if◌then◌else◌};
+    ghost use Rattle.std.proofs.Common.{refl, ◌∙◌, ap, sym, append_assoc};
     ghost use Rattle.mc_tests.specs.Asking.{MayAsk};
     ghost use Rattle.mc_tests.specs.declared.tests.asking.TheConstants.{LIMITS, SCRIPT};
 
-    ghost coming = { λ e. e.source.rest.now };
+    ghost gave = { λ first second came. first.source.rest.now ≡ came ++ second.source.rest.now };
+
+    ghost ended = { λ e. e.source.rest.now ≡ [] };
 
     ghost taken = { λ e. e.sink.little.bytes.items };
 
@@ -55,9 +58,18 @@ impl<R: Abort> Ends for Watched<'_, R> {
         Ok(piece)
     }
 
+    fn keeps_pieces(&self) -> bool {
+        true
+    }
+
     fn put_whole(&mut self, text: &mut ReplyText) -> Result<(), SinkFault> {
         self.sink.put_whole(text)
     }
+
+    ghost stays = { λ e. refl };
+
+    ghost goes_on = { λ first second third came more one two. one ∙ ap (λ (rest : List ℕ). came ++ rest) two
+        ∙ sym (append_assoc came more third.source.rest.now) };
 }
 
 // Calls that all miss, up to a number of them.

@@ -86,7 +86,7 @@ pub(super) fn run_of<
     S: Source + Send,
     K: Sink + Send,
     R: Abort + RandomSource + Threads + Wait + Sync,
->(rt: &R, alloc: Global, config: Config, scripts: Vec<(S, K)>, upkeep: &[u64]) -> Run<S, K>
+>(rt: &R, alloc: Global, config: Config, scripts: Vec<(S, K)>, upkeep: &[u64]) -> Run<(S, K)>
     requires early { All (λ moment. moment ≤ 2 ^ 62) upkeep.now }
     ensures stripes { length result.ledger.stripes ≡ config.stripes }
     ensures classes { length result.ledger.classes ≡ length config.sizes }

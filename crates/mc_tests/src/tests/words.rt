@@ -198,7 +198,7 @@ fn words_that_are_no_options_are_refused(rt: HostRuntime) {
 }
 
 // What a person has to find in the help: each line on standard error, each number, each limit.
-static HELP: [&str; 35] = [
+static HELP: [&str; 36] = [
     "%juggle <class>",
     "%crawl <class>",
     "%chunks <class> <n>",
@@ -215,6 +215,7 @@ static HELP: [&str; 35] = [
     "--events",
     "--upkeep",
     "at most 1,000, each",
+    "--follow ",
     "--version",
     "mcseg: out of memory\n",
     "mcseg: history full",

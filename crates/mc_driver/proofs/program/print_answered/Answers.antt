@@ -1,4 +1,4 @@
-use Rattle.std.proofs.Common.{◌≡◌, subst, arith}
+use Rattle.std.proofs.Common.{◌≡◌, false, subst, arith}
 use Rattle.std.specs.{List.All, List.flat_map, Io.KnownBytes.Appends}
 use Rattle.mc_script.specs.declared.outcome.Outcome.TheVariants.{Done}
 use Rattle.mc_proto.specs.Gathered.{bytes_of_parts}
@@ -16,11 +16,11 @@ returns-clause-done g c = λ zero. subst (All (λ outcome. outcome ≡ Done)) c.
 
 pub returns-clause-first : goal.returns-clause-first
 returns-clause-first g c = λ one.
-    subst (λ status. IsFirstFault status c.args.run.now.outcomes.items) one
-    (subst (IsFirstFault c.say_outcomes.result) c.as_slice-2.ensures.value (c.say_outcomes.ensures.first (omega (arith, one))))
+    subst (λ status. IsFirstFault false status c.args.run.now.outcomes.items) one
+    (subst (IsFirstFault false c.say_outcomes.result) c.as_slice-2.ensures.value (c.say_outcomes.ensures.first (omega (arith, one))))
 
 pub returns-clause-never : goal.returns-clause-never
-returns-clause-never g c = λ two. told_not_two _ _ c.say_outcomes.ensures.first two
+returns-clause-never g c = λ two. told_not_two false _ _ c.say_outcomes.ensures.first two
 
 pub returns-clause-few : goal.returns-clause-few
-returns-clause-few g c = told_small _ _ c.say_outcomes.ensures.first
+returns-clause-few g c = told_small false _ _ c.say_outcomes.ensures.first

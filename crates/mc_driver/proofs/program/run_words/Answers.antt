@@ -1,10 +1,11 @@
-use Rattle.std.proofs.Common.{◌≡◌, ◌≢◌, Err, ap, inl, subst, sym, arith}
+use Rattle.std.proofs.Common.{◌≡◌, ◌≢◌, ◌∙◌, Err, false, ap, inl, subst, sym, arith}
 use Rattle.std.proofs.KnownBytes.{Keeps-refl}
 use Rattle.clap.specs.Walk.{texts}
 use Rattle.clap.specs.Words.{kind_of}
 use Rattle.clap.specs.declared.error.kind.ErrorKind.TheVariants.{DisplayHelp, DisplayVersion, OutOfMemory}
 use Rattle.std.specs.List.{flat_map}
 use Rattle.mc_options.proofs.PlanLemmas.{moments_early}
+use Rattle.mc_options.specs.Asked.{asked as config_asked}
 use Rattle.mc_driver.specs.Input.{IsInputAnswered}
 use Rattle.mc_driver.proofs.StatusLemmas.{mistaken}
 use Rattle.mc_driver.proofs.program.run_words.Goals as goal
@@ -14,6 +15,9 @@ run_input-requires-clause-sound g c = λ lifetimes met. c.in-Ok.ensures.config
 
 pub run_input-requires-clause-early : goal.run_input-requires-clause-early
 run_input-requires-clause-early g c = λ lifetimes met. moments_early _ c.in-Ok.plan.upkeep c.in-Ok.ensures.asked.2.moments
+
+pub run_conversation-requires-clause-early : goal.run_conversation-requires-clause-early
+run_conversation-requires-clause-early g c = λ lifetimes met. moments_early _ c.in-Ok.plan.upkeep c.in-Ok.ensures.asked.2.moments
 
 pub returns-clause-done : goal.returns-clause-done
 returns-clause-done g c = λ zero none.
@@ -25,9 +29,14 @@ returns-clause-done g c = λ zero none.
       moments = c.in-Ok.plan.upkeep;
       options = asked.1;
       are_asked = asked.2;
-      input = input;
-      whole = c.in-Ok-read_pieces.ensures;
-      done = subst (λ config. IsInputAnswered config c.in-Ok.plan.upkeep input (g.W.Write.contents c.args.writer.now) (g.W.Write.contents c.run_input.new.writer)) asked.3 (c.run_input.ensures.done zero);
+      done = record {
+        input = input;
+        whole = c.in-Ok-read_pieces.ensures;
+        done = subst (λ follow. IsInputAnswered follow (config_asked asked.0 asked.1) c.in-Ok.plan.upkeep input (g.W.Write.contents c.args.writer.now)
+            (g.W.Write.contents c.run_input.new.writer)) (sym c.if-plan.false ∙ asked.4)
+            (subst (λ config. IsInputAnswered false config c.in-Ok.plan.upkeep input (g.W.Write.contents c.args.writer.now) (g.W.Write.contents c.run_input.new.writer)) asked.3
+            (c.run_input.ensures.done zero));
+      };
     }
 
 pub returns-in-Err-Words-clause-refused : goal.returns-in-Err-Words-clause-refused

@@ -7,7 +7,8 @@ use Rattle.mc_driver.proofs.program.say_outcomes.Goals as goal
 pub loop-outcome-preserved : goal.loop-outcome-preserved
 loop-outcome-preserved g c =
     let zero : c.say_outcome-status.result ≡ 0 = omega (arith, c.if-status-ne0.false) in
-    below_more _ _ c.loop-outcome.invariant (λ d. get_or_default c.args.outcomes.now c.loop-outcome.outcome-index d Done c.loop-outcome-test.true ∙ done_by_status _ (sym c.say_outcome-status.ensures ∙ zero))
+    below_more _ _ c.loop-outcome.invariant (λ d. get_or_default c.args.outcomes.now c.loop-outcome.outcome-index d Done c.loop-outcome-test.true
+    ∙ done_by_status c.args.follow _ (sym c.say_outcome-status.ensures ∙ zero))
 
 pub returns-clause-done : goal.returns-clause-done
 returns-clause-done g c = λ zero k d below. c.loop-outcome.invariant k (omega (arith, below, c.loop-outcome-test.false)) d

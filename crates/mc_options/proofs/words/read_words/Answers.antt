@@ -69,4 +69,5 @@ returns-clause-asked c =
         given = options;
       },
       got.2,
+      got.5,
     )

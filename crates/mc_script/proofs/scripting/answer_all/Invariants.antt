@@ -1,4 +1,4 @@
-use Rattle.std.proofs.Common.{◌≡◌, ◌≤◌, ◌^◌, List, ℕ}
+use Rattle.std.proofs.Common.{◌≡◌, ◌≤◌, ◌^◌, List, ℕ, []}
 use Rattle.mc_script.specs.{Progress.HasAnswered, Progress.Went, Run.NoneEnds, Script.Answered}
 use Rattle.mc_script.proofs.scripting.answer_all.Given as goal
 
@@ -10,7 +10,7 @@ invariant-loop-request g l = record {
   place : g.C.Calls.place l.calls ≡ g.C.Calls.place l.fn.calls;
   caller : g.C.Calls.caller l.calls ≡ g.C.Calls.caller l.fn.calls;
   writes : g.E.Ends.writes l.ends ≡ g.E.Ends.writes l.fn.ends;
-  coming : g.E.Ends.coming l.ends ≡ g.E.Ends.coming l.fn.ends;
+  gave : g.E.Ends.gave l.fn.ends l.ends [];
   reads : g.E.Ends.reads l.ends ≡ g.E.Ends.reads l.fn.ends;
   over : g.E.Ends.over l.ends ≡ g.E.Ends.over l.fn.ends;
   own : NoneEnds l.yielded;

@@ -1,4 +1,4 @@
-use Rattle.std.proofs.Common.{◌≡◌, ◌≤◌, ◌^◌, []}
+use Rattle.std.proofs.Common.{◌≡◌, ◌≤◌, ◌^◌, List, ℕ, []}
 use Rattle.mc_script.specs.Progress.{IsOnWay}
 use Rattle.mc_script.proofs.scripting.run_script.Given as goal
 
@@ -14,6 +14,8 @@ invariant-loop g l = record {
   over : g.E.Ends.over l.ends ≡ g.E.Ends.over l.fn.ends;
   limits : l.reader.limits ≡ l.fn.limits;
   none : l.text.items ≡ [];
-  way : IsOnWay l.fn.limits l.reader.state l.reader.unread (g.E.Ends.coming l.fn.ends) (g.E.Ends.coming l.ends) (g.E.Ends.taken l.fn.ends)
-      (g.E.Ends.taken l.ends) l.text.items (g.C.Calls.notes l.calls) (g.C.Calls.caller l.fn.calls) (g.C.Calls.turn l.calls) l.moment;
+  came : List ℕ;
+  since : g.E.Ends.gave l.fn.ends l.ends came;
+  way : IsOnWay l.fn.limits l.reader.state l.reader.unread came (g.E.Ends.taken l.fn.ends) (g.E.Ends.taken l.ends) l.text.items
+      (g.C.Calls.notes l.calls) (g.C.Calls.caller l.fn.calls) (g.C.Calls.turn l.calls) l.moment;
 }

@@ -1,8 +1,8 @@
 -- The source may be asked where the run asks.
-use Rattle.std.proofs.Common.{◌≡◌, Bool, true, false, ℕ, List, refl, ap, subst, ◌∙◌}
+use Rattle.std.proofs.Common.{◌≡◌, Bool, true, false, ℕ, List, refl, sym, ap, subst, ◌∙◌}
 use Rattle.std.specs.Prelude.{if◌then◌else◌}
 use Rattle.mc_script.specs.Run.{IsOut}
-use Rattle.mc_tests.specs.declared.tests.asking.TheConstants.{LIMITS, SCRIPT}
+use Rattle.mc_tests.specs.declared.tests.asking.TheConstants.{LIMITS}
 use Rattle.mc_tests.proofs.tests.asking.run_watched.Goals as goal
 
 -- one for what holds
@@ -15,10 +15,10 @@ none_holds true is = cc
 none_holds false is = refl
 
 pub run_script-outcome-requires-clause-asks : goal.run_script-outcome-requires-clause-asks
-run_script-outcome-requires-clause-asks g c = λ e out reads writes over.
-    let bytes = subst (λ (b : List ℕ). IsOut LIMITS b e.source.rest.now c.new-2.result.little.bytes.items e.sink.little.bytes.items) c.new.ensures.bytes out in
-    record {
-      out = subst (λ (t : List ℕ). IsOut LIMITS SCRIPT.now e.source.rest.now t e.sink.little.bytes.items) c.new-2.ensures bytes;
-      fine = none_holds e.source.failed (reads ∙ ap count c.new.ensures.fine);
-      more = none_holds e.ended over;
-    }
+run_script-outcome-requires-clause-asks g c = λ e came gave out reads writes over. record {
+  came = came;
+  split = sym c.new.ensures.bytes ∙ gave;
+  out = subst (λ (t : List ℕ). IsOut LIMITS came t e.sink.little.bytes.items) c.new-2.ensures out;
+  fine = none_holds e.source.failed (reads ∙ ap count c.new.ensures.fine);
+  more = none_holds e.ended over;
+}
