@@ -2,7 +2,6 @@ pub mod Noted
 pub mod Stand
 pub mod Called
 pub mod Caller
-pub mod Links
 pub mod Live
 pub mod Jobs
 pub mod Run

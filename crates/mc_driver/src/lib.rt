@@ -5,7 +5,6 @@ mod caller;
 mod conversing;
 mod cutting;
 mod fault;
-mod ghost_list;
 mod input;
 mod jobs;
 mod live;

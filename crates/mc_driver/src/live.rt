@@ -2,9 +2,9 @@
 ghost use Rattle.std.specs.Prelude.{◌≡◌, [], IfOk, OnErr, OnOk, false};
 ghost use Rattle.std.specs.Io.KnownBytes.{Appends, Consumes, IsAtEnd, Keeps};
 
-use crate::ghost_list::GhostList;
 use crate::printing::print_pieces;
 use crate::reading::read_once;
+use mc_history::GhostList;
 use mc_proto::{Limits, ReplyText, SinkFault};
 use mc_script::{Ends, SourceFault};
 use std::alloc::Global;

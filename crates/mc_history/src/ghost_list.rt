@@ -37,7 +37,7 @@ impl<E> Model for Chain<E> {
 
 /// A list of events, oldest first, that only contracts can see. It has no bytes.
 #[derive(Drop)]
-pub(crate) struct GhostList<E> {
+pub struct GhostList<E> {
     list: Snapshot<Chain<E>>,
 }
 
@@ -52,7 +52,8 @@ impl<E> Model for GhostList<E> {
 const _: () = prove!(size_of::<GhostList<u64>>() == 0);
 
 impl<E> GhostList<E> {
-    pub(crate) fn new() -> GhostList<E>
+    /// Makes the empty list.
+    pub fn new() -> GhostList<E>
         ensures { result ≡ [] }
     {
         let none = Chain { link: Link::First };
@@ -61,8 +62,9 @@ impl<E> GhostList<E> {
         }
     }
 
+    /// Puts an event behind the others, for contracts to see. It is shown, not given.
     #[inline(always)]
-    pub(crate) fn push(&mut self, event: &E)
+    pub fn push(&mut self, event: &E)
         ensures { self.new ≡ self.old ++ event.now ∷ [] }
     {
         let before = mem::replace(self, GhostList::new());

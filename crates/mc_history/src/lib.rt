@@ -6,4 +6,5 @@ mod history;
 mod let_go;
 mod pieces;
 
+pub use ghost_list::GhostList;
 pub use history::{History, Shows};
