@@ -1,16 +1,15 @@
 -- The turns of a caller's history, and the calls that they are for.
 use Rattle.std.proofs.Common.{◌≡◌, ◌⊎◌, ◌<◌, ◌≤◌, ℕ, zero, suc, List, [], ◌∷◌, ◌++◌, Some, Result, Ok, Err, refl, sym, ap, ◌∙◌, subst, inl, inr, ⊎_elim, arith, length, length-append, append-nil, None, map}
-use Rattle.std.specs.Prelude.{IsErrOf, OnErr, OnOk, slice_get}
+use Rattle.std.specs.Prelude.{IfErr, IsErrOf, OnErr, OnOk, slice_get}
 use Rattle.std.proofs.lemmas.List.{length-map}
 use Rattle.mc_item.specs.declared.{call_event.CallEvent.CallEvent, command.Command.Command, config.Config.Config, fault.Fault.Fault, fault.Fault.TheVariants.HistoryFull}
 use Rattle.mc_item.specs.declared.{item.Who.Who}
 use Rattle.mc_item.specs.declared.call_event.CallEvent.TheVariants as calls
 use Rattle.mc_script.specs.Exchanges.{Asks, Begun, Crawls, Exchange, Juggles, Limits, ScriptCall}
-use Rattle.mc_board.specs.declared.rule.Sight.{Sight}
 use Rattle.mc_store.specs.Callers.{answered_at, asked_for, moment_of, turns_of}
 use Rattle.mc_store.specs.{Calls.IsCutBy}
-use Rattle.mc_store.specs.{Passes.PassView, Passes.next_who, Serving.HasSeenShort, Serving.HasSeenShortFor}
-use Rattle.mc_store.proofs.SyncedStepLemmas.{any_short}
+use Rattle.mc_store.specs.{Passes.PassView, Passes.next_who, Serving.HasSeenShort}
+use Rattle.mc_store.proofs.FullLemmas.{full_short}
 use Rattle.mc_driver.specs.{Called.AreInTurn, Called.call_event_of, Called.turns_for, Caller.MayCall}
 use Rattle.mc_driver.proofs.NotedPlaceLemmas.{get_next}
 
@@ -133,11 +132,18 @@ may_again config old new (Err fault) may turn = tt
 
 -- ---- a full history
 
--- one that a command may write is one of the store's
-pub short_any : (config : Config) (number : ℕ) (command : Command) (sight : Sight) → number < config.stripes → HasSeenShortFor config number command sight → HasSeenShort config sight
-short_any config number command sight of (inl short) = record { lock = number; of = omega (arith, of); short = short }
-short_any config number command sight of (inr (inl class)) = any_short config sight class
-short_any config number command sight of (inr (inr searched)) = searched.1
+-- how a command fails: before its turn, for the number of turns at most, or broken off by this fault
+abbrev pub Fails : Config → ℕ → (old new : PassView) → Who → Command → ℕ → Fault → Type 0
+Fails config number old new who command moment fault =
+    ((new ≡ old) × (fault ≡ HistoryFull → config.max_events ≤ old.turn)) ⊎ IsCutBy config number old.sight new.sight old.calls new.calls who command moment fault
+
+-- one that was broken off for a full history has seen a short one
+pub short_any : {T : Type 0} (config : Config) (number : ℕ) (old new : PassView) (who : Who) (command : Command) (moment : ℕ) (r : Result T Fault) → number < config.stripes
+    → IfErr r (Fails config number old new who command moment) → IsErrOf r HistoryFull → HasSeenShort config new.sight ⊎ (config.max_events ≤ old.turn)
+short_any config number old new who command moment r of fails is = ⊎_elim
+    (λ early. inr (early.1 refl))
+    (λ cut. inl (full_short config number cut.old cut.new new.sight command moment of (cut.grew.site.limit ∙ cut.grew.made_with.limit) cut.grew.now (cut.full refl)))
+    (subst (λ x. IfErr x (Fails config number old new who command moment)) is fails)
 
 -- a call that was refused for the number of turns finds as many calls in its caller's history
 pub full_calls : {T : Type 0} (config : Config) (old new : PassView) (call : CallEvent) (r : Result T Fault) → MayCall config old → turns_of (call ∷ []) ≡ call ∷ []
@@ -156,6 +162,6 @@ full_calls config old new call r may turn cut full is = ⊎_elim
 
 -- a command that was broken off adds at most its call
 pub cut_calls : {T : Type 0} (config : Config) (number : ℕ) (old new : PassView) (who : Who) (command : Command) (moment : ℕ) (r : Result T Fault)
-    → OnErr r ((new ≡ old) ⊎ IsCutBy config number old.sight new.sight old.calls new.calls who command moment) → OnErr r ((new ≡ old) ⊎ (new.calls ≡ old.calls ++ asked_for command moment ∷ []))
-cut_calls config number old new who command moment (Ok x) cut = tt
-cut_calls config number old new who command moment (Err fault) cut = ⊎_elim (λ same. inl same) (λ by. inr by.noted) cut
+    → IfErr r (Fails config number old new who command moment) → OnErr r ((new ≡ old) ⊎ (new.calls ≡ old.calls ++ asked_for command moment ∷ []))
+cut_calls config number old new who command moment (Ok x) fails = tt
+cut_calls config number old new who command moment (Err fault) fails = ⊎_elim (λ early. inl early.0) (λ cut. inr cut.noted) fails

@@ -1,5 +1,5 @@
 -- A conversation that was run is a run of all bytes that its reader has to give.
-use Rattle.std.proofs.Common.{◌≡◌, ◌≢◌, ◌∙◌, ◌+◌, ◌++◌, ◌<◌, ℕ, zero, suc, Bool, true, false, List, [], ◌∷◌, Option, None, Some, ap, append-nil, arith, length, subst, sym, refl}
+use Rattle.std.proofs.Common.{◌≡◌, ◌≢◌, ◌∙◌, ◌++◌, ◌<◌, ℕ, zero, suc, Bool, true, false, List, [], ◌∷◌, Option, None, Some, ap, append-nil, arith, length, subst, sym, refl}
 use Rattle.std.specs.Prelude.{IfSome, if◌then◌else◌, slice_index_or}
 use Rattle.std.specs.Io.KnownBytes.{Appends, Consumes, IsAtEnd}
 use Rattle.mc_item.specs.declared.config.Config.{Config}
@@ -7,7 +7,7 @@ use Rattle.mc_script.specs.Run.{AreCounted, Leaves}
 use Rattle.mc_script.specs.declared.outcome.Outcome.{Outcome}
 use Rattle.mc_script.specs.declared.outcome.Outcome.TheVariants.{Done, Memory, HistoryFull, Input, Output}
 use Rattle.mc_store.specs.Finals.{FinalView}
-use Rattle.mc_driver.specs.{Called.AreItsCalls, Input.AreRun, Input.IsConversed, Input.IsRunOf, Input.OfAllBytes, Input.Printed, Input.ToAndFrom}
+use Rattle.mc_driver.specs.{Called.AreItsCalls, Input.AreRun, Input.IsConversed, Input.OfAllBytes, Input.Printed, Input.ToAndFrom}
 use Rattle.mc_driver.specs.{Left.IsRunDone, Left.IsScriptLeft, Live.IsLater, Live.written_in}
 use Rattle.mc_driver.specs.Run.{IsAccepted, histories_left, limits_of, with_callers}
 use Rattle.mc_driver.specs.declared.live.Live.{Live}

@@ -8,7 +8,7 @@ use Rattle.mc_proto.specs.Scripts as cut
 use Rattle.mc_script.specs.declared.{outcome.Outcome.Outcome, upkeep.Keeper.TheVariants.Crawler, upkeep.Keeper.TheVariants.Maintainer}
 use Rattle.mc_script.specs.declared.outcome.Outcome.TheVariants as outcomes
 use Rattle.mc_store.specs.Finals.{FinalView}
-use Rattle.mc_driver.specs.{Called.AreByCallers, Called.AreWholeTurns, Called.HasNoPlace, Input.AreRun, Input.IsRunOf, Input.Printed, Input.ToAndFrom}
+use Rattle.mc_driver.specs.{Called.AreByCallers, Called.AreWholeTurns, Called.HasNoPlace, Input.AreRun, Input.IsRunOf, Input.ToAndFrom}
 use Rattle.mc_driver.specs.{Left.AreKeepersDone, Left.IsKeptUp, Left.IsRunDone, Left.IsScriptLeft}
 use Rattle.mc_driver.specs.Run.{IsAccepted, callers_at_work, histories_left, limits_of, with_callers}
 

@@ -1,7 +1,7 @@
 -- The ends of a conversation: what came and was written from one state to a later one (own).
 use Rattle.std.specs.Prelude.{ℕ, ◌≡◌, ◌≤◌, List, [], ◌++◌, Option, length}
 use Rattle.std.specs.{Global.Vec, List.flat_map, Io.KnownBytes.Appends, Io.KnownBytes.Consumes}
-use Rattle.std.proofs.Common.{refl, ◌∙◌, ap, sym, subst, arith, append_assoc, append-nil}
+use Rattle.std.proofs.Common.{refl, ◌∙◌, ap, sym, arith, append_assoc, append-nil}
 use Rattle.std.proofs.KnownBytes.{Appends-nil, Appends-trans, Consumes-nil, Consumes-trans}
 use Rattle.mc_proto.specs.Gathered.{Gathered}
 use Rattle.mc_driver.specs.declared.live.Live.{Live}

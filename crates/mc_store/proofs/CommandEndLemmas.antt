@@ -1,9 +1,9 @@
 -- How a command under the lock of its stripe ends, by how its steps end.
 use Rattle.std.proofs.Common.{◌≡◌, ◌++◌, ◌∷◌, [], ℕ, List, Result, Ok, Err, inl, inr, ⊎_elim, length, append-nil, refl, ap, ◌∙◌, subst, sym}
 use Rattle.std.specs.Prelude.{Option, Some, IsErrAnd, IsErrOf}
-use Rattle.mc_item.specs.{Answer.row_of, Cache.Cache, Command.key_of, Stripe.IsAlive, Stripe.cache_of}
+use Rattle.mc_item.specs.{Answer.row_of, Cache.Cache, Command.key_of, Stripe.IsAlive}
 use Rattle.mc_item.specs.declared.{answer.Need.Need, answer.Site.Site, call_event.CallEvent.CallEvent, command.Command.Command, config.Config.Config}
-use Rattle.mc_item.specs.declared.{fault.Fault.Fault, fault.Fault.TheVariants.HistoryFull, item.ClassNo.ClassNo, item.Item.Item, item.Link.Link, item.Who.Who}
+use Rattle.mc_item.specs.declared.{fault.Fault.Fault, fault.Fault.TheVariants.HistoryFull, item.ClassNo.ClassNo, item.Link.Link, item.Who.Who}
 use Rattle.mc_item.specs.declared.{stripe_event.Did.Did, stripe_event.StripeEvent.StripeEvent}
 use Rattle.mc_item.specs.declared.answer.Need.TheVariants as needs
 use Rattle.mc_item.specs.declared.stripe_event.StripeEvent.TheVariants as events
@@ -13,8 +13,9 @@ use Rattle.mc_stripe.specs.{Wanting.IsWanting, Wanting.classes_for}
 use Rattle.mc_stripe.specs.declared.{wanting.Want.Want, trying.Turn.Turn}
 use Rattle.mc_pull.specs.{Perform.answer_to, Perform.call, Question.IsStripeOf}
 use Rattle.mc_store.specs.{Callers.answered_at, Calls.IsRepliedAs, Commands.IsCut, Commands.IsSearch, Commands.burial, Earned.IsEarned, Earned.IsEarnedIn}
-use Rattle.mc_store.specs.{Held.Ends, Held.IsMadeIn, Held.IsWalked, Held.Suffice, Held.nothing, Passes.CallerView, Serving.IsShort, Serving.IsShortFor, Sides.StripeSide}
-use Rattle.mc_store.proofs.{CommandLemmas.led_same, CommandLemmas.visible_alive, EarnedRefusalLemmas.earned_told}
+use Rattle.mc_store.specs.{Held.Ends, Held.IsMadeIn, Held.IsWalked, Held.Suffice, Held.nothing, Passes.CallerView, Full.IsFullFor, Sides.StripeSide}
+use Rattle.mc_store.proofs.{CommandLemmas.cache_same, CommandLemmas.fresh_visible, CommandLemmas.led_same, EarnedRefusalLemmas.earned_told}
+use Rattle.mc_store.proofs.FullLemmas.{full_buried, full_same}
 use Rattle.mc_store.specs.declared.replied.Replied.{Replied}
 use Rattle.mc_store.proofs.UnderLockLemmas.{IsSearched, active_moves, cut_behind, cut_from, replied_behind, replied_from, site_both}
 
@@ -26,7 +27,7 @@ module _ (config : Config) (command : Command) (turn : Turn) where
   pub searched_walk : (s s_new : Stripe) (class : ClassNo) → IsAlive (item_of s command) turn.moment → (row_at s command turn.moment).need ≡ needs.Fresh class
       → IsWalked config turn class s s_new → IsSearched config turn.who command turn.moment s s_new
   searched_walk s s_new class alive fresh walk =
-      let need = ap (λ (o : Option Item). (row_of s.site (cache_now s).versions o command turn.moment).need) (visible_alive turn.moment (item_of s command) alive) ∙ fresh in
+      let need = fresh_visible s command turn.moment class alive fresh in
       (walk.walked, subst (λ (n : Need). IsSearch config turn.who turn.moment n walk.walked) (sym need) walk.each, walk.history_is)
 
   -- behind a search
@@ -50,7 +51,7 @@ module _ (config : Config) (command : Command) (turn : Turn) where
 
     -- it was broken off
     pub ends_cut : (end : StripeSide) (caller caller_new : CallerView) (fault : Fault) → KeepsSite mid end.stripe → end.stripe.history ≡ mid.history
-        → caller_new ≡ caller → (fault ≡ HistoryFull → IsShortFor config command end) → EndsBy s end caller caller_new (Err fault)
+        → caller_new ≡ caller → (fault ≡ HistoryFull → IsFullFor config s end.stripe end.sight command turn.moment) → EndsBy s end caller caller_new (Err fault)
     ends_cut end caller caller_new fault more same unnoted full = record {
       replied = tt;
       cut = cut_behind config turn.who command turn.moment s mid alive searched end.stripe same;
@@ -65,14 +66,14 @@ module _ (config : Config) (command : Command) (turn : Turn) where
 
     -- with a fault that was handed on
     pub ends_err : (end : StripeSide) (caller caller_new : CallerView) (r : Result Replied Fault) (fault : Fault) → IsErrAnd r (λ x. x ≡ fault)
-        → KeepsSite mid end.stripe → end.stripe.history ≡ mid.history → caller_new ≡ caller → (fault ≡ HistoryFull → IsShortFor config command end)
+        → KeepsSite mid end.stripe → end.stripe.history ≡ mid.history → caller_new ≡ caller → (fault ≡ HistoryFull → IsFullFor config s end.stripe end.sight command turn.moment)
         → EndsBy s end caller caller_new r
     ends_err end caller caller_new (Ok reply) fault is more same unnoted full = absurd is
     ends_err end caller caller_new (Err e) fault is more same unnoted full = ends_cut end caller caller_new e more same unnoted (λ at. full (sym is ∙ at))
 
   -- before anything of it happened
   pub ends_early : (s : Stripe) (end : StripeSide) (caller caller_new : CallerView) (r : Result Replied Fault) (fault : Fault) → IsErrAnd r (λ x. x ≡ fault)
-      → KeepsSite s end.stripe → end.stripe.history ≡ s.history → caller_new ≡ caller → (fault ≡ HistoryFull → IsShort config end)
+      → KeepsSite s end.stripe → end.stripe.history ≡ s.history → caller_new ≡ caller → (fault ≡ HistoryFull → IsFullFor config s end.stripe end.sight command turn.moment)
       → EndsBy s end caller caller_new r
   ends_early s end caller caller_new (Ok reply) fault is site same unnoted full = absurd is
   ends_early s end caller caller_new (Err e) fault is site same unnoted full = record {
@@ -81,7 +82,7 @@ module _ (config : Config) (command : Command) (turn : Turn) where
     unnoted = unnoted;
     number = ap (λ (x : CallerView). x.number) unnoted;
     site = site;
-    full = λ at. inl (full (sym is ∙ err_same e at));
+    full = λ at. full (sym is ∙ err_same e at);
   }
     where
       err_same : (e : Fault) → IsErrOf {T = Replied} (Err e) HistoryFull → e ≡ HistoryFull
@@ -128,7 +129,7 @@ module _ (config : Config) (command : Command) (turn : Turn) where
       unnoted = tt;
       number = ends.number;
       site = site_both s mid end.stripe site ends.site;
-      full = ends.full;
+      full = λ is. full_same config s mid end.stripe end.sight command turn.moment site same (ends.full is);
     }
     ends_same end caller caller_new (Err fault) ends = record {
       replied = tt;
@@ -136,7 +137,7 @@ module _ (config : Config) (command : Command) (turn : Turn) where
       unnoted = ends.unnoted;
       number = ends.number;
       site = site_both s mid end.stripe site ends.site;
-      full = ends.full;
+      full = λ is. full_same config s mid end.stripe end.sight command turn.moment site same (ends.full is);
     }
 
   -- behind the burial of its key's dead item
@@ -148,7 +149,7 @@ module _ (config : Config) (command : Command) (turn : Turn) where
       unnoted = tt;
       number = ends.number;
       site = site_both s mid end.stripe site ends.site;
-      full = ends.full;
+      full = λ is. full_buried config turn.who s mid end.stripe end.sight command turn.moment site buried (ends.full is);
     }
     ends_buried end caller caller_new (Err fault) ends = record {
       replied = tt;
@@ -156,14 +157,11 @@ module _ (config : Config) (command : Command) (turn : Turn) where
       unnoted = ends.unnoted;
       number = ends.number;
       site = site_both s mid end.stripe site ends.site;
-      full = ends.full;
+      full = λ is. full_buried config turn.who s mid end.stripe end.sight command turn.moment site buried (ends.full is);
     }
 
 -- a stripe of the same history needs the same classes
 module _ (s s_new : Stripe) (site : KeepsSite s s_new) (same : s_new.history ≡ s.history) (command : Command) (moment : ℕ) where
-  pub cache_same : cache_now s_new ≡ cache_now s
-  cache_same = ap (λ (t : Site). cache_of t s_new.history) site.site ∙ ap (λ (h : List StripeEvent). cache_of s.site h) same
-
   abbrev Suffices : (home other : Option ClassNo) → Site → Cache → Type 0
   Suffices home other t c =
       IsAlive (c.items (key_of command)) moment × Holds home (classes_for (key_of command) (c.items (key_of command)) (row_of t c.versions (c.items (key_of command)) command moment)).home
@@ -171,7 +169,7 @@ module _ (s s_new : Stripe) (site : KeepsSite s s_new) (same : s_new.history ≡
 
   pub suffice_same : (home other : Option ClassNo) → Suffice home other s command moment → Suffice home other s_new command moment
   suffice_same home other suffice =
-      let moved = subst (λ (c : Cache). Suffices home other s.site c) (sym cache_same) (suffice.alive, suffice.for_version, suffice.for_item) in
+      let moved = subst (λ (c : Cache). Suffices home other s.site c) (sym (cache_same s s_new site same)) (suffice.alive, suffice.for_version, suffice.for_item) in
       let all = subst (λ (t : Site). Suffices home other t (cache_now s_new)) (sym site.site) moved in
       record { alive = all.0; for_version = all.1; for_item = all.2 }
 

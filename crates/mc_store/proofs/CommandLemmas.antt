@@ -1,8 +1,8 @@
 -- What stands before a command's answer, and what its key's item and its row are then.
-use Rattle.std.proofs.Common.{◌≡◌, ◌++◌, ◌∷◌, [], ◌+◌, inl, inr, ℕ, List, Bool, true, false, refl, sym, ap, ◌∙◌, subst, arith, append-nil}
-use Rattle.std.specs.Prelude.{Option, Some, None, IsSomeAnd, if◌then◌else◌}
-use Rattle.mc_item.specs.{Answer.row_of, Cache.Cache, Cache.if_alive, Cache.visible_items, Command.key_of, Item.is_dead, Stripe.cache_of, Stripe.IsAlive}
-use Rattle.mc_item.specs.declared.{answer.Need.Need, answer.Site.Site, command.Command.Command, config.Config.Config, item.Item.Item, item.Who.Who}
+use Rattle.std.proofs.Common.{◌≡◌, ◌++◌, ◌∷◌, [], ◌+◌, ◌≤◌, inl, inr, ℕ, List, Bool, true, false, refl, sym, ap, ◌∙◌, subst, arith, append-nil}
+use Rattle.std.specs.Prelude.{◌==◌, Option, Some, None, IsSomeAnd, if◌then◌else◌}
+use Rattle.mc_item.specs.{Answer.Row, Answer.row_of, Cache.Cache, Cache.if_alive, Cache.visible_items, Command.key_of, Item.is_dead, Stripe.cache_of, Stripe.IsAlive, Stripe.link_of}
+use Rattle.mc_item.specs.declared.{answer.Need.Need, answer.Site.Site, command.Command.Command, config.Config.Config, item.ClassNo.ClassNo, item.Item.Item, item.Link.Link, item.Who.Who, reply.Room.Room}
 use Rattle.mc_item.specs.declared.{stripe_event.Cause.TheVariants.Expired, stripe_event.StripeEvent.StripeEvent}
 use Rattle.mc_item.specs.declared.answer.Need.TheVariants as needs
 use Rattle.mc_item.specs.declared.stripe_event.StripeEvent.TheVariants as events
@@ -10,7 +10,9 @@ use Rattle.mc_item.proofs.StripeLemmas.{cache_of-push}
 use Rattle.mc_rule.specs.Pairs.{item_after}
 use Rattle.mc_evidence.specs.Losses.{AreNoCommands, IsSameItem}
 use Rattle.mc_evidence.proofs.{LinkLifeLemmas.after_loss, LossLemmas.was_there}
-use Rattle.mc_stripe.specs.{Plan.dead_link, Plan.visible_row, StripeCalls.KeepsSite, StripeState.Stripe, StripeState.cache_now}
+use Rattle.mc_stripe.specs.{Plan.dead_link, Plan.visible_row, StripeCalls.KeepsSite, StripeState.Stripe, StripeState.cache_now, Trying.item_of, Trying.row_at, Wanting.changes_at, Wanting.links_at}
+use Rattle.mc_stripe.specs.declared.fate.Fate.{Fate}
+use Rattle.mc_stripe.specs.declared.fate.Fate.TheVariants as fates
 use Rattle.mc_pull.specs.{Lone.AreMadeBy, Settled.lost_event, Walker.Walker}
 use Rattle.mc_store.specs.Commands.{IsSearch, LeadsUp, burial, walker_in}
 
@@ -94,6 +96,9 @@ module _ (s s_new : Stripe) (who : Who) (command : Command) (moment : ℕ) (site
   pub buried_alive : IsAlive ((cache_now s_new).items (key_of command)) moment
   buried_alive = subst (λ (t : Site). IsAlive (item_after t s_new.history (key_of command)) moment) (sym site.site) now.alive
 
+  pub buried_visible : visible_items (cache_now s_new) moment (key_of command) ≡ visible_items (cache_now s) moment (key_of command)
+  buried_visible = ap (λ (t : Site). visible_items (cache_of t s_new.history) moment (key_of command)) site.site ∙ now.visible
+
   pub buried_row : visible_row s_new command moment ≡ visible_row s command moment
   buried_row =
       ap (λ (t : Site). row_of t (cache_of t s_new.history).versions (visible_items (cache_of t s_new.history) moment (key_of command)) command moment) site.site
@@ -125,21 +130,53 @@ searches_none config who moment needs.Nothing = refl
 searches_none config who moment needs.Same = refl
 searches_none config who moment needs.TooLarge = refl
 
+-- a stripe of the same history has the same cache, and a command has the same row
+pub cache_same : (s mid : Stripe) → KeepsSite s mid → mid.history ≡ s.history → cache_now mid ≡ cache_now s
+cache_same s mid site same = ap (λ (t : Site). cache_of t mid.history) site.site ∙ ap (λ (h : List StripeEvent). cache_of s.site h) same
+
+module _ (command : Command) (moment : ℕ) (s mid : Stripe) (site : KeepsSite s mid) (same : mid.history ≡ s.history) where
+  pub dead_same : dead_link (item_of s command) moment ≡ dead_link (item_of mid command) moment
+  dead_same = ap (λ (c : Cache). dead_link (c.items (key_of command)) moment) (sym (cache_same s mid site same))
+
+  pub visible_same : visible_items (cache_now mid) moment (key_of command) ≡ visible_items (cache_now s) moment (key_of command)
+  visible_same = ap (λ (c : Cache). visible_items c moment (key_of command)) (cache_same s mid site same)
+
+  pub row_same : visible_row mid command moment ≡ visible_row s command moment
+  row_same =
+      ap (λ (t : Site). row_of t (cache_now mid).versions (visible_items (cache_now mid) moment (key_of command)) command moment) site.site
+      ∙ ap (λ (c : Cache). row_of s.site c.versions (visible_items c moment (key_of command)) command moment) (cache_same s mid site same)
+
 -- a stripe of the same history leads up to a command as well
 module _ (config : Config) (who : Who) (command : Command) (moment : ℕ) (s mid : Stripe) (site : KeepsSite s mid) (same : mid.history ≡ s.history) where
-  items_same : (cache_now mid).items (key_of command) ≡ (cache_now s).items (key_of command)
-  items_same =
-      ap (λ (t : Site). (cache_of t mid.history).items (key_of command)) site.site
-      ∙ ap (λ (h : List StripeEvent). (cache_of s.site h).items (key_of command)) same
-
-  need_same : (visible_row mid command moment).need ≡ (visible_row s command moment).need
-  need_same =
-      ap (λ (t : Site). (row_of t (cache_of t mid.history).versions (visible_items (cache_of t mid.history) moment (key_of command)) command moment).need) site.site
-      ∙ ap (λ (h : List StripeEvent). (row_of s.site (cache_of s.site h).versions (visible_items (cache_of s.site h) moment (key_of command)) command moment).need) same
-
   pub led_same : (before : List StripeEvent) → LeadsUp config who command moment mid before → LeadsUp config who command moment s before
   led_same before led = record {
     walked = led.walked;
-    split = led.split ∙ ap (λ (o : Option Item). burial who (key_of command) moment (dead_link o moment) ++ led.walked) items_same;
-    search = subst (λ (n : Need). IsSearch config who moment n led.walked) need_same led.search;
+    split = led.split ∙ ap (λ (o : Option Link). burial who (key_of command) moment o ++ led.walked) (sym (dead_same command moment s mid site same));
+    search = subst (λ (r : Row). IsSearch config who moment r.need led.walked) (row_same command moment s mid site same) led.search;
   }
+
+-- what is needed of an item that is alive is needed of what is visible
+pub fresh_visible : (s : Stripe) (command : Command) (moment : ℕ) (class : ClassNo) → IsAlive (item_of s command) moment → (row_at s command moment).need ≡ needs.Fresh class
+    → (visible_row s command moment).need ≡ needs.Fresh class
+fresh_visible s command moment class alive fresh =
+    ap (λ (o : Option Item). (row_of s.site (cache_now s).versions o command moment).need) (visible_alive moment (item_of s command) alive) ∙ fresh
+
+-- a command adds and removes two entries of a class at most
+pub link_one : (class : ClassNo) (o : Option Link) → links_at class o ≤ 1
+link_one class None = omega arith
+link_one class (Some link) = by (link.class.0 == class.0)
+  where
+    by : (b : Bool) → (if b then 1 else 0) ≤ 1
+    by true = omega arith
+    by false = omega arith
+
+pub changes_two : (class : ClassNo) (room : Room) (fate : Fate) → changes_at class room fate ≤ 2
+changes_two class room fates.Untouched = omega arith
+changes_two class room (fates.Renewed cost expiry old) =
+    let a = link_one class (link_of room) in
+    let b = link_one class old in
+    omega (arith, a, b)
+changes_two class room (fates.Goes link) =
+    let a = link_one class (Some link) in
+    omega (arith, a)
+changes_two class room (fates.Woken link) = omega arith

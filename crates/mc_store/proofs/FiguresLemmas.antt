@@ -1,14 +1,14 @@
 -- The figures that a pass noted of a class, held against the closed store.
-use Rattle.std.proofs.Common.{◌≡◌, ◌<◌, ◌≤◌, ◌+◌, ◌-◌, ℕ, List, Some, slice_get, take, map, length, ap, sym, ◌∙◌, subst, arith}
+use Rattle.std.proofs.Common.{◌≡◌, ◌≤◌, ◌+◌, ◌-◌, ℕ, List, Some, slice_get, take, length, ap, sym, ◌∙◌, subst, arith}
 use Rattle.std.specs.Prelude.{All}
 use Rattle.std.proofs.lemmas.{List.length-map, List.take-map, List.Elements.All-get_or, Option.get_or_from_slice_get, Option.slice_get_within}
 use Rattle.mc_item.specs.declared.{class_event.ClassEvent.ClassEvent, config.Config.Config, event.Event.TheVariants.Class, item.ClassNo.ClassNo}
 use Rattle.mc_rule.specs.{Figures.figures_of_lists, Lists.lists_of}
 use Rattle.mc_evidence.specs.Setting.{IsClass}
 use Rattle.mc_board.proofs.FigureLemmas.{figures_of-map}
-use Rattle.mc_board.specs.{Figures.figures_of, Histories.HasFigures, Histories.IsNoteOf}
+use Rattle.mc_board.specs.{Figures.figures_of, Histories.IsNoteOf}
 use Rattle.mc_board.specs.declared.rule.{Note.Note, Sight.Sight}
-use Rattle.mc_store.specs.{Finals.AreClasses, Finals.FinalView, Finals.IsBehindClasses, Finals.class_histories, Finals.class_history, Locked.class_lock, Locked.setting_of, Sides.ClassSide, Sides.class_told}
+use Rattle.mc_store.specs.{Finals.AreClasses, Finals.FinalView, Finals.IsBehindClasses, Finals.class_histories, Finals.class_history, Locked.class_lock, Locked.setting_of, Sides.class_told}
 use Rattle.mc_store.proofs.NumberOrderLemmas.{get_some}
 
 -- what holds of each holds of the one at a place

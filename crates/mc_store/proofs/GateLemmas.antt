@@ -1,5 +1,5 @@
 -- What a gate under locks serves, it serves after a survey too; and what its stripes gain adds up.
-use Rattle.std.proofs.Common.{◌≡◌, ◌<◌, ◌+◌, ℕ, List, [], ◌∷◌, ◌++◌, refl, sym, ap, ◌∙◌, subst, inl, inr, arith, length, append_assoc, Result, Ok, Err}
+use Rattle.std.proofs.Common.{◌≡◌, ◌<◌, ◌+◌, ℕ, List, [], ◌∷◌, ◌++◌, refl, sym, ap, ◌∙◌, subst, inl, inr, length, append_assoc, Result, Ok, Err}
 use Rattle.std.specs.Prelude.{IfErr, IfOk}
 use Rattle.std.proofs.lemmas.List.{append-nil}
 use mathlib.Core.List.{IsPrefix}
@@ -12,9 +12,10 @@ use Rattle.mc_segment.specs.{ClassCalls.surveyed_event, ClassState.ClassView, Cl
 use Rattle.mc_stripe.specs.StripeState.{Stripe}
 use Rattle.mc_board.specs.{Histories.Grows, Histories.list_at, Views.OwnerView, Views.SeenView}
 use Rattle.mc_board.specs.declared.rule.Sight.{Sight}
-use Rattle.mc_board.proofs.PrefixLemmas.{prefix_length, prefix_more, prefix_self}
+use Rattle.mc_board.proofs.PrefixLemmas.{prefix_more, prefix_self}
 use Rattle.mc_pull.specs.{Lone.AreMadeBy, Lone.StripeGrows, Question.IsClassOf, Settled.class_with, Walker.Walker}
 use Rattle.mc_store.specs.{Locked.setting_of, Serving.HasSeenShort, Serving.IsServed, Serving.MayFailSeen, Sides.class_told}
+use Rattle.mc_store.proofs.ShortHistoryLemmas.{short_grows}
 use Rattle.mc_store.proofs.SyncedStepLemmas.{any_short, map_append, short_of}
 
 -- ---- stripes that grow
@@ -81,13 +82,6 @@ served_survey table config owner seen c who moment room served =
 
 -- ---- full histories
 
--- a history that was seen to be short is seen by whoever has seen more
-pub short_seen : (config : Config) (a b : Sight) → Grows a b → HasSeenShort config a → HasSeenShort config b
-short_seen config a b more short =
-    let long = prefix_length (list_at a.seen short.lock) (list_at b.seen short.lock) (more.at short.lock) in
-    let lack = short.short in
-    record { lock = short.lock; of = short.of; short = omega (arith, long, lack) }
-
 -- what an answer is told to be, in other words
 pub ok_more : {T : Type 0} (r : Result T Fault) (P Q : T → Type 0) → ((x : T) → P x → Q x) → IfOk r P → IfOk r Q
 ok_more (Ok x) P Q more p = more x p
@@ -102,4 +96,4 @@ room_full table config owner seen c served sight lock at list more r may is = by
     by (inl lack) =
         any_short config sight (short_of config sight lock c.number c.history (at ∙ served.kept.lock_is) served.kept.is list
         (subst (λ (n : ℕ). n < length c.history + 2) served.kept.made_with.max_events lack))
-    by (inr short) = short_seen config seen.sight sight more short
+    by (inr short) = short_grows config seen.sight sight more short

@@ -12,7 +12,7 @@ use Rattle.mc_segment.specs.ClassState.{ClassView}
 use Rattle.mc_pull.specs.Growth as classes
 use Rattle.mc_store.specs.{Calls.IsJuggledBy, Calls.IsSeenGrowOf, Calls.IsUpkept, Passes.PassView, Passes.next_who, Crawls.IsSeenSound, Finals.IsBehindAt, Locked.IsHeldClass, Locked.class_lock}
 use Rattle.mc_store.specs.{Locked.setting_of, Made.HasNoneMadeBy, Serving.HasSeenShort, Serving.MayFailSeen, Sides.ClassSide, Sides.class_told}
-use Rattle.mc_store.proofs.{GateLemmas.short_seen, LockKeepsLemmas.class_sees, SyncedStepLemmas.any_short, SyncedStepLemmas.short_of}
+use Rattle.mc_store.proofs.{LockKeepsLemmas.class_sees, ShortHistoryLemmas.short_grows, SyncedStepLemmas.any_short, SyncedStepLemmas.short_of}
 
 -- what a class's lock keeps is seen by whoever was told of it all
 pub seen_sound : (table : TableId) (config : Config) (class : ClassNo) (after : Sight) (s : ClassSide) → IsHeldClass table config s → s.class.number ≡ class
@@ -51,7 +51,7 @@ module _ (table : TableId) (config : Config) (class : ClassNo) (before after : S
   full_seen (inl lack) =
       any_short config after (short_of config after new.lock new.class.number new.class.history new_kept.lock_is new_kept.is told
       (subst (λ (n : ℕ). n < length new.class.history + 2) new_kept.made_with.max_events lack))
-  full_seen (inr short) = short_seen config new.sight after all short
+  full_seen (inr short) = short_grows config new.sight after all short
 
   -- the fault of a call
   pub fails_full : {T : Type 0} (r : Result T Fault) → IfErr r (MayFailSeen config new.sight new.class) → r ≡ Err HistoryFull → HasSeenShort config after

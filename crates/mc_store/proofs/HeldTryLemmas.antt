@@ -2,7 +2,7 @@
 use Rattle.std.proofs.Common.{◌≡◌, ◌≢◌, ◌≤◌, ◌<◌, ◌+◌, ◌++◌, ◌∷◌, ◌⊎◌, [], ℕ, List, Bool, true, false, Result, Ok, Err, inl, inr, length, refl, sym, ap, ◌∙◌, subst, arith}
 use Rattle.std.specs.Prelude.{◌==◌, Option, Some, None, IfOk, IfSome, IsSomeAnd, if◌then◌else◌, slice_get}
 use Rattle.std.proofs.lemmas.Bool.Decides.{nat_tests}
-use Rattle.mc_item.specs.{Answer.Row, Command.key_of, Item.link_of_item, Stripe.link_of}
+use Rattle.mc_item.specs.{Answer.Row, Answer.row_of, Command.key_of, Item.link_of_item, Stripe.link_of}
 use Rattle.mc_item.specs.declared.{answer.Need.Need, command.Command.Command, class_event.ClassEvent.ClassEvent, config.Config.Config, fault.Fault.Fault}
 use Rattle.mc_item.specs.declared.{item.ClassNo.ClassNo, item.Item.Item, item.Link.Link, item.StripeNo.StripeNo, item.Who.Who}
 use Rattle.mc_item.specs.declared.{reply.Room.Room}
@@ -15,8 +15,8 @@ use Rattle.mc_segment.specs.{ClassCalls.Makes, ClassCalls.refused_event, ClassSt
 use Rattle.mc_evidence.specs.Seen.{classes_seen}
 use Rattle.mc_board.specs.Histories.{Grows, list_at}
 use Rattle.mc_board.specs.declared.rule.Sight.{Sight}
-use Rattle.mc_stripe.specs.{Plan.fate_of, StripeState.Stripe, Trying.item_of, Trying.row_at}
-use Rattle.mc_stripe.specs.Wanting.{Covers, Holds, IsCrowded, IsTaken, IsWanting, LacksPlace, LacksRoom, changes_at, classes_for, home_class, links_at, other_class}
+use Rattle.mc_stripe.specs.{Plan.fate_of, StripeState.Stripe, StripeState.cache_now, Trying.item_of, Trying.row_at}
+use Rattle.mc_stripe.specs.Wanting.{Covers, Holds, IsCrowded, IsGiven, IsTaken, IsWanting, LacksPlace, LacksRoom, changes_at, classes_for, home_class, links_at, other_class}
 use Rattle.mc_stripe.specs.declared.{wanting.Classes.Classes, fate.Fate.Fate, wanting.Given.Given, wanting.Home.Home, wanting.Other.Other, wanting.Want.Want}
 use Rattle.mc_stripe.specs.declared.{trying.Turn.Turn}
 use Rattle.mc_stripe.specs.declared.fate.Fate.TheVariants as fates
@@ -24,11 +24,13 @@ use Rattle.mc_stripe.specs.declared.wanting.Want.TheVariants as wants
 use Rattle.mc_pull.specs.Attempt.{GivesHome, IsNoted, IsReady, LeavesPlaces, OffersHome, OffersOther}
 use Rattle.mc_pull.specs.declared.{attempting.Tried.Tried, attempting.Tried.TheVariants.Made, attempting.Tried.TheVariants.Wants}
 use Rattle.mc_store.specs.{Callers.answered_at, Earned.HasGivenUp, Earned.IsEarnedAt, Earned.IsEarnedIn, Locked.IsLockedClass, Passes.CallerView}
-use Rattle.mc_store.specs.{Serving.HasSeenShortClass, Serving.IsShort, Sides.ClassSide, Sides.StripeSide, Sides.class_told, Trying.IsMadeBy, Trying.IsTriedUnder}
+use Rattle.mc_store.specs.{Full.HasSeenFull, Full.IsRoomOf, Full.LacksEntries, Full.LacksPlaces, Serving.HasSeenShort}
+use Rattle.mc_store.specs.{Sides.ClassSide, Sides.StripeSide, Sides.class_told, Trying.IsMadeBy, Trying.IsTriedUnder}
 use Rattle.mc_store.specs.Trying.{Stay}
 use Rattle.mc_store.specs.declared.replied.Replied.{Replied}
 use Rattle.mc_store.specs.Held.{IsMadeIn, IsRefusedAt, IsStillFull, IsTriedOn, MayWant, Suffice, WantsAlone, WantsChunk, nothing}
-use Rattle.mc_store.proofs.{CommandLemmas.not_dead, EarnedRefusalLemmas.earned_sees, NeededClassLemmas.fresh_classes, ShortHistoryLemmas.short_class, ShortHistoryLemmas.short_class_grows}
+use Rattle.mc_store.proofs.{CommandLemmas.changes_two, CommandLemmas.link_one, CommandLemmas.not_dead, CommandLemmas.visible_alive, EarnedRefusalLemmas.earned_sees, NeededClassLemmas.fresh_classes}
+use Rattle.mc_store.proofs.{FullLemmas.full_class, FullLemmas.lacks_grows, FullLemmas.seen_full_grows, ShortHistoryLemmas.short_class, SyncedStepLemmas.any_short}
 
 pub some_none : {A : Type 0} (a : A) (o : Option A) → o ≡ Some a → o ≡ None → ⊥
 some_none a o is none = absurd (cc (is, none))
@@ -48,7 +50,7 @@ module _ (config : Config) (s : Stripe) (own_new : StripeSide) (caller caller_ne
   IsLacking want = IsWanting given (key_of made) (item_of s made) turn.moment (row_at s made turn.moment) want
 
   may_want : (Stay cs ds → LacksRoom given (key_of made) (item_of s made) turn.moment (row_at s made turn.moment) → AnyFull)
-      → (Stay cs ds → (class : ClassNo) → IsCrowded given (key_of made) (item_of s made) turn.moment (row_at s made turn.moment) class → IsShort config own_new)
+      → (Stay cs ds → (class : ClassNo) → IsCrowded given (key_of made) (item_of s made) turn.moment (row_at s made turn.moment) class → LacksEntries config s own_new.sight made turn.moment)
       → (want : Want) → Stay cs ds → IsLacking want → MayWant config s own_new made turn.moment home other AnyFull want
   may_want full short (wants.Burial link) stay lacking = lacking
   may_want full short (wants.Classes classes) stay lacking =
@@ -64,7 +66,7 @@ module _ (config : Config) (s : Stripe) (own_new : StripeSide) (caller caller_ne
 
   pub tried_on : ((room : Room) → IsTaken given (row_at s made turn.moment).need room → IsEarnedIn config s.site.stripe turn.who turn.moment (key_of made) own_new.sight room)
       → (Stay cs ds → LacksRoom given (key_of made) (item_of s made) turn.moment (row_at s made turn.moment) → AnyFull)
-      → (Stay cs ds → (class : ClassNo) → IsCrowded given (key_of made) (item_of s made) turn.moment (row_at s made turn.moment) class → IsShort config own_new)
+      → (Stay cs ds → (class : ClassNo) → IsCrowded given (key_of made) (item_of s made) turn.moment (row_at s made turn.moment) class → LacksEntries config s own_new.sight made turn.moment)
       → (r : Result Tried Fault) → IfOk r (IsTriedUnder s own_new.stripe caller caller_new made turn given cs ds) → IfOk r (IsTriedOn config s own_new caller caller_new made turn home other AnyFull)
   tried_on earned full short (Ok (Made reply woken)) tried = record { alive = tried.uses.alive; room = tried.room; made_is = tried.made_is; noted = tried.noted; earned = earned tried.room tried.uses.taken }
   tried_on earned full short (Ok (Wants want)) tried = (tried.0, tried.1, may_want full short want tried.2 tried.3)
@@ -124,19 +126,16 @@ none_earned config s turn key sight given needs.Nothing room none taken = rw tak
 none_earned config s turn key sight given needs.Same room none taken = rw taken tt
 none_earned config s turn key sight given needs.TooLarge room none taken = rw taken tt
 
--- a class's history has less than two places left
-abbrev pub HasFew : ClassView → Type 0
-HasFew v = v.max_events < length v.history + 2
-
 -- a class that gives no room is full
 not_less : (a b : ℕ) → (a < b → ⊥) → b ≤ a
 not_less a b none = grind (arith, none)
 
 pub keeps_full : (config : Config) (sight : Sight) (was v v_new : ClassView) (refused : Option ℕ) (who : Who) (o : Option Home)
     → IfSome o (OffersHome v refused who) → v ≡ with_room was v.room → v_new ≡ with_room v v_new.room
-    → (HasFew v → HasSeenShortClass config sight) → IsSomeAnd o (λ h. h.room ≡ rooms.Keep) → IsStillFull config sight refused was v_new
-keeps_full config sight was v v_new refused who None offers readied stay short keeps = absurd keeps
-keeps_full config sight was v v_new refused who (Some h) offers readied stay short keeps =
+    → (IsFull v.chunks v.history → HasSeenFull config sight v.number) → ((events : ℕ) → v.max_events < length v.history + events → LacksPlaces config sight v.number events)
+    → IsSomeAnd o (λ h. h.room ≡ rooms.Keep) → IsStillFull config sight refused was v_new
+keeps_full config sight was v v_new refused who None offers readied stay seen short keeps = absurd keeps
+keeps_full config sight was v v_new refused who (Some h) offers readied stay seen short keeps =
     let gives = subst (GivesHome v refused who) keeps offers.room in
     let full = not_less (count_of (lists_of v.history)) (chunks_from v.chunks v.history) gives.1 in
     record {
@@ -145,7 +144,8 @@ keeps_full config sight was v v_new refused who (Some h) offers readied stay sho
       full = subst (λ (x : ClassView). IsFull x.chunks x.history) (sym stay) full;
       history_is = ap (λ (x : ClassView). x.history) stay ∙ ap (λ (x : ClassView). x.history) readied;
       number_is = ap (λ (x : ClassView). x.number) stay ∙ ap (λ (x : ClassView). x.number) readied;
-      short = λ few. short (subst (λ (x : ClassView). x.max_events < length x.history + 2) stay few);
+      seen = subst (λ (x : ClassView). HasSeenFull config sight x.number) (sym stay) (seen full);
+      short = λ few. any_short config sight (short 2 (subst (λ (x : ClassView). x.max_events < length x.history + 2) stay few));
     }
 
 -- where the classes that are held suffice no burial is wanted
@@ -154,32 +154,13 @@ no_burial s command moment home other suffice link wanted = some_none link _ wan
 
 -- but a place, or a chunk
 module _ (config : Config) (s : Stripe) (own_new : StripeSide) (command : Command) (moment : ℕ) (home other : Option ClassNo) (AnyFull : Type 0) (suffice : Suffice home other s command moment) where
-  pub wants_place : (want : Want) → MayWant config s own_new command moment home other AnyFull want → (want ≡ wants.Room → ⊥) → IsShort config own_new
+  pub wants_place : (want : Want) → MayWant config s own_new command moment home other AnyFull want → (want ≡ wants.Room → ⊥) → LacksEntries config s own_new.sight command moment
   wants_place wants.Room may not = absurd (not refl)
   wants_place (wants.Place class) may not = may
   wants_place (wants.Burial link) may not = absurd (no_burial s command moment home other suffice link may)
   wants_place (wants.Classes classes) may not = absurd (may.1 suffice)
 
--- ---- a class that lacks a place is short
-
-link_one : (class : ClassNo) (o : Option Link) → links_at class o ≤ 1
-link_one class None = omega arith
-link_one class (Some link) = by (link.class.0 == class.0)
-  where
-    by : (b : Bool) → (if b then 1 else 0) ≤ 1
-    by true = omega arith
-    by false = omega arith
-
-changes_two : (class : ClassNo) (room : Room) (fate : Fate) → changes_at class room fate ≤ 2
-changes_two class room fates.Untouched = omega arith
-changes_two class room (fates.Renewed cost expiry old) =
-    let a = link_one class (link_of room) in
-    let b = link_one class old in
-    omega (arith, a, b)
-changes_two class room (fates.Goes link) =
-    let a = link_one class (Some link) in
-    omega (arith, a)
-changes_two class room (fates.Woken link) = omega arith
+-- ---- a class that lacks places
 
 -- one change at most, in a class that gives no room
 changes_one : (class : ClassNo) (room : Room) (fate : Fate) → links_at class (link_of room) ≡ 0 → changes_at class room fate ≤ 1
@@ -192,12 +173,12 @@ changes_one class room (fates.Goes link) none =
     omega (arith, a)
 changes_one class room (fates.Woken link) none = omega arith
 
-home_lacks : (v : ClassView) (places changes : ℕ) → LeavesPlaces 2 v places → places < changes → changes ≤ 2 → v.max_events < length v.history + 2
+home_lacks : (v : ClassView) (places changes : ℕ) → LeavesPlaces 2 v places → places < changes → changes ≤ 2 → v.max_events < length v.history + changes
 home_lacks v places changes leaves less few =
     let all = leaves.all (omega (arith, less, few)) in
     omega (arith, all, less, few)
 
-other_lacks : (v : ClassView) (places changes : ℕ) → LeavesPlaces 1 v places → places < changes → changes ≤ 1 → v.max_events < length v.history + 2
+other_lacks : (v : ClassView) (places changes : ℕ) → LeavesPlaces 1 v places → places < changes → changes ≤ 1 → v.max_events < length v.history + changes
 other_lacks v places changes leaves less few =
     let all = leaves.all (omega (arith, less, few)) in
     omega (arith, all, less, few)
@@ -234,50 +215,98 @@ taken_apart class given needs.Nothing room apart taken = no_link class room take
 taken_apart class given needs.Same room apart taken = no_link class room taken
 taken_apart class given needs.TooLarge room apart taken = no_link class room taken
 
+-- a class's history lacks places for so many events, and the class has this number
+abbrev LacksIn : ClassView → ClassNo → ℕ → Type 0
+LacksIn v class events = (class ≡ v.number) × (v.max_events < length v.history + events)
+
 home_few : (v : ClassView) (refused : Option ℕ) (who : Who) (room : Room) (fate : Fate) (class : ClassNo) (o : Option Home)
-    → IfSome o (OffersHome v refused who) → IsSomeAnd o (λ h. (h.class ≡ class) × (h.places < changes_at class room fate)) → HasFew v
+    → IfSome o (OffersHome v refused who) → IsSomeAnd o (λ h. (h.class ≡ class) × (h.places < changes_at class room fate)) → LacksIn v class (changes_at class room fate)
 home_few v refused who room fate class None offers lacks = absurd lacks
-home_few v refused who room fate class (Some h) offers lacks = home_lacks v h.places (changes_at class room fate) offers.places lacks.1 (changes_two class room fate)
+home_few v refused who room fate class (Some h) offers lacks =
+    (sym lacks.0 ∙ offers.class_is, home_lacks v h.places (changes_at class room fate) offers.places lacks.1 (changes_two class room fate))
 
 other_few : (w : ClassView) (room : Room) (fate : Fate) (class : ClassNo) (o : Option Other) → links_at w.number (link_of room) ≡ 0 → IfSome o (OffersOther w)
-    → IsSomeAnd o (λ e. (e.class ≡ class) × (e.places < changes_at class room fate)) → HasFew w
+    → IsSomeAnd o (λ e. (e.class ≡ class) × (e.places < changes_at class room fate)) → LacksIn w class (changes_at class room fate)
 other_few w room fate class None none offers lacks = absurd lacks
 other_few w room fate class (Some e) none offers lacks =
     let at : class ≡ w.number = sym lacks.0 ∙ offers.class_is in
-    other_lacks w e.places (changes_at class room fate) offers.places lacks.1 (changes_one class room fate (subst (λ (n : ClassNo). links_at n (link_of room) ≡ 0) (sym at) none))
+    (at, other_lacks w e.places (changes_at class room fate) offers.places lacks.1 (changes_one class room fate (subst (λ (n : ClassNo). links_at n (link_of room) ≡ 0) (sym at) none)))
+
+-- the room that is taken is of the class that is needed
+gives_fits : (v : ClassView) (refused : Option ℕ) (who : Who) (class : ClassNo) (room : Room) → v.number ≡ class → GivesHome v refused who room → IsGiven room → IsRoomOf (needs.Fresh class) room
+gives_fits v refused who class rooms.Keep at gives given = given
+gives_fits v refused who class (rooms.Refused other place) at gives given = gives.0 ∙ at
+gives_fits v refused who class (rooms.At link) at gives given = ap (λ (l : Link). l.class) gives.0 ∙ at
+
+pub taken_fits : (given : Given) (need : Need) (room : Room) → IfSome given.home (λ h. (v : ClassView) × (refused : Option ℕ) × (who : Who) × OffersHome v refused who h)
+    → IsTaken given need room → IsRoomOf need room
+taken_fits given (needs.Fresh class) room offers taken = by given.home offers taken.0
+  where
+    by : (o : Option Home) → IfSome o (λ h. (v : ClassView) × (refused : Option ℕ) × (who : Who) × OffersHome v refused who h) → IsSomeAnd o (λ h. (h.class ≡ class) × (h.room ≡ room))
+        → IsRoomOf (needs.Fresh class) room
+    by None offer is = absurd is
+    by (Some h) offer is =
+        gives_fits offer.0 offer.1 offer.2 class room (sym offer.3.class_is ∙ is.0) (subst (GivesHome offer.0 offer.1 offer.2) is.1 offer.3.room) taken.1
+taken_fits given needs.Nothing room offers taken = taken
+taken_fits given needs.Same room offers taken = taken
+taken_fits given needs.TooLarge room offers taken = taken
+
+-- what a class lacks, as it was seen, is what the command lacks
+pub crowded_lacks : (config : Config) (s : Stripe) (sight : Sight) (made : Command) (moment : ℕ) (given : Given) (class : ClassNo)
+    (crowded : IsCrowded given (key_of made) (item_of s made) moment (row_at s made moment) class)
+    → IfSome given.home (λ h. (v : ClassView) × (refused : Option ℕ) × (who : Who) × OffersHome v refused who h) → (v : ClassView)
+    → LacksIn v class (changes_at class crowded.room (fate_of (key_of made) (item_of s made) ((row_at s made moment).answer crowded.room).change))
+    → ((events : ℕ) → v.max_events < length v.history + events → LacksPlaces config sight v.number events) → LacksEntries config s sight made moment
+crowded_lacks config s sight made moment given class crowded offers v lacks short =
+    let key = key_of made in
+    let found = item_of s made in
+    let room = crowded.room in
+    let visible = sym (visible_alive moment found crowded.alive) in
+    let changes = changes_at class room (fate_of key found ((row_at s made moment).answer room).change) in
+    let of = subst (λ (n : ClassNo). LacksPlaces config sight n changes) (sym lacks.0) (short changes lacks.1) in
+    record {
+      class = class;
+      room = room;
+      fits = subst (λ (o : Option Item). IsRoomOf (row_of s.site (cache_now s).versions o made moment).need room) visible
+          (taken_fits given (row_at s made moment).need room offers crowded.taken);
+      lacks = subst (λ (o : Option Item). LacksPlaces config sight class (changes_at class room (fate_of key o ((row_of s.site (cache_now s).versions o made moment).answer room).change))) visible of;
+    }
 
 module _ (given : Given) (key : List ℕ) (found : Option Item) (moment : ℕ) (row : Row) (class : ClassNo) (crowded : IsCrowded given key found moment row class) where
   abbrev fate : Fate
   fate = fate_of key found (row.answer crowded.room).change
 
+  abbrev Lacks : ClassView → Type 0
+  Lacks v = LacksIn v class (changes_at class crowded.room fate)
+
   -- that of a new version alone is held
-  pub crowded_home : (v : ClassView) (refused : Option ℕ) (who : Who) → given.other ≡ None → IfSome given.home (OffersHome v refused who) → HasFew v
+  pub crowded_home : (v : ClassView) (refused : Option ℕ) (who : Who) → given.other ≡ None → IfSome given.home (OffersHome v refused who) → Lacks v
   crowded_home v refused who none offers = by crowded.lacks
     where
-      by : LacksPlace given crowded.room fate class → HasFew v
+      by : LacksPlace given crowded.room fate class → Lacks v
       by (inl lacks) = home_few v refused who crowded.room fate class given.home offers lacks
       by (inr lacks) = absurd (subst (λ (o : Option Other). IsSomeAnd o (λ e. (e.class ≡ class) × (e.places < changes_at class crowded.room fate))) none lacks)
 
   -- that of an item alone
-  pub crowded_other : (w : ClassView) → given.home ≡ None → IfSome given.other (OffersOther w) → HasFew w
+  pub crowded_other : (w : ClassView) → given.home ≡ None → IfSome given.other (OffersOther w) → Lacks w
   crowded_other w none offers = by crowded.lacks
     where
       apart : IfSome given.home (λ h. (v : ClassView) × (refused : Option ℕ) × (who : Who) × (v.number ≢ w.number) × OffersHome v refused who h)
       apart = subst (λ (o : Option Home). IfSome o (λ h. (v : ClassView) × (refused : Option ℕ) × (who : Who) × (v.number ≢ w.number) × OffersHome v refused who h)) (sym none) tt
 
-      by : LacksPlace given crowded.room fate class → HasFew w
+      by : LacksPlace given crowded.room fate class → Lacks w
       by (inl lacks) = absurd (subst (λ (o : Option Home). IsSomeAnd o (λ e. (e.class ≡ class) × (e.places < changes_at class crowded.room fate))) none lacks)
       by (inr lacks) = other_few w crowded.room fate class given.other (taken_apart w.number given row.need crowded.room apart crowded.taken) offers lacks
 
   -- both
-  pub crowded_both : (v w : ClassView) (refused : Option ℕ) (who : Who) → v.number ≢ w.number → IfSome given.home (OffersHome v refused who) → IfSome given.other (OffersOther w) → HasFew v ⊎ HasFew w
+  pub crowded_both : (v w : ClassView) (refused : Option ℕ) (who : Who) → v.number ≢ w.number → IfSome given.home (OffersHome v refused who) → IfSome given.other (OffersOther w) → Lacks v ⊎ Lacks w
   crowded_both v w refused who far home other = by crowded.lacks
     where
       apart : (o : Option Home) → IfSome o (OffersHome v refused who) → IfSome o (λ h. (v : ClassView) × (refused : Option ℕ) × (who : Who) × (v.number ≢ w.number) × OffersHome v refused who h)
       apart None offers = tt
       apart (Some h) offers = (v, refused, who, far, offers)
 
-      by : LacksPlace given crowded.room fate class → HasFew v ⊎ HasFew w
+      by : LacksPlace given crowded.room fate class → Lacks v ⊎ Lacks w
       by (inl lacks) = inl (home_few v refused who crowded.room fate class given.home home lacks)
       by (inr lacks) = inr (other_few w crowded.room fate class given.other (taken_apart w.number given row.need crowded.room (apart given.home home) crowded.taken) other lacks)
 
@@ -310,11 +339,17 @@ module _ (table : TableId) (config : Config) (was side : ClassSide) (sight : Sig
   pub same_number : side.class.number ≡ was.class.number
   same_number = ap (λ (x : ClassSide). x.class.number) is
 
-  -- it was seen to be short
-  pub short_seen : (mid end : Sight) → IsLockedClass table config side → list_at mid.seen was.lock ≡ class_told was.class.history → Grows mid end → HasFew side.class → HasSeenShortClass config end
-  short_seen mid end kept told more few =
-      short_class_grows config mid end more
-      (short_class table config side mid side.class kept.held (subst (λ (x : ClassSide). list_at mid.seen x.lock ≡ class_told x.class.history) (sym is) told) refl refl few)
+  told_side : (mid : Sight) → list_at mid.seen was.lock ≡ class_told was.class.history → list_at mid.seen side.lock ≡ class_told side.class.history
+  told_side mid told = subst (λ (x : ClassSide). list_at mid.seen x.lock ≡ class_told x.class.history) (sym is) told
+
+  -- it was seen to lack places, and to be full
+  pub short_seen : (mid end : Sight) → IsLockedClass table config side → list_at mid.seen was.lock ≡ class_told was.class.history → Grows mid end
+      → (events : ℕ) → side.class.max_events < length side.class.history + events → LacksPlaces config end side.class.number events
+  short_seen mid end kept told more events few = lacks_grows config mid end more (short_class table config side mid events kept.held (told_side mid told) few)
+
+  pub full_seen : (mid end : Sight) → IsLockedClass table config side → list_at mid.seen was.lock ≡ class_told was.class.history → Grows mid end
+      → IsFull side.class.chunks side.class.history → HasSeenFull config end side.class.number
+  full_seen mid end kept told more full = seen_full_grows config mid end more (full_class table config side mid kept.held (told_side mid told) full)
 
   -- and its history is what the stripe has seen of it
   pub heard_of : (mid : Sight) → classes_seen config.stripes (list_at mid.seen) was.class.number ≡ was.class.history → classes_seen config.stripes (list_at mid.seen) side.class.number ≡ side.class.history
@@ -326,12 +361,12 @@ module _ (table : TableId) (config : Config) (was side : ClassSide) (sight : Sig
 -- ---- what is left to do
 
 -- a class that is full and has no place for its refusal is short, as the stripe has seen
-pub refuse_short : (config : Config) (own : StripeSide) (v v_new : ClassView) → (v.max_events < length v.history + 2 → HasSeenShortClass config own.sight)
-    → v_new ≡ with_room v v_new.room → v_new.max_events ≤ length v_new.history → IsShort config own
-refuse_short config own v v_new short same full =
+pub refuse_short : (config : Config) (sight : Sight) (v v_new : ClassView) → (v.max_events < length v.history + 2 → HasSeenShort config sight)
+    → v_new ≡ with_room v v_new.room → v_new.max_events ≤ length v_new.history → HasSeenShort config sight
+refuse_short config sight v v_new short same full =
     let limit : v_new.max_events ≡ v.max_events = ap (λ (x : ClassView). x.max_events) same in
     let long : length v_new.history ≡ length v.history = ap (λ (x : ClassView). length x.history) same in
-    inr (short (omega (arith, limit, long, full)))
+    short (omega (arith, limit, long, full))
 
 -- a refusal that is noted now was earned, where a chunk was looked for in vain
 pub earned_now : (config : Config) (number : StripeNo) (turn : Turn) (key : List ℕ) (v v_new : ClassView) (place : ℕ) → Makes v v_new (refused_event turn.who)

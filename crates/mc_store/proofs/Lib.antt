@@ -22,6 +22,7 @@ pub mod EarnedRefusalLemmas
 pub mod UnderLockLemmas
 pub mod SearchVersionLemmas
 pub mod SyncedStepLemmas
+pub mod FullLemmas
 pub mod JudgedEntryLemmas
 pub mod GateLemmas
 pub mod VisitedStripeLemmas

@@ -1,5 +1,5 @@
 -- A try of a command whose stripe and classes are out of their locks: what the locks keep behind it.
-use Rattle.std.proofs.Common.{◌≡◌, ◌≢◌, ◌≤◌, ◌<◌, ◌++◌, ◌∷◌, [], ℕ, List, Bool, true, false, Result, Ok, Err, length, refl, sym, ap, ◌∙◌, subst, inl, arith}
+use Rattle.std.proofs.Common.{◌≡◌, ◌≢◌, ◌≤◌, ◌<◌, ◌++◌, ◌∷◌, [], ℕ, List, Bool, true, false, Result, Ok, Err, length, refl, sym, ap, ◌∙◌, subst, arith}
 use Rattle.std.specs.Prelude.{IfOk, OnErr, OnOk}
 use mathlib.Core.List.{IsPrefix}
 use Rattle.atomic_table.specs.Seated.{TableId}
@@ -20,7 +20,7 @@ use Rattle.mc_pull.specs.Growth as classes
 use Rattle.mc_pull.specs.Question as made
 use Rattle.mc_store.specs.{Callers.AreCalled, Callers.answered_at, Callers.asked_for, Callers.calls_told, Passes.CallerView, Passes.HasAsked, Passes.HasCalled}
 use Rattle.mc_store.specs.Locked.{HasBegunAs, IsHeldClass, IsLockedClass, IsLockedStripe, caller_place, locks_for}
-use Rattle.mc_store.specs.{Performing.IsRefusedIn, Serving.IsShort, Serving.class_side, Sides.ClassSide, Sides.StripeSide, Sides.class_told}
+use Rattle.mc_store.specs.{Performing.IsRefusedIn, Serving.class_side, Sides.ClassSide, Sides.StripeSide, Sides.class_told}
 use Rattle.mc_store.specs.{Sides.stripe_told, Trying.IsTriedUnder, Trying.Stay, Trying.is_made}
 use Rattle.mc_store.proofs.{SeenStripeLemmas.on_err_more, CallerLemmas.called_performed, LentClassLemmas.lent_grow, LentClassLemmas.own_behind}
 use Rattle.mc_store.proofs.OwnEventLemmas.{GainsFit, gains_performed}
@@ -262,11 +262,12 @@ module _ {table : TableId} {config : Config} {command : Command} {turn : Turn} {
       on_err_more t _ _ (λ (none : IsUntouched s s_new vs ws). ap (λ (x : StripeSide). x.stripe.history) left.is ∙ none.stripe ∙ ap (λ (x : StripeSide). x.stripe.history) opened.is) step.err
 
   -- a full history is that of the stripe
-  pub left_full : {own_new : StripeSide} {sight : Sight} → IsLeft owner s_new noting own_new sight → (t ≡ Err HistoryFull → s.limit ≤ length s.history) → t ≡ Err HistoryFull → IsShort config own_new
+  pub left_full : {own_new : StripeSide} {sight : Sight} → IsLeft owner s_new noting own_new sight → (t ≡ Err HistoryFull → s.limit ≤ length s.history) → t ≡ Err HistoryFull
+      → own_new.stripe.limit ≤ length own_new.stripe.history
   left_full left refusal full =
       let none : IsUntouched s s_new vs ws = subst (λ (x : Result Tried Fault). OnErr x (IsUntouched s s_new vs ws)) full step.err in
       let long : length s_new.history ≡ length s.history = ap (λ (h : List StripeEvent). length h) none.stripe in
-      subst (IsShort config) (sym left.is) (inl (omega (arith, refusal full, step.site.limit, long)))
+      subst (λ (x : StripeSide). x.stripe.limit ≤ length x.stripe.history) (sym left.is) (omega (arith, refusal full, step.site.limit, long))
 
   pub left_unnoted : {caller_last : CallerView} → caller_last ≡ caller_new → OnErr t (caller_last ≡ caller)
   left_unnoted {caller_last = caller_last} same = failed (caller_last ≡ caller) t (λ no. same ∙ known.unnoted no)

@@ -1,6 +1,6 @@
 -- Where a caller's commands were answered: each place has its command, in what was seen of the stripes and in a closed store.
 use Rattle.std.proofs.Common.{◌≡◌, ◌<◌, ◌≤◌, ◌+◌, ◌-◌, ℕ, zero, suc, List, [], ◌∷◌, ◌++◌, Some, None, Result, Ok, Err, slice_get, length, length-append, append_assoc, refl, sym, ap, ◌∙◌, subst, ⊎_elim, arith}
-use Rattle.std.specs.Prelude.{IfOk, IsSomeAnd, OnErr, Option}
+use Rattle.std.specs.Prelude.{IfErr, IfOk, IsSomeAnd, Option}
 use Rattle.std.proofs.lemmas.List.{append-nil}
 use mathlib.Core.List.{IsPrefix}
 use Rattle.atomic_table.specs.Seated.{TableId}
@@ -172,13 +172,13 @@ module _ (config : Config) (number : ℕ) (before after : Sight) (old new : Call
       (ap (λ (n : ℕ). record { caller = old.number; turn = n }) (sym turn)) in
       placed_push config begun new (Seen after) (place_of asked number place) same (ap placed_in noted ∙ answer_places asked number place) begun_places (below, there)
 
-  placed_cut : IsCutBy config number before after old.calls new.calls (next_call old) command moment → ArePlaced config new (Seen after)
-  placed_cut cut = placed_same config begun new (Seen after) same (ap placed_in cut.noted) begun_places
+  placed_cut : (fault : Fault) → IsCutBy config number before after old.calls new.calls (next_call old) command moment fault → ArePlaced config new (Seen after)
+  placed_cut fault cut = placed_same config begun new (Seen after) same (ap placed_in cut.noted) begun_places
 
   pub placed_shared : (r : Result Reply Fault) → IfOk r (IsRepliedBy config number before after old.calls new.calls (next_call old) command moment)
-      → OnErr r (IsCutBy config number before after old.calls new.calls (next_call old) command moment) → ArePlaced config new (Seen after)
+      → IfErr r (IsCutBy config number before after old.calls new.calls (next_call old) command moment) → ArePlaced config new (Seen after)
   placed_shared (Ok reply) replied cut = placed_replied reply replied
-  placed_shared (Err fault) replied cut = placed_cut cut
+  placed_shared (Err fault) replied cut = placed_cut fault cut
 
 -- ---- a caller that was asked
 

@@ -1,9 +1,9 @@
 -- What a pass has seen of a stripe behind a call.
 use Rattle.std.proofs.Common.{◌≡◌, ℕ, List, inl, inr, Result, Ok, Err, refl, sym, ap, ◌∙◌, subst, ◌++◌, ◌∷◌, [], ◌+◌, length, Some}
-use Rattle.std.specs.Prelude.{◌⊎◌, IfOk, IfSome, IsErrOf, IsSomeAnd, None, OnErr, Option}
+use Rattle.std.specs.Prelude.{◌⊎◌, IfErr, IfOk, IfSome, IsSomeAnd, None, OnErr, Option}
 use mathlib.Core.List.{IsPrefix}
 use Rattle.atomic_table.specs.Seated.{TableId}
-use Rattle.mc_item.specs.declared.{answer.Site.Site, call_event.CallEvent.CallEvent, command.Command.Command, config.Config.Config, fault.Fault.Fault, fault.Fault.TheVariants.HistoryFull}
+use Rattle.mc_item.specs.declared.{answer.Site.Site, call_event.CallEvent.CallEvent, command.Command.Command, config.Config.Config, fault.Fault.Fault}
 use Rattle.mc_item.specs.declared.{item.Link.Link, item.Who.Who, reply.Reply.Reply, event.Event.Event, event.Event.TheVariants.Call, stripe_event.Did.Did}
 use Rattle.mc_board.specs.Histories.{Grows, HasSeen, list_at}
 use Rattle.mc_board.specs.declared.rule.Sight.{Sight}
@@ -12,22 +12,20 @@ use Rattle.mc_hits.specs.Views.{HandsView, hit_of}
 use Rattle.mc_evidence.proofs.{LockLemmas.stripe_sees_more, SeenLemmas.classes_grow}
 use Rattle.mc_stripe.specs.{StripeCalls.KeepsSite, StripeState.Stripe}
 use Rattle.mc_stripe.specs.declared.trying.Turn.{Turn}
-use Rattle.mc_store.specs.{Held.Ends, Locked.IsLockedStripe, Locked.setting_of, Serving.HasSeenShortFor, Serving.IsShortFor, Sides.StripeSide, Sides.stripe_told}
+use Rattle.mc_store.specs.{Held.Ends, Locked.IsLockedStripe, Locked.setting_of, Sides.StripeSide, Sides.stripe_told}
 use Rattle.mc_store.specs.{Calls.IsCutBy, Calls.IsReplied, Calls.IsRepliedBy, Calls.IsSeenGrow, Commands.IsAnswered, Headline.answered_did, Hits.IsOffered, Hits.OffersOne}
 use Rattle.mc_store.specs.{Hits.queue_of, Hits.with_offer, Waking.MakesActive, Waking.reply_in, Waking.woken_in}
 use Rattle.mc_store.proofs.LockKeepsLemmas.{site_of_number}
 use Rattle.mc_store.specs.declared.replied.Replied.{Replied}
-use Rattle.mc_store.proofs.{EarnedRefusalLemmas.told_sees, ShortHistoryLemmas.short_class_grows, ShortHistoryLemmas.short_grows, ShortHistoryLemmas.short_stripe, SyncedStepLemmas.map_length}
+use Rattle.mc_store.proofs.{EarnedRefusalLemmas.told_sees, FullLemmas.full_grows, SyncedStepLemmas.map_length}
 use Rattle.mc_store.specs.Callers.{HasNoneOf, asked_for, answered_at, turns_of, calls_told, moment_of}
 use Rattle.mc_store.specs.Passes.{CallerView, PassView, HasAsked, HasCalled, caller_of, next_who}
 use Rattle.mc_item.specs.declared.call_event.CallEvent.TheVariants.{Answered, Asked, Crawled, Juggled, Limits}
 
--- what a command shares with its pass: how it was answered or broken off, by what the pass had seen before and has seen behind it; and
--- that a full history was seen
+-- what a command shares with its pass: how it was answered or broken off, by what the pass had seen before and has seen behind it
 pub record IsShared (config : Config) (number : ℕ) (before after : Sight) (calls calls_new : List CallEvent) (who : Who) (command : Command) (moment : ℕ) (r : Result Reply Fault) : Type 0 where
   pub replied : IfOk r (IsRepliedBy config number before after calls calls_new who command moment)
-  pub cut : OnErr r (IsCutBy config number before after calls calls_new who command moment)
-  pub full : IsErrOf r HistoryFull → HasSeenShortFor config number command after
+  pub cut : IfErr r (IsCutBy config number before after calls calls_new who command moment)
 
 module _ {table : TableId} {config : Config} {number : ℕ} {old new : StripeSide} (before : Sight) {after : Sight} (old_kept : IsLockedStripe table config old) (new_kept : IsLockedStripe table config new)
     (number_is : old.stripe.site.stripe ≡ number) (seen : HasSeen (stripe_told old.stripe.history) before old.lock)
@@ -44,17 +42,6 @@ module _ {table : TableId} {config : Config} {number : ℕ} {old new : StripeSid
             (stripe_sees_more (setting_of config) new.stripe.site.stripe new.stripe.history (classes_seen config.stripes (list_at new.sight.seen)) (classes_seen config.stripes (list_at after.seen))
             (classes_grow config.stripes (list_at new.sight.seen) (list_at after.seen) grows.at) new_kept.keeps);
       }
-
-  -- where a history was short, it was seen so
-  short_shared : (command : Command) → KeepsSite old.stripe new.stripe → IsShortFor config command new → HasSeenShortFor config number command after
-  short_shared command site (inl (inl short)) =
-      let lock : new.lock ≡ number = new_kept.lock_is ∙ (ap (λ (t : Site). t.stripe) site.site ∙ number_is) in
-      inl (short_stripe config number after new.stripe.history new.stripe.limit new_kept.made_with.limit (ap (λ (k : ℕ). list_at after.seen k) (sym lock) ∙ told) short)
-  short_shared command site (inl (inr was)) = inr (inl (short_class_grows config new.sight after grows was))
-  short_shared command site (inr (needs, was)) = inr (inr (needs, short_grows config new.sight after grows was))
-
-  full_too : (fault : Fault) → IsErrOf {T = Reply} (Err fault) HistoryFull → IsErrOf {T = Replied} (Err fault) HistoryFull
-  full_too fault is = let same : fault ≡ HistoryFull = cc is in ap Err same
 
   -- a command that ended under the lock of its stripe is shared so with its pass
   pub shared_by : {caller caller_new : CallerView} {command : Command} {turn : Turn} (r : Result Replied Fault) (calls : List CallEvent)
@@ -77,12 +64,18 @@ module _ {table : TableId} {config : Config} {number : ℕ} {old new : StripeSid
           };
         };
         cut = tt;
-        full = λ e. absurd (cc e);
       }
-  shared_by {command = command} (Err fault) calls ends asked first = record {
+  shared_by {command = command} {turn = turn} (Err fault) calls ends asked first = record {
     replied = tt;
-    cut = record { old = old.stripe; new = new.stripe; grew = seen_grow ends.site; first = first; cut = ends.cut; noted = ap (λ (v : CallerView). v.calls) ends.unnoted ∙ asked };
-    full = λ e. short_shared command ends.site (ends.full (full_too fault e));
+    cut = record {
+      old = old.stripe;
+      new = new.stripe;
+      grew = seen_grow ends.site;
+      first = first;
+      cut = ends.cut;
+      noted = ap (λ (v : CallerView). v.calls) ends.unnoted ∙ asked;
+      full = λ e. full_grows config old.stripe new.stripe new.sight after command turn.moment grows (ends.full (ap Err e));
+    };
   }
 
   -- a hit that it offered is of the item that its event made ACTIVE
@@ -124,6 +117,10 @@ module _ {table : TableId} {config : Config} {number : ℕ} {old new : StripeSid
 pub on_err_more : {X : Type 0} (r : Result X Fault) (P Q : Type 0) → (P → Q) → OnErr r P → OnErr r Q
 on_err_more (Ok x) P Q more p = tt
 on_err_more (Err f) P Q more p = more p
+
+pub if_err_more : {X : Type 0} (r : Result X Fault) (P Q : Fault → Type 0) → ((f : Fault) → P f → Q f) → IfErr r P → IfErr r Q
+if_err_more (Ok x) P Q more p = tt
+if_err_more (Err f) P Q more p = more f p
 
 -- an answer is no turn
 pub turns_answered : (calls : List CallEvent) (stripe place : ℕ) → turns_of (calls ++ answered_at stripe place ∷ []) ≡ turns_of calls

@@ -2,7 +2,7 @@
 use Rattle.std.proofs.Common.{Result, Ok, Err, refl, sym, ap, ◌∙◌, arith, suc}
 use Rattle.std.specs.Prelude.{ℕ, ◌≡◌, ◌<◌, ◌+◌, ◌++◌, List, [], ◌∷◌, Some, length, IsErrAnd, slice_get}
 use Rattle.mc_item.specs.declared.{answer.Site.Site, config.Config.Config, fault.Fault.Fault, fault.Fault.TheVariants.HistoryFull, item.Who.Who}
-use Rattle.mc_item.specs.declared.{class_event.ClassEvent.ClassEvent, event.Event.Event, stripe_event.StripeEvent.StripeEvent}
+use Rattle.mc_item.specs.declared.{class_event.ClassEvent.ClassEvent, event.Event.Event}
 use Rattle.mc_segment.specs.{ClassCalls.Makes, ClassCalls.refused_event, ClassState.ClassView}
 use Rattle.mc_stripe.specs.{StripeCalls.KeepsSite, StripeState.Stripe}
 use Rattle.mc_pull.specs.Question.{IsStripeOf}
@@ -11,7 +11,7 @@ use Rattle.atomic_table.specs.Seated.{TableId}
 use Rattle.mc_board.specs.Histories.{Grows, list_at}
 use Rattle.mc_board.specs.declared.rule.Sight.{Sight}
 use Rattle.mc_board.proofs.PrefixLemmas.{prefix_length}
-use Rattle.mc_store.specs.{Locked.IsHeldClass, Locked.class_lock, Serving.HasSeenShort, Serving.HasSeenShortClass, Sides.ClassSide, Sides.class_told, Sides.stripe_told}
+use Rattle.mc_store.specs.{Locked.IsHeldClass, Locked.class_lock, Serving.HasSeenShort, Full.LacksPlaces, Sides.ClassSide, Sides.class_told}
 
 err_same : {T : Type 0} (x y : Fault) → ◌≡◌ {A = Result T Fault} (Err x) (Err y) → x ≡ y
 err_same x y h = cc
@@ -37,45 +37,20 @@ noted_at c c_new who place makes at =
     ∙ (ap (λ (k : ℕ). slice_get (c.history ++ refused_event who ∷ []) k) at ∙ slice_get-last c.history (refused_event who))
 
 -- as many events are told as there are
-class_length : (es : List ClassEvent) → length (class_told es) ≡ length es
+pub class_length : (es : List ClassEvent) → length (class_told es) ≡ length es
 class_length [] = refl
 class_length (e ∷ es) = ap suc (class_length es)
 
-stripe_length : (es : List StripeEvent) → length (stripe_told es) ≡ length es
-stripe_length [] = refl
-stripe_length (e ∷ es) = ap suc (stripe_length es)
-
--- a class whose whole history was seen has less than two places left
-pub short_class : (table : TableId) (config : Config) (side : ClassSide) (sight : Sight) (v : ClassView) → IsHeldClass table config side → list_at sight.seen side.lock ≡ class_told side.class.history
-    → v.max_events ≡ side.class.max_events → v.history ≡ side.class.history → v.max_events < length v.history + 2 → HasSeenShortClass config sight
-short_class table config side sight v kept told limit_is history_is short = record {
-  class = side.class.number;
+-- a class whose whole history was seen lacks places for so many events
+pub short_class : (table : TableId) (config : Config) (side : ClassSide) (sight : Sight) (events : ℕ) → IsHeldClass table config side → list_at sight.seen side.lock ≡ class_told side.class.history
+    → side.class.max_events < length side.class.history + events → LacksPlaces config sight side.class.number events
+short_class table config side sight events kept told short = record {
   is = kept.is;
   short =
-      let limit : v.max_events ≡ config.max_events = limit_is ∙ kept.made_with.max_events in
+      let limit = kept.made_with.max_events in
       let at : list_at sight.seen (class_lock config side.class.number) ≡ class_told side.class.history = ap (λ (n : ℕ). list_at sight.seen n) (sym kept.lock_is) ∙ told in
-      let long : length (list_at sight.seen (class_lock config side.class.number)) ≡ length v.history =
-      ap (λ (l : List Event). length l) at ∙ (class_length side.class.history ∙ sym (ap (λ (l : List ClassEvent). length l) history_is)) in
+      let long : length (list_at sight.seen (class_lock config side.class.number)) ≡ length side.class.history = ap (λ (l : List Event). length l) at ∙ class_length side.class.history in
       omega (arith, limit, long, short);
-}
-
--- a stripe whose whole history was seen has less than two places left
-pub short_stripe : (config : Config) (lock : ℕ) (sight : Sight) (history : List StripeEvent) (limit : ℕ) → limit ≡ config.max_events
-    → list_at sight.seen lock ≡ stripe_told history → limit < length history + 2 → config.max_events < length (list_at sight.seen lock) + 2
-short_stripe config lock sight history limit limit_is told short =
-    let long : length (list_at sight.seen lock) ≡ length history = ap (λ (l : List Event). length l) told ∙ stripe_length history in
-    omega (arith, limit_is, long, short)
-
--- a class that was seen short stays so as more is seen
-pub short_class_grows : (config : Config) (a b : Sight) → Grows a b → HasSeenShortClass config a → HasSeenShortClass config b
-short_class_grows config a b grows seen = record {
-  class = seen.class;
-  is = seen.is;
-  short =
-      let lock = class_lock config seen.class in
-      let longer = prefix_length (list_at a.seen lock) (list_at b.seen lock) (grows.at lock) in
-      let was = seen.short in
-      omega (arith, longer, was);
 }
 
 -- what was seen short stays so as more is seen

@@ -1,5 +1,5 @@
 -- Steps on a class and a stripe that are told of each other before and behind them keep what both locks keep.
-use Rattle.std.proofs.Common.{◌≡◌, ◌<◌, ◌+◌, ℕ, suc, List, [], ◌∷◌, ◌++◌, Result, Ok, Err, refl, sym, ap, ◌∙◌, subst, inl, inr, arith, length, map}
+use Rattle.std.proofs.Common.{◌≡◌, ◌<◌, ◌+◌, ◌⊎◌, ℕ, suc, List, [], ◌∷◌, ◌++◌, Result, Ok, Err, refl, sym, ap, ◌∙◌, subst, inl, inr, arith, length, map}
 use Rattle.std.specs.Prelude.{IfOk, IfErr, IsErrAnd, OnErr}
 use Rattle.std.proofs.lemmas.List.{append-nil}
 use mathlib.Core.List.{IsPrefix}
@@ -20,8 +20,8 @@ use Rattle.mc_pull.specs.{Agreeing.AgreeNow, Agreeing.KeepsAgreement, Lone.Strip
 use Rattle.mc_pull.specs.{Settled.done_class_events, Settled.done_stripe_events, Sight.KeepsSight, Walker.Walker}
 use Rattle.mc_pull.specs.Growth as classes
 use Rattle.mc_pull.specs.declared.judge.Done.{Done}
-use Rattle.mc_store.specs.{Locked.IsHeldClass, Locked.IsLockedStripe, Locked.class_lock, Locked.setting_of, Locked.HasBegun, Serving.HasSeenShort, Serving.HasSeenShortClass}
-use Rattle.mc_store.specs.{Serving.IsShort, Serving.MayFailSeen, Serving.class_side, Sides.ClassSide, Sides.StripeSide, Sides.class_told, Sides.stripe_told}
+use Rattle.mc_store.specs.{Locked.IsHeldClass, Locked.IsLockedStripe, Locked.class_lock, Locked.setting_of, Locked.HasBegun, Serving.HasSeenShort}
+use Rattle.mc_store.specs.{Full.LacksPlaces, Serving.MayFailSeen, Serving.class_side, Sides.ClassSide, Sides.StripeSide, Sides.class_told, Sides.stripe_told}
 use Rattle.mc_store.proofs.CallerLemmas.{called_walked}
 use Rattle.mc_store.proofs.LockKeepsLemmas.{class_after, class_sees, heard_class, heard_stripe, met, stripe_after, stripe_sees}
 
@@ -86,18 +86,18 @@ class_at lent c sight = record { board = lent.board; lock = lent.lock; class = c
 
 -- a class's history that was told whole, and is short
 pub short_of : (config : Config) (sight : Sight) (lock : ℕ) (class : ClassNo) (history : List ClassEvent) → lock ≡ class_lock config class → IsClass (setting_of config) class
-    → list_at sight.seen lock ≡ class_told history → config.max_events < length history + 2 → HasSeenShortClass config sight
+    → list_at sight.seen lock ≡ class_told history → config.max_events < length history + 2 → LacksPlaces config sight class 2
 short_of config sight lock class history at is list lack =
     let long : length (list_at sight.seen (class_lock config class)) ≡ length history =
     ap (λ (n : ℕ). length (list_at sight.seen n)) (sym at) ∙ (ap (λ (t : List Event). length t) list ∙ map_length events.Class history) in
-    record { class = class; is = is; short = omega (arith, long, lack) }
+    record { is = is; short = omega (arith, long, lack) }
 
 -- a class's short history is one of the store's
-pub any_short : (config : Config) (sight : Sight) → HasSeenShortClass config sight → HasSeenShort config sight
-any_short config sight seen =
-    let first = seen.is.0 in
-    let last = seen.is.1 in
-    record { lock = class_lock config seen.class; of = omega (arith, first, last); short = seen.short }
+pub any_short : (config : Config) (sight : Sight) {class : ClassNo} → LacksPlaces config sight class 2 → HasSeenShort config sight
+any_short config sight {class = class} lacks =
+    let first = lacks.is.0 in
+    let last = lacks.is.1 in
+    record { lock = class_lock config class; of = omega (arith, first, last); short = lacks.short }
 
 -- a stripe and a class that agreed stepped together, and were told of each other
 module _ (table : TableId) (config : Config) (own : StripeSide) (lent : ClassSide) (own_kept : IsLockedStripe table config own) (lent_kept : IsHeldClass table config lent) (agree : AgreeNow lent.class own.stripe)
@@ -151,7 +151,7 @@ module _ (table : TableId) (config : Config) (own : StripeSide) (lent : ClassSid
   fails_seen NoMemory may = tt
 
   -- and the stripe too
-  pub short_seen_of : MayFail c s HistoryFull → IsShort config (stripe_at own s sight)
+  pub short_seen_of : MayFail c s HistoryFull → (s.limit < length s.history + 2) ⊎ LacksPlaces config sight lent.class.number 2
   short_seen_of (inl full) =
       let most : c.max_events ≡ config.max_events = ap (λ (v : ClassView). v.max_events) grows.same ∙ lent_kept.made_with.max_events in
       let list : list_at sight.seen lent.lock ≡ class_told c.history = ap (λ (t : Sight). list_at t.seen lent.lock) told ∙ list_at_same own.sight.seen lent.lock (class_told c.history) in
@@ -222,9 +222,9 @@ module _ (table : TableId) (config : Config) (own : StripeSide) (lent : ClassSid
       pair_told_is pair_told_of_is more pair_more_of_is)
 
   -- where the step failed for a full history, the stripe has seen it
-  pub short_paired : MayFail c_new s_new HistoryFull → IsShort config own_last
+  pub short_paired : MayFail c_new s_new HistoryFull → (own_last.stripe.limit < length own_last.stripe.history + 2) ⊎ LacksPlaces config own_last.sight c.number 2
   short_paired may =
-      subst (IsShort config) (sym own_last_is)
+      subst (λ (x : StripeSide). (x.stripe.limit < length x.stripe.history + 2) ⊎ LacksPlaces config x.sight c.number 2) (sym own_last_is)
       (short_seen_of table config (stripe_side own_owner own_seen s) (class_side owner seen c) own_first lent_first agree s_new c_new site grows legal lawful agreement still own_new.sight lent_last.sight
       pair_told_is pair_told_of_is more pair_more_of_is may)
 

@@ -2,15 +2,31 @@
 use Rattle.std.specs.Prelude.{◌≡◌, ◌++◌, ℕ, List, [], ◌∷◌, IfSome}
 use mathlib.Core.List.{IsPrefix}
 use Rattle.mc_item.specs.declared.{call_event.CallEvent.CallEvent, class_event.ClassEvent.ClassEvent, command.Command.Command, config.Config.Config}
-use Rattle.mc_item.specs.declared.{item.ClassNo.ClassNo, item.Who.Who, counts.Moves.Moves, reply.Reply.Reply}
+use Rattle.mc_item.specs.declared.{
+  fault.Fault.Fault,
+  fault.Fault.TheVariants.HistoryFull,
+  item.ClassNo.ClassNo,
+  item.Who.Who,
+  counts.Moves.Moves,
+  reply.Reply.Reply,
+}
 use Rattle.mc_evidence.specs.{Locks.ClassKeeps, Locks.StripeKeeps, Seen.classes_seen, Seen.stripes_seen}
 use Rattle.mc_board.specs.Histories.{list_at}
 use Rattle.mc_board.specs.declared.rule.Sight.{Sight}
-use Rattle.mc_segment.specs.{ClassCalls.limited_event, ClassState.ClassView}
+use Rattle.mc_segment.specs.{ClassState.ClassView}
 use Rattle.mc_stripe.specs.{StripeState.Stripe, StripeCalls.KeepsSite}
 use Rattle.mc_pull.specs.{Juggle.IsJuggle, Question.IsClassOf, Question.IsStripeOf, Rounds.rounds}
 use Rattle.mc_pull.specs.declared.looking.Answer.{Answer}
-use Rattle.mc_store.specs.{Commands.IsAnswered, Commands.IsCut, Callers.HasNoneOf, Callers.answered_at, Callers.asked_for, Earned.IsEarned, Locked.class_lock}
+use Rattle.mc_store.specs.{
+  Commands.IsAnswered,
+  Commands.IsCut,
+  Callers.HasNoneOf,
+  Callers.answered_at,
+  Callers.asked_for,
+  Earned.IsEarned,
+  Full.IsFullFor,
+  Locked.class_lock,
+}
 use Rattle.mc_store.specs.Locked.{setting_of}
 use Rattle.mc_store.specs.{Hits.IsAdvancedBy, Hits.queue_of, Made.HasNoneMadeBy, Passes.PassView, Passes.next_who, Sides.class_told, Sides.stripe_told}
 use Rattle.mc_store.specs.Waking.{MakesActive}
@@ -55,16 +71,17 @@ pub record IsRepliedBy (config : Config) (number : ℕ) (before after : Sight) (
   pub first : HasNoneOf who old.history
   pub replied : IsReplied config who command moment old new after (calls ++ asked_for command moment ∷ []) calls_new reply
 
--- a command was broken off: after what the pass had seen and what other calls made, its stripe's history gains at most what leads
--- up to it, and its caller's history gains just the call
-pub record IsCutBy (config : Config) (number : ℕ) (before after : Sight) (calls calls_new : List CallEvent) (who : Who) (command : Command) (moment : ℕ) : Type
-    0 where
+-- a command was broken off by this fault: after what the pass had seen and what other calls made, its stripe's history gains at
+-- most what leads up to it, and its caller's history gains just the call; `HistoryFull` means that a history lacks places for it
+pub record IsCutBy (config : Config) (number : ℕ) (before after : Sight) (calls calls_new : List CallEvent) (who : Who) (command : Command) (moment : ℕ)
+    (fault : Fault) : Type 0 where
   pub old : Stripe
   pub new : Stripe
   pub grew : IsSeenGrow config number before after old new
   pub first : HasNoneOf who old.history
   pub cut : IsCut config who command moment old new
   pub noted : calls_new ≡ calls ++ asked_for command moment ∷ []
+  pub full : fault ≡ HistoryFull → IsFullFor config old new after command moment
 
 -- a class's history grew in a call, from that of `c` to this list: what the pass had seen is a beginning of the first, and now it
 -- has seen all of the second; this is lawful, and each event's partner is in what the pass has seen of the stripes

@@ -16,7 +16,15 @@ use Rattle.mc_pull.specs.declared.attempting.Tried.{Tried}
 use Rattle.mc_pull.specs.declared.attempting.Tried.TheVariants as tried
 use Rattle.mc_pull.specs.{Lone.AreMadeBy, Perform.call}
 use Rattle.mc_store.specs.{Callers.answered_at, Calls.IsRepliedAs, Commands.IsCut, Commands.walker_in, Earned.HasGivenUp, Earned.IsEarnedAt, Earned.IsEarnedIn}
-use Rattle.mc_store.specs.{Passes.CallerView, Passes.HasAsked, Performing.IsMadeOnStripe, Serving.HasSeenShortClass, Serving.IsShort, Serving.IsShortFor}
+use Rattle.mc_store.specs.{
+  Full.HasSeenFull,
+  Full.IsFullFor,
+  Full.LacksEntries,
+  Passes.CallerView,
+  Passes.HasAsked,
+  Performing.IsMadeOnStripe,
+  Serving.HasSeenShort,
+}
 use Rattle.mc_store.specs.Sides.{ClassSide}
 use Rattle.mc_store.specs.Sides.{StripeSide}
 use Rattle.mc_store.specs.declared.replied.Replied.{Replied}
@@ -42,14 +50,15 @@ pub record Suffice (home other : Option ClassNo) (s : Stripe) (command : Command
   pub for_version : Holds home (classes_for (key_of command) (item_of s command) (row_at s command moment)).home
   pub for_item : Holds other (classes_for (key_of command) (item_of s command) (row_at s command moment)).other
 
--- a class is full with an unchanged history, and no refusal is known; if that has fewer than two places left, this was seen
+-- a class is full with an unchanged history, as was seen, and no refusal is known; if that has fewer than two places left, this was seen
 pub record IsStillFull (config : Config) (sight : Sight) (refused : Option ℕ) (v v_new : ClassView) : Type 0 where
   pub none : refused ≡ None
   pub was_full : IsFull v.chunks v.history
   pub full : IsFull v_new.chunks v_new.history
   pub history_is : v_new.history ≡ v.history
   pub number_is : v_new.number ≡ v.number
-  pub short : v_new.max_events < length v_new.history + 2 → HasSeenShortClass config sight
+  pub seen : HasSeenFull config sight v_new.number
+  pub short : v_new.max_events < length v_new.history + 2 → HasSeenShort config sight
 
 -- a command needs a new chunk of this class, and needs no other class than this and the one for its key's item
 pub record WantsChunk (class : ClassNo) (other : Option ClassNo) (s : Stripe) (command : Command) (moment : ℕ) : Type 0 where
@@ -80,10 +89,10 @@ WantsAlone s command moment want = IsWanting nothing (key_of command) (item_of s
 
 module _ (config : Config) (s : Stripe) (own_new : StripeSide) (command : Command) (moment : ℕ) (home other : Option ClassNo) (AnyFull : Type 0) where
   -- what a command may still want that has locked these classes: the removal of its dead item, classes if these don't suffice, a
-  -- chunk if `AnyFull`, or a place if a history has fewer than two left
+  -- chunk if `AnyFull`, or a place if a class's history lacks one for it
   abbrev pub MayWant : Want → Type 0
   MayWant wants.Room = AnyFull
-  MayWant (wants.Place class) = IsShort config own_new
+  MayWant (wants.Place class) = LacksEntries config s own_new.sight command moment
   MayWant (wants.Burial link) = WantsAlone s command moment (wants.Burial link)
   MayWant (wants.Classes classes) = WantsAlone s command moment (wants.Classes classes) × (Suffice home other s command moment → ⊥)
 
@@ -108,7 +117,7 @@ HasGivenUpAny config s turn v =
     → HasGivenUp config (record { 0 = s.site.stripe }) v.number turn.who turn.moment key v.history
 
 -- how a command ends under the lock of its stripe: it was answered, or it was broken off with at most what leads up to it;
--- `HistoryFull` means that a history that it may write has fewer than two places left
+-- `HistoryFull` means that a history lacks places for it
 pub record Ends (config : Config) (s : Stripe) (own_new : StripeSide) (caller caller_new : CallerView) (command : Command) (turn : Turn)
     (result : Result Replied Fault) : Type 0 where
   pub replied : IfOk result (IsRepliedAs config turn.who command turn.moment s own_new.stripe own_new.sight caller.calls caller_new.calls)
@@ -116,4 +125,4 @@ pub record Ends (config : Config) (s : Stripe) (own_new : StripeSide) (caller ca
   pub unnoted : OnErr result (caller_new ≡ caller)
   pub number : caller_new.number ≡ caller.number
   pub site : KeepsSite s own_new.stripe
-  pub full : IsErrOf result HistoryFull → IsShortFor config command own_new
+  pub full : IsErrOf result HistoryFull → IsFullFor config s own_new.stripe own_new.sight command turn.moment

@@ -6,6 +6,7 @@ pub mod Sides
 pub mod Locked
 pub mod Passes
 pub mod Serving
+pub mod Full
 pub mod Performing
 pub mod Looked
 pub mod Earned

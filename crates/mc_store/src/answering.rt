@@ -1,12 +1,12 @@
 //! One command under the lock of its key's stripe. It is tried, gets what it turns out to want, and is tried again.
-ghost use Rattle.std.specs.Prelude.{◌≡◌, ◌<◌, ◌++◌, Some, None, IfSome, OnOk, OnErr, IsErrOf};
+ghost use Rattle.std.specs.Prelude.{◌≡◌, ◌<◌, ◌+◌, ◌++◌, ◌⊎◌, Some, None, IfSome, OnOk, OnErr, IsErrOf, length};
 ghost use Rattle.std.specs.Sync.Mutex.{mutex_guard_value};
 ghost use Rattle.mc_item.specs.declared.fault.Fault.TheVariants.{HistoryFull};
 ghost use Rattle.mc_board.specs.Histories.{Grows};
 ghost use Rattle.mc_evidence.specs.Setting.{IsClass};
 ghost use Rattle.mc_stripe.specs.{Plan.dead_link, StripeCalls.KeepsSite, StripeState.cache_now};
 ghost use Rattle.mc_stripe.specs.declared.wanting.Want.TheVariants as wants;
-ghost use Rattle.mc_store.specs.{Callers.asked_for, Commands.burial, Locked.HasBegunAs, Locked.HasBegunCommand, Locked.setting_of, Serving.IsShort};
+ghost use Rattle.mc_store.specs.{Callers.asked_for, Commands.burial, Full.LacksPlaces, Locked.HasBegunAs, Locked.HasBegunCommand, Locked.setting_of};
 ghost use Rattle.mc_store.specs.Held.{Ends, IsCallOn, WantsAlone, class_held};
 
 use crate::caller::Caller;
@@ -105,7 +105,7 @@ fn bury<N: Named>(
     ensures err { OnErr result (own.new.stripe.history ≡ own.old.stripe.history) }
     ensures sees { Grows own.old.sight own.new.sight }
     ensures site { KeepsSite own.old.stripe own.new.stripe }
-    ensures full { IsErrOf result HistoryFull → IsShort N.config own.new }
+    ensures full { IsErrOf result HistoryFull → (own.new.stripe.limit < length own.new.stripe.history + 2) ⊎ LacksPlaces N.config own.new.sight link.class 2 }
 {
     own.law();
     let mut guard = store.lock_class(rt, link.class);

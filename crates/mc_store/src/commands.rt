@@ -1,10 +1,10 @@
 //! One command on a store, under the lock of its key's stripe.
-ghost use Rattle.std.specs.Prelude.{◌≡◌, ◌≤◌, ◌⊎◌, ◌+◌, ◌-◌, ◌^◌, IfOk, IfSome, OnOk, OnErr, IsErrOf, length};
+ghost use Rattle.std.specs.Prelude.{◌≡◌, ◌≤◌, ◌⊎◌, ◌+◌, ◌-◌, ◌^◌, IfOk, IfErr, IfSome, OnOk, length};
 ghost use Rattle.mc_item.specs.{Command.key_of, Measure.stripe_of};
 ghost use Rattle.mc_item.specs.declared.fault.Fault.TheVariants.{HistoryFull};
 ghost use Rattle.mc_evidence.specs.Setting.{IsClass};
 ghost use Rattle.mc_store.specs.{Calls.IsCutBy, Calls.IsRepliedBy, Callers.turns_of, Hits.IsOffered, Locked.setting_of, Passes.next_who};
-ghost use Rattle.mc_store.specs.Serving.{HasSeenShortFor, IsLater};
+ghost use Rattle.mc_store.specs.Serving.{IsLater};
 ghost use Rattle.mc_store.specs.Waking.{reply_in, woken_in};
 
 use crate::answering::{answer, answer_for};
@@ -73,9 +73,10 @@ impl<N: Named> Store<N> {
     /// If the command's hit made its item ACTIVE, it offers the hit to the queue of the item's class, without any lock. If the queue
     /// is full, the hit is dropped.
     /// After a fault the stripe's history has gained at most what leads up to the command: the dead item's removal, and a search
-    /// for a chunk. The caller's history has gained at most the call. `HistoryFull` comes only if the history of the key's stripe
-    /// or of a class has fewer than two places left, or the pass has had `max_events` turns. For a command that may need a chunk it
-    /// may also be another stripe's history. `NoMemory` comes if an allocation fails.
+    /// for a chunk. The caller's history has gained at most the call. `HistoryFull` comes only if the pass has had `max_events`
+    /// turns, or a history lacks places for this command: that of the key's stripe is full, or that of a class lacks places for
+    /// the entries that come and leave. To remove a dead item takes two places, and so does each step of a search.
+    /// `NoMemory` comes if an allocation fails.
     pub fn command(
         &self,
         alloc: Global,
@@ -87,16 +88,14 @@ impl<N: Named> Store<N> {
         requires early { moment ≤ 2 ^ 62 }
         ensures replied { IfOk result (IsRepliedBy N.config (stripe_of (key_of command) N.config.stripes).0 pass.old.sight pass.new.sight pass.old.calls
             pass.new.calls (next_who pass.old) command moment) }
-        ensures cut { OnErr result ((pass.new ≡ pass.old)
+        ensures cut { IfErr result (λ fault. ((pass.new ≡ pass.old) × (fault ≡ HistoryFull → N.config.max_events ≤ pass.old.turn))
             ⊎ IsCutBy N.config (stripe_of (key_of command) N.config.stripes).0 pass.old.sight pass.new.sight pass.old.calls pass.new.calls (next_who pass.old)
-            command moment) }
+            command moment fault) }
         ensures offers { (pass.new.hands ≡ pass.old.hands) ⊎ IsOffered N.config (stripe_of (key_of command) N.config.stripes).0 pass.new.sight
             (next_who pass.old) command moment pass.old.hands pass.new.hands }
         ensures grows { IsLater pass.old.sight pass.new.sight }
         ensures caller { pass.new.caller ≡ pass.old.caller }
         ensures turn { (pass.new.turn ≡ length (turns_of pass.new.calls)) × OnOk result (pass.new.turn ≡ pass.old.turn + 1) }
-        ensures full { IsErrOf result HistoryFull → HasSeenShortFor N.config (stripe_of (key_of command) N.config.stripes).0 command pass.new.sight
-            ⊎ (N.config.max_events ≤ pass.old.turn) }
     {
         let asking = Asking {
             command: &command,

@@ -1,5 +1,5 @@
 //! A command on the classes that it has locked: their views are synced with the stripe's, and it is tried on what they offer.
-ghost use Rattle.std.specs.Prelude.{◌≡◌, ◌≢◌, Some, None, IfOk, OnOk, OnErr, IsErrOf};
+ghost use Rattle.std.specs.Prelude.{◌≡◌, ◌≢◌, ◌≤◌, ◌⊎◌, Some, None, IfOk, OnOk, OnErr, IsErrOf, length};
 ghost use Rattle.mc_item.specs.Command.{key_of};
 ghost use Rattle.mc_item.specs.declared.answer.Need.TheVariants as needs;
 ghost use Rattle.mc_item.specs.declared.fault.Fault.TheVariants.{HistoryFull};
@@ -9,7 +9,7 @@ ghost use Rattle.mc_rule.specs.Lists.{IsFull};
 ghost use Rattle.mc_segment.specs.ClassState.{with_room};
 ghost use Rattle.mc_stripe.specs.StripeCalls.{KeepsSite};
 ghost use Rattle.mc_store.specs.Held.{Ends, HasGivenUpAny, IsCallOn, IsRefusedAt, IsStillFull, IsTriedOn, IsWalked, Suffice, WantsChunk, class_held};
-ghost use Rattle.mc_store.specs.{Callers.asked_for, Locked.HasBegunAs, Locked.HasBegunSearch, Serving.HasSeenShort, Serving.IsShort};
+ghost use Rattle.mc_store.specs.{Callers.asked_for, Full.HasSeenFull, Locked.HasBegunAs, Locked.HasBegunSearch, Serving.HasSeenShort};
 
 use crate::caller::Caller;
 use crate::locked::{LockedClass, LockedStripe};
@@ -53,7 +53,7 @@ fn try_other<N: Named>(
     ensures err { OnErr result ((own.new.stripe.history ≡ own.old.stripe.history) × (caller.new ≡ caller.old)) }
     ensures sees { Grows own.old.sight own.new.sight }
     ensures site { KeepsSite own.old.stripe own.new.stripe }
-    ensures full { IsErrOf result HistoryFull → IsShort N.config own.new }
+    ensures full { IsErrOf result HistoryFull → own.new.stripe.limit ≤ length own.new.stripe.history }
 {
     meet(board, own, other);
     ready_class(other)?;
@@ -89,7 +89,7 @@ pub(crate) fn try_home<N: Named>(
     ensures err { OnErr result ((own.new.stripe.history ≡ own.old.stripe.history) × (caller.new ≡ caller.old)) }
     ensures sees { Grows own.old.sight own.new.sight }
     ensures site { KeepsSite own.old.stripe own.new.stripe }
-    ensures full { IsErrOf result HistoryFull → IsShort N.config own.new }
+    ensures full { IsErrOf result HistoryFull → own.new.stripe.limit ≤ length own.new.stripe.history }
 {
     match other {
         None => {
@@ -134,7 +134,8 @@ fn search<N: Named>(
     ensures number { home.new.class.number ≡ home.old.class.number }
     ensures begun { HasBegunSearch N.config own.new.sight turn.who turn.moment }
     ensures site { KeepsSite own.old.stripe own.new.stripe }
-    ensures full { IsErrOf result HistoryFull → HasSeenShort N.config own.new.sight }
+    ensures seen { (own.new ≡ own.old) ⊎ HasSeenFull N.config own.new.sight home.old.class.number }
+    ensures full { IsErrOf result HistoryFull → HasSeenFull N.config own.new.sight home.old.class.number × HasSeenShort N.config own.new.sight }
 {
     if !home.side().state().is_full() {
         return Ok(());

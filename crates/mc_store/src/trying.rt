@@ -1,10 +1,10 @@
 //! One try of a command on its stripe and the classes that it has locked.
-ghost use Rattle.std.specs.Prelude.{◌≡◌, ◌∷◌, [], None, IfOk, OnErr, IsErrOf};
+ghost use Rattle.std.specs.Prelude.{◌≡◌, ◌≤◌, ◌∷◌, [], None, IfOk, OnErr, IsErrOf, length};
 ghost use Rattle.mc_item.specs.declared.fault.Fault.TheVariants.{HistoryFull};
 ghost use Rattle.mc_board.specs.Histories.{Grows};
 ghost use Rattle.mc_pull.specs.Attempt.{HasRoomFor, MayTryOn};
 ghost use Rattle.mc_stripe.specs.StripeCalls.{KeepsSite};
-ghost use Rattle.mc_store.specs.{Passes.HasAsked, Serving.IsShort, Trying.IsTriedUnder};
+ghost use Rattle.mc_store.specs.{Passes.HasAsked, Trying.IsTriedUnder};
 ghost use Rattle.mc_store.specs.Trying as words;
 
 use crate::caller::Caller;
@@ -48,7 +48,7 @@ pub(crate) fn try_alone<N: Named>(
     ensures unnoted { OnErr result (caller.new ≡ caller.old) }
     ensures sees { Grows own.old.sight own.new.sight }
     ensures site { KeepsSite own.old.stripe own.new.stripe }
-    ensures full { IsErrOf result HistoryFull → IsShort N.config own.new }
+    ensures full { IsErrOf result HistoryFull → own.new.stripe.limit ≤ length own.new.stripe.history }
 {
     let place = own.side.events();
     let tried = attempt_none(&mut own.side.state, command, turn);
@@ -86,7 +86,7 @@ pub(crate) fn try_on_one<N: Named>(
     ensures unnoted { OnErr result (caller.new ≡ caller.old) }
     ensures sees { Grows own.old.sight own.new.sight }
     ensures site { KeepsSite own.old.stripe own.new.stripe }
-    ensures full { IsErrOf result HistoryFull → IsShort N.config own.new }
+    ensures full { IsErrOf result HistoryFull → own.new.stripe.limit ≤ length own.new.stripe.history }
 {
     let place = own.side.events();
     let tried = attempt_one(
@@ -138,7 +138,7 @@ pub(crate) fn try_on_two<N: Named>(
     ensures unnoted { OnErr result (caller.new ≡ caller.old) }
     ensures sees { Grows own.old.sight own.new.sight }
     ensures site { KeepsSite own.old.stripe own.new.stripe }
-    ensures full { IsErrOf result HistoryFull → IsShort N.config own.new }
+    ensures full { IsErrOf result HistoryFull → own.new.stripe.limit ≤ length own.new.stripe.history }
 {
     let place = own.side.events();
     let tried = attempt_two(

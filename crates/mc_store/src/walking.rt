@@ -1,13 +1,22 @@
 //! Walks under the locks of a store: making room in a class, juggling it, removing a dead item.
-ghost use Rattle.std.specs.Prelude.{◌≡◌, ◌≤◌, ◌+◌, ◌++◌, ◌∷◌, [], List, Some, IfOk, IfErr, OnOk, OnErr, IsErrOf, false};
+ghost use Rattle.std.specs.Prelude.{◌≡◌, ◌≤◌, ◌<◌, ◌+◌, ◌++◌, ◌∷◌, ◌⊎◌, [], List, Some, IfOk, IfErr, OnOk, OnErr, IsErrOf, false, length};
+ghost use mathlib.Core.List.{IsPrefix};
 ghost use Rattle.mc_item.specs.declared.{fault.Fault.TheVariants.HistoryFull, stripe_event.Cause.TheVariants.Expired};
 ghost use Rattle.mc_stripe.specs.{Plan.dead_link, StripeCalls.KeepsSite, StripeState.cache_now};
 ghost use Rattle.mc_pull.specs.Growth as classes;
 ghost use Rattle.mc_pull.specs.{Juggle.IsJuggle, Lone.StripeGrows, Rounds.IsRoom, Rounds.rounds, Settled.lost_event, Walker.walker_of};
 ghost use Rattle.mc_pull.specs.declared.looking.Answer.{Answer};
-ghost use Rattle.mc_store.specs.{Callers.juggling_of, Earned.IsSearchInVain, Serving.HasSeenShort, Serving.IsServed, Serving.IsShort, Serving.MayFailSeen};
+ghost use Rattle.mc_store.specs.{
+  Callers.juggling_of,
+  Earned.IsSearchInVain,
+  Full.LacksPlaces,
+  Serving.HasSeenShort,
+  Serving.IsServed,
+  Serving.MayFailSeen,
+  Sides.class_told,
+};
 ghost use Rattle.mc_store.specs.{Locked.HasBegun, Locked.HasBegunAs, Locked.HasBegunCommand, Locked.HasBegunSearch, Made.SearchesOwn};
-ghost use Rattle.mc_board.specs.Histories.{Grows};
+ghost use Rattle.mc_board.specs.Histories.{Grows, list_at};
 
 use crate::gates::{Holding, Trying};
 use crate::locked::{LockedClass, LockedStripe};
@@ -76,6 +85,7 @@ pub(crate) fn make_room_under<N: Named>(
     ensures stripe { StripeGrows (walker_of class.old.class who moment) own.old.stripe own.new.stripe }
     ensures tried { IfOk result (λ found. found ≡ false → IsSearchInVain N.config class.old.class own.old.stripe who moment class.new.class.history) }
     ensures begun { HasBegunSearch N.config own.new.sight who moment }
+    ensures seen { IsPrefix (class_told class.old.class.history) (list_at own.new.sight.seen class.old.lock) }
     ensures full { IsErrOf result HistoryFull → HasSeenShort N.config own.new.sight }
 {
     let board = &store.board;
@@ -146,7 +156,7 @@ pub(crate) fn bury_under<N: Named>(
     ensures err { OnErr result (own.new.stripe.history ≡ own.old.stripe.history) }
     ensures sees { Grows own.old.sight own.new.sight }
     ensures site { KeepsSite own.old.stripe own.new.stripe }
-    ensures full { IsErrOf result HistoryFull → IsShort N.config own.new }
+    ensures full { IsErrOf result HistoryFull → (own.new.stripe.limit < length own.new.stripe.history + 2) ⊎ LacksPlaces N.config own.new.sight link.class 2 }
 {
     let _key = key;
     let board = &store.board;

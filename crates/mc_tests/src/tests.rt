@@ -19,6 +19,7 @@ mod limits;
 mod long;
 mod pieces;
 mod places;
+mod promptness;
 mod runs;
 mod scripts;
 mod stripes;

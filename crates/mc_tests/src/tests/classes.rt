@@ -2,7 +2,7 @@
 use super::{Example, all_hold};
 
 // An item of one byte under a key of one costs 66, so it is of class 1, whose items have at most 96.
-pub(super) static EXAMPLES: [Example; 20] = [
+pub(super) static EXAMPLES: [Example; 21] = [
     Example {
         name: "the third set takes the chunk of the oldest item",
         words: &["mcseg", "--sizes", "96", "--chunks", "2"],
@@ -179,6 +179,14 @@ pub(super) static EXAMPLES: [Example; 20] = [
         words: &["mcseg", "--sizes", "96", "--events", "16"],
         input: "set a 0 0 1|x|set a 0 0 1|x|set a 0 0 1|x|set a 0 0 1|x|set a 0 0 1|x|set a 0 0 1|x|set a 0 0 1|x|set a 0 0 1|x|set a 0 0 1|x|set a 0 0 1|x|set a 0 0 1|x|set a 0 0 1|x|",
         output: "STORED|STORED|STORED|STORED|STORED|STORED|STORED|STORED|",
+        status: 1,
+        errors: "mcseg: history full\n",
+    },
+    Example {
+        name: "a class with one place left takes what needs one, and a full one is read",
+        words: &["mcseg", "--sizes", "96", "--events", "16"],
+        input: "set a 0 0 1|x|set a 0 0 1|x|set a 0 0 1|x|set a 0 0 1|x|set a 0 0 1|x|set a 0 0 1|x|set a 0 0 1|x|set a 0 0 1|x|set b 0 0 1|y|get a b|delete b|",
+        output: "STORED|STORED|STORED|STORED|STORED|STORED|STORED|STORED|STORED|VALUE a 0 1|x|VALUE b 0 1|y|END|",
         status: 1,
         errors: "mcseg: history full\n",
     },

@@ -1,4 +1,3 @@
-use Rattle.std.proofs.KnownBytes.{Keeps-refl}
 use Rattle.mc_item.proofs.ConfigLemmas.{bounded}
 use Rattle.mc_driver.proofs.conversing.converse.Goals as goal
 

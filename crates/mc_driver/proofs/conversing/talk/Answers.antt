@@ -1,4 +1,4 @@
-use Rattle.std.proofs.Common.{◌≡◌, ◌∙◌, ◌++◌, ◌∷◌, [], List, ap, slice_index_or, subst, sym}
+use Rattle.std.proofs.Common.{◌≡◌, ◌∙◌, ◌++◌, ◌∷◌, [], ap, slice_index_or, subst, sym}
 use Rattle.mc_driver.specs.Input.{IsConversed, OfAllBytes}
 use Rattle.mc_driver.proofs.ConversationLemmas.{conversed, same_ends}
 use Rattle.mc_driver.proofs.conversing.talk.Goals as goal

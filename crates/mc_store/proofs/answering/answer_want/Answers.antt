@@ -1,4 +1,4 @@
-use Rattle.std.proofs.Common.{◌≡◌, ◌∙◌, ℕ, Err, Ok, ap, inl, refl, sym, subst}
+use Rattle.std.proofs.Common.{◌≡◌, ◌∙◌, ℕ, Err, Ok, ap, inl, inr, refl, sym, subst}
 use Rattle.std.specs.Prelude.{None}
 use Rattle.mc_item.specs.{Command.key_of, Measure.stripe_of}
 use Rattle.mc_item.specs.declared.answer.Site.{Site}
@@ -40,7 +40,7 @@ returns-in_err-bury-in-Burial g c =
     let told = ap (λ (x : StripeSide). x.stripe) c.tell_stripe.ensures.stripe in
     ends_early g.N.Named.config c.args.command.now c.args.turn s c.bury.new.own c.args.caller.now c.tell_stripe.new.self c.from_residual.result c.in_err-bury-in-Burial.field-0.0 c.from_residual.ensures.1
     (subst (λ (t : Stripe). KeepsSite t c.bury.new.own.stripe) told c.bury.ensures.site) (c.in_err-bury-in-Burial.ensures.err ∙ ap (λ (t : Stripe). t.history) told) c.tell_stripe.ensures.same
-    (λ is. c.bury.ensures.full (c.in_err-bury-in-Burial.was ∙ ap Err is))
+    (λ is. inr (inl (record { link = c.in-Burial.link; dead = rw c.in-Burial.is at c.requires.wants; lacks = c.bury.ensures.full (c.in_err-bury-in-Burial.was ∙ ap Err is) })))
 
 pub returns-in_err-reply-in-Burial : goal.returns-in_err-reply-in-Burial
 returns-in_err-reply-in-Burial g c =

@@ -1,12 +1,15 @@
-use Rattle.std.proofs.Common.{◌≡◌, ◌∙◌, ℕ, List, Err, ap, inl, inr, refl, sym, subst}
+use Rattle.std.proofs.Common.{◌≡◌, ◌∙◌, ℕ, List, Err, ap, inl, inr, refl, sym, subst, ⊎_elim}
 use Rattle.std.specs.Prelude.{Option, Some}
 use Rattle.mc_item.specs.Command.{key_of}
 use Rattle.mc_item.specs.declared.{answer.Site.Site, class_event.ClassEvent.ClassEvent, fault.Fault.TheVariants.HistoryFull, item.ClassNo.ClassNo}
 use Rattle.mc_item.specs.declared.{item.StripeNo.StripeNo}
 use Rattle.mc_segment.specs.ClassState.{ClassView}
-use Rattle.mc_stripe.specs.{StripeCalls.KeepsSite, StripeState.Stripe, StripeState.cache_now, Trying.item_of}
-use Rattle.mc_store.specs.{Earned.HasGivenUp, Earned.IsEarnedAt, Held.Ends, Held.Suffice, Held.class_held, Sides.StripeSide}
-use Rattle.mc_store.proofs.{CallerLemmas.search_sees, NeededClassLemmas.begun_search, NeededClassLemmas.fresh_needs, NeededClassLemmas.suffice_behind}
+use Rattle.mc_board.specs.Histories.{Grows}
+use Rattle.mc_board.specs.declared.rule.Sight.{Sight}
+use Rattle.mc_stripe.specs.{StripeCalls.KeepsSite, StripeState.Stripe}
+use Rattle.mc_store.specs.{Earned.HasGivenUp, Earned.IsEarnedAt, Full.HasSeenFull, Full.LacksEntries, Held.Ends, Held.Suffice, Held.class_held, Sides.StripeSide}
+use Rattle.mc_store.proofs.{CallerLemmas.search_sees, NeededClassLemmas.begun_search, NeededClassLemmas.suffice_behind}
+use Rattle.mc_store.proofs.FullLemmas.{entries_short, full_search, seen_full_grows}
 use Rattle.mc_store.proofs.UnderLockLemmas.{site_both, site_itself}
 use Rattle.mc_store.proofs.CommandEndLemmas.{ends_cut, ends_err, ends_made, searched_same, searched_walk, suffice_same}
 use Rattle.mc_store.proofs.HeldTryLemmas.{earned_now, made_caller, no_burial, refuse_short, some_none, wants_place}
@@ -60,9 +63,11 @@ returns-in_err-search g c =
     let mid = c.search.new.own.stripe in
     let alive = c.requires.wants.suffice.alive in
     let searched = searched_walk config command c.args.turn s mid c.args.home.now.class.number alive c.requires.wants.fresh c.search.ensures.walked in
-    let needs = fresh_needs s.site (cache_now s).versions (item_of s command) command c.args.turn.moment c.args.home.now.class.number c.requires.wants.fresh in
     ends_err config command c.args.turn s mid alive searched c.search.ensures.site c.search.new.own c.args.caller.now c.args.caller.now
-    c.from_residual.result c.in_err-search.field-0.0 c.from_residual.ensures.1 (site_itself mid) refl refl (λ is. inr (needs, c.search.ensures.full (c.in_err-search.was ∙ ap Err is)))
+    c.from_residual.result c.in_err-search.field-0.0 c.from_residual.ensures.1 (site_itself mid) refl refl
+    (λ is.
+    let full = c.search.ensures.full (c.in_err-search.was ∙ ap Err is) in
+    full_search config s mid c.search.new.own.sight command c.args.turn.moment c.args.home.now.class.number alive c.requires.wants.fresh full.0 full.1)
 
 pub returns-in-Made : goal.returns-in-Made
 returns-in-Made g c =
@@ -97,7 +102,9 @@ returns-in_err-place-in-Room g c =
     subst (λ (x : StripeSide). Ends config s x c.args.caller.now c.try_home.new.caller command c.args.turn c.from_residual-in_err-place-in-Room.result) (sym c.refuse.ensures.own)
     (ends_err config command c.args.turn s mid alive searched c.search.ensures.site c.try_home.new.own c.args.caller.now c.try_home.new.caller c.from_residual-in_err-place-in-Room.result c.in_err-place-in-Room.field-0.0
     c.from_residual-in_err-place-in-Room.ensures.1 c.try_home.ensures.site tried.0 tried.1
-    (λ is. inl (refuse_short config c.try_home.new.own c.try_home.new.home.class c.refuse.new.lent.class full.0.short c.in_err-place-in-Room.ensures.err.0
+    (λ is. full_search config s c.try_home.new.own.stripe c.try_home.new.own.sight command c.args.turn.moment c.args.home.now.class.number alive c.requires.wants.fresh
+    (subst (HasSeenFull config c.try_home.new.own.sight) (full.0.number_is ∙ c.search.ensures.number) full.0.seen)
+    (refuse_short config c.try_home.new.own.sight c.try_home.new.home.class c.refuse.new.lent.class full.0.short c.in_err-place-in-Room.ensures.err.0
     (c.refuse.ensures.full (c.in_err-place-in-Room.was ∙ ap Err is)))))
 
 pub try_home-requires-in-Room-clause-refused : goal.try_home-requires-in-Room-clause-refused
@@ -167,7 +174,14 @@ returns-in-Place g c =
     let tried = rw c.in-Wants.is at c.in_ok-reply.ensures.tried in
     let searched = searched_walk config command turn s mid c.args.home.now.class.number alive c.requires.wants.fresh c.search.ensures.walked in
     ends_cut config command turn s mid alive searched c.search.ensures.site c.try_home.new.own c.args.caller.now c.try_home.new.caller HistoryFull c.try_home.ensures.site tried.0 tried.1
-    (λ is. inl (rw c.in-Place.is at tried.2))
+    (λ is.
+    let entries = rw c.in-Place.is at tried.2 in
+    let end = c.try_home.new.own in
+    ⊎_elim
+    (λ idle. inr (inr (inl (subst (λ (x : StripeSide). LacksEntries config x.stripe end.sight command turn.moment) idle entries))))
+    (λ seen. full_search config s end.stripe end.sight command turn.moment c.args.home.now.class.number alive c.requires.wants.fresh
+    (seen_full_grows config c.search.new.own.sight end.sight c.try_home.ensures.sees seen) (entries_short config mid end.sight command turn.moment entries))
+    c.search.ensures.seen)
 
 pub returns-in-Wants-2 : goal.returns-in-Wants-2
 returns-in-Wants-2 g c =
@@ -194,6 +208,13 @@ returns-in-Wants-2 g c =
     let searched = searched_walk config command turn s mid class alive c.requires.wants.fresh c.search.ensures.walked in
     ends_cut config command turn s last alive (searched_same mid last site same command turn.moment config turn.who s searched) (site_both s mid last c.search.ensures.site site)
     c.try_home-in-Room.new.own c.args.caller.now c.try_home-in-Room.new.caller HistoryFull c.try_home-in-Room.ensures.site again.0 (again.1 ∙ tried.1)
-    (λ is. inl (wants_place config last c.try_home-in-Room.new.own c.args.command.now turn.moment (Some c.refuse.new.lent.class.number)
+    (λ is.
+    let end = c.try_home-in-Room.new.own in
+    let told : c.refuse.new.own.sight ≡ c.try_home.new.own.sight = ap (λ (x : StripeSide). x.sight) c.refuse.ensures.own in
+    let seen = seen_full_grows config c.try_home.new.own.sight end.sight (subst (λ (t : Sight). Grows t end.sight) told c.try_home-in-Room.ensures.sees)
+    (subst (HasSeenFull config c.try_home.new.own.sight) (full.0.number_is ∙ c.search.ensures.number) full.0.seen) in
+    full_search config s end.stripe end.sight command turn.moment class alive c.requires.wants.fresh seen
+    (entries_short config last end.sight command turn.moment
+    (wants_place config last end c.args.command.now turn.moment (Some c.refuse.new.lent.class.number)
     (class_held c.try_home.new.other) _ again_suffice c.in-Wants-2.field-0 again.2
-    (λ room. some_none c.in_ok-place-in-Room.place _ refl (rw room at again.2).0.none)))
+    (λ room. some_none c.in_ok-place-in-Room.place _ refl (rw room at again.2).0.none))))

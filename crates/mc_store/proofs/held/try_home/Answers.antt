@@ -7,7 +7,7 @@ use Rattle.mc_stripe.specs.{StripeState.Stripe, Trying.item_of, Trying.row_at}
 use Rattle.mc_stripe.specs.declared.wanting.Given.{Given}
 use Rattle.mc_pull.specs.{Agreeing.AgreeNow, Attempt.IsNoted, Attempt.OffersHome, Attempt.OffersOther}
 use Rattle.mc_store.specs.{Held.class_held, Held.class_number, Sides.ClassSide, Sides.StripeSide, Trying.IsTriedUnder}
-use Rattle.mc_store.proofs.HeldTryLemmas.{crowded_both, crowded_home, heard_of, home_fits, keeps_full, noted_of, other_fits, readied, readied_class, refused_of}
+use Rattle.mc_store.proofs.HeldTryLemmas.{crowded_both, crowded_home, crowded_lacks, full_seen, heard_of, home_fits, keeps_full, noted_of, other_fits, readied, readied_class, refused_of}
 use Rattle.mc_store.proofs.HeldTryLemmas.{same_number, short_seen, taken_earned, tried_on, wants_chunk}
 use Rattle.mc_store.proofs.LockKeepsLemmas.{grows_trans}
 use Rattle.mc_store.proofs.held.try_home.Goals as goal
@@ -78,15 +78,17 @@ returns-in_ok-ready_class-in-None-clause-tried g c =
     let for_home = ap (λ (n : ClassNo). Some n) (offers.class_is ∙ same_number table config was side met.sight side.class.room is) in
     let for_other = sym (ap class_held c.in-None.is) in
     let short = short_seen table config was side met.sight side.class.room is mid end.sight c.side.ensures.kept c.meet.ensures.told c.try_on_one.ensures.sees in
+    let seen = full_seen table config was side met.sight side.class.room is mid end.sight c.side.ensures.kept c.meet.ensures.told c.try_on_one.ensures.sees in
     tried_on config s end c.args.caller.now c.try_on_one.new.caller command turn given (side ∷ []) (new ∷ []) (Some was.class.number) (class_held c.args.other.now) _ for_home for_other
     (λ room taken. taken_earned config s turn key side.class refused mid end.sight (heard_of table config was side met.sight side.class.room is mid c.meet.ensures.heard) c.try_on_one.ensures.sees
     (refused_of table config was side met.sight side.class.room is s turn key refused c.requires.refused) given (row_at s command turn.moment).need room offers taken)
     (λ stay lacks. (
-      keeps_full config end.sight was.class side.class new.class refused turn.who (Some offer) offers (readied_class table config was side met.sight side.class.room is) stay.0 short lacks.none,
+      keeps_full config end.sight was.class side.class new.class refused turn.who (Some offer) offers (readied_class table config was side met.sight side.class.room is) stay.0 seen short lacks.none,
       refl,
       wants_chunk s command turn.moment given was.class.number (class_held c.args.other.now) for_home for_other lacks,
     ))
-    (λ stay class crowded. inr (short (crowded_home given key (item_of s command) turn.moment (row_at s command turn.moment) class crowded side.class refused turn.who refl offers)))
+    (λ stay class crowded. crowded_lacks config s end.sight command turn.moment given class crowded (side.class, refused, turn.who, offers) side.class
+    (crowded_home given key (item_of s command) turn.moment (row_at s command turn.moment) class crowded side.class refused turn.who refl offers) short)
     c.try_on_one.result
     (subst (λ (t : Stripe). IfOk c.try_on_one.result (IsTriedUnder t end.stripe c.args.caller.now c.try_on_one.new.caller command turn given (side ∷ []) (new ∷ []))) same c.try_on_one.ensures.tried)
 
@@ -213,16 +215,20 @@ returns-in_ok-ready_class-in-Some-2-clause-tried g c =
     let for_other = ap (λ (n : ClassNo). Some n) (offers_b.class_is ∙ number_of_b) ∙ sym number_b in
     let later = grows_trans mid mid_b end.sight c.meet-in-Some-2.ensures.grows c.try_on_two.ensures.sees in
     let short = short_seen table config was side met.sight side.class.room is mid end.sight c.side-in-Some.ensures.kept c.meet-in-Some.ensures.told later in
+    let seen = full_seen table config was side met.sight side.class.room is mid end.sight c.side-in-Some.ensures.kept c.meet-in-Some.ensures.told later in
     let short_b = short_seen table config beside side_b met_b.sight side_b.class.room is_b mid_b end.sight c.side-in-Some-2.ensures.kept c.meet-in-Some-2.ensures.told c.try_on_two.ensures.sees in
     tried_on config s end c.args.caller.now c.try_on_two.new.caller command turn given (side ∷ side_b ∷ []) (new ∷ new_b ∷ []) (Some was.class.number) (class_held c.args.other.now) _ for_home for_other
     (λ room taken. taken_earned config s turn key side.class refused mid end.sight (heard_of table config was side met.sight side.class.room is mid c.meet-in-Some.ensures.heard) later
     (refused_of table config was side met.sight side.class.room is s turn key refused c.requires.refused) given (row_at s command turn.moment).need room offers taken)
     (λ stay lacks. (
-      keeps_full config end.sight was.class side.class new.class refused turn.who (Some offer) offers (readied_class table config was side met.sight side.class.room is) stay.0 short lacks.none,
+      keeps_full config end.sight was.class side.class new.class refused turn.who (Some offer) offers (readied_class table config was side met.sight side.class.room is) stay.0 seen short lacks.none,
       ap (λ (v : ClassView). Some v.number) stay.1.0 ∙ (ap (λ (n : ClassNo). Some n) number_of_b ∙ sym number_b),
       wants_chunk s command turn.moment given was.class.number (class_held c.args.other.now) for_home for_other lacks,
     ))
-    (λ stay class crowded. inr (⊎_elim short short_b (crowded_both given key (item_of s command) turn.moment (row_at s command turn.moment) class crowded side.class side_b.class refused turn.who far offers offers_b)))
+    (λ stay class crowded. ⊎_elim
+    (λ lacks. crowded_lacks config s end.sight command turn.moment given class crowded (side.class, refused, turn.who, offers) side.class lacks short)
+    (λ lacks. crowded_lacks config s end.sight command turn.moment given class crowded (side.class, refused, turn.who, offers) side_b.class lacks short_b)
+    (crowded_both given key (item_of s command) turn.moment (row_at s command turn.moment) class crowded side.class side_b.class refused turn.who far offers offers_b))
     c.try_on_two.result
     (subst (λ (t : Stripe). IfOk c.try_on_two.result (IsTriedUnder t end.stripe c.args.caller.now c.try_on_two.new.caller command turn given (side ∷ side_b ∷ []) (new ∷ new_b ∷ []))) same c.try_on_two.ensures.tried)
 

@@ -1,4 +1,4 @@
-use Rattle.std.proofs.Common.{◌≡◌, ◌∙◌, ◌∷◌, [], ap, inr, refl, subst}
+use Rattle.std.proofs.Common.{◌≡◌, ◌∙◌, ◌∷◌, [], ap, refl, subst}
 use Rattle.std.specs.Prelude.{IfOk, None, Some}
 use Rattle.mc_item.specs.Command.{key_of}
 use Rattle.mc_item.specs.declared.item.ClassNo.{ClassNo}
@@ -7,7 +7,7 @@ use Rattle.mc_stripe.specs.{StripeState.Stripe, Trying.item_of, Trying.row_at}
 use Rattle.mc_stripe.specs.declared.wanting.Given.{Given}
 use Rattle.mc_pull.specs.Attempt.{OffersOther}
 use Rattle.mc_store.specs.{Sides.ClassSide, Sides.StripeSide, Trying.IsTriedUnder}
-use Rattle.mc_store.proofs.HeldTryLemmas.{crowded_other, none_earned, other_fits, readied, same_number, short_seen, tried_on}
+use Rattle.mc_store.proofs.HeldTryLemmas.{crowded_lacks, crowded_other, none_earned, other_fits, readied, same_number, short_seen, tried_on}
 use Rattle.mc_store.proofs.LockKeepsLemmas.{grows_trans}
 use Rattle.mc_store.proofs.held.try_other.Goals as goal
 
@@ -37,8 +37,9 @@ returns-clause-tried g c =
     refl (ap (λ (n : ClassNo). Some n) (offers.class_is ∙ same_number table config was side met.sight side.class.room is))
     (λ room taken. none_earned config s turn (key_of command) end.sight given (row_at s command turn.moment).need room refl taken)
     (λ stay lacks. absurd lacks.none)
-    (λ stay class crowded. inr (short_seen table config was side met.sight side.class.room is c.meet.new.own.sight end.sight c.side.ensures.kept c.meet.ensures.told c.try_on_one.ensures.sees
-    (crowded_other given (key_of command) (item_of s command) turn.moment (row_at s command turn.moment) class crowded side.class refl offers)))
+    (λ stay class crowded. crowded_lacks config s end.sight command turn.moment given class crowded tt side.class
+    (crowded_other given (key_of command) (item_of s command) turn.moment (row_at s command turn.moment) class crowded side.class refl offers)
+    (short_seen table config was side met.sight side.class.room is c.meet.new.own.sight end.sight c.side.ensures.kept c.meet.ensures.told c.try_on_one.ensures.sees))
     c.try_on_one.result
     (subst (λ (t : Stripe). IfOk c.try_on_one.result (IsTriedUnder t end.stripe c.args.caller.now c.try_on_one.new.caller command turn given (side ∷ []) (c.try_on_one.new.class ∷ []))) same c.try_on_one.ensures.tried)
 

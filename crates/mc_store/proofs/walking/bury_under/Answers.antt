@@ -1,5 +1,6 @@
-use Rattle.std.proofs.Common.{◌≡◌, ◌++◌, ◌∷◌, [], List, Some, ap, sym, subst, ◌∙◌}
+use Rattle.std.proofs.Common.{◌≡◌, ◌<◌, ◌+◌, ◌⊎◌, length, ◌++◌, ◌∷◌, [], List, Some, ap, sym, subst, ◌∙◌}
 use Rattle.mc_item.specs.declared.{fault.Fault.TheVariants.HistoryFull, stripe_event.Cause.TheVariants.Expired, stripe_event.StripeEvent.StripeEvent}
+use Rattle.mc_item.specs.declared.item.ClassNo.{ClassNo}
 use Rattle.mc_segment.specs.ClassState.{ClassView}
 use Rattle.mc_stripe.specs.{Plan.dead_link, StripeState.Stripe, StripeState.cache_now}
 use Rattle.mc_pull.specs.{Agreeing.AgreeNow, Question.question, Refusal.MayFail, Settled.lost_event, Settled.done_stripe_events}
@@ -7,7 +8,7 @@ use Rattle.mc_pull.specs.declared.{judge.Done.Done, judge.Judge.TheVariants.Dead
 use Rattle.mc_pull.proofs.OneStripeGateLemmas.{settle_walked}
 use Rattle.mc_store.proofs.{DeadEntryLemmas.dead_listed, DeadEntryLemmas.dead_reclaimed, DeadEntryLemmas.told_dead, ShortHistoryLemmas.err_is, OwnEventLemmas.GainsFit, OwnEventLemmas.gains_settled}
 use Rattle.mc_store.proofs.{OwnEventLemmas.locked_told, CallerLemmas.begun_sees, CallerLemmas.command_any, CallerLemmas.command_sees, LockKeepsLemmas.grows_trans}
-use Rattle.mc_store.specs.{Sides.ClassSide, Sides.StripeSide, Locked.HasBegun, Locked.HasBegunCommand, Locked.IsLockedClass, Serving.class_side}
+use Rattle.mc_store.specs.{Sides.ClassSide, Sides.StripeSide, Locked.HasBegun, Locked.HasBegunCommand, Locked.IsLockedClass, Full.LacksPlaces, Serving.class_side}
 use Rattle.mc_store.specs.declared.locked.LockedStripe.TheInside as stripes
 use Rattle.mc_store.specs.declared.locked.LockedClass.TheInside as classes
 use Rattle.mc_store.proofs.SyncedStepLemmas.{class_paired, class_told_more, settled_grows, settled_told, short_paired, stripe_paired}
@@ -152,11 +153,14 @@ returns-in_err-done-clause-full g c = λ is.
     let q = question c.args.who c.args.link.number Dead c.args.moment in
     let grows = settled_grows _ _ _ _ q c.settle-done.result c.settle-done.ensures.settled c.settle-done.ensures.err in
     let same : c.in_err-done.field-0.0 ≡ HistoryFull = err_is c.in_err-done.field-0.0 _ c.from_residual.ensures.1 is in
-    short_paired g.N.Named.board.table g.N.Named.config c.own.inside.side c.class.inside.side c.own.invariant c.class.invariant.held own.state own.owner own.seen own_is lent.state lent.owner lent.seen lent_is
+    let of : c.args.link.class ≡ lent.state.number = sym c.requires.class ∙ sym (ap (λ (v : ClassView). v.number) (c_is ∙ ap (λ (x : ClassSide). x.class) c.meet.ensures.lent)) in
+    let end = c.learn.new.stripe in
+    subst (λ (n : ClassNo). (end.stripe.limit < length end.stripe.history + 2) ⊎ LacksPlaces g.N.Named.config end.sight n 2) (sym of)
+    (short_paired g.N.Named.board.table g.N.Named.config c.own.inside.side c.class.inside.side c.own.invariant c.class.invariant.held own.state own.owner own.seen own_is lent.state lent.owner lent.seen lent_is
     agree c.settle-done.new.stripe c.settle-done.new.class c.settle-done.ensures.site grows c.history-2.ensures.legal c.law-2.ensures.lawful c.settle-done.ensures.agreement c.settle-done.ensures.sight
     c.catch_up_stripe.new.owner c.catch_up_stripe.ensures c.catch_up_class.new.owner c.catch_up_class.ensures c.hear.new.self c.learn.new.stripe c.hear.new.class c.hear-2.new.self
     c.hear.ensures.class c.hear.ensures.told c.hear.ensures.grows (c.learn.ensures.stripe ∙ c.hear-2.ensures.stripe) c.hear-2.ensures.told c.hear-2.ensures.grows
-    (subst (MayFail c.settle-done.new.class c.settle-done.new.stripe) same c.in_err-done.ensures.full)
+    (subst (MayFail c.settle-done.new.class c.settle-done.new.stripe) same c.in_err-done.ensures.full))
 
 pub returns-clause-lost : goal.returns-clause-lost
 returns-clause-lost g c =

@@ -1,4 +1,6 @@
-use Rattle.std.proofs.Common.{Bool, false, ◌≡◌, List, ap, ◌∙◌, subst, sym}
+use Rattle.std.proofs.Common.{Bool, false, ◌≡◌, ℕ, List, ap, ◌∙◌, subst, sym}
+use mathlib.Core.List.{IsPrefix}
+use Rattle.mc_item.specs.declared.event.Event.{Event}
 use Rattle.mc_segment.specs.ClassState.{ClassView}
 use Rattle.mc_stripe.specs.StripeState.{Stripe}
 use Rattle.mc_board.proofs.SeenLemmas.{list_at_same}
@@ -6,11 +8,11 @@ use Rattle.mc_board.specs.{Histories.list_at, Views.OwnerView, Views.SeenView}
 use Rattle.mc_board.specs.declared.rule.Sight.{Sight}
 use Rattle.mc_pull.specs.{Lone.StripeGrows, Rounds.IsRoom, Rounds.rounds, Walker.walker_of}
 use Rattle.mc_pull.specs.declared.looking.Answer.{Answer}
-use Rattle.mc_store.specs.{Earned.IsSearchInVain, Locked.HasBegunSearch, Locked.IsLockedClass, Serving.class_side}
+use Rattle.mc_store.specs.{Earned.IsSearchInVain, Locked.HasBegunSearch, Locked.IsLockedClass, Locked.class_lock, Serving.class_side}
 use Rattle.mc_store.specs.Sides.{ClassSide, StripeSide, class_told}
 use Rattle.mc_store.specs.declared.locked.LockedStripe.TheInside.{Inside}
 use Rattle.mc_store.proofs.{GateLemmas.ok_more, GateLemmas.room_full, LockKeepsLemmas.grows_trans, SyncedStepLemmas.stripe_heard, OwnEventLemmas.locked_commanded, OwnEventLemmas.suited_search}
-use Rattle.mc_store.proofs.{CallerLemmas.search_any, CallerLemmas.search_sees}
+use Rattle.mc_store.proofs.{CallerLemmas.search_any, CallerLemmas.search_sees, LentClassLemmas.class_behind}
 use Rattle.mc_store.proofs.walking.make_room_under.Goals as goal
 
 pub invariant_of-own : goal.invariant_of-own
@@ -58,6 +60,26 @@ returns-clause-full g c = λ is.
     (room_full g.N.Named.board.table g.N.Named.config new.owner new.seen new.class c.make_room_with-found.ensures.served c.hear.new.self.sight c.catch_up_class.new.owner.lock
     (ap (λ (o : OwnerView). o.lock) c.catch_up_class.ensures) told (grows_trans new.seen.sight c.learn.new.self.sight c.hear.new.self.sight c.learn.ensures.theirs c.hear.ensures.grows)
     c.make_room_with-found.result c.make_room_with-found.ensures.fault is)
+
+pub returns-clause-seen : goal.returns-clause-seen
+returns-clause-seen g c =
+    let config = g.N.Named.config in
+    let new = c.make_room_with-found.new in
+    let was = c.args.class.now in
+    let side : c.class.inside.side ≡ record was { sight = c.learn_from.new.self.sight } = c.class.view_is ∙ c.learn_from.ensures.class in
+    let of : c.side.inside.state ≡ was.class = ap (λ (x : ClassSide). x.class) (c.side.view_is ∙ (c.class.view_is ∙ c.learn_from.ensures.class)) in
+    let grows = c.make_room_with-found.ensures.class in
+    let told : list_at c.hear.new.self.sight.seen c.catch_up_class.new.owner.lock ≡ class_told new.class.history =
+    ap (λ (t : Sight). list_at t.seen c.catch_up_class.new.owner.lock) (ap (λ (x : StripeSide). x.sight) c.hear.ensures.told)
+    ∙ list_at_same c.learn.new.self.sight.seen c.catch_up_class.new.owner.lock (class_told new.class.history) in
+    let kept : was.lock ≡ class_lock config was.class.number = subst (λ (x : ClassSide). x.lock ≡ class_lock config x.class.number) side c.class.invariant.held.lock_is in
+    let lock : c.catch_up_class.new.owner.lock ≡ was.lock =
+    ap (λ (o : OwnerView). o.lock) c.catch_up_class.ensures
+    ∙ (c.make_room_with-found.ensures.served.kept.lock_is
+    ∙ (ap (λ (v : ClassView). class_lock config v.number) grows.same ∙ (ap (λ (v : ClassView). class_lock config v.number) of ∙ sym kept))) in
+    subst (λ (n : ℕ). IsPrefix (class_told was.class.history) (list_at c.hear.new.self.sight.seen n)) lock
+    (subst (λ (l : List Event). IsPrefix (class_told was.class.history) l) (sym told)
+    (class_behind (class_told was.class.history) c.side.inside.state new.class (ap (λ (v : ClassView). class_told v.history) (sym of)) grows))
 
 pub make_room_with-found-requires-clause-begun : goal.make_room_with-found-requires-clause-begun
 make_room_with-found-requires-clause-begun g c =

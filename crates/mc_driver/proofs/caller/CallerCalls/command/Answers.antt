@@ -1,4 +1,4 @@
-use Rattle.std.proofs.Common.{refl, inl, inr, ⊎_elim}
+use Rattle.std.proofs.Common.{refl}
 use Rattle.mc_item.specs.{Command.key_of, Measure.stripe_of}
 use Rattle.mc_script.specs.Exchanges.{Asks}
 use Rattle.mc_store.specs.{Callers.asked_for, Passes.next_who}
@@ -29,5 +29,5 @@ returns-clause-full g c =
     let call = asked_for c.args.command c.args.moment in
     full_calls g.N.Named.config old new call c.command.result c.requires.may refl
     (cut_calls g.N.Named.config (stripe_of (key_of c.args.command) g.N.Named.config.stripes).0 old new (next_who old) c.args.command c.args.moment c.command.result c.command.ensures.cut)
-    (λ is. ⊎_elim (λ short. inl (short_any g.N.Named.config number c.args.command new.sight (below_stripes (key_of c.args.command) g.N.Named.config.stripes c.requires.may.some) short))
-    (λ most. inr most) (c.command.ensures.full is))
+    (short_any g.N.Named.config number old new (next_who old) c.args.command c.args.moment c.command.result
+    (below_stripes (key_of c.args.command) g.N.Named.config.stripes c.requires.may.some) c.command.ensures.cut)

@@ -1,5 +1,5 @@
-use Rattle.std.proofs.Common.{◌≡◌, ◌∙◌, ◌⊎◌, ◌<◌, ◌+◌, ◌++◌, ◌∷◌, [], refl, ℕ, List, Result, ap, inl, inr, length, subst, sym}
-use Rattle.std.specs.Prelude.{IfOk, IfSome, OnErr, Option}
+use Rattle.std.proofs.Common.{◌≡◌, ◌∙◌, ◌⊎◌, ◌<◌, ◌+◌, ◌++◌, ◌∷◌, [], refl, ℕ, List, Result, ap, inr, length, subst, sym}
+use Rattle.std.specs.Prelude.{IfErr, IfOk, IfSome, Option}
 use Rattle.mc_item.specs.{Command.key_of, Measure.stripe_of}
 use Rattle.mc_item.specs.declared.{config.Config.Config, fault.Fault.Fault, item.Link.Link, item.StripeNo.StripeNo, item.Who.Who, reply.Reply.Reply}
 use Rattle.mc_evidence.specs.Setting.{IsClass}
@@ -9,7 +9,7 @@ use Rattle.mc_board.specs.{Histories.Grows, Histories.HasSeen, Histories.list_at
 use Rattle.mc_board.specs.declared.rule.Sight.{Sight}
 use Rattle.mc_store.specs.{Hits.IsOffered, Hits.OffersOne, Locked.setting_of, Waking.reply_in, Waking.woken_in}
 use Rattle.mc_store.specs.{Callers.HasNoneOf, Held.Ends, Held.IsCallOn, Locked.IsLockedStripe, Passes.HasAsked, Passes.PassView, Passes.caller_of, Passes.next_who, Serving.IsLater, Sides.StripeSide, Sides.stripe_told}
-use Rattle.mc_store.proofs.{SeenStripeLemmas.IsShared, SeenStripeLemmas.asked_now, SeenStripeLemmas.on_err_more, SeenStripeLemmas.shared_by, SeenStripeLemmas.turns_kept, CallerLemmas.on_ok_always}
+use Rattle.mc_store.proofs.{SeenStripeLemmas.IsShared, SeenStripeLemmas.asked_now, SeenStripeLemmas.if_err_more, SeenStripeLemmas.shared_by, SeenStripeLemmas.turns_kept, CallerLemmas.on_ok_always}
 use Rattle.mc_evidence.specs.Seen.{stripes_seen}
 use Rattle.mc_store.specs.{Callers.asked_for, Callers.turns_of, Calls.IsCutBy, Calls.IsRepliedBy, Passes.ArePlaced, Passes.next_call, Passes.pass_of}
 use Rattle.mc_store.proofs.{PlacedLemmas.placed_shared, OfferedHitLemmas.woken_class, SeenStripeLemmas.offered_by}
@@ -88,10 +88,7 @@ pub returns-clause-replied : goal.returns-clause-replied
 returns-clause-replied g c = (shared g c).replied
 
 pub returns-clause-cut : goal.returns-clause-cut
-returns-clause-cut g c = on_err_more c.reply_of.result _ _ inr (shared g c).cut
-
-pub returns-clause-full : goal.returns-clause-full
-returns-clause-full g c = λ e. inl ((shared g c).full e)
+returns-clause-cut g c = if_err_more c.reply_of.result _ _ (λ fault cut. inr cut) (shared g c).cut
 
 pub returns-clause-grows : goal.returns-clause-grows
 returns-clause-grows g c =
@@ -183,7 +180,7 @@ invariant_of-pass g c =
           below number grows begun c.reply_of.result
           (subst (λ (w : Who). IfOk c.reply_of.result (IsRepliedBy config (stripe_of (key_of c.args.command) config.stripes).0 old.sight c.share.new.seen.sight old.calls
           c.match-class_for.pass-inside.caller.calls w c.args.command c.args.moment)) (sym who) (shared g c).replied)
-          (subst (λ (w : Who). OnErr c.reply_of.result (IsCutBy config (stripe_of (key_of c.args.command) config.stripes).0 old.sight c.share.new.seen.sight old.calls
+          (subst (λ (w : Who). IfErr c.reply_of.result (IsCutBy config (stripe_of (key_of c.args.command) config.stripes).0 old.sight c.share.new.seen.sight old.calls
           c.match-class_for.pass-inside.caller.calls w c.args.command c.args.moment)) (sym who) (shared g c).cut),
       ap (λ (h : HandsView). h.tables) same ∙ (ap (λ p. p.hands.tables) (rest g at) ∙ i.2),
       ap (λ (h : HandsView). h.caller) same ∙ (ap (λ p. p.hands.caller) (rest g at) ∙ (i.3 ∙ sym ended.number)),

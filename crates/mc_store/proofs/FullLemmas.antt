@@ -1,0 +1,134 @@
+-- A command that ends with `HistoryFull`: what it lacks as more is seen, on a stripe that stands for another, and in other words.
+use Rattle.std.proofs.Common.{◌≡◌, ◌<◌, ◌+◌, ◌++◌, ℕ, List, inl, inr, length, ap, ◌∙◌, subst, sym, arith, ⊎_elim}
+use Rattle.std.specs.Prelude.{Option, Some, None}
+use mathlib.Core.List.{IsPrefix}
+use Rattle.atomic_table.specs.Seated.{TableId}
+use Rattle.mc_item.specs.{Answer.Row, Cache.visible_items, Command.key_of, Stripe.IsAlive}
+use Rattle.mc_item.specs.declared.{command.Command.Command, config.Config.Config, event.Event.Event, item.ClassNo.ClassNo, item.Item.Item, item.Link.Link}
+use Rattle.mc_item.specs.declared.item.Who.{Who}
+use Rattle.mc_item.specs.declared.answer.Need.TheVariants as needs
+use Rattle.mc_item.specs.declared.event.Event.TheVariants as events
+use Rattle.mc_rule.specs.Lists.{IsFull}
+use Rattle.mc_board.specs.Histories.{Grows, list_at}
+use Rattle.mc_board.specs.declared.rule.Sight.{Sight}
+use Rattle.mc_board.proofs.PrefixLemmas.{prefix_length, prefix_self, prefix_trans}
+use Rattle.mc_stripe.specs.{Plan.dead_link, Plan.fate_of, Plan.visible_row, StripeCalls.KeepsSite, StripeState.Stripe, StripeState.cache_now, Trying.item_of, Trying.row_at}
+use Rattle.mc_stripe.specs.Wanting.{changes_at}
+use Rattle.mc_store.specs.Full.{HasSeenFull, IsFullFor, IsRoomOf, LacksEntries, LacksPlaces}
+use Rattle.mc_store.specs.{Commands.burial, Locked.IsHeldClass, Locked.class_lock, Serving.HasSeenShort, Sides.ClassSide, Sides.class_told, Sides.stripe_told}
+use Rattle.mc_store.proofs.CommandLemmas.{buried_alive, buried_row, buried_visible, changes_two, dead_same, fresh_visible, not_dead, row_same, visible_same}
+use Rattle.mc_store.proofs.{ShortHistoryLemmas.short_grows, SyncedStepLemmas.any_short, SyncedStepLemmas.map_length}
+
+-- ---- as more is seen
+
+pub lacks_grows : (config : Config) (a b : Sight) {class : ClassNo} {events : ℕ} → Grows a b → LacksPlaces config a class events → LacksPlaces config b class events
+lacks_grows config a b {class = class} {events = events} grows lacks = record {
+  is = lacks.is;
+  short =
+      let lock = class_lock config class in
+      let longer = prefix_length (list_at a.seen lock) (list_at b.seen lock) (grows.at lock) in
+      let was = lacks.short in
+      omega (arith, longer, was);
+}
+
+pub seen_full_grows : (config : Config) (a b : Sight) {class : ClassNo} → Grows a b → HasSeenFull config a class → HasSeenFull config b class
+seen_full_grows config a b {class = class} grows was = record {
+  before = was.before;
+  seen =
+      let lock = class_lock config class in prefix_trans (class_told was.before) (list_at a.seen lock) (list_at b.seen lock) was.seen (grows.at lock);
+  full = was.full;
+}
+
+pub full_grows : (config : Config) (s s_new : Stripe) (a b : Sight) (command : Command) (moment : ℕ) → Grows a b → IsFullFor config s s_new a command moment → IsFullFor config s s_new b command moment
+full_grows config s s_new a b command moment grows (inl full) = inl full
+full_grows config s s_new a b command moment grows (inr (inl burial)) =
+    inr (inl (record { link = burial.link; dead = burial.dead; lacks = ⊎_elim (λ own. inl own) (λ of. inr (lacks_grows config a b grows of)) burial.lacks }))
+full_grows config s s_new a b command moment grows (inr (inr (inl entries))) =
+    inr (inr (inl (record { class = entries.class; room = entries.room; fits = entries.fits; lacks = lacks_grows config a b grows entries.lacks })))
+full_grows config s s_new a b command moment grows (inr (inr (inr search))) =
+    inr (inr (inr (record { class = search.class; fresh = search.fresh; full = seen_full_grows config a b grows search.full; short = short_grows config a b grows search.short })))
+
+-- ---- on a stripe that stands for another
+
+module _ (config : Config) (s mid s_new : Stripe) (sight : Sight) (command : Command) (moment : ℕ)
+    (dead : (link : Link) → dead_link (item_of mid command) moment ≡ Some link → dead_link (item_of s command) moment ≡ Some link)
+    (item : visible_items (cache_now mid) moment (key_of command) ≡ visible_items (cache_now s) moment (key_of command))
+    (row : visible_row mid command moment ≡ visible_row s command moment) where
+  full_moved : IsFullFor config mid s_new sight command moment → IsFullFor config s s_new sight command moment
+  full_moved (inl full) = inl full
+  full_moved (inr (inl burial)) = inr (inl (record { link = burial.link; dead = dead burial.link burial.dead; lacks = burial.lacks }))
+  full_moved (inr (inr (inl entries))) = inr (inr (inl (record {
+    class = entries.class;
+    room = entries.room;
+    fits = subst (λ (r : Row). IsRoomOf r.need entries.room) row entries.fits;
+    lacks = subst (λ (r : Row). LacksPlaces config sight entries.class
+        (changes_at entries.class entries.room (fate_of (key_of command) (visible_items (cache_now s) moment (key_of command)) (r.answer entries.room).change))) row
+        (subst (λ (o : Option Item). LacksPlaces config sight entries.class
+        (changes_at entries.class entries.room (fate_of (key_of command) o ((visible_row mid command moment).answer entries.room).change))) item entries.lacks);
+  })))
+  full_moved (inr (inr (inr search))) =
+      inr (inr (inr (record { class = search.class; fresh = ap (λ (r : Row). r.need) (sym row) ∙ search.fresh; full = search.full; short = search.short })))
+
+-- of the same history
+pub full_same : (config : Config) (s mid s_new : Stripe) (sight : Sight) (command : Command) (moment : ℕ) → KeepsSite s mid → mid.history ≡ s.history
+    → IsFullFor config mid s_new sight command moment → IsFullFor config s s_new sight command moment
+full_same config s mid s_new sight command moment site same =
+    full_moved config s mid s_new sight command moment (λ link is. dead_same command moment s mid site same ∙ is) (visible_same command moment s mid site same) (row_same command moment s mid site same)
+
+-- behind the burial of its key's dead item
+pub full_buried : (config : Config) (who : Who) (s mid s_new : Stripe) (sight : Sight) (command : Command) (moment : ℕ) → (site : KeepsSite s mid)
+    → mid.history ≡ s.history ++ burial who (key_of command) moment (dead_link ((cache_now s).items (key_of command)) moment)
+    → IsFullFor config mid s_new sight command moment → IsFullFor config s s_new sight command moment
+full_buried config who s mid s_new sight command moment site buried =
+    full_moved config s mid s_new sight command moment
+    (λ link is. absurd (none_some (sym (not_dead (item_of mid command) moment (buried_alive s mid who command moment site buried)) ∙ is)))
+    (buried_visible s mid who command moment site buried) (buried_row s mid who command moment site buried)
+  where
+    none_some : {A : Type 0} {a : A} → None ≡ Some a → ⊥
+    none_some is = cc is
+
+-- ---- in other words
+
+-- a class whose whole history was seen, and is full
+pub full_class : (table : TableId) (config : Config) (side : ClassSide) (sight : Sight) → IsHeldClass table config side → list_at sight.seen side.lock ≡ class_told side.class.history
+    → IsFull side.class.chunks side.class.history → HasSeenFull config sight side.class.number
+full_class table config side sight kept told full = record {
+  before = side.class.history;
+  seen =
+      let at : list_at sight.seen (class_lock config side.class.number) ≡ class_told side.class.history = ap (λ (n : ℕ). list_at sight.seen n) (sym kept.lock_is) ∙ told in
+      subst (λ (l : List Event). IsPrefix (class_told side.class.history) l) (sym at) (prefix_self (class_told side.class.history));
+  full = subst (λ (n : ℕ). IsFull n side.class.history) kept.made_with.chunks full;
+}
+
+-- a search of a full class, which a command needs that finds no dead item
+pub full_search : (config : Config) (s s_new : Stripe) (sight : Sight) (command : Command) (moment : ℕ) (class : ClassNo) → IsAlive (item_of s command) moment
+    → (row_at s command moment).need ≡ needs.Fresh class → HasSeenFull config sight class → HasSeenShort config sight → IsFullFor config s s_new sight command moment
+full_search config s s_new sight command moment class alive fresh full short =
+    inr (inr (inr (record { class = class; fresh = fresh_visible s command moment class alive fresh; full = full; short = short })))
+
+-- where a command lacks places for entries, a short history was seen
+pub entries_short : (config : Config) (s : Stripe) (sight : Sight) (command : Command) (moment : ℕ) → LacksEntries config s sight command moment → HasSeenShort config sight
+entries_short config s sight command moment entries =
+    let fate = fate_of (key_of command) (visible_items (cache_now s) moment (key_of command)) ((visible_row s command moment).answer entries.room).change in
+    let few = changes_two entries.class entries.room fate in
+    let lacks = entries.lacks in
+    let short = lacks.short in
+    let two : LacksPlaces config sight entries.class 2 = record { is = lacks.is; short = omega (arith, few, short) } in
+    any_short config sight two
+
+-- and so it was wherever a command ended with `HistoryFull`
+pub full_short : (config : Config) (number : ℕ) (s s_new : Stripe) (sight : Sight) (command : Command) (moment : ℕ) → number < config.stripes → s_new.limit ≡ config.max_events
+    → list_at sight.seen number ≡ stripe_told s_new.history → IsFullFor config s s_new sight command moment → HasSeenShort config sight
+full_short config number s s_new sight command moment of limit told = by
+  where
+    long : length (list_at sight.seen number) ≡ length s_new.history
+    long = ap (λ (l : List Event). length l) told ∙ map_length events.Stripe s_new.history
+
+    own : s_new.limit < length s_new.history + 2 → HasSeenShort config sight
+    own short = record { lock = number; of = omega (arith, of); short = omega (arith, long, limit, short) }
+
+    by : IsFullFor config s s_new sight command moment → HasSeenShort config sight
+    by (inl full) = own (omega (arith, full))
+    by (inr (inl burial)) = ⊎_elim own (λ class. any_short config sight class) burial.lacks
+    by (inr (inr (inl entries))) = entries_short config s sight command moment entries
+    by (inr (inr (inr search))) = search.short
