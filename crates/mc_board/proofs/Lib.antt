@@ -6,6 +6,7 @@ pub mod WordLemmas
 pub mod WriteKeeps
 pub mod CompareKeeps
 pub mod LookKeeps
+pub mod ClashLemmas
 pub mod OwnerLemmas
 pub mod LookLemmas
 pub mod ShareKeeps

@@ -85,3 +85,11 @@ abbrev pub hearing : View → View → View
 hearing (views.Owner owned) (views.Seen other) = views.Owner (owned_told owned other.sight)
 hearing (views.Seen known) (views.Seen other) = views.Seen (known_told known other.sight)
 hearing v w = v
+
+-- a view that no seat has: the word of an owner's lock is never 0
+abbrev pub no_view : View
+no_view = owning 0 0
+
+-- what a step that no seat can make ensures: it never happens
+abbrev pub NeverHappens : Step Unit → Me Unit View → ℕ → Me Unit View → Type 0
+NeverHappens step me found after = ⊥

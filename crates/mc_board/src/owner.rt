@@ -10,7 +10,7 @@ ghost use Rattle.mc_board.specs.declared.rule.View.TheVariants as views;
 use crate::board::Board;
 use crate::rule::Place;
 use crate::seen::Seen;
-use crate::steps::{Compares, Hears, Tells};
+use crate::steps::{Clashes, Compares, Hears, Never, Tells};
 use crate::writing::{add, begin, end, write};
 use mc_history::{History, Shows};
 use mc_item::Logged;
@@ -165,6 +165,19 @@ impl Owner {
         let place = &mut self.place;
         hear(board, self.word, place, seen);
         *seen = Seen::at(board.table.shared.split_seat::<Tells>(place));
+    }
+
+    /// Says that a point is never reached, as no two owners of a board have the same lock. So whoever has two and finds the same
+    /// number in both can call it.
+    pub fn clash(self, board: &Board, other: Owner) -> !
+        requires board { (self.board ≡ board.now.table) × (other.board ≡ board.now.table) }
+        requires same { self.lock ≡ other.lock }
+    {
+        let Owner { mut place, .. } = self;
+        let Owner { place: taken, .. } = other;
+        board.table.shared.join_seat::<Clashes>(&mut place, taken);
+        board.table.shared.load::<Never>(&mut place, 0);
+        unreachable!()
     }
 }
 

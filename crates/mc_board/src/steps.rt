@@ -153,3 +153,24 @@ impl Join<View> for Hears {
 
     ghost spent = { Spent };
 }
+
+/// Two owners of one lock would be joined into a view that no seat has.
+pub(crate) struct Clashes;
+
+impl Join<View> for Clashes {
+    ghost use Rattle.mc_board.specs.Steps.{no_view};
+    ghost use Rattle.mc_board.specs.declared.rule.View.TheVariants.{Spent};
+
+    ghost both = { λ _ _. no_view };
+
+    ghost spent = { Spent };
+}
+
+/// A step that no seat can make.
+pub(crate) struct Never;
+
+impl Play<(), View> for Never {
+    ghost use Rattle.mc_board.specs.Steps.{NeverHappens};
+
+    ghost then = { NeverHappens };
+}
