@@ -133,7 +133,7 @@ fn run_named<N: Named + Send + Sync, E: Ends + Send, R: Threads + Wait + Sync>(
         outcomes,
         ends,
     } = ended;
-    let mut ledger = store.close(rt);
+    let mut ledger = store.close();
     compare_all(&mut ledger, &mut passes);
     Ok(Run {
         ledger,

@@ -126,7 +126,7 @@ fn closed<N: Named + Send + Sync, R: Threads + Wait + Sync>(
     let mut second = second;
     let reply = visited(rt, alloc, &store, &mut reader, &mut first, &mut second);
     let figures = store.figures(&mut reader, ClassNo(1));
-    let mut ledger = store.close(rt);
+    let mut ledger = store.close();
     ledger.compare(&mut reader);
     ledger.compare(&mut first);
     ledger.compare(&mut second);

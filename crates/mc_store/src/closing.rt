@@ -12,51 +12,64 @@ use crate::owned_class::OwnedClass;
 use crate::owned_stripe::OwnedStripe;
 use crate::shelf::Shelf;
 use crate::store::Store;
-use crate::waiting::wait_for_ever;
-use std::sync::{Mutex, Wait};
+use mc_board::Board;
+use std::sync::Mutex;
 
-// Moves the stripes out of their locks onto the shelf. The wait is unreachable: `open` puts each stripe at the place of its
-// number, but a lock's type can't say so.
+// Takes the stripes out of their locks, in the order of their numbers. Each number comes once, as a lock's history has one owner.
 fn take_stripes<N: Named>(
-    rt: &impl Wait,
+    board: &Board,
     stripes: Vec<Mutex<LockedStripe<N>>>,
     shelf: &mut Vec<OwnedStripe>,
 )
+    requires board { board.now ≡ N.board }
     requires all { vec_len stripes ≡ N.config.stripes }
     requires empty { shelf.old.items ≡ [] }
     requires room { N.config.stripes ≤ vec_capacity shelf.old }
     ensures { AreStripes N.board.table N.config shelf.new.items }
 {
     for stripe in stripes {
-        let side = stripe.into_inner().into_side();
-        let number = side.number().0 as usize;
-        let place = shelf.len();
-        if number != place {
-            wait_for_ever(rt);
+        shelf.push_reserved(stripe.into_inner().into_side());
+    }
+    shelf.sort_unstable_by_key(
+        |side: &OwnedStripe| -> u32
+            ensures { result ≡ side.now.stripe.site.stripe }
+        { side.number().0 },
+    );
+    for i in 1..shelf.len() {
+        if shelf[i - 1].number().0 == shelf[i].number().0 {
+            let second = shelf.swap_remove(i);
+            let first = shelf.swap_remove(i - 1);
+            first.into_owner().clash(board, second.into_owner());
         }
-        shelf.push_reserved(side);
     }
 }
 
 // The same for the classes, which are numbered from 1.
 fn take_classes<N: Named>(
-    rt: &impl Wait,
+    board: &Board,
     classes: Vec<Mutex<LockedClass<N>>>,
     shelf: &mut Vec<OwnedClass>,
 )
+    requires board { board.now ≡ N.board }
     requires all { vec_len classes ≡ length N.config.sizes }
     requires empty { shelf.old.items ≡ [] }
     requires room { length N.config.sizes ≤ vec_capacity shelf.old }
     ensures { AreClasses N.board.table N.config shelf.new.items }
 {
     for class in classes {
-        let side = class.into_inner().into_side();
-        let number = side.number().0 as usize;
-        let place = shelf.len();
-        if number != place + 1 {
-            wait_for_ever(rt);
+        shelf.push_reserved(class.into_inner().into_side());
+    }
+    shelf.sort_unstable_by_key(
+        |side: &OwnedClass| -> u32
+            ensures { result ≡ side.now.class.number.0 }
+        { side.number().0 },
+    );
+    for i in 1..shelf.len() {
+        if shelf[i - 1].number().0 == shelf[i].number().0 {
+            let second = shelf.swap_remove(i);
+            let first = shelf.swap_remove(i - 1);
+            first.into_owner().clash(board, second.into_owner());
         }
-        shelf.push_reserved(side);
     }
 }
 
@@ -64,7 +77,7 @@ impl<N: Named> Store<N> {
     /// Closes the store and returns all its stripes and classes, each as its lock kept it. Allocates nothing.
     /// Together they are sound. Each stripe's history is legal, each class's is lawful, each stripe and class are evidence of
     /// each other, and the items are exactly the entries.
-    pub fn close(self, rt: &impl Wait) -> Final
+    pub fn close(self) -> Final
         ensures board { result.board ≡ N.board.table }
         ensures stripes { AreStripes N.board.table N.config result.stripes }
         ensures classes { AreClasses N.board.table N.config result.classes }
@@ -85,8 +98,8 @@ impl<N: Named> Store<N> {
             classes: mut class_shelf,
             of: _,
         } = shelf.into_inner();
-        take_stripes(rt, stripes, &mut stripe_shelf);
-        take_classes(rt, classes, &mut class_shelf);
+        take_stripes(&board, stripes, &mut stripe_shelf);
+        take_classes(&board, classes, &mut class_shelf);
         judge::<N>(&board, &mut stripe_shelf, &mut class_shelf);
         Final::new(board, stripe_shelf, class_shelf)
     }

@@ -53,6 +53,14 @@ impl OwnedClass {
         OwnedClass { state, owner, seen }
     }
 
+    // The owner alone.
+    pub(crate) fn into_owner(self) -> Owner
+        ensures { (result.board ≡ self.board) × (result.lock ≡ self.lock) }
+    {
+        let OwnedClass { owner, .. } = self;
+        owner
+    }
+
     pub(crate) fn number(&self) -> ClassNo
         ensures { result ≡ self.now.class.number }
     {

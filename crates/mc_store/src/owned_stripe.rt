@@ -52,6 +52,14 @@ impl OwnedStripe {
         OwnedStripe { state, owner, seen }
     }
 
+    // The owner alone.
+    pub(crate) fn into_owner(self) -> Owner
+        ensures { (result.board ≡ self.board) × (result.lock ≡ self.lock) }
+    {
+        let OwnedStripe { owner, .. } = self;
+        owner
+    }
+
     pub(crate) fn number(&self) -> StripeNo
         ensures { result.0 ≡ self.now.stripe.site.stripe }
     {

@@ -234,7 +234,7 @@ fn run_on<N: Named, R: Abort + Wait>(
     };
     let steps = make_steps(rt, alloc, &store, &mut game);
     let mut threads = calls_of(rt, alloc, &mut game.works);
-    let mut ledger = store.close(rt);
+    let mut ledger = store.close();
     compare_works(&mut ledger, &mut game.works);
     replay(rt, alloc, &ledger, 4, &mut threads);
     check_classes(rt, alloc, &ledger, 4, chunks);

@@ -159,7 +159,7 @@ fn limit_at_once<N: Named + Send + Sync, R: Threads + Abort + Wait + Sync>(
     let mut first = passes.pop().expect(rt, "a pass");
     let mut second = passes.pop().expect(rt, "a second pass");
     set_both(rt, alloc, &store, &mut first, &mut second);
-    let mut ledger = store.close(rt);
+    let mut ledger = store.close();
     ledger.compare(&mut first);
     ledger.compare(&mut second);
     check_counts(rt, ledger.class(ClassNo(1)));

@@ -110,7 +110,7 @@ fn check_moves<N: Named, R: Abort + Wait>(
 )
     requires { (N.config.stripes ≡ 4) × (length N.config.sizes ≡ 2) }
 {
-    let mut ledger = store.close(rt);
+    let mut ledger = store.close();
     ledger.compare(first);
     ledger.compare(second);
     let shape = Shape {

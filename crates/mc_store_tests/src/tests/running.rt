@@ -356,7 +356,7 @@ fn check_store<N: Named, R: Abort + Wait>(
 {
     let (store, mut passes) = opened::<N, R>(rt, alloc, parts);
     check_rows(rt, alloc, &store, &mut passes, shape, rows);
-    let mut ledger = store.close(rt);
+    let mut ledger = store.close();
     compare_all(&mut ledger, &mut passes);
     check_ends(rt, alloc, &ledger, shape, ends);
 }

@@ -190,7 +190,7 @@ fn run_on<N: Named + Send + Sync, R: Threads + Abort + Wait + Sync>(
     let (store, passes) = opened::<N, R>(rt, alloc, parts);
     let mut works = at_once(rt, alloc, &store, passes, signs);
     let mut threads = calls_of(rt, alloc, &mut works);
-    let mut ledger = store.close(rt);
+    let mut ledger = store.close();
     compare_works(&mut ledger, &mut works);
     replay(rt, alloc, &ledger, 4, &mut threads);
     check_classes(rt, alloc, &ledger, 4, chunks);

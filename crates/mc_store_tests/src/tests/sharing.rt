@@ -219,7 +219,7 @@ fn share_store<N: Named + Send + Sync, R: Threads + Abort + Wait + Sync>(
     check_rows(rt, alloc, &store, &mut own, shape, behind);
     meet(rt, &store, &mut works);
     let mut threads = calls_of(rt, alloc, &mut works);
-    let mut ledger = store.close(rt);
+    let mut ledger = store.close();
     compare_all(&mut ledger, &mut own);
     compare_works(&mut ledger, &mut works);
     check_calls(rt, alloc, &ledger, shape.stripes, &mut threads, job.task);
